@@ -1,0 +1,79 @@
+//! The calls of a loglet that is known only as a `dyn Loglet`.
+ghost use Rattle.std.specs.Prelude.{◌≡◌, ℕ, ◌<◌};
+ghost use Rattle.loglet_api.specs.View.{LogletView, IsOpen};
+ghost use Rattle.loglet_api.specs.Sound.{IsSound};
+ghost use Rattle.loglet_api.specs.Step.{CanCall, LogletStep, HasLeft};
+ghost use Rattle.loglet_api.specs.Answers.{begin_answer, carry_answer, stray_answer, restart_answer};
+
+use crate::call::{Answer, LogletAnswer, LogletCall, Op, Refused};
+use crate::loglet::Loglet;
+use delos_types::numbers::Ticket;
+
+pub fn servers(loglet: &dyn Loglet) -> u32
+    ensures value { result ≡ (view loglet.now).servers }
+    ensures sound { IsSound (view loglet.now) }
+{
+    loglet.servers()
+}
+
+pub fn left(loglet: &dyn Loglet, ticket: Ticket) -> (u32, u64)
+    requires { IsOpen (view loglet.now) ticket }
+    ensures { HasLeft (view loglet.now) ticket result.0 result.1 }
+{
+    loglet.left(ticket)
+}
+
+pub fn begin(loglet: &mut dyn Loglet, op: Op) -> Result<Ticket, Refused>
+    requires { CanCall (view loglet.old) (LogletCall.Begin op) }
+    ensures { LogletStep (view loglet.old) (LogletCall.Begin op) (begin_answer result)
+        (view loglet.new) }
+{
+    loglet.begin(op)
+}
+
+pub fn carry(loglet: &mut dyn Loglet, ticket: Ticket, word: u64) -> Result<(), Refused>
+    requires { CanCall (view loglet.old) (LogletCall.Carry ticket word) }
+    ensures { LogletStep (view loglet.old) (LogletCall.Carry ticket word) (carry_answer result)
+        (view loglet.new) }
+{
+    loglet.carry(ticket, word)
+}
+
+pub fn take(loglet: &mut dyn Loglet, ticket: Ticket) -> Option<Answer>
+    requires { CanCall (view loglet.old) (LogletCall.Take ticket) }
+    ensures { LogletStep (view loglet.old) (LogletCall.Take ticket) (LogletAnswer.Taken result)
+        (view loglet.new) }
+{
+    loglet.take(ticket)
+}
+
+pub fn forget(loglet: &mut dyn Loglet, ticket: Ticket)
+    requires { CanCall (view loglet.old) (LogletCall.Forget ticket) }
+    ensures { LogletStep (view loglet.old) (LogletCall.Forget ticket) LogletAnswer.Forgotten
+        (view loglet.new) }
+{
+    loglet.forget(ticket)
+}
+
+pub fn stray(loglet: &mut dyn Loglet, word: u64) -> Result<(), Refused>
+    ensures { LogletStep (view loglet.old) (LogletCall.Stray word) (stray_answer result)
+        (view loglet.new) }
+{
+    loglet.stray(word)
+}
+
+pub fn stop(loglet: &mut dyn Loglet, server: u32, after: u64)
+    requires { CanCall (view loglet.old) (LogletCall.Stop server after) }
+    ensures { LogletStep (view loglet.old) (LogletCall.Stop server after) LogletAnswer.Stopped
+        (view loglet.new) }
+{
+    loglet.stop(server, after)
+}
+
+pub fn restart(loglet: &mut dyn Loglet, server: u32, word: u64) -> Result<bool, Refused>
+    requires { CanCall (view loglet.old) (LogletCall.Restart server word) }
+    ensures { LogletStep (view loglet.old) (LogletCall.Restart server word) (restart_answer result)
+        (view loglet.new) }
+{
+    loglet.restart(server, word)
+}
