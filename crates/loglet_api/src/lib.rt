@@ -4,6 +4,7 @@
 //! - `call`: operations, answers and calls, as plain values.
 //! - `loglet`: the trait, and that a box of any loglet is a loglet.
 //! - `calls`: each call of the trait through a `&mut dyn Loglet`.
+//! - `rules`: the parts of a step that are the same for every kind of loglet.
 //! - `laws`: what follows from the steps alone.
 //!
 //! The definitions stand in `specs/`: `View` (what a loglet shows), `Sound` (what holds of it at
@@ -15,3 +16,4 @@ pub mod call;
 pub mod calls;
 pub mod laws;
 pub mod loglet;
+pub mod rules;
