@@ -1,0 +1,4 @@
+mod Maps
+mod Sound
+mod Told
+mod Steps
