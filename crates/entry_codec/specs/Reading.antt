@@ -1,0 +1,99 @@
+-- Reading an item or an entry from left to right. Each field is tested as soon as it is read, so a fault is the
+-- first rule that the bytes break, with the place at which they do.
+use Rattle.std.specs.Prelude.{◌==◌, ◌+◌, ◌-◌, ℕ, zero, suc, List, [], ◌∷◌, length, take, drop, Option, Result, Ok, Err, nat_lt, if◌then◌else◌}
+use Rattle.std.specs.Result.{result_ok}
+use Rattle.delos_types.specs.Numbers.{u16_of, u32_of}
+use Rattle.delos_types.specs.declared.item.Header.{Header}
+use Rattle.delos_types.specs.declared.item.Item.{Item}
+use Rattle.delos_types.specs.declared.entry.Entry.{Entry}
+use Rattle.entry_codec.specs.declared.fault.BadEntry.{BadEntry}
+use Rattle.entry_codec.specs.declared.fault.Rule.{Rule}
+use Rattle.entry_codec.specs.declared.fault.Rule.TheVariants.{Size, Short, Version, Origin, Kind, Long}
+
+infixl 10 ◌>>=◌
+abbrev pub ◌>>=◌ : {A B : Type 0} → Result A BadEntry → (A → Result B BadEntry) → Result B BadEntry
+(Ok x) >>= f = f x
+(Err e) >>= f = Err e
+
+abbrev pub bad : {A : Type 0} → ℕ → Rule → Result A BadEntry
+bad at rule = Err (record { at = at; rule = rule })
+
+-- A field is its value, and the bytes after it. `size` is how many bytes there are in all: where they end inside
+-- a field they break the rule `short` there, and the next byte of `bytes` stands at the place `size - length bytes`.
+
+unfoldable pub u8_field : ℕ → List ℕ → Result (ℕ × List ℕ) BadEntry
+u8_field size [] = bad size Short
+u8_field size (byte ∷ rest) = Ok (byte, rest)
+
+unfoldable pub u16_field : ℕ → List ℕ → Result (ℕ × List ℕ) BadEntry
+u16_field size bytes = if nat_lt (length bytes) 2 then bad size Short else Ok (u16_of (take 2 bytes), drop 2 bytes)
+
+unfoldable pub u32_field : ℕ → List ℕ → Result (ℕ × List ℕ) BadEntry
+u32_field size bytes = if nat_lt (length bytes) 4 then bad size Short else Ok (u32_of (take 4 bytes), drop 4 bytes)
+
+-- so many bytes
+unfoldable pub text_field : ℕ → ℕ → List ℕ → Result (List ℕ × List ℕ) BadEntry
+text_field size len bytes = if nat_lt (length bytes) len then bad size Short else Ok (take len bytes, drop len bytes)
+
+unfoldable pub version_field : ℕ → List ℕ → Result (ℕ × List ℕ) BadEntry
+version_field size bytes = do
+  version ← u8_field size bytes
+  if version.0 == 1 then Ok version else bad 0 Version
+
+unfoldable pub origin_field : ℕ → List ℕ → Result (ℕ × List ℕ) BadEntry
+origin_field size bytes = do
+  origin ← u8_field size bytes
+  if nat_lt origin.0 1 then bad 1 Origin else (if nat_lt 8 origin.0 then bad 1 Origin else Ok origin)
+
+-- a kind, which is at least this
+unfoldable pub kind_field : ℕ → ℕ → List ℕ → Result (ℕ × List ℕ) BadEntry
+kind_field size least bytes = do
+  kind ← u8_field size bytes
+  if nat_lt kind.0 least then bad (size - length bytes) Kind else Ok kind
+
+unfoldable pub header_field : ℕ → ℕ → List ℕ → Result (Header × List ℕ) BadEntry
+header_field size least bytes = do
+  kind ← kind_field size least bytes
+  len ← u16_field size kind.1
+  body ← text_field size len.0 len.1
+  Ok (record { kind = kind.0; body = body.0 }, body.1)
+
+-- so many headers, whose kinds rise from `least` on
+unfoldable pub headers_field : ℕ → ℕ → ℕ → List ℕ → Result (List Header × List ℕ) BadEntry
+headers_field size least zero bytes = Ok ([], bytes)
+headers_field size least (suc count) bytes = do
+  first ← header_field size least bytes
+  others ← headers_field size (first.0.kind + 1) count first.1
+  Ok (first.0 ∷ others.0, others.1)
+
+-- nothing is left over
+unfoldable pub ended : {A : Type 0} → ℕ → List ℕ → A → Result A BadEntry
+ended size rest value = if length rest == 0 then Ok value else bad (size - length rest) Long
+
+-- the item that all of the bytes spell
+unfoldable pub item_read : List ℕ → Result Item BadEntry
+item_read bytes = do
+  count ← u8_field (length bytes) bytes
+  headers ← headers_field (length bytes) 1 count.0 count.1
+  len ← u16_field (length bytes) headers.1
+  payload ← text_field (length bytes) len.0 len.1
+  ended (length bytes) payload.1 (record { headers = headers.0; payload = payload.0 })
+
+-- the fields of an entry, in order
+unfoldable pub entry_fields : List ℕ → Result Entry BadEntry
+entry_fields bytes = do
+  version ← version_field (length bytes) bytes
+  origin ← origin_field (length bytes) version.1
+  count ← u8_field (length bytes) origin.1
+  headers ← headers_field (length bytes) 1 count.0 count.1
+  len ← u32_field (length bytes) headers.1
+  payload ← text_field (length bytes) len.0 len.1
+  ended (length bytes) payload.1 (record { origin = origin.0; headers = headers.0; payload = payload.0 })
+
+-- the entry that all of the bytes spell; more bytes than an entry may have are refused first
+unfoldable pub entry_read : List ℕ → Result Entry BadEntry
+entry_read bytes = if nat_lt 16384 (length bytes) then bad 16384 Size else entry_fields bytes
+
+-- the item that the bytes spell, if they spell one
+abbrev pub item_of : List ℕ → Option Item
+item_of bytes = result_ok (item_read bytes)
