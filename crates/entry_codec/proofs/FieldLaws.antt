@@ -1,7 +1,7 @@
 -- A field that is read is spelled so, and what is spelled so is read again.
 use Rattle.std.proofs.Common.{◌≡◌, ℕ, zero, suc, ◌+◌, ◌-◌, ◌^◌, ◌<◌, ◌≤◌, Bool, true, false, cond, ltb, eqb, List, [], ◌∷◌, ◌++◌, length, get_or, take, drop, Result, Ok, Err, refl, sym, ap, subst, ◌∙◌, append_assoc, arith}
 use Rattle.std.proofs.lemmas.Bool.{ltb-false, le-ltb, eqb-true}
-use Rattle.std.proofs.lemmas.List.{take_at, drop_at, take-append-drop, length-append, length-take, get_or-drop, get_or-take, get_or_past, nil_from_length}
+use Rattle.std.proofs.lemmas.List.{take_at, drop_at, take-append-drop, append-nil, length-append, length-take, get_or-drop, get_or-take, get_or_past, nil_from_length}
 use Rattle.std.proofs.lemmas.Bool.{cases_lt}
 use Rattle.std.proofs.Common.{inl, inr}
 use Rattle.delos_types.specs.Numbers.{IsBytes, u16_bytes, u32_bytes, u16_of, u32_of}
@@ -9,7 +9,8 @@ use Rattle.delos_types.proofs.NumberLaws.{length-u16_bytes, u16_of-u16_bytes, u1
 use Rattle.entry_codec.specs.declared.fault.BadEntry.{BadEntry}
 use Rattle.entry_codec.specs.declared.fault.Rule.{Rule}
 use Rattle.entry_codec.specs.declared.fault.Rule.TheVariants.{Short, Version, Origin, Kind, Long}
-use Rattle.entry_codec.specs.Reading.{◌>>=◌, bad, u8_field, u16_field, u32_field, text_field, version_field, origin_in, kind_field, ended}
+use Rattle.entry_codec.specs.Format.{short_text, long_text}
+use Rattle.entry_codec.specs.Reading.{◌>>=◌, bad, u8_field, u16_field, u32_field, text_field, short_text_field, long_text_field, version_field, origin_in, kind_field, ended}
 
 -- ---- steps of reading
 
@@ -22,6 +23,10 @@ bind_ok (Err b) f y e = absurd cc
 pub guard_ok : {A : Type 0} (t : Bool) (at : ℕ) (rule : Rule) (x y : A) → cond t (bad at rule) (Ok x) ≡ Ok y → (t ≡ false) × (x ≡ y)
 guard_ok true at rule x y e = absurd cc
 guard_ok false at rule x y e = (refl, cc)
+
+pub passed_ok : {A : Type 0} (t : Bool) (at : ℕ) (rule : Rule) (r : Result A BadEntry) (y : A) → cond t (bad at rule) r ≡ Ok y → (t ≡ false) × (r ≡ Ok y)
+passed_ok true at rule r y e = absurd cc
+passed_ok false at rule r y e = (refl, e)
 
 -- a test that had to hold
 pub wanted_ok : {A : Type 0} (t : Bool) (at : ℕ) (rule : Rule) (x y : A) → cond t (Ok x) (bad at rule) ≡ Ok y → (t ≡ true) × (x ≡ y)
@@ -116,6 +121,42 @@ text_again size text rest =
     let long : ltb (length (text ++ rest)) (length text) ≡ false = le-ltb _ _ (omega (arith, length-append text rest)) in
     rw (long, take_at text rest (length text) refl, drop_at text rest (length text) refl) refl
 
+-- a text behind two bytes of length
+pub short_takes : (size : ℕ) (bytes : List ℕ) (t : List ℕ × List ℕ) → IsBytes bytes → short_text_field size bytes ≡ Ok t → Takes bytes (short_text t.0) t.1 × (length t.0 < 2 ^ 16)
+unfolding short_text_field
+short_takes size bytes t fits e =
+    let n = bind_ok (u16_field size bytes) (λ len. text_field size len.0 len.1) t e in
+    let first = u16_takes size bytes n.0.0 n.0.1 fits n.1 in
+    let second = text_takes size n.0.0 n.0.1 t.0 t.1 first.0.rest_fits n.2 in
+    let both = Takes-then bytes (u16_bytes n.0.0) n.0.1 t.0 t.1 first.0 second.0 in
+    (subst (λ (k : ℕ). Takes bytes (u16_bytes k ++ t.0) t.1) (sym second.1) both, omega (arith, first.1, second.1))
+
+pub short_again : (size : ℕ) (text rest : List ℕ) → length text < 2 ^ 16 → short_text_field size (short_text text ++ rest) ≡ Ok (text, rest)
+unfolding short_text_field
+short_again size text rest lt =
+    ap (short_text_field size) (append_assoc (u16_bytes (length text)) text rest) ∙ rw (u16_again size (length text) (text ++ rest) lt, text_again size text rest) refl
+
+pub short_whole : (size : ℕ) (text : List ℕ) → length text < 2 ^ 16 → short_text_field size (short_text text) ≡ Ok (text, [])
+short_whole size text lt = ap (short_text_field size) (sym (append-nil (short_text text))) ∙ short_again size text [] lt
+
+-- a text behind four bytes of length
+pub long_takes : (size : ℕ) (bytes : List ℕ) (t : List ℕ × List ℕ) → IsBytes bytes → long_text_field size bytes ≡ Ok t → Takes bytes (long_text t.0) t.1
+unfolding long_text_field
+long_takes size bytes t fits e =
+    let n = bind_ok (u32_field size bytes) (λ len. text_field size len.0 len.1) t e in
+    let first = u32_takes size bytes n.0.0 n.0.1 fits n.1 in
+    let second = text_takes size n.0.0 n.0.1 t.0 t.1 first.0.rest_fits n.2 in
+    let both = Takes-then bytes (u32_bytes n.0.0) n.0.1 t.0 t.1 first.0 second.0 in
+    subst (λ (k : ℕ). Takes bytes (u32_bytes k ++ t.0) t.1) (sym second.1) both
+
+pub long_again : (size : ℕ) (text rest : List ℕ) → length text < 2 ^ 32 → long_text_field size (long_text text ++ rest) ≡ Ok (text, rest)
+unfolding long_text_field
+long_again size text rest lt =
+    ap (long_text_field size) (append_assoc (u32_bytes (length text)) text rest) ∙ rw (u32_again size (length text) (text ++ rest) lt, text_again size text rest) refl
+
+pub long_whole : (size : ℕ) (text : List ℕ) → length text < 2 ^ 32 → long_text_field size (long_text text) ≡ Ok (text, [])
+long_whole size text lt = ap (long_text_field size) (sym (append-nil (long_text text))) ∙ long_again size text [] lt
+
 -- ---- fields with a test
 
 pub version_takes : (size : ℕ) (bytes : List ℕ) (n : ℕ) (rest : List ℕ) → IsBytes bytes → version_field size bytes ≡ Ok (n, rest) → Takes bytes (1 ∷ []) rest
@@ -133,7 +174,12 @@ version_again size rest = rw (u8_again size 1 rest) refl
 
 pub origin_takes : (n m : ℕ) → origin_in n ≡ Ok m → (n ≡ m) × (1 ≤ m) × (m ≤ 8)
 unfolding origin_in
-origin_takes n m e = ?
+origin_takes n m e =
+    let a = passed_ok (ltb n 1) 1 Origin (cond (ltb 8 n) (bad 1 Origin) (Ok n)) m e in
+    let b = guard_ok (ltb 8 n) 1 Origin n m a.1 in
+    let low : 1 ≤ n = ltb-false _ _ a.0 in
+    let high : n ≤ 8 = ltb-false _ _ b.0 in
+    (b.1, omega (arith, low, b.1), omega (arith, high, b.1))
 
 pub origin_again : (n : ℕ) → 1 ≤ n → n ≤ 8 → origin_in n ≡ Ok n
 unfolding origin_in

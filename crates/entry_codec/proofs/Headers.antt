@@ -10,7 +10,7 @@ use Rattle.delos_types.specs.declared.entry.Entry.{Entry}
 use Rattle.entry_codec.specs.declared.fault.BadEntry.{BadEntry}
 use Rattle.entry_codec.specs.declared.fault.DecodeError.{DecodeError}
 use Rattle.entry_codec.specs.declared.fault.DecodeError.TheVariants as decode
-use Rattle.entry_codec.specs.Reading.{◌>>=◌, Fails, header_field, headers_field}
+use Rattle.entry_codec.specs.Reading.{◌>>=◌, Fails, header_field, headers_from}
 
 -- kinds are bytes, so there are fewer than 256 of them
 pub length-rising : (least : ℕ) (hs : List Header) → least ≤ 256 → IsRisingFrom least hs → length hs + least ≤ 256
@@ -48,25 +48,25 @@ begins (Ok x) = refl
 begins (Err b) = refl
 
 pub goes_on : (size least : ℕ) (front : List Header) (count i : ℕ) (bytes : List ℕ) (h : Header) (after : List ℕ) (total : Result (List Header × List ℕ) BadEntry) → i < count → header_field size least bytes ≡ Ok (h, after)
-    → with_front front (headers_field size least (count - i) bytes) ≡ total → with_front (front ++ h ∷ []) (headers_field size (h.kind + 1) (count - (i + 1)) after) ≡ total
-unfolding headers_field
+    → with_front front (headers_from size least (count - i) bytes) ≡ total → with_front (front ++ h ∷ []) (headers_from size (h.kind + 1) (count - (i + 1)) after) ≡ total
+unfolding headers_from
 goes_on size least front count i bytes h after total lt e so_far =
     let k : count - i ≡ suc (count - (i + 1)) = omega arith in
-    let one : with_front front (headers_field size least (count - i) bytes) ≡ with_front (front ++ h ∷ []) (headers_field size (h.kind + 1) (count - (i + 1)) after) = rw (k, e) (regroup front h (headers_field size (h.kind + 1) (count - (i + 1)) after)) in
+    let one : with_front front (headers_from size least (count - i) bytes) ≡ with_front (front ++ h ∷ []) (headers_from size (h.kind + 1) (count - (i + 1)) after) = rw (k, e) (regroup front h (headers_from size (h.kind + 1) (count - (i + 1)) after)) in
     sym one ∙ so_far
 
 pub ends : (e : DecodeError) (size least : ℕ) (front : List Header) (count i : ℕ) (bytes : List ℕ) (total : Result (List Header × List ℕ) BadEntry) → i < count → Fails e (header_field size least bytes)
-    → with_front front (headers_field size least (count - i) bytes) ≡ total → Fails e total
-unfolding headers_field
+    → with_front front (headers_from size least (count - i) bytes) ≡ total → Fails e total
+unfolding headers_from
 ends decode.Memory size least front count i bytes total lt f so_far = tt
 ends (decode.Bad b) size least front count i bytes total lt f so_far =
     let k : count - i ≡ suc (count - (i + 1)) = omega arith in
-    let one : with_front front (headers_field size least (count - i) bytes) ≡ Err b = rw (k, f) refl in
+    let one : with_front front (headers_from size least (count - i) bytes) ≡ Err b = rw (k, f) refl in
     sym so_far ∙ one
 
-pub is_done : (size least : ℕ) (front : List Header) (count i : ℕ) (bytes : List ℕ) (total : Result (List Header × List ℕ) BadEntry) → count ≤ i → with_front front (headers_field size least (count - i) bytes) ≡ total → total ≡ Ok (front, bytes)
-unfolding headers_field
+pub is_done : (size least : ℕ) (front : List Header) (count i : ℕ) (bytes : List ℕ) (total : Result (List Header × List ℕ) BadEntry) → count ≤ i → with_front front (headers_from size least (count - i) bytes) ≡ total → total ≡ Ok (front, bytes)
+unfolding headers_from
 is_done size least front count i bytes total le so_far =
     let k : count - i ≡ 0 = omega arith in
-    let one : with_front front (headers_field size least (count - i) bytes) ≡ Ok (front, bytes) = rw k (ap (λ (hs : List Header). Ok (hs, bytes)) (append-nil front)) in
+    let one : with_front front (headers_from size least (count - i) bytes) ≡ Ok (front, bytes) = rw k (ap (λ (hs : List Header). Ok (hs, bytes)) (append-nil front)) in
     sym so_far ∙ one

@@ -37,6 +37,18 @@ u32_field size bytes = if nat_lt (length bytes) 4 then bad size Short else Ok (u
 unfoldable pub text_field : ℕ → ℕ → List ℕ → Result (List ℕ × List ℕ) BadEntry
 text_field size len bytes = if nat_lt (length bytes) len then bad size Short else Ok (take len bytes, drop len bytes)
 
+-- a text behind two bytes of length
+unfoldable pub short_text_field : ℕ → List ℕ → Result (List ℕ × List ℕ) BadEntry
+short_text_field size bytes = do
+  len ← u16_field size bytes
+  text_field size len.0 len.1
+
+-- a text behind four bytes of length
+unfoldable pub long_text_field : ℕ → List ℕ → Result (List ℕ × List ℕ) BadEntry
+long_text_field size bytes = do
+  len ← u32_field size bytes
+  text_field size len.0 len.1
+
 unfoldable pub version_field : ℕ → List ℕ → Result (ℕ × List ℕ) BadEntry
 version_field size bytes = do
   version ← u8_field size bytes
@@ -55,46 +67,51 @@ kind_field size least bytes = do
 unfoldable pub header_field : ℕ → ℕ → List ℕ → Result (Header × List ℕ) BadEntry
 header_field size least bytes = do
   kind ← kind_field size least bytes
-  len ← u16_field size kind.1
-  body ← text_field size len.0 len.1
+  body ← short_text_field size kind.1
   Ok (record { kind = kind.0; body = body.0 }, body.1)
 
 -- so many headers, whose kinds rise from `least` on
-unfoldable pub headers_field : ℕ → ℕ → ℕ → List ℕ → Result (List Header × List ℕ) BadEntry
-headers_field size least zero bytes = Ok ([], bytes)
-headers_field size least (suc count) bytes = do
+unfoldable pub headers_from : ℕ → ℕ → ℕ → List ℕ → Result (List Header × List ℕ) BadEntry
+headers_from size least zero bytes = Ok ([], bytes)
+headers_from size least (suc count) bytes = do
   first ← header_field size least bytes
-  others ← headers_field size (first.0.kind + 1) count first.1
+  others ← headers_from size (first.0.kind + 1) count first.1
   Ok (first.0 ∷ others.0, others.1)
+
+-- the number of the headers, and the headers
+unfoldable pub headers_field : ℕ → List ℕ → Result (List Header × List ℕ) BadEntry
+headers_field size bytes = do
+  count ← u8_field size bytes
+  headers_from size 1 count.0 count.1
 
 -- nothing is left over
 unfoldable pub ended : {A : Type 0} → ℕ → List ℕ → A → Result A BadEntry
 ended size rest value = if length rest == 0 then Ok value else bad (size - length rest) Long
 
+-- the fields of an item, in order
+unfoldable pub item_fields : ℕ → List ℕ → Result Item BadEntry
+item_fields size bytes = do
+  headers ← headers_field size bytes
+  payload ← short_text_field size headers.1
+  ended size payload.1 (record { headers = headers.0; payload = payload.0 })
+
 -- the item that all of the bytes spell
 unfoldable pub item_read : List ℕ → Result Item BadEntry
-item_read bytes = do
-  count ← u8_field (length bytes) bytes
-  headers ← headers_field (length bytes) 1 count.0 count.1
-  len ← u16_field (length bytes) headers.1
-  payload ← text_field (length bytes) len.0 len.1
-  ended (length bytes) payload.1 (record { headers = headers.0; payload = payload.0 })
+item_read bytes = item_fields (length bytes) bytes
 
 -- the fields of an entry, in order
-unfoldable pub entry_fields : List ℕ → Result Entry BadEntry
-entry_fields bytes = do
-  version ← version_field (length bytes) bytes
-  number ← u8_field (length bytes) version.1
+unfoldable pub entry_fields : ℕ → List ℕ → Result Entry BadEntry
+entry_fields size bytes = do
+  version ← version_field size bytes
+  number ← u8_field size version.1
   origin ← origin_in number.0
-  count ← u8_field (length bytes) number.1
-  headers ← headers_field (length bytes) 1 count.0 count.1
-  len ← u32_field (length bytes) headers.1
-  payload ← text_field (length bytes) len.0 len.1
-  ended (length bytes) payload.1 (record { origin = origin; headers = headers.0; payload = payload.0 })
+  headers ← headers_field size number.1
+  payload ← long_text_field size headers.1
+  ended size payload.1 (record { origin = origin; headers = headers.0; payload = payload.0 })
 
 -- the entry that all of the bytes spell; more bytes than an entry may have are refused first
 unfoldable pub entry_read : List ℕ → Result Entry BadEntry
-entry_read bytes = if nat_lt 16384 (length bytes) then bad 16384 Size else entry_fields bytes
+entry_read bytes = if nat_lt 16384 (length bytes) then bad 16384 Size else entry_fields (length bytes) bytes
 
 -- the item that the bytes spell, if they spell one
 abbrev pub item_of : List ℕ → Option Item

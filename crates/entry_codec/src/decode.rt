@@ -6,7 +6,7 @@ ghost use Rattle.delos_types.specs.declared.item.Item as item_view;
 ghost use Rattle.delos_types.specs.declared.entry.Entry as entry_view;
 
 use crate::fault::{BadEntry, DecodeError, Rule};
-use crate::fields::{end_at, headers_at, origin_of, text_at, u16_at, u32_at, u8_at, version_at};
+use crate::fields::{end_at, headers_at, long_text_at, origin_of, short_text_at, u8_at, version_at};
 use delos_types::entry::Entry;
 use delos_types::item::Item;
 use std::alloc::Global;
@@ -38,15 +38,13 @@ pub fn decode_entry(alloc: Global, bytes: &[u8]) -> Result<Entry, DecodeError>
     read_entry(alloc, bytes)
 }
 
-#[tactic(auto, unfolding(crate::specs::Reading::item_read, crate::specs::Reading::ended))]
+#[tactic(auto, unfolding(crate::specs::Reading::item_read, crate::specs::Reading::item_fields, crate::specs::Reading::ended))]
 fn read_item(alloc: Global, bytes: &[u8]) -> Result<Item, DecodeError>
     ensures { Gives result (item_read bytes.now) }
 {
     let size = bytes.len();
-    let (count, rest) = u8_at(size, bytes)?;
-    let (headers, rest) = headers_at(alloc, size, count, rest)?;
-    let (len, rest) = u16_at(size, rest)?;
-    let (payload, rest) = text_at(alloc, size, usize::from(len), rest)?;
+    let (headers, rest) = headers_at(alloc, size, bytes)?;
+    let (payload, rest) = short_text_at(alloc, size, rest)?;
     end_at(size, rest)?;
     Ok(Item { headers, payload })
 }
@@ -66,16 +64,14 @@ fn read_entry(alloc: Global, bytes: &[u8]) -> Result<Entry, DecodeError>
 
 #[tactic(auto, unfolding(crate::specs::Reading::entry_fields, crate::specs::Reading::ended))]
 fn read_fields(alloc: Global, bytes: &[u8]) -> Result<Entry, DecodeError>
-    ensures { Gives result (entry_fields bytes.now) }
+    ensures { Gives result (entry_fields (length bytes.now) bytes.now) }
 {
     let size = bytes.len();
     let (_, rest) = version_at(size, bytes)?;
     let (number, rest) = u8_at(size, rest)?;
     let origin = origin_of(number)?;
-    let (count, rest) = u8_at(size, rest)?;
-    let (headers, rest) = headers_at(alloc, size, count, rest)?;
-    let (len, rest) = u32_at(size, rest)?;
-    let (payload, rest) = text_at(alloc, size, len as usize, rest)?;
+    let (headers, rest) = headers_at(alloc, size, rest)?;
+    let (payload, rest) = long_text_at(alloc, size, rest)?;
     end_at(size, rest)?;
     Ok(Entry {
         origin,

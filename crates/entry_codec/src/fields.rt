@@ -1,7 +1,7 @@
 // The fields of items and entries. Each reader takes how many bytes there are in all, and those that
 // are left to read; it gives a field's value, and what is left after it.
 ghost use Rattle.std.specs.Prelude.{◌≡◌, ◌≤◌, List, length, IfOk};
-ghost use Rattle.entry_codec.specs.Reading.{Gives, GivesBy, u8_field, u16_field, u32_field, text_field, version_field, origin_in, kind_field, header_field, headers_field, ended};
+ghost use Rattle.entry_codec.specs.Reading.{Gives, GivesBy, u8_field, u16_field, u32_field, text_field, short_text_field, long_text_field, version_field, origin_in, kind_field, header_field, headers_from, headers_field, ended};
 
 use crate::fault::{BadEntry, DecodeError, Rule};
 use delos_types::big_endian::{split_u16, split_u32};
@@ -29,7 +29,7 @@ pub fn u8_at(size: usize, bytes: &[u8]) -> Result<(u8, &[u8]), DecodeError>
 }
 
 #[tactic(auto, unfolding(crate::specs::Reading::u16_field))]
-pub fn u16_at(size: usize, bytes: &[u8]) -> Result<(u16, &[u8]), DecodeError>
+fn u16_at(size: usize, bytes: &[u8]) -> Result<(u16, &[u8]), DecodeError>
     ensures gives { GivesBy (λ x. (x.0, x.1.now)) result (u16_field size bytes.now) }
     ensures rest { IfOk result (λ x. length x.1.now ≤ length bytes.now) }
 {
@@ -40,7 +40,7 @@ pub fn u16_at(size: usize, bytes: &[u8]) -> Result<(u16, &[u8]), DecodeError>
 }
 
 #[tactic(auto, unfolding(crate::specs::Reading::u32_field))]
-pub fn u32_at(size: usize, bytes: &[u8]) -> Result<(u32, &[u8]), DecodeError>
+fn u32_at(size: usize, bytes: &[u8]) -> Result<(u32, &[u8]), DecodeError>
     ensures gives { GivesBy (λ x. (x.0, x.1.now)) result (u32_field size bytes.now) }
     ensures rest { IfOk result (λ x. length x.1.now ≤ length bytes.now) }
 {
@@ -52,7 +52,7 @@ pub fn u32_at(size: usize, bytes: &[u8]) -> Result<(u32, &[u8]), DecodeError>
 
 // A copy of so many bytes.
 #[tactic(auto, unfolding(crate::specs::Reading::text_field))]
-pub fn text_at(alloc: Global, size: usize, len: usize, bytes: &[u8]) -> Result<(Bytes, &[u8]), DecodeError>
+fn text_at(alloc: Global, size: usize, len: usize, bytes: &[u8]) -> Result<(Bytes, &[u8]), DecodeError>
     ensures gives { GivesBy (λ x. (x.0, x.1.now)) result (text_field size len bytes.now) }
     ensures rest { IfOk result (λ x. length x.1.now ≤ length bytes.now) }
 {
@@ -61,6 +61,28 @@ pub fn text_at(alloc: Global, size: usize, len: usize, bytes: &[u8]) -> Result<(
     }
     let (text, rest) = bytes.split_at(len);
     let text = Bytes::from_slice(alloc, text)?;
+    Ok((text, rest))
+}
+
+// A copy of the text behind two bytes of length.
+#[tactic(auto, unfolding(crate::specs::Reading::short_text_field))]
+pub fn short_text_at(alloc: Global, size: usize, bytes: &[u8]) -> Result<(Bytes, &[u8]), DecodeError>
+    ensures gives { GivesBy (λ x. (x.0, x.1.now)) result (short_text_field size bytes.now) }
+    ensures rest { IfOk result (λ x. length x.1.now ≤ length bytes.now) }
+{
+    let (len, rest) = u16_at(size, bytes)?;
+    let (text, rest) = text_at(alloc, size, usize::from(len), rest)?;
+    Ok((text, rest))
+}
+
+// A copy of the text behind four bytes of length.
+#[tactic(auto, unfolding(crate::specs::Reading::long_text_field))]
+pub fn long_text_at(alloc: Global, size: usize, bytes: &[u8]) -> Result<(Bytes, &[u8]), DecodeError>
+    ensures gives { GivesBy (λ x. (x.0, x.1.now)) result (long_text_field size bytes.now) }
+    ensures rest { IfOk result (λ x. length x.1.now ≤ length bytes.now) }
+{
+    let (len, rest) = u32_at(size, bytes)?;
+    let (text, rest) = text_at(alloc, size, len as usize, rest)?;
     Ok((text, rest))
 }
 
@@ -108,15 +130,26 @@ fn header_at(alloc: Global, size: usize, least: u16, bytes: &[u8]) -> Result<(He
     ensures rest { IfOk result (λ x. length x.1.now ≤ length bytes.now) }
 {
     let (kind, rest) = kind_at(size, least, bytes)?;
-    let (len, rest) = u16_at(size, rest)?;
-    let (body, rest) = text_at(alloc, size, usize::from(len), rest)?;
+    let (body, rest) = short_text_at(alloc, size, rest)?;
     Ok((Header { kind, body }, rest))
 }
 
-// So many headers, whose kinds rise from 1 on.
-pub fn headers_at(alloc: Global, size: usize, count: u8, bytes: &[u8]) -> Result<(Headers, &[u8]), DecodeError>
+// The number of the headers, and the headers.
+#[tactic(auto, unfolding(crate::specs::Reading::headers_field))]
+pub fn headers_at(alloc: Global, size: usize, bytes: &[u8]) -> Result<(Headers, &[u8]), DecodeError>
     requires { length bytes.now ≤ size }
-    ensures gives { GivesBy (λ x. (x.0, x.1.now)) result (headers_field size 1 count bytes.now) }
+    ensures gives { GivesBy (λ x. (x.0, x.1.now)) result (headers_field size bytes.now) }
+    ensures rest { IfOk result (λ x. length x.1.now ≤ length bytes.now) }
+{
+    let (count, rest) = u8_at(size, bytes)?;
+    let (headers, rest) = headers_of(alloc, size, count, rest)?;
+    Ok((Headers::from_vec(headers), rest))
+}
+
+// So many headers, whose kinds rise from 1 on.
+fn headers_of(alloc: Global, size: usize, count: u8, bytes: &[u8]) -> Result<(Vec<Header>, &[u8]), DecodeError>
+    requires { length bytes.now ≤ size }
+    ensures gives { GivesBy (λ x. (x.0.items, x.1.now)) result (headers_from size 1 count bytes.now) }
     ensures rest { IfOk result (λ x. length x.1.now ≤ length bytes.now) }
 {
     let mut headers = Vec::new(alloc);
@@ -128,7 +161,7 @@ pub fn headers_at(alloc: Global, size: usize, count: u8, bytes: &[u8]) -> Result
         headers.push(header)?;
         rest = after;
     }
-    Ok((Headers::from_vec(headers), rest))
+    Ok((headers, rest))
 }
 
 // Nothing is left over.
