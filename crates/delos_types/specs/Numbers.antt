@@ -1,5 +1,5 @@
 -- Numbers in bytes: two, four or eight of them, the highest first.
-use Rattle.std.specs.Prelude.{ℕ, List}
+use Rattle.std.specs.Prelude.{◌≡◌, ◌≤◌, ◌<◌, ℕ, List, length, take, drop, slice_index}
 use Rattle.std.specs.Int.{w16, w32, w64, to_be_bytes, from_be_bytes}
 
 -- the bytes of a number below 2^16
@@ -25,3 +25,13 @@ u32_of bytes = from_be_bytes w32 bytes
 -- the number that eight bytes spell
 unfoldable pub u64_of : List ℕ → ℕ
 u64_of bytes = from_be_bytes w64 bytes
+
+-- each number of the list is a byte
+abbrev pub IsBytes : List ℕ → Type 0
+IsBytes bytes = (i : ℕ) → slice_index bytes i < 256
+
+-- the first so many bytes spell the number, and the rest stands after them
+pub record Splits (len : ℕ) (number_of : List ℕ → ℕ) (bytes : List ℕ) (number : ℕ) (rest : List ℕ) : Type 0 where
+  pub long : len ≤ length bytes
+  pub value : number ≡ number_of (take len bytes)
+  pub after : rest ≡ drop len bytes

@@ -2,6 +2,7 @@
 //! the chain of loglets, and the space of keys that engines keep their state in.
 #![tactic(auto)]
 
+pub mod big_endian;
 pub mod bytes;
 pub mod cause;
 pub mod chain;

@@ -1,12 +1,14 @@
 -- Reading an item or an entry from left to right. Each field is tested as soon as it is read, so a fault is the
 -- first rule that the bytes break, with the place at which they do.
-use Rattle.std.specs.Prelude.{◌==◌, ◌+◌, ◌-◌, ℕ, zero, suc, List, [], ◌∷◌, length, take, drop, Option, Result, Ok, Err, nat_lt, if◌then◌else◌}
+use Rattle.std.specs.Prelude.{◌≡◌, ◌==◌, ◌+◌, ◌-◌, ℕ, zero, suc, List, [], ◌∷◌, length, take, drop, Option, Result, Ok, Err, nat_lt, if◌then◌else◌}
 use Rattle.std.specs.Result.{result_ok}
 use Rattle.delos_types.specs.Numbers.{u16_of, u32_of}
 use Rattle.delos_types.specs.declared.item.Header.{Header}
 use Rattle.delos_types.specs.declared.item.Item.{Item}
 use Rattle.delos_types.specs.declared.entry.Entry.{Entry}
 use Rattle.entry_codec.specs.declared.fault.BadEntry.{BadEntry}
+use Rattle.entry_codec.specs.declared.fault.DecodeError.{DecodeError}
+use Rattle.entry_codec.specs.declared.fault.DecodeError.TheVariants as decode
 use Rattle.entry_codec.specs.declared.fault.Rule.{Rule}
 use Rattle.entry_codec.specs.declared.fault.Rule.TheVariants.{Size, Short, Version, Origin, Kind, Long}
 
@@ -35,15 +37,26 @@ u32_field size bytes = if nat_lt (length bytes) 4 then bad size Short else Ok (u
 unfoldable pub text_field : ℕ → ℕ → List ℕ → Result (List ℕ × List ℕ) BadEntry
 text_field size len bytes = if nat_lt (length bytes) len then bad size Short else Ok (take len bytes, drop len bytes)
 
+-- a text behind two bytes of length
+unfoldable pub short_text_field : ℕ → List ℕ → Result (List ℕ × List ℕ) BadEntry
+short_text_field size bytes = do
+  len ← u16_field size bytes
+  text_field size len.0 len.1
+
+-- a text behind four bytes of length
+unfoldable pub long_text_field : ℕ → List ℕ → Result (List ℕ × List ℕ) BadEntry
+long_text_field size bytes = do
+  len ← u32_field size bytes
+  text_field size len.0 len.1
+
 unfoldable pub version_field : ℕ → List ℕ → Result (ℕ × List ℕ) BadEntry
 version_field size bytes = do
   version ← u8_field size bytes
   if version.0 == 1 then Ok version else bad 0 Version
 
-unfoldable pub origin_field : ℕ → List ℕ → Result (ℕ × List ℕ) BadEntry
-origin_field size bytes = do
-  origin ← u8_field size bytes
-  if nat_lt origin.0 1 then bad 1 Origin else (if nat_lt 8 origin.0 then bad 1 Origin else Ok origin)
+-- the number of a node, which stands at the place 1
+unfoldable pub origin_in : ℕ → Result ℕ BadEntry
+origin_in n = if nat_lt n 1 then bad 1 Origin else (if nat_lt 8 n then bad 1 Origin else Ok n)
 
 -- a kind, which is at least this
 unfoldable pub kind_field : ℕ → ℕ → List ℕ → Result (ℕ × List ℕ) BadEntry
@@ -54,46 +67,65 @@ kind_field size least bytes = do
 unfoldable pub header_field : ℕ → ℕ → List ℕ → Result (Header × List ℕ) BadEntry
 header_field size least bytes = do
   kind ← kind_field size least bytes
-  len ← u16_field size kind.1
-  body ← text_field size len.0 len.1
+  body ← short_text_field size kind.1
   Ok (record { kind = kind.0; body = body.0 }, body.1)
 
 -- so many headers, whose kinds rise from `least` on
-unfoldable pub headers_field : ℕ → ℕ → ℕ → List ℕ → Result (List Header × List ℕ) BadEntry
-headers_field size least zero bytes = Ok ([], bytes)
-headers_field size least (suc count) bytes = do
+unfoldable pub headers_from : ℕ → ℕ → ℕ → List ℕ → Result (List Header × List ℕ) BadEntry
+headers_from size least zero bytes = Ok ([], bytes)
+headers_from size least (suc count) bytes = do
   first ← header_field size least bytes
-  others ← headers_field size (first.0.kind + 1) count first.1
+  others ← headers_from size (first.0.kind + 1) count first.1
   Ok (first.0 ∷ others.0, others.1)
+
+-- the number of the headers, and the headers
+unfoldable pub headers_field : ℕ → List ℕ → Result (List Header × List ℕ) BadEntry
+headers_field size bytes = do
+  count ← u8_field size bytes
+  headers_from size 1 count.0 count.1
 
 -- nothing is left over
 unfoldable pub ended : {A : Type 0} → ℕ → List ℕ → A → Result A BadEntry
 ended size rest value = if length rest == 0 then Ok value else bad (size - length rest) Long
 
+-- the fields of an item, in order
+unfoldable pub item_fields : ℕ → List ℕ → Result Item BadEntry
+item_fields size bytes = do
+  headers ← headers_field size bytes
+  payload ← short_text_field size headers.1
+  ended size payload.1 (record { headers = headers.0; payload = payload.0 })
+
 -- the item that all of the bytes spell
 unfoldable pub item_read : List ℕ → Result Item BadEntry
-item_read bytes = do
-  count ← u8_field (length bytes) bytes
-  headers ← headers_field (length bytes) 1 count.0 count.1
-  len ← u16_field (length bytes) headers.1
-  payload ← text_field (length bytes) len.0 len.1
-  ended (length bytes) payload.1 (record { headers = headers.0; payload = payload.0 })
+item_read bytes = item_fields (length bytes) bytes
 
 -- the fields of an entry, in order
-unfoldable pub entry_fields : List ℕ → Result Entry BadEntry
-entry_fields bytes = do
-  version ← version_field (length bytes) bytes
-  origin ← origin_field (length bytes) version.1
-  count ← u8_field (length bytes) origin.1
-  headers ← headers_field (length bytes) 1 count.0 count.1
-  len ← u32_field (length bytes) headers.1
-  payload ← text_field (length bytes) len.0 len.1
-  ended (length bytes) payload.1 (record { origin = origin.0; headers = headers.0; payload = payload.0 })
+unfoldable pub entry_fields : ℕ → List ℕ → Result Entry BadEntry
+entry_fields size bytes = do
+  version ← version_field size bytes
+  number ← u8_field size version.1
+  origin ← origin_in number.0
+  headers ← headers_field size number.1
+  payload ← long_text_field size headers.1
+  ended size payload.1 (record { origin = origin; headers = headers.0; payload = payload.0 })
 
 -- the entry that all of the bytes spell; more bytes than an entry may have are refused first
 unfoldable pub entry_read : List ℕ → Result Entry BadEntry
-entry_read bytes = if nat_lt 16384 (length bytes) then bad 16384 Size else entry_fields bytes
+entry_read bytes = if nat_lt 16384 (length bytes) then bad 16384 Size else entry_fields (length bytes) bytes
 
 -- the item that the bytes spell, if they spell one
 abbrev pub item_of : List ℕ → Option Item
 item_of bytes = result_ok (item_read bytes)
+
+-- What a function returned, seen by view, is what reading gives, unless memory ran out.
+abbrev pub Fails : {Y : Type 0} → DecodeError → Result Y BadEntry → Type 0
+Fails decode.Memory read = Unit {0}
+Fails (decode.Bad b) read = read ≡ Err b
+
+abbrev pub GivesBy : {X Y : Type 0} → (X → Y) → Result X DecodeError → Result Y BadEntry → Type 0
+GivesBy view (Ok x) read = read ≡ Ok (view x)
+GivesBy view (Err e) read = Fails e read
+
+abbrev pub Gives : {X : Type 0} → Result X DecodeError → Result X BadEntry → Type 0
+Gives (Ok x) read = read ≡ Ok x
+Gives (Err e) read = Fails e read
