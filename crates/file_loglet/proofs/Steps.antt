@@ -24,6 +24,7 @@ use Rattle.file_loglet.specs.declared.pending.Pending.{Pending}
 use Rattle.file_loglet.specs.declared.pending.Decided.{Decided}
 use Rattle.file_loglet.specs.declared.decide.Outcome.{Outcome}
 use Rattle.file_loglet.specs.Pending.{PendingMap, shown, operation_of, left_of, Fits, Decides, TakesOut, Waits, told_at}
+use Rattle.file_loglet.specs.Calm.{IsDecidedCalmly}
 use Rattle.file_loglet.specs.File.{file_view, IsPending, IsFile}
 use Rattle.file_loglet.specs.declared.file.FileLoglet.TheInside.{Inside}
 use Rattle.file_loglet.proofs.Maps.{shown_at, puts, get_after, is_there}
@@ -220,6 +221,16 @@ carries a t p o m h at d u undecided =
         less = rw left (inl (omega arith));
       };
     }
+
+-- it is decided then, and nothing failed
+pub decides-calmly : (a : Inside) (v : LogletView) (t : ℕ) (p : Pending) (o : Outcome) (m : PendingMap) → file_view a ≡ v → get nat_eq a.pending t ≡ Some p → Updates nat_eq a.pending m t (Some (answered p o.answer)) → IsDecidedCalmly v t (file_view (carried a o.stored o.sealed m))
+decides-calmly a v t p o m e at u = record {
+  operation = operation_of (answered p o.answer);
+  is = puts a.pending m t (Some (answered p o.answer)) u t ∙ (let same : nat_eq t t ≡ true = grind (arith, nat_tests) in rw same refl);
+  decided = refl;
+  faults = ap (λ w. w.faults) e;
+  down = ap (λ w. w.down) e;
+}
 
 -- Take.
 

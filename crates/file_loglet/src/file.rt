@@ -7,7 +7,7 @@ use crate::decide::{Outcome, decide, told};
 use crate::pending::{Decided, Pending, add, set_answer, take_decided};
 use delos_types::entry::Entry;
 use delos_types::numbers::Ticket;
-use loglet_api::call::{Answer, Kind, Op, Refused};
+use loglet_api::call::{Answer, Kind, LogletCall, Op, Refused};
 use loglet_api::loglet::Loglet;
 use std::alloc::{AllocError, Global};
 use std::collections::HashMap;
@@ -86,6 +86,11 @@ impl FileLoglet {
 }
 
 impl Loglet for FileLoglet {
+    ghost use Rattle.std.specs.Prelude.{OnOk};
+    ghost use Rattle.loglet_api.specs.Step.{CanCall, LogletStep};
+    ghost use Rattle.loglet_api.specs.Answers.{carry_answer};
+    ghost use Rattle.file_loglet.specs.Calm.{IsDecidedCalmly};
+
     ghost view = { λ v. v };
 
     fn kind(&self) -> Kind {
@@ -148,7 +153,12 @@ impl Loglet for FileLoglet {
         Ok(Ticket::new(number))
     }
 
-    fn carry(&mut self, ticket: Ticket, _word: u64) -> Result<(), Refused> {
+    fn carry(&mut self, ticket: Ticket, _word: u64) -> Result<(), Refused>
+        requires { CanCall self.old (LogletCall.Carry ticket _word) }
+        ensures step { LogletStep self.old (LogletCall.Carry ticket _word) (carry_answer result) self.new }
+        // One carry decides, and nothing fails.
+        ensures at_once { OnOk result (IsDecidedCalmly self.old ticket self.new) }
+    {
         let number = ticket.number();
         let Ok(
             Outcome {
