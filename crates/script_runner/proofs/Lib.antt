@@ -1,0 +1,5 @@
+pub mod Tests
+pub mod Pairs
+pub mod Placed
+pub mod SoFar
+pub mod CalmLoglet

@@ -1,0 +1,10 @@
+//! Runs a script: its bytes come in, its commands go through the log, rows and the chain go out.
+//! The run theorem is the contract of [`run::run`].
+#![tactic(auto)]
+
+pub mod ended;
+mod log;
+mod play;
+mod replica;
+pub mod run;
+pub mod yard;
