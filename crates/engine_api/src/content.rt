@@ -16,11 +16,18 @@ pub enum Content {
         command: Option<Command>,
     },
     /// The node has its state for the first `position` entries, and needs them no more.
-    Alive { node: NodeId, position: u64 },
+    Alive {
+        node: NodeId,
+        position: u64,
+    },
     /// The node is no member from here on.
-    Leave { node: NodeId },
+    Leave {
+        node: NodeId,
+    },
     /// The entries below `position` may go, as far as the members' reports allow it.
-    Trim { position: u64 },
+    Trim {
+        position: u64,
+    },
 }
 
 /// What an item says, and where it stands.
