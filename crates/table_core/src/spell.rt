@@ -59,7 +59,8 @@ fn push_value(bytes: &mut Vec<u8>, value: &Bytes) -> Result<(), AllocError>
 
 /// The command that the bytes spell, and None exactly where they spell none.
 pub fn read_command(alloc: Global, bytes: &[u8]) -> Result<Option<Command>, AllocError>
-    ensures { IfOk result (λ read. read ≡ reading.command_of bytes.now) }
+    ensures value { IfOk result (λ read. read ≡ reading.command_of bytes.now) }
+    ensures spelled { IfOk result (Reads bytes.now) }
 {
     let Some((tag, rest)) = bytes.split_first() else {
         return Ok(None);
