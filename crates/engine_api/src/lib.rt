@@ -6,3 +6,4 @@
 pub mod act;
 pub mod appearance;
 pub mod content;
+pub mod order;
