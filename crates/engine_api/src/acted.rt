@@ -63,20 +63,21 @@ pub fn appearances(alloc: Global, placed: &[Placed]) -> Result<Appearances, Allo
 {
     let mut out = Vec::new(alloc);
     for p in placed {
-        if let Content::Session {
+        let Content::Session {
             session,
             rank,
             command,
         } = &p.content
-        {
-            let command = command.clone()?;
-            out.push(Appearance {
-                place: p.place,
-                session: *session,
-                rank: *rank,
-                command,
-            })?;
-        }
+        else {
+            continue;
+        };
+        let command = command.clone()?;
+        out.push(Appearance {
+            place: p.place,
+            session: *session,
+            rank: *rank,
+            command,
+        })?;
     }
     Ok(Appearances::from_vec(out))
 }
