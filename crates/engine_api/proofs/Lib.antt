@@ -1,2 +1,4 @@
+pub mod Appends
 pub mod Gaps
+pub mod InTurn
 pub mod Steps

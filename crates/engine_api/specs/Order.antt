@@ -1,5 +1,5 @@
 -- Session order: each rank of a session acts once, in order, with the command of its first appearance.
-use Rattle.std.specs.Prelude.{ℕ, zero, suc, ◌+◌, ◌-◌, Bool, ◌&&◌, ◌==◌, nat_lt, if◌then◌else◌, List, [], ◌∷◌, ◌++◌, Option, find, filter_map, is_some, max}
+use Rattle.std.specs.Prelude.{ℕ, zero, suc, ◌+◌, ◌-◌, Bool, ◌&&◌, ◌==◌, nat_lt, count_by, true, if◌then◌else◌, List, [], ◌∷◌, ◌++◌, Option, find, filter_map, is_some, max}
 use Rattle.std.specs.Option.{option_map}
 use Rattle.std.specs.List.{list_all}
 use Rattle.engine_api.specs.declared.appearance.Appearance.{Appearance}
@@ -50,3 +50,16 @@ acted_from start xs = acted_after start [] xs
 -- each rank that appears has acted, or is below its session's start
 abbrev pub is_clean : {C : Type 0} → (ℕ → ℕ) → List (Appearance C) → Bool
 is_clean start xs = list_all (λ x. nat_lt x.rank (gap_from xs x.session (start x.session))) xs
+
+-- how many of these are of session s
+abbrev pub count_of : {C : Type 0} → List (Appearance C) → ℕ → ℕ
+count_of xs s = count_by (λ x. x.session == s) xs
+
+-- each is the next rank of its session, where `before` stood earlier
+abbrev pub in_turn_after : {C : Type 0} → (ℕ → ℕ) → List (Appearance C) → List (Appearance C) → Bool
+in_turn_after start before [] = true
+in_turn_after start before (x ∷ xs) = (x.rank == (start x.session + count_of before x.session)) && in_turn_after start (before ++ x ∷ []) xs
+
+-- the ranks of each session come one after another from its start, each once
+abbrev pub in_turn : {C : Type 0} → (ℕ → ℕ) → List (Appearance C) → Bool
+in_turn start xs = in_turn_after start [] xs

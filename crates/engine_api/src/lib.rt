@@ -4,6 +4,8 @@
 #![tactic(auto)]
 
 pub mod act;
+pub mod acted;
 pub mod appearance;
 pub mod content;
+pub mod laws;
 pub mod order;
