@@ -1,19 +1,16 @@
 -- What is read is spelled so, and what is spelled so is read.
-use Rattle.std.proofs.Common.{◌≡◌, ℕ, ◌+◌, ◌^◌, ◌<◌, ◌≤◌, Bool, false, List, [], ◌∷◌, ◌++◌, length, Result, Ok, Err, ltb, refl, sym, ap, subst, ◌∙◌, arith}
+use Rattle.std.proofs.Common.{◌≡◌, ℕ, ◌^◌, ◌<◌, ◌≤◌, false, List, [], ◌∷◌, ◌++◌, length, Result, Ok, Err, ltb, refl, sym, ap, subst, ◌∙◌, arith}
 use Rattle.std.specs.Result.{IfOk}
-use Rattle.std.specs.List.{flat_map}
 use Rattle.std.proofs.lemmas.Bool.{ltb-false, le-ltb}
 use Rattle.std.proofs.lemmas.List.{append-nil}
 use Rattle.std.proofs.lemmas.List.Elements.{All-from_recursion, recursion_from_All}
-use Rattle.delos_types.specs.Numbers.{IsBytes, u32_bytes}
-use Rattle.delos_types.specs.Spelling.{IsSpellable, IsSpellableItem, spelled_length, headers_length}
-use Rattle.delos_types.specs.declared.item.Header.{Header}
+use Rattle.delos_types.specs.Numbers.{IsBytes}
+use Rattle.delos_types.specs.Spelling.{IsSpellable, IsSpellableItem, spelled_length}
 use Rattle.delos_types.specs.declared.item.Item.{Item}
 use Rattle.delos_types.specs.declared.entry.Entry.{Entry}
-use Rattle.entry_codec.specs.declared.fault.BadEntry.{BadEntry}
 use Rattle.entry_codec.specs.declared.fault.DecodeError.{DecodeError}
 use Rattle.entry_codec.specs.declared.fault.Rule.TheVariants.{Size}
-use Rattle.entry_codec.specs.Format.{short_text, long_text, header_bytes, headers_bytes, item_bytes, entry_bytes, SpellsItem, SpellsEntry}
+use Rattle.entry_codec.specs.Format.{short_text, long_text, headers_bytes, item_bytes, entry_bytes, SpellsItem, SpellsEntry}
 use Rattle.entry_codec.specs.Reading.{◌>>=◌, Gives, u8_field, short_text_field, long_text_field, version_field, origin_in, headers_field, ended, item_fields, item_read, entry_fields, entry_read}
 use Rattle.entry_codec.proofs.FieldLaws.{bind_ok, passed_ok, ok_is, Takes, Takes-then, u8_takes, u8_again, short_takes, short_whole, long_takes, long_whole, version_takes, version_again, origin_takes, origin_again, ended_ok, ended_again}
 use Rattle.entry_codec.proofs.Headers.{bodies-entry}

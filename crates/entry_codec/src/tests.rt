@@ -64,13 +64,8 @@ fn items_are_written_one_after_another(rt: HostRuntime) -> Result<(), Fail> {
     let second = decode_item(rt.alloc(), &ALIVE[16..])
         .ok()
         .ok_or("the bytes spell an item")?;
-    let mut items = Vec::new(rt.alloc());
-    items.push(first)?;
-    items.push(second)?;
-    assert_eq!(rt;
-        encode_items(rt.alloc(), &items)?.as_slice(),
-        ALIVE.as_slice()
-    );
+    let bytes = encode_items(rt.alloc(), &[first, second])?;
+    assert_eq!(rt; bytes.as_slice(), ALIVE.as_slice());
     Ok(())
 }
 
