@@ -6,7 +6,9 @@ ghost use Rattle.delos_types.specs.declared.item.Item as item_view;
 ghost use Rattle.delos_types.specs.declared.entry.Entry as entry_view;
 
 use crate::fault::{BadEntry, DecodeError, Rule};
-use crate::fields::{end_at, headers_at, long_text_at, origin_of, short_text_at, u8_at, version_at};
+use crate::fields::{
+    end_at, headers_at, long_text_at, origin_of, short_text_at, u8_at, version_at,
+};
 use delos_types::entry::Entry;
 use delos_types::item::Item;
 use std::alloc::Global;

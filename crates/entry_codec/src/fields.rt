@@ -52,7 +52,12 @@ fn u32_at(size: usize, bytes: &[u8]) -> Result<(u32, &[u8]), DecodeError>
 
 // A copy of so many bytes.
 #[tactic(auto, unfolding(crate::specs::Reading::text_field))]
-fn text_at(alloc: Global, size: usize, len: usize, bytes: &[u8]) -> Result<(Bytes, &[u8]), DecodeError>
+fn text_at(
+    alloc: Global,
+    size: usize,
+    len: usize,
+    bytes: &[u8],
+) -> Result<(Bytes, &[u8]), DecodeError>
     ensures gives { GivesBy (λ x. (x.0, x.1.now)) result (text_field size len bytes.now) }
     ensures rest { IfOk result (λ x. length x.1.now ≤ length bytes.now) }
 {
@@ -66,7 +71,11 @@ fn text_at(alloc: Global, size: usize, len: usize, bytes: &[u8]) -> Result<(Byte
 
 // A copy of the text behind two bytes of length.
 #[tactic(auto, unfolding(crate::specs::Reading::short_text_field))]
-pub fn short_text_at(alloc: Global, size: usize, bytes: &[u8]) -> Result<(Bytes, &[u8]), DecodeError>
+pub fn short_text_at(
+    alloc: Global,
+    size: usize,
+    bytes: &[u8],
+) -> Result<(Bytes, &[u8]), DecodeError>
     ensures gives { GivesBy (λ x. (x.0, x.1.now)) result (short_text_field size bytes.now) }
     ensures rest { IfOk result (λ x. length x.1.now ≤ length bytes.now) }
 {
@@ -124,7 +133,12 @@ fn kind_at(size: usize, least: u16, bytes: &[u8]) -> Result<(u8, &[u8]), DecodeE
 }
 
 #[tactic(auto, unfolding(crate::specs::Reading::header_field))]
-fn header_at(alloc: Global, size: usize, least: u16, bytes: &[u8]) -> Result<(Header, &[u8]), DecodeError>
+fn header_at(
+    alloc: Global,
+    size: usize,
+    least: u16,
+    bytes: &[u8],
+) -> Result<(Header, &[u8]), DecodeError>
     requires { length bytes.now ≤ size }
     ensures gives { GivesBy (λ x. (x.0, x.1.now)) result (header_field size least bytes.now) }
     ensures rest { IfOk result (λ x. length x.1.now ≤ length bytes.now) }
@@ -147,7 +161,12 @@ pub fn headers_at(alloc: Global, size: usize, bytes: &[u8]) -> Result<(Headers, 
 }
 
 // So many headers, whose kinds rise from 1 on.
-fn headers_of(alloc: Global, size: usize, count: u8, bytes: &[u8]) -> Result<(Vec<Header>, &[u8]), DecodeError>
+fn headers_of(
+    alloc: Global,
+    size: usize,
+    count: u8,
+    bytes: &[u8],
+) -> Result<(Vec<Header>, &[u8]), DecodeError>
     requires { length bytes.now ≤ size }
     ensures gives { GivesBy (λ x. (x.0.items, x.1.now)) result (headers_from size 1 count bytes.now) }
     ensures rest { IfOk result (λ x. length x.1.now ≤ length bytes.now) }

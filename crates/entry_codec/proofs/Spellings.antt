@@ -1,21 +1,18 @@
 -- What is read is spelled so, and what is spelled so is read.
-use Rattle.std.proofs.Common.{◌≡◌, ℕ, ◌+◌, ◌^◌, ◌<◌, ◌≤◌, Bool, false, List, [], ◌∷◌, ◌++◌, length, Result, Ok, Err, ltb, refl, sym, ap, subst, ◌∙◌, arith}
+use Rattle.std.proofs.Common.{◌≡◌, ℕ, ◌^◌, ◌<◌, ◌≤◌, false, List, [], ◌∷◌, ◌++◌, length, Result, Ok, Err, ltb, refl, sym, ap, subst, ◌∙◌, arith}
 use Rattle.std.specs.Result.{IfOk}
-use Rattle.std.specs.List.{flat_map}
 use Rattle.std.proofs.lemmas.Bool.{ltb-false, le-ltb}
 use Rattle.std.proofs.lemmas.List.{append-nil}
 use Rattle.std.proofs.lemmas.List.Elements.{All-from_recursion, recursion_from_All}
-use Rattle.delos_types.specs.Numbers.{IsBytes, u32_bytes}
-use Rattle.delos_types.specs.Spelling.{IsSpellable, IsSpellableItem, spelled_length, headers_length}
-use Rattle.delos_types.specs.declared.item.Header.{Header}
+use Rattle.delos_types.specs.Numbers.{IsBytes}
+use Rattle.delos_types.specs.Spelling.{IsSpellable, IsSpellableItem, spelled_length}
 use Rattle.delos_types.specs.declared.item.Item.{Item}
 use Rattle.delos_types.specs.declared.entry.Entry.{Entry}
-use Rattle.entry_codec.specs.declared.fault.BadEntry.{BadEntry}
 use Rattle.entry_codec.specs.declared.fault.DecodeError.{DecodeError}
 use Rattle.entry_codec.specs.declared.fault.Rule.TheVariants.{Size}
-use Rattle.entry_codec.specs.Format.{short_text, long_text, header_bytes, headers_bytes, item_bytes, entry_bytes, SpellsItem, SpellsEntry}
+use Rattle.entry_codec.specs.Format.{short_text, long_text, headers_bytes, item_bytes, entry_bytes, SpellsItem, SpellsEntry}
 use Rattle.entry_codec.specs.Reading.{◌>>=◌, Gives, u8_field, short_text_field, long_text_field, version_field, origin_in, headers_field, ended, item_fields, item_read, entry_fields, entry_read}
-use Rattle.entry_codec.proofs.FieldLaws.{bind_ok, passed_ok, Takes, Takes-then, u8_takes, u8_again, short_takes, short_whole, long_takes, long_whole, version_takes, version_again, origin_takes, origin_again, ended_ok, ended_again}
+use Rattle.entry_codec.proofs.FieldLaws.{bind_ok, passed_ok, ok_is, Takes, Takes-then, u8_takes, u8_again, short_takes, short_whole, long_takes, long_whole, version_takes, version_again, origin_takes, origin_again, ended_ok, ended_again}
 use Rattle.entry_codec.proofs.Headers.{bodies-entry}
 use Rattle.entry_codec.proofs.HeaderLaws.{headers_takes, headers_again, length-entry_bytes}
 
@@ -94,3 +91,11 @@ entry_again bytes e s =
 pub entry_found : (bytes : List ℕ) (r : Result Entry DecodeError) → IsBytes bytes → Gives r (entry_read bytes) → IfOk r (SpellsEntry bytes)
 entry_found bytes (Ok e) fits given = entry_takes bytes e fits given
 entry_found bytes (Err e) fits given = tt
+
+-- ---- no two values are spelled alike
+
+pub item_alike : (i j : Item) → IsSpellableItem i → IsSpellableItem j → item_bytes i ≡ item_bytes j → i ≡ j
+item_alike i j s t e = ok_is i j (sym (item_again (item_bytes i) i (refl, s)) ∙ item_again (item_bytes i) j (e, t))
+
+pub entry_alike : (e f : Entry) → IsSpellable e → IsSpellable f → entry_bytes e ≡ entry_bytes f → e ≡ f
+entry_alike e f s t same = ok_is e f (sym (entry_again (entry_bytes e) e (refl, s)) ∙ entry_again (entry_bytes e) f (same, t))
