@@ -7,7 +7,8 @@ use Rattle.std.proofs.lemmas.Bool.Decides.{nat_tests}
 use Rattle.delos_types.specs.declared.entry.Entry.{Entry}
 use Rattle.delos_types.specs.declared.chain.Chain.{Chain}
 use Rattle.loglet_api.specs.View.{LogletView}
-use Rattle.fabric_core.specs.Log.{numbers, virtual_log_at, virtual_log, virtual_tail, has_no_gap, first_chain, entry_of_cell}
+use Rattle.fabric_core.specs.Log.{numbers, virtual_log_at, virtual_log, virtual_tail, has_no_gap, entry_of_cell}
+use Rattle.chain_map.specs.Chain.{first_chain}
 
 -- an element, and the list from it on
 pub record IsAt {A : Type 0} (xs : List A) (i : ℕ) : Type 0 where

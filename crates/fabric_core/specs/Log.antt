@@ -5,6 +5,7 @@ use Rattle.std.specs.List.{list_all}
 use Rattle.delos_types.specs.declared.entry.Entry.{Entry}
 use Rattle.delos_types.specs.declared.chain.Segment.{Segment}
 use Rattle.delos_types.specs.declared.chain.Chain.{Chain}
+use Rattle.chain_map.specs.Chain.{last_segment}
 use Rattle.loglet_api.specs.View.{LogletView}
 
 -- n numbers from a on
@@ -21,15 +22,9 @@ reach_of (Some v) = v.reach
 abbrev pub end_of : List LogletView → Segment → ℕ
 end_of cells s = unwrap_or s.end (s.start + reach_of (slice_get cells s.id))
 
--- the end of the last segment
-abbrev pub tail_in : List LogletView → List Segment → ℕ
-tail_in cells [] = 0
-tail_in cells (s ∷ []) = end_of cells s
-tail_in cells (s ∷ t ∷ ts) = tail_in cells (t ∷ ts)
-
 -- the tail: no entry stands at it or above
 abbrev pub virtual_tail : Chain → List LogletView → ℕ
-virtual_tail chain cells = tail_in cells chain.segments
+virtual_tail chain cells = end_of cells (last_segment chain)
 
 -- the entry at an index of a loglet, if it isn't trimmed
 abbrev pub entry_of_cell : ℕ → LogletView → Option Entry
@@ -54,7 +49,3 @@ has_no_gap chain cells =
 -- the entries of the log from one position up to another, in order
 abbrev pub virtual_log : Chain → List LogletView → ℕ → ℕ → List Entry
 virtual_log chain cells from end = filter_map (virtual_log_at chain cells) (numbers from (end - from))
-
--- the chain that a log begins with: its first loglet, open from position 0
-abbrev pub first_chain : Chain
-first_chain = record { trim = 0; segments = record { id = 0; start = 0; end = None } ∷ [] }

@@ -1,2 +1,4 @@
-//! Events of the system, one at a time, and the log that a chain of loglets shows.
+//! What the events of the system come to: so far the log that a chain of loglets shows.
 #![tactic(auto)]
+
+pub mod laws;

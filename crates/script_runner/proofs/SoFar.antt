@@ -17,7 +17,8 @@ use Rattle.loglet_api.specs.View.{LogletView}
 use Rattle.engine_api.specs.declared.act.Act.{Act}
 use Rattle.engine_api.specs.Order.{acted_from}
 use Rattle.engine_api.specs.Acted.{Asked, act_on, replied, table_after, asked_in, acted_log}
-use Rattle.fabric_core.specs.Log.{first_chain, virtual_log, virtual_tail, has_no_gap}
+use Rattle.chain_map.specs.Chain.{first_chain}
+use Rattle.fabric_core.specs.Log.{virtual_log, virtual_tail, has_no_gap}
 use Rattle.fabric_core.proofs.OneLoglet.{log-whole, tail-first_chain, gap-whole}
 use Rattle.script_text.specs.declared.asks.NamedLine.{NamedLine}
 use Rattle.script_text.specs.declared.asks.Session.{Session}
