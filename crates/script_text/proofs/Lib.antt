@@ -1,0 +1,5 @@
+pub mod Lists
+pub mod Runs
+pub mod Takes
+pub mod Laws
+pub mod Again

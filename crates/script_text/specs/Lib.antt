@@ -1,0 +1,9 @@
+pub mod Gives
+pub mod Words
+pub mod Fields
+pub mod Seen
+pub mod Forms
+pub mod Script
+pub mod Spelling
+pub mod Refusal
+pub mod Lines
