@@ -3,3 +3,4 @@ pub mod Pairs
 pub mod Placed
 pub mod SoFar
 pub mod CalmLoglet
+pub mod ScriptLines

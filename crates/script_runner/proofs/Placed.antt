@@ -1,5 +1,5 @@
 -- What was placed so far, when each next place is the next position of the log.
-use Rattle.std.proofs.Common.{◌≡◌, refl, sym, ap, ◌∙◌, ℕ, ◌+◌, ◌<◌, ◌≤◌, nat_lt, nat_le, ◌==◌, Bool, true, false, ◌&&◌, List, [], ◌∷◌, ◌++◌, map, filter, fold, sum_by, Option, Some, None, arith, append_assoc, zero-add, if◌then◌else◌, cond}
+use Rattle.std.proofs.Common.{◌≡◌, refl, sym, ap, ◌∙◌, ℕ, ◌+◌, ◌<◌, ◌≤◌, nat_lt, nat_le, ◌==◌, Bool, true, false, ◌&&◌, List, [], ◌∷◌, ◌++◌, map, filter, fold, sum_by, Option, Some, None, arith, subst, append_assoc, append-nil, zero-add, if◌then◌else◌, cond}
 use Rattle.std.specs.Prelude.{flat_map}
 use Rattle.std.specs.List.{list_all, AllByRecursion}
 use Rattle.std.specs.Ordering.{nat_cmp, ordering_then, MatchOrdering}
@@ -12,7 +12,9 @@ use Rattle.std.proofs.lemmas.List.{map-append}
 use Rattle.std.proofs.lemmas.List.Sums.{fold-append, sum_by-append}
 use Rattle.table_core.specs.Table.{TableMap}
 use Rattle.engine_api.specs.declared.act.Act.{Act}
+use Rattle.engine_api.specs.Order.{count_of, in_turn, in_turn_after}
 use Rattle.engine_api.specs.Acted.{Asked, act_on, replied, table_after}
+use Rattle.engine_api.proofs.Appends.{replied-append}
 use Rattle.script_runner.specs.Tests.{◌⇒◌, each_pair}
 use Rattle.script_runner.specs.Acts.{act_order, in_order, asked, acts_below, acts_from, number_of, next_rank, has_first_ranks, stand_apart}
 use Rattle.script_runner.proofs.Tests.{list_all-more, list_all-weaker, each_pair-more, implied, and_both}
@@ -78,20 +80,9 @@ below-more n (x ∷ xs) a e =
 
 -- Replies
 
--- the table after these commands
-table_from : TableMap → List Asked → TableMap
-table_from m [] = m
-table_from m (x ∷ xs) = table_from (act_on m x.command).0 xs
-
-replied-append : (m : TableMap) (xs ys : List Asked) → replied m (xs ++ ys) ≡ replied m xs ++ replied (table_from m xs) ys
-unfolding table_from
-replied-append m [] ys = refl
-replied-append m (x ∷ xs) ys = ap (λ rest. record { place = x.place; session = x.session; rank = x.rank; command = x.command; reply = (act_on m x.command).1 } ∷ rest) (replied-append (act_on m x.command).0 xs ys)
-
-table_from-asked : (m : TableMap) (acts : List Act) → table_from m (map asked acts) ≡ table_after m acts
-unfolding table_from
-table_from-asked m [] = refl
-table_from-asked m (a ∷ acts) = table_from-asked (act_on m a.command).0 acts
+table_after-replied : (m : TableMap) (acts : List Act) → table_after m (replied m (map asked acts)) ≡ table_after m acts
+table_after-replied m [] = refl
+table_after-replied m (a ∷ acts) = table_after-replied (act_on m a.command).0 acts
 
 pub table_after-more : (m : TableMap) (acts : List Act) (a : Act) → table_after m (acts ++ a ∷ []) ≡ (act_on (table_after m acts) a.command).0
 table_after-more m acts a = fold-append (λ t x. (act_on t x.command).0) m acts (a ∷ [])
@@ -105,9 +96,10 @@ pub record HasActed (acts : List Act) (n : ℕ) : Type 0 where
   pub ranks : has_first_ranks acts ≡ true
   pub apart : each_pair stand_apart acts ≡ true
   pub replies : acts ≡ replied finmap.empty (map asked acts)
+  pub in_turn : in_turn (next_rank []) (map asked acts) ≡ true
 
 pub acted-none : HasActed [] 0
-acted-none = record { below = refl; sorted = refl; ranks = refl; apart = refl; replies = refl }
+acted-none = record { below = refl; sorted = refl; ranks = refl; apart = refl; replies = refl; in_turn = refl }
 
 -- the next act stands at the n-th position, with its session's next rank and the table's reply
 pub record ActsNext (acts : List Act) (n : ℕ) (a : Act) : Type 0 where
@@ -134,6 +126,30 @@ ranks-more acts n a e h =
         (λ x l. rw (number_of-more x.session acts a) (more_ranks x.rank (number_of x.session acts) (if a.session == x.session then 1 else 0) l)) e)
     (rw (number_of-more a.session acts a, own_session a.session, h) (last_rank (number_of a.session acts)))
 
+-- Acts in turn
+
+counted : (s k : ℕ) (acts : List Act) → fold (λ c x. c + cond (x.session == s) 1 0) k (map asked acts) ≡ fold (λ c a. c + cond (a.session == s) 1 0) k acts
+counted s k [] = refl
+counted s k (a ∷ acts) = counted s (k + cond (a.session == s) 1 0) acts
+
+count_of-asked : (s : ℕ) (acts : List Act) → count_of (map asked acts) s ≡ number_of s acts
+count_of-asked s acts = counted s 0 acts
+
+in_turn_after-more : (start : ℕ → ℕ) (before xs : List Asked) (x : Asked) → in_turn_after start before xs ≡ true → (x.rank == (start x.session + count_of (before ++ xs) x.session)) ≡ true → in_turn_after start before (xs ++ x ∷ []) ≡ true
+in_turn_after-more start before [] x e h = and_from (x.rank == (start x.session + count_of before x.session)) true (subst (λ l. (x.rank == (start x.session + count_of l x.session)) ≡ true) (append-nil before) h) refl
+in_turn_after-more start before (y ∷ ys) x e h =
+    let k = and_both (y.rank == (start y.session + count_of before y.session)) (in_turn_after start (before ++ y ∷ []) ys) e in
+    and_from (y.rank == (start y.session + count_of before y.session)) (in_turn_after start (before ++ y ∷ []) (ys ++ x ∷ [])) k.0
+    (in_turn_after-more start (before ++ y ∷ []) ys x k.1 (subst (λ l. (x.rank == (start x.session + count_of l x.session)) ≡ true) (sym (append_assoc before (y ∷ []) ys)) h))
+
+its_turn : (r n : ℕ) → r ≡ n + 1 → (r == (1 + n)) ≡ true
+its_turn r n e = grind (arith, nat_tests)
+
+turn-more : (acts : List Act) (a : Act) → in_turn (next_rank []) (map asked acts) ≡ true → a.rank ≡ number_of a.session acts + 1 → in_turn (next_rank []) (map asked (acts ++ a ∷ [])) ≡ true
+turn-more acts a e h =
+    subst (λ l. in_turn (next_rank []) l ≡ true) (sym (map-append asked acts (a ∷ [])))
+    (in_turn_after-more (next_rank []) [] (map asked acts) (asked a) e (rw (count_of-asked a.session acts) (its_turn a.rank (number_of a.session acts) h)))
+
 apart_from : (x a : Act) (n : ℕ) → a.place.pos ≡ n → nat_lt x.place.pos n ≡ true → stand_apart x a ≡ true
 apart_from x a n p l = rw (other x.place.pos a.place.pos n p l) refl
   where
@@ -158,6 +174,7 @@ acted-more acts n a h next = record {
       ∙ ap (λ x. replied finmap.empty (map asked acts) ++ x ∷ []) (same_act a (table_after finmap.empty acts) next.reply)
       ∙ sym (replied-last finmap.empty acts a)
       ∙ ap (replied finmap.empty) (sym (map-append asked acts (a ∷ [])));
+  in_turn = turn-more acts a h.in_turn next.rank;
 }
   where
     later : (i n : ℕ) → nat_lt i n ≡ true → nat_lt i (n + 1) ≡ true
@@ -165,4 +182,4 @@ acted-more acts n a h next = record {
     is_below : (n : ℕ) → nat_lt n (n + 1) ≡ true
     is_below n = grind (arith, nat_tests)
     replied-last : (m : TableMap) (acts : List Act) (a : Act) → replied m (map asked acts ++ asked a ∷ []) ≡ replied m (map asked acts) ++ record { place = a.place; session = a.session; rank = a.rank; command = a.command; reply = (act_on (table_after m acts) a.command).1 } ∷ []
-    replied-last m acts a = replied-append m (map asked acts) (asked a ∷ []) ∙ ap (λ t. replied m (map asked acts) ++ record { place = a.place; session = a.session; rank = a.rank; command = a.command; reply = (act_on t a.command).1 } ∷ []) (table_from-asked m acts)
+    replied-last m acts a = replied-append m (map asked acts) (asked a ∷ []) ∙ ap (λ t. replied m (map asked acts) ++ record { place = a.place; session = a.session; rank = a.rank; command = a.command; reply = (act_on t a.command).1 } ∷ []) (table_after-replied m acts)

@@ -19,9 +19,10 @@ use Rattle.engine_api.specs.Order.{acted_from}
 use Rattle.engine_api.specs.Acted.{Asked, act_on, replied, table_after, asked_in, acted_log}
 use Rattle.chain_map.specs.Chain.{first_chain}
 use Rattle.fabric_core.specs.Log.{virtual_log, virtual_tail, has_no_gap}
+use Rattle.engine_api.proofs.InTurn.{acted_from-in_turn}
 use Rattle.fabric_core.proofs.OneLoglet.{log-whole, tail-first_chain, gap-whole}
 use Rattle.script_text.specs.declared.asks.NamedLine.{NamedLine}
-use Rattle.script_text.specs.declared.asks.Session.{Session}
+use Rattle.script_text.specs.declared.line.Session.{Session}
 use Rattle.script_text.specs.declared.asks.Asks.{Asks}
 use Rattle.script_text.specs.declared.asks.Asks.TheVariants as asks
 use Rattle.row_text.specs.declared.row.Row.{Row}
@@ -175,11 +176,11 @@ up_to : (n : ℕ) → nat_le n n ≡ true
 up_to n = grind (arith, nat_tests)
 
 pub fits-so_far : (told : List Answered) (acts : List Act) (v : LogletView) → SoFar told acts v.log → v.cut ≡ 0 → v.reach ≡ length v.log
-    → acted_from (λ s. 1) (map asked acts) ≡ map asked acts
     → Fits (map (λ a. a.line) told) (record { rows = map (λ a. a.row) told; end = v.reach; version = 1; chain = first_chain; down = false }) (record { cells = v ∷ [] })
-fits-so_far told acts v h uncut whole in_turn =
+fits-so_far told acts v h uncut whole =
     let same = answered-so_far told in
     let placed = placed_acts-so_far told acts v.log h in
+    let in_turn : acted_from (next_rank []) (map asked acts) ≡ map asked acts = acted_from-in_turn (next_rank []) (map asked acts) h.acting.in_turn in
     record {
       one_row_each = record { as_many = rw (all_have_rows (map (λ a. a.line) told)) (length-map told (λ a. a.row) ∙ sym (length-map told (λ a. a.line))); each = rw same h.rows };
       acts_once = record {

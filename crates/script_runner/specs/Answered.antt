@@ -4,7 +4,7 @@ use Rattle.std.specs.List.{zip}
 use Rattle.delos_types.specs.declared.place.Place.{Place}
 use Rattle.delos_types.specs.declared.cause.Cause.{Cause}
 use Rattle.script_text.specs.declared.asks.NamedLine.{NamedLine}
-use Rattle.script_text.specs.declared.asks.Session.{Session}
+use Rattle.script_text.specs.declared.line.Session.{Session}
 use Rattle.script_text.specs.declared.asks.Asks.{Asks}
 use Rattle.script_text.specs.declared.asks.Asks.TheVariants as asks
 use Rattle.row_text.specs.declared.row.Row.{Row}

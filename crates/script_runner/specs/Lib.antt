@@ -5,3 +5,4 @@ pub mod Acts
 pub mod Reads
 pub mod Fits
 pub mod OneLoglet
+pub mod Lines

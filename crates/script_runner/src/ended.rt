@@ -1,1 +1,56 @@
-//! temp
+//! What a run ends with.
+use delos_types::chain::Chain;
+use row_text::row::Rows;
+
+use crate::yard::Yard;
+
+/// How a run ended.
+#[derive(Clone, Copy, PartialEq, Eq, Debug)]
+pub enum Status {
+    /// Every line has its answer, and the text was put.
+    Done,
+    /// A line of the script breaks a rule; `line N: RULE` was put.
+    BadLine,
+    /// The words of the command line aren't taken; `bad words` was put.
+    BadWords,
+    /// The source failed; nothing was put.
+    SourceFault,
+    /// The sink failed; a front of the text was put.
+    SinkFault,
+    /// Memory ran out; nothing was put.
+    Memory,
+}
+
+impl Status {
+    /// The exit status of the program, 0 to 6. Status 1, a row that is open, doesn't come yet.
+    pub fn code(self) -> u8 {
+        match self {
+            Status::Done => 0,
+            Status::BadLine => 2,
+            Status::BadWords => 3,
+            Status::SourceFault => 4,
+            Status::SinkFault => 5,
+            Status::Memory => 6,
+        }
+    }
+}
+
+/// What was run: the answer to each line, the end of the log as the run saw it, and the chain of
+/// loglets as the register gave it last, with its version.
+#[derive(Drop)]
+pub struct Told {
+    pub rows: Rows,
+    pub end: u64,
+    pub version: u64,
+    pub chain: Chain,
+    /// The register is down.
+    pub down: bool,
+}
+
+/// How a run ended, with the yard that it was given, and what was run, if a script was.
+#[derive(Drop)]
+pub struct Ended {
+    pub status: Status,
+    pub yard: Yard,
+    pub told: Option<Told>,
+}

@@ -1,0 +1,133 @@
+-- The lines of a script that is spelled can be played.
+use Rattle.std.proofs.Common.{◌≡◌, refl, sym, ap, ◌∙◌, subst, ℕ, ◌+◌, ◌<◌, ◌≤◌, ◌==◌, Bool, true, false, ◌&&◌, nat_le, List, [], ◌∷◌, ◌++◌, length, arith, append_assoc, append-nil, zero-add, length-append}
+use Rattle.std.specs.Prelude.{count_by, cond}
+use Rattle.std.specs.List.{list_all, AllByRecursion, sum_by, fold}
+use Rattle.std.proofs.lemmas.Bool.{and_from}
+use Rattle.std.proofs.lemmas.Bool.Decides.{nat_tests}
+use Rattle.std.proofs.lemmas.Grind.{common_steps}
+use Rattle.std.proofs.lemmas.List.Sums.{sum_by-append}
+use Rattle.script_text.specs.declared.line.Line.{Line}
+use Rattle.script_text.specs.declared.line.Line.TheVariants as line
+use Rattle.script_text.specs.declared.line.Session.{Session}
+use Rattle.script_text.specs.declared.line.Ask.{Ask}
+use Rattle.script_text.specs.declared.line.Ask.TheVariants as ask
+use Rattle.script_text.specs.declared.asks.NamedLine.{NamedLine}
+use Rattle.script_text.specs.declared.asks.Asks.{Asks}
+use Rattle.table_core.specs.declared.command.Command.{Command}
+use Rattle.table_core.specs.declared.command.Command.TheVariants.{Put, Del, Cas, Add}
+use Rattle.table_core.specs.Spelling.{IsSpellable, command_length}
+use Rattle.script_text.specs.Seen.{Before, nothing_yet}
+use Rattle.script_text.specs.Script.{RawLine, lines_in}
+use Rattle.script_text.specs.Spelling.{IsScript, SpellsFrom, CommandFits, is_print}
+use Rattle.script_runner.proofs.Tests.{and_both}
+use Rattle.script_text.specs.Lines.{lines_of, lines_after, named_after, asks_after, is_logged_by}
+use Rattle.script_runner.specs.Lines.{logs_for, has_rank, are_ranked, CanLog, ArePlayable}
+
+-- Counts
+
+count_by-append : {A : Type 0} (p : A → Bool) (xs ys : List A) → count_by p (xs ++ ys) ≡ count_by p xs + count_by p ys
+count_by-append p xs ys = sum_by-append (λ x. cond (p x) 1 0) xs ys
+
+lines_after-append : (before xs ys : List Line) → lines_after before (xs ++ ys) ≡ lines_after before xs ++ lines_after (before ++ xs) ys
+lines_after-append before [] ys = ap (λ b. lines_after b ys) (sym (append-nil before))
+lines_after-append before (x ∷ xs) ys =
+    ap (λ more. named_after before x ++ more) (lines_after-append (before ++ x ∷ []) xs ys)
+    ∙ sym (append_assoc (named_after before x) (lines_after (before ++ x ∷ []) xs) _)
+    ∙ ap (λ b. (named_after before x ++ lines_after (before ++ x ∷ []) xs) ++ lines_after b ys) (append_assoc before (x ∷ []) xs)
+
+count_by-cons : {A : Type 0} (p : A → Bool) (x : A) (xs : List A) → count_by p (x ∷ xs) ≡ cond (p x) 1 0 + count_by p xs
+count_by-cons p x xs = count_by-append p (x ∷ []) xs ∙ ap (λ k. k + count_by p xs) (zero-add (cond (p x) 1 0))
+
+-- a session has as many logged lines among the lines that name a node as in the script
+named_count : (s : ℕ) (before : List Line) (l : Line) → count_by (logs_for s) (named_after before l) ≡ cond (is_logged_by s l) 1 0
+named_count s before (line.Session node t (ask.Log c)) = zero-add (cond (t.id == s) 1 0)
+named_count s before (line.Session node t (ask.Look q)) = refl
+named_count s before line.Blank = refl
+named_count s before line.Barrier = refl
+
+counted : (s : ℕ) (before ls : List Line) → count_by (logs_for s) (lines_after before ls) ≡ count_by (is_logged_by s) ls
+counted s before [] = refl
+counted s before (l ∷ ls) =
+    count_by-append (logs_for s) (named_after before l) (lines_after (before ++ l ∷ []) ls)
+    ∙ ap (λ k. k + count_by (logs_for s) (lines_after (before ++ l ∷ []) ls)) (named_count s before l)
+    ∙ ap (λ k. cond (is_logged_by s l) 1 0 + k) (counted s (before ++ l ∷ []) ls)
+    ∙ sym (count_by-cons (is_logged_by s) l ls)
+
+-- Ranks
+
+one_more : (before : List Line) (l : Line) → lines_of (before ++ l ∷ []) ≡ lines_of before ++ named_after before l
+one_more before l = lines_after-append [] before (l ∷ []) ∙ ap (λ xs. lines_of before ++ xs) (append-nil (named_after before l))
+
+same_rank : (k m : ℕ) → m ≡ k → ((k + 1) == (m + 1)) ≡ true
+same_rank k m e = grind (arith, nat_tests)
+
+ranked : (before ls : List Line) → are_ranked (lines_of before) (lines_after before ls) ≡ true
+ranked before [] = refl
+ranked before (line.Session node t (ask.Log c) ∷ ls) =
+    let l : Line = line.Session node t (ask.Log c) in
+    and_from _ _ (same_rank (count_by (is_logged_by t.id) before) _ (counted t.id [] before))
+    (subst (λ b. are_ranked b (lines_after (before ++ l ∷ []) ls) ≡ true) (one_more before l) (ranked (before ++ l ∷ []) ls))
+ranked before (line.Session node t (ask.Look q) ∷ ls) =
+    let l : Line = line.Session node t (ask.Look q) in
+    subst (λ b. are_ranked b (lines_after (before ++ l ∷ []) ls) ≡ true) (one_more before l) (ranked (before ++ l ∷ []) ls)
+ranked before (line.Blank ∷ ls) =
+    let l : Line = line.Blank in
+    subst (λ b. are_ranked b (lines_after (before ++ l ∷ []) ls) ≡ true) (one_more before l ∙ append-nil (lines_of before)) (ranked (before ++ l ∷ []) ls)
+ranked before (line.Barrier ∷ ls) =
+    let l : Line = line.Barrier in
+    subst (λ b. are_ranked b (lines_after (before ++ l ∷ []) ls) ≡ true) (one_more before l ∙ append-nil (lines_of before)) (ranked (before ++ l ∷ []) ls)
+
+-- How many, and how they are spelled
+
+named_one : (before : List Line) (l : Line) → length (named_after before l) ≤ 1
+named_one before (line.Session node t a) = omega arith
+named_one before line.Blank = omega arith
+named_one before line.Barrier = omega arith
+
+no_more : (before ls : List Line) → length (lines_after before ls) ≤ length ls
+no_more before [] = omega arith
+no_more before (l ∷ ls) =
+    let e : length (lines_after before (l ∷ ls)) ≡ length (named_after before l) + length (lines_after (before ++ l ∷ []) ls) = length-append (named_after before l) _ in
+    omega (arith, e, named_one before l, no_more (before ++ l ∷ []) ls)
+
+few : (nodes : ℕ) (b : Before) (n at : ℕ) (rs : List RawLine) (ls : List Line) → SpellsFrom nodes b n at rs ls → n ≤ 20001 → n + length ls ≤ 20001
+few nodes b n at [] [] h low = omega arith
+few nodes b n at (r ∷ rs) (l ∷ ls) h low = let more = few nodes h.2 (n + 1) (at + r.size) rs ls h.4 (omega (arith, h.1)) in omega (arith, more)
+few nodes b n at [] (l ∷ ls) h low = absurd h
+few nodes b n at (r ∷ rs) [] h low = absurd h
+
+printed : (w : List ℕ) → list_all is_print w ≡ true → AllByRecursion (λ b. (33 ≤ b) × (b ≤ 126)) w
+printed [] e = tt
+printed (b ∷ w) e =
+    let k = and_both (is_print b) (list_all is_print w) e in
+    let j = and_both (nat_le 33 b) (nat_le b 126) k.0 in
+    ((low b j.0, high b j.1), printed w k.1)
+  where
+    low : (b : ℕ) → nat_le 33 b ≡ true → 33 ≤ b
+    low b e = grind (arith, nat_tests)
+    high : (b : ℕ) → nat_le b 126 ≡ true → b ≤ 126
+    high b e = grind (arith, nat_tests)
+
+can_log : (c : Command) → CommandFits c → IsSpellable c × (command_length c ≤ 984)
+can_log (Put k v) h = ((((omega (arith, h.0.most_bytes), printed k h.0.printed), omega (arith, h.1.most_bytes))), omega (arith, h.0.most_bytes, h.1.most_bytes))
+can_log (Del k) h = absurd h
+can_log (Cas k old new) h = absurd h
+can_log (Add k z) h = absurd h
+
+spelled : (nodes : ℕ) (b : Before) (n at : ℕ) (rs : List RawLine) (before ls : List Line) → SpellsFrom nodes b n at rs ls → AllByRecursion (λ l. CanLog l.asks) (lines_after before ls)
+spelled nodes b n at [] before [] h = tt
+spelled nodes b n at (r ∷ rs) before (line.Session node t (ask.Log c) ∷ ls) h = (can_log c h.3.fits.2, spelled nodes h.2 (n + 1) (at + r.size) rs (before ++ line.Session node t (ask.Log c) ∷ []) ls h.4)
+spelled nodes b n at (r ∷ rs) before (line.Session node t (ask.Look q) ∷ ls) h = (tt, spelled nodes h.2 (n + 1) (at + r.size) rs (before ++ line.Session node t (ask.Look q) ∷ []) ls h.4)
+spelled nodes b n at (r ∷ rs) before (line.Blank ∷ ls) h = spelled nodes h.2 (n + 1) (at + r.size) rs (before ++ line.Blank ∷ []) ls h.4
+spelled nodes b n at (r ∷ rs) before (line.Barrier ∷ ls) h = absurd h.3.fits
+spelled nodes b n at [] before (l ∷ ls) h = absurd h
+spelled nodes b n at (r ∷ rs) before [] h = absurd h
+
+pub playable : (nodes : ℕ) (bytes : List ℕ) (ls : List Line) → IsScript nodes bytes ls → ArePlayable (lines_of ls)
+playable nodes bytes ls h =
+    let some = few nodes nothing_yet 1 0 (lines_in bytes) ls h (omega arith) in
+    record {
+      few = omega (arith, no_more [] ls, some);
+      ranked = ranked [] ls;
+      spelled = spelled nodes nothing_yet 1 0 (lines_in bytes) [] ls h;
+    }

@@ -1,0 +1,36 @@
+-- What holds of the lines of every script.
+use Rattle.std.specs.Prelude.{◌≡◌, ℕ, ◌+◌, ◌≤◌, ◌==◌, ◌&&◌, Bool, true, false, List, [], ◌∷◌, ◌++◌, length, count_by}
+use Rattle.std.specs.List.{AllByRecursion}
+use Rattle.table_core.specs.declared.command.Command.{Command}
+use Rattle.table_core.specs.Spelling.{IsSpellable, command_length}
+use Rattle.script_text.specs.declared.asks.NamedLine.{NamedLine}
+use Rattle.script_text.specs.declared.asks.Asks.{Asks}
+use Rattle.script_text.specs.declared.asks.Asks.TheVariants as asks
+
+-- the line logs a command of the session
+abbrev pub is_of : ℕ → Asks → Bool
+is_of s (asks.Logged t r c) = t.id == s
+is_of s (asks.Look t q) = false
+
+abbrev pub logs_for : ℕ → NamedLine → Bool
+logs_for s l = is_of s l.asks
+
+-- a command's rank is its number among its session's logged lines
+abbrev pub has_rank : List NamedLine → Asks → Bool
+has_rank before (asks.Logged s r c) = r == (count_by (logs_for s.id) before + 1)
+has_rank before (asks.Look s q) = true
+
+abbrev pub are_ranked : List NamedLine → List NamedLine → Bool
+are_ranked before [] = true
+are_ranked before (l ∷ ls) = has_rank before l.asks && are_ranked (before ++ l ∷ []) ls
+
+-- an entry may hold the command
+abbrev pub CanLog : Asks → Type 0
+CanLog (asks.Logged s r c) = IsSpellable c × (command_length c ≤ 984)
+CanLog (asks.Look s q) = Unit {0}
+
+-- lines that can be played
+pub record ArePlayable (lines : List NamedLine) : Type 0 where
+  pub few : length lines ≤ 20000
+  pub ranked : are_ranked [] lines ≡ true
+  pub spelled : AllByRecursion (λ l. CanLog l.asks) lines
