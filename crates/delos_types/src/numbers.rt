@@ -36,7 +36,8 @@ impl NodeId {
     }
 
     pub fn number(self) -> u8
-        ensures { result ≡ self }
+        ensures value { result ≡ self }
+        ensures range { (1 ≤ result) × (result ≤ 8) }
     {
         self.number
     }
@@ -74,7 +75,8 @@ impl SessionId {
     }
 
     pub fn number(self) -> u16
-        ensures { result ≡ self }
+        ensures value { result ≡ self }
+        ensures range { result ≤ 63 }
     {
         self.number
     }
@@ -112,7 +114,8 @@ impl Rank {
     }
 
     pub fn number(self) -> u64
-        ensures { result ≡ self }
+        ensures value { result ≡ self }
+        ensures range { 1 ≤ result }
     {
         self.number
     }

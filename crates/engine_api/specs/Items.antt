@@ -6,7 +6,7 @@
 --   3 view: tag (1 byte: 1 alive, 2 leave), node (1 byte, 1 to 8), position (8 bytes, 0 for leave); no payload
 --   4 trim: position (8 bytes); no payload
 -- An entry in which anything of this breaks holds no items.
-use Rattle.std.specs.Prelude.{ℕ, ◌+◌, ◌*◌, ◌&&◌, nat_le, ◌==◌, if◌then◌else◌, List, [], ◌∷◌, take, drop, length, Option, Some, None}
+use Rattle.std.specs.Prelude.{ℕ, ◌+◌, ◌*◌, Bool, ◌&&◌, nat_le, ◌==◌, if◌then◌else◌, List, [], ◌∷◌, take, drop, length, Option, Some, None}
 use Rattle.std.specs.Option.{option_map, option_and_then}
 use Rattle.delos_types.specs.Numbers.{u16_of, u64_of}
 use Rattle.delos_types.specs.declared.item.Header.{Header}
@@ -20,30 +20,44 @@ use Rattle.engine_api.specs.declared.content.Placed.{Placed}
 
 -- What an item says
 
+-- the session and the rank under a session header
+abbrev pub session_in : List ℕ → ℕ
+session_in body = u16_of (take 2 body)
+
+abbrev pub rank_in : List ℕ → ℕ
+rank_in body = u64_of (drop 2 body)
+
+abbrev pub is_session_body : List ℕ → Bool
+is_session_body body = (length body == 10) && nat_le (session_in body) 63 && nat_le 1 (rank_in body)
+
 abbrev pub session_content : List ℕ → List ℕ → Option Content
 session_content body payload =
-    let session = u16_of (take 2 body) in
-    let rank = u64_of (drop 2 body) in
-    if (length body == 10) && nat_le session 63 && nat_le 1 rank then Some (Session session rank (command_of payload)) else None
+    if is_session_body body then Some (Session (session_in body) (rank_in body) (command_of payload)) else None
 
 abbrev pub view_word : ℕ → ℕ → ℕ → Option Content
-view_word tag node position = if tag == 1 then Some (Alive node position) else if (tag == 2) && (position == 0) then Some (Leave node) else None
+view_word tag node position =
+    if tag == 1 then Some (Alive node position)
+    else if (tag == 2) && (position == 0) then Some (Leave node)
+    else None
 
-abbrev pub view_content : List ℕ → List ℕ → Option Content
-view_content (tag ∷ node ∷ position) [] =
+abbrev pub view_body : List ℕ → Option Content
+view_body (tag ∷ node ∷ position) =
     if (length position == 8) && nat_le 1 node && nat_le node 8 then view_word tag node (u64_of position) else None
-view_content body payload = None
+view_body body = None
 
-abbrev pub trim_content : List ℕ → List ℕ → Option Content
-trim_content body [] = if length body == 8 then Some (Trim (u64_of body)) else None
-trim_content body payload = None
+abbrev pub trim_body : List ℕ → Option Content
+trim_body body = if length body == 8 then Some (Trim (u64_of body)) else None
+
+abbrev pub without_payload : List ℕ → Option Content → Option Content
+without_payload [] content = content
+without_payload (b ∷ bs) content = None
 
 -- what a header of this kind says of the payload
 abbrev pub content_under : Header → List ℕ → Option Content
 content_under h payload =
     if h.kind == 2 then session_content h.body payload
-    else if h.kind == 3 then view_content h.body payload
-    else if h.kind == 4 then trim_content h.body payload
+    else if h.kind == 3 then without_payload payload (view_body h.body)
+    else if h.kind == 4 then without_payload payload (trim_body h.body)
     else None
 
 abbrev pub content_in : List Header → List ℕ → Option Content
@@ -60,16 +74,15 @@ contents_of (i ∷ is) = option_and_then (λ c. option_map (λ cs. c ∷ cs) (co
 
 -- Which items an entry holds
 
--- the numbers of two bytes each that the bytes spell
-abbrev pub lengths_of : List ℕ → Option (List ℕ)
-lengths_of [] = Some []
-lengths_of (a ∷ []) = None
-lengths_of (a ∷ b ∷ rest) = option_map (λ ns. u16_of (a ∷ b ∷ []) ∷ ns) (lengths_of rest)
+-- the numbers that the bytes spell, two bytes each
+abbrev pub lengths_of : List ℕ → List ℕ
+lengths_of (a ∷ b ∷ rest) = u16_of (a ∷ b ∷ []) ∷ lengths_of rest
+lengths_of bytes = []
 
 -- the lengths of the items under a batch header
 abbrev pub batch_lengths : List ℕ → Option (List ℕ)
 batch_lengths [] = None
-batch_lengths (count ∷ rest) = if nat_le 1 count && nat_le count 16 && (length rest == 2 * count) then lengths_of rest else None
+batch_lengths (count ∷ rest) = if nat_le 1 count && nat_le count 16 && (length rest == 2 * count) then Some (lengths_of rest) else None
 
 -- the items that bytes of these lengths spell, one after another, where they are all of the bytes
 abbrev pub items_from : List ℕ → List ℕ → Option (List Item)

@@ -18,20 +18,27 @@ item_under kind body payload = record { headers = record { kind = kind; body = b
 abbrev pub session_item : ℕ → ℕ → Command → Item
 session_item session rank command = item_under 2 (u16_bytes session ++ u64_bytes rank) (command_text command)
 
+abbrev pub view_body : ℕ → ℕ → ℕ → List ℕ
+view_body tag node position = tag ∷ node ∷ u64_bytes position
+
 -- a node has its state for the entries below a position
 abbrev pub alive_item : ℕ → ℕ → Item
-alive_item node position = item_under 3 (1 ∷ node ∷ u64_bytes position) []
+alive_item node position = item_under 3 (view_body 1 node position) []
 
 -- a node leaves
 abbrev pub leave_item : ℕ → Item
-leave_item node = item_under 3 (2 ∷ node ∷ u64_bytes 0) []
+leave_item node = item_under 3 (view_body 2 node 0) []
 
 -- the entries below a position may go
 abbrev pub trim_item : ℕ → Item
 trim_item position = item_under 4 (u64_bytes position) []
 
+-- how many items there are, and the length of each
+abbrev pub batch_body : List Item → List ℕ
+batch_body items = length items ∷ flat_map (λ i. u16_bytes (item_length i)) items
+
 abbrev pub batch_header : List Item → Header
-batch_header items = record { kind = 1; body = length items ∷ flat_map (λ i. u16_bytes (item_length i)) items }
+batch_header items = record { kind = 1; body = batch_body items }
 
 -- the entry of these items
 abbrev pub packed : ℕ → List Item → Entry

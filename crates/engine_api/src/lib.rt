@@ -9,3 +9,5 @@ pub mod appearance;
 pub mod content;
 pub mod laws;
 pub mod order;
+pub mod pack;
+pub mod read;

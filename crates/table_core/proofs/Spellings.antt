@@ -9,9 +9,9 @@ use Rattle.std.proofs.Math.Facts.{Fits-of_z, Fits-lt-pow, sfits_to_z, Fits-of_lt
 use Rattle.std.proofs.lemmas.Bool.{leb-true}
 use Rattle.std.proofs.lemmas.Bool.Decides.{nat_tests}
 use Rattle.std.proofs.Math.Seq.{take-append_seam, drop-append_seam}
-use Rattle.std.proofs.lemmas.List.{take-append-drop, length-take-le, append-nil, get_or-drop}
+use Rattle.std.proofs.lemmas.List.{take-append-drop, length-take-le, append-nil, get_or-drop, length-append}
 use Rattle.delos_types.specs.Spaces.{Text}
-use Rattle.table_core.specs.Spelling.{Spells, Reads, IsKey, IsValue, IsSpellable, key_text, value_text, command_text}
+use Rattle.table_core.specs.Spelling.{command_length, Spells, Reads, IsKey, IsValue, IsSpellable, key_text, value_text, command_text}
 use Rattle.table_core.specs.Reading.{split_front, split_key, split_value, is_printable, printable_front, if_whole, put_of, cas_of, cas_from, add_of, command_with, command_from, command_of}
 use Rattle.table_core.specs.declared.command.Command.{Command}
 use Rattle.table_core.specs.declared.command.Command.TheVariants.{Put, Del, Cas, Add}
@@ -225,3 +225,10 @@ reads-command_of bytes h =
 pub reads-read : {E : Type 0} (bytes : Text) (w : Option Command) (r : Result (Option Command) E) → ((i : ℕ) → get_or bytes i 0 < 256) → command_of bytes ≡ w → IfOk r (λ read. read ≡ w) → IfOk r (Reads bytes)
 reads-read bytes w (Ok read) h is e = subst (Reads bytes) (is ∙ sym e) (reads-command_of bytes h)
 reads-read bytes w (Err x) h is e = tt
+
+-- how many bytes spell a command
+pub length-command_text : (c : Command) → length (command_text c) ≡ command_length c
+length-command_text (Put key value) = omega (arith, length-append key (value_text value))
+length-command_text (Del key) = omega arith
+length-command_text (Cas key old new) = omega (arith, length-append key (value_text old ++ value_text new), length-append old (value_text new))
+length-command_text (Add key amount) = omega (arith, length-append key (to_be_bytes w64 (cast_unsigned w64 amount)))
