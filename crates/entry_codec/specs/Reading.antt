@@ -1,6 +1,6 @@
 -- Reading an item or an entry from left to right. Each field is tested as soon as it is read, so a fault is the
 -- first rule that the bytes break, with the place at which they do.
-use Rattle.std.specs.Prelude.{◌≡◌, ◌==◌, ◌+◌, ◌-◌, ℕ, zero, suc, List, [], ◌∷◌, length, take, drop, Option, Result, Ok, Err, nat_lt, if◌then◌else◌}
+use Rattle.std.specs.Prelude.{◌≡◌, ◌==◌, ◌+◌, ◌-◌, ℕ, zero, suc, List, [], ◌∷◌, length, Option, Result, Ok, Err, nat_lt, if◌then◌else◌}
 use Rattle.std.specs.Result.{result_ok}
 use Rattle.delos_types.specs.Fields.{◌>>=◌, u8_field, short_text_field, long_text_field, ended}
 use Rattle.delos_types.specs.declared.item.Header.{Header}
