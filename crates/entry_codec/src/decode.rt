@@ -40,7 +40,7 @@ pub fn decode_entry(alloc: Global, bytes: &[u8]) -> Result<Entry, DecodeError>
     read_entry(alloc, bytes)
 }
 
-#[tactic(auto, unfolding(crate::specs::Reading::item_read, crate::specs::Reading::item_fields, crate::specs::Reading::ended))]
+#[tactic(auto, unfolding(crate::specs::Reading::item_read, crate::specs::Reading::item_fields, delos_types::specs::Fields::ended))]
 fn read_item(alloc: Global, bytes: &[u8]) -> Result<Item, DecodeError>
     ensures { Gives result (item_read bytes.now) }
 {
@@ -64,7 +64,7 @@ fn read_entry(alloc: Global, bytes: &[u8]) -> Result<Entry, DecodeError>
     read_fields(alloc, bytes)
 }
 
-#[tactic(auto, unfolding(crate::specs::Reading::entry_fields, crate::specs::Reading::ended))]
+#[tactic(auto, unfolding(crate::specs::Reading::entry_fields, delos_types::specs::Fields::ended))]
 fn read_fields(alloc: Global, bytes: &[u8]) -> Result<Entry, DecodeError>
     ensures { Gives result (entry_fields (length bytes.now) bytes.now) }
 {
