@@ -3,3 +3,4 @@ pub mod Runs
 pub mod Takes
 pub mod Laws
 pub mod Again
+pub mod Walking

@@ -283,7 +283,7 @@ session_takes nodes b text ws v x cut on e =
     let words : ws ≡ line_words y.0 = so_many ws (verb_count v) h.0
     ∙ begun v (word ws) (codes "on") (node_name n.0) s.0.0.name (ask_words a.0) on.on tn.0 (tm.0 ∙ sym ts.name_is) ta.words in
     let name : IsSessionName s.0.0.name = subst IsSessionName (sym ts.name_is) (name_is_session (word ws 2) m.0 tm.0 tm.1 on.not_admin) in
-    subst (λ (z : Line × Before). Spells nodes b text z.0 z.1) (ok_is y x s.2)
+    subst (λ (z : Line × Before). Spells nodes b text z.0 z.1) {x = y} (ok_is y x s.2)
     (by_words nodes b y.1 text ws y.0 cut words (tn.1, name, ta.fits) ts.belongs)
 
 pub blank_takes : (nodes : ℕ) (b : Before) (text : List ℕ) (ws : List Word) (x : Line × Before) → Cut text ws → length ws ≡ 0 → Ok (line.Blank, b) ≡ done x → Spells nodes b text x.0 x.1

@@ -7,3 +7,4 @@ pub mod Script
 pub mod Spelling
 pub mod Refusal
 pub mod Lines
+pub mod Walks

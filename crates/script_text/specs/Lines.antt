@@ -1,5 +1,6 @@
 -- The lines of a script that name a node, with their numbers, phases and ranks.
-use Rattle.std.specs.Prelude.{ℕ, ◌+◌, ◌==◌, Bool, true, false, List, [], ◌∷◌, ◌++◌, length, count_by}
+use Rattle.std.specs.Prelude.{ℕ, ◌+◌, ◌==◌, Bool, true, false, List, [], ◌∷◌, ◌++◌, Option, Some, None, length, count_by}
+use Rattle.std.specs.Option.{option_to_list}
 use Rattle.script_text.specs.declared.line.Line.{Line}
 use Rattle.script_text.specs.declared.line.Line.TheVariants as line
 use Rattle.script_text.specs.declared.line.Session.{Session}
@@ -23,15 +24,16 @@ abbrev pub asks_after : List Line → Session → Ask → Asks
 asks_after before s (ask.Log command) = asks.Logged s (count_by (is_logged_by s.id) before + 1) command
 asks_after before s (ask.Look query) = asks.Look s query
 
--- the line after these lines, where it names a node: its number counts lines, and its phase the barriers before it
-abbrev pub named_after : List Line → Line → List NamedLine
+-- what the line after these lines asks of its node, where it names one: its number counts lines from 1, and its phase
+-- the barriers before it
+abbrev pub named_after : List Line → Line → Option NamedLine
 named_after before (line.Session node s a) =
-    record { number = length before + 1; phase = count_by is_barrier before; node = node; asks = asks_after before s a } ∷ []
-named_after before _ = []
+    Some (record { number = length before + 1; phase = count_by is_barrier before; node = node; asks = asks_after before s a })
+named_after before _ = None
 
 abbrev pub lines_after : List Line → List Line → List NamedLine
 lines_after before [] = []
-lines_after before (l ∷ ls) = named_after before l ++ lines_after (before ++ l ∷ []) ls
+lines_after before (l ∷ ls) = option_to_list (named_after before l) ++ lines_after (before ++ l ∷ []) ls
 
 -- of a whole script
 abbrev pub lines_of : List Line → List NamedLine
