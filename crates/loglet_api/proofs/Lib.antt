@@ -1,2 +1,4 @@
+pub mod Callers
 pub mod Keeps
 pub mod Says
+pub mod Promises

@@ -5,3 +5,4 @@ pub mod Answers
 pub mod Run
 pub mod Keeps
 pub mod Says
+pub mod Promises

@@ -1,8 +1,8 @@
 //! The calls of a loglet that is known only as a `dyn Loglet`.
-ghost use Rattle.std.specs.Prelude.{◌≡◌, ℕ, ◌<◌};
+ghost use Rattle.std.specs.Prelude.{◌≡◌, ℕ, ◌<◌, IfOk, IfNone};
 ghost use Rattle.loglet_api.specs.View.{LogletView, IsOpen};
 ghost use Rattle.loglet_api.specs.Sound.{IsSound};
-ghost use Rattle.loglet_api.specs.Step.{CanCall, LogletStep, HasLeft};
+ghost use Rattle.loglet_api.specs.Step.{CanCall, LogletStep, HasLeft, IsUndecidedAt};
 ghost use Rattle.loglet_api.specs.Answers.{begin_answer, carry_answer, stray_answer, restart_answer};
 
 use crate::call::{Answer, LogletAnswer, LogletCall, Op, Refused};
@@ -25,24 +25,27 @@ pub fn left(loglet: &dyn Loglet, ticket: Ticket) -> (u32, u64)
 
 pub fn begin(loglet: &mut dyn Loglet, op: Op) -> Result<Ticket, Refused>
     requires { CanCall (view loglet.old) (LogletCall.Begin op) }
-    ensures { LogletStep (view loglet.old) (LogletCall.Begin op) (begin_answer result)
+    ensures step { LogletStep (view loglet.old) (LogletCall.Begin op) (begin_answer result)
         (view loglet.new) }
+    ensures open { IfOk result (IsOpen (view loglet.new)) }
 {
     loglet.begin(op)
 }
 
 pub fn carry(loglet: &mut dyn Loglet, ticket: Ticket, word: u64) -> Result<(), Refused>
     requires { CanCall (view loglet.old) (LogletCall.Carry ticket word) }
-    ensures { LogletStep (view loglet.old) (LogletCall.Carry ticket word) (carry_answer result)
+    ensures step { LogletStep (view loglet.old) (LogletCall.Carry ticket word) (carry_answer result)
         (view loglet.new) }
+    ensures open { IsOpen (view loglet.new) ticket }
 {
     loglet.carry(ticket, word)
 }
 
 pub fn take(loglet: &mut dyn Loglet, ticket: Ticket) -> Option<Answer>
     requires { CanCall (view loglet.old) (LogletCall.Take ticket) }
-    ensures { LogletStep (view loglet.old) (LogletCall.Take ticket) (LogletAnswer.Taken result)
+    ensures step { LogletStep (view loglet.old) (LogletCall.Take ticket) (LogletAnswer.Taken result)
         (view loglet.new) }
+    ensures undecided { IfNone result (IsUndecidedAt (view loglet.new) ticket) }
 {
     loglet.take(ticket)
 }
