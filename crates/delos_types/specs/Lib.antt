@@ -1,4 +1,3 @@
-pub mod Fields
 pub mod Numbers
 pub mod Spaces
 pub mod Spelling

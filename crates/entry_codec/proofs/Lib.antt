@@ -1,4 +1,4 @@
 pub mod FieldLaws
 pub mod HeaderLaws
 pub mod Headers
-pub mod Spellings
+pub mod Laws

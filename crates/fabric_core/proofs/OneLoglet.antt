@@ -16,7 +16,7 @@ pub record IsAt {A : Type 0} (xs : List A) (i : ℕ) : Type 0 where
   pub is : slice_get xs i ≡ Some element
   pub rest : drop i xs ≡ element ∷ drop (suc i) xs
 
-at : {A : Type 0} (xs : List A) (i : ℕ) → i < length xs → IsAt xs i
+pub at : {A : Type 0} (xs : List A) (i : ℕ) → i < length xs → IsAt xs i
 at [] i low = absurd (omega arith)
 at (x ∷ xs) zero low = record { element = x; is = refl; rest = refl }
 at (x ∷ xs) (suc i) low = let more = at xs i (omega arith) in record { element = more.element; is = more.is; rest = more.rest }

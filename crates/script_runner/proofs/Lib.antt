@@ -4,3 +4,5 @@ pub mod Placed
 pub mod SoFar
 pub mod CalmLoglet
 pub mod ScriptLines
+pub mod Following
+pub mod Stepping

@@ -33,7 +33,7 @@ use Rattle.script_runner.specs.Answered.{Answered, has_row, answered_lines, on_r
 use Rattle.script_runner.specs.Outcomes.{OneRowEach, KeepsSessionOrder, is_row_of}
 use Rattle.script_runner.specs.Acts.{ActsOnce, act_of, asked, acts_below, acts_from, placed_acts, number_of, next_rank}
 use Rattle.script_runner.specs.Reads.{ReadsAreCurrent, Shows}
-use Rattle.script_runner.specs.Fits.{Fits, Report, Shown}
+use Rattle.script_runner.specs.Fits.{Fits, Shown}
 use Rattle.script_runner.proofs.Tests.{list_all-more, and_both}
 use Rattle.script_runner.proofs.Pairs.{IsTold, IsPlacedAt, IsReadAt, looks_below, told-placed, told-read, told-none}
 use Rattle.script_runner.proofs.Placed.{HasActed, ActsNext, acted-none, acted-more, in_order-twins, kept_below, none_below, all_from, below-more}

@@ -1,32 +1,23 @@
 -- When what a run tells fits the script and the yard that it gave back.
 use Rattle.std.specs.Prelude.{◌≡◌, ℕ, Bool, true, false, List, [], ◌∷◌, None}
-use Rattle.delos_types.specs.declared.chain.Chain.{Chain}
 use Rattle.loglet_api.specs.View.{LogletView}
 use Rattle.script_text.specs.declared.asks.NamedLine.{NamedLine}
-use Rattle.row_text.specs.declared.row.Row.{Row}
+use Rattle.script_runner.specs.declared.ended.Told.{Told}
 use Rattle.script_runner.specs.Answered.{Answered, answered_lines}
 use Rattle.script_runner.specs.Acts.{ActsOnce}
 use Rattle.script_runner.specs.Outcomes.{OneRowEach, KeepsSessionOrder, keeps_barriers}
 use Rattle.script_runner.specs.Reads.{ReadsAreCurrent}
 
--- what a run tells: the rows, the end, and the version and chain that the register gave last
-pub record Report : Type 0 where
-  pub rows : List Row
-  pub end : ℕ
-  pub version : ℕ
-  pub chain : Chain
-  pub down : Bool
-
 -- what is read of a yard once a run has ended: the loglets of its shelf
 pub record Shown : Type 0 where
   pub cells : List LogletView
 
-abbrev pub told_of : List NamedLine → Report → List Answered
+abbrev pub told_of : List NamedLine → Told → List Answered
 told_of lines o = answered_lines lines o.rows
 
 -- What a run tells of this script fits the yard that it gave back. Rows marked `late` keep neither session
 -- nor barrier order; of all else each part speaks.
-pub record Fits (lines : List NamedLine) (o : Report) (yard : Shown) : Type 0 where
+pub record Fits (lines : List NamedLine) (o : Told) (yard : Shown) : Type 0 where
   pub one_row_each : OneRowEach lines o.rows
   pub acts_once : ActsOnce (told_of lines o) o.chain yard.cells o.end
   pub session_order : KeepsSessionOrder (told_of lines o)

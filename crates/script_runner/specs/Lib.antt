@@ -6,3 +6,9 @@ pub mod Reads
 pub mod Fits
 pub mod OneLoglet
 pub mod Lines
+pub mod Replicas
+pub mod Turns
+pub mod Plays
+pub mod Fresh
+pub mod Ends
+pub mod Composed

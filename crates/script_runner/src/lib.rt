@@ -4,4 +4,7 @@
 
 pub mod ended;
 mod log;
+mod play;
+mod replica;
+pub mod run;
 pub mod yard;

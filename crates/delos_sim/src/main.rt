@@ -1,0 +1,50 @@
+//! The replicated table service on a script: `delos_sim run --shelf file` reads the script from
+//! standard input and prints one row for each command, and the chain of loglets at the end.
+#![tactic(auto)]
+
+use std::alloc::{AllocError, Global};
+use std::env;
+use std::process::ExitCode;
+
+use file_loglet::file::FileLoglet;
+use outside_ends::standard::{StdSink, StdSource};
+use script_runner::ended::{Ended, Status};
+use script_runner::run::run;
+use script_runner::yard::Yard;
+
+/// How many entries a loglet of the shelf takes: 2^32.
+const ROOM: u64 = 0x1_0000_0000;
+
+/// The words of the command line, without the program's name. Words that are no text are none
+/// that are taken.
+fn words_of(rt: &HostRuntime) -> Result<Vec<String>, AllocError> {
+    let alloc = rt.alloc();
+    let mut words = Vec::new(alloc);
+    let Ok(args) = env::args(rt) else {
+        return Ok(words);
+    };
+    for word in args.skip(1) {
+        words.push(word)?;
+    }
+    Ok(words)
+}
+
+fn new_yard(alloc: Global) -> Result<Yard, AllocError> {
+    let shelf = FileLoglet::new(alloc, ROOM)?;
+    Ok(Yard { shelf })
+}
+
+fn run_script(rt: &HostRuntime) -> Result<Status, AllocError> {
+    let alloc = rt.alloc();
+    let words = words_of(rt)?;
+    let yard = new_yard(alloc)?;
+    let mut source = StdSource::new(rt.stdin());
+    let mut sink = StdSink::new(rt.stdout());
+    let Ended { status, .. } = run(rt, alloc, words.as_slice(), &mut source, &mut sink, yard);
+    Ok(status)
+}
+
+fn main(rt: HostRuntime) -> ExitCode {
+    let status = run_script(&rt).unwrap_or(Status::Memory);
+    ExitCode::from(status.code())
+}

@@ -1,0 +1,113 @@
+-- How a run ends: what stands behind each status.
+use Rattle.std.specs.Prelude.{◌≡◌, ◌<◌, ◌≤◌, ℕ, true, List, [], ◌∷◌, length, Option, Some, None, Result, Ok, Err, map, take}
+use Rattle.delos_types.specs.declared.chain.Chain.{Chain}
+use Rattle.loglet_api.specs.View.{LogletView}
+use Rattle.chain_map.specs.Chain.{first_chain}
+use Rattle.fabric_core.specs.Log.{virtual_tail}
+use Rattle.outside_ends.specs.Sinks.{Gains}
+use Rattle.outside_ends.specs.Whole.{GainsFront}
+use Rattle.row_text.specs.Output.{output}
+use Rattle.script_text.specs.declared.asks.NamedLine.{NamedLine}
+use Rattle.script_text.specs.declared.line.Line.{Line}
+use Rattle.script_text.specs.declared.script.BadLine.{BadLine}
+use Rattle.script_text.specs.Lines.{lines_of}
+use Rattle.script_text.specs.Refusal.{refusal_text}
+use Rattle.script_text.specs.Script.{script_of}
+use Rattle.script_text.specs.Spelling.{IsScript}
+use Rattle.script_words.specs.declared.plan.Plan.{Plan}
+use Rattle.script_words.specs.Plans.{plan_of, kind_name, bad_words_text}
+use Rattle.script_runner.specs.declared.ended.Told.{Told}
+use Rattle.script_runner.specs.declared.ended.Status.{Status}
+use Rattle.script_runner.specs.declared.ended.Status.TheVariants as status
+use Rattle.script_runner.specs.declared.yard.Yard.{Yard}
+use Rattle.script_runner.specs.Fits.{Fits, Shown}
+use Rattle.script_runner.specs.Plays.{all_answered}
+
+-- how many bytes of a source are read at most: one more than a script may have
+abbrev pub read_limit : ℕ
+read_limit = 1048577
+
+abbrev pub shown : Yard → Shown
+shown yard = record { cells = yard.shelf ∷ [] }
+
+-- these bytes were all that the source had left, where it tells that
+abbrev pub IsAllOf : Option (List ℕ) → List ℕ → Type 0
+IsAllOf None bytes = Unit {0}
+IsAllOf (Some all) bytes = all ≡ bytes
+
+-- these bytes were what the source had left, up to the limit, where it tells that
+abbrev pub IsFrontOf : Option (List ℕ) → List ℕ → Type 0
+IsFrontOf None bytes = Unit {0}
+IsFrontOf (Some all) bytes = take read_limit all ≡ bytes
+
+-- The run theorem: the script is all that the source had left; what is told fits it and the yard that comes
+-- back; every line has its own answer, and the run saw the whole log.
+pub record Ran (plan : Plan) (left : Option (List ℕ)) (yard : Yard) (told : Told) : Type 0 where
+  pub bytes : List ℕ
+  pub all : IsAllOf left bytes
+  pub script : List Line
+  pub spelled : IsScript plan.nodes bytes script
+  pub fits : Fits (lines_of script) told (shown yard)
+  pub answered : all_answered told.rows ≡ true
+  pub whole : told.end ≡ virtual_tail told.chain (shown yard).cells
+
+-- what a script's lines told on a fresh yard
+pub record Tells (lines : List NamedLine) (yard : Yard) (told : Told) : Type 0 where
+  pub fits : Fits lines told (shown yard)
+  pub answered : all_answered told.rows ≡ true
+  pub whole : told.end ≡ virtual_tail told.chain (shown yard).cells
+  pub chain : told.chain ≡ first_chain
+
+-- a plan for 1 to 8 nodes and a shelf that isn't empty
+pub record IsPlan (plan : Plan) : Type 0 where
+  pub nodes : (1 ≤ plan.nodes) × (plan.nodes ≤ 8)
+  pub shelf : 0 < length plan.shelf
+
+-- the text of what is told, over the plan's shelf
+abbrev pub text_of : Plan → Told → List ℕ
+text_of plan told = output told.rows told.end told.version told.chain told.down (map kind_name plan.shelf)
+
+-- a line of the source's bytes breaks a rule, the first line and its first rule
+pub record IsRefused (plan : Plan) (left : Option (List ℕ)) (bad : BadLine) : Type 0 where
+  pub bytes : List ℕ
+  pub front : IsFrontOf left bytes
+  pub refused : script_of plan.nodes bytes ≡ Err bad
+
+-- What is to be put, and which status it has once it is put whole: what a script told, or its first bad line ..
+abbrev pub ComposesScript : Plan → Option (List ℕ) → Yard → Status → Option Told → List ℕ → Type 0
+ComposesScript plan left yard status.Done (Some told) text = Ran plan left yard told × (text ≡ text_of plan told)
+ComposesScript plan left yard status.BadLine None text = (bad : BadLine) × IsRefused plan left bad × (text ≡ refusal_text bad)
+ComposesScript plan left yard end told text = ⊥
+
+-- .. or that the words are not taken
+abbrev pub Composes : List (List ℕ) → Option (List ℕ) → Yard → Status → Option Told → List ℕ → Type 0
+Composes words left yard status.BadWords None text = (plan_of words ≡ None) × (text ≡ bad_words_text)
+Composes words left yard end told text = (plan : Plan) × (plan_of words ≡ Some plan) × ComposesScript plan left yard end told text
+
+-- a text was composed with this status, and put whole
+pub record PutsWhole (words : List (List ℕ)) (left before after : Option (List ℕ)) (yard : Yard) (end : Status) (told : Option Told) : Type 0 where
+  pub text : List ℕ
+  pub composed : Composes words left yard end told text
+  pub put : Gains before after text
+
+-- a text was composed, and a front of it put
+pub record PutsFront (words : List (List ℕ)) (left before after : Option (List ℕ)) (yard : Yard) (told : Option Told) : Type 0 where
+  pub end : Status
+  pub text : List ℕ
+  pub composed : Composes words left yard end told text
+  pub front : GainsFront before after text
+
+-- the words are taken, and the bytes that the source has left are a script
+pub record CanRun (words : List (List ℕ)) (left : Option (List ℕ)) : Type 0 where
+  pub plan : Plan
+  pub planned : plan_of words ≡ Some plan
+  pub all : List ℕ
+  pub told : left ≡ Some all
+  pub script : List Line
+  pub read : script_of plan.nodes (take read_limit all) ≡ Ok script
+
+-- what is told is a run of the words' plan
+pub record IsRun (words : List (List ℕ)) (left : Option (List ℕ)) (yard : Yard) (told : Told) : Type 0 where
+  pub plan : Plan
+  pub planned : plan_of words ≡ Some plan
+  pub ran : Ran plan left yard told

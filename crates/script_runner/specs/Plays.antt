@@ -1,0 +1,31 @@
+-- What playing the lines of a script comes to.
+use Rattle.std.specs.Prelude.{◌≡◌, Bool, true, false, not, List, [], ◌∷◌}
+use Rattle.std.specs.List.{list_all}
+use Rattle.loglet_api.specs.View.{LogletView}
+use Rattle.chain_map.specs.Chain.{first_chain}
+use Rattle.fabric_core.specs.Log.{virtual_tail}
+use Rattle.row_text.specs.declared.row.Row.{Row}
+use Rattle.row_text.specs.declared.row.Outcome.{Outcome}
+use Rattle.row_text.specs.declared.row.Outcome.TheVariants as out
+use Rattle.script_text.specs.declared.asks.NamedLine.{NamedLine}
+use Rattle.script_runner.specs.declared.ended.Told.{Told}
+use Rattle.script_runner.specs.declared.play.Played.{Played}
+use Rattle.script_runner.specs.Fits.{Fits}
+
+-- the line has its own answer: it isn't open, and not placed late
+abbrev pub is_answered : Outcome → Bool
+is_answered (out.Placed p reply late) = not late
+is_answered (out.Open c) = false
+is_answered other = true
+
+abbrev pub all_answered : List Row → Bool
+all_answered rows = list_all (λ r. is_answered r.outcome) rows
+
+-- what is told of it: nothing was replaced, so the chain is the first one
+abbrev pub told_by : Played → Told
+told_by p = record { rows = p.rows; end = p.end; version = 1; chain = first_chain; down = false }
+
+pub record Plays (lines : List NamedLine) (v : LogletView) (p : Played) : Type 0 where
+  pub fits : Fits lines (told_by p) (record { cells = v ∷ [] })
+  pub answered : all_answered p.rows ≡ true
+  pub whole : p.end ≡ virtual_tail first_chain (v ∷ [])
