@@ -6,3 +6,4 @@ pub mod CalmLoglet
 pub mod ScriptLines
 pub mod Following
 pub mod Stepping
+pub mod Playing

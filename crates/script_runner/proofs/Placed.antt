@@ -107,7 +107,7 @@ pub record ActsNext (acts : List Act) (n : ℕ) (a : Act) : Type 0 where
   pub rank : a.rank ≡ number_of a.session acts + 1
   pub reply : a.reply ≡ (act_on (table_after finmap.empty acts) a.command).1
 
-number_of-more : (s : ℕ) (acts : List Act) (a : Act) → number_of s (acts ++ a ∷ []) ≡ number_of s acts + (if a.session == s then 1 else 0)
+pub number_of-more : (s : ℕ) (acts : List Act) (a : Act) → number_of s (acts ++ a ∷ []) ≡ number_of s acts + (if a.session == s then 1 else 0)
 number_of-more s acts a = sum_by-append (λ x. if x.session == s then 1 else 0) acts (a ∷ []) ∙ ap (λ k. number_of s acts + k) (zero-add (if a.session == s then 1 else 0))
 
 more_ranks : (r k j : ℕ) → (nat_le 1 r && nat_le r k) ≡ true → (nat_le 1 r && nat_le r (k + j)) ≡ true

@@ -1,6 +1,6 @@
 -- The lines of a script that is spelled can be played.
 use Rattle.std.proofs.Common.{◌≡◌, refl, sym, ap, ◌∙◌, subst, ℕ, ◌+◌, ◌<◌, ◌≤◌, ◌==◌, Bool, true, false, ◌&&◌, nat_le, List, [], ◌∷◌, ◌++◌, length, arith, append_assoc, append-nil, zero-add, length-append}
-use Rattle.std.specs.Prelude.{count_by, cond}
+use Rattle.std.specs.Prelude.{count_by, cond, option_to_list}
 use Rattle.std.specs.List.{list_all, AllByRecursion, sum_by, fold}
 use Rattle.std.proofs.lemmas.Bool.{and_from}
 use Rattle.std.proofs.lemmas.Bool.Decides.{nat_tests}
@@ -23,23 +23,27 @@ use Rattle.script_runner.proofs.Tests.{and_both}
 use Rattle.script_text.specs.Lines.{lines_of, lines_after, named_after, asks_after, is_logged_by}
 use Rattle.script_runner.specs.Lines.{logs_for, has_rank, are_ranked, CanLog, ArePlayable}
 
+-- the line, where it names a node
+abbrev named : List Line → Line → List NamedLine
+named before l = option_to_list (named_after before l)
+
 -- Counts
 
-count_by-append : {A : Type 0} (p : A → Bool) (xs ys : List A) → count_by p (xs ++ ys) ≡ count_by p xs + count_by p ys
+pub count_by-append : {A : Type 0} (p : A → Bool) (xs ys : List A) → count_by p (xs ++ ys) ≡ count_by p xs + count_by p ys
 count_by-append p xs ys = sum_by-append (λ x. cond (p x) 1 0) xs ys
 
 lines_after-append : (before xs ys : List Line) → lines_after before (xs ++ ys) ≡ lines_after before xs ++ lines_after (before ++ xs) ys
 lines_after-append before [] ys = ap (λ b. lines_after b ys) (sym (append-nil before))
 lines_after-append before (x ∷ xs) ys =
-    ap (λ more. named_after before x ++ more) (lines_after-append (before ++ x ∷ []) xs ys)
-    ∙ sym (append_assoc (named_after before x) (lines_after (before ++ x ∷ []) xs) _)
-    ∙ ap (λ b. (named_after before x ++ lines_after (before ++ x ∷ []) xs) ++ lines_after b ys) (append_assoc before (x ∷ []) xs)
+    ap (λ more. named before x ++ more) (lines_after-append (before ++ x ∷ []) xs ys)
+    ∙ sym (append_assoc (named before x) (lines_after (before ++ x ∷ []) xs) _)
+    ∙ ap (λ b. (named before x ++ lines_after (before ++ x ∷ []) xs) ++ lines_after b ys) (append_assoc before (x ∷ []) xs)
 
 count_by-cons : {A : Type 0} (p : A → Bool) (x : A) (xs : List A) → count_by p (x ∷ xs) ≡ cond (p x) 1 0 + count_by p xs
 count_by-cons p x xs = count_by-append p (x ∷ []) xs ∙ ap (λ k. k + count_by p xs) (zero-add (cond (p x) 1 0))
 
 -- a session has as many logged lines among the lines that name a node as in the script
-named_count : (s : ℕ) (before : List Line) (l : Line) → count_by (logs_for s) (named_after before l) ≡ cond (is_logged_by s l) 1 0
+named_count : (s : ℕ) (before : List Line) (l : Line) → count_by (logs_for s) (named before l) ≡ cond (is_logged_by s l) 1 0
 named_count s before (line.Session node t (ask.Log c)) = zero-add (cond (t.id == s) 1 0)
 named_count s before (line.Session node t (ask.Look q)) = refl
 named_count s before line.Blank = refl
@@ -48,15 +52,15 @@ named_count s before line.Barrier = refl
 counted : (s : ℕ) (before ls : List Line) → count_by (logs_for s) (lines_after before ls) ≡ count_by (is_logged_by s) ls
 counted s before [] = refl
 counted s before (l ∷ ls) =
-    count_by-append (logs_for s) (named_after before l) (lines_after (before ++ l ∷ []) ls)
+    count_by-append (logs_for s) (named before l) (lines_after (before ++ l ∷ []) ls)
     ∙ ap (λ k. k + count_by (logs_for s) (lines_after (before ++ l ∷ []) ls)) (named_count s before l)
     ∙ ap (λ k. cond (is_logged_by s l) 1 0 + k) (counted s (before ++ l ∷ []) ls)
     ∙ sym (count_by-cons (is_logged_by s) l ls)
 
 -- Ranks
 
-one_more : (before : List Line) (l : Line) → lines_of (before ++ l ∷ []) ≡ lines_of before ++ named_after before l
-one_more before l = lines_after-append [] before (l ∷ []) ∙ ap (λ xs. lines_of before ++ xs) (append-nil (named_after before l))
+one_more : (before : List Line) (l : Line) → lines_of (before ++ l ∷ []) ≡ lines_of before ++ named before l
+one_more before l = lines_after-append [] before (l ∷ []) ∙ ap (λ xs. lines_of before ++ xs) (append-nil (named before l))
 
 same_rank : (k m : ℕ) → m ≡ k → ((k + 1) == (m + 1)) ≡ true
 same_rank k m e = grind (arith, nat_tests)
@@ -79,7 +83,7 @@ ranked before (line.Barrier ∷ ls) =
 
 -- How many, and how they are spelled
 
-named_one : (before : List Line) (l : Line) → length (named_after before l) ≤ 1
+named_one : (before : List Line) (l : Line) → length (named before l) ≤ 1
 named_one before (line.Session node t a) = omega arith
 named_one before line.Blank = omega arith
 named_one before line.Barrier = omega arith
@@ -87,7 +91,7 @@ named_one before line.Barrier = omega arith
 no_more : (before ls : List Line) → length (lines_after before ls) ≤ length ls
 no_more before [] = omega arith
 no_more before (l ∷ ls) =
-    let e : length (lines_after before (l ∷ ls)) ≡ length (named_after before l) + length (lines_after (before ++ l ∷ []) ls) = length-append (named_after before l) _ in
+    let e : length (lines_after before (l ∷ ls)) ≡ length (named before l) + length (lines_after (before ++ l ∷ []) ls) = length-append (named before l) _ in
     omega (arith, e, named_one before l, no_more (before ++ l ∷ []) ls)
 
 few : (nodes : ℕ) (b : Before) (n at : ℕ) (rs : List RawLine) (ls : List Line) → SpellsFrom nodes b n at rs ls → n ≤ 20001 → n + length ls ≤ 20001

@@ -69,12 +69,6 @@ last_one a y acts (z ∷ rest) e f = absurd (too_long rest (ap length (sym f ∙
     too_long : (rest : List Act) → length (z ∷ (rest ++ y ∷ [])) ≡ 1 → ⊥
     too_long rest h = omega (arith, length-append rest (y ∷ []), h)
 
-pub none_left : (a : Act) (acts : List Act) → acts ≡ a ∷ [] → acts ≡ [] → ⊥
-none_left a acts e f = never (ap length (sym e ∙ f))
-  where
-    never : 1 ≡ 0 → ⊥
-    never e = omega (arith, e)
-
 length-grown : (log more : List Entry) (e : Entry) → more ≡ log ++ e ∷ [] → length more ≡ length log + 1
 length-grown log more e is = ap length is ∙ length-append log (e ∷ [])
 

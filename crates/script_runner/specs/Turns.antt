@@ -1,5 +1,5 @@
 -- One line after another on one node and one loglet.
-use Rattle.std.specs.Prelude.{◌≡◌, ℕ, ◌+◌, ◌≤◌, false, List, [], ◌∷◌, ◌++◌, length, Some}
+use Rattle.std.specs.Prelude.{◌≡◌, ℕ, ◌+◌, ◌*◌, ◌≤◌, false, List, [], ◌∷◌, ◌++◌, length, Some}
 use Rattle.std.specs.FinMap as finmap
 use Rattle.delos_types.specs.declared.entry.Entry.{Entry}
 use Rattle.table_core.specs.declared.command.Command.{Command}
