@@ -7,3 +7,4 @@ pub mod ScriptLines
 pub mod Following
 pub mod Stepping
 pub mod Playing
+pub mod Outside
