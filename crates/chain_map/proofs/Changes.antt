@@ -1,5 +1,5 @@
 -- What the changes of a chain leave is a chain.
-use Rattle.std.proofs.Common.{◌≡◌, ℕ, ◌+◌, ◌<◌, ◌≤◌, Bool, true, false, cond, ◌&&◌, ltb, leb, eqb, List, [], ◌∷◌, ◌++◌, length, Option, Some, None, refl, sym, ap, subst, ◌∙◌, arith, filter, not}
+use Rattle.std.proofs.Common.{◌≡◌, ℕ, ◌+◌, ◌<◌, ◌≤◌, Bool, true, false, ◌&&◌, ltb, leb, eqb, List, [], ◌∷◌, ◌++◌, Option, Some, None, refl, sym, ap, subst, ◌∙◌, append_assoc, arith, filter, not}
 use Rattle.std.proofs.lemmas.Bool.{lt-ltb, le-leb, leb-true, leb-false, lt-leb}
 use Rattle.std.proofs.Common.{inl, inr, ◌⊎◌}
 use Rattle.std.specs.Option.{option_map_or}
@@ -7,7 +7,7 @@ use Rattle.delos_types.specs.declared.chain.Segment.{Segment}
 use Rattle.delos_types.specs.declared.chain.Chain.{Chain}
 use Rattle.chain_map.specs.Chain.{first_of_segments, last_of_segments, first_start, last_id, is_linked, is_chain, goes_on, ends_where}
 use Rattle.chain_map.specs.Step.{extended_segments, extended, dropped_below}
-use Rattle.chain_map.proofs.Links.{both_hold, Joins, linked_parts, linked_last}
+use Rattle.chain_map.proofs.Links.{both_hold, linked_parts, linked_last}
 
 -- ---- the last segment
 
@@ -20,6 +20,15 @@ pub extended-append : (before : List Segment) (last : Segment) (t : ℕ) → ext
 extended-append [] last t = refl
 extended-append (s ∷ []) last t = refl
 extended-append (s ∷ r ∷ rs) last t = ap (λ (ss : List Segment). s ∷ ss) (extended-append (r ∷ rs) last t)
+
+-- what was put together from the segments before the last one
+pub made-extended : (ss before front closed whole : List Segment) (last : Segment) (t : ℕ) → ss ≡ before ++ last ∷ [] → front ≡ before → closed ≡ front ++ record last { end = Some (last.start + t) } ∷ []
+    → whole ≡ closed ++ record { id = last.id + 1; start = last.start + t; end = None } ∷ [] → whole ≡ extended_segments ss t
+made-extended ss before front closed whole last t split same first second =
+    let closed_one : List Segment = record last { end = Some (last.start + t) } ∷ [] in
+    let open_one : List Segment = record { id = last.id + 1; start = last.start + t; end = None } ∷ [] in
+    second ∙ ap (λ (x : List Segment). x ++ open_one) (first ∙ ap (λ (x : List Segment). x ++ closed_one) same) ∙ append_assoc before closed_one open_one
+    ∙ sym (extended-append before last t) ∙ ap (λ (x : List Segment). extended_segments x t) (sym split)
 
 both_are : (a b : Bool) → a ≡ true → b ≡ true → (a && b) ≡ true
 both_are a b e f = rw (e, f) refl
@@ -94,9 +103,9 @@ linked-above n (s ∷ t ∷ ts) e le =
     elim (cases_of (leb t.start n)) [
       | inl ends ↦ subst (λ (ss : List Segment). IsAbove n ss) (sym (gone n s (t ∷ ts) (closed_test n t.start s parts.0.closed ∙ ends))) (linked-above n (t ∷ ts) parts.1 (leb-true _ _ ends))
       | inr stays ↦
-        subst (λ (ss : List Segment). IsAbove n ss)
-        (sym (kept n s (t ∷ ts) (closed_test n t.start s parts.0.closed ∙ stays) ∙ ap (λ (rest : List Segment). s ∷ rest) (all_kept n (t ∷ ts) parts.1 (leb-false _ _ stays))))
-        (record { linked = e; first = le })
+          subst (λ (ss : List Segment). IsAbove n ss)
+          (sym (kept n s (t ∷ ts) (closed_test n t.start s parts.0.closed ∙ stays) ∙ ap (λ (rest : List Segment). s ∷ rest) (all_kept n (t ∷ ts) parts.1 (leb-false _ _ stays))))
+          (record { linked = e; first = le })
     ]
 
 pub is_chain-dropped : (chain : Chain) (n : ℕ) → is_chain chain ≡ true → chain.trim < n → is_chain (dropped_below chain n) ≡ true

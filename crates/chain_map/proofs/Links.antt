@@ -1,10 +1,11 @@
 -- What the test of a chain says of its segments.
-use Rattle.std.proofs.Common.{◌≡◌, ℕ, suc, ◌+◌, ◌<◌, ◌≤◌, Bool, true, false, ◌&&◌, ltb, leb, eqb, List, [], ◌∷◌, length, Option, Some, None, refl, sym, ap, ◌∙◌, arith}
+use Rattle.std.proofs.Common.{◌≡◌, ℕ, ◌+◌, ◌<◌, ◌≤◌, Bool, true, false, ◌&&◌, ltb, leb, eqb, List, [], ◌∷◌, length, Option, Some, None, refl, ap, ◌∙◌, arith}
 use Rattle.std.specs.Prelude.{is_none}
 use Rattle.std.specs.Option.{option_map_or}
-use Rattle.std.proofs.lemmas.Bool.{ltb-true, leb-true, eqb-true, lt-ltb, le-leb}
+use Rattle.std.proofs.lemmas.Bool.{ltb-true, leb-true, eqb-true}
 use Rattle.delos_types.specs.declared.chain.Segment.{Segment}
-use Rattle.chain_map.specs.Chain.{first_of_segments, goes_on, is_linked, ends_where}
+use Rattle.delos_types.specs.declared.chain.Chain.{Chain}
+use Rattle.chain_map.specs.Chain.{first_of_segments, first_start, goes_on, is_linked, is_chain, ends_where}
 
 pub both_hold : (a b : Bool) → (a && b) ≡ true → (a ≡ true) × (b ≡ true)
 both_hold true b e = (refl, e)
@@ -44,3 +45,6 @@ pub length-linked : (ss : List Segment) → is_linked ss ≡ true → length ss 
 length-linked [] e = absurd cc
 length-linked (s ∷ []) e = omega (arith, (linked_last s e).0)
 length-linked (s ∷ t ∷ ts) e = let parts = linked_parts s t ts e in omega (arith, parts.0.rises, length-linked (t ∷ ts) parts.1)
+
+pub length-chain : (chain : Chain) → is_chain chain ≡ true → length chain.segments ≤ 64
+length-chain chain e = omega (arith, length-linked chain.segments (both_hold (is_linked chain.segments) (leb (first_start chain) chain.trim) e).0)

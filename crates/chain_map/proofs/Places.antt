@@ -1,10 +1,10 @@
 -- Looking for the segment that holds a position.
-use Rattle.std.proofs.Common.{◌≡◌, ℕ, suc, ◌+◌, ◌<◌, ◌≤◌, true, List, [], ◌∷◌, length, get_or, drop, Option, Some, None, refl, sym, ap, subst, ◌∙◌, arith, drop-cons}
+use Rattle.std.proofs.Common.{◌≡◌, ℕ, suc, ◌+◌, ◌<◌, ◌≤◌, true, List, [], ◌∷◌, length, get_or, drop, Option, sym, ap, subst, ◌∙◌, arith, drop-cons}
 use Rattle.std.specs.Prelude.{IfSome}
 use Rattle.std.proofs.lemmas.Bool.{leb-true}
 use Rattle.delos_types.specs.declared.chain.Segment.{Segment}
 use Rattle.delos_types.specs.declared.chain.Chain.{Chain}
-use Rattle.chain_map.specs.Chain.{first_of_segments, first_start, is_linked, is_chain}
+use Rattle.chain_map.specs.Chain.{no_segment, first_of_segments, is_linked, is_chain}
 use Rattle.chain_map.proofs.Links.{both_hold, linked_parts, linked_last}
 
 -- the position lies in these segments
@@ -27,11 +27,10 @@ covers_rest pos s (t ∷ ts) c past =
     let parts = linked_parts s t ts c.linked in
     record { linked = parts.1; start = after_end pos t.start (λ lt. past (subst (λ (o : Option ℕ). IfSome o (λ end. pos < end)) (sym parts.0.closed) lt)) }
 
-split_at : (ss : List Segment) (i : ℕ) (s : Segment) → i < length ss → s ≡ get_or ss i s → drop i ss ≡ s ∷ drop (i + 1) ss
-split_at ss i s lt is = drop-cons ss i s lt ∙ ap (λ (r : Segment). r ∷ drop (suc i) ss) (sym is) ∙ ap (λ (k : ℕ). s ∷ drop k ss) (omega arith)
+split_at : (ss : List Segment) (i : ℕ) → i < length ss → drop i ss ≡ get_or ss i no_segment ∷ drop (i + 1) ss
+split_at ss i lt =
+    let next : suc i ≡ i + 1 = omega arith in
+    drop-cons ss i no_segment lt ∙ ap (λ (k : ℕ). get_or ss i no_segment ∷ drop k ss) next
 
-pub starts_at : (pos : ℕ) (ss : List Segment) (i : ℕ) (s : Segment) → i < length ss → s ≡ get_or ss i s → Covers pos (drop i ss) → s.start ≤ pos
-starts_at pos ss i s lt is c = (subst (λ (rest : List Segment). Covers pos rest) (split_at ss i s lt is) c).start
-
-pub covers_next : (pos : ℕ) (ss : List Segment) (i : ℕ) (s : Segment) → i < length ss → s ≡ get_or ss i s → (IfSome s.end (λ end. pos < end) → ⊥) → Covers pos (drop i ss) → Covers pos (drop (i + 1) ss)
-covers_next pos ss i s lt is past c = covers_rest pos s (drop (i + 1) ss) (subst (λ (rest : List Segment). Covers pos rest) (split_at ss i s lt is) c) past
+pub covers_next : (pos : ℕ) (ss : List Segment) (i : ℕ) → i < length ss → (IfSome (get_or ss i no_segment).end (λ end. pos < end) → ⊥) → Covers pos (drop i ss) → Covers pos (drop (i + 1) ss)
+covers_next pos ss i lt past c = covers_rest pos (get_or ss i no_segment) (drop (i + 1) ss) (subst (λ (rest : List Segment). Covers pos rest) (split_at ss i lt) c) past

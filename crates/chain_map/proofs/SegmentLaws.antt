@@ -1,6 +1,6 @@
 -- Segments that are read are spelled so, and what is spelled so is read again.
-use Rattle.std.proofs.Common.{◌≡◌, ℕ, zero, suc, ◌+◌, ◌^◌, ◌<◌, ◌≤◌, List, [], ◌∷◌, ◌++◌, length, Option, Some, None, Ok, refl, sym, ap, subst, ◌∙◌, append_assoc, arith}
-use Rattle.std.specs.List.{flat_map, AllByRecursion}
+use Rattle.std.proofs.Common.{◌≡◌, ℕ, zero, suc, ◌+◌, ◌<◌, ◌≤◌, List, [], ◌∷◌, ◌++◌, length, Option, Some, None, Ok, refl, sym, ap, subst, ◌∙◌, append_assoc, arith}
+use Rattle.std.specs.List.{flat_map}
 use Rattle.std.proofs.lemmas.List.{append-nil}
 use Rattle.std.proofs.lemmas.List.Concat.{flat_map-cons}
 use Rattle.delos_types.specs.Numbers.{IsBytes, u32_bytes, u64_bytes}
@@ -8,7 +8,7 @@ use Rattle.delos_types.specs.Fields.{◌>>=◌}
 use Rattle.delos_types.specs.declared.chain.Segment.{Segment}
 use Rattle.delos_types.proofs.FieldLaws.{bind_ok, ok_is, Takes, Takes-then}
 use Rattle.chain_map.specs.Format.{segment_bytes, HasPositions}
-use Rattle.chain_map.specs.Reading.{short, id_field, start_field, flag_field, end_field, closed_field, open_field, segments_from}
+use Rattle.chain_map.specs.Reading.{id_field, start_field, flag_field, end_field, closed_field, open_field, segments_from}
 use Rattle.chain_map.proofs.ChainFieldLaws.{MayStart, id_takes, id_again, start_takes, start_again, flag_takes, flag_again, end_takes, end_again}
 
 -- the segment may stand there, after ids below `least` and the former end
@@ -50,7 +50,7 @@ closed_takes size trim former least bytes x fits e =
     let whole = Takes-then bytes (u32_bytes a.0.0) a.0.1 (u64_bytes b.0.0 ++ (1 ∷ u64_bytes d.0.0)) d.0.1 id.0 started in
     let made : Segment × List ℕ = (record { id = a.0.0; start = b.0.0; end = Some d.0.0 }, d.0.1) in
     subst (λ (y : Segment × List ℕ). TakesClosed trim former least bytes y) {x = made} (ok_is made x d.2)
-    (record { taken = whole; stands = record { rises = id.1; small = id.2; start = start.1; positions = (start.2, end.2) }; end = d.0.0; closed = record { at = refl; above = end.1 } })
+    (record { taken = whole; stands = record { rises = id.1; small = id.2; start = start.1; positions = (start.2, end.2) }; end = d.0.0; closed = record { at = refl {a = Some d.0.0}; above = end.1 } })
 
 pub record TakesOpen (trim : ℕ) (former : Option ℕ) (least : ℕ) (bytes : List ℕ) (x : Segment × List ℕ) : Type 0 where
   pub taken : Takes bytes (segment_bytes x.0) x.1

@@ -1,5 +1,5 @@
 -- What is read is spelled so, and what is spelled so is read.
-use Rattle.std.proofs.Common.{◌≡◌, ℕ, suc, ◌+◌, ◌-◌, ◌^◌, ◌<◌, ◌≤◌, Bool, true, false, ◌&&◌, ltb, leb, eqb, List, [], ◌∷◌, ◌++◌, length, Option, Some, None, Result, Ok, Err, refl, sym, ap, subst, ◌∙◌, append_assoc, arith}
+use Rattle.std.proofs.Common.{◌≡◌, ℕ, ◌+◌, ◌-◌, ◌<◌, ◌≤◌, Bool, true, false, ◌&&◌, ltb, leb, eqb, List, [], ◌∷◌, ◌++◌, length, Option, Some, None, Result, Ok, Err, refl, sym, ap, subst, ◌∙◌, arith}
 use Rattle.std.specs.Result.{IfOk}
 use Rattle.std.specs.Prelude.{is_none}
 use Rattle.std.specs.Option.{option_map_or}
@@ -13,12 +13,12 @@ use Rattle.delos_types.specs.declared.chain.Chain.{Chain}
 use Rattle.delos_types.proofs.FieldLaws.{bind_ok, ok_is, Takes, Takes-then, takes_all, u64_takes, u64_again, ended_ok, ended_again}
 use Rattle.chain_map.specs.declared.fault.DecodeError.{DecodeError}
 use Rattle.chain_map.specs.declared.fault.Rule.TheVariants as rule
-use Rattle.chain_map.specs.Chain.{first_of_segments, first_start, goes_on, ends_where, is_linked, is_chain}
+use Rattle.chain_map.specs.Chain.{first_of_segments, first_start, goes_on, ends_where, is_linked}
 use Rattle.chain_map.specs.Format.{segment_bytes, segments_bytes, chain_bytes, HasPositions, SpellsChain}
 use Rattle.chain_map.specs.Reading.{Gives, fault, short, version_field, count_field, segments_from, chain_fields, chain_read}
 use Rattle.chain_map.proofs.Links.{both_hold, linked_parts, linked_last, length-linked}
 use Rattle.chain_map.proofs.ChainFieldLaws.{MayStart, version_takes, version_again, count_takes, count_again}
-use Rattle.chain_map.proofs.SegmentLaws.{MayStand, IsClosed, Follow, from_takes, from_again}
+use Rattle.chain_map.proofs.SegmentLaws.{Follow, from_takes, from_again}
 
 -- ---- segments that follow one another are those of a chain
 
@@ -65,9 +65,12 @@ follow_of trim former least (s ∷ []) linked rises start positions =
 follow_of trim former least (s ∷ t ∷ ts) linked rises start positions =
     let parts = linked_parts s t ts linked in
     let small : s.id < 64 = omega (arith, parts.0.rises, length-linked (t ∷ ts) parts.1) in
-    let next : MayStart trim s.end t.start = subst (λ (o : Option ℕ). MayStart trim o t.start) (sym parts.0.closed) refl in
-    (record { rises = rises; small = small; start = start; positions = positions.0 }, t.start, record { at = parts.0.closed; above = parts.0.above },
-    follow_of trim s.end (s.id + 1) (t ∷ ts) parts.1 (omega (arith, parts.0.rises)) next positions.1)
+    let next : MayStart trim s.end t.start = subst (λ (o : Option ℕ). MayStart trim o t.start) (sym parts.0.closed) refl in (
+      record { rises = rises; small = small; start = start; positions = positions.0 },
+      t.start,
+      record { at = parts.0.closed; above = parts.0.above },
+      follow_of trim s.end (s.id + 1) (t ∷ ts) parts.1 (omega (arith, parts.0.rises)) next positions.1,
+    )
 
 some_linked : (ss : List Segment) → is_linked ss ≡ true → 1 ≤ length ss
 some_linked [] e = absurd cc
@@ -90,7 +93,7 @@ chain_takes bytes c fits e =
     let count = count_takes size t.0.1 n.0.0 n.0.1 trim.0.rest_fits n.1 in
     let segments = from_takes size t.0.0 None 0 (n.0.0 - 1) n.0.1 s.0 count.0.rest_fits s.1 in
     let counted : Takes t.0.1 (segments_bytes s.0.0) s.0.1 =
-        subst (λ (k : ℕ). Takes t.0.1 (u16_bytes k ++ flat_map segment_bytes s.0.0) s.0.1) (omega (arith, segments.count, count.1)) (Takes-then t.0.1 (u16_bytes n.0.0) n.0.1 (flat_map segment_bytes s.0.0) s.0.1 count.0 segments.taken) in
+    subst (λ (k : ℕ). Takes t.0.1 (u16_bytes k ++ flat_map segment_bytes s.0.0) s.0.1) (omega (arith, segments.count, count.1)) (Takes-then t.0.1 (u16_bytes n.0.0) n.0.1 (flat_map segment_bytes s.0.0) s.0.1 count.0 segments.taken) in
     let trimmed = Takes-then v.0.1 (u64_bytes t.0.0) t.0.1 (segments_bytes s.0.0) s.0.1 trim.0 counted in
     let whole = Takes-then bytes (1 ∷ []) v.0.1 (u64_bytes t.0.0 ++ segments_bytes s.0.0) s.0.1 version trimmed in
     let run = run_of t.0.0 None 0 s.0.0 segments.follow in
@@ -110,7 +113,7 @@ chain_again_of size bytes c s =
     let some : 1 ≤ length c.segments = some_linked c.segments parts.0 in
     let follow = follow_of c.trim None 0 c.segments parts.0 (omega arith) (leb-true _ _ parts.1) s.positions in
     let all : segments_from size c.trim None 0 (length c.segments - 1) (flat_map segment_bytes c.segments) ≡ Ok (c.segments, []) =
-        ap (segments_from size c.trim None 0 (length c.segments - 1)) (sym (append-nil (flat_map segment_bytes c.segments))) ∙ from_again size c.trim None 0 (length c.segments - 1) c.segments [] follow (omega (arith, some)) in
+    ap (segments_from size c.trim None 0 (length c.segments - 1)) (sym (append-nil (flat_map segment_bytes c.segments))) ∙ from_again size c.trim None 0 (length c.segments - 1) c.segments [] follow (omega (arith, some)) in
     rw (version_again size (u64_bytes c.trim ++ segments_bytes c.segments), u64_again (short size) c.trim (segments_bytes c.segments) s.trim, count_again size (length c.segments) (flat_map segment_bytes c.segments) some (omega (arith, few)), all) (ended_again (fault (size - 0) rule.Long) c)
 
 pub chain_again : (bytes : List ℕ) (c : Chain) → SpellsChain bytes c → chain_read bytes ≡ Ok c

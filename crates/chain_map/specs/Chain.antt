@@ -1,5 +1,5 @@
 -- The chain of loglets that a virtual log joins (OSDI 2020), and which lists of segments are one.
-use Rattle.std.specs.Prelude.{◌==◌, ◌&&◌, ℕ, Bool, false, List, [], ◌∷◌, Option, Some, None, nat_lt, nat_le, is_none, IsTrue}
+use Rattle.std.specs.Prelude.{◌==◌, ◌&&◌, ℕ, Bool, false, List, [], ◌∷◌, None, nat_lt, nat_le, is_none, IsTrue}
 use Rattle.std.specs.Option.{option_map_or}
 use Rattle.delos_types.specs.declared.chain.Segment.{Segment}
 use Rattle.delos_types.specs.declared.chain.Chain.{Chain}

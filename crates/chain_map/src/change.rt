@@ -70,7 +70,11 @@ pub fn drop_below(alloc: Global, chain: &Chain, n: u64) -> Result<Chain, AllocEr
 fn needed_above(alloc: Global, segments: &[Segment], n: u64) -> Result<Vec<Segment>, AllocError>
     ensures { IfOk result (λ kept. kept.items ≡ filter (λ s. not (ends_where (λ end. nat_le end n) s)) segments.now) }
 {
-    segments.iter().copied().filter(|s| !ends_by(s, n)).collect(alloc)
+    segments
+        .iter()
+        .copied()
+        .filter(|s| !ends_by(s, n))
+        .collect(alloc)
 }
 
 // The segment is closed, and ends at or below n.

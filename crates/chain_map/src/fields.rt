@@ -104,7 +104,12 @@ fn id_at(size: usize, least: u32, bytes: &[u8]) -> Result<(u32, &[u8]), DecodeEr
 
 // A start: the former end, or at the first segment at most the trim.
 #[tactic(auto, unfolding(crate::specs::Reading::start_field))]
-fn start_at(size: usize, trim: u64, former: Option<u64>, bytes: &[u8]) -> Result<(u64, &[u8]), DecodeError>
+fn start_at(
+    size: usize,
+    trim: u64,
+    former: Option<u64>,
+    bytes: &[u8],
+) -> Result<(u64, &[u8]), DecodeError>
     requires { length bytes.now ≤ size }
     ensures gives { GivesBy (λ x. (x.0, x.1.now)) result (start_field size trim former bytes.now) }
     ensures rest { IfOk result (λ x. length x.1.now ≤ length bytes.now) }

@@ -13,7 +13,7 @@ pub use change::{drop_below, extend, first_chain};
 pub use decode::decode_chain;
 pub use encode::encode_chain;
 pub use fault::{BadChain, DecodeError, Rule};
-pub use place::{locate, Located};
+pub use place::{Located, locate};
 
 #[cfg(test)]
 mod tests;
