@@ -1,5 +1,6 @@
 -- The chain of loglets that a virtual log joins (OSDI 2020), and which lists of segments are one.
-use Rattle.std.specs.Prelude.{◌==◌, ◌&&◌, ℕ, Bool, false, List, [], ◌∷◌, Option, Some, None, nat_lt, nat_le, is_none, IsTrue}
+use Rattle.std.specs.Prelude.{◌==◌, ◌&&◌, ℕ, Bool, false, List, [], ◌∷◌, None, nat_lt, nat_le, is_none, IsTrue}
+use Rattle.std.specs.Option.{option_map_or}
 use Rattle.delos_types.specs.declared.chain.Segment.{Segment}
 use Rattle.delos_types.specs.declared.chain.Chain.{Chain}
 
@@ -27,13 +28,9 @@ last_segment chain = last_of_segments chain.segments
 abbrev pub last_id : Chain → ℕ
 last_id chain = (last_of_segments chain.segments).id
 
--- the segment is closed at a position that passes the test
+-- the segment is closed, at a position that passes the test
 abbrev pub ends_where : (ℕ → Bool) → Segment → Bool
-ends_where test s = closed s.end
-  where
-    closed : Option ℕ → Bool
-    closed None = false
-    closed (Some end) = test end
+ends_where test s = option_map_or test s.end false
 
 -- s is closed at or after its start, and t begins where s ends, with a greater id
 abbrev pub goes_on : Segment → Segment → Bool

@@ -1,2 +1,5 @@
 pub mod Chain
+pub mod Format
+pub mod Place
+pub mod Reading
 pub mod Step

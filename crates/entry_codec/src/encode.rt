@@ -24,11 +24,22 @@ pub fn encode_items(alloc: Global, items: &[Item]) -> Result<Bytes, AllocError>
     requires { All IsSpellableItem items.now }
     ensures { IfOk result (λ bytes. bytes ≡ flat_map item_bytes items.now) }
 {
-    let mut out = Vec::new(alloc);
+    let mut out = Vec::with_capacity(alloc, items_len(items))?;
     for item in items {
         put_item(&mut out, item)?;
     }
     Ok(Bytes::from_vec(out))
+}
+
+// How much room the items take.
+fn items_len(items: &[Item]) -> usize
+    requires { All IsSpellableItem items.now }
+{
+    let mut len: usize = 0;
+    for item in items {
+        len = len.saturating_add(item_len(item));
+    }
+    len
 }
 
 /// How many bytes spell the item.
