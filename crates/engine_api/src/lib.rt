@@ -12,3 +12,5 @@ pub mod members;
 pub mod order;
 pub mod pack;
 pub mod read;
+#[cfg(test)]
+mod tests;
