@@ -1,5 +1,6 @@
 pub mod Appends
 pub mod Gaps
+pub mod Greatest
 pub mod InTurn
 pub mod Packed
 pub mod Steps

@@ -37,9 +37,13 @@ trim_asked (Alive n position) = None
 trim_asked (Leave n) = None
 trim_asked (Trim position) = Some position
 
--- a node is a member where no leave of it stands there
+-- a leave of the node stands there
+abbrev pub has_left : List Placed → ℕ → Bool
+has_left placed node = list_any (λ p. is_leave_of node p.content) placed
+
+-- a node is a member where it hasn't left
 abbrev pub is_member : List Placed → ℕ → Bool
-is_member placed node = not (list_any (λ p. is_leave_of node p.content) placed)
+is_member placed node = not (has_left placed node)
 
 -- a member's position is the greatest that it reported
 abbrev pub position_of : List Placed → ℕ → ℕ

@@ -8,6 +8,9 @@ pub mod acted;
 pub mod appearance;
 pub mod content;
 pub mod laws;
+pub mod members;
 pub mod order;
 pub mod pack;
 pub mod read;
+#[cfg(test)]
+mod tests;

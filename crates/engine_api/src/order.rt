@@ -86,3 +86,11 @@ fn push_acts(
     }
     Ok(())
 }
+
+/// Whether each rank that appears has acted, or acted before: no rank waits for one below it.
+pub fn is_clean(acted: &[u64], seen: &[Asked]) -> bool
+    ensures { result ≡ order.is_clean (λ s. slice_index acted.now s + 1) seen.now }
+{
+    seen.iter()
+        .all(|x| x.rank.number() <= reached(seen, x.session, last_acted(acted, x.session)))
+}

@@ -1,5 +1,5 @@
 //! Making items that say something, and entries of items.
-ghost use Rattle.std.specs.Prelude.{◌≡◌, ◌≤◌, ℕ, IfOk, Some, filter_map};
+ghost use Rattle.std.specs.Prelude.{◌≡◌, ◌≤◌, ◌∷◌, [], ℕ, IfOk, Some, filter_map};
 ghost use Rattle.delos_types.specs.Spelling.{IsSpellable};
 ghost use Rattle.table_core.specs.Spelling as command_spelling;
 ghost use Rattle.engine_api.specs.Items.{content_of, placed_from, unpack};
@@ -103,6 +103,16 @@ pub fn batch(alloc: Global, origin: NodeId, items: &[Item]) -> Result<Entry, All
         headers,
         payload,
     })
+}
+
+/// The entry of one item.
+pub fn batch_of_one(alloc: Global, origin: NodeId, item: Item) -> Result<Entry, AllocError>
+    requires { packing.IsProposable item }
+    ensures entry { IfOk result (λ entry. entry ≡ packing.packed origin (item ∷ [])) }
+    ensures spellable { IfOk result IsSpellable }
+    ensures holds { IfOk result (λ entry. (pos : ℕ) → unpack pos entry ≡ placed_from pos 0 (filter_map content_of (item ∷ []))) }
+{
+    batch(alloc, origin, &[item])
 }
 
 // How many items there are, and the length of each.
