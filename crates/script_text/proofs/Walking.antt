@@ -110,7 +110,7 @@ past_line before (line.Session node s (ask.Log command)) w small past few = reco
   phase = past.phase ∙ sym (passed_over is_barrier before (line.Session node s (ask.Log command)) refl);
   size = omega (arith, length-set w.logged s.id (one_more (get_or w.logged s.id 0)), past.size);
   logged = λ id lt. counts_on before (line.Session node s (ask.Log command)) node s w.logged (one_more (get_or w.logged s.id 0)) id (id == s.id)
-    past.size refl few (past.logged id lt) (rank_is before w s.id small past few) refl;
+      past.size refl few (past.logged id lt) (rank_is before w s.id small past few) refl;
 }
 
 -- ---- lines, one more at the end

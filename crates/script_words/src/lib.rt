@@ -1,0 +1,6 @@
+//! The words of the command line.
+#![tactic(auto)]
+
+pub mod plan;
+#[cfg(test)]
+mod tests;
