@@ -1,5 +1,5 @@
 -- What is read of a line is how the line is spelled.
-use Rattle.std.proofs.Common.{◌≡◌, ◌==◌, ◌<◌, ◌≤◌, ◌+◌, ◌-◌, ◌⊎◌, ◌&&◌, ◌||◌, inl, inr, ℕ, zero, suc, Bool, true, false, cond, List, [], ◌∷◌, ◌++◌, length, Option, Some, None, Result, Ok, Err, refl, sym, ap, subst, ◌∙◌, arith}
+use Rattle.std.proofs.Common.{◌≡◌, ◌==◌, ◌<◌, ◌≤◌, ◌+◌, ◌-◌, ◌&&◌, ◌||◌, inl, inr, ℕ, zero, suc, Bool, true, false, cond, List, [], ◌∷◌, length, Option, Some, None, Result, Ok, Err, refl, sym, ap, subst, ◌∙◌, arith}
 use Rattle.std.specs.Prelude.{codes, nat_lt, nat_le, slice_index}
 use Rattle.std.specs.List.{slice_split, onto_first, join_with_byte, list_all, list_any}
 use Rattle.std.specs.Str.{bytes_eq}
@@ -26,7 +26,7 @@ use Rattle.script_text.specs.Words.{Word, is_empty, is_text_byte, split_words, w
 use Rattle.script_text.specs.Fields.{is_node, node_of, is_name, name_of, key_of, value_of}
 use Rattle.script_text.specs.Seen.{Before, session, home, is_named, home_of, with_session, admit, admit_at, admit_new}
 use Rattle.script_text.specs.Forms.{word, is_admin_word, verb_of, session_form, on_form, form_of, having, verb_count, ask_of, session_line, line_in, line_at}
-use Rattle.script_text.specs.Spelling.{node_name, ask_words, line_words, spell, is_print, IsWord, IsNode, IsSessionName, AskFits, LineFits, Belongs, Follows, Spells}
+use Rattle.script_text.specs.Spelling.{node_name, ask_words, line_words, is_print, IsWord, IsNode, IsSessionName, AskFits, LineFits, Belongs, Follows, Spells}
 
 -- ---- steps that did not fail
 
