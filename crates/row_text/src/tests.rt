@@ -1,3 +1,5 @@
+ghost use Rattle.std.specs.Prelude.{◌<◌, ◌↔◌, IsTrue, All};
+
 use crate::render::render;
 use crate::row::{Outcome, Row, Rows, Who};
 use delos_types::bytes::Bytes;
@@ -55,6 +57,12 @@ fn pair(alloc: Global, key: &str, value: &str) -> Result<Pair, AllocError> {
     Ok(Pair { key, value })
 }
 
+fn have_kinds(segments: &[Segment], kinds: usize) -> bool
+    ensures { IsTrue result ↔ All (λ s. s.id < kinds) segments.now }
+{
+    segments.iter().all(|s| (s.id as usize) < kinds)
+}
+
 // The chain of one open segment, which begins at 0.
 fn first_chain(alloc: Global) -> Result<Chain, AllocError> {
     let segments = vec![in alloc;
@@ -79,7 +87,9 @@ fn first_chain_text(
 ) -> Result<(), Fail> {
     let chain = first_chain(alloc)?;
     let rows = Rows::from_vec(rows);
-    let got = render(alloc, &rows, end, 1, &chain, false, ["file"].as_slice())?;
+    let kinds = ["file"];
+    assert!(rt; have_kinds(chain.segments.as_slice(), kinds.len()));
+    let got = render(alloc, &rows, end, 1, &chain, false, kinds.as_slice())?;
     assert_eq!(rt; str::from_utf8(got.as_slice()), Ok(text));
     Ok(())
 }
@@ -210,6 +220,7 @@ fn each_admin_line_is_printed(rt: HostRuntime) -> Result<(), Fail> {
     };
     let rows = Rows::from_vec(rows);
     let kinds = ["file", "native3"];
+    assert!(rt; have_kinds(chain.segments.as_slice(), kinds.len()));
     let got = render(alloc, &rows, 4, 3, &chain, true, kinds.as_slice())?;
     assert_eq!(rt;
         str::from_utf8(got.as_slice()),

@@ -1,12 +1,11 @@
 -- Reading lines one after the other, as a loop does.
 use Rattle.std.proofs.Common.{◌≡◌, ◌+◌, ◌<◌, ◌==◌, ℕ, Bool, true, false, cond, List, [], ◌∷◌, ◌++◌, length, Option, Some, None, ltb, take, drop, ◌≤◌, Result, Ok, Err, refl, sym, ap, ◌∙◌, append_assoc, arith}
-use Rattle.std.specs.List.{slice_split, onto_first, before_first, after_first, position_or_len}
+use Rattle.std.specs.List.{slice_split, before_first, after_first, position_or_len}
 use Rattle.std.proofs.lemmas.List.{append-nil, length-take}
 use Rattle.std.proofs.lemmas.List.Sums.{fails_before_first}
 use Rattle.std.proofs.lemmas.Bool.{ltb-true, ltb-false}
 use Rattle.std.proofs.lemmas.Bool.Decides.{nat_tests}
 use Rattle.std.proofs.lemmas.List.Splits.{slice_split_first, slice_split_none, length-slice_split}
-use Rattle.script_text.specs.declared.line.Rule.{Rule}
 use Rattle.script_text.specs.declared.line.Line.{Line}
 use Rattle.script_text.specs.declared.script.BadLine.{BadLine}
 use Rattle.script_text.specs.declared.line.Fault.{Fault}
@@ -14,7 +13,7 @@ use Rattle.script_text.specs.declared.line.Fault.TheVariants as fault
 use Rattle.script_text.specs.Gives.{◌>>=◌, Fails}
 use Rattle.script_text.specs.Seen.{Before, nothing_yet}
 use Rattle.script_text.specs.Words.{is_empty}
-use Rattle.script_text.specs.Script.{RawLine, raw_line, raw_lines, lines_in, lines_from, script_of, line_numbered, in_line, ReadsScript, error_at, told_rule}
+use Rattle.script_text.specs.Script.{RawLine, raw_line, raw_lines, lines_in, lines_from, script_of, line_numbered, ReadsScript, error_at, told_rule}
 
 -- what was read before, and what is still read
 abbrev pub with_front : List Line → Result (List Line) BadLine → Result (List Line) BadLine

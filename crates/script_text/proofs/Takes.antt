@@ -1,5 +1,5 @@
 -- What is read of a line is how the line is spelled.
-use Rattle.std.proofs.Common.{◌≡◌, ◌==◌, ◌<◌, ◌≤◌, ◌+◌, ◌-◌, ◌⊎◌, ◌&&◌, ◌||◌, inl, inr, ℕ, zero, suc, Bool, true, false, cond, List, [], ◌∷◌, ◌++◌, length, Option, Some, None, Result, Ok, Err, refl, sym, ap, subst, ◌∙◌, arith}
+use Rattle.std.proofs.Common.{◌≡◌, ◌==◌, ◌<◌, ◌≤◌, ◌+◌, ◌-◌, ◌&&◌, ◌||◌, inl, inr, ℕ, zero, suc, Bool, true, false, cond, List, [], ◌∷◌, length, Option, Some, None, Result, Ok, Err, refl, sym, ap, subst, ◌∙◌, arith}
 use Rattle.std.specs.Prelude.{codes, nat_lt, nat_le, slice_index}
 use Rattle.std.specs.List.{slice_split, onto_first, join_with_byte, list_all, list_any}
 use Rattle.std.specs.Str.{bytes_eq}
@@ -26,7 +26,7 @@ use Rattle.script_text.specs.Words.{Word, is_empty, is_text_byte, split_words, w
 use Rattle.script_text.specs.Fields.{is_node, node_of, is_name, name_of, key_of, value_of}
 use Rattle.script_text.specs.Seen.{Before, session, home, is_named, home_of, with_session, admit, admit_at, admit_new}
 use Rattle.script_text.specs.Forms.{word, is_admin_word, verb_of, session_form, on_form, form_of, having, verb_count, ask_of, session_line, line_in, line_at}
-use Rattle.script_text.specs.Spelling.{node_name, ask_words, line_words, spell, is_print, IsWord, IsNode, IsSessionName, AskFits, LineFits, Belongs, Follows, Spells}
+use Rattle.script_text.specs.Spelling.{node_name, ask_words, line_words, is_print, IsWord, IsNode, IsSessionName, AskFits, LineFits, Belongs, Follows, Spells}
 
 -- ---- steps that did not fail
 
@@ -267,6 +267,13 @@ begun verb.Get f p q r rest h0 h1 h2 h3 = cc
 name_is_session : (w name : Word) → w ≡ name → is_name name ≡ true → is_admin_word w ≡ false → IsSessionName name
 name_is_session w name same letters not_admin = record { letters = letters; not_admin = subst (λ (x : Word). is_admin_word x ≡ false) same not_admin }
 
+-- words that are those of a session's line spell it
+by_session : (nodes n : ℕ) (b after : Before) (text : List ℕ) (ws : List Word) (v : Verb) (s : Session) (a : Ask) → Cut text ws → length ws ≡ verb_count v → word ws 0 ≡ codes "on"
+    → word ws 1 ≡ node_name n → word ws 2 ≡ s.name → tabulate (word ws) 3 (verb_count v - 3) ≡ ask_words a → LineFits nodes (line.Session n s a) → Belongs b n s after
+    → Spells nodes b text (line.Session n s a) after
+by_session nodes n b after text ws v s a cut len on node name words fits belongs =
+    by_words nodes b after text ws (line.Session n s a) cut (so_many ws (verb_count v) len ∙ begun v (word ws) (codes "on") (node_name n) s.name (ask_words a) on node name words) fits belongs
+
 pub session_takes : (nodes : ℕ) (b : Before) (text : List ℕ) (ws : List Word) (v : Verb) (x : Line × Before) → Cut text ws → IsOn ws v → session_line nodes b ws v ≡ Ok x → Spells nodes b text x.0 x.1
 unfolding session_line
 session_takes nodes b text ws v x cut on e =
@@ -279,12 +286,9 @@ session_takes nodes b text ws v x cut on e =
     let tm = name_takes (word ws 2) m.0 m.1 in
     let ta = ask_takes text ws v a.0 cut h.0 on.verb_is a.1 in
     let ts = admit_takes b n.0 m.0 s.0 s.1 in
-    let y : Line × Before = (line.Session n.0 s.0.0 a.0, s.0.1) in
-    let words : ws ≡ line_words y.0 = so_many ws (verb_count v) h.0
-    ∙ begun v (word ws) (codes "on") (node_name n.0) s.0.0.name (ask_words a.0) on.on tn.0 (tm.0 ∙ sym ts.name_is) ta.words in
     let name : IsSessionName s.0.0.name = subst IsSessionName (sym ts.name_is) (name_is_session (word ws 2) m.0 tm.0 tm.1 on.not_admin) in
-    subst (λ (z : Line × Before). Spells nodes b text z.0 z.1) {x = y} (ok_is y x s.2)
-    (by_words nodes b y.1 text ws y.0 cut words (tn.1, name, ta.fits) ts.belongs)
+    subst (λ (z : Line × Before). Spells nodes b text z.0 z.1) (ok_is (line.Session n.0 s.0.0 a.0, s.0.1) x s.2)
+    (by_session nodes n.0 b s.0.1 text ws v s.0.0 a.0 cut h.0 on.on tn.0 (tm.0 ∙ sym ts.name_is) ta.words (tn.1, name, ta.fits) ts.belongs)
 
 pub blank_takes : (nodes : ℕ) (b : Before) (text : List ℕ) (ws : List Word) (x : Line × Before) → Cut text ws → length ws ≡ 0 → Ok (line.Blank, b) ≡ done x → Spells nodes b text x.0 x.1
 blank_takes nodes b text ws x cut none e =

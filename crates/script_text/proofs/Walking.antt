@@ -1,5 +1,5 @@
 -- A script walked line by line names its lines as the definition says.
-use Rattle.std.proofs.Common.{◌≡◌, ◌≢◌, ◌==◌, ◌<◌, ◌≤◌, ◌+◌, ◌-◌, ◌^◌, ℕ, Bool, true, false, cond, List, [], ◌∷◌, ◌++◌, length, get_or, set, min, Option, Some, None, refl, sym, ap, ◌∙◌, append_assoc, arith, get_or-set_other, get_or-set_same}
+use Rattle.std.proofs.Common.{◌≡◌, ◌≢◌, ◌==◌, ◌<◌, ◌+◌, ◌^◌, ℕ, Bool, true, false, cond, List, [], ◌∷◌, ◌++◌, length, get_or, set, refl, sym, ap, ◌∙◌, append_assoc, arith, get_or-set_other, get_or-set_same}
 use Rattle.std.specs.Prelude.{count_by, replicate}
 use Rattle.std.specs.Option.{option_to_list}
 use Rattle.std.proofs.lemmas.List.{append-nil, length-append, length-set, length-replicate, get_or-replicate}
@@ -8,14 +8,11 @@ use Rattle.std.proofs.lemmas.Bool.Decides.{nat_tests}
 use Rattle.script_text.specs.declared.line.Line.{Line}
 use Rattle.script_text.specs.declared.line.Line.TheVariants as line
 use Rattle.script_text.specs.declared.line.Session.{Session}
-use Rattle.script_text.specs.declared.line.Ask.{Ask}
 use Rattle.script_text.specs.declared.line.Ask.TheVariants as ask
 use Rattle.script_text.specs.declared.asks.NamedLine.{NamedLine}
-use Rattle.script_text.specs.declared.asks.Asks.{Asks}
-use Rattle.script_text.specs.declared.asks.Asks.TheVariants as asks
 use Rattle.script_text.specs.declared.asks.Walk.{Walk}
-use Rattle.script_text.specs.Lines.{is_barrier, is_logged_by, asks_after, named_after, lines_after, lines_of}
-use Rattle.script_text.specs.Walks.{one_more, asks_now, logged_now, IsCounted, IsCountedLine, walked, named_now}
+use Rattle.script_text.specs.Lines.{is_barrier, is_logged_by, named_after, lines_after, lines_of}
+use Rattle.script_text.specs.Walks.{one_more, IsCountedLine, walked, named_now}
 
 -- the walk has come past these lines
 pub record IsPast (before : List Line) (w : Walk) : Type 0 where
@@ -110,7 +107,7 @@ past_line before (line.Session node s (ask.Log command)) w small past few = reco
   phase = past.phase ∙ sym (passed_over is_barrier before (line.Session node s (ask.Log command)) refl);
   size = omega (arith, length-set w.logged s.id (one_more (get_or w.logged s.id 0)), past.size);
   logged = λ id lt. counts_on before (line.Session node s (ask.Log command)) node s w.logged (one_more (get_or w.logged s.id 0)) id (id == s.id)
-    past.size refl few (past.logged id lt) (rank_is before w s.id small past few) refl;
+      past.size refl few (past.logged id lt) (rank_is before w s.id small past few) refl;
 }
 
 -- ---- lines, one more at the end

@@ -1,5 +1,5 @@
 -- The words that stand for a value, and the rule that one breaks which stands for none.
-use Rattle.std.specs.Prelude.{◌==◌, ◌&&◌, ◌||◌, ◌+◌, ◌-◌, ℕ, Bool, List, Result, Ok, Err, length, nat_lt, nat_le, if◌then◌else◌, slice_index}
+use Rattle.std.specs.Prelude.{◌==◌, ◌&&◌, ◌||◌, ◌+◌, ◌-◌, ℕ, Bool, Result, Ok, Err, length, nat_lt, nat_le, if◌then◌else◌, slice_index}
 use Rattle.std.specs.List.{list_all}
 use Rattle.script_text.specs.declared.line.Rule.{Rule}
 use Rattle.script_text.specs.declared.line.Rule.TheVariants.{Node, Session, Key, Value}

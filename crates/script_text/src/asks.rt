@@ -22,7 +22,10 @@ pub enum Asks {
         command: Command,
     },
     /// The session looks at the table.
-    Look { session: Session, query: Query },
+    Look {
+        session: Session,
+        query: Query,
+    },
 }
 
 /// A line that names a node.

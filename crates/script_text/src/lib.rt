@@ -8,4 +8,6 @@ pub mod line;
 pub mod refusal;
 pub mod script;
 mod seen;
+#[cfg(test)]
+mod tests;
 mod words;

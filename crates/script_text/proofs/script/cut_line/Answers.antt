@@ -1,10 +1,7 @@
-use Rattle.std.proofs.Common.{◌≡◌, ◌∙◌, ◌==◌, rules, ap, sym, take, drop, length, cond, ltb, ◌∷◌, ◌+◌}
-use Rattle.std.specs.Prelude.{Some, None}
-use Rattle.std.specs.List.{position_or_len}
+use Rattle.std.proofs.Common.{◌==◌, rules, ◌+◌}
 use Rattle.std.proofs.lemmas.List.{take_rest}
 use Rattle.std.proofs.lemmas.Iterator.{YieldsList-from_slice}
 use Rattle.std.proofs.lemmas.Iterator.Search.{position_from_yields_List}
-use Rattle.script_text.specs.Script.{raw_line, lines_in}
 use Rattle.script_text.proofs.Runs.{found_at, none_found, first_cut, last_line}
 use Rattle.script_text.proofs.script.cut_line.Goals as goal
 

@@ -1,4 +1,4 @@
-use Rattle.std.proofs.Common.{◌∙◌, sym, subst}
+use Rattle.std.proofs.Common.{subst}
 use Rattle.script_text.specs.Script.{ReadsScript}
 use Rattle.script_text.proofs.Laws.{is_found, is_short}
 use Rattle.script_text.proofs.Again.{script_again}

@@ -1,4 +1,4 @@
-use Rattle.std.proofs.Common.{◌≡◌, ◌∙◌, arith, length, rules}
+use Rattle.std.proofs.Common.{◌≡◌, arith, length, rules}
 use Rattle.script_text.specs.Script.{raw_line, lines_in}
 use Rattle.script_text.proofs.Runs.{begins, goes_on, ends, is_done}
 use Rattle.script_text.proofs.script.read_lines.Goals as goal

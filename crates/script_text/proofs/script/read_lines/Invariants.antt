@@ -1,4 +1,4 @@
-use Rattle.std.proofs.Common.{◌≡◌, ◌+◌, ◌≤◌, length}
+use Rattle.std.proofs.Common.{◌≡◌, ◌≤◌, length}
 use Rattle.script_text.specs.Script.{lines_from, lines_in, script_of}
 use Rattle.script_text.proofs.Runs.{with_front}
 use Rattle.script_text.proofs.script.read_lines.Given as goal

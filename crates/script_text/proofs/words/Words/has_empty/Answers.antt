@@ -1,4 +1,4 @@
-use Rattle.std.proofs.Common.{◌≡◌, ◌∙◌, ℕ, List, map, ap, sym}
+use Rattle.std.proofs.Common.{◌∙◌, map, ap}
 use Rattle.std.specs.List.{list_any}
 use Rattle.script_text.specs.Words.{is_empty}
 use Rattle.script_text.proofs.Lists.{list_any-map}
