@@ -1,12 +1,12 @@
 -- A file loglet's fields give a sound view.
-use Rattle.std.proofs.Common.{◌≡◌, ℕ, zero, suc, ◌+◌, ◌≤◌, Option, None, Some, List, [], ◌∷◌, length, drop, refl, subst, sym, ◌∙◌, arith, length-drop, zero-add}
+use Rattle.std.proofs.Common.{◌≡◌, ℕ, zero, suc, ◌+◌, ◌≤◌, ◌⊎◌, inl, inr, Option, None, Some, List, [], ◌∷◌, length, drop, refl, subst, sym, ◌∙◌, arith, length-drop, zero-add}
 use Rattle.std.specs.Prelude.{slice_get}
 use Rattle.loglet_api.specs.declared.call.Answer.{Answer}
 use Rattle.loglet_api.specs.View.{Operation, size_of}
 use Rattle.loglet_api.specs.Sound.{IsSound, IsSoundOperation}
 use Rattle.file_loglet.specs.declared.pending.Pending.{Pending}
 use Rattle.file_loglet.specs.Pending.{operation_of, left_of}
-use Rattle.file_loglet.specs.File.{file_view, IsPending, IsFile}
+use Rattle.file_loglet.specs.File.{file_view, IsPending, IsFile, NeverFailed}
 use Rattle.file_loglet.specs.declared.file.FileLoglet.TheInside.{Inside}
 use Rattle.file_loglet.proofs.Maps.{behind}
 
@@ -59,4 +59,18 @@ file_sound a h =
       spelled = λ i e is. h.spelled (a.cut + i) e (sym (slice_get-drop a.cut a.entries.items i) ∙ is);
       operations = λ t o is. (let w = behind a.pending t o is in
           subst (λ (x : Operation). IsSoundOperation (file_view a) t x) w.2 (sound_operation a t w.0 size (h.pending t w.0 w.1)));
+    }
+
+one_step : (answer : Option Answer) → (left_of answer ≡ (1, 0)) ⊎ (left_of answer ≡ (0, 0))
+one_step None = inl refl
+one_step (Some answer) = inr refl
+
+pub file_never_failed : (a : Inside) → NeverFailed (file_view a)
+file_never_failed a =
+    record {
+      servers = refl;
+      down = refl;
+      lacks = refl;
+      steps = λ t o is. (let w = behind a.pending t o is in
+          subst (λ (x : Operation). (x.left ≡ (1, 0)) ⊎ (x.left ≡ (0, 0))) w.2 (one_step w.0.answer));
     }

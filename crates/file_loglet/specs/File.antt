@@ -1,12 +1,12 @@
 -- What a file loglet shows, and what holds of its fields.
-use Rattle.std.specs.Prelude.{◌≡◌, ℕ, ◌^◌, ◌<◌, ◌≤◌, nat_eq, true, Some, map, drop, length, slice_get}
+use Rattle.std.specs.Prelude.{◌≡◌, ℕ, ◌^◌, ◌<◌, ◌≤◌, ◌⊎◌, nat_eq, true, Some, map, drop, length, slice_get}
 use Rattle.std.specs.HashMap.{get}
 use Rattle.std.specs.Option.{ForSome}
 use Rattle.delos_types.specs.declared.entry.Entry.{Entry}
 use Rattle.delos_types.specs.Spelling.{IsSpellable}
 use Rattle.loglet_api.specs.declared.call.Kind.TheVariants.{File}
 use Rattle.loglet_api.specs.declared.call.Task.TheVariants.{Placing, Sealing}
-use Rattle.loglet_api.specs.View.{LogletView}
+use Rattle.loglet_api.specs.View.{LogletView, Operation, operation_at}
 use Rattle.file_loglet.specs.declared.pending.Pending.{Pending}
 use Rattle.file_loglet.specs.Pending.{shown, Fits}
 use Rattle.file_loglet.specs.declared.file.FileLoglet.TheInside.{Inside}
@@ -33,6 +33,14 @@ file_view a =
       seals = a.seals;
       lacks = 0;
     }
+
+-- nothing failed: no server is down, no operation was left without its answer, and one carry
+-- decides an operation
+pub record NeverFailed (v : LogletView) : Type 0 where
+  pub servers : v.servers ≡ 1
+  pub down : v.down ≡ 0
+  pub lacks : v.lacks ≡ 0
+  pub steps : (t : ℕ) (o : Operation) → operation_at v.operations t ≡ Some o → (o.left ≡ (1, 0)) ⊎ (o.left ≡ (0, 0))
 
 -- what holds of an open operation
 pub record IsPending (a : Inside) (t : ℕ) (p : Pending) : Type 0 where

@@ -2,6 +2,7 @@
 ghost use Rattle.std.specs.Prelude.{◌≡◌, ℕ, ◌≤◌, ◌^◌, ◌⊎◌, ◌↔◌, IsTrue, IfOk};
 ghost use Rattle.loglet_api.specs.Step.{IsAppend};
 ghost use Rattle.loglet_api.specs.View.{IsFresh};
+ghost use Rattle.file_loglet.specs.File.{NeverFailed};
 
 use crate::decide::{Outcome, decide, told};
 use crate::pending::{Decided, Pending, add, set_answer, take_decided};
@@ -82,6 +83,13 @@ impl FileLoglet {
             seals: 0,
             pending,
         })
+    }
+
+    /// What holds of every loglet of this type: its server never fails. It does nothing.
+    pub fn never_failed(&self)
+        ensures { NeverFailed self.now }
+    {
+        let _open = &self.room;
     }
 }
 

@@ -4,3 +4,5 @@
 pub mod decide;
 pub mod file;
 pub mod pending;
+#[cfg(test)]
+mod tests;

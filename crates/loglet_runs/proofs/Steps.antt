@@ -1,0 +1,23 @@
+-- Calls go on by one, and those that were made are a run.
+use Rattle.std.proofs.Common.{List, [], ◌∷◌, ◌++◌, refl}
+use Rattle.loglet_api.specs.declared.call.LogletCall.{LogletCall}
+use Rattle.loglet_api.specs.declared.call.LogletAnswer.{LogletAnswer}
+use Rattle.loglet_api.specs.declared.call.LogletAnswer.TheVariants.{Skipped}
+use Rattle.loglet_api.specs.View.{LogletView}
+use Rattle.loglet_api.specs.Run.{LogletRun}
+use Rattle.loglet_runs.specs.Runs.{OpsRun, OpsStep, made}
+
+-- calls go on by one
+pub ops_run-append : (old mid new : LogletView) (calls : List LogletCall) (answers : List LogletAnswer) (call : LogletCall) (answer : LogletAnswer) → OpsRun old calls answers mid → OpsStep mid call answer new → OpsRun old (calls ++ call ∷ []) (answers ++ answer ∷ []) new
+ops_run-append old mid new [] [] call answer r s = (new, rw (← r) s, refl)
+ops_run-append old mid new (c ∷ calls) (a ∷ answers) call answer r s = (r.0, r.1, ops_run-append r.0 mid new calls answers call answer r.2 s)
+ops_run-append old mid new [] (a ∷ answers) call answer r s = absurd r
+ops_run-append old mid new (c ∷ calls) [] call answer r s = absurd r
+
+-- the calls that were made are a run
+pub made_run : (old new : LogletView) (calls : List LogletCall) (answers : List LogletAnswer) → OpsRun old calls answers new → LogletRun old (made calls answers) new
+made_run old new [] [] r = r
+made_run old new (call ∷ calls) (Skipped ∷ answers) r = rw (← r.1.1) (made_run r.0 new calls answers r.2)
+made_run old new (call ∷ calls) (answer ∷ answers) r = (r.0, r.1, made_run r.0 new calls answers r.2)
+made_run old new [] (answer ∷ answers) r = absurd r
+made_run old new (call ∷ calls) [] r = absurd r

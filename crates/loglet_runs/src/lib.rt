@@ -1,0 +1,6 @@
+//! Makes any list of calls of any loglet.
+#![tactic(auto)]
+
+pub mod runs;
+#[cfg(test)]
+mod tests;
