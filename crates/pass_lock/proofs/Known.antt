@@ -1,12 +1,12 @@
 -- What is known of a journal, as it grows and as parts are brought up to date.
-use Rattle.std.proofs.Common.{◌≡◌, ◌≢◌, ℕ, zero, suc, ◌+◌, ◌<◌, ◌≤◌, List, [], ◌∷◌, ◌++◌, map, length, sym, refl, ap, ◌∙◌, subst, arith, append_assoc, eqb, eq-eqb, ne_eqb, get_or, cond}
+use Rattle.std.proofs.Common.{◌≡◌, ◌≢◌, ℕ, zero, suc, ◌+◌, ◌<◌, ◌≤◌, List, [], ◌∷◌, ◌++◌, length, sym, refl, ap, ◌∙◌, subst, arith, append_assoc, eq-eqb, ne_eqb, get_or, cond}
 use mathlib.Core.Logic.{dite}
 use native.Mathlib.Decide.{ℕ_discrete}
 use Rattle.std.proofs.lemmas.List.{append-nil}
 use Rattle.std.proofs.Math.Seq.{drop-append_seam}
-use Rattle.std.proofs.lemmas.List.Elements.{All-nil, All-cons, All-head, All-tail, All-append, All-map, All-weaker}
+use Rattle.std.proofs.lemmas.List.Elements.{All-nil, All-cons, All-head, All-tail, All-append}
 use Rattle.std.specs.List.{All, Contains}
-use Rattle.pass_lock.specs.Journal.{total, times, is_number, numbers, Follows, IsKnown, Signed}
+use Rattle.pass_lock.specs.Journal.{total, is_number, numbers, Follows, IsKnown, Signed}
 use Rattle.pass_lock.specs.Pass.{brought, first_seen, added}
 
 at_number : {E : Type 0} (k : ℕ) (p : ℕ × List E) (ps : List (ℕ × List E)) (i : ℕ) → (0 < i → Contains (numbers ps) k → 0 < total (is_number k) ps) → i < length (numbers (p ∷ ps)) → get_or (numbers (p ∷ ps)) i k ≡ k

@@ -1,23 +1,15 @@
 -- A split and a join keep the rule of the lock's table.
-use Rattle.std.proofs.Common.{◌≡◌, ◌≢◌, ◌⊎◌, ℕ, zero, suc, ◌+◌, ◌-◌, ◌%◌, ◌^◌, ◌<◌, ◌≤◌, eqb, eq-eqb, ne_eqb, length-append, List, [], ◌∷◌, ◌++◌, map, length, get_or, set, take, drop, append_assoc, sym, refl, ap, ◌∙◌, subst, ⊎_elim, inl, inr, arith, cond, Option, Some, None}
-use mathlib.Core.Logic.{dite}
-use mathlib.Core.Option.{none, some, some-injective, some-ne-none}
-use mathlib.Core.Option as maybe
-use native.Mathlib.Decide.{ℕ_discrete}
+use Rattle.std.proofs.Common.{◌≡◌, ◌≢◌, ℕ, zero, suc, ◌+◌, ◌<◌, ◌≤◌, eqb, length-append, List, [], ◌∷◌, ◌++◌, length, set, take, drop, sym, refl, ap, ◌∙◌, subst, ⊎_elim, arith, cond, Option}
+use mathlib.Core.Option.{some}
 use lib.ListN.{get_elem?}
-use lib.Seq.{set-get_or}
-use Rattle.std.specs.List.{All, Contains}
-use Rattle.std.proofs.lemmas.List.{append-nil, append_cancel_left}
-use Rattle.std.proofs.lemmas.List.Elements.{All-push, All-head, All-tail, All-weaker, All-nil, All-cons, All-append, All-take, All-drop}
-use Rattle.atomic_table.specs.Table.{State, Me, step, Act, keeps, takes, gives, stepped, carried_after, put_back, rest, Valid, Allows, Splits, Joins, opening, Final, Seen}
-use Rattle.atomic_table.proofs.Lists.{at_set, set_here, set_else, set_again, at_snoc, at_longer, at_last, one_turn}
+use Rattle.std.proofs.lemmas.List.Elements.{All-weaker, All-nil, All-append, All-take, All-drop}
+use Rattle.atomic_table.specs.Table.{State, Splits, Joins}
+use Rattle.atomic_table.proofs.Lists.{at_set, set_else, at_snoc}
 use Rattle.pass_lock.specs.declared.view.View.{View}
-use Rattle.pass_lock.specs.Journal.{total, times, is_number, concat, InTurns, numbers, Follows, IsKnown, Signed}
-use Rattle.pass_lock.specs.Pass.{numbered, brought}
-use Rattle.pass_lock.specs.Rule.{parts_with, made_count, turns_with, Turned, part_count, in_turn, seeing, opened, Fits, Placed, Kept}
-use Rattle.pass_lock.specs.Steps.{Held, remaining, moving, joined, spent, drew, looked, raised, advanced}
-use Rattle.pass_lock.proofs.Sums.{at_inside, total-append, total-set, term_le, terms_le, total_le, total_alone, total_only, total_zero, total-take_drop}
-use Rattle.pass_lock.proofs.Known.{brought-length, brought-times, brought-again, brought-same, has_number, number_there, times_le, known_brought, known_more}
+use Rattle.pass_lock.specs.Journal.{total, is_number, Follows}
+use Rattle.pass_lock.specs.Rule.{parts_with, part_count, in_turn, Fits, Kept}
+use Rattle.pass_lock.specs.Steps.{remaining, moving, joined, spent}
+use Rattle.pass_lock.proofs.Sums.{total-append, total-set, total-take_drop}
 use Rattle.pass_lock.proofs.Kept.{still, fits_outside, placed_more}
 use Rattle.pass_lock.proofs.Turned.{turned_still, turned_snoc, turned_both}
 

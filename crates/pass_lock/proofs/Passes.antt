@@ -1,14 +1,14 @@
 -- What a pass says in a turn, and what its seat then knows.
-use Rattle.std.proofs.Common.{◌≡◌, ℕ, ◌<◌, ◌%◌, ◌^◌, List, [], ◌∷◌, length, sym, refl, ap, ◌∙◌, subst, arith, eqb, eq-eqb, ne_eqb, cond, Option, Some, None, true, false}
+use Rattle.std.proofs.Common.{◌≡◌, ℕ, ◌<◌, ◌%◌, ◌^◌, List, [], ◌∷◌, length, sym, ap, ◌∙◌, subst, arith, eq-eqb, ne_eqb, cond, Option, Some, None}
 use mathlib.Core.Logic.{dite}
 use mathlib.Core.Bool.{true≢false}
 use native.Mathlib.Decide.{ℕ_discrete}
 use Rattle.std.specs.Option.{IsSome, is_some}
 use Rattle.atomic_table.specs.declared.shared.Seat.{Seat}
 use Rattle.pass_lock.specs.declared.view.View.{View}
-use Rattle.pass_lock.specs.Pass.{Known, given, turn_number, first_seen, brought}
+use Rattle.pass_lock.specs.Pass.{Known, given, first_seen, brought}
 use Rattle.pass_lock.specs.Rule.{seeing, inside}
-use Rattle.pass_lock.specs.Steps.{Held, IsInside, Rests, pass_of}
+use Rattle.pass_lock.specs.Steps.{Held, Rests, pass_of}
 use Rattle.pass_lock.proofs.Known.{brought-length, brought-again, first_seen-brought}
 
 module _ {S E : Type 0} (s : Seat (Option S) (View E)) (p : Known E) (is : pass_of s ≡ p) where

@@ -1,4 +1,4 @@
-use Rattle.std.proofs.Common.{◌≡◌, refl, sym, ◌∙◌, subst, List, ℕ, length, Option, Some}
+use Rattle.std.proofs.Common.{◌≡◌, refl, sym, ◌∙◌, subst, length, Some}
 use mathlib.Core.Option.{some-injective}
 use Rattle.std.specs.Option.{IsSome}
 use Rattle.pass_lock.specs.Journal.{IsKnown, Signed, InTurns}

@@ -1,4 +1,4 @@
-use Rattle.std.proofs.Common.{rules, arith, ◌≡◌, ◌+◌, ◌%◌, ◌^◌, ◌<◌, [], ◌∷◌, ◌++◌, refl, sym, ap, ◌∙◌, subst, length, Some, None, Option, List, ℕ, get_or}
+use Rattle.std.proofs.Common.{rules, arith, ◌≡◌, [], ◌∷◌, ◌++◌, sym, ap, ◌∙◌, subst, Some, List}
 use Rattle.atomic_table.specs.Table.{rest}
 use Rattle.pass_lock.specs.declared.view.View.{View}
 use Rattle.pass_lock.specs.Journal.{Signed}

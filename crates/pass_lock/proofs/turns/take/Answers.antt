@@ -1,10 +1,6 @@
-use Rattle.std.proofs.Common.{rules, arith, ◌≡◌, ◌+◌, ◌%◌, ◌^◌, ◌<◌, [], ◌∷◌, refl, sym, ap, ◌∙◌, subst, length, Some, None, Option, List, ℕ, get_or}
+use Rattle.std.proofs.Common.{rules, arith, ◌≡◌, ◌%◌, ◌^◌, ◌∷◌, sym, ap, ◌∙◌, subst, Some, None, Option, List, ℕ, get_or}
 use Rattle.atomic_table.specs.Table.{rest}
-use Rattle.pass_lock.specs.declared.view.View.{View}
-use Rattle.pass_lock.specs.Journal.{IsKnown, InTurns}
-use Rattle.pass_lock.specs.Pass.{brought}
-use Rattle.pass_lock.specs.Rule.{seeing}
-use Rattle.pass_lock.specs.Steps.{Held}
+use Rattle.pass_lock.specs.Journal.{IsKnown}
 use Rattle.pass_lock.proofs.Kept.{some_is}
 use Rattle.pass_lock.proofs.Steps.{draws, looks}
 use Rattle.pass_lock.proofs.turns.take.Goals as goal

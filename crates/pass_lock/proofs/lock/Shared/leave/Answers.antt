@@ -1,6 +1,5 @@
-use Rattle.std.proofs.Common.{◌≡◌, ◌++◌, ap, sym, ◌∙◌, subst, List, ℕ}
+use Rattle.std.proofs.Common.{◌++◌, ap, sym, ◌∙◌, subst, List, ℕ}
 use Rattle.pass_lock.specs.Journal.{Signed}
-use Rattle.pass_lock.specs.Pass.{given, first_seen}
 use Rattle.pass_lock.proofs.Passes.{busy_is, given-is}
 use Rattle.pass_lock.proofs.lock.Shared.leave.Goals as goal
 
