@@ -1,5 +1,5 @@
 -- Clerks get their parts, work, and give their passes back.
-use Rattle.std.proofs.Common.{◌≡◌, ◌≢◌, ℕ, zero, suc, ◌+◌, ◌-◌, ◌<◌, ◌≤◌, List, [], ◌∷◌, ◌++◌, length, length-append, get_or, slice_index_or, take, drop, None, sym, refl, ap, ◌∙◌, subst, arith, append_assoc}
+use Rattle.std.proofs.Common.{◌≡◌, ℕ, suc, ◌-◌, ◌<◌, List, [], ◌∷◌, ◌++◌, length, length-append, slice_index_or, take, drop, None, sym, refl, ap, ◌∙◌, subst, arith}
 use mathlib.Core.Logic.{dite}
 use native.Mathlib.Decide.{dec_lt}
 use Rattle.std.proofs.lemmas.List.{get_or_push}
@@ -8,7 +8,7 @@ use Rattle.pass_lock.specs.Journal.{Part}
 use Rattle.pass_lock.specs.Pass.{LockId, Known, numbered, all_parts, whole, one_part}
 use Rattle.pass_lock.proofs.Numbered.{numbered-first, numbered-others, numbered-length}
 use Rattle.pass_lock_rows.specs.declared.desk.Event.{Event}
-use Rattle.pass_lock_rows.specs.Turns.{Maker, seen_by, own, counted, Made, Worked, IsDone}
+use Rattle.pass_lock_rows.specs.Turns.{Maker, seen_by, Made}
 use Rattle.pass_lock_rows.specs.Office.{AllFresh, AllWorked, IsBack, AllBack, EndedFrom, Collected}
 
 abbrev fresh : LockId → ℕ → Maker

@@ -1,5 +1,5 @@
 -- What the journal of all turns says of each clerk.
-use Rattle.std.proofs.Common.{◌≡◌, ◌≢◌, ℕ, zero, suc, ◌+◌, ◌-◌, ◌<◌, ◌≤◌, List, [], ◌∷◌, ◌++◌, length, length-append, get_or, sym, refl, ap, ◌∙◌, subst, arith}
+use Rattle.std.proofs.Common.{◌≡◌, ℕ, zero, suc, ◌+◌, ◌-◌, ◌<◌, ◌≤◌, List, [], ◌∷◌, ◌++◌, length, length-append, ap, ◌∙◌, subst, arith}
 use mathlib.Core.Logic.{dite}
 use native.Mathlib.Decide.{ℕ_discrete}
 use Rattle.std.specs.List.{All, Contains}
@@ -9,7 +9,7 @@ use Rattle.pass_lock.specs.Pass.{LockId, Known, numbered, all_parts}
 use Rattle.pass_lock.proofs.Numbered.{numbered-length, numbered-unseen}
 use Rattle.pass_lock.proofs.Known.{signed_by_first}
 use Rattle.pass_lock_rows.specs.declared.desk.Event.{Event}
-use Rattle.pass_lock_rows.specs.Turns.{own, counted, IsDone}
+use Rattle.pass_lock_rows.specs.Turns.{own, IsDone}
 use Rattle.pass_lock_rows.specs.Office.{EndedFrom, Collected}
 use Rattle.pass_lock_rows.proofs.Own.{own-others}
 

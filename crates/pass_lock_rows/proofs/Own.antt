@@ -1,10 +1,10 @@
 -- What a maker's turns add to its own events.
-use Rattle.std.proofs.Common.{◌≡◌, ◌≢◌, ℕ, zero, suc, ◌+◌, ◌<◌, List, [], ◌∷◌, ◌++◌, sym, refl, ap, ◌∙◌, subst, arith, append_assoc, eqb, eq-eqb, ne_eqb, cond, get_or, length, Result, Ok, Err, MatchResult, true, false}
+use Rattle.std.proofs.Common.{◌≡◌, ◌≢◌, ℕ, suc, ◌+◌, List, [], ◌∷◌, ◌++◌, sym, refl, ap, ◌∙◌, subst, arith, append_assoc, eqb, eq-eqb, ne_eqb, cond, Result, Ok, Err, MatchResult, true, false}
 use Rattle.std.proofs.lemmas.List.{append-nil}
 use Rattle.std.proofs.lemmas.List.Elements.{filter-append, All-head, All-tail, All-cons, All-nil}
 use mathlib.Core.Bool.{true≢false}
 use Rattle.std.specs.Result.{is_err}
-use Rattle.std.specs.List.{All, Contains, filter}
+use Rattle.std.specs.List.{All, Contains}
 use Rattle.pass_lock.specs.Journal.{Follows, numbers, Signed}
 use Rattle.pass_lock_rows.specs.declared.desk.Event.{Event}
 use Rattle.pass_lock_rows.specs.Turns.{Maker, event, Waits, Makes, own, counted, Made}

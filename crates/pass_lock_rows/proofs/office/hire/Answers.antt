@@ -1,4 +1,4 @@
-use Rattle.std.proofs.Common.{◌≡◌, ◌-◌, ◌+◌, ◌≤◌, ℕ, suc, List, [], ◌∷◌, ◌++◌, length, length-append, sym, refl, ap, ◌∙◌, subst, arith}
+use Rattle.std.proofs.Common.{◌≡◌, ◌-◌, ◌+◌, ◌≤◌, ℕ, suc, List, [], ◌∷◌, length, length-append, sym, ap, ◌∙◌, subst, arith}
 use Rattle.pass_lock.specs.Pass.{Known, all_parts, one_part, numbered}
 use Rattle.pass_lock_rows.specs.Turns.{Maker, seen_by}
 use Rattle.pass_lock_rows.specs.Office.{AllFresh}

@@ -1,7 +1,6 @@
 use Rattle.std.proofs.Common.{◌≡◌, ◌-◌, ◌≤◌, length, vec_capacity}
 use Rattle.pass_lock.specs.Pass.{numbered, all_parts}
 use Rattle.pass_lock_rows.specs.Office.{AllFresh}
-use Rattle.pass_lock_rows.specs.Turns.{Maker}
 use Rattle.pass_lock_rows.proofs.office.hire.Given as goal
 
 abbrev pub invariant-loop-k : goal.invariant-loop-k

@@ -1,8 +1,8 @@
-use Rattle.std.proofs.Common.{rules, arith, ◌≡◌, ℕ, List, [], ◌∷◌, ◌++◌, refl, sym, ap, ◌∙◌, subst, MatchResult, None}
+use Rattle.std.proofs.Common.{arith, ◌≡◌, ℕ, List, [], ◌∷◌, ◌++◌, refl, sym, ap, ◌∙◌, subst, MatchResult}
 use Rattle.std.specs.List.{Contains}
 use Rattle.std.proofs.lemmas.List.Elements.{All-head}
-use Rattle.pass_lock.specs.Journal.{Follows, IsKnown, numbers, Signed}
-use Rattle.pass_lock.specs.Pass.{Known, brought, given}
+use Rattle.pass_lock.specs.Journal.{Follows, IsKnown, numbers}
+use Rattle.pass_lock.specs.Pass.{brought, given}
 use Rattle.pass_lock_rows.specs.declared.desk.Event.{Event}
 use Rattle.pass_lock_rows.specs.Turns.{Maker, seen_by, Makes, Waits}
 use Rattle.pass_lock_rows.proofs.Own.{turned, grew}

@@ -1,4 +1,4 @@
-use Rattle.std.proofs.Common.{refl, sym, ◌∙◌, arith}
+use Rattle.std.proofs.Common.{refl, sym, ◌∙◌}
 use Rattle.pass_lock_rows.proofs.Own.{made-waits, made-makes, kept_of, lost_of}
 use Rattle.pass_lock_rows.proofs.clerk.Clerk.work.Goals as goal
 
