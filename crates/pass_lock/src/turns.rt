@@ -54,6 +54,15 @@ pub(crate) fn give<S: Chronicled + Drop>(top: &Top<S>, place: &mut Place<S>, tic
     drop(top.exchange(place, 0, Some(value)));
     top.store::<Raise>(place, 2, ticket.wrapping_add(1));
     top.fetch_add::<Advance>(place, 1, 1);
-    // The word has changed before the others wake: each finds its turn or sleeps again.
-    top.wake_all(1);
+    wake_others(top, ticket.wrapping_add(1));
+}
+
+// Wakes those that drew a ticket from `next` on: each finds its turn or sleeps again.
+// Where none did, nobody sleeps: who draws later looks at a word that has advanced.
+fn wake_others<S: Chronicled>(top: &Top<S>, next: u64)
+    requires { IsLock top.now.table_id top.now.key }
+{
+    if top.peek(0) != next {
+        top.wake_all(1);
+    }
 }
