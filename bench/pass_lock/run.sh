@@ -3,13 +3,13 @@
 #
 # usage: bench/pass_lock/run.sh PROGRAM [TURNS [RUNS]]
 #
-# PROGRAM is the built `pass_lock_bench`. TURNS is the number of turns of all threads together (400,000), RUNS how often each is measured (5).
-# The time of a run is that of the whole process, less that of a run with no turns. The table has the best run and the median.
+# PROGRAM is the built `pass_lock_bench`. TURNS is the number of turns of all threads together (2,000,000), RUNS how often each is measured (7).
+# A time is that of a whole process: the best of the runs less the best of as many runs with no turns, and the median less the median.
 set -eu
 
 program=$1
-turns=${2:-400000}
-runs=${3:-5}
+turns=${2:-2000000}
+runs=${3:-7}
 here=$(dirname "$0")
 work=$(mktemp -d)
 trap 'rm -rf "$work"' EXIT
@@ -24,20 +24,26 @@ nanoseconds() {
     echo $((end - begin))
 }
 
+# at PLACE FILE: the number at that place of the sorted file
+at() {
+    sort -n "$2" | sed -n "$1p"
+}
+
 # measure NAME COMMAND THREADS: one row
 measure() {
     each=$((turns / $3))
-    : >"$work/times"
+    : >"$work/none"
+    : >"$work/all"
     i=0
     while [ $i -lt "$runs" ]; do
-        none=$(nanoseconds "$2" "$3" 0)
-        all=$(nanoseconds "$2" "$3" "$each")
-        echo $((all - none)) >>"$work/times"
+        nanoseconds "$2" "$3" 0 >>"$work/none"
+        nanoseconds "$2" "$3" "$each" >>"$work/all"
         i=$((i + 1))
     done
-    sort -n "$work/times" | awk -v name="$1" -v threads="$3" -v turns=$((each * $3)) '
-        { t[NR] = $1 }
-        END { printf "| %s | %d | %.0f | %.0f |\n", name, threads, turns * 1e9 / t[1], turns * 1e9 / t[int((NR + 1) / 2)] }'
+    middle=$(((runs + 1) / 2))
+    best=$(($(at 1 "$work/all") - $(at 1 "$work/none")))
+    median=$(($(at $middle "$work/all") - $(at $middle "$work/none")))
+    echo "| $1 | $3 | $((each * $3 * 1000000 / (best / 1000))) | $((each * $3 * 1000000 / (median / 1000))) |"
 }
 
 echo "| lock | threads | turns a second, best | median |"
