@@ -1,0 +1,9 @@
+pub mod Sums
+pub mod Known
+pub mod Passes
+pub mod Numbered
+pub mod Turned
+pub mod Kept
+pub mod Steps
+pub mod Moves
+pub mod Ends

@@ -1,0 +1,4 @@
+pub mod Journal
+pub mod Pass
+pub mod Rule
+pub mod Steps

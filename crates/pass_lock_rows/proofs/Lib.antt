@@ -1,0 +1,3 @@
+mod Own
+mod Clerks
+mod Closing
