@@ -1,5 +1,5 @@
--- Numbers in bytes: two, four or eight of them, the highest first.
-use Rattle.std.specs.Prelude.{◌≡◌, ◌≤◌, ◌<◌, ℕ, List, length, take, drop, slice_index}
+-- Numbers in bytes: two, four or eight of them, the highest first. Texts behind their length.
+use Rattle.std.specs.Prelude.{◌≡◌, ◌≤◌, ◌<◌, ℕ, List, ◌++◌, length, take, drop, slice_index}
 use Rattle.std.specs.Int.{w16, w32, w64, to_be_bytes, from_be_bytes}
 
 -- the bytes of a number below 2^16
@@ -25,6 +25,14 @@ u32_of bytes = from_be_bytes w32 bytes
 -- the number that eight bytes spell
 unfoldable pub u64_of : List ℕ → ℕ
 u64_of bytes = from_be_bytes w64 bytes
+
+-- two bytes of length, and so many bytes
+abbrev pub short_text : List ℕ → List ℕ
+short_text text = u16_bytes (length text) ++ text
+
+-- four bytes of length, and so many bytes
+abbrev pub long_text : List ℕ → List ℕ
+long_text text = u32_bytes (length text) ++ text
 
 -- each number of the list is a byte
 abbrev pub IsBytes : List ℕ → Type 0

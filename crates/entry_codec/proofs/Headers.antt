@@ -10,7 +10,8 @@ use Rattle.delos_types.specs.declared.entry.Entry.{Entry}
 use Rattle.entry_codec.specs.declared.fault.BadEntry.{BadEntry}
 use Rattle.entry_codec.specs.declared.fault.DecodeError.{DecodeError}
 use Rattle.entry_codec.specs.declared.fault.DecodeError.TheVariants as decode
-use Rattle.entry_codec.specs.Reading.{◌>>=◌, Fails, header_field, headers_from}
+use Rattle.delos_types.specs.Fields.{◌>>=◌}
+use Rattle.entry_codec.specs.Reading.{Fails, header_field, headers_from}
 
 -- kinds are bytes, so there are fewer than 256 of them
 pub length-rising : (least : ℕ) (hs : List Header) → least ≤ 256 → IsRisingFrom least hs → length hs + least ≤ 256

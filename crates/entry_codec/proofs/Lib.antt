@@ -1,4 +1,4 @@
 pub mod FieldLaws
 pub mod HeaderLaws
 pub mod Headers
-pub mod Laws
+pub mod Spellings

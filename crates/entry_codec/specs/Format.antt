@@ -3,19 +3,11 @@
 -- An item: number of headers (1), the headers, length of the payload (2), payload.
 -- An entry: version 1 (1), origin (1), number of headers (1), the headers, length of the payload (4), payload.
 use Rattle.std.specs.Prelude.{◌≡◌, ℕ, List, ◌∷◌, ◌++◌, length, flat_map}
-use Rattle.delos_types.specs.Numbers.{u16_bytes, u32_bytes}
+use Rattle.delos_types.specs.Numbers.{short_text, long_text}
 use Rattle.delos_types.specs.Spelling.{IsSpellable, IsSpellableItem}
 use Rattle.delos_types.specs.declared.item.Header.{Header}
 use Rattle.delos_types.specs.declared.item.Item.{Item}
 use Rattle.delos_types.specs.declared.entry.Entry.{Entry}
-
--- two bytes of length, and so many bytes
-abbrev pub short_text : List ℕ → List ℕ
-short_text text = u16_bytes (length text) ++ text
-
--- four bytes of length, and so many bytes
-abbrev pub long_text : List ℕ → List ℕ
-long_text text = u32_bytes (length text) ++ text
 
 abbrev pub header_bytes : Header → List ℕ
 header_bytes h = h.kind ∷ short_text h.body

@@ -1,8 +1,8 @@
 -- Reading an item or an entry from left to right. Each field is tested as soon as it is read, so a fault is the
 -- first rule that the bytes break, with the place at which they do.
-use Rattle.std.specs.Prelude.{◌≡◌, ◌==◌, ◌+◌, ◌-◌, ℕ, zero, suc, List, [], ◌∷◌, length, take, drop, Option, Result, Ok, Err, nat_lt, if◌then◌else◌}
+use Rattle.std.specs.Prelude.{◌≡◌, ◌==◌, ◌+◌, ◌-◌, ℕ, zero, suc, List, [], ◌∷◌, length, Option, Result, Ok, Err, nat_lt, if◌then◌else◌}
 use Rattle.std.specs.Result.{result_ok}
-use Rattle.delos_types.specs.Numbers.{u16_of, u32_of}
+use Rattle.delos_types.specs.Fields.{◌>>=◌, u8_field, short_text_field, long_text_field, ended}
 use Rattle.delos_types.specs.declared.item.Header.{Header}
 use Rattle.delos_types.specs.declared.item.Item.{Item}
 use Rattle.delos_types.specs.declared.entry.Entry.{Entry}
@@ -12,62 +12,33 @@ use Rattle.entry_codec.specs.declared.fault.DecodeError.TheVariants as decode
 use Rattle.entry_codec.specs.declared.fault.Rule.{Rule}
 use Rattle.entry_codec.specs.declared.fault.Rule.TheVariants.{Size, Short, Version, Origin, Kind, Long}
 
-infixl 10 ◌>>=◌
-abbrev pub ◌>>=◌ : {A B : Type 0} → Result A BadEntry → (A → Result B BadEntry) → Result B BadEntry
-(Ok x) >>= f = f x
-(Err e) >>= f = Err e
+abbrev pub fault : ℕ → Rule → BadEntry
+fault at rule = record { at = at; rule = rule }
 
-abbrev pub bad : {A : Type 0} → ℕ → Rule → Result A BadEntry
-bad at rule = Err (record { at = at; rule = rule })
-
--- A field is its value, and the bytes after it. `size` is how many bytes there are in all: where they end inside
--- a field they break the rule `short` there, and the next byte of `bytes` stands at the place `size - length bytes`.
-
-unfoldable pub u8_field : ℕ → List ℕ → Result (ℕ × List ℕ) BadEntry
-u8_field size [] = bad size Short
-u8_field size (byte ∷ rest) = Ok (byte, rest)
-
-unfoldable pub u16_field : ℕ → List ℕ → Result (ℕ × List ℕ) BadEntry
-u16_field size bytes = if nat_lt (length bytes) 2 then bad size Short else Ok (u16_of (take 2 bytes), drop 2 bytes)
-
-unfoldable pub u32_field : ℕ → List ℕ → Result (ℕ × List ℕ) BadEntry
-u32_field size bytes = if nat_lt (length bytes) 4 then bad size Short else Ok (u32_of (take 4 bytes), drop 4 bytes)
-
--- so many bytes
-unfoldable pub text_field : ℕ → ℕ → List ℕ → Result (List ℕ × List ℕ) BadEntry
-text_field size len bytes = if nat_lt (length bytes) len then bad size Short else Ok (take len bytes, drop len bytes)
-
--- a text behind two bytes of length
-unfoldable pub short_text_field : ℕ → List ℕ → Result (List ℕ × List ℕ) BadEntry
-short_text_field size bytes = do
-  len ← u16_field size bytes
-  text_field size len.0 len.1
-
--- a text behind four bytes of length
-unfoldable pub long_text_field : ℕ → List ℕ → Result (List ℕ × List ℕ) BadEntry
-long_text_field size bytes = do
-  len ← u32_field size bytes
-  text_field size len.0 len.1
+-- `size` is how many bytes there are in all. Where they end inside a field, they break the rule `short` there, and
+-- the next byte of `bytes` stands at the place `size - length bytes`.
+abbrev pub short : ℕ → BadEntry
+short size = fault size Short
 
 unfoldable pub version_field : ℕ → List ℕ → Result (ℕ × List ℕ) BadEntry
 version_field size bytes = do
-  version ← u8_field size bytes
-  if version.0 == 1 then Ok version else bad 0 Version
+  version ← u8_field (short size) bytes
+  if version.0 == 1 then Ok version else Err (fault 0 Version)
 
 -- the number of a node, which stands at the place 1
 unfoldable pub origin_in : ℕ → Result ℕ BadEntry
-origin_in n = if nat_lt n 1 then bad 1 Origin else (if nat_lt 8 n then bad 1 Origin else Ok n)
+origin_in n = if nat_lt n 1 then Err (fault 1 Origin) else (if nat_lt 8 n then Err (fault 1 Origin) else Ok n)
 
 -- a kind, which is at least this
 unfoldable pub kind_field : ℕ → ℕ → List ℕ → Result (ℕ × List ℕ) BadEntry
 kind_field size least bytes = do
-  kind ← u8_field size bytes
-  if nat_lt kind.0 least then bad (size - length bytes) Kind else Ok kind
+  kind ← u8_field (short size) bytes
+  if nat_lt kind.0 least then Err (fault (size - length bytes) Kind) else Ok kind
 
 unfoldable pub header_field : ℕ → ℕ → List ℕ → Result (Header × List ℕ) BadEntry
 header_field size least bytes = do
   kind ← kind_field size least bytes
-  body ← short_text_field size kind.1
+  body ← short_text_field (short size) kind.1
   Ok (record { kind = kind.0; body = body.0 }, body.1)
 
 -- so many headers, whose kinds rise from `least` on
@@ -81,19 +52,15 @@ headers_from size least (suc count) bytes = do
 -- the number of the headers, and the headers
 unfoldable pub headers_field : ℕ → List ℕ → Result (List Header × List ℕ) BadEntry
 headers_field size bytes = do
-  count ← u8_field size bytes
+  count ← u8_field (short size) bytes
   headers_from size 1 count.0 count.1
-
--- nothing is left over
-unfoldable pub ended : {A : Type 0} → ℕ → List ℕ → A → Result A BadEntry
-ended size rest value = if length rest == 0 then Ok value else bad (size - length rest) Long
 
 -- the fields of an item, in order
 unfoldable pub item_fields : ℕ → List ℕ → Result Item BadEntry
 item_fields size bytes = do
   headers ← headers_field size bytes
-  payload ← short_text_field size headers.1
-  ended size payload.1 (record { headers = headers.0; payload = payload.0 })
+  payload ← short_text_field (short size) headers.1
+  ended (fault (size - length payload.1) Long) payload.1 (record { headers = headers.0; payload = payload.0 })
 
 -- the item that all of the bytes spell
 unfoldable pub item_read : List ℕ → Result Item BadEntry
@@ -103,15 +70,15 @@ item_read bytes = item_fields (length bytes) bytes
 unfoldable pub entry_fields : ℕ → List ℕ → Result Entry BadEntry
 entry_fields size bytes = do
   version ← version_field size bytes
-  number ← u8_field size version.1
+  number ← u8_field (short size) version.1
   origin ← origin_in number.0
   headers ← headers_field size number.1
-  payload ← long_text_field size headers.1
-  ended size payload.1 (record { origin = origin; headers = headers.0; payload = payload.0 })
+  payload ← long_text_field (short size) headers.1
+  ended (fault (size - length payload.1) Long) payload.1 (record { origin = origin; headers = headers.0; payload = payload.0 })
 
 -- the entry that all of the bytes spell; more bytes than an entry may have are refused first
 unfoldable pub entry_read : List ℕ → Result Entry BadEntry
-entry_read bytes = if nat_lt 16384 (length bytes) then bad 16384 Size else entry_fields (length bytes) bytes
+entry_read bytes = if nat_lt 16384 (length bytes) then Err (fault 16384 Size) else entry_fields (length bytes) bytes
 
 -- the item that the bytes spell, if they spell one
 abbrev pub item_of : List ℕ → Option Item

@@ -6,7 +6,9 @@ ghost use Rattle.delos_types.specs.declared.item.Item as item_view;
 ghost use Rattle.delos_types.specs.declared.entry.Entry as entry_view;
 
 use crate::fault::{BadEntry, DecodeError, Rule};
-use crate::fields::{end_at, headers_at, long_text_at, origin_of, short_text_at, u8_at, version_at};
+use crate::fields::{
+    end_at, headers_at, long_text_at, origin_of, short_text_at, u8_at, version_at,
+};
 use delos_types::entry::Entry;
 use delos_types::item::Item;
 use std::alloc::Global;
@@ -38,7 +40,7 @@ pub fn decode_entry(alloc: Global, bytes: &[u8]) -> Result<Entry, DecodeError>
     read_entry(alloc, bytes)
 }
 
-#[tactic(auto, unfolding(crate::specs::Reading::item_read, crate::specs::Reading::item_fields, crate::specs::Reading::ended))]
+#[tactic(auto, unfolding(crate::specs::Reading::item_read, crate::specs::Reading::item_fields, delos_types::specs::Fields::ended))]
 fn read_item(alloc: Global, bytes: &[u8]) -> Result<Item, DecodeError>
     ensures { Gives result (item_read bytes.now) }
 {
@@ -62,7 +64,7 @@ fn read_entry(alloc: Global, bytes: &[u8]) -> Result<Entry, DecodeError>
     read_fields(alloc, bytes)
 }
 
-#[tactic(auto, unfolding(crate::specs::Reading::entry_fields, crate::specs::Reading::ended))]
+#[tactic(auto, unfolding(crate::specs::Reading::entry_fields, delos_types::specs::Fields::ended))]
 fn read_fields(alloc: Global, bytes: &[u8]) -> Result<Entry, DecodeError>
     ensures { Gives result (entry_fields (length bytes.now) bytes.now) }
 {

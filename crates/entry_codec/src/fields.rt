@@ -1,7 +1,9 @@
 // The fields of items and entries. Each reader takes how many bytes there are in all, and those that
 // are left to read; it gives a field's value, and what is left after it.
-ghost use Rattle.std.specs.Prelude.{◌≡◌, ◌≤◌, List, length, IfOk};
-ghost use Rattle.entry_codec.specs.Reading.{Gives, GivesBy, u8_field, u16_field, u32_field, text_field, short_text_field, long_text_field, version_field, origin_in, kind_field, header_field, headers_from, headers_field, ended};
+ghost use Rattle.std.specs.Prelude.{◌≡◌, ◌≤◌, ◌-◌, List, length, IfOk};
+ghost use Rattle.delos_types.specs.Fields.{u8_field, u16_field, u32_field, text_field, short_text_field, long_text_field, ended};
+ghost use Rattle.entry_codec.specs.declared.fault.Rule.TheVariants.{Long};
+ghost use Rattle.entry_codec.specs.Reading.{Gives, GivesBy, fault, short, version_field, origin_in, kind_field, header_field, headers_from, headers_field};
 
 use crate::fault::{BadEntry, DecodeError, Rule};
 use delos_types::big_endian::{split_u16, split_u32};
@@ -17,9 +19,9 @@ fn bad(at: usize, rule: Rule) -> DecodeError
     DecodeError::Bad(BadEntry { at, rule })
 }
 
-#[tactic(auto, unfolding(crate::specs::Reading::u8_field))]
+#[tactic(auto, unfolding(delos_types::specs::Fields::u8_field))]
 pub fn u8_at(size: usize, bytes: &[u8]) -> Result<(u8, &[u8]), DecodeError>
-    ensures gives { GivesBy (λ x. (x.0, x.1.now)) result (u8_field size bytes.now) }
+    ensures gives { GivesBy (λ x. (x.0, x.1.now)) result (u8_field (short size) bytes.now) }
     ensures rest { IfOk result (λ x. length x.1.now ≤ length bytes.now) }
 {
     match bytes {
@@ -28,9 +30,9 @@ pub fn u8_at(size: usize, bytes: &[u8]) -> Result<(u8, &[u8]), DecodeError>
     }
 }
 
-#[tactic(auto, unfolding(crate::specs::Reading::u16_field))]
+#[tactic(auto, unfolding(delos_types::specs::Fields::u16_field))]
 fn u16_at(size: usize, bytes: &[u8]) -> Result<(u16, &[u8]), DecodeError>
-    ensures gives { GivesBy (λ x. (x.0, x.1.now)) result (u16_field size bytes.now) }
+    ensures gives { GivesBy (λ x. (x.0, x.1.now)) result (u16_field (short size) bytes.now) }
     ensures rest { IfOk result (λ x. length x.1.now ≤ length bytes.now) }
 {
     let Some((number, rest)) = split_u16(bytes) else {
@@ -39,9 +41,9 @@ fn u16_at(size: usize, bytes: &[u8]) -> Result<(u16, &[u8]), DecodeError>
     Ok((number, rest))
 }
 
-#[tactic(auto, unfolding(crate::specs::Reading::u32_field))]
+#[tactic(auto, unfolding(delos_types::specs::Fields::u32_field))]
 fn u32_at(size: usize, bytes: &[u8]) -> Result<(u32, &[u8]), DecodeError>
-    ensures gives { GivesBy (λ x. (x.0, x.1.now)) result (u32_field size bytes.now) }
+    ensures gives { GivesBy (λ x. (x.0, x.1.now)) result (u32_field (short size) bytes.now) }
     ensures rest { IfOk result (λ x. length x.1.now ≤ length bytes.now) }
 {
     let Some((number, rest)) = split_u32(bytes) else {
@@ -51,9 +53,14 @@ fn u32_at(size: usize, bytes: &[u8]) -> Result<(u32, &[u8]), DecodeError>
 }
 
 // A copy of so many bytes.
-#[tactic(auto, unfolding(crate::specs::Reading::text_field))]
-fn text_at(alloc: Global, size: usize, len: usize, bytes: &[u8]) -> Result<(Bytes, &[u8]), DecodeError>
-    ensures gives { GivesBy (λ x. (x.0, x.1.now)) result (text_field size len bytes.now) }
+#[tactic(auto, unfolding(delos_types::specs::Fields::text_field))]
+fn text_at(
+    alloc: Global,
+    size: usize,
+    len: usize,
+    bytes: &[u8],
+) -> Result<(Bytes, &[u8]), DecodeError>
+    ensures gives { GivesBy (λ x. (x.0, x.1.now)) result (text_field (short size) len bytes.now) }
     ensures rest { IfOk result (λ x. length x.1.now ≤ length bytes.now) }
 {
     if bytes.len() < len {
@@ -65,9 +72,13 @@ fn text_at(alloc: Global, size: usize, len: usize, bytes: &[u8]) -> Result<(Byte
 }
 
 // A copy of the text behind two bytes of length.
-#[tactic(auto, unfolding(crate::specs::Reading::short_text_field))]
-pub fn short_text_at(alloc: Global, size: usize, bytes: &[u8]) -> Result<(Bytes, &[u8]), DecodeError>
-    ensures gives { GivesBy (λ x. (x.0, x.1.now)) result (short_text_field size bytes.now) }
+#[tactic(auto, unfolding(delos_types::specs::Fields::short_text_field))]
+pub fn short_text_at(
+    alloc: Global,
+    size: usize,
+    bytes: &[u8],
+) -> Result<(Bytes, &[u8]), DecodeError>
+    ensures gives { GivesBy (λ x. (x.0, x.1.now)) result (short_text_field (short size) bytes.now) }
     ensures rest { IfOk result (λ x. length x.1.now ≤ length bytes.now) }
 {
     let (len, rest) = u16_at(size, bytes)?;
@@ -76,9 +87,9 @@ pub fn short_text_at(alloc: Global, size: usize, bytes: &[u8]) -> Result<(Bytes,
 }
 
 // A copy of the text behind four bytes of length.
-#[tactic(auto, unfolding(crate::specs::Reading::long_text_field))]
+#[tactic(auto, unfolding(delos_types::specs::Fields::long_text_field))]
 pub fn long_text_at(alloc: Global, size: usize, bytes: &[u8]) -> Result<(Bytes, &[u8]), DecodeError>
-    ensures gives { GivesBy (λ x. (x.0, x.1.now)) result (long_text_field size bytes.now) }
+    ensures gives { GivesBy (λ x. (x.0, x.1.now)) result (long_text_field (short size) bytes.now) }
     ensures rest { IfOk result (λ x. length x.1.now ≤ length bytes.now) }
 {
     let (len, rest) = u32_at(size, bytes)?;
@@ -124,7 +135,12 @@ fn kind_at(size: usize, least: u16, bytes: &[u8]) -> Result<(u8, &[u8]), DecodeE
 }
 
 #[tactic(auto, unfolding(crate::specs::Reading::header_field))]
-fn header_at(alloc: Global, size: usize, least: u16, bytes: &[u8]) -> Result<(Header, &[u8]), DecodeError>
+fn header_at(
+    alloc: Global,
+    size: usize,
+    least: u16,
+    bytes: &[u8],
+) -> Result<(Header, &[u8]), DecodeError>
     requires { length bytes.now ≤ size }
     ensures gives { GivesBy (λ x. (x.0, x.1.now)) result (header_field size least bytes.now) }
     ensures rest { IfOk result (λ x. length x.1.now ≤ length bytes.now) }
@@ -147,7 +163,12 @@ pub fn headers_at(alloc: Global, size: usize, bytes: &[u8]) -> Result<(Headers, 
 }
 
 // So many headers, whose kinds rise from 1 on.
-fn headers_of(alloc: Global, size: usize, count: u8, bytes: &[u8]) -> Result<(Vec<Header>, &[u8]), DecodeError>
+fn headers_of(
+    alloc: Global,
+    size: usize,
+    count: u8,
+    bytes: &[u8],
+) -> Result<(Vec<Header>, &[u8]), DecodeError>
     requires { length bytes.now ≤ size }
     ensures gives { GivesBy (λ x. (x.0.items, x.1.now)) result (headers_from size 1 count bytes.now) }
     ensures rest { IfOk result (λ x. length x.1.now ≤ length bytes.now) }
@@ -165,10 +186,10 @@ fn headers_of(alloc: Global, size: usize, count: u8, bytes: &[u8]) -> Result<(Ve
 }
 
 // Nothing is left over.
-#[tactic(auto, unfolding(crate::specs::Reading::ended))]
+#[tactic(auto, unfolding(delos_types::specs::Fields::ended))]
 pub fn end_at(size: usize, rest: &[u8]) -> Result<(), DecodeError>
     requires { length rest.now ≤ size }
-    ensures { Gives result (ended size rest.now tt) }
+    ensures { Gives result (ended (fault (size - length rest.now) Long) rest.now tt) }
 {
     if !rest.is_empty() {
         return Err(bad(size - rest.len(), Rule::Long));

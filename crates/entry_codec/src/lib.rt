@@ -6,6 +6,7 @@ pub mod decode;
 pub mod encode;
 pub mod fault;
 mod fields;
+pub mod laws;
 
 pub use decode::{decode_entry, decode_item};
 pub use encode::{encode_entry, encode_item, encode_items, item_len};

@@ -1,6 +1,6 @@
 use Rattle.std.proofs.Common.{subst, arith}
 use Rattle.entry_codec.specs.Reading.{Gives}
-use Rattle.entry_codec.proofs.Laws.{entry_found, entry_again}
+use Rattle.entry_codec.proofs.Spellings.{entry_found, entry_again}
 use Rattle.entry_codec.proofs.decode.decode_entry.Goals as goal
 
 pub returns-clause-found : goal.returns-clause-found

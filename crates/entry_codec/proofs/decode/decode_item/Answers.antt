@@ -1,6 +1,6 @@
 use Rattle.std.proofs.Common.{subst, arith}
 use Rattle.entry_codec.specs.Reading.{Gives}
-use Rattle.entry_codec.proofs.Laws.{item_found, item_again}
+use Rattle.entry_codec.proofs.Spellings.{item_found, item_again}
 use Rattle.entry_codec.proofs.decode.decode_item.Goals as goal
 
 pub returns-clause-found : goal.returns-clause-found
