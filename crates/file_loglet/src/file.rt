@@ -67,6 +67,7 @@ impl FileLoglet {
         ensures fresh { IfOk result IsFresh }
         ensures room { IfOk result (λ loglet. loglet.room ≡ room) }
         ensures kind { IfOk result (λ loglet. loglet.kind ≡ File) }
+        ensures limit { IfOk result (λ loglet. loglet.limit ≡ 2 ^ 62) }
     {
         let pending = HashMap::with_capacity(alloc, FEW)?;
         Ok(FileLoglet {

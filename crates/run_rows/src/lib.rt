@@ -1,0 +1,5 @@
+//! Worked runs, from the script's bytes to the printed chain.
+#![tactic(auto)]
+
+#[cfg(test)]
+mod tests;
