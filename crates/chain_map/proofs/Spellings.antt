@@ -93,14 +93,14 @@ chain_takes bytes c fits e =
     let count = count_takes size t.0.1 n.0.0 n.0.1 trim.0.rest_fits n.1 in
     let segments = from_takes size t.0.0 None 0 (n.0.0 - 1) n.0.1 s.0 count.0.rest_fits s.1 in
     let counted : Takes t.0.1 (segments_bytes s.0.0) s.0.1 =
-    subst (λ (k : ℕ). Takes t.0.1 (u16_bytes k ++ flat_map segment_bytes s.0.0) s.0.1) (omega (arith, segments.count, count.1)) (Takes-then t.0.1 (u16_bytes n.0.0) n.0.1 (flat_map segment_bytes s.0.0) s.0.1 count.0 segments.taken) in
+    subst (λ (k : ℕ). Takes t.0.1 (u16_bytes k ++ flat_map segment_bytes s.0.0) s.0.1) {x = n.0.0} {y = length s.0.0} (omega (arith, segments.count, count.1)) (Takes-then t.0.1 (u16_bytes n.0.0) n.0.1 (flat_map segment_bytes s.0.0) s.0.1 count.0 segments.taken) in
     let trimmed = Takes-then v.0.1 (u64_bytes t.0.0) t.0.1 (segments_bytes s.0.0) s.0.1 trim.0 counted in
     let whole = Takes-then bytes (1 ∷ []) v.0.1 (u64_bytes t.0.0 ++ segments_bytes s.0.0) s.0.1 version trimmed in
     let run = run_of t.0.0 None 0 s.0.0 segments.follow in
     subst (λ (d : Chain). SpellsChain bytes d) {x = made} end.1
     (record {
       spelled = takes_all bytes (1 ∷ (u64_bytes t.0.0 ++ segments_bytes s.0.0)) s.0.1 whole end.0;
-      joined = both_are (is_linked s.0.0) (leb (first_of_segments s.0.0).start t.0.0) run.linked (le-leb _ _ run.start);
+      joined = both_are (is_linked s.0.0) (leb (first_of_segments s.0.0).start t.0.0) run.linked (le-leb (first_of_segments s.0.0).start t.0.0 run.start);
       trim = trim.1;
       positions = run.positions;
     })
