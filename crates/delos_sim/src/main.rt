@@ -2,15 +2,14 @@
 //! standard input and prints one row for each command, and the chain of loglets at the end.
 #![tactic(auto)]
 
-use std::alloc::{AllocError, Global};
-use std::env;
-use std::process::ExitCode;
-
 use file_loglet::file::FileLoglet;
 use outside_ends::standard::{StdSink, StdSource};
 use script_runner::ended::{Ended, Status};
 use script_runner::run::run;
 use script_runner::yard::Yard;
+use std::alloc::{AllocError, Global};
+use std::env;
+use std::process::ExitCode;
 
 /// How many entries a loglet of the shelf takes: 2^32.
 const ROOM: u64 = 0x1_0000_0000;

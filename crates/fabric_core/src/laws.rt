@@ -10,5 +10,4 @@ pub fn one_loglet_is_the_log()
     ensures log { (v : LogletView) → v.cut ≡ 0 → v.reach ≡ length v.log → virtual_log first_chain (v ∷ []) 0 v.reach ≡ v.log }
     ensures tail { (v : LogletView) → virtual_tail first_chain (v ∷ []) ≡ v.reach }
     ensures gap { (v : LogletView) → v.cut ≡ 0 → v.reach ≡ length v.log → IsTrue (has_no_gap first_chain (v ∷ [])) }
-{
-}
+{}

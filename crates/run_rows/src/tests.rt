@@ -9,9 +9,12 @@ use std::process::Abort;
 use std::test::Fail;
 
 const ROOM: u64 = 0x1_0000_0000;
+
 const PUT_AND_GET: &[u8] = b"on n1 a put x 1\non n1 a get x\n";
+
 const PUT_AND_GET_TEXT: &[u8] =
     b"1 a @0.0 ok\n2 a >1 = 1\nend 1\nchain v=1 trim=0\nseg 0 file 0 open\n";
+
 const FILE_RUN: &[&str] = &["run", "--shelf", "file"];
 
 /// Which calls of the ends fail, and how many bytes each moves.
@@ -59,9 +62,33 @@ fn ends_with(
 #[test]
 fn scripts_and_their_texts(rt: HostRuntime) -> Result<(), Fail> {
     let alloc = rt.alloc();
-    ends_with(&rt, alloc, FILE_RUN, PUT_AND_GET, &CALM, 0, PUT_AND_GET_TEXT)?;
-    ends_with(&rt, alloc, FILE_RUN, b"", &CALM, 0, b"end 0\nchain v=1 trim=0\nseg 0 file 0 open\n")?;
-    ends_with(&rt, alloc, FILE_RUN, b"\non n1 b get x", &CALM, 0, b"2 b >0 none\nend 0\nchain v=1 trim=0\nseg 0 file 0 open\n")?;
+    ends_with(
+        &rt,
+        alloc,
+        FILE_RUN,
+        PUT_AND_GET,
+        &CALM,
+        0,
+        PUT_AND_GET_TEXT,
+    )?;
+    ends_with(
+        &rt,
+        alloc,
+        FILE_RUN,
+        b"",
+        &CALM,
+        0,
+        b"end 0\nchain v=1 trim=0\nseg 0 file 0 open\n",
+    )?;
+    ends_with(
+        &rt,
+        alloc,
+        FILE_RUN,
+        b"\non n1 b get x",
+        &CALM,
+        0,
+        b"2 b >0 none\nend 0\nchain v=1 trim=0\nseg 0 file 0 open\n",
+    )?;
     ends_with(
         &rt,
         alloc,
@@ -76,9 +103,33 @@ fn scripts_and_their_texts(rt: HostRuntime) -> Result<(), Fail> {
 #[test]
 fn refusals(rt: HostRuntime) -> Result<(), Fail> {
     let alloc = rt.alloc();
-    ends_with(&rt, alloc, FILE_RUN, b"on n1 a del x\n", &CALM, 2, b"line 1: word\n")?;
-    ends_with(&rt, alloc, FILE_RUN, b"on n1 a put x 1\n\non n2 a get x\n", &CALM, 2, b"line 3: word\n")?;
-    ends_with(&rt, alloc, &["run", "--nodes", "9"], PUT_AND_GET, &CALM, 3, b"bad words\n")?;
+    ends_with(
+        &rt,
+        alloc,
+        FILE_RUN,
+        b"on n1 a del x\n",
+        &CALM,
+        2,
+        b"line 1: word\n",
+    )?;
+    ends_with(
+        &rt,
+        alloc,
+        FILE_RUN,
+        b"on n1 a put x 1\n\non n2 a get x\n",
+        &CALM,
+        2,
+        b"line 3: word\n",
+    )?;
+    ends_with(
+        &rt,
+        alloc,
+        &["run", "--nodes", "9"],
+        PUT_AND_GET,
+        &CALM,
+        3,
+        b"bad words\n",
+    )?;
     ends_with(&rt, alloc, &[], PUT_AND_GET, &CALM, 3, b"bad words\n")
 }
 

@@ -130,8 +130,8 @@ kept old op t mid now answer new c plain a =
     let mid_down : mid.down ≡ 0 = ap (λ v. v.down) b.rest ∙ c.up in
     let at_mid : operation_at mid.operations t ≡ Some first = b.operation t ∙ ap (λ w. if w then Some first else operation_at old.operations t) (own_key t) in
     let same : a.takes.operation ≡ record first { left = a.takes.operation.left } =
-        same_operation first (operation_at now.operations t) a.takes.operation
-        (subst (λ x. Advances x (operation_at now.operations t)) at_mid (a.moves.operations t)) a.takes.is in
+    same_operation first (operation_at now.operations t) a.takes.operation
+    (subst (λ x. Advances x (operation_at now.operations t)) at_mid (a.moves.operations t)) a.takes.is in
     record {
       cut = now_cut;
       log = now_log;

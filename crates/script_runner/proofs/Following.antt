@@ -35,11 +35,11 @@ followed-more log t c pos acts table e more after h is low acted later =
     let front : drop pos log ≡ e ∷ drop (pos + 1) log = here.rest ∙ ap (λ x. x ∷ drop (suc pos) log) same ∙ ap (λ i. e ∷ drop i log) (sym (add-one pos)) in
     let rest = asked_in (pos + 1) (drop (pos + 1) log) in
     let split : replied table (asked_in pos (drop pos log)) ≡ more ++ replied after rest =
-        ap (λ es. replied table (asked_in pos es)) front
-        ∙ ap (replied table) (asked_in-cons pos e (drop (pos + 1) log))
-        ∙ replied-append table (appearances (unpack pos e)) rest
-        ∙ ap (λ m. m ++ replied (table_after table m) rest) (sym acted)
-        ∙ ap (λ m. more ++ replied m rest) (sym later) in
+    ap (λ es. replied table (asked_in pos es)) front
+    ∙ ap (replied table) (asked_in-cons pos e (drop (pos + 1) log))
+    ∙ replied-append table (appearances (unpack pos e)) rest
+    ∙ ap (λ m. m ++ replied (table_after table m) rest) (sym acted)
+    ∙ ap (λ m. more ++ replied m rest) (sym later) in
     record {
       so_far = append_assoc acts more (replied after rest) ∙ ap (λ xs. acts ++ xs) (sym split) ∙ h.so_far;
       kept = later ∙ ap (λ m. table_after m more) h.kept ∙ sym (table_after-append t acts more);

@@ -33,6 +33,7 @@ greater n m e = simp (not_less n m e, not_same n m e) refl
   where
     not_less : (n m : ℕ) → nat_lt m n ≡ true → nat_lt n m ≡ false
     not_less n m e = grind (arith, nat_tests)
+
     not_same : (n m : ℕ) → nat_lt m n ≡ true → (n == m) ≡ false
     not_same n m e = grind (arith, nat_tests)
 
@@ -123,7 +124,7 @@ ranks-more : (acts : List Act) (n : ℕ) (a : Act) → has_first_ranks acts ≡ 
 ranks-more acts n a e h =
     list_all-more (λ x. nat_le 1 x.rank && nat_le x.rank (number_of x.session (acts ++ a ∷ []))) acts a
     (list_all-weaker (λ x. nat_le 1 x.rank && nat_le x.rank (number_of x.session acts)) (λ x. nat_le 1 x.rank && nat_le x.rank (number_of x.session (acts ++ a ∷ []))) acts
-        (λ x l. rw (number_of-more x.session acts a) (more_ranks x.rank (number_of x.session acts) (if a.session == x.session then 1 else 0) l)) e)
+    (λ x l. rw (number_of-more x.session acts a) (more_ranks x.rank (number_of x.session acts) (if a.session == x.session then 1 else 0) l)) e)
     (rw (number_of-more a.session acts a, own_session a.session, h) (last_rank (number_of a.session acts)))
 
 -- Acts in turn
@@ -179,7 +180,9 @@ acted-more acts n a h next = record {
   where
     later : (i n : ℕ) → nat_lt i n ≡ true → nat_lt i (n + 1) ≡ true
     later i n e = grind (arith, nat_tests)
+
     is_below : (n : ℕ) → nat_lt n (n + 1) ≡ true
     is_below n = grind (arith, nat_tests)
+
     replied-last : (m : TableMap) (acts : List Act) (a : Act) → replied m (map asked acts ++ asked a ∷ []) ≡ replied m (map asked acts) ++ record { place = a.place; session = a.session; rank = a.rank; command = a.command; reply = (act_on (table_after m acts) a.command).1 } ∷ []
     replied-last m acts a = replied-append m (map asked acts) (asked a ∷ []) ∙ ap (λ t. replied m (map asked acts) ++ record { place = a.place; session = a.session; rank = a.rank; command = a.command; reply = (act_on t a.command).1 } ∷ []) (table_after-replied m acts)

@@ -123,13 +123,18 @@ step-logged lines first i v replica rows line w step p s r c e number h rank =
     let t : Answered = record { line = line; row = step.row } in
     let ranked : (r == (count_by (logs_for s.id) (take i lines) + 1)) ≡ true = subst (λ a. has_rank (take i lines) a ≡ true) e rank in
     let next : PutsNext t p.acts v.log h.entry = record {
-        session = s; rank = r; command = c; reply = (act_on replica.table (Some c)).1; sub = 0;
-        asks = e; outcome = h.outcome;
-        row = row_is line step.row s (asks.Logged s r c) e number h.who (rw h.outcome (and_from _ true (same_name s.name) refl));
-        next = rank_is r (count_by (logs_for s.id) (take i lines)) ranked ∙ ap (λ k. k + 1) (sym (p.counts s.id));
-        replies = ap (λ m. (act_on m (Some c)).1) p.table;
-        stands = asked_in-append 0 v.log (h.entry ∷ []) ∙ ap (λ n. asked_in 0 v.log ++ asked_in n (h.entry ∷ [])) (zero-add (length v.log)) ∙ ap (λ xs. asked_in 0 v.log ++ xs) h.stands;
-      } in
+      session = s;
+      rank = r;
+      command = c;
+      reply = (act_on replica.table (Some c)).1;
+      sub = 0;
+      asks = e;
+      outcome = h.outcome;
+      row = row_is line step.row s (asks.Logged s r c) e number h.who (rw h.outcome (and_from _ true (same_name s.name) refl));
+      next = rank_is r (count_by (logs_for s.id) (take i lines)) ranked ∙ ap (λ k. k + 1) (sym (p.counts s.id));
+      replies = ap (λ m. (act_on m (Some c)).1) p.table;
+      stands = asked_in-append 0 v.log (h.entry ∷ []) ∙ ap (λ n. asked_in 0 v.log ++ asked_in n (h.entry ∷ [])) (zero-add (length v.log)) ∙ ap (λ xs. asked_in 0 v.log ++ xs) h.stands;
+    } in
     record {
       acts = p.acts ++ next_act next ∷ [];
       sofar = subst (λ l. SoFar (p.told ++ t ∷ []) (p.acts ++ next_act next ∷ []) l) (sym h.log) (sofar-placed p.told p.acts v.log t h.entry p.sofar next);
@@ -144,10 +149,14 @@ step-looked : (lines : List NamedLine) (first : LogletView) (i : ℕ) (v : Logle
 step-looked lines first i v replica rows line w step p s q e number h =
     let t : Answered = record { line = line; row = step.row } in
     let next : LooksNext t p.acts (length v.log) = record {
-        session = s; query = q; found = find_in replica.table q; asks = e; outcome = h.outcome;
-        row = row_is line step.row s (asks.Look s q) e number h.who (rw h.outcome (and_from _ true (same_name s.name) refl));
-        shows = ap (λ m. find_in m q) p.table;
-      } in
+      session = s;
+      query = q;
+      found = find_in replica.table q;
+      asks = e;
+      outcome = h.outcome;
+      row = row_is line step.row s (asks.Look s q) e number h.who (rw h.outcome (and_from _ true (same_name s.name) refl));
+      shows = ap (λ m. find_in m q) p.table;
+    } in
     record {
       acts = p.acts;
       sofar = subst (λ l. SoFar (p.told ++ t ∷ []) p.acts l) (sym h.log) (sofar-read p.told p.acts v.log t p.sofar next);
@@ -231,6 +240,7 @@ playing-none lines v replica rows f space p empty zero none = record {
   where
     take-zero : (lines : List NamedLine) → take 0 lines ≡ []
     take-zero lines = refl
+
     drop-zero : (lines : List NamedLine) → drop 0 lines ≡ lines
     drop-zero lines = refl
 

@@ -109,6 +109,7 @@ printed (b ∷ w) e =
   where
     low : (b : ℕ) → nat_le 33 b ≡ true → 33 ≤ b
     low b e = grind (arith, nat_tests)
+
     high : (b : ℕ) → nat_le b 126 ≡ true → b ≤ 126
     high b e = grind (arith, nat_tests)
 

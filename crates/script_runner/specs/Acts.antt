@@ -76,4 +76,4 @@ pub record ActsOnce (told : List Answered) (chain : Chain) (cells : List LogletV
   pub shown :
       let below = acts_below chain.trim (placed_acts told) in
       acts_from chain.trim (placed_acts told)
-          ≡ acted_log (table_after finmap.empty below) (next_rank below) chain.trim (virtual_log chain cells chain.trim end)
+      ≡ acted_log (table_after finmap.empty below) (next_rank below) chain.trim (virtual_log chain cells chain.trim end)

@@ -1,8 +1,7 @@
 //! What a run ends with.
+use crate::yard::Yard;
 use delos_types::chain::Chain;
 use row_text::row::Rows;
-
-use crate::yard::Yard;
 
 /// How a run ended.
 #[derive(Clone, Copy, PartialEq, Eq, Debug)]

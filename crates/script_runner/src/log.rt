@@ -3,12 +3,11 @@ ghost use Rattle.std.specs.Prelude.{◌≡◌, ◌<◌, IfOk, Some, slice_get, l
 ghost use Rattle.delos_types.specs.Spelling.{IsSpellable};
 ghost use Rattle.script_runner.specs.OneLoglet.{IsCalm, GoesOn, Answers, CanAsk};
 
-use std::alloc::AllocError;
-
 use delos_types::entry::Entry;
 use file_loglet::file::FileLoglet;
 use loglet_api::call::{Answer, Op, Refused};
 use loglet_api::loglet::Loglet;
+use std::alloc::AllocError;
 
 /// Carries one operation to its answer.
 fn ask(loglet: &mut FileLoglet, op: Op) -> Result<Answer, AllocError>

@@ -7,19 +7,17 @@ ghost use Rattle.script_runner.specs.Lines.{ArePlayable, CanLog};
 ghost use Rattle.script_runner.specs.Turns.{HasRoom, IsCaughtUp, AnswersLine};
 ghost use Rattle.script_runner.specs.Plays.{Plays};
 
-use std::alloc::{AllocError, Global};
-
+use crate::log;
+use crate::replica::{Replica, Synced, read_table, sync};
 use delos_types::numbers::{NodeId, Rank};
 use engine_api::pack::{batch, session_item};
 use file_loglet::file::FileLoglet;
 use row_text::row::{Outcome, Row, Rows, Who};
 use script_text::asks::{Asks, NamedLine};
 use script_text::line::Session;
+use std::alloc::{AllocError, Global};
 use table_core::command::{Command, Query};
 use table_core::table::Table;
-
-use crate::log;
-use crate::replica::{Replica, Synced, read_table, sync};
 
 /// A row, and the replica after it.
 #[derive(Drop)]

@@ -6,17 +6,15 @@ ghost use Rattle.table_core.specs.Find.{find_in};
 ghost use Rattle.script_runner.specs.OneLoglet.{IsCalm};
 ghost use Rattle.script_runner.specs.Replicas.{Follows};
 
-use std::alloc::{AllocError, Global};
-
+use crate::log;
 use delos_types::entry::Entry;
 use engine_api::act::Acts;
 use engine_api::acted::{Acted, appearances, replied};
 use engine_api::read::unpack;
 use file_loglet::file::FileLoglet;
+use std::alloc::{AllocError, Global};
 use table_core::command::{Found, Query};
 use table_core::table::Table;
-
-use crate::log;
 
 /// The table after all entries below the cursor.
 #[derive(Drop)]
@@ -43,11 +41,7 @@ fn apply(alloc: Global, table: Table, pos: u64, entry: &Entry) -> Result<Acted, 
 }
 
 /// Applies the entries from the cursor up to the tail, one after another.
-pub fn sync(
-    alloc: Global,
-    loglet: &mut FileLoglet,
-    replica: Replica,
-) -> Result<Synced, AllocError>
+pub fn sync(alloc: Global, loglet: &mut FileLoglet, replica: Replica) -> Result<Synced, AllocError>
     requires calm { IsCalm loglet.old }
     requires behind { replica.cursor ≤ length loglet.old.log }
     requires few { loglet.old.begun + length loglet.old.log < loglet.old.limit + replica.cursor }

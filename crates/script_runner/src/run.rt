@@ -10,8 +10,9 @@ ghost use Rattle.script_runner.specs.Ends.{Tells, IsPlan, PutsWhole, PutsFront, 
 ghost use Rattle.script_runner.specs.Fresh.{IsFreshYard};
 ghost use Rattle.script_runner.specs.Lines.{ArePlayable};
 
-use std::alloc::{AllocError, Global};
-
+use crate::ended::{Ended, Status, Told};
+use crate::play::{Played, play};
+use crate::yard::Yard;
 use delos_types::bytes::Bytes;
 use delos_types::chain::{Chain, Segment, Segments};
 use outside_ends::sink::Sink;
@@ -22,10 +23,7 @@ use script_text::asks::named_lines;
 use script_text::refusal::refusal_text;
 use script_text::script::{BadLine, ParseError, Script, parse};
 use script_words::plan::{Plan, WordsError, bad_words_text, read_words};
-
-use crate::ended::{Ended, Status, Told};
-use crate::play::{Played, play};
-use crate::yard::Yard;
+use std::alloc::{AllocError, Global};
 
 /// How many bytes of a source are read at most: one more than a script may have.
 const READ_LIMIT: usize = 1_048_577;
