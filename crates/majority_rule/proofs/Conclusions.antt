@@ -1,5 +1,5 @@
 -- What the quorum law says of answers and views.
-use Rattle.std.proofs.Common.{◌≡◌, ℕ, ◌+◌, ◌-◌, ◌<◌, ◌≤◌, zero, suc, Bool, true, false, refl, ap, sym, ◌∙◌, subst, arith, List, [], ◌∷◌, length, take, Option, Some, None, inl, inr, length-take}
+use Rattle.std.proofs.Common.{◌≡◌, ℕ, ◌+◌, ◌-◌, ◌<◌, ◌≤◌, zero, suc, Bool, true, false, refl, ap, sym, ◌∙◌, subst, arith, List, [], ◌∷◌, length, drop, Option, Some, None, inl, inr, length-drop}
 use Rattle.std.specs.Prelude.{if◌then◌else◌, ◌⊎◌, ◌&&◌, ◌||◌, ◌==◌, not, nat_le, nat_lt, is_some, unwrap_or, slice_get, All}
 use Rattle.std.specs.List.{list_any}
 use Rattle.std.proofs.lemmas.Bool.{leb-true, ltb-true, false≢true, and_parts, eqb-true, or_cases, or_right, cases_Bool}
@@ -17,7 +17,8 @@ use Rattle.majority_rule.specs.declared.message.Told.TheVariants.{Got}
 use Rattle.majority_rule.specs.declared.message.Reply.{Reply}
 use Rattle.majority_rule.specs.Majority.{is_majority, majority, votes_below}
 use Rattle.majority_rule.specs.Servers.{Server, length_of, is_sealed, unsealed_length}
-use Rattle.majority_rule.specs.Cells.{Cell, Operation, Loss, server, operation, server_before, is_shut}
+use Rattle.majority_rule.specs.declared.operation.Loss.{Loss}
+use Rattle.majority_rule.specs.Cells.{Cell, Operation, server, operation, server_before, is_shut}
 use Rattle.majority_rule.specs.Tallies.{may_decide, heard_from, unreached, failed_reply, fails, open_to, open_within, says_sealed, tries_lost, told_entry_at, gives_entry, entry_heard, first_entry, may_give_up, lacks_quorum}
 use Rattle.majority_rule.specs.Steps.{reached}
 use Rattle.majority_rule.specs.Law.{ReplyHolds, SentFor, QuorumLaw, Later, faulted, failed_since}
@@ -117,13 +118,13 @@ given_up c law t i h = by (or_cases _ _ h)
 unreached_few : (c : Cell) → QuorumLaw c → (t : ℕ) → votes_below (length c.servers) (unreached (operation c t)) ≤ down_before c (operation c t) + (length c.faults - (operation c t).faults_before)
 unreached_few c law t =
     let o : Operation = operation c t in
-    let newer : List ℕ = take (length c.faults - o.faults_before) c.faults in
+    let newer : List ℕ = drop o.faults_before c.faults in
     omega (
       arith,
       votes_more (length c.servers) (unreached o) (failed_since c o) (λ i _ e. given_up c law t i e),
       votes_either (length c.servers) (λ i. not (server_before o i).up) (λ i. faulted c.faults o.faults_before i),
       votes_listed (length c.servers) newer,
-      length-take (length c.faults - o.faults_before) c.faults,
+      length-drop o.faults_before c.faults,
     )
 
 ---- every outcome

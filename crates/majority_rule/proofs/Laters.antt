@@ -18,7 +18,8 @@ use Rattle.majority_rule.specs.declared.operation.Outcome.TheVariants.{Gone, NoQ
 use Rattle.majority_rule.specs.Majority.{is_majority}
 use Rattle.majority_rule.specs.Tallies.{may_decide}
 use Rattle.majority_rule.specs.Servers.{Server, length_of, is_sealed, unsealed_length}
-use Rattle.majority_rule.specs.Cells.{Cell, Operation, Loss, server, operation, server_before, no_server}
+use Rattle.majority_rule.specs.declared.operation.Loss.{Loss}
+use Rattle.majority_rule.specs.Cells.{Cell, Operation, server, operation, server_before, no_server}
 use Rattle.majority_rule.specs.Law.{Grows, IsOurs, ServerHolds, RequestHolds, ReplyHolds, SentFor, OperationHolds, Later, faulted, failed_since}
 use Rattle.majority_rule.proofs.Lists.{agrees_at}
 use Rattle.majority_rule.proofs.Majorities.{majority_stays}

@@ -12,7 +12,8 @@ use Rattle.majority_rule.specs.declared.message.Reply.{Reply}
 use Rattle.majority_rule.specs.declared.operation.CellStep.{CellStep}
 use Rattle.majority_rule.specs.declared.operation.CellStep.TheVariants.{Begin, Send, RequestComes, RequestStops, ReplyComes, Lose, Restart, RestartFails, Decide, Take, Forget}
 use Rattle.majority_rule.specs.Servers.{Server, length_of, unsealed_length}
-use Rattle.majority_rule.specs.Cells.{Cell, Loss, server, operation, server_before, no_server, no_operation, start}
+use Rattle.majority_rule.specs.declared.operation.Loss.{Loss}
+use Rattle.majority_rule.specs.Cells.{Cell, server, operation, server_before, no_server, no_operation, start}
 use Rattle.majority_rule.specs.Tallies.{may_decide}
 use Rattle.majority_rule.specs.Steps.{request_comes, request_stops, reply_comes, lose, cell_step, run_cell, reached, answered, restart, waits, decide, give, shown, cap_after, take_outcome, sent, send, ask_for, is_full, begin, admit, with_fault, put_operation, restart_fails, forget, given_outcome}
 use Rattle.majority_rule.specs.Law.{Grows, ServerHolds, RequestHolds, ReplyHolds, SentFor, QuorumLaw, Later, faulted}
@@ -163,15 +164,15 @@ reply_later_cell : (c : Cell) (r : Option Reply) → Later c (reply_comes c r)
 reply_later_cell c None = later_same c
 reply_later_cell c (Some r) = by (waits (operation c r.ticket))
   where
-    by : (b : Bool) → Later c (if b then put_operation c r.ticket (record (operation c r.ticket) { heard = r ∷ (operation c r.ticket).heard }) else c)
-    by true = tallied_later c r.ticket (record (operation c r.ticket) { heard = r ∷ (operation c r.ticket).heard }) c.reach c.firm c.cap refl refl refl (omega arith) (omega arith) (cap_stays c.cap)
+    by : (b : Bool) → Later c (if b then put_operation c r.ticket (record (operation c r.ticket) { heard = (operation c r.ticket).heard ++ r ∷ [] }) else c)
+    by true = tallied_later c r.ticket (record (operation c r.ticket) { heard = (operation c r.ticket).heard ++ r ∷ [] }) c.reach c.firm c.cap refl refl refl (omega arith) (omega arith) (cap_stays c.cap)
     by false = later_same c
 
 lose_later : (c : Cell) (k : ℕ) (q : Option Request) → Later c (lose c k q)
 lose_later c k None = later_same c
 lose_later c k (Some q) = by (waits (operation c q.ticket))
   where
-    by : (b : Bool) → Later c (if b then record c { operations = set c.operations q.ticket (lost_more (operation c q.ticket) k q.server); faults = q.server ∷ c.faults } else c)
+    by : (b : Bool) → Later c (if b then put_operation (with_fault c q.server) q.ticket (lost_more (operation c q.ticket) k q.server) else c)
     by true = let d : Cell = with_fault c q.server in
         later_twice c d _ (fault_later c q.server) (tallied_later d q.ticket (lost_more (operation c q.ticket) k q.server) c.reach c.firm c.cap refl refl refl (omega arith) (omega arith) (cap_stays c.cap))
     by false = later_same c

@@ -1,11 +1,11 @@
 -- No server is sealed where no seal was begun.
-use Rattle.std.proofs.Common.{cond, ◌≤◌, ◌≡◌, ℕ, zero, suc, ◌<◌, Bool, true, false, refl, ap, sym, ◌∙◌, subst, arith, List, [], ◌∷◌, length, get_or, set, Option, Some, None, inl, inr, replicate}
+use Rattle.std.proofs.Common.{◌++◌, cond, ◌≤◌, ◌≡◌, ℕ, zero, suc, ◌<◌, Bool, true, false, refl, ap, sym, ◌∙◌, subst, arith, List, [], ◌∷◌, length, get_or, set, Option, Some, None, inl, inr, replicate}
 use Rattle.std.specs.Prelude.{if◌then◌else◌, ◌⊎◌, ◌&&◌, not, nat_lt, is_some, slice_get, All, option_map}
 use Rattle.std.specs.List.{list_any}
 use Rattle.std.proofs.lemmas.Bool.{false≢true, or_from, cases_lt}
 use Rattle.std.proofs.lemmas.Bool.Decides.{nat_tests}
 use Rattle.std.proofs.lemmas.Option.{none-some, same_Some}
-use Rattle.std.proofs.lemmas.List.Elements.{All-push, All-cons, All-nil, All-contains}
+use Rattle.std.proofs.lemmas.List.Elements.{All-push, All-nil, All-contains}
 use Rattle.majority_rule.specs.declared.operation.Aim.{Aim}
 use Rattle.majority_rule.specs.declared.operation.Aim.TheVariants.{Read as AimRead}
 use Rattle.majority_rule.specs.declared.operation.Outcome.{Outcome}
@@ -209,8 +209,8 @@ step_open c (ReplyComes k) n h = at (slice_get c.replies k) refl
     at None e = h
     at (Some r) e = by (waits (operation c r.ticket))
       where
-        by : (b : Bool) → IsUnsealed (if b then put_operation c r.ticket (record (operation c r.ticket) { heard = r ∷ (operation c r.ticket).heard }) else c)
-        by true = put_open c r.ticket (record (operation c r.ticket) { heard = r ∷ (operation c r.ticket).heard }) _ refl refl refl refl h ((h.operations r.ticket).0, All-cons (λ x. says_sealed x ≡ false) r (operation c r.ticket).heard (All-contains (λ x. says_sealed x ≡ false) c.replies r h.replies (contained c.replies k r e)) (h.operations r.ticket).1)
+        by : (b : Bool) → IsUnsealed (if b then put_operation c r.ticket (record (operation c r.ticket) { heard = (operation c r.ticket).heard ++ r ∷ [] }) else c)
+        by true = put_open c r.ticket (record (operation c r.ticket) { heard = (operation c r.ticket).heard ++ r ∷ [] }) _ refl refl refl refl h ((h.operations r.ticket).0, All-push (λ x. says_sealed x ≡ false) (operation c r.ticket).heard r (h.operations r.ticket).1 (All-contains (λ x. says_sealed x ≡ false) c.replies r h.replies (contained c.replies k r e)))
         by false = h
 step_open c (Lose k) n h = at (slice_get c.requests k)
   where
@@ -218,8 +218,8 @@ step_open c (Lose k) n h = at (slice_get c.requests k)
     at None = h
     at (Some q) = by (waits (operation c q.ticket))
       where
-        by : (b : Bool) → IsUnsealed (if b then put_operation (with_fault c q.server) q.ticket (record (operation c q.ticket) { lost = record { message = k; server = q.server } ∷ (operation c q.ticket).lost }) else c)
-        by true = put_open c q.ticket (record (operation c q.ticket) { lost = record { message = k; server = q.server } ∷ (operation c q.ticket).lost }) _ refl refl refl refl h (h.operations q.ticket)
+        by : (b : Bool) → IsUnsealed (if b then put_operation (with_fault c q.server) q.ticket (record (operation c q.ticket) { lost = (operation c q.ticket).lost ++ record { message = k; server = q.server } ∷ [] }) else c)
+        by true = put_open c q.ticket (record (operation c q.ticket) { lost = (operation c q.ticket).lost ++ record { message = k; server = q.server } ∷ [] }) _ refl refl refl refl h (h.operations q.ticket)
         by false = h
 step_open c (Restart i kept) n h = restart_open c i kept h
 step_open c (RestartFails i) n h = by (nat_lt i (length c.servers) && not (server c i).up)

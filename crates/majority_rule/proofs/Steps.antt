@@ -1,5 +1,5 @@
 -- Each step keeps the quorum law.
-use Rattle.std.proofs.Common.{◌≡◌, ℕ, ◌<◌, ◌≤◌, Bool, true, false, refl, ap, sym, ◌∙◌, subst, arith, [], ◌∷◌, length, get_or, set, Option, Some, None, inl, inr}
+use Rattle.std.proofs.Common.{length-append, ◌≡◌, ℕ, ◌<◌, ◌≤◌, Bool, true, false, refl, ap, sym, ◌∙◌, subst, arith, [], ◌∷◌, length, get_or, set, Option, Some, None, inl, inr}
 use Rattle.std.specs.Prelude.{if◌then◌else◌, ◌⊎◌, ◌&&◌, not, nat_lt, unwrap_or}
 use Rattle.std.proofs.lemmas.Bool.{or_right}
 use Rattle.std.proofs.lemmas.Bool.{leb-true, false≢true, cases_lt}
@@ -159,8 +159,8 @@ fault_later c i = record {
   seals = omega arith;
   before = λ t _. refl;
   faults_before = λ t _. refl;
-  faults = omega arith;
-  faulted_still = λ b j le h. faulted_more c.faults b j i le h;
+  faults = omega (arith, length-append c.faults (i ∷ []));
+  faulted_still = λ b j _ h. faulted_more c.faults b j i h;
 }
 
 pub fault_keeps : (c : Cell) (i : ℕ) → QuorumLaw c → QuorumLaw (with_fault c i)

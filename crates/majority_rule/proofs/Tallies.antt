@@ -5,7 +5,7 @@ use Rattle.std.proofs.lemmas.Bool.{false≢true, and_parts, cases_lt, or_parts, 
 use Rattle.std.proofs.lemmas.Option.{none-some, same_Some}
 use Rattle.std.proofs.lemmas.List.Sums.{sum_by-set, sum_by-append}
 use Rattle.std.proofs.lemmas.List.{length-set, set_past, get_or_past, get_or_append_left}
-use Rattle.std.proofs.lemmas.List.Elements.{All-weaker, All-push, All-cons, All-nil}
+use Rattle.std.proofs.lemmas.List.Elements.{All-weaker, All-push, All-nil}
 use Rattle.delos_types.specs.declared.entry.Entry.{Entry}
 use Rattle.majority_rule.specs.declared.operation.Aim.{Aim}
 use Rattle.majority_rule.specs.declared.operation.Aim.TheVariants.{Append as AimAppend, Read as AimRead, Trim as AimTrim}
@@ -18,7 +18,8 @@ use Rattle.majority_rule.specs.declared.operation.Wish.{Wish}
 use Rattle.majority_rule.specs.declared.operation.Wish.TheVariants.{Store as WishStore, Seal as WishSeal, Tail as WishTail, Repair as WishRepair, Read as WishRead, Trim as WishTrim}
 use Rattle.majority_rule.specs.Majority.{is_majority}
 use Rattle.majority_rule.specs.Servers.{length_of, is_sealed, unsealed_length}
-use Rattle.majority_rule.specs.Cells.{Cell, Operation, Loss, server, operation, no_operation, seals, is_seal}
+use Rattle.majority_rule.specs.declared.operation.Loss.{Loss}
+use Rattle.majority_rule.specs.Cells.{Cell, Operation, server, operation, no_operation, seals, is_seal}
 use Rattle.majority_rule.specs.Tallies.{may_decide}
 use Rattle.majority_rule.specs.Steps.{ask_read, waits, reply_comes, lose, decide, begun, admit, begin, is_append, is_full, with_fault, put_operation, forget, entries_after, cut_after, wanted, sent, send, ask_for, reached}
 use Rattle.majority_rule.specs.Law.{IsOurs, RequestHolds, ReplyHolds, SentFor, OperationHolds, QuorumLaw, Later, faulted}
@@ -96,12 +97,12 @@ waits_open o a w z = by o.decided z (or_parts _ _ (not-true _ w)).1
 pub reply_comes_keeps : (c : Cell) (k : ℕ) (r : Reply) → QuorumLaw c → slice_get c.replies k ≡ Some r → QuorumLaw (reply_comes c (Some r))
 reply_comes_keeps c k r law at = by (waits (operation c r.ticket)) refl
   where
-    by : (b : Bool) → waits (operation c r.ticket) ≡ b → QuorumLaw (if b then put_operation c r.ticket (record (operation c r.ticket) { heard = r ∷ (operation c r.ticket).heard }) else c)
+    by : (b : Bool) → waits (operation c r.ticket) ≡ b → QuorumLaw (if b then put_operation c r.ticket (record (operation c r.ticket) { heard = (operation c r.ticket).heard ++ r ∷ [] }) else c)
     by false w = law
-    by true w = tallied_keeps c r.ticket (record (operation c r.ticket) { heard = r ∷ (operation c r.ticket).heard }) c.reach c.firm c.cap law refl refl refl (omega arith) (omega arith) (cap_stays c.cap)
+    by true w = tallied_keeps c r.ticket (record (operation c r.ticket) { heard = (operation c r.ticket).heard ++ r ∷ [] }) c.reach c.firm c.cap law refl refl refl (omega arith) (omega arith) (cap_stays c.cap)
         (record {
           since = (law.operations r.ticket).since;
-          heard = All-cons (SentFor c r.ticket) r (operation c r.ticket).heard (refl, contained c.replies k r at) (law.operations r.ticket).heard;
+          heard = All-push (SentFor c r.ticket) (operation c r.ticket).heard r (law.operations r.ticket).heard (refl, contained c.replies k r at);
           reach_before = (law.operations r.ticket).reach_before;
           placed = (law.operations r.ticket).placed;
           faults = (law.operations r.ticket).faults;
@@ -113,7 +114,7 @@ reply_comes_keeps c k r law at = by (waits (operation c r.ticket)) refl
 
 -- an operation that lost one more try of message k to server i
 abbrev pub lost_more : Operation → ℕ → ℕ → Operation
-lost_more o k i = record o { lost = record { message = k; server = i } ∷ o.lost }
+lost_more o k i = record o { lost = o.lost ++ record { message = k; server = i } ∷ [] }
 
 pub lose_keeps : (c : Cell) (k : ℕ) (q : Request) → QuorumLaw c → QuorumLaw (lose c k (Some q))
 lose_keeps c k q law = by (waits (operation c q.ticket)) refl
@@ -131,7 +132,12 @@ lose_keeps c k q law = by (waits (operation c q.ticket)) refl
           placed = (dlaw.operations q.ticket).placed;
           faults = (dlaw.operations q.ticket).faults;
           down = (dlaw.operations q.ticket).down;
-          lost = All-cons (λ (l : Loss). faulted d.faults (operation c q.ticket).faults_before l.server ≡ true) (record { message = k; server = q.server }) (operation c q.ticket).lost (faulted_now c.faults (operation c q.ticket).faults_before q.server (faults_known c law q.ticket)) (dlaw.operations q.ticket).lost;
+          lost = All-push
+              (λ (l : Loss). faulted d.faults (operation c q.ticket).faults_before l.server ≡ true)
+              (operation c q.ticket).lost
+              (record { message = k; server = q.server })
+              (dlaw.operations q.ticket).lost
+              (faulted_now c.faults (operation c q.ticket).faults_before q.server (faults_known c law q.ticket));
           justified = λ a z. absurd (waits_open (operation c q.ticket) a w z);
         })
         dlaw.cut dlaw.ordered dlaw.cap_shown dlaw.reached dlaw.firm dlaw.capped

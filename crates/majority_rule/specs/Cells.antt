@@ -4,21 +4,17 @@ use Rattle.delos_types.specs.declared.entry.Entry.{Entry}
 use Rattle.majority_rule.specs.declared.message.Request.{Request}
 use Rattle.majority_rule.specs.declared.message.Reply.{Reply}
 use Rattle.majority_rule.specs.declared.operation.Aim.{Aim}
+use Rattle.majority_rule.specs.declared.operation.Loss.{Loss}
 use Rattle.majority_rule.specs.declared.operation.Aim.TheVariants.{Tail, Seal}
 use Rattle.majority_rule.specs.declared.operation.Outcome.{Outcome}
 use Rattle.majority_rule.specs.declared.operation.Outcome.TheVariants.{NoQuorum}
 use Rattle.majority_rule.specs.Majority.{is_majority, votes_below}
 use Rattle.majority_rule.specs.Servers.{Server, is_sealed}
 
--- a try of a message that was lost: the message's number and its server
-pub record Loss : Type 0 where
-  pub message : ℕ
-  pub server : ℕ
-
 pub record Operation : Type 0 where
   pub aim : Aim
   pub want : ℕ  -- the length that an append or a settle waits for, the cut of a trim
-  pub heard : List Reply  -- the tally: the replies that came to it, the newest first
+  pub heard : List Reply  -- the tally: the replies that came to it
   pub lost : List Loss  -- each try of its messages that was lost
   pub servers_before : List Server  -- the cell as it began: its servers, its size, the lengths that were answered, and the number of its faults
   pub size_before : ℕ
@@ -41,7 +37,7 @@ pub record Cell : Type 0 where
   pub reach : ℕ  -- the greatest length given to an append, a settle or an open tail
   pub firm : ℕ  -- the greatest length given in any way
   pub cap : Option ℕ  -- the least sealed tail given
-  pub faults : List ℕ  -- the server of each fault, the newest first; of a refusal the number of servers, which names none
+  pub faults : List ℕ  -- the server of each fault, in order; of a refusal the number of servers, which names none
 
 -- what stands at a number that names no server or operation
 abbrev pub no_server : Server

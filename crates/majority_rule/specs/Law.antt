@@ -1,5 +1,5 @@
 -- The quorum law: what holds of every cell that steps lead to.
-use Rattle.std.specs.Prelude.{◌≡◌, ℕ, ◌+◌, ◌-◌, ◌<◌, ◌≤◌, Bool, true, false, not, ◌&&◌, ◌||◌, ◌==◌, nat_le, List, length, take, slice_get, Some, All, Contains, ⊤}
+use Rattle.std.specs.Prelude.{◌≡◌, ℕ, ◌+◌, ◌<◌, ◌≤◌, Bool, true, false, not, ◌&&◌, ◌||◌, ◌==◌, nat_le, List, length, drop, slice_get, Some, All, Contains, ⊤}
 use Rattle.std.specs.List.{list_any}
 use Rattle.delos_types.specs.declared.entry.Entry.{Entry}
 use Rattle.majority_rule.specs.declared.operation.Aim.TheVariants.{Append as AimAppend}
@@ -11,7 +11,8 @@ use Rattle.majority_rule.specs.declared.message.Request.{Request}
 use Rattle.majority_rule.specs.declared.message.Reply.{Reply}
 use Rattle.majority_rule.specs.Majority.{is_majority}
 use Rattle.majority_rule.specs.Servers.{Server, length_of, is_sealed, unsealed_length}
-use Rattle.majority_rule.specs.Cells.{Cell, Operation, Loss, server, operation, server_before, seals, is_seal}
+use Rattle.majority_rule.specs.declared.operation.Loss.{Loss}
+use Rattle.majority_rule.specs.Cells.{Cell, Operation, server, operation, server_before, seals, is_seal}
 use Rattle.majority_rule.specs.Tallies.{says_sealed, fails, open_told, sealed_told, mended_told, may_decide}
 
 -- a server only grows: it keeps where it was sealed, and is sealed at no less than the length that it had
@@ -23,7 +24,7 @@ pub record Grows (old new : Server) : Type 0 where
 
 -- whether server i had a fault among those that are not the first `before`
 abbrev pub faulted : List ℕ → ℕ → ℕ → Bool
-faulted faults before i = list_any (λ s. s == i) (take (length faults - before) faults)
+faulted faults before i = list_any (λ s. s == i) (drop before faults)
 
 -- whether server i was down as the operation began or had a fault since
 abbrev pub failed_since : Cell → Operation → ℕ → Bool

@@ -52,7 +52,7 @@ admit c aim = record c { entries = entries_after c aim; cut = cut_after c aim; o
 
 -- one more fault: of server i, or of none where there are not so many
 abbrev pub with_fault : Cell → ℕ → Cell
-with_fault c i = record c { faults = i ∷ c.faults }
+with_fault c i = record c { faults = c.faults ++ i ∷ [] }
 
 abbrev pub begin : Cell → Aim → Cell
 begin c aim = if is_full c aim then with_fault c (length c.servers) else admit c aim
@@ -108,14 +108,14 @@ abbrev pub reply_comes : Cell → Option Reply → Cell
 reply_comes c None = c
 reply_comes c (Some r) =
     let o = operation c r.ticket in
-    if waits o then put_operation c r.ticket (record o { heard = r ∷ o.heard }) else c
+    if waits o then put_operation c r.ticket (record o { heard = o.heard ++ r ∷ [] }) else c
 
 -- one more try of message k, or of the reply to it, is lost
 abbrev pub lose : Cell → ℕ → Option Request → Cell
 lose c k None = c
 lose c k (Some q) =
     let o = operation c q.ticket in
-    if waits o then put_operation (with_fault c q.server) q.ticket (record o { lost = record { message = k; server = q.server } ∷ o.lost }) else c
+    if waits o then put_operation (with_fault c q.server) q.ticket (record o { lost = o.lost ++ record { message = k; server = q.server } ∷ [] }) else c
 
 ---- servers come up again
 

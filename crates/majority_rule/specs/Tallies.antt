@@ -12,7 +12,8 @@ use Rattle.majority_rule.specs.declared.operation.Aim.TheVariants.{Append as Aim
 use Rattle.majority_rule.specs.declared.operation.Outcome.{Outcome}
 use Rattle.majority_rule.specs.declared.operation.Outcome.TheVariants.{Reached, OpenTail, SealedTail, Shut, Found, Gone, Beyond, TrimDone, NoQuorum}
 use Rattle.majority_rule.specs.Majority.{is_majority, majority, votes_below}
-use Rattle.majority_rule.specs.Cells.{Operation, Loss}
+use Rattle.majority_rule.specs.declared.operation.Loss.{Loss}
+use Rattle.majority_rule.specs.Cells.{Operation}
 
 ---- what a reply says
 
@@ -103,7 +104,7 @@ failed_reply r = fails r.told
 abbrev pub heard_from : (Reply → Bool) → Operation → ℕ → Bool
 heard_from test o i = list_any (λ r. (r.server == i) && test r) o.heard
 
--- the newest entry that was heard for place p
+-- the first entry that was heard for place p
 abbrev pub first_entry : Option Entry → Option Entry → Option Entry
 first_entry None later = later
 first_entry (Some e) later = Some e

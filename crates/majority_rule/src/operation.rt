@@ -72,6 +72,13 @@ pub enum Wish {
     Trim,
 }
 
+/// One try of a message that was lost: the message's number among all requests, and its server.
+#[derive(Clone, Copy, PartialEq, Eq, Debug)]
+pub struct Loss {
+    pub message: u64,
+    pub server: u32,
+}
+
 /// What can happen next in a cell. A message is named by its number among all requests or all
 /// replies ever sent, from 0, and so can come again. A step that isn't possible changes nothing.
 #[derive(Drop)]

@@ -1,0 +1,41 @@
+-- The world: cells, and the steps that they take.
+use Rattle.std.specs.Prelude.{ℕ, ◌^◌, ◌≤◌, List, [], ◌∷◌, length, set, slice_get, All, ⊤, Option, Some, None}
+use Rattle.majority_rule.specs.declared.message.Ask.{Ask}
+use Rattle.majority_rule.specs.declared.message.Ask.TheVariants.{Trim}
+use Rattle.majority_rule.specs.declared.operation.CellStep.{CellStep}
+use Rattle.majority_rule.specs.Cells.{Cell}
+use Rattle.majority_rule.specs.Steps.{cell_step}
+use Rattle.majority_rule.specs.Law.{CellLaw}
+use Rattle.world_steps.specs.declared.world.WorldStep.{WorldStep}
+use Rattle.world_steps.specs.declared.world.WorldStep.TheVariants.{InCell}
+
+pub record World : Type 0 where
+  pub cells : List Cell
+
+-- a cell has 1 to 64 servers, room for 1 to 2^32 entries, and at most 2^62 tickets
+pub record IsShape (c : Cell) : Type 0 where
+  pub servers : (1 ≤ length c.servers) × (length c.servers ≤ 64)
+  pub room : (1 ≤ c.room) × (c.room ≤ 2 ^ 32)
+  pub limit : c.limit ≤ 2 ^ 62
+
+-- the law holds of the cell, as of every cell that steps lead to
+pub record IsLawful (c : Cell) : Type 0 where
+  pub shape : IsShape c
+  pub law : CellLaw c
+
+abbrev pub in_cell : World → ℕ → CellStep → Option Cell → World
+in_cell w i step None = w
+in_cell w i step (Some c) = record w { cells = set w.cells i (cell_step c step) }
+
+-- a step touches one cell; one that is not possible changes nothing
+abbrev pub world_step : World → WorldStep → World
+world_step w (InCell i step) = in_cell w i step (slice_get w.cells i)
+
+abbrev pub run_world : List WorldStep → World → World
+run_world [] w = w
+run_world (step ∷ steps) w = run_world steps (world_step w step)
+
+-- a trim goes no further than a log has places
+abbrev pub AskFits : Ask → Type 0
+AskFits (Trim n) = n ≤ 2 ^ 32
+AskFits _ = ⊤
