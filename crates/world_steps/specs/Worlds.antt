@@ -1,9 +1,12 @@
 -- The world: cells, and the steps that they take.
-use Rattle.std.specs.Prelude.{ℕ, ◌^◌, ◌≤◌, List, [], ◌∷◌, length, set, slice_get, All, ⊤, Option, Some, None}
+use Rattle.std.specs.Prelude.{ℕ, ◌^◌, ◌≤◌, List, [], ◌∷◌, ◌++◌, if◌then◌else◌, length, set, slice_get, ⊤, Option, Some, None}
 use Rattle.majority_rule.specs.declared.message.Ask.{Ask}
 use Rattle.majority_rule.specs.declared.message.Ask.TheVariants.{Trim}
 use Rattle.majority_rule.specs.declared.operation.CellStep.{CellStep}
-use Rattle.majority_rule.specs.Cells.{Cell}
+use Rattle.majority_rule.specs.declared.message.Request.{Request}
+use Rattle.majority_rule.specs.declared.message.Told.{Told}
+use Rattle.majority_rule.specs.Servers.{written}
+use Rattle.majority_rule.specs.Cells.{Cell, server}
 use Rattle.majority_rule.specs.Steps.{cell_step}
 use Rattle.majority_rule.specs.Law.{CellLaw}
 use Rattle.world_steps.specs.declared.world.WorldStep.{WorldStep}
@@ -23,13 +26,16 @@ pub record IsLawful (c : Cell) : Type 0 where
   pub shape : IsShape c
   pub law : CellLaw c
 
-abbrev pub in_cell : World → ℕ → CellStep → Option Cell → World
-in_cell w i step None = w
-in_cell w i step (Some c) = record w { cells = set w.cells i (cell_step c step) }
+abbrev pub in_cell : List Cell → ℕ → CellStep → Option Cell → List Cell
+in_cell cells i step None = cells
+in_cell cells i step (Some c) = set cells i (cell_step c step)
 
 -- a step touches one cell; one that is not possible changes nothing
+abbrev pub cells_after : List Cell → WorldStep → List Cell
+cells_after cells (InCell i step) = in_cell cells i step (slice_get cells i)
+
 abbrev pub world_step : World → WorldStep → World
-world_step w (InCell i step) = in_cell w i step (slice_get w.cells i)
+world_step w step = record w { cells = cells_after w.cells step }
 
 abbrev pub run_world : List WorldStep → World → World
 run_world [] w = w
@@ -39,3 +45,11 @@ run_world (step ∷ steps) w = run_world steps (world_step w step)
 abbrev pub AskFits : Ask → Type 0
 AskFits (Trim n) = n ≤ 2 ^ 32
 AskFits _ = ⊤
+
+-- the server of a request made the write that its answer wants
+abbrev pub served : Cell → Request → Cell
+served c q = let s = server c q.server in record c { servers = set c.servers q.server (if s.up then written s q.ask else s) }
+
+-- the server of a request answers it
+abbrev pub replied : Cell → Request → Told → Cell
+replied c q t = record c { replies = c.replies ++ record { ticket = q.ticket; server = q.server; ask = q.ask; told = t } ∷ [] }

@@ -11,5 +11,3 @@ pub mod cell;
 pub mod server;
 pub mod tally;
 pub mod world;
-#[cfg(test)]
-mod tests;
