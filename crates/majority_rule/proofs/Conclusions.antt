@@ -1,5 +1,5 @@
 -- What the quorum law says of answers and views.
-use Rattle.std.proofs.Common.{◌≡◌, ℕ, ◌+◌, ◌-◌, ◌<◌, ◌≤◌, zero, suc, Bool, true, false, refl, ap, sym, ◌∙◌, subst, arith, List, [], ◌∷◌, length, drop, Option, Some, None, inl, inr, length-drop}
+use Rattle.std.proofs.Common.{◌≡◌, ℕ, ◌+◌, ◌-◌, ◌<◌, ◌≤◌, Bool, true, false, refl, ap, sym, ◌∙◌, subst, arith, List, [], ◌∷◌, length, drop, Option, Some, None, inl, inr, length-drop}
 use Rattle.std.specs.Prelude.{if◌then◌else◌, ◌⊎◌, ◌&&◌, ◌||◌, ◌==◌, not, nat_le, nat_lt, is_some, unwrap_or, slice_get, All}
 use Rattle.std.specs.List.{list_any}
 use Rattle.std.proofs.lemmas.Bool.{leb-true, ltb-true, false≢true, and_parts, eqb-true, or_cases, or_right, cases_Bool}
@@ -23,7 +23,7 @@ use Rattle.majority_rule.specs.Tallies.{may_decide, heard_from, unreached, faile
 use Rattle.majority_rule.specs.Steps.{reached}
 use Rattle.majority_rule.specs.Law.{ReplyHolds, SentFor, QuorumLaw, Later, faulted, failed_since}
 use Rattle.majority_rule.specs.Outcomes.{OutcomeHolds, IsLacking, shut_before, down_before}
-use Rattle.majority_rule.proofs.Majorities.{majorities_meet, majority_stays, votes_more, votes_either, votes_listed}
+use Rattle.majority_rule.proofs.Majorities.{votes_within, majorities_meet, majority_stays, votes_more, votes_either, votes_listed}
 use Rattle.majority_rule.proofs.Lists.{one_of}
 use Rattle.majority_rule.proofs.Laters.{capped_later, firm_later}
 use Rattle.majority_rule.proofs.Steps.{unsealed_within}
@@ -60,11 +60,11 @@ covers c law t x h =
 shut_by : (c : Cell) → QuorumLaw c → (t : ℕ) → is_majority (length c.servers) (heard_from says_sealed (operation c t)) ≡ true → is_shut c ≡ true
 shut_by c law t h = majority_stays (length c.servers) (heard_from says_sealed (operation c t)) (λ i. is_sealed (server c i)) (λ i _ e. sealed_vote c law t i e) h
 
-capped_is_shut : (c : Cell) (x : ℕ) → IsSealedWithin c x → is_shut c ≡ true
+pub capped_is_shut : (c : Cell) (x : ℕ) → IsSealedWithin c x → is_shut c ≡ true
 capped_is_shut c x h = majority_stays (length c.servers) (λ i. is_sealed (server c i) && nat_le (unsealed_length (server c i)) x) (λ i. is_sealed (server c i)) (λ i _ e. (and_parts _ _ e).0) h
 
 -- a length that a majority has is one of the entries'
-long_within : (c : Cell) → QuorumLaw c → (n : ℕ) → IsLongTo c n → n ≤ length c.entries
+pub long_within : (c : Cell) → QuorumLaw c → (n : ℕ) → IsLongTo c n → n ≤ length c.entries
 long_within c law n h =
     let met : (i : ℕ) × (i < length c.servers) × (nat_le n (length_of (server c i)) ≡ true) × (nat_le n (length_of (server c i)) ≡ true) = majorities_meet (length c.servers) _ _ h h in
     omega (arith, leb-true _ _ met.2, (law.servers met.0).within)
@@ -129,21 +129,13 @@ unreached_few c law t =
 
 ---- every outcome
 
-all_votes : (n : ℕ) (f : ℕ → Bool) → votes_below n f ≤ n
-all_votes zero f = omega arith
-all_votes (suc n) f = omega (arith, all_votes n f, at_most_one (f n))
-  where
-    at_most_one : (b : Bool) → (if b then 1 else 0) ≤ 1
-    at_most_one true = omega arith
-    at_most_one false = omega arith
-
 lacking : (c : Cell) → QuorumLaw c → (t u : ℕ) → lacks_quorum (length c.servers) (operation c t) u ≡ true → IsLacking c (operation c t) u
 lacking c law t u h =
     let parts : (nat_le (majority (length c.servers)) u ≡ true) × ((u == votes_below (length c.servers) (unreached (operation c t))) ≡ true) = and_parts _ _ h in
     let same : u ≡ votes_below (length c.servers) (unreached (operation c t)) = eqb-true _ _ parts.1 in
     record {
       many = leb-true _ _ parts.0;
-      servers = omega (arith, same, all_votes (length c.servers) (unreached (operation c t)));
+      servers = omega (arith, same, votes_within (length c.servers) (unreached (operation c t)));
       cause = omega (arith, same, unreached_few c law t);
     }
 

@@ -107,6 +107,11 @@ operation_later c d l more t o down h = record {
   down = down;
   lost = All-weaker (λ (k : Loss). faulted c.faults o.faults_before k.server ≡ true) (λ (k : Loss). faulted d.faults o.faults_before k.server ≡ true) (λ k e. l.faulted_still o.faults_before k.server h.faults e) o.lost h.lost;
   justified = λ a z. rw l.servers (may_later (length c.servers) c.cut d.cut o o.aim a l.cut (h.justified a z));
+  size = omega (arith, h.size, l.room);
+  reached = omega (arith, h.reached, l.reach);
+  firm = omega (arith, h.firm, l.firm);
+  settled = h.settled;
+  ungiven = h.ungiven;
   placed = λ e z. ((h.placed e z).0, l.entries o.size_before e (h.placed e z).1);
 }
 

@@ -10,3 +10,4 @@ pub mod Runs
 pub mod Conclusions
 pub mod Seals
 pub mod Grounds
+pub mod Lawful

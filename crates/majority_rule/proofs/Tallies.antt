@@ -1,6 +1,6 @@
 -- The operations' steps keep the quorum law.
 use Rattle.std.proofs.Common.{cond, ◌≡◌, ℕ, ◌+◌, ◌<◌, ◌≤◌, Bool, true, false, refl, ap, sym, ◌∙◌, subst, arith, [], ◌∷◌, ◌++◌, length, set, Option, Some, None, inl, inr, length-append}
-use Rattle.std.specs.Prelude.{if◌then◌else◌, ◌⊎◌, ◌&&◌, ◌||◌, ◌==◌, not, nat_le, nat_lt, is_some, slice_get, option_map}
+use Rattle.std.specs.Prelude.{if◌then◌else◌, ◌⊎◌, ◌&&◌, ◌||◌, ◌==◌, not, nat_le, nat_lt, is_some, slice_get, option_map, min}
 use Rattle.std.proofs.lemmas.Bool.{false≢true, and_parts, cases_lt, or_parts, not-true, or_left, not_from_false, eq-eqb}
 use Rattle.std.proofs.lemmas.Option.{none-some, same_Some}
 use Rattle.std.proofs.lemmas.List.Sums.{sum_by-set, sum_by-append}
@@ -8,7 +8,7 @@ use Rattle.std.proofs.lemmas.List.{length-set, set_past, get_or_past, get_or_app
 use Rattle.std.proofs.lemmas.List.Elements.{All-weaker, All-push, All-nil}
 use Rattle.delos_types.specs.declared.entry.Entry.{Entry}
 use Rattle.majority_rule.specs.declared.operation.Aim.{Aim}
-use Rattle.majority_rule.specs.declared.operation.Aim.TheVariants.{Append as AimAppend, Read as AimRead, Trim as AimTrim}
+use Rattle.majority_rule.specs.declared.operation.Aim.TheVariants.{Append as AimAppend, Read as AimRead, Trim as AimTrim, Settle as AimSettle}
 use Rattle.majority_rule.specs.declared.operation.Outcome.{Outcome}
 use Rattle.majority_rule.specs.declared.message.Ask.{Ask}
 use Rattle.majority_rule.specs.declared.message.Request.{Request}
@@ -104,6 +104,11 @@ reply_comes_keeps c k r law at = by (waits (operation c r.ticket)) refl
           since = (law.operations r.ticket).since;
           heard = All-push (SentFor c r.ticket) (operation c r.ticket).heard r (law.operations r.ticket).heard (refl, contained c.replies k r at);
           reach_before = (law.operations r.ticket).reach_before;
+          size = (law.operations r.ticket).size;
+          reached = (law.operations r.ticket).reached;
+          firm = (law.operations r.ticket).firm;
+          settled = (law.operations r.ticket).settled;
+          ungiven = (law.operations r.ticket).ungiven;
           placed = (law.operations r.ticket).placed;
           faults = (law.operations r.ticket).faults;
           down = (law.operations r.ticket).down;
@@ -129,6 +134,11 @@ lose_keeps c k q law = by (waits (operation c q.ticket)) refl
           since = (dlaw.operations q.ticket).since;
           heard = (dlaw.operations q.ticket).heard;
           reach_before = (dlaw.operations q.ticket).reach_before;
+          size = (dlaw.operations q.ticket).size;
+          reached = (dlaw.operations q.ticket).reached;
+          firm = (dlaw.operations q.ticket).firm;
+          settled = (dlaw.operations q.ticket).settled;
+          ungiven = (dlaw.operations q.ticket).ungiven;
           placed = (dlaw.operations q.ticket).placed;
           faults = (dlaw.operations q.ticket).faults;
           down = (dlaw.operations q.ticket).down;
@@ -152,6 +162,11 @@ decide_keeps c t a law = by (waits (operation c t) && may_decide (length c.serve
           since = (law.operations t).since;
           heard = (law.operations t).heard;
           reach_before = (law.operations t).reach_before;
+          size = (law.operations t).size;
+          reached = (law.operations t).reached;
+          firm = (law.operations t).firm;
+          settled = (law.operations t).settled;
+          ungiven = (law.operations t).ungiven;
           placed = (law.operations t).placed;
           faults = (law.operations t).faults;
           down = (law.operations t).down;
@@ -244,6 +259,10 @@ begun_placed : (c : Cell) (aim : Aim) (e : Entry) → aim ≡ AimAppend e → (w
 begun_placed c (AimAppend x) e z = let same : x ≡ e = cc in (refl, slice_get_push_new c.entries x (length c.entries) refl ∙ ap Some same)
 begun_placed c _ e z = absurd (cc)
 
+begun_settled : (c : Cell) (aim : Aim) (n : ℕ) → aim ≡ AimSettle n → wanted c aim ≡ min n (length c.entries)
+begun_settled c (AimSettle m) n z = let same : m ≡ n = cc in ap (λ k. min k (length c.entries)) same
+begun_settled c _ n z = absurd (cc)
+
 less_than : (a b : ℕ) → a ≤ b → (a == b) ≡ false → a < b
 less_than a b le h = by (cases_lt a b)
   where
@@ -290,7 +309,7 @@ admit_keeps c aim space law =
       requests = All-weaker (RequestHolds c) (RequestHolds d) (request_later c d l) c.requests law.requests;
       replies = All-weaker (ReplyHolds c) (ReplyHolds d) (reply_later c d l (faults_known c law)) c.replies law.replies;
       operations = at_push (λ j new. OperationHolds d j new) c.operations o no_operation (λ j. operation_later c d l (λ r h. h) j (operation c j) (down_stays c d l refl j (operation c j) (law.operations j)) (law.operations j))
-          (record { since = λ i. grows_same (server c i); heard = All-nil (SentFor d (length c.operations)); reach_before = law.reached; placed = begun_placed c aim; faults = omega arith; down = λ i e. begun_down c i e; lost = All-nil (λ (l : Loss). faulted c.faults (length c.faults) l.server ≡ true); justified = λ a z. absurd (none-some a z) });
+          (record { since = λ i. grows_same (server c i); heard = All-nil (SentFor d (length c.operations)); reach_before = law.reached; size = entries_more c aim; reached = omega arith; firm = omega arith; settled = λ n z. begun_settled c aim n z; ungiven = λ _. refl; placed = begun_placed c aim; faults = omega arith; down = λ i e. begun_down c i e; lost = All-nil (λ (l : Loss). faulted c.faults (length c.faults) l.server ≡ true); justified = λ a z. absurd (none-some a z) });
       fits = entries_fit c aim law.fits left.0;
       tickets = omega (arith, less_than _ _ law.tickets left.1, length-append c.operations (o ∷ []));
       cut = cut_reached c aim law.cut;
@@ -320,6 +339,11 @@ forget_keeps c t law = by (operation c t).closed
           since = (law.operations t).since;
           heard = (law.operations t).heard;
           reach_before = (law.operations t).reach_before;
+          size = (law.operations t).size;
+          reached = (law.operations t).reached;
+          firm = (law.operations t).firm;
+          settled = (law.operations t).settled;
+          ungiven = λ e. absurd (false≢true (sym e));
           placed = (law.operations t).placed;
           faults = (law.operations t).faults;
           down = (law.operations t).down;

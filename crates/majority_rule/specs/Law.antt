@@ -1,8 +1,8 @@
 -- The quorum law: what holds of every cell that steps lead to.
-use Rattle.std.specs.Prelude.{◌≡◌, ℕ, ◌+◌, ◌<◌, ◌≤◌, Bool, true, false, not, ◌&&◌, ◌||◌, ◌==◌, nat_le, List, length, drop, slice_get, Some, All, Contains, ⊤}
+use Rattle.std.specs.Prelude.{◌≡◌, ℕ, min, ◌+◌, ◌^◌, ◌<◌, ◌≤◌, Bool, true, false, not, ◌&&◌, ◌||◌, ◌==◌, nat_le, List, length, drop, slice_get, Some, None, All, Contains, ⊤}
 use Rattle.std.specs.List.{list_any}
 use Rattle.delos_types.specs.declared.entry.Entry.{Entry}
-use Rattle.majority_rule.specs.declared.operation.Aim.TheVariants.{Append as AimAppend}
+use Rattle.majority_rule.specs.declared.operation.Aim.TheVariants.{Append as AimAppend, Settle as AimSettle}
 use Rattle.majority_rule.specs.declared.operation.Outcome.{Outcome}
 use Rattle.majority_rule.specs.declared.message.Ask.{Ask}
 use Rattle.majority_rule.specs.declared.message.Ask.TheVariants.{Store, Seal, Repair, Read, Trim}
@@ -70,7 +70,12 @@ pub record OperationHolds (c : Cell) (t : ℕ) (o : Operation) : Type 0 where
   pub faults : o.faults_before ≤ length c.faults
   pub down : (i : ℕ) → (server c i).up ≡ false → failed_since c o i ≡ true
   pub lost : All (λ (l : Loss). faulted c.faults o.faults_before l.server ≡ true) o.lost
+  pub size : o.size_before ≤ length c.entries
+  pub reached : o.reach_before ≤ c.reach
+  pub firm : o.firm_before ≤ c.firm
   pub placed : (e : Entry) → o.aim ≡ AimAppend e → (o.want ≡ o.size_before + 1) × (slice_get c.entries o.size_before ≡ Some e)
+  pub settled : (n : ℕ) → o.aim ≡ AimSettle n → o.want ≡ min n o.size_before
+  pub ungiven : o.closed ≡ false → o.given ≡ None
   pub justified : (a : Outcome) → o.decided ≡ Some a → may_decide (length c.servers) c.cut o o.aim a ≡ true
 
 -- the quorum law
@@ -100,6 +105,17 @@ pub record IsUnsealed (c : Cell) : Type 0 where
 pub record CellLaw (c : Cell) : Type 0 where
   pub quorum : QuorumLaw c
   pub unsealed : seals c ≡ 0 → IsUnsealed c
+
+-- a cell has 1 to 64 servers, room for 1 to 2^32 entries, and at most 2^62 tickets
+pub record IsShape (c : Cell) : Type 0 where
+  pub servers : (1 ≤ length c.servers) × (length c.servers ≤ 64)
+  pub room : (1 ≤ c.room) × (c.room ≤ 2 ^ 32)
+  pub limit : c.limit ≤ 2 ^ 62
+
+-- the law holds of the cell, as of every cell that steps lead to from one of this shape
+pub record IsLawful (c : Cell) : Type 0 where
+  pub shape : IsShape c
+  pub law : CellLaw c
 
 -- a cell that steps may lead to from an earlier one
 pub record Later (old new : Cell) : Type 0 where

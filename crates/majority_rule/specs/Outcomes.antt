@@ -27,7 +27,7 @@ IsHeld c n = is_majority (length c.servers) (λ i. nat_le n (length_of (server c
 abbrev pub IsPlaced : Cell → Operation → Type 0
 IsPlaced c o = (e : Entry) → o.aim ≡ AimAppend e → (o.want ≡ o.size_before + 1) × (slice_get c.entries o.size_before ≡ Some e)
 
--- at least half of the servers lack, and no more than were down as the operation began or had a fault since
+-- more than half of the servers are unreached, and no more than were down as the operation began or had a fault since
 pub record IsLacking (c : Cell) (o : Operation) (u : ℕ) : Type 0 where
   pub many : majority (length c.servers) ≤ u
   pub servers : u ≤ length c.servers

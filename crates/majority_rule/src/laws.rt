@@ -10,15 +10,16 @@ ghost use Rattle.majority_rule.specs.declared.operation.CellStep.{CellStep};
 ghost use Rattle.majority_rule.specs.Servers.{Server, is_sealed, written};
 ghost use Rattle.majority_rule.specs.Cells.{Cell, operation, server, start, is_shut, seals};
 ghost use Rattle.majority_rule.specs.Steps.{cell_step, run_cell, reached};
-ghost use Rattle.majority_rule.specs.Law.{CellLaw, Later};
+ghost use Rattle.majority_rule.specs.Law.{CellLaw, IsLawful, Later};
 ghost use Rattle.majority_rule.specs.Outcomes.{OutcomeHolds, RestsOn, IsHeld};
 
 /// Whatever messages are lost, repeated or reordered, and wherever servers stop, the quorum law
 /// holds of every cell that steps lead to, and nothing is sealed before a seal is begun. Both hold
-/// of a new cell, and each step keeps them.
+/// of a new cell, and each step keeps them, and the cell's shape.
 pub fn quorum_law()
     ensures every { (servers room limit : ℕ) (steps : List CellStep) → 0 < servers → CellLaw (run_cell steps (start servers room limit)) }
     ensures kept { (cell : Cell) (step : CellStep) → CellLaw cell → CellLaw (cell_step cell step) }
+    ensures lawful { (cell : Cell) (step : CellStep) → IsLawful cell → IsLawful (cell_step cell step) }
 {}
 
 /// Servers only grow, entries stand, and no number that clients were given goes back.

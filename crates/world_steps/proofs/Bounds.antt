@@ -1,6 +1,6 @@
--- Bounds of votes and of places.
-use Rattle.std.proofs.Common.{◌≡◌, ℕ, zero, suc, ◌≤◌, Bool, true, false, arith, ◌<◌, ◌∙◌, ap, subst, List, length, get_or, Some}
-use Rattle.std.specs.Prelude.{if◌then◌else◌, slice_get}
+-- Bounds of places.
+use Rattle.std.proofs.Common.{◌≡◌, ℕ, arith, ◌<◌, ◌∙◌, ap, subst, List, length, get_or, Some}
+use Rattle.std.specs.Prelude.{slice_get}
 use Rattle.std.specs.Option.{ForSome}
 use Rattle.std.proofs.lemmas.List.{get_or_default}
 use Rattle.std.proofs.lemmas.List.Elements.{All-contains}
@@ -8,20 +8,12 @@ use Rattle.majority_rule.specs.declared.message.Ask.{Ask}
 use Rattle.majority_rule.specs.declared.message.Ask.TheVariants.{Store, Seal, Tail, Repair, Read, Trim}
 use Rattle.majority_rule.specs.declared.message.Request.{Request}
 use Rattle.majority_rule.specs.Servers.{Server}
-use Rattle.majority_rule.specs.Majority.{votes_below}
 use Rattle.majority_rule.specs.Cells.{Cell, server, no_server}
 use Rattle.majority_rule.specs.Law.{IsOurs, RequestHolds}
 use Rattle.majority_rule.proofs.Lists.{contained}
 use Rattle.majority_rule.proofs.Steps.{cut_within}
-use Rattle.world_steps.specs.Worlds.{IsLawful, AskFits}
-
-at_most_one : (b : Bool) → (if b then 1 else 0) ≤ 1
-at_most_one true = omega arith
-at_most_one false = omega arith
-
-pub votes_within : (n : ℕ) (vote : ℕ → Bool) → votes_below n vote ≤ n
-votes_within zero vote = omega arith
-votes_within (suc n) vote = omega (arith, votes_within n vote, at_most_one (vote n))
+use Rattle.majority_rule.specs.Law.{IsLawful}
+use Rattle.world_steps.specs.Worlds.{AskFits}
 
 -- what is asked of a lawful cell's servers goes no further than its room
 ours_fits : (c : Cell) → IsLawful c → (ask : Ask) → IsOurs c ask → AskFits ask

@@ -1,5 +1,5 @@
 -- The world: cells, and the steps that they take.
-use Rattle.std.specs.Prelude.{ℕ, ◌^◌, ◌≤◌, List, [], ◌∷◌, ◌++◌, if◌then◌else◌, length, set, slice_get, ⊤, Option, Some, None}
+use Rattle.std.specs.Prelude.{ℕ, ◌^◌, ◌≤◌, List, [], ◌∷◌, ◌++◌, if◌then◌else◌, set, slice_get, ⊤, Option, Some, None}
 use Rattle.majority_rule.specs.declared.message.Ask.{Ask}
 use Rattle.majority_rule.specs.declared.message.Ask.TheVariants.{Trim}
 use Rattle.majority_rule.specs.declared.operation.CellStep.{CellStep}
@@ -8,23 +8,11 @@ use Rattle.majority_rule.specs.declared.message.Told.{Told}
 use Rattle.majority_rule.specs.Servers.{written}
 use Rattle.majority_rule.specs.Cells.{Cell, server}
 use Rattle.majority_rule.specs.Steps.{cell_step}
-use Rattle.majority_rule.specs.Law.{CellLaw}
 use Rattle.world_steps.specs.declared.world.WorldStep.{WorldStep}
 use Rattle.world_steps.specs.declared.world.WorldStep.TheVariants.{InCell}
 
 pub record World : Type 0 where
   pub cells : List Cell
-
--- a cell has 1 to 64 servers, room for 1 to 2^32 entries, and at most 2^62 tickets
-pub record IsShape (c : Cell) : Type 0 where
-  pub servers : (1 ≤ length c.servers) × (length c.servers ≤ 64)
-  pub room : (1 ≤ c.room) × (c.room ≤ 2 ^ 32)
-  pub limit : c.limit ≤ 2 ^ 62
-
--- the law holds of the cell, as of every cell that steps lead to
-pub record IsLawful (c : Cell) : Type 0 where
-  pub shape : IsShape c
-  pub law : CellLaw c
 
 abbrev pub in_cell : List Cell → ℕ → CellStep → Option Cell → List Cell
 in_cell cells i step None = cells

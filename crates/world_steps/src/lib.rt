@@ -10,4 +10,6 @@
 pub mod cell;
 pub mod server;
 pub mod tally;
+#[cfg(test)]
+mod tests;
 pub mod world;

@@ -194,7 +194,7 @@ impl OperationState {
     }
 
     /// Whether replies of more than half of the `n` servers say this.
-    #[tactic(auto, using(crate::proofs::Bounds::votes_within))]
+    #[tactic(auto, using(majority_rule::proofs::Majorities::votes_within))]
     fn majority_says(&self, n: u32, says: Says) -> bool
         ensures { result ≡ is_majority n (heard_by (says_of says) self.now) }
     {
@@ -230,7 +230,7 @@ impl OperationState {
     }
 
     /// How many of the `n` servers it gives up.
-    #[tactic(auto, using(crate::proofs::Bounds::votes_within))]
+    #[tactic(auto, using(majority_rule::proofs::Majorities::votes_within))]
     fn unreached_of(&self, n: u32) -> u32
         ensures { result ≡ votes_below n (unreached_by self.now) }
     {

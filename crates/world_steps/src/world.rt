@@ -1,7 +1,8 @@
 //! The world, and lists of steps.
 ghost use Rattle.std.specs.Prelude.{◌≡◌, ◌≤◌, ◌^◌, [], ◌++◌, ◌∷◌, slice_get, option_map, OnOk, OnErr, IfOk, All};
 ghost use Rattle.majority_rule.specs.Cells.{start};
-ghost use Rattle.world_steps.specs.Worlds.{IsLawful, world_step, run_world, cells_after};
+ghost use Rattle.majority_rule.specs.Law.{IsLawful};
+ghost use Rattle.world_steps.specs.Worlds.{world_step, run_world, cells_after};
 
 use crate::cell::CellState;
 use majority_rule::operation::CellStep;
@@ -23,7 +24,8 @@ pub struct World {
 
 impl Model for World {
     ghost use Rattle.std.specs.Prelude.{All};
-    ghost use Rattle.world_steps.specs.Worlds.{World as WorldOf, IsLawful};
+    ghost use Rattle.majority_rule.specs.Law.{IsLawful};
+    ghost use Rattle.world_steps.specs.Worlds.{World as WorldOf};
 
     ghost Value = { WorldOf };
 

@@ -1,6 +1,7 @@
 use Rattle.std.proofs.Common.{◌≡◌, drop}
 use Rattle.std.specs.Prelude.{All}
-use Rattle.world_steps.specs.Worlds.{IsLawful, run_world}
+use Rattle.majority_rule.specs.Law.{IsLawful}
+use Rattle.world_steps.specs.Worlds.{run_world}
 use Rattle.world_steps.proofs.world.run_steps.Given as goal
 
 abbrev pub invariant-loop-step : goal.invariant-loop-step

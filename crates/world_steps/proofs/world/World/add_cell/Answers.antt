@@ -1,7 +1,8 @@
 use Rattle.std.proofs.Common.{sym, subst}
 use Rattle.std.specs.Prelude.{All}
-use Rattle.world_steps.specs.Worlds.{IsLawful}
-use Rattle.world_steps.proofs.Lawful.{added_lawful, start_lawful}
+use Rattle.majority_rule.specs.Law.{IsLawful}
+use Rattle.majority_rule.proofs.Lawful.{start_lawful}
+use Rattle.world_steps.proofs.Lawful.{added_lawful}
 use Rattle.world_steps.proofs.world.World.add_cell.Goals as goal
 
 pub invariant_of-self-2 : goal.invariant_of-self-2
