@@ -1,0 +1,7 @@
+pub mod Disk
+pub mod Crash
+pub mod CrashLaws
+pub mod Torn
+pub mod Memory
+pub mod MemoryKept
+pub mod Failing

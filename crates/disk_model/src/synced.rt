@@ -1,0 +1,29 @@
+// A write and a sync, one after the other.
+ghost use Rattle.std.specs.Prelude.{◌≡◌, ◌⊎◌, ◌+◌, ◌-◌, ◌^◌, ◌<◌, ◌≤◌, ℕ, [], length, OnOk, OnErr, IsErrOf};
+ghost use Rattle.disk_model.specs.Disk.{Written, changed, at_rest, reads, IsSynced, Rose};
+ghost use Rattle.disk_model.specs.Crash.{AnyCrash};
+ghost use Rattle.disk_model.specs.Torn.{IsTorn};
+
+use crate::{Disk, WriteFault};
+
+/// Writes, and then syncs, on a disk on which nothing is pending: one write and one sync.
+///
+/// A crash inside it leaves the bytes of before but for the range, which may hold any; after `Ok` each crash leaves what
+/// was written. After `Memory` nothing changed. After `Failed` the write may be pending, or the disk be stopped.
+pub fn write_synced<D: Disk>(disk: &mut D, at: u64, bytes: &[u8]) -> Result<(), WriteFault>
+    requires inside { at ≤ length (reads (D.view disk.old)) }
+    requires synced { IsSynced (D.view disk.old) }
+    ensures ok { OnOk result ((D.view disk.new).timeline.now ≡ at_rest (changed (Written at bytes.now) (reads (D.view disk.old)))) }
+    ensures fits { OnOk result (at + length bytes.now ≤ 2 ^ 48) }
+    ensures any_crash { AnyCrash (D.view disk.old).timeline (D.view disk.new).timeline (IsTorn (reads (D.view disk.old)) at (length bytes.now)) }
+    ensures memory { IsErrOf result WriteFault.Memory → D.view disk.new ≡ D.view disk.old }
+    ensures failed { IsErrOf result WriteFault.Failed → Rose (D.view disk.old).faults (D.view disk.new).faults }
+    ensures faults { (D.view disk.old).faults ≤ (D.view disk.new).faults }
+    ensures armed { (D.view disk.new).armed ≤ (D.view disk.old).armed }
+{
+    disk.write_at(at, bytes)?;
+    if disk.sync().is_err() {
+        return Err(WriteFault::Failed);
+    }
+    Ok(())
+}

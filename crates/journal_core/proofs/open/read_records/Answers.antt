@@ -1,0 +1,29 @@
+use Rattle.std.proofs.Common.{◌≡◌, ℕ, ◌+◌, List, [], ◌∷◌, ◌++◌, length, drop, Some, sym, ap, ◌∙◌, subst, arith}
+use Rattle.disk_model.specs.Disk.{Timeline, content}
+use Rattle.journal_core.specs.Records.{first_record}
+use Rattle.journal_core.specs.Layout.{Whole}
+use Rattle.journal_core.specs.Kept.{payloads}
+use Rattle.journal_core.proofs.Walk.{whole_push}
+use Rattle.journal_core.proofs.Closing.{payloads-push}
+use Rattle.journal_core.proofs.open.read_records.Goals as goal
+
+pub loop-found-preserved : goal.loop-found-preserved
+loop-found-preserved g c =
+    let file = content (g.D.Disk.view c.args.disk.now).timeline.now in
+    let here : content (g.D.Disk.view c.loop-found.disk).timeline.now ≡ file = ap (λ (l : Timeline). content l.now) c.loop-found.invariant.same in
+    let v = c.in-Some.payload in
+    let end = c.loop-found.end in
+    let found = rw c.in-Some.is at c.in_ok-payload.ensures.some in
+    let there = rw c.in-Some.is at c.in_ok-payload.ensures.inside in
+    let first : first_record (drop end file) ≡ Some v.items = sym (ap (λ (l : List ℕ). first_record (drop end l)) here) ∙ found in
+    let long : length v.items ≡ c.len.result = omega (arith, v.ok, c.len.ensures) in
+    let pushed : payloads c.push.new.self.items ≡ payloads c.loop-found.found.items ++ v.items ∷ [] = ap payloads c.in_ok-push.ensures.items ∙ payloads-push c.loop-found.found.items v in
+    let whole = whole_push (payloads c.loop-found.found.items) end file v.items c.loop-found.invariant.whole first in
+    record {
+      same = c.read_record.ensures.same ∙ c.loop-found.invariant.same;
+      whole = subst (λ (ps : List (List ℕ)). Whole ps (end + (9 + c.len.result)) file) (sym pushed) (subst (λ (n : ℕ). Whole (payloads c.loop-found.found.items ++ v.items ∷ []) (end + (9 + n)) file) long whole);
+      inside = omega (arith, there, long, ap length here);
+      fits = omega (arith, rw c.in-Some.is at c.in_ok-payload.ensures.fits, long);
+      armed = omega arith;
+      faults = omega arith;
+    }

@@ -1,0 +1,4 @@
+pub mod Records
+pub mod Layout
+pub mod Journal
+pub mod Kept

@@ -1,0 +1,211 @@
+// A journal: records on a disk, and in memory beside it.
+ghost use Rattle.std.specs.Prelude.{◌≡◌, ◌⊎◌, ◌+◌, ◌^◌, ◌<◌, ◌≤◌, ◌↔◌, ℕ, Some, None, [], ◌∷◌, ◌++◌, length, true, false, if◌then◌else◌, IfOk, IfErr, OnOk, OnErr, IsErrOf, slice_index_or};
+ghost use Rattle.disk_model.specs.Disk.{DiskView, reads, IsSynced, Rose};
+ghost use Rattle.journal_core.specs.Records.{records_of};
+ghost use Rattle.journal_core.specs.Journal.{View, MayFind, LeavesRecords, AnyCrashLeaves, Survives};
+
+use crate::layout::{OVERHEAD, add};
+use crate::open::scan;
+use crate::{AppendFault, Fault, Refused};
+use disk_model::Disk;
+use std::alloc::Global;
+use std::marker::Model;
+
+/// A list of records on a disk, each of them there for good before it is acknowledged.
+///
+/// Contracts see it as a `View`: its `records`; the `torn` one, of the append in which the disk failed; whether it is
+/// `shut`; and its `disk`.
+///
+/// Memory: each record is kept in memory too, its bytes and some 24 more, so that the records show even where the disk
+/// fails.
+#[derive(Drop)]
+pub struct Journal<D: Disk> {
+    alloc: Global,
+    disk: D,
+    // The records on the disk.
+    found: Vec<Vec<u8>>,
+    // Where they end on the disk, at a closed gate.
+    end: u64,
+    torn: Option<Vec<u8>>,
+    shut: bool,
+}
+
+impl<D: Disk> Model for Journal<D> {
+    ghost use Rattle.std.specs.Prelude.{option_map};
+    ghost use Rattle.journal_core.specs.Journal.{View};
+    ghost use Rattle.journal_core.specs.Kept.{payloads, IsKept};
+
+    ghost Value = { View };
+
+    ghost view = { λ j. record { records = payloads j.found.items; torn = option_map (λ v. v.items) j.torn; shut = j.shut; disk = D.view j.disk } };
+
+    ghost invariant = { λ j. IsKept (payloads j.found.items) (option_map (λ v. v.items) j.torn) j.end j.shut (D.view j.disk).timeline };
+}
+
+impl<D: Disk> Journal<D> {
+    /// Opens a disk on which nothing is pending: its journal has the records behind open gates. A refusal hands the disk
+    /// back. A crash inside leaves the same records.
+    ///
+    /// Cost: three reads a record, and at most one write of a byte.
+    pub fn open_on(alloc: Global, mut disk: D) -> Result<Journal<D>, Refused<D>>
+        requires { IsSynced (D.view disk) }
+        ensures records { IfOk result (λ j. j.records ≡ records_of (reads (D.view disk))) }
+        ensures opened { IfOk result (λ j. (j.torn ≡ None) × (j.shut ≡ false)) }
+        ensures survives { IfOk result Survives }
+        ensures any_crash { IfOk result (λ j. AnyCrashLeaves (D.view disk) j.disk (λ found. found ≡ records_of (reads (D.view disk)))) }
+        ensures faults { IfOk result (λ j. (D.view disk).faults ≤ j.disk.faults) }
+        ensures armed { IfOk result (λ j. j.disk.armed ≤ (D.view disk).armed) }
+
+        // A disk that is handed back has the same records, and failed where that is said.
+        ensures memory { IfErr result (λ e. e.fault ≡ Fault.Memory → (D.view e.disk).timeline ≡ (D.view disk).timeline) }
+        ensures failed { IfErr result (λ e. e.fault ≡ Fault.Disk → Rose (D.view disk).faults (D.view e.disk).faults) }
+        ensures any_crash_refused { IfErr result (λ e. AnyCrashLeaves (D.view disk) (D.view e.disk) (λ found. found ≡ records_of (reads (D.view disk)))) }
+        ensures faults_refused { IfErr result (λ e. (D.view disk).faults ≤ (D.view e.disk).faults) }
+        ensures armed_refused { IfErr result (λ e. (D.view e.disk).armed ≤ (D.view disk).armed) }
+    {
+        match scan(alloc, &mut disk) {
+            Ok((found, end)) => Ok(Journal {
+                alloc,
+                disk,
+                found,
+                end,
+                torn: None,
+                shut: false,
+            }),
+            Err(fault) => Err(Refused { fault, disk }),
+        }
+    }
+
+    /// Adds a record. After `Ok` every crash leaves it.
+    ///
+    /// After `Disk` the journal is shut, shows the records of before, and a crash leaves them with the new one or
+    /// without. After `Memory` nothing changed but that the disk may have been written to behind the records. `Shut`
+    /// comes just where the journal is shut, and changes nothing.
+    ///
+    /// Cost: O(payload), amortized: two writes and two syncs, and no read or copy of what is there.
+    pub fn append(&mut self, payload: &[u8]) -> Result<(), AppendFault>
+        ensures ok { OnOk result (self.new ≡ record { records = self.old.records ++ payload.now ∷ []; torn = None; shut = false; disk = self.new.disk }) }
+        ensures durable { OnOk result (LeavesRecords self.new.disk (λ found. found ≡ self.new.records)) }
+        ensures shut { IsErrOf result AppendFault.Shut ↔ (self.old.shut ≡ true) }
+        ensures shut_same { IsErrOf result AppendFault.Shut → self.new ≡ self.old }
+        ensures memory { IsErrOf result AppendFault.Memory → self.new ≡ record self.old { disk = self.new.disk } }
+        ensures disk { IsErrOf result AppendFault.Disk → (self.new ≡ record self.old { torn = Some payload.now; shut = true; disk = self.new.disk }) × Rose self.old.disk.faults self.new.disk.faults }
+
+        // A crash inside it leaves what one before it may leave, with the new record or without.
+        ensures any_crash { AnyCrashLeaves self.old.disk self.new.disk (λ found. MayFind self.old found ⊎ (found ≡ self.old.records ++ payload.now ∷ [])) }
+        ensures survives { Survives self.new }
+        ensures faults { self.old.disk.faults ≤ self.new.disk.faults }
+        ensures armed { self.new.disk.armed ≤ self.old.disk.armed }
+    {
+        if self.shut {
+            return Err(AppendFault::Shut);
+        }
+        let kept = payload.to_vec(self.alloc)?;
+        self.found.reserve(1)?;
+        match add(self.alloc, &mut self.disk, self.end, payload) {
+            Ok(()) => {
+                self.end += OVERHEAD + payload.len() as u64;
+                self.found.push_reserved(kept);
+                Ok(())
+            }
+            Err(Fault::Memory) => Err(AppendFault::Memory),
+            Err(Fault::Disk) => {
+                self.torn = Some(kept);
+                self.shut = true;
+                Err(AppendFault::Disk)
+            }
+        }
+    }
+
+    /// Opens the disk again, as after a crash, with an image that the word may pick: the records of before, with the torn
+    /// one or without.
+    ///
+    /// After `Disk` the journal is shut, and shows what it showed; after `Memory` it shows that and is shut or not as
+    /// before. Cost: as `open_on`.
+    pub fn reopen(&mut self, word: u64) -> Result<(), Fault>
+        ensures ok { OnOk result ((self.new ≡ record { records = self.new.records; torn = None; shut = false; disk = self.new.disk }) × MayFind self.old self.new.records) }
+        ensures durable { OnOk result (LeavesRecords self.new.disk (λ found. found ≡ self.new.records)) }
+        ensures same { self.old.shut ≡ false → OnOk result (self.new.records ≡ self.old.records) }
+        ensures memory { IsErrOf result Fault.Memory → self.new ≡ record self.old { disk = self.new.disk } }
+        ensures disk { IsErrOf result Fault.Disk → (self.new ≡ record self.old { shut = true; disk = self.new.disk }) × Rose self.old.disk.faults self.new.disk.faults }
+
+        // A crash inside it leaves what one before it may leave.
+        ensures any_crash { AnyCrashLeaves self.old.disk self.new.disk (MayFind self.old) }
+        ensures survives { Survives self.new }
+        ensures faults { self.old.disk.faults ≤ self.new.disk.faults }
+        ensures armed { self.new.disk.armed ≤ self.old.disk.armed }
+    {
+        if self.disk.reopen(word).is_err() {
+            self.shut = true;
+            return Err(Fault::Disk);
+        }
+        match scan(self.alloc, &mut self.disk) {
+            Ok((found, end)) => {
+                self.found = found;
+                self.end = end;
+                self.torn = None;
+                self.shut = false;
+                Ok(())
+            }
+            Err(Fault::Memory) => Err(Fault::Memory),
+            Err(Fault::Disk) => {
+                self.shut = true;
+                Err(Fault::Disk)
+            }
+        }
+    }
+
+    /// How many records there are.
+    pub fn count(&self) -> usize
+        ensures count { result ≡ length self.now.records }
+        ensures survives { Survives self.now }
+    {
+        self.found.len()
+    }
+
+    /// The i-th record, from 0 on, in constant time.
+    pub fn get(&self, i: usize) -> &[u8]
+        requires { i < length self.now.records }
+        ensures { result.now ≡ slice_index_or self.now.records i [] }
+    {
+        &self.found[i]
+    }
+
+    /// The disk failed in some call since the last reopening that succeeded: no record is added until one does.
+    pub fn is_shut(&self) -> bool
+        ensures { result ≡ self.now.shut }
+    {
+        self.shut
+    }
+
+    /// How often the disk has failed.
+    pub fn disk_faults(&self) -> u64
+        ensures { result ≡ self.now.disk.faults }
+    {
+        self.disk.faults()
+    }
+
+    /// Arms the disk: its write number `after` from now on stops inside itself, as in a crash; 0 takes that back.
+    pub fn stop(&mut self, after: u64)
+        ensures stops { self.new ≡ record self.old { disk = if self.old.disk.stopped then self.old.disk else record self.old.disk { armed = after } } }
+        ensures survives { Survives self.new }
+    {
+        self.disk.arm(after);
+    }
+
+    /// The disk.
+    pub fn into_parts(self) -> D
+        ensures disk { D.view result ≡ self.disk }
+        ensures survives { Survives self }
+    {
+        let Journal {
+            alloc: _,
+            disk,
+            found: _,
+            end: _,
+            torn: _,
+            shut: _,
+        } = self;
+        disk
+    }
+}
