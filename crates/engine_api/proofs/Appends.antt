@@ -1,6 +1,5 @@
 -- A log that grows at its end.
-use Rattle.std.proofs.Common.{◌≡◌, refl, sym, ap, ◌∙◌, ℕ, suc, zero, ◌+◌, List, [], ◌∷◌, ◌++◌, arith, append_assoc, append-nil, length, add-zero}
-use Rattle.std.specs.Prelude.{Option, filter_map}
+use Rattle.std.proofs.Common.{◌≡◌, refl, sym, ap, ◌∙◌, ℕ, suc, ◌+◌, List, [], ◌∷◌, ◌++◌, arith, append_assoc, append-nil, length, add-zero}
 use Rattle.std.proofs.lemmas.List.Elements.{filter_map-append}
 use Rattle.delos_types.specs.declared.entry.Entry.{Entry}
 use Rattle.table_core.specs.Table.{TableMap}
@@ -40,7 +39,7 @@ asked_in-append pos es fs = ap appearances (unpack_all-append pos es fs) ∙ app
 
 -- what more entries do, behind those that stand there
 pub acted_log-append : (m : TableMap) (start : ℕ → ℕ) (pos : ℕ) (es fs : List Entry)
-  → acted_log m start pos (es ++ fs) ≡ acted_log m start pos es ++ replied (table_after m (acted_log m start pos es)) (acted_after start (asked_in pos es) (asked_in (pos + length es) fs))
+    → acted_log m start pos (es ++ fs) ≡ acted_log m start pos es ++ replied (table_after m (acted_log m start pos es)) (acted_after start (asked_in pos es) (asked_in (pos + length es) fs))
 acted_log-append m start pos es fs =
     ap (λ l. replied m (acted_from start l)) (asked_in-append pos es fs)
     ∙ ap (replied m) (acted_after-append start [] (asked_in pos es) (asked_in (pos + length es) fs))

@@ -1,5 +1,5 @@
 -- The steps of the loops that look for a greatest and a least number.
-use Rattle.std.proofs.Common.{◌≡◌, refl, sym, ap, ◌∙◌, ℕ, suc, zero, ◌+◌, ◌-◌, ◌<◌, ◌≤◌, Bool, true, false, cond, List, [], ◌∷◌, Option, Some, None, arith, min, max}
+use Rattle.std.proofs.Common.{◌≡◌, refl, sym, ap, ◌∙◌, ℕ, suc, ◌+◌, ◌-◌, ◌<◌, ◌≤◌, Bool, true, false, cond, List, [], ◌∷◌, Option, Some, None, arith, min, max}
 use Rattle.std.specs.Prelude.{filter, map, unwrap_or}
 use Rattle.std.specs.Option.{option_map}
 use Rattle.engine_api.specs.Order.{numbers}
@@ -47,12 +47,12 @@ least-joins None p ns = refl
 least-joins (Some q) p ns = least-two q p ns
 
 pub least-passes : (f : ℕ → ℕ) (p : ℕ → Bool) (o : Option ℕ) (n total r : ℕ) → n < total → p n ≡ true → least (with_least o (map f (filter p (numbers n (total - n))))) ≡ r
-  → least (with_least (Some (unwrap_or (option_map (λ q. min q (f n)) o) (f n))) (map f (filter p (numbers (n + 1) (total - (n + 1)))))) ≡ r
+    → least (with_least (Some (unwrap_or (option_map (λ q. min q (f n)) o) (f n))) (map f (filter p (numbers (n + 1) (total - (n + 1)))))) ≡ r
 least-passes f p o n total r below e h =
     sym (ap (λ l. least (with_least o (map f (filter p l)))) (numbers-from n total below) ∙ ap (λ l. least (with_least o (map f l))) (filter-passes p n _ e) ∙ least-joins o (f n) _) ∙ h
 
 pub least-drops : (f : ℕ → ℕ) (p : ℕ → Bool) (o : Option ℕ) (n total r : ℕ) → n < total → p n ≡ false → least (with_least o (map f (filter p (numbers n (total - n))))) ≡ r
-  → least (with_least o (map f (filter p (numbers (n + 1) (total - (n + 1)))))) ≡ r
+    → least (with_least o (map f (filter p (numbers (n + 1) (total - (n + 1)))))) ≡ r
 least-drops f p o n total r below e h =
     sym (ap (λ l. least (with_least o (map f (filter p l)))) (numbers-from n total below) ∙ ap (λ l. least (with_least o (map f l))) (filter-drops p n _ e)) ∙ h
 

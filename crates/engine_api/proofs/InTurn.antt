@@ -1,16 +1,14 @@
 -- What comes in turn acts where it stands.
-use Rattle.std.proofs.Common.{◌≡◌, refl, sym, ap, subst, ◌∙◌, ℕ, suc, zero, ◌+◌, ◌-◌, ◌<◌, ◌≤◌, Bool, true, false, cond, List, [], ◌∷◌, ◌++◌, Option, Some, None, arith, is_some, zero-add}
-use Rattle.std.specs.Prelude.{◌==◌, ◌&&◌, ◌||◌, nat_lt, filter_map, find, count_by}
+use Rattle.std.proofs.Common.{◌≡◌, refl, sym, ap, subst, ◌∙◌, ℕ, ◌+◌, ◌-◌, ◌<◌, ◌≤◌, Bool, true, false, cond, List, [], ◌∷◌, ◌++◌, Option, Some, None, arith, is_some, zero-add}
+use Rattle.std.specs.Prelude.{◌==◌, ◌&&◌, ◌||◌, nat_lt, filter_map}
 use Rattle.std.specs.List.{cons_option}
 use Rattle.std.specs.Option.{option_map, option_or}
 use Rattle.std.proofs.lemmas.Bool.Decides.{nat_tests}
-use Rattle.std.proofs.lemmas.Bool.{ltb-true}
 use Rattle.std.proofs.lemmas.List.Folds.{find-append}
 use Rattle.std.proofs.lemmas.List.Sums.{sum_by-append}
 use Rattle.engine_api.specs.declared.appearance.Appearance.{Appearance}
 use Rattle.engine_api.specs.Order.{first_of, gap_from, act_at, numbers, acts_of, acted_after, acted_from, count_of, in_turn_after, in_turn}
 use Rattle.engine_api.proofs.Gaps.{gap_from-is}
-use Rattle.engine_api.proofs.Steps.{act_at-is}
 
 -- the ranks that appear from the start on are as many as the session has
 pub record Covers {C : Type 0} (start : ℕ → ℕ) (before : List (Appearance C)) : Type 0 where
@@ -53,10 +51,12 @@ one_more true low rank q is = let same : rank ≡ low = is refl in grind (arith,
 one_more false low rank q is = grind (arith, nat_tests)
 
 covers-push : {C : Type 0} (start : ℕ → ℕ) (before : List (Appearance C)) (x : Appearance C) → x.rank ≡ start x.session + count_of before x.session → Covers start before → Covers start (before ++ x ∷ [])
-covers-push start before x next h = record { at = λ s q low.
-    first_of-push before x s q ∙ ap (λ b. b || ((x.session == s) && (x.rank == q))) (h.at s q low)
-    ∙ one_more (x.session == s) (start s + count_of before s) x.rank q (λ e. subst (λ z. x.rank ≡ start z + count_of before z) (same_number x.session s e) next)
-    ∙ ap (nat_lt q) (add_assoc' (start s) (count_of before s) (cond (x.session == s) 1 0) ∙ ap (λ n. start s + n) (sym (count_of-push before x s))) }
+covers-push start before x next h = record {
+  at = λ s q low.
+      first_of-push before x s q ∙ ap (λ b. b || ((x.session == s) && (x.rank == q))) (h.at s q low)
+      ∙ one_more (x.session == s) (start s + count_of before s) x.rank q (λ e. subst (λ z. x.rank ≡ start z + count_of before z) (same_number x.session s e) next)
+      ∙ ap (nat_lt q) (add_assoc' (start s) (count_of before s) (cond (x.session == s) 1 0) ∙ ap (λ n. start s + n) (sym (count_of-push before x s)));
+}
   where
     add_assoc' : (a b c : ℕ) → a + b + c ≡ a + (b + c)
     add_assoc' a b c = omega arith
@@ -95,8 +95,8 @@ acts_of-next {C} start before x next h =
     let g = start x.session + count_of before x.session in
     let from : gap_from before x.session (start x.session) ≡ g = gap-covers start before x.session h in
     let to : gap_from xs x.session (start x.session) ≡ g + 1 =
-      gap-covers start xs x.session (covers-push start before x next h) ∙ ap (λ n. start x.session + n) (count_of-push before x x.session ∙ ap (λ b. count_of before x.session + cond b 1 0) (same_is_true x.session))
-      ∙ (let e : start x.session + (count_of before x.session + 1) ≡ g + 1 = omega arith in e) in
+    gap-covers start xs x.session (covers-push start before x next h) ∙ ap (λ n. start x.session + n) (count_of-push before x x.session ∙ ap (λ b. count_of before x.session + cond b 1 0) (same_is_true x.session))
+    ∙ (let e : start x.session + (count_of before x.session + 1) ≡ g + 1 = omega arith in e) in
     let gone : is_some (first_of before x.session g) ≡ false = false_at start before x.session g h (omega arith) in
     let here : act_at xs x g ≡ Some x = ap (option_map (λ (f : Appearance C). record { place = x.place; session = x.session; rank = g; command = f.command })) (found before x g next gone) ∙ ap Some (whole x g next) in
     ap (λ n. filter_map (act_at xs x) (numbers n (gap_from xs x.session (start x.session) - n))) from

@@ -1,6 +1,6 @@
 -- What is packed is unpacked.
-use Rattle.std.proofs.Common.{◌≡◌, refl, sym, ap, subst, ◌∙◌, ℕ, suc, zero, ◌+◌, ◌*◌, ◌<◌, ◌≤◌, ◌^◌, Bool, true, false, cond, ◌&&◌, List, [], ◌∷◌, ◌++◌, Option, Some, None, Result, Ok, Err, arith, take, drop, get_or, length, append_assoc, append-nil, length-append, is_some}
-use Rattle.std.specs.Prelude.{◌==◌, nat_le, All, IsSome, IfOk, map, filter_map, flat_map}
+use Rattle.std.proofs.Common.{◌≡◌, refl, sym, ap, subst, ◌∙◌, ℕ, ◌+◌, ◌*◌, ◌<◌, ◌≤◌, ◌^◌, Bool, true, false, cond, ◌&&◌, List, [], ◌∷◌, ◌++◌, Option, Some, None, Result, Ok, Err, arith, take, drop, length, length-append}
+use Rattle.std.specs.Prelude.{◌==◌, nat_le, IsSome, IfOk, map, filter_map, flat_map}
 use Rattle.std.specs.List.{AllByRecursion, cons_option}
 use Rattle.std.specs.Option.{option_map, option_and_then}
 use Rattle.std.specs.Result.{result_ok}
@@ -15,8 +15,8 @@ use Rattle.delos_types.specs.declared.item.Header.{Header}
 use Rattle.delos_types.specs.declared.item.Item.{Item}
 use Rattle.delos_types.specs.declared.entry.Entry.{Entry}
 use Rattle.entry_codec.specs.Format.{item_bytes}
-use Rattle.entry_codec.specs.Reading.{item_of, item_read}
-use Rattle.entry_codec.proofs.Spellings.{item_again}
+use Rattle.entry_codec.specs.Reading.{item_of}
+use Rattle.entry_codec.proofs.Laws.{item_again}
 use Rattle.entry_codec.proofs.HeaderLaws.{length-item_bytes}
 use Rattle.table_core.specs.Spelling as command_spelling
 use Rattle.table_core.specs.Reading.{command_of}
@@ -24,7 +24,6 @@ use Rattle.table_core.proofs.Spellings.{command_of-text, length-command_text}
 use Rattle.table_core.specs.declared.command.Command.{Command}
 use Rattle.engine_api.specs.declared.content.Content.{Content}
 use Rattle.engine_api.specs.declared.content.Content.TheVariants.{Session, Alive, Leave, Trim}
-use Rattle.engine_api.specs.declared.content.Placed.{Placed}
 use Rattle.engine_api.specs.Items.{session_in, rank_in, is_session_body, view_word, lengths_of, items_from, batch_lengths, items_of, content_of, contents_of, placed_from, placed_at, unpack}
 use Rattle.engine_api.specs.Packing.{item_under, session_item, view_body, alive_item, leave_item, trim_item, batch_body, packed, IsProposable, IsBatch}
 use Rattle.engine_api.proofs.Unpacked.{fits_is}
@@ -86,14 +85,14 @@ content_of-trim position small =
 
 proposable : (kind : ℕ) (body payload : List ℕ) (c : Content) → 1 ≤ kind → kind < 256 → length body + length payload ≤ 994 → content_of (item_under kind body payload) ≡ Some c → IsProposable (item_under kind body payload)
 proposable kind body payload c low high small says = record {
-    spellable = record {
-      rising = (low, high, tt);
-      bodies = All-from_recursion (λ (h : Header). length h.body < 2 ^ 16) (record { kind = kind; body = body } ∷ []) (let short : length body < 2 ^ 16 = omega arith in (short, tt));
-      payload = omega arith
-    };
-    small = omega arith;
-    says = subst IsSome (sym says) refl
-  }
+  spellable = record {
+    rising = (low, high, tt);
+    bodies = All-from_recursion (λ (h : Header). length h.body < 2 ^ 16) (record { kind = kind; body = body } ∷ []) (let short : length body < 2 ^ 16 = omega arith in (short, tt));
+    payload = omega arith;
+  };
+  small = omega arith;
+  says = subst IsSome (sym says) refl;
+}
 
 pub proposable-session : (s r : ℕ) (c : Command) → s ≤ 63 → 1 ≤ r → r < 2 ^ 64 → command_spelling.IsSpellable c → command_spelling.command_length c ≤ 984 → IsProposable (session_item s r c)
 proposable-session s r c low one small spellable short =
@@ -165,7 +164,7 @@ length-lengths : (items : List Item) → length (flat_map (λ i. u16_bytes (item
 length-lengths [] = refl
 length-lengths (i ∷ is) =
     let parts : length (flat_map (λ j. u16_bytes (item_length j)) (i ∷ is)) ≡ length (u16_bytes (item_length i)) + length (flat_map (λ j. u16_bytes (item_length j)) is) =
-      ap length (flat_map-cons (λ (j : Item). u16_bytes (item_length j)) i is) ∙ length-append (u16_bytes (item_length i)) (flat_map (λ j. u16_bytes (item_length j)) is) in
+    ap length (flat_map-cons (λ (j : Item). u16_bytes (item_length j)) i is) ∙ length-append (u16_bytes (item_length i)) (flat_map (λ j. u16_bytes (item_length j)) is) in
     omega (arith, parts, length-u16_bytes (item_length i), length-lengths is)
 
 length-items : (items : List Item) → AllByRecursion IsProposable items → length (flat_map item_bytes items) ≤ 1000 * length items
@@ -193,10 +192,10 @@ unpack-packed origin items pos b =
 
 pub spellable-packed : (origin : ℕ) (items : List Item) → 1 ≤ origin → origin ≤ 8 → IsBatch items → IsSpellable (packed origin items)
 spellable-packed origin items low high b = record {
-    origin = (low, high);
-    rising = (omega arith, omega arith, tt);
-    small = omega (arith, length-lengths items, length-items items (recursion_from_All IsProposable items b.each), b.few)
-  }
+  origin = (low, high);
+  rising = (omega arith, omega arith, tt);
+  small = omega (arith, length-lengths items, length-items items (recursion_from_All IsProposable items b.each), b.few);
+}
 
 -- the entry that was made is the packed one
 pub ok_entry : {E : Type 0} (r : Result Entry E) (P : Entry → Type 0) (e : Entry) → P e → IfOk r (λ made. made ≡ e) → IfOk r P

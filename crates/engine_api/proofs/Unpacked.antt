@@ -1,5 +1,5 @@
 -- The steps of the loops that read an entry.
-use Rattle.std.proofs.Common.{◌≡◌, refl, sym, ap, subst, ◌∙◌, ℕ, suc, zero, ◌+◌, ◌<◌, ◌≤◌, Bool, true, false, cond, List, [], ◌∷◌, ◌++◌, Option, Some, None, arith, take, drop, get_or, length, append_assoc, append-nil, add-one, ◌*◌, ◌-◌, length-drop, length-append}
+use Rattle.std.proofs.Common.{◌≡◌, refl, sym, ap, ◌∙◌, ℕ, suc, ◌+◌, ◌<◌, ◌≤◌, true, false, cond, List, [], ◌∷◌, ◌++◌, Option, Some, None, arith, take, drop, get_or, length, append_assoc, append-nil, add-one, ◌*◌, ◌-◌, length-drop, length-append}
 use Rattle.std.specs.Prelude.{nat_le}
 use Rattle.std.specs.Option.{option_map, option_and_then}
 use Rattle.std.proofs.lemmas.Bool.Decides.{nat_tests}
@@ -40,7 +40,7 @@ pub items_from-more : (items : List Item) (n : ℕ) (ns rest : List ℕ) (i : It
 items_from-more items n ns rest i total fits is e =
     sym (front_more items i (items_from ns (drop n rest)))
     ∙ ap (in_front items) (sym (ap (λ b. cond b (option_and_then (λ j. option_map (λ js. j ∷ js) (items_from ns (drop n rest))) (item_of (take n rest))) None) (fits_is n (length rest) fits)
-      ∙ ap (option_and_then (λ j. option_map (λ js. j ∷ js) (items_from ns (drop n rest)))) is)) ∙ e
+    ∙ ap (option_and_then (λ j. option_map (λ js. j ∷ js) (items_from ns (drop n rest)))) is)) ∙ e
 
 pub items_from-short : (items : List Item) (n : ℕ) (ns rest : List ℕ) (total : Option (List Item)) → length rest < n → in_front items (items_from (n ∷ ns) rest) ≡ total → None ≡ total
 items_from-short items n ns rest total short e =
@@ -49,7 +49,7 @@ items_from-short items n ns rest total short e =
 pub items_from-bad : (items : List Item) (n : ℕ) (ns rest : List ℕ) (total : Option (List Item)) → n ≤ length rest → item_of (take n rest) ≡ None → in_front items (items_from (n ∷ ns) rest) ≡ total → None ≡ total
 items_from-bad items n ns rest total fits is e =
     ap (in_front items) (sym (ap (λ b. cond b (option_and_then (λ j. option_map (λ js. j ∷ js) (items_from ns (drop n rest))) (item_of (take n rest))) None) (fits_is n (length rest) fits)
-      ∙ ap (option_and_then (λ j. option_map (λ js. j ∷ js) (items_from ns (drop n rest)))) is)) ∙ e
+    ∙ ap (option_and_then (λ j. option_map (λ js. j ∷ js) (items_from ns (drop n rest)))) is)) ∙ e
 
 pub items_from-end : (items : List Item) (rest : List ℕ) (total : Option (List Item)) → rest ≡ [] → in_front items (items_from [] rest) ≡ total → Some items ≡ total
 items_from-end items rest total none e = ap Some (sym (append-nil items)) ∙ ap (λ r. in_front items (items_from [] r)) (sym none) ∙ e
@@ -68,7 +68,7 @@ behind_more front pos sub c None = refl
 behind_more front pos sub c (Some cs) = sym (append_assoc front (record { place = record { pos = pos; sub = sub }; content = c } ∷ []) (placed_from pos (sub + 1) cs))
 
 pub placed-more : (front : List Placed) (pos sub : ℕ) (items : List Item) (i : Item) (c : Content) (total : List Placed) → sub < length items → i ≡ get_or items sub i → content_of i ≡ Some c
-  → placed_behind front pos sub (contents_of (drop sub items)) ≡ total → placed_behind (front ++ record { place = record { pos = pos; sub = sub }; content = c } ∷ []) pos (sub + 1) (contents_of (drop (sub + 1) items)) ≡ total
+    → placed_behind front pos sub (contents_of (drop sub items)) ≡ total → placed_behind (front ++ record { place = record { pos = pos; sub = sub }; content = c } ∷ []) pos (sub + 1) (contents_of (drop (sub + 1) items)) ≡ total
 placed-more front pos sub items i c total inside at is e =
     let rest = contents_of (drop (sub + 1) items) in
     let next : drop sub items ≡ i ∷ drop (sub + 1) items = drop-cons items sub i inside ∙ ap (λ y. y ∷ drop (suc sub) items) (sym at) ∙ ap (λ n. i ∷ drop n items) (sym (add-one sub)) in
@@ -76,7 +76,7 @@ placed-more front pos sub items i c total inside at is e =
     ∙ sym (ap (λ l. placed_behind front pos sub (contents_of l)) next ∙ ap (λ o. placed_behind front pos sub (option_and_then (λ d. option_map (λ cs. d ∷ cs) rest) o)) is) ∙ e
 
 pub placed-bad : (front : List Placed) (pos sub : ℕ) (items : List Item) (i : Item) (total : List Placed) → sub < length items → i ≡ get_or items sub i → content_of i ≡ None
-  → placed_behind front pos sub (contents_of (drop sub items)) ≡ total → [] ≡ total
+    → placed_behind front pos sub (contents_of (drop sub items)) ≡ total → [] ≡ total
 placed-bad front pos sub items i total inside at is e =
     let rest = contents_of (drop (sub + 1) items) in
     let next : drop sub items ≡ i ∷ drop (sub + 1) items = drop-cons items sub i inside ∙ ap (λ y. y ∷ drop (suc sub) items) (sym at) ∙ ap (λ n. i ∷ drop n items) (sym (add-one sub)) in

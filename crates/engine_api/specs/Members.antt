@@ -1,6 +1,6 @@
 -- Who is a member after what stands in a log, and what may be trimmed.
 -- At first all nodes are members, each with position 0.
-use Rattle.std.specs.Prelude.{ℕ, zero, suc, ◌+◌, Bool, true, false, not, ◌&&◌, ◌==◌, if◌then◌else◌, List, [], ◌∷◌, take, length, map, filter, max, min, filter_map, Option, Some, None}
+use Rattle.std.specs.Prelude.{ℕ, ◌+◌, Bool, false, not, ◌==◌, if◌then◌else◌, List, [], ◌∷◌, take, length, map, filter, max, min, filter_map, Option, Some, None}
 use Rattle.std.specs.List.{list_any}
 use Rattle.delos_types.specs.declared.entry.Entry.{Entry}
 use Rattle.engine_api.specs.declared.content.Content.{Content}

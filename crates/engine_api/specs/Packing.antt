@@ -1,5 +1,5 @@
 -- How an item is spelled that says something, and how an entry is packed of items.
-use Rattle.std.specs.Prelude.{◌≡◌, ℕ, ◌+◌, ◌≤◌, List, [], ◌∷◌, ◌++◌, length, flat_map, filter_map, All, IsSome}
+use Rattle.std.specs.Prelude.{◌≡◌, ℕ, ◌≤◌, List, [], ◌∷◌, ◌++◌, length, flat_map, filter_map, All, IsSome}
 use Rattle.delos_types.specs.Numbers.{u16_bytes, u64_bytes}
 use Rattle.delos_types.specs.Spelling.{IsSpellableItem, IsSpellable, item_length}
 use Rattle.delos_types.specs.declared.item.Header.{Header}

@@ -27,10 +27,7 @@ pub fn acted_from(alloc: Global, acted: &[u64], seen: &[Asked]) -> Result<Appear
 fn last_acted(acted: &[u64], session: SessionId) -> u64
     ensures { result ≡ slice_index acted.now session }
 {
-    acted
-        .get(session.number() as usize)
-        .copied()
-        .unwrap_or(0)
+    acted.get(session.number() as usize).copied().unwrap_or(0)
 }
 
 fn first_of(seen: &[Asked], session: SessionId, rank: u64) -> Option<&Asked>
@@ -91,6 +88,5 @@ fn push_acts(
 pub fn is_clean(acted: &[u64], seen: &[Asked]) -> bool
     ensures { result ≡ order.is_clean (λ s. slice_index acted.now s + 1) seen.now }
 {
-    seen.iter()
-        .all(|x| x.rank.number() <= reached(seen, x.session, last_acted(acted, x.session)))
+    seen.iter().all(|x| x.rank.number() <= reached(seen, x.session, last_acted(acted, x.session)))
 }

@@ -74,7 +74,9 @@ const ACTS: &[(u64, &[&[u64]], &[(u64, u64, u16)])] = &[
     (
         0,
         &[
-            &[17, 18, 19, 20, 21, 22, 23, 24, 25, 26, 27, 28, 29, 30, 31, 32],
+            &[
+                17, 18, 19, 20, 21, 22, 23, 24, 25, 26, 27, 28, 29, 30, 31, 32,
+            ],
             &[1, 2, 3, 4, 5, 6, 7, 8, 9, 10, 11, 12, 13, 14, 15, 16],
         ],
         &[
@@ -113,7 +115,11 @@ const ACTS: &[(u64, &[&[u64]], &[(u64, u64, u16)])] = &[
         ],
     ),
     // A repeated rank that waits acts once, and a gap stays.
-    (0, &[&[3, 3], &[1, 1], &[2], &[5]], &[(1, 1, 0), (2, 2, 0), (3, 2, 0)]),
+    (
+        0,
+        &[&[3, 3], &[1, 1], &[2], &[5]],
+        &[(1, 1, 0), (2, 2, 0), (3, 2, 0)],
+    ),
 ];
 
 #[test]
@@ -127,7 +133,13 @@ fn acts_in_session_order(rt: HostRuntime) -> Result<(), Fail> {
         assert_eq!(rt; acts.len(), want.len());
         for (act, (rank, pos, sub)) in acts.iter().zip(*want) {
             assert_eq!(rt; act.rank.number(), *rank);
-            assert_eq!(rt; act.place, Place { pos: *pos, sub: *sub });
+            assert_eq!(rt;
+                act.place,
+                Place {
+                    pos: *pos,
+                    sub: *sub
+                }
+            );
             assert!(rt; matches!(act.reply, Some(Reply::Done)));
         }
     }
@@ -139,7 +151,9 @@ const CLEAN: &[(&[&[u64]], usize)] = &[
     (&[], 0),
     (&[&[1]], 1),
     (
-        &[&[17, 18, 19, 20, 21, 22, 23, 24, 25, 26, 27, 28, 29, 30, 31, 32]],
+        &[&[
+            17, 18, 19, 20, 21, 22, 23, 24, 25, 26, 27, 28, 29, 30, 31, 32,
+        ]],
         0,
     ),
     (&[&[2], &[1]], 2),
@@ -162,6 +176,7 @@ fn clean_where_no_rank_waits(rt: HostRuntime) -> Result<(), Fail> {
 const ITEM: [u8; 22] = [
     1, 2, 0, 10, 0, 0, 0, 0, 0, 0, 0, 0, 0, 1, 0, 6, 1, 1, 120, 0, 1, 49,
 ];
+
 const ENTRY: [u8; 35] = [
     1, 1, 1, 1, 0, 3, 1, 0, 22, 0, 0, 0, 22, 1, 2, 0, 10, 0, 0, 0, 0, 0, 0, 0, 0, 0, 1, 0, 6, 1, 1,
     120, 0, 1, 49,
@@ -210,7 +225,11 @@ fn a_malformed_entry_holds_nothing(rt: HostRuntime) -> Result<(), Fail> {
         bytes[*at] = *byte;
         let entry = decode_entry(alloc, bytes.as_slice())?;
         let placed = unpack(alloc, 7, &entry)?;
-        assert_eq!(rt; placed.as_slice().len(), if *holds { 1 } else { 0 }, "byte {at}");
+        assert_eq!(rt;
+            placed.as_slice().len(),
+            if *holds { 1 } else { 0 },
+            "byte {at}"
+        );
     }
     Ok(())
 }
@@ -252,12 +271,36 @@ fn words_of_engines_are_items(rt: HostRuntime) -> Result<(), Fail> {
     let node = NodeId::new(3).ok_or("node")?;
     let entry = batch_of_one(alloc, node, alive_item(alloc, node, 258)?)?;
     let placed = unpack(alloc, 1, &entry)?;
-    assert!(rt; matches!(placed.as_slice(), [Placed { content: Content::Alive { position: 258, .. }, .. }]));
+    assert!(rt;
+        matches!(
+            placed.as_slice(),
+            [Placed {
+                content: Content::Alive { position: 258, .. },
+                ..
+            }]
+        )
+    );
     let entry = batch_of_one(alloc, node, leave_item(alloc, node)?)?;
     let placed = unpack(alloc, 1, &entry)?;
-    assert!(rt; matches!(placed.as_slice(), [Placed { content: Content::Leave { .. }, .. }]));
+    assert!(rt;
+        matches!(
+            placed.as_slice(),
+            [Placed {
+                content: Content::Leave { .. },
+                ..
+            }]
+        )
+    );
     let entry = batch_of_one(alloc, node, trim_item(alloc, 258)?)?;
     let placed = unpack(alloc, 1, &entry)?;
-    assert!(rt; matches!(placed.as_slice(), [Placed { content: Content::Trim { position: 258 }, .. }]));
+    assert!(rt;
+        matches!(
+            placed.as_slice(),
+            [Placed {
+                content: Content::Trim { position: 258 },
+                ..
+            }]
+        )
+    );
     Ok(())
 }

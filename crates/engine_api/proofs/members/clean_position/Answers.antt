@@ -9,7 +9,7 @@ loop-n-preserved-then-not-is_clean c =
     let below : c.loop-n.n < length c.args.entries.now + 1 = omega arith in
     record {
       low = omega (arith, c.loop-n.invariant.low);
-      greatest = greatest-drops (clean_at c.args.entries.now) c.loop-n.clean c.loop-n.n (length c.args.entries.now + 1) _ below drops c.loop-n.invariant.greatest
+      greatest = greatest-drops (clean_at c.args.entries.now) c.loop-n.clean c.loop-n.n (length c.args.entries.now + 1) _ below drops c.loop-n.invariant.greatest;
     }
 
 pub loop-n-preserved : goal.loop-n-preserved
@@ -18,5 +18,5 @@ loop-n-preserved c =
     let below : c.loop-n.n < length c.args.entries.now + 1 = omega arith in
     record {
       low = omega arith;
-      greatest = greatest-passes (clean_at c.args.entries.now) c.loop-n.clean c.loop-n.n (length c.args.entries.now + 1) _ c.loop-n.invariant.low below passes c.loop-n.invariant.greatest
+      greatest = greatest-passes (clean_at c.args.entries.now) c.loop-n.clean c.loop-n.n (length c.args.entries.now + 1) _ c.loop-n.invariant.low below passes c.loop-n.invariant.greatest;
     }

@@ -1,5 +1,5 @@
-use Rattle.std.proofs.Common.{◌≡◌, ◌+◌, ap, sym, ◌∙◌, arith, rules, Some, None}
-use Rattle.std.specs.Option.{option_copied, option_map}
+use Rattle.std.proofs.Common.{◌≡◌, ◌+◌, ap, sym, arith, rules, None}
+use Rattle.std.specs.Option.{option_map}
 use Rattle.engine_api.specs.Order as order
 use Rattle.engine_api.proofs.Steps.{acts-some, acts-none, act_at-is}
 use Rattle.engine_api.proofs.order.push_acts.Goals as goal

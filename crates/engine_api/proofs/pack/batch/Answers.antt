@@ -1,5 +1,4 @@
-use Rattle.std.proofs.Common.{◌≡◌, ◌≤◌, arith, rules}
-use Rattle.engine_api.specs.Packing.{packed}
+use Rattle.std.proofs.Common.{◌≤◌, arith}
 use Rattle.engine_api.proofs.Packed.{unpack-packed, spellable-packed}
 use Rattle.engine_api.proofs.pack.batch.Goals as goal
 

@@ -1,4 +1,4 @@
-use Rattle.std.proofs.Common.{◌≡◌, ◌<◌, ◌≤◌, ◌^◌, arith, rules}
+use Rattle.std.proofs.Common.{◌≡◌, ◌≤◌, arith, rules}
 use Rattle.std.specs.Prelude.{IfOk}
 use Rattle.engine_api.specs.Packing as packing
 use Rattle.engine_api.proofs.Packed.{content_of-leave, proposable-leave, ok_item}

@@ -8,10 +8,10 @@ loop-len-preserved c =
     let same : c.from-len.result ≡ c.in-Some.len = search rules in
     let fits : c.from-len.result ≤ length c.loop-len.rest.now = omega arith in
     let is : item_of (take c.from-len.result c.loop-len.rest.now) ≡ Some c.in-Some-2.item =
-      ap item_of (sym c.split_at.ensures.front) ∙ sym c.in_ok-item.ensures ∙ c.in-Some-2.is in
+    ap item_of (sym c.split_at.ensures.front) ∙ sym c.in_ok-item.ensures ∙ c.in-Some-2.is in
     let before =
-      rw (lengths_of-split c.loop-len.left.now c.in-Some.len c.in-Some.others.now c.in-Some.ensures, sym same) at c.loop-len.invariant.items in
+    rw (lengths_of-split c.loop-len.left.now c.in-Some.len c.in-Some.others.now c.in-Some.ensures, sym same) at c.loop-len.invariant.items in
     record {
       items = rw (c.in_ok-push.ensures.ok, c.split_at.ensures.back) (items_from-more c.loop-len.items c.from-len.result _ c.loop-len.rest.now c.in-Some-2.item _ fits is before);
-      few = rw c.in_ok-push.ensures.ok (few-more c.loop-len.items c.in-Some-2.item c.loop-len.left.now c.in-Some.len c.in-Some.others.now _ c.in-Some.ensures c.loop-len.invariant.few)
+      few = rw c.in_ok-push.ensures.ok (few-more c.loop-len.items c.in-Some-2.item c.loop-len.left.now c.in-Some.len c.in-Some.others.now _ c.in-Some.ensures c.loop-len.invariant.few);
     }

@@ -5,6 +5,6 @@ use Rattle.engine_api.proofs.tests.entry.Given as goal
 
 abbrev pub invariant-loop-rank : goal.invariant-loop-rank
 invariant-loop-rank l = record {
-    each : All IsProposable l.items.items;
-    count : length l.items.items ≡ l.rank-index
-  }
+  each : All IsProposable l.items.items;
+  count : length l.items.items ≡ l.rank-index;
+}
