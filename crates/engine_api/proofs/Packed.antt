@@ -16,7 +16,7 @@ use Rattle.delos_types.specs.declared.item.Item.{Item}
 use Rattle.delos_types.specs.declared.entry.Entry.{Entry}
 use Rattle.entry_codec.specs.Format.{item_bytes}
 use Rattle.entry_codec.specs.Reading.{item_of}
-use Rattle.entry_codec.proofs.Laws.{item_again}
+use Rattle.entry_codec.proofs.Spellings.{item_again}
 use Rattle.entry_codec.proofs.HeaderLaws.{length-item_bytes}
 use Rattle.table_core.specs.Spelling as command_spelling
 use Rattle.table_core.specs.Reading.{command_of}
