@@ -1,7 +1,7 @@
 -- What is read is what is spelled.
-use Rattle.std.proofs.Common.{◌≡◌, ℕ, zero, suc, ◌+◌, ◌<◌, ◌≤◌, ◌^◌, Bool, true, false, cond, ◌&&◌, List, [], ◌∷◌, ◌++◌, length, take, drop, get_or, Option, Some, None, MatchOption, refl, sym, ap, subst, ◌∙◌, arith}
-use Rattle.std.specs.Prelude.{nat_le, ◌==◌, FitsSigned, ℤ, pos, ⊤, Result, Ok, Err, IfOk}
-use Rattle.std.specs.List.{list_all, AllByRecursion}
+use Rattle.std.proofs.Common.{◌≡◌, ℕ, zero, suc, ◌+◌, ◌<◌, ◌≤◌, ◌^◌, Bool, true, false, cond, ◌&&◌, [], ◌∷◌, ◌++◌, length, take, drop, get_or, Option, Some, None, MatchOption, refl, sym, ap, subst, ◌∙◌, arith}
+use Rattle.std.specs.Prelude.{nat_le, ◌==◌, FitsSigned, ℤ, ⊤, Result, Ok, Err, IfOk}
+use Rattle.std.specs.List.{AllByRecursion}
 use Rattle.std.specs.Int.{to_be_bytes, from_be_bytes, cast_unsigned, cast_signed, w16, w64}
 use Rattle.std.proofs.lemmas.Nat.{from_be_bytes-to_be_bytes_2, from_be_bytes-to_be_bytes_8, be_bytes_2, be_bytes_8}
 use Rattle.std.proofs.lemmas.Int.{to_z-of_z, of_z-to_z}
@@ -133,7 +133,7 @@ valued a b rest (Some p) small_a small_b bytes h =
     record {
       whole = ap (λ t. a ∷ b ∷ t) h.whole ∙ ap (λ l. l ++ (p.0 ++ p.1)) (sym spelled);
       value = subst (λ m. m < 2 ^ 16) (sym h.long) (omega arith);
-      small = h.small bytes
+      small = h.small bytes;
     }
 
 value_front : (bytes : Text) → IsBytes bytes → MatchOption (split_value bytes) ⊤ (IsValueFront bytes)
@@ -188,15 +188,15 @@ spelled_with tag key rest k h =
     elim (tag == 1) as (λ t. (tag == 1) ≡ t → SpelledAfter tag key rest (cond t (put_of key (split_value rest)) (cond (tag == 2) (if_whole (Del key) rest) (cond (tag == 3) (cas_from key (split_value rest)) (cond (tag == 4) (add_of key rest) None))))) [
       | true ↦ λ e. subst (λ n. SpelledAfter n key rest (put_of key (split_value rest))) (sym (same_number tag 1 e)) (spelled_put key rest (split_value rest) k (value_front rest h))
       | false ↦ λ _. elim (tag == 2) as (λ t. (tag == 2) ≡ t → SpelledAfter tag key rest (cond t (if_whole (Del key) rest) (cond (tag == 3) (cas_from key (split_value rest)) (cond (tag == 4) (add_of key rest) None)))) [
-          | true ↦ λ e. subst (λ n. SpelledAfter n key rest (if_whole (Del key) rest)) (sym (same_number tag 2 e)) (spelled_del key rest k)
-          | false ↦ λ _. elim (tag == 3) as (λ t. (tag == 3) ≡ t → SpelledAfter tag key rest (cond t (cas_from key (split_value rest)) (cond (tag == 4) (add_of key rest) None))) [
-              | true ↦ λ e. subst (λ n. SpelledAfter n key rest (cas_from key (split_value rest))) (sym (same_number tag 3 e)) (spelled_cas key rest (split_value rest) k (value_front rest h))
-              | false ↦ λ _. elim (tag == 4) as (λ t. (tag == 4) ≡ t → SpelledAfter tag key rest (cond t (add_of key rest) None)) [
-                  | true ↦ λ e. subst (λ n. SpelledAfter n key rest (add_of key rest)) (sym (same_number tag 4 e)) (spelled_add key rest k h)
-                  | false ↦ λ _. tt
-                ] refl
-            ] refl
+        | true ↦ λ e. subst (λ n. SpelledAfter n key rest (if_whole (Del key) rest)) (sym (same_number tag 2 e)) (spelled_del key rest k)
+        | false ↦ λ _. elim (tag == 3) as (λ t. (tag == 3) ≡ t → SpelledAfter tag key rest (cond t (cas_from key (split_value rest)) (cond (tag == 4) (add_of key rest) None))) [
+          | true ↦ λ e. subst (λ n. SpelledAfter n key rest (cas_from key (split_value rest))) (sym (same_number tag 3 e)) (spelled_cas key rest (split_value rest) k (value_front rest h))
+          | false ↦ λ _. elim (tag == 4) as (λ t. (tag == 4) ≡ t → SpelledAfter tag key rest (cond t (add_of key rest) None)) [
+            | true ↦ λ e. subst (λ n. SpelledAfter n key rest (add_of key rest)) (sym (same_number tag 4 e)) (spelled_add key rest k h)
+            | false ↦ λ _. tt
+          ] refl
         ] refl
+      ] refl
     ] refl
 
 spelled_from : (tag : ℕ) (rest : Text) (o : Option (Text × Text)) → MatchOption o ⊤ (IsKeyFront rest) → MatchOption (command_from tag o) ⊤ (Spells (tag ∷ rest))

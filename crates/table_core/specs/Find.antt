@@ -18,8 +18,11 @@ abbrev pub value_found : Option Text → Found
 value_found None = found.Nothing
 value_found (Some v) = found.Value v
 
+-- the keys from low on, below high, in byte order, with their values
+abbrev pub pairs_between : TableMap → Text → Text → List Pair
+pairs_between m low high = pairs_of (filter (λ e. not (is_lt (text_cmp e.0 low)) && is_lt (text_cmp e.0 high)) (finmap.entries m))
+
 -- what the table answers to a read
 abbrev pub find_in : TableMap → Query → Found
 find_in m (query.Get key) = value_found (finmap.get m key)
-find_in m (query.Scan low high) =
-    found.All (pairs_of (filter (λ e. not (is_lt (text_cmp e.0 low)) && is_lt (text_cmp e.0 high)) (finmap.entries m)))
+find_in m (query.Scan low high) = found.All (pairs_between m low high)

@@ -1,6 +1,5 @@
 -- The command that some bytes spell, read from the front.
-use Rattle.std.specs.Prelude.{ℕ, ◌&&◌, Bool, nat_le, ◌==◌, if◌then◌else◌, List, [], ◌∷◌, take, drop, length, Option, Some, None}
-use Rattle.std.specs.Option.{option_and_then}
+use Rattle.std.specs.Prelude.{ℕ, ◌&&◌, Bool, nat_le, ◌==◌, if◌then◌else◌, [], ◌∷◌, take, drop, length, Option, Some, None}
 use Rattle.std.specs.List.{list_all}
 use Rattle.std.specs.Int.{from_be_bytes, cast_signed, w16, w64}
 use Rattle.delos_types.specs.Spaces.{Text}

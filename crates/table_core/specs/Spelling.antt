@@ -2,7 +2,7 @@
 --   1 put: key, value     2 del: key     3 cas: key, old value, new value     4 add: key, amount
 -- A key is its length (1 byte) and its bytes, each from 33 to 126; a value is its length (2 bytes) and its bytes;
 -- an amount is 8 bytes in two's complement. Numbers are big endian.
-use Rattle.std.specs.Prelude.{◌≡◌, ℕ, ◌+◌, ◌<◌, ◌≤◌, ◌^◌, List, [], ◌∷◌, ◌++◌, length, Option, Some, None, MatchOption, FitsSigned}
+use Rattle.std.specs.Prelude.{◌≡◌, ℕ, ◌+◌, ◌<◌, ◌≤◌, ◌^◌, ◌∷◌, ◌++◌, length, Option, MatchOption, FitsSigned}
 use Rattle.std.specs.List.{AllByRecursion}
 use Rattle.std.specs.Int.{to_be_bytes, cast_unsigned, w16, w64}
 use Rattle.delos_types.specs.Spaces.{Text}

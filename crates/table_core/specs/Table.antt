@@ -1,5 +1,5 @@
 -- The table: a finite map from keys to values, in the order of bytes, and what a command does to it.
-use Rattle.std.specs.Prelude.{◌≡◌, ℕ, ◌^◌, Bool, true, false, nat_lt, nat_eq, ◌==◌, ◌&&◌, if◌then◌else◌, List, Option, Some, None, ℤ, pos, negsuc, ◌+ℤ◌}
+use Rattle.std.specs.Prelude.{◌≡◌, ◌^◌, Bool, nat_lt, nat_eq, ◌&&◌, if◌then◌else◌, Option, Some, None, ℤ, pos, negsuc, ◌+ℤ◌}
 use Rattle.std.specs.Cmp.Lexicographic.{pointwise}
 use Rattle.std.specs.Fmt.{signed_decimal}
 use Rattle.std.specs.Str.Parse.{signed_digits_value}

@@ -3,12 +3,14 @@ ghost use Rattle.std.specs.Prelude.{◌≡◌, IfOk, OnOk, OnErr};
 ghost use Rattle.std.specs.Option.{option_copied};
 ghost use Rattle.std.specs.FinMap as map;
 ghost use Rattle.table_core.specs.Table.{Acts, key_of};
+ghost use Rattle.table_core.specs.Find.{find_in, pairs_between, pairs_of};
 
-use crate::command::{Command, Reply};
+use crate::command::{Command, Found, Pair, Pairs, Query, Reply};
 use crate::decide::{Change, Decision, decide};
 use delos_types::bytes::Bytes;
 use std::alloc::{AllocError, Global};
 use std::collections::BTreeMap;
+use std::collections::btree_map::Range;
 use std::marker::Model;
 
 #[derive(Drop)]
@@ -41,6 +43,30 @@ impl Table {
         ensures { option_copied result ≡ map.get self.now key.now }
     {
         self.entries.get(key)
+    }
+
+    /// The keys from `low` on, below `high`, in byte order, with copies of their values; none where
+    /// `high` isn't above `low`. It takes O(log n + k) steps, where k entries are found.
+    pub fn scan(&self, alloc: Global, low: &Bytes, high: &Bytes) -> Result<Pairs, AllocError>
+        ensures { IfOk result (λ found. found ≡ pairs_between self.now low.now high.now) }
+    {
+        if low >= high {
+            return Ok(Pairs::from_vec(Vec::new(alloc)));
+        }
+        copies(alloc, self.entries.range(low..high))
+    }
+
+    /// What the table answers to a read.
+    pub fn read(&self, alloc: Global, query: &Query) -> Result<Found, AllocError>
+        ensures { IfOk result (λ found. found ≡ find_in self.now query.now) }
+    {
+        match query {
+            Query::Get { key } => match self.get(key) {
+                None => Ok(Found::Nothing),
+                Some(value) => Ok(Found::Value(value.clone()?)),
+            },
+            Query::Scan { low, high } => Ok(Found::All(self.scan(alloc, low, high)?)),
+        }
     }
 
     fn set(&mut self, key: Bytes, value: Bytes) -> Result<(), AllocError>
@@ -78,6 +104,19 @@ impl Table {
             }
         }
     }
+}
+
+// The entries of a range, copied.
+fn copies(alloc: Global, entries: Range<'_, Bytes, Bytes>) -> Result<Pairs, AllocError>
+    ensures { IfOk result (λ pairs. pairs ≡ pairs_of entries.entry) }
+{
+    let mut pairs = Vec::new(alloc);
+    for (key, value) in entries {
+        let key = key.clone()?;
+        let value = value.clone()?;
+        pairs.push(Pair { key, value })?;
+    }
+    Ok(Pairs::from_vec(pairs))
 }
 
 fn key_of(command: &Command) -> &Bytes
