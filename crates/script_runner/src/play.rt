@@ -8,7 +8,7 @@ ghost use Rattle.script_runner.specs.Turns.{HasRoom, IsCaughtUp, AnswersLine};
 ghost use Rattle.script_runner.specs.Plays.{Plays};
 
 use crate::log;
-use crate::replica::{Replica, Synced, read_table, sync};
+use crate::replica::{Replica, Synced, sync};
 use delos_types::numbers::{NodeId, Rank};
 use engine_api::pack::{batch, session_item};
 use file_loglet::file::FileLoglet;
@@ -88,7 +88,7 @@ fn look(
     ensures { IfOk result (AnswersLine line.now loglet.old replica loglet.new) }
 {
     let Synced { replica, .. } = sync(alloc, loglet, replica)?;
-    let found = read_table(alloc, &replica.table, query)?;
+    let found = replica.table.read(alloc, query)?;
     let name = session.name.clone()?;
     let after = replica.cursor;
     Ok(Step {

@@ -2,7 +2,6 @@
 ghost use Rattle.std.specs.Prelude.{◌≡◌, ◌+◌, ◌<◌, ◌≤◌, IfOk, length, [], drop};
 ghost use Rattle.engine_api.specs.Acted.{appearances, asked_in, replied, table_after};
 ghost use Rattle.engine_api.specs.Items.{unpack};
-ghost use Rattle.table_core.specs.Find.{find_in};
 ghost use Rattle.script_runner.specs.OneLoglet.{IsCalm};
 ghost use Rattle.script_runner.specs.Replicas.{Follows};
 
@@ -13,7 +12,6 @@ use engine_api::acted::{Acted, appearances, replied};
 use engine_api::read::unpack;
 use file_loglet::file::FileLoglet;
 use std::alloc::{AllocError, Global};
-use table_core::command::{Found, Query};
 use table_core::table::Table;
 
 /// The table after all entries below the cursor.
@@ -64,20 +62,4 @@ pub fn sync(alloc: Global, loglet: &mut FileLoglet, replica: Replica) -> Result<
         },
         acts: Acts::from_vec(acts),
     })
-}
-
-/// What the table answers.
-pub fn read_table(alloc: Global, table: &Table, query: &Query) -> Result<Found, AllocError>
-    ensures { IfOk result (λ found. found ≡ find_in table.now query.now) }
-{
-    match query {
-        Query::Get { key } => match table.get(key) {
-            Some(value) => {
-                let value = value.clone()?;
-                Ok(Found::Value(value))
-            }
-            None => Ok(Found::Nothing),
-        },
-        Query::Scan { .. } => Err(AllocError),
-    }
 }
