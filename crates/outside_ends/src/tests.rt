@@ -1,3 +1,5 @@
+ghost use Rattle.std.specs.Prelude.{◌≤◌};
+
 use crate::memory::{MemSink, MemSource};
 use crate::sink::{Sink, Written};
 use crate::source::Source;
