@@ -1,16 +1,18 @@
 //! The tests of which a fitting run is made, as plain programs: whether a row is of its line, and
 //! whether sessions and barriers are kept. The tests on lists compare each row with each later one.
-ghost use Rattle.std.specs.Prelude.{◌≡◌};
+ghost use Rattle.std.specs.Prelude.{◌≡◌, ◌&&◌, nat_le};
 ghost use Rattle.std.specs.List.{list_all};
 ghost use Rattle.std.specs.Option.{option_copied};
 ghost use Rattle.script_runner.specs.Tests.{each_pair};
+ghost use Rattle.script_runner.specs.Acts as acts_of;
 ghost use Rattle.script_runner.specs.Answered as answers_of;
 ghost use Rattle.script_runner.specs.Outcomes as outcomes;
 ghost use Rattle.script_runner.specs.Reads as reads;
 
 use crate::answered::Answered;
-use delos_types::numbers::NodeId;
+use delos_types::numbers::{NodeId, SessionId};
 use delos_types::place::Place;
+use engine_api::act::Act;
 use row_text::row::{Outcome, Who};
 use script_text::asks::Asks;
 use script_text::line::Session;
@@ -115,6 +117,16 @@ pub fn is_row_of(answered: &Answered) -> bool
         && answers(&answered.line.asks, &answered.row.outcome)
 }
 
+/// Each row is of its line.
+pub fn are_rows_of(told: &[Answered]) -> bool
+    ensures { result ≡ list_all outcomes.is_row_of told.now }
+{
+    match told {
+        [] => true,
+        [a, rest @ ..] => is_row_of(a) && are_rows_of(rest),
+    }
+}
+
 fn rises(a: &Answered, b: &Answered) -> bool
     ensures { result ≡ outcomes.rises a.now b.now }
 {
@@ -211,6 +223,25 @@ pub fn reads_keep_order(told: &[Answered]) -> bool
     }
 }
 
+fn looks_within(outcome: &Outcome, end: u64) -> bool
+    ensures { result ≡ answers_of.on_read outcome.now (λ after. nat_le after end) }
+{
+    match looked_at(outcome) {
+        Some(after) => after <= end,
+        None => true,
+    }
+}
+
+/// Each read looked at a position up to the end.
+pub fn reads_are_within(told: &[Answered], end: u64) -> bool
+    ensures { result ≡ list_all (λ a. answers_of.on_read a.row.outcome (λ after. nat_le after end)) told.now }
+{
+    match told {
+        [] => true,
+        [a, rest @ ..] => looks_within(&a.row.outcome, end) && reads_are_within(rest, end),
+    }
+}
+
 fn is_above(p: Place, outcome: &Outcome) -> bool
     ensures { result ≡ outcomes.is_above p outcome.now }
 {
@@ -277,4 +308,67 @@ pub fn keeps_barriers(told: &[Answered]) -> bool
         [] => true,
         [a, rest @ ..] => all_keep_barrier(a, rest) && keeps_barriers(rest),
     }
+}
+
+fn stands_apart(a: &Act, b: &Act) -> bool
+    ensures { result ≡ acts_of.stand_apart a.now b.now }
+{
+    let at_one_place = a.place.pos == b.place.pos && a.place.sub == b.place.sub;
+    !at_one_place || a.session == b.session
+}
+
+fn all_stand_apart(a: &Act, rest: &[Act]) -> bool
+    ensures { result ≡ list_all (acts_of.stand_apart a.now) rest.now }
+{
+    match rest {
+        [] => true,
+        [b, more @ ..] => stands_apart(a, b) && all_stand_apart(a, more),
+    }
+}
+
+/// No two sessions have one place.
+pub fn stand_apart(acts: &[Act]) -> bool
+    ensures { result ≡ each_pair acts_of.stand_apart acts.now }
+{
+    match acts {
+        [] => true,
+        [a, rest @ ..] => all_stand_apart(a, rest) && stand_apart(rest),
+    }
+}
+
+// How many of these acts are the session's.
+fn number_of(session: SessionId, acts: &[Act]) -> u64
+    ensures { result ≡ acts_of.number_of session acts.now }
+{
+    let mut count = 0;
+    for act in acts {
+        if act.session == session {
+            count += 1;
+        }
+    }
+    count
+}
+
+fn is_among_first(act: &Act, acts: &[Act]) -> bool
+    ensures { result ≡ nat_le 1 act.now.rank && nat_le act.now.rank (acts_of.number_of act.now.session acts.now) }
+{
+    let rank = act.rank.number();
+    1 <= rank && rank <= number_of(act.session, acts)
+}
+
+fn are_among_first(some: &[Act], acts: &[Act]) -> bool
+    ensures { result ≡ list_all (λ a. nat_le 1 a.rank && nat_le a.rank (acts_of.number_of a.session acts.now)) some.now }
+{
+    match some {
+        [] => true,
+        [act, more @ ..] => is_among_first(act, acts) && are_among_first(more, acts),
+    }
+}
+
+/// Each rank is at most the number of its session's acts, in time that is the square of the acts'
+/// number.
+pub fn has_first_ranks(acts: &[Act]) -> bool
+    ensures { result ≡ acts_of.has_first_ranks acts.now }
+{
+    are_among_first(acts, acts)
 }
