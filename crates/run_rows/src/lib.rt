@@ -1,5 +1,8 @@
-//! Worked runs, from the script's bytes to the printed chain.
+//! Worked runs, from the script's bytes to the printed chain, and the tests of which a fitting run
+//! is made.
 #![tactic(auto)]
 
+#[cfg(test)]
+mod fitting;
 #[cfg(test)]
 mod tests;

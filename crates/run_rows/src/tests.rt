@@ -18,6 +18,7 @@ const PUT_AND_GET_TEXT: &[u8] =
 const FILE_RUN: &[&str] = &["run", "--shelf", "file"];
 
 /// Which calls of the ends fail, and how many bytes each moves.
+#[derive(Clone, Copy)]
 struct Ends<'a> {
     piece: usize,
     source_fails: &'a [u64],

@@ -10,12 +10,8 @@ use Rattle.script_text.specs.declared.asks.Asks.TheVariants as asks
 use Rattle.row_text.specs.declared.row.Row.{Row}
 use Rattle.row_text.specs.declared.row.Outcome.{Outcome}
 use Rattle.row_text.specs.declared.row.Outcome.TheVariants as out
+pub use Rattle.script_runner.specs.declared.answered.Answered.{Answered}
 use Rattle.script_runner.specs.Tests.{where_some, some_is}
-
--- a line and its row
-pub record Answered : Type 0 where
-  pub line : NamedLine
-  pub row : Row
 
 -- What a line asks
 

@@ -2,7 +2,9 @@
 //! The run theorem is the contract of [`run::run`].
 #![tactic(auto)]
 
+pub mod answered;
 pub mod ended;
+pub mod fitting;
 mod log;
 mod play;
 mod replica;
