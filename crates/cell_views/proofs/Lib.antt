@@ -1,0 +1,5 @@
+pub mod Opened
+pub mod Sounds
+pub mod Moves
+pub mod Tells
+pub mod Calls
