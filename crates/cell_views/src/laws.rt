@@ -6,7 +6,6 @@ ghost use Rattle.majority_rule.specs.Steps.{cell_step, run_cell};
 ghost use Rattle.loglet_api.specs.Run.{LogletRun};
 ghost use Rattle.loglet_api.specs.Step.{Moves};
 ghost use Rattle.majority_rule.specs.Law.{IsLawful};
-ghost use Rattle.cell_views.specs.Worlds.{};
 ghost use Rattle.cell_views.specs.Views.{Manner, IsManner, IsNearer, IsStray, IsSpelled, BringsSpelled, cell_view, calls, calls_of};
 
 /// Each step of a lawful cell is, as its clients see it, a step of a loglet or none; and so a list
