@@ -2,6 +2,9 @@
 //! standard input and prints one row for each command, and the chain of loglets at the end.
 #![tactic(auto)]
 
+ghost use Rattle.std.specs.Prelude.{IfOk};
+ghost use Rattle.script_runner.specs.Fresh.{IsFreshYard};
+
 use file_loglet::file::FileLoglet;
 use outside_ends::standard::{StdSink, StdSource};
 use script_runner::ended::{Ended, Status};
@@ -28,7 +31,10 @@ fn words_of(rt: &HostRuntime) -> Result<Vec<String>, AllocError> {
     Ok(words)
 }
 
-fn new_yard(alloc: Global) -> Result<Yard, AllocError> {
+/// A yard on which nothing was begun.
+fn new_yard(alloc: Global) -> Result<Yard, AllocError>
+    ensures { IfOk result IsFreshYard }
+{
     let shelf = FileLoglet::new(alloc, ROOM)?;
     Ok(Yard { shelf })
 }
