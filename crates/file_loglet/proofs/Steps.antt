@@ -121,17 +121,17 @@ has_left a v t p x y e is left =
 abbrev pub carried : Inside → ℕ → Bool → PendingMap → Inside
 carried a stored sealed m = record a { stored = stored; sealed = sealed; pending = m }
 
-later_carried : (a : Inside) (p : Pending) (o : Outcome) → Decides a.entries.items a.cut a.stored a.sealed p o → IsLater a.entries.items a.entries.items a.cut a.cut a.stored o.stored a.sealed o.sealed
-later_carried a p o d = record { stays = λ i e is. is; cut_rises = omega arith; stored_rises = d.later; still = d.still }
+later_carried : (a : Inside) (p : Pending) (o : Outcome) → Decides a.entries.items a.stored a.sealed p o → IsLater a.entries.items a.entries.items a.stored o.stored a.sealed o.sealed
+later_carried a p o d = record { stays = λ i e is. is; stored_rises = d.later; still = d.still }
 
-told_answered : (a : Inside) (p : Pending) (o : Outcome) → Decides a.entries.items a.cut a.stored a.sealed p o → ForSome (answered p o.answer).answer (Fits a.entries.items a.cut o.stored o.sealed (answered p o.answer) p.task)
+told_answered : (a : Inside) (p : Pending) (o : Outcome) → Decides a.entries.items a.stored a.sealed p o → ForSome (answered p o.answer).answer (Fits a.entries.items o.stored o.sealed (answered p o.answer) p.task)
 told_answered a p o d x e =
     let same : o.answer ≡ x = cc in
-    subst (λ (y : Answer). Fits a.entries.items a.cut o.stored o.sealed (answered p o.answer) p.task y) same
-    (fits_answered a.entries.items a.cut o.stored o.sealed p o.answer p.task o.answer d.fits)
+    subst (λ (y : Answer). Fits a.entries.items o.stored o.sealed (answered p o.answer) p.task y) same
+    (fits_answered a.entries.items o.stored o.sealed p o.answer p.task o.answer d.fits)
 
 -- a fact about an operation, once another was carried
-pending_carried : (a : Inside) (p : Pending) (o : Outcome) (m : PendingMap) → Decides a.entries.items a.cut a.stored a.sealed p o → (t : ℕ) (q : Pending) → IsPending a t q → IsPending (carried a o.stored o.sealed m) t q
+pending_carried : (a : Inside) (p : Pending) (o : Outcome) (m : PendingMap) → Decides a.entries.items a.stored a.sealed p o → (t : ℕ) (q : Pending) → IsPending a t q → IsPending (carried a o.stored o.sealed m) t q
 pending_carried a p o m d t q old =
     record {
       ticket = old.ticket;
@@ -142,10 +142,10 @@ pending_carried a p o m d t q old =
       shut = λ s. (d.still (old.shut s)).0;
       faults = old.faults;
       sealing = old.sealing;
-      told = λ x is. fits_later a.entries.items a.entries.items a.cut a.cut a.stored o.stored a.sealed o.sealed q q.task x (later_carried a p o d) (old.told x is);
+      told = λ x is. fits_later a.entries.items a.entries.items a.stored o.stored a.sealed o.sealed q q.task x (later_carried a p o d) (old.told x is);
     }
 
-answered_carried : (a : Inside) (t : ℕ) (p : Pending) (o : Outcome) (m : PendingMap) → Decides a.entries.items a.cut a.stored a.sealed p o → IsPending a t p → IsPending (carried a o.stored o.sealed m) t (answered p o.answer)
+answered_carried : (a : Inside) (t : ℕ) (p : Pending) (o : Outcome) (m : PendingMap) → Decides a.entries.items a.stored a.sealed p o → IsPending a t p → IsPending (carried a o.stored o.sealed m) t (answered p o.answer)
 answered_carried a t p o m d old =
     record {
       ticket = old.ticket;
@@ -159,7 +159,7 @@ answered_carried a t p o m d old =
       told = told_answered a p o d;
     }
 
-pub file_carried : (a : Inside) (t : ℕ) (p : Pending) (o : Outcome) (m : PendingMap) → IsFile a → get nat_eq a.pending t ≡ Some p → Decides a.entries.items a.cut a.stored a.sealed p o → Updates nat_eq a.pending m t (Some (answered p o.answer)) → IsFile (carried a o.stored o.sealed m)
+pub file_carried : (a : Inside) (t : ℕ) (p : Pending) (o : Outcome) (m : PendingMap) → IsFile a → get nat_eq a.pending t ≡ Some p → Decides a.entries.items a.stored a.sealed p o → Updates nat_eq a.pending m t (Some (answered p o.answer)) → IsFile (carried a o.stored o.sealed m)
 file_carried a t p o m h at d u =
     record {
       cut = h.cut;
@@ -201,7 +201,7 @@ advances_carried a t p y q at left =
       | inr other ↦ rw other (advances_same (operation_at (map shown a.pending.entries) q))
     ]
 
-pub carries : (a : Inside) (t : ℕ) (p : Pending) (o : Outcome) (m : PendingMap) → IsFile a → get nat_eq a.pending t ≡ Some p → Decides a.entries.items a.cut a.stored a.sealed p o → Updates nat_eq a.pending m t (Some (answered p o.answer)) → IsUndecidedAt (file_view a) t → Carries (file_view a) t (file_view (carried a o.stored o.sealed m))
+pub carries : (a : Inside) (t : ℕ) (p : Pending) (o : Outcome) (m : PendingMap) → IsFile a → get nat_eq a.pending t ≡ Some p → Decides a.entries.items a.stored a.sealed p o → Updates nat_eq a.pending m t (Some (answered p o.answer)) → IsUndecidedAt (file_view a) t → Carries (file_view a) t (file_view (carried a o.stored o.sealed m))
 carries a t p o m h at d u undecided =
     let left = left_first a t p at undecided in
     let now = puts a.pending m t (Some (answered p o.answer)) u in
@@ -363,11 +363,11 @@ sealing_counts : (op : Op) (seals : ℕ) → task_of op ≡ Sealing → 1 ≤ se
 sealing_counts Seal seals h = omega arith
 sealing_counts op seals h = absurd (cc)
 
-older_begun : (a : Inside) (op : Op) (entries : Vec Entry Global) (m : PendingMap) (t : ℕ) (q : Pending) → IsPending a t q → a.cut ≤ cut_by op a.cut a.reach → entries.items ≡ a.entries.items ++ entries_of op → IsPending (begun a op entries m) t q
-older_begun a op entries m t q old cut e =
+older_begun : (a : Inside) (op : Op) (entries : Vec Entry Global) (m : PendingMap) (t : ℕ) (q : Pending) → IsPending a t q → entries.items ≡ a.entries.items ++ entries_of op → IsPending (begun a op entries m) t q
+older_begun a op entries m t q old e =
     let longer : length entries.items ≡ length a.entries.items + length (entries_of op) = ap length e ∙ length-append a.entries.items (entries_of op) in
     let stays : (i : ℕ) (x : Entry) → slice_get a.entries.items i ≡ Some x → slice_get entries.items i ≡ Some x = λ i x is. rw e (slice_get-append a.entries.items (entries_of op) i x is) in
-    let later : IsLater a.entries.items entries.items a.cut (cut_by op a.cut a.reach) a.stored a.stored a.sealed a.sealed = record { stays = stays; cut_rises = cut; stored_rises = omega arith; still = λ s. (s, refl) } in
+    let later : IsLater a.entries.items entries.items a.stored a.stored a.sealed a.sealed = record { stays = stays; stored_rises = omega arith; still = λ s. (s, refl) } in
     record {
       ticket = omega (arith, old.ticket);
       size = omega (arith, old.size, longer);
@@ -377,7 +377,7 @@ older_begun a op entries m t q old cut e =
       shut = old.shut;
       faults = old.faults;
       sealing = λ p. (let one = old.sealing p in omega arith);
-      told = λ x is. fits_later a.entries.items entries.items a.cut (cut_by op a.cut a.reach) a.stored a.stored a.sealed a.sealed q q.task x later (old.told x is);
+      told = λ x is. fits_later a.entries.items entries.items a.stored a.stored a.sealed a.sealed q q.task x later (old.told x is);
     }
 
 new_begun : (a : Inside) (op : Op) (entries : Vec Entry Global) (m : PendingMap) → entries.items ≡ a.entries.items ++ entries_of op → IsPending (begun a op entries m) a.begun (pending_of a op)
@@ -419,7 +419,7 @@ file_begun a op entries m h can free e u =
         | inl new ↦ (let same : pending_of a op ≡ x = (let f = new.1 in cc) in
             subst (λ (y : Pending). IsPending (begun a op entries m) q y) same
             (subst (λ (n : ℕ). IsPending (begun a op entries m) n (pending_of a op)) new.0 (new_begun a op entries m e)))
-        | inr there ↦ older_begun a op entries m q x (h.pending q x there) cut.0 e
+        | inr there ↦ older_begun a op entries m q x (h.pending q x there) e
       ];
     }
 

@@ -6,7 +6,7 @@ use Rattle.std.proofs.lemmas.Bool.Decides.{nat_tests}
 use Rattle.std.proofs.lemmas.Bool.{cases_Bool}
 use Rattle.delos_types.specs.declared.entry.Entry.{Entry}
 use Rattle.loglet_api.specs.declared.call.Answer.{Answer}
-use Rattle.loglet_api.specs.declared.call.Answer.TheVariants.{Placed, Settled, OpenTail, SealedTail, SealDone, Got, CutAt, Beyond, TrimDone, Sealed}
+use Rattle.loglet_api.specs.declared.call.Answer.TheVariants.{Placed, Settled, OpenTail, SealedTail, SealDone, Got, Beyond, TrimDone, Sealed}
 use Rattle.loglet_api.specs.declared.call.Task.{Task}
 use Rattle.loglet_api.specs.declared.call.Task.TheVariants.{Placing, Settling, Finding, Sealing, Reading, Trimming}
 use Rattle.loglet_api.specs.Step.{MayAnswer, wanted_by, told_reach, told_firm, told_cap, told_lacks}
@@ -16,44 +16,41 @@ use Rattle.file_loglet.specs.File.{file_view, IsFile}
 use Rattle.file_loglet.specs.declared.file.FileLoglet.TheInside.{Inside}
 use Rattle.file_loglet.proofs.Sound.{slice_get-drop}
 
--- what was decided goes on to fit: entries are only added, the cut rises, and what is sealed stays as it is
-pub record IsLater (entries more : List Entry) (cut cut' stored stored' : ℕ) (sealed sealed' : Bool) : Type 0 where
+-- what was decided goes on to fit: entries are only added, and what is sealed stays as it is
+pub record IsLater (entries more : List Entry) (stored stored' : ℕ) (sealed sealed' : Bool) : Type 0 where
   pub stays : (i : ℕ) (e : Entry) → slice_get entries i ≡ Some e → slice_get more i ≡ Some e
-  pub cut_rises : cut ≤ cut'
   pub stored_rises : stored ≤ stored'
   pub still : sealed ≡ true → (sealed' ≡ true) × (stored' ≡ stored)
 
-pub fits_later : (entries more : List Entry) (cut cut' stored stored' : ℕ) (sealed sealed' : Bool) (p : Pending) (task : Task) (answer : Answer) → IsLater entries more cut cut' stored stored' sealed sealed' → Fits entries cut stored sealed p task answer → Fits more cut' stored' sealed' p task answer
-fits_later entries more cut cut' stored stored' sealed sealed' p Placing (Placed q) l h = (h.0, h.1, omega (arith, h.2, l.stored_rises))
-fits_later entries more cut cut' stored stored' sealed sealed' p Placing Sealed l h = (l.still h).0
-fits_later entries more cut cut' stored stored' sealed sealed' p (Settling n) Settled l h = (h.0, omega (arith, h.1, l.stored_rises))
-fits_later entries more cut cut' stored stored' sealed sealed' p (Settling n) Sealed l h = (l.still h).0
-fits_later entries more cut cut' stored stored' sealed sealed' p Finding (OpenTail t) l h = (h.0, h.1, omega (arith, h.2, l.stored_rises))
-fits_later entries more cut cut' stored stored' sealed sealed' p Finding (SealedTail t) l h = ((l.still h.0).0, h.1 ∙ sym (l.still h.0).1)
-fits_later entries more cut cut' stored stored' sealed sealed' p Sealing SealDone l h = (l.still h).0
-fits_later entries more cut cut' stored stored' sealed sealed' p (Reading q) (CutAt n) l h = omega (arith, h, l.cut_rises)
-fits_later entries more cut cut' stored stored' sealed sealed' p (Reading q) (Beyond n) l h = h
-fits_later entries more cut cut' stored stored' sealed sealed' p (Reading q) (Got e) l h = (h.0, l.stays q e h.1)
-fits_later entries more cut cut' stored stored' sealed sealed' p (Trimming n) TrimDone l h = tt
-fits_later entries more cut cut' stored stored' sealed sealed' p task answer l h = absurd h
+pub fits_later : (entries more : List Entry) (stored stored' : ℕ) (sealed sealed' : Bool) (p : Pending) (task : Task) (answer : Answer) → IsLater entries more stored stored' sealed sealed' → Fits entries stored sealed p task answer → Fits more stored' sealed' p task answer
+fits_later entries more stored stored' sealed sealed' p Placing (Placed q) l h = (h.0, h.1, omega (arith, h.2, l.stored_rises))
+fits_later entries more stored stored' sealed sealed' p Placing Sealed l h = (l.still h).0
+fits_later entries more stored stored' sealed sealed' p (Settling n) Settled l h = (h.0, omega (arith, h.1, l.stored_rises))
+fits_later entries more stored stored' sealed sealed' p (Settling n) Sealed l h = (l.still h).0
+fits_later entries more stored stored' sealed sealed' p Finding (OpenTail t) l h = (h.0, h.1, omega (arith, h.2, l.stored_rises))
+fits_later entries more stored stored' sealed sealed' p Finding (SealedTail t) l h = ((l.still h.0).0, h.1 ∙ sym (l.still h.0).1)
+fits_later entries more stored stored' sealed sealed' p Sealing SealDone l h = (l.still h).0
+fits_later entries more stored stored' sealed sealed' p (Reading q) (Beyond n) l h = h
+fits_later entries more stored stored' sealed sealed' p (Reading q) (Got e) l h = (h.0, l.stays q e h.1)
+fits_later entries more stored stored' sealed sealed' p (Trimming n) TrimDone l h = tt
+fits_later entries more stored stored' sealed sealed' p task answer l h = absurd h
 
 abbrev pub answered : Pending → Answer → Pending
 answered p answer = record p { answer = Some answer }
 
 -- whether an answer fits doesn't depend on the answer that was noted
-pub fits_answered : (entries : List Entry) (cut stored : ℕ) (sealed : Bool) (p : Pending) (y : Answer) (task : Task) (answer : Answer) → Fits entries cut stored sealed p task answer → Fits entries cut stored sealed (answered p y) task answer
-fits_answered entries cut stored sealed p y Placing (Placed q) h = h
-fits_answered entries cut stored sealed p y Placing Sealed h = h
-fits_answered entries cut stored sealed p y (Settling n) Settled h = h
-fits_answered entries cut stored sealed p y (Settling n) Sealed h = h
-fits_answered entries cut stored sealed p y Finding (OpenTail t) h = h
-fits_answered entries cut stored sealed p y Finding (SealedTail t) h = h
-fits_answered entries cut stored sealed p y Sealing SealDone h = h
-fits_answered entries cut stored sealed p y (Reading q) (CutAt n) h = h
-fits_answered entries cut stored sealed p y (Reading q) (Beyond n) h = h
-fits_answered entries cut stored sealed p y (Reading q) (Got e) h = h
-fits_answered entries cut stored sealed p y (Trimming n) TrimDone h = tt
-fits_answered entries cut stored sealed p y task answer h = absurd h
+pub fits_answered : (entries : List Entry) (stored : ℕ) (sealed : Bool) (p : Pending) (y : Answer) (task : Task) (answer : Answer) → Fits entries stored sealed p task answer → Fits entries stored sealed (answered p y) task answer
+fits_answered entries stored sealed p y Placing (Placed q) h = h
+fits_answered entries stored sealed p y Placing Sealed h = h
+fits_answered entries stored sealed p y (Settling n) Settled h = h
+fits_answered entries stored sealed p y (Settling n) Sealed h = h
+fits_answered entries stored sealed p y Finding (OpenTail t) h = h
+fits_answered entries stored sealed p y Finding (SealedTail t) h = h
+fits_answered entries stored sealed p y Sealing SealDone h = h
+fits_answered entries stored sealed p y (Reading q) (Beyond n) h = h
+fits_answered entries stored sealed p y (Reading q) (Got e) h = h
+fits_answered entries stored sealed p y (Trimming n) TrimDone h = tt
+fits_answered entries stored sealed p y task answer h = absurd h
 
 -- what the answer of an operation says when it is taken
 pub record IsTold (a : Inside) (p : Pending) (task : Task) (answer : Answer) : Type 0 where
@@ -71,8 +68,7 @@ cap_seals : (cap : Option ℕ) (t stored : ℕ) → t ≡ stored → ForSome cap
 cap_seals None t stored e h x is = let same : t ≡ x = cc in omega arith
 cap_seals (Some c) t stored e h x is = let same : min c t ≡ x = cc in let old = h c refl in omega arith
 
-told_reading : (a : Inside) (p : Pending) (q : ℕ) (answer : Answer) → IsFile a → a.cut ≤ q → Fits a.entries.items a.cut a.stored a.sealed p (Reading q) answer → IsTold a p (Reading q) answer
-told_reading a p q (CutAt n) h le m = absurd (omega arith)
+told_reading : (a : Inside) (p : Pending) (q : ℕ) (answer : Answer) → IsFile a → a.cut ≤ q → Fits a.entries.items a.stored a.sealed p (Reading q) answer → IsTold a p (Reading q) answer
 told_reading a p q (Beyond n) h le m = record { may = (le, m.0, m.1); reach = omega arith; firm = omega arith; cap = cap_stays a 0 h (omega arith); lacks = refl }
 told_reading a p q (Got e) h le m =
     let at : a.cut + (q - a.cut) ≡ q = omega arith in
@@ -85,7 +81,7 @@ told_reading a p q (Got e) h le m =
     }
 told_reading a p q answer h le m = absurd m
 
-pub tells : (a : Inside) (p : Pending) (task : Task) (answer : Answer) → IsFile a → Fits a.entries.items a.cut a.stored a.sealed p task answer → IsTold a p task (told_at task a.cut answer)
+pub tells : (a : Inside) (p : Pending) (task : Task) (answer : Answer) → IsFile a → Fits a.entries.items a.stored a.sealed p task answer → IsTold a p task (told_at task a.cut answer)
 tells a p Placing (Placed q) h m =
     record { may = (m.0, m.1); reach = omega arith; firm = omega (arith, m.0, m.2); cap = cap_stays a (q + 1) h (omega (arith, m.0, m.2)); lacks = refl }
 tells a p Placing Sealed h m = record { may = m; reach = omega arith; firm = omega arith; cap = cap_stays a 0 h (omega arith); lacks = refl }

@@ -52,7 +52,7 @@ pub record IsPending (a : Inside) (t : ℕ) (p : Pending) : Type 0 where
   pub shut : p.shut ≡ true → a.sealed ≡ true
   pub faults : p.faults ≤ a.faults
   pub sealing : p.task ≡ Sealing → 1 ≤ a.seals
-  pub told : ForSome p.answer (Fits a.entries.items a.cut a.stored a.sealed p p.task)
+  pub told : ForSome p.answer (Fits a.entries.items a.stored a.sealed p p.task)
 
 pub record IsFile (a : Inside) : Type 0 where
   pub cut : a.cut ≤ a.reach

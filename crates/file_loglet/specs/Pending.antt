@@ -32,36 +32,34 @@ shown e = (e.0, operation_of e.1)
 
 -- The answer fits what the server stores, and goes on to fit: what is stored grows until the seal
 -- and stays from then on.
-abbrev pub Fits : List Entry → ℕ → ℕ → Bool → Pending → Task → Answer → Type 0
-Fits entries cut stored sealed p Placing (Placed q) = (q ≡ p.size) × (p.shut ≡ false) × (p.size < stored)
-Fits entries cut stored sealed p Placing Sealed = sealed ≡ true
-Fits entries cut stored sealed p (Settling n) Settled = (p.shut ≡ false) × (min n p.size ≤ stored)
-Fits entries cut stored sealed p (Settling n) Sealed = sealed ≡ true
-Fits entries cut stored sealed p Finding (OpenTail t) = (p.reach ≤ t) × (p.shut ≡ false) × (t ≤ stored)
-Fits entries cut stored sealed p Finding (SealedTail t) = (sealed ≡ true) × (t ≡ stored)
-Fits entries cut stored sealed p Sealing SealDone = sealed ≡ true
-Fits entries cut stored sealed p (Reading q) (CutAt n) = q < cut
-Fits entries cut stored sealed p (Reading q) (Beyond n) = (p.firm ≤ q) × (n ≡ p.firm)
-Fits entries cut stored sealed p (Reading q) (Got e) = (q < p.firm) × (slice_get entries q ≡ Some e)
-Fits entries cut stored sealed p (Trimming n) TrimDone = Unit {0}
-Fits entries cut stored sealed p task answer = ⊥
+abbrev pub Fits : List Entry → ℕ → Bool → Pending → Task → Answer → Type 0
+Fits entries stored sealed p Placing (Placed q) = (q ≡ p.size) × (p.shut ≡ false) × (p.size < stored)
+Fits entries stored sealed p Placing Sealed = sealed ≡ true
+Fits entries stored sealed p (Settling n) Settled = (p.shut ≡ false) × (min n p.size ≤ stored)
+Fits entries stored sealed p (Settling n) Sealed = sealed ≡ true
+Fits entries stored sealed p Finding (OpenTail t) = (p.reach ≤ t) × (p.shut ≡ false) × (t ≤ stored)
+Fits entries stored sealed p Finding (SealedTail t) = (sealed ≡ true) × (t ≡ stored)
+Fits entries stored sealed p Sealing SealDone = sealed ≡ true
+Fits entries stored sealed p (Reading q) (Beyond n) = (p.firm ≤ q) × (n ≡ p.firm)
+Fits entries stored sealed p (Reading q) (Got e) = (q < p.firm) × (slice_get entries q ≡ Some e)
+Fits entries stored sealed p (Trimming n) TrimDone = Unit {0}
+Fits entries stored sealed p task answer = ⊥
 
 -- carrying an operation leaves this much stored, and gives this answer
-pub record Decides (entries : List Entry) (cut stored : ℕ) (sealed : Bool) (p : Pending) (outcome : Outcome) : Type 0 where
+pub record Decides (entries : List Entry) (stored : ℕ) (sealed : Bool) (p : Pending) (outcome : Outcome) : Type 0 where
   pub later : stored ≤ outcome.stored
   pub within : outcome.stored ≤ length entries
   pub still : sealed ≡ true → (outcome.sealed ≡ true) × (outcome.stored ≡ stored)
   pub seals : outcome.sealed ≡ true → (sealed ≡ true) ⊎ (p.task ≡ Sealing)
-  pub fits : Fits entries cut outcome.stored outcome.sealed p p.task outcome.answer
+  pub fits : Fits entries outcome.stored outcome.sealed p p.task outcome.answer
 
--- what a Read of the position q tells
-abbrev pub Reads : List Entry → ℕ → ℕ → ℕ → Answer → Type 0
-Reads entries cut firm q (CutAt n) = q < cut
-Reads entries cut firm q (Beyond n) = (firm ≤ q) × (n ≡ firm)
-Reads entries cut firm q (Got e) = (q < firm) × (slice_get entries q ≡ Some e)
-Reads entries cut firm q answer = ⊥
+-- what a Read of the position q comes to, where nothing is trimmed
+abbrev pub Reads : List Entry → ℕ → ℕ → Answer → Type 0
+Reads entries firm q (Beyond n) = (firm ≤ q) × (n ≡ firm)
+Reads entries firm q (Got e) = (q < firm) × (slice_get entries q ≡ Some e)
+Reads entries firm q answer = ⊥
 
--- what a Read tells, once the cut is here
+-- what an operation is told where the cut is here: a position below it is trimmed
 abbrev pub told_at : Task → ℕ → Answer → Answer
 told_at (Reading q) cut answer = if nat_lt q cut then CutAt cut else answer
 told_at task cut answer = answer

@@ -21,7 +21,6 @@ pub struct Outcome {
 /// but for a Read, which copies one entry.
 pub fn decide(
     entries: &[Entry],
-    cut: u64,
     stored: u64,
     sealed: bool,
     p: &Pending,
@@ -32,7 +31,7 @@ pub fn decide(
     requires reach { p.now.reach ≤ stored }
     requires firm { p.now.firm ≤ stored }
     requires shut { p.now.shut ≡ true → sealed ≡ true }
-    ensures { IfOk result (Decides entries.now cut stored sealed p.now) }
+    ensures { IfOk result (Decides entries.now stored sealed p.now) }
 {
     match p.task {
         Task::Placing => Ok(store(stored, sealed, p.size + 1, Answer::Placed(p.size))),
@@ -52,7 +51,7 @@ pub fn decide(
             answer: Answer::SealDone,
         }),
         Task::Reading(q) => {
-            let answer = read(entries, cut, p.firm, q)?;
+            let answer = read(entries, p.firm, q)?;
             Ok(Outcome {
                 stored,
                 sealed,
@@ -86,14 +85,13 @@ fn store(stored: u64, sealed: bool, length: u64, answer: Answer) -> Outcome
     }
 }
 
-/// What a Read tells that began where `firm` was the greatest length answered.
-fn read(entries: &[Entry], cut: u64, firm: u64, position: u64) -> Result<Answer, AllocError>
+/// What a Read comes to that began where `firm` was the greatest length answered. Whether its
+/// position is trimmed is seen when the answer is taken.
+fn read(entries: &[Entry], firm: u64, position: u64) -> Result<Answer, AllocError>
     requires { firm ≤ length entries.now }
-    ensures { IfOk result (Reads entries.now cut firm position) }
+    ensures { IfOk result (Reads entries.now firm position) }
 {
-    if position < cut {
-        Ok(Answer::CutAt(cut))
-    } else if firm <= position {
+    if firm <= position {
         Ok(Answer::Beyond(firm))
     } else {
         let entry = entries[position as usize].clone()?;
@@ -101,8 +99,7 @@ fn read(entries: &[Entry], cut: u64, firm: u64, position: u64) -> Result<Answer,
     }
 }
 
-/// What the answer of an operation is when it is taken: a position that was trimmed since it was
-/// read is told so.
+/// What an operation is answered where the cut is here: a Read of a position below it is told so.
 pub fn told(task: Task, cut: u64, answer: Answer) -> Answer
     ensures { result ≡ told_at task cut answer }
 {

@@ -177,7 +177,6 @@ impl Loglet for FileLoglet {
             },
         ) = decide(
             self.entries.as_slice(),
-            self.cut,
             self.stored,
             self.sealed,
             &self.pending[&number],

@@ -9,7 +9,6 @@ use delos_types::entry::Entry;
 use delos_types::item::Headers;
 use delos_types::numbers::NodeId;
 use loglet_api::call::{Answer, Op, Refused};
-use loglet_api::calls;
 use loglet_api::loglet::Loglet;
 use std::alloc::{AllocError, Global};
 use std::test::Fail;
@@ -51,15 +50,15 @@ fn op(alloc: Global, asked: Asked) -> Result<Op, Fail>
 }
 
 /// Carries an operation to its end. None where one carry didn't decide it.
-fn answer_of(loglet: &mut dyn Loglet, op: Op) -> Result<Option<Answer>, Refused>
+fn answer_of<L: Loglet>(loglet: &mut L, op: Op) -> Result<Option<Answer>, Refused>
     requires { CanBegin op }
 {
-    let ticket = calls::begin(loglet, op)?;
-    if let Some(early) = calls::take(loglet, ticket) {
+    let ticket = loglet.begin(op)?;
+    if let Some(early) = loglet.take(ticket) {
         return Ok(Some(early));
     }
-    calls::carry(loglet, ticket, 0)?;
-    Ok(calls::take(loglet, ticket))
+    loglet.carry(ticket, 0)?;
+    Ok(loglet.take(ticket))
 }
 
 fn text(alloc: Global, answered: Result<Option<Answer>, Refused>) -> Result<String, AllocError> {
@@ -102,7 +101,7 @@ fn operations_one_after_another(rt: HostRuntime) -> Result<(), Fail> {
         (Asked::Read(2), "got [9]"),
         (Asked::Read(3), "beyond 3"),
     ];
-    let mut loglet = FileLoglet::new(rt.alloc(), 3)?;
+    let mut loglet: Box<dyn Loglet + Send> = Box::new(rt.alloc(), FileLoglet::new(rt.alloc(), 3)?)?;
     for (asked, wanted) in rows {
         let answered = answer_of(&mut loglet, op(rt.alloc(), asked)?);
         assert_eq!(rt; text(rt.alloc(), answered)?.as_str(), wanted);

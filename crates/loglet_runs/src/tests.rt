@@ -121,3 +121,15 @@ fn a_file_loglet_with_room_for_one(rt: HostRuntime) -> Result<(), Fail> {
     assert_eq!(rt; (answers.len(), loglet.faults()), (rows.len(), 1));
     Ok(())
 }
+
+#[test]
+fn refusals_in_words(rt: HostRuntime) -> Result<(), Fail> {
+    let rows = [
+        (Refused::Full, "the loglet is full"),
+        (Refused::Memory, "out of memory"),
+    ];
+    for (refused, wanted) in rows {
+        assert_eq!(rt; format!(in rt.alloc(); "{refused}")?.as_str(), wanted);
+    }
+    Ok(())
+}
