@@ -1,0 +1,38 @@
+-- What a log server answers, and what it does.
+use Rattle.std.specs.Prelude.{◌≡◌, ◌⊎◌, ℕ, Bool, true, false, ◌&&◌, if◌then◌else◌, List, Option, Some}
+use Rattle.disk_model.specs.Disk.{Rose}
+use Rattle.majority_rule.specs.declared.message.Ask.{Ask}
+use Rattle.majority_rule.specs.declared.message.Told.{Told}
+use Rattle.majority_rule.specs.declared.message.Told.TheVariants.{DiskFault}
+use Rattle.majority_rule.specs.Servers.{Server, told, writes, written}
+use Rattle.server_records.specs.Spelled.{server_of}
+use Rattle.log_server.specs.View.{View, MayFind}
+
+-- what it holds once it has answered
+abbrev pub after_ask : Server → Ask → Server
+after_ask s ask = if s.up then written s ask else s
+
+-- whether it writes before it answers
+abbrev pub wants_write : Server → Ask → Bool
+wants_write s ask = s.up && writes s ask
+
+-- its disk failed in the write that the table wants, and it is down
+pub record Stops (old : View) (ask : Ask) (new : View) : Type 0 where
+  pub wanted : wants_write old.server ask ≡ true
+  pub server : new.server ≡ record old.server { up = false; torn = Some ask }
+  pub rose : Rose old.disk.faults new.disk.faults
+
+-- it answers by the table, and does what the table says
+pub record Tells (old : View) (ask : Ask) (answer : Told) (new : View) : Type 0 where
+  pub told : answer ≡ told old.server ask
+  pub server : new.server ≡ after_ask old.server ask
+  -- where nothing is to be written, nothing is touched
+  pub calm : wants_write old.server ask ≡ false → new ≡ old
+
+abbrev pub Answers : View → Ask → Told → View → Type 0
+Answers old ask DiskFault new = Stops old ask new
+Answers old ask answer new = Tells old ask answer new
+
+-- what a crash inside the call may leave: what one before it may leave, or what is held once it was answered
+abbrev pub MayFindDuring : Server → Ask → List (List ℕ) → Type 0
+MayFindDuring s ask found = MayFind s found ⊎ (server_of found ≡ Some (after_ask s ask))

@@ -1,0 +1,20 @@
+//! A log server: one replica of a loglet, over a journal on a disk. What it acknowledged survives every crash, and what
+//! is sealed stays sealed.
+//!
+//! - [`LogServer`]: its calls.
+//! - [`Refused`], [`OpenFault`]: why a disk wasn't opened.
+//!
+//! What it answers is the table of a server of a quorum cell (`majority_rule`); what its disk holds is spelled by
+//! `server_records`. The definitions here stand in `specs/`: `View` (a server as its callers see it, and what a crash
+//! leaves of it), `Answers` (what a call answers and does).
+#![tactic(auto)]
+
+mod fault;
+mod held;
+mod replay;
+mod server;
+#[cfg(test)]
+mod tests;
+
+pub use fault::{OpenFault, Refused};
+pub use server::LogServer;
