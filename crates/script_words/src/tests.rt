@@ -50,7 +50,8 @@ fn words_that_have_a_plan(rt: HostRuntime) -> Result<(), Fail> {
 fn bad_words(rt: HostRuntime) -> Result<(), Fail> {
     let alloc = rt.alloc();
     let rows = [
-        &["--shelf", "file"][..],
+        &[""][..],
+        &["--shelf", "file"],
         &["Run"],
         &["make"],
         &["run", "run"],
