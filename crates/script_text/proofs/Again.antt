@@ -17,7 +17,7 @@ use Rattle.script_text.specs.declared.line.Ask.{Ask}
 use Rattle.script_text.specs.declared.line.Ask.TheVariants.{Log, Look}
 use Rattle.script_text.specs.Gives.{◌>>=◌}
 use Rattle.script_text.specs.Words.{Word, is_empty, is_text_byte, words_of}
-use Rattle.script_text.specs.Fields.{node_of, is_name_byte, is_name, name_of, number_of, key_of, value_of}
+use Rattle.script_text.specs.Fields.{node_of, is_name_byte, is_name, name_of, key_of, value_of}
 use Rattle.script_text.specs.Seen.{Before, nothing_yet, session, with_session, admit}
 use Rattle.script_text.specs.Forms.{form_of, session_line, line_in, line_at}
 use Rattle.script_text.specs.Spelling.{node_name, ask_words, line_words, spell, is_print, IsWord, IsNode, AskFits, LineFits, Belongs, Follows, Spells, SpellsFrom, IsScript}

@@ -1,6 +1,6 @@
 -- Words that are numbers.
-use Rattle.std.proofs.Common.{◌≡◌, ◌==◌, ◌<◌, ◌≤◌, ◌^◌, ◌&&◌, ℕ, ℤ, pos, negsuc, suc, Bool, true, false, List, [], ◌∷◌, length, Option, Some, None, Result, Ok, Err, refl, sym, ap, subst, ◌∙◌, cond, arith}
-use Rattle.std.specs.Prelude.{FitsSigned, nat_lt, neg_ℤ}
+use Rattle.std.proofs.Common.{◌≡◌, ◌==◌, ◌<◌, ◌^◌, ◌&&◌, ℕ, ℤ, pos, negsuc, suc, Bool, true, false, List, [], ◌∷◌, length, Some, None, Result, Ok, refl, ap, subst, ◌∙◌, cond, arith}
+use Rattle.std.specs.Prelude.{FitsSigned, neg_ℤ}
 use Rattle.std.specs.List.{list_all}
 use Rattle.std.specs.Int.{w64}
 use Rattle.std.proofs.lemmas.Int.{ints}
@@ -12,9 +12,8 @@ use Rattle.std.proofs.lemmas.Bool.{ltb-true, lt-ltb}
 use Rattle.std.proofs.lemmas.Bool.Decides.{nat_tests, Decides-eqb}
 use Rattle.std.proofs.lemmas.Str.Parse.{digit_from_value}
 use Rattle.std.proofs.lemmas.Fmt.{decimal_is_IsNumeral}
-use Rattle.table_core.specs.Table.{amount_of, same_bytes, is_i64}
+use Rattle.table_core.specs.Table.{same_bytes, is_i64}
 use Rattle.script_text.specs.declared.line.Rule.{Rule}
-use Rattle.script_text.specs.declared.line.Rule.TheVariants.{Number}
 use Rattle.script_text.specs.Words.{Word}
 use Rattle.script_text.specs.Fields.{number_from, number_of}
 use Rattle.script_text.specs.Spelling.{is_print}

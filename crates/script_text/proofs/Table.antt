@@ -1,6 +1,6 @@
 -- The rule that reading names is the first of the table that the line breaks.
 use Rattle.std.proofs.Common.{◌≡◌, ◌==◌, ◌≤◌, ◌+◌, ◌&&◌, ◌||◌, inl, inr, ℕ, ℤ, Bool, true, false, not, cond, List, [], ◌∷◌, length, Option, Some, None, Result, Ok, Err, refl, sym, ap, subst, ◌∙◌, arith}
-use Rattle.std.specs.Prelude.{codes, nat_lt, is_some, ◌⊎◌}
+use Rattle.std.specs.Prelude.{codes, nat_lt, is_some}
 use Rattle.std.specs.List.{slice_split, list_all, list_any}
 use Rattle.std.specs.Str.{bytes_eq}
 use Rattle.std.proofs.lemmas.Bool.Decides.{nat_tests}
@@ -23,14 +23,13 @@ use Rattle.script_text.specs.declared.script.BadLine.{BadLine}
 use Rattle.script_text.specs.declared.script.ParseError.{ParseError}
 use Rattle.script_text.specs.declared.script.ParseError.TheVariants as error
 use Rattle.script_text.specs.Gives.{◌>>=◌}
-use Rattle.script_text.specs.Words.{Word, is_empty, is_text_byte, split_words, words_of}
-use Rattle.script_text.specs.Fields.{is_node, node_number, node_of, is_name, name_of, number_from, number_of, key_of, value_of}
-use Rattle.script_text.specs.Seen.{Before, nothing_yet, session, home_of, with_session, admit, admit_at, admit_new}
-use Rattle.script_text.specs.Forms.{word, is_admin_word, verb_of, session_form, on_form, form_of, verb_count, ask_of, session_line, line_in, line_at}
+use Rattle.script_text.specs.Words.{Word, is_empty, is_text_byte, split_words}
+use Rattle.script_text.specs.Fields.{is_node, node_number, node_of, is_name, name_of, number_from, number_of}
+use Rattle.script_text.specs.Seen.{Before, nothing_yet, session, home_of, with_session, admit, admit_at}
+use Rattle.script_text.specs.Forms.{word, is_admin_word, form_of, verb_count, ask_of, session_line, line_in, line_at}
 use Rattle.script_text.specs.Script.{RawLine, line_numbered, in_line, lines_in, lines_from, script_of, ReadsScript}
-use Rattle.script_text.specs.Spelling.{Spells}
-use Rattle.script_text.specs.Rules.{verb_name, form_begun, word_count, nodes_at, sessions_at, numbers_at, keys_at, values_at, words_in, some_word, has_other_count, is_elsewhere, is_too_many, first_broken, IsRefusedFrom, IsRefused}
-use Rattle.script_text.proofs.Takes.{taken_else, ok_is, line_takes}
+use Rattle.script_text.specs.Rules.{form_begun, word_count, nodes_at, sessions_at, numbers_at, keys_at, values_at, words_in, some_word, has_other_count, is_elsewhere, is_too_many, first_broken, IsRefusedFrom, IsRefused}
+use Rattle.script_text.proofs.Takes.{taken_else, line_takes}
 use Rattle.script_text.proofs.Again.{line_again}
 
 -- the rule that is told, if one is

@@ -1,5 +1,5 @@
 -- The table of the grammar's rules: where a line breaks each of them. This is written apart from reading.
-use Rattle.std.specs.Prelude.{◌≡◌, ◌⊎◌, ◌==◌, ◌&&◌, ◌+◌, not, ℕ, Bool, true, false, List, [], ◌∷◌, Option, Some, None, length, codes, nat_lt, nat_le, find, if◌then◌else◌, is_some}
+use Rattle.std.specs.Prelude.{◌≡◌, ◌⊎◌, ◌==◌, ◌&&◌, ◌+◌, not, ℕ, Bool, false, List, [], ◌∷◌, Option, Some, None, length, codes, nat_lt, find, if◌then◌else◌, is_some}
 use Rattle.std.specs.List.{slice_split, list_all, list_any}
 use Rattle.std.specs.Str.{bytes_eq}
 use Rattle.table_core.specs.Table.{amount_of}
