@@ -1,11 +1,11 @@
 -- What clap's matches come to.
 use Rattle.std.proofs.Common.{◌≡◌, ◌==◌, ◌<◌, ◌≤◌, ◌^◌, ◌+◌, ℕ, Bool, true, false, cond, List, [], ◌∷◌, ◌++◌, length, map, drop, get_or, Option, Some, None, Result, Ok, Err, refl, sym, ap, subst, ◌∙◌, append_assoc, arith, inl, inr, codes}
-use Rattle.std.specs.Prelude.{option_map, option_and_then, ◌≢◌, ◌&&◌, nat_lt, nat_le, IfOk}
+use Rattle.std.specs.Prelude.{option_map, option_and_then, ◌≢◌, nat_lt, IfOk}
 use Rattle.std.specs.List.{slice_split}
 use Rattle.std.specs.Str.Parse.{ParsesUnsigned, digits_value, without_leading_plus}
 use Rattle.std.specs.Borrow.{Bor}
 use Rattle.std.proofs.lemmas.List.{drop_more}
-use Rattle.std.proofs.lemmas.Bool.{leb-true}
+use Rattle.std.proofs.lemmas.Bool.{eqb-true}
 use Rattle.std.proofs.lemmas.Bool.Decides.{nat_tests}
 use Rattle.std.proofs.lemmas.List.Splits.{length-slice_split}
 use Rattle.clap.specs.Words.{Row, Text, fault_of, is_simple, is_simple_and_free, kind_of, subcommand_of, first_of}
@@ -128,23 +128,19 @@ shelf_some (Some text) ks e = go (nat_lt 64 (length (slice_split (λ b. b == 44)
 abbrev built : ℕ → ℕ → List Kind → Plan
 built n s ks = record { nodes = n; seed = s; shelf = ks }
 
-both : (a b : Bool) → (a && b) ≡ true → (a ≡ true) × (b ≡ true)
-both true b e = (refl, e)
-both false b e = absurd cc
-
-counted : (n : ℕ) (t : Bool) (s : Option ℕ) (o : Option Text) (shelf : Option (List Kind)) (plan : Plan) → (nat_le 1 n && nat_le n 8) ≡ t → option_and_then kinds_of o ≡ shelf
+counted : (n : ℕ) (t : Bool) (s : Option ℕ) (o : Option Text) (shelf : Option (List Kind)) (plan : Plan) → (n == 1) ≡ t → option_and_then kinds_of o ≡ shelf
     → option_and_then (λ nodes. option_and_then (λ seed. option_map (λ ks. built nodes seed ks) shelf) s) (cond t (Some n) None) ≡ Some plan → IsPlan plan
 counted n false s o shelf plan is from h = absurd cc
 counted n true None o shelf plan is from h = absurd cc
 counted n true (Some k) o None plan is from h = absurd cc
 counted n true (Some k) o (Some ks) plan is from h =
-    let few = both (nat_le 1 n) (nat_le n 8) is in
-    subst IsPlan (same (built n k ks) plan h) (record { nodes = (leb-true 1 n few.0, leb-true n 8 few.1); shelf = shelf_some o ks from })
+    let one : n ≡ 1 = eqb-true n 1 is in
+    subst IsPlan (same (built n k ks) plan h) (record { nodes = (omega (arith, one), omega (arith, one)); single = one; shelf = shelf_some o ks from })
 
 options_sized : (n s : Option ℕ) (o : Option Text) (plan : Plan)
     → option_and_then (λ nodes. option_and_then (λ seed. option_map (λ ks. built nodes seed ks) (option_and_then kinds_of o)) s) (option_and_then node_count n) ≡ Some plan → IsPlan plan
 options_sized None s o plan e = absurd cc
-options_sized (Some n) s o plan e = counted n (nat_le 1 n && nat_le n 8) s o (option_and_then kinds_of o) plan refl refl e
+options_sized (Some n) s o plan e = counted n (n == 1) s o (option_and_then kinds_of o) plan refl refl e
 
 plan_sized : (o : Option (Text × List Row)) (plan : Plan) → plan_in o ≡ Some plan → IsPlan plan
 plan_sized None plan e = absurd cc
