@@ -1,5 +1,5 @@
-//! The replicated table service on a script: `delos_sim run --shelf file` reads the script from
-//! standard input and prints one row for each command, and the chain of loglets at the end.
+//! The replicated table service on a script: `delos_sim run` reads the script from standard input,
+//! and prints one row for each command, and the chain of loglets at the end.
 #![tactic(auto)]
 
 ghost use Rattle.std.specs.Prelude.{IfOk};
@@ -17,12 +17,13 @@ use std::process::ExitCode;
 /// How many entries a loglet of the shelf takes: 2^32.
 const ROOM: u64 = 0x1_0000_0000;
 
-/// The words of the command line, without the program's name. Words that are no text are none
-/// that are taken.
+/// The words of the command line, without the program's name. Where one of them is no text, an
+/// empty word stands for them all, which no command takes.
 fn words_of(rt: &HostRuntime) -> Result<Vec<String>, AllocError> {
     let alloc = rt.alloc();
     let mut words = Vec::new(alloc);
     let Ok(args) = env::args(rt) else {
+        words.push(String::new(alloc))?;
         return Ok(words);
     };
     for word in args.skip(1) {

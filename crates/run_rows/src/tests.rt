@@ -63,75 +63,121 @@ fn ends_with(
 #[test]
 fn scripts_and_their_texts(rt: HostRuntime) -> Result<(), Fail> {
     let alloc = rt.alloc();
-    ends_with(
-        &rt,
-        alloc,
-        FILE_RUN,
-        PUT_AND_GET,
-        &CALM,
-        0,
-        PUT_AND_GET_TEXT,
-    )?;
-    ends_with(
-        &rt,
-        alloc,
-        FILE_RUN,
-        b"",
-        &CALM,
-        0,
-        b"end 0\nchain v=1 trim=0\nseg 0 file 0 open\n",
-    )?;
-    ends_with(
-        &rt,
-        alloc,
-        FILE_RUN,
-        b"\non n1 b get x",
-        &CALM,
-        0,
-        b"2 b >0 none\nend 0\nchain v=1 trim=0\nseg 0 file 0 open\n",
-    )?;
-    ends_with(
-        &rt,
-        alloc,
-        FILE_RUN,
-        b"on n1 a put x 1\non n1 b put x 2\non n1 a get x\n",
-        &CALM,
-        0,
-        b"1 a @0.0 ok\n2 b @1.0 ok\n3 a >2 = 2\nend 2\nchain v=1 trim=0\nseg 0 file 0 open\n",
-    )
+    // The script, and its text behind the chain's first line.
+    let rows = [
+        (PUT_AND_GET, PUT_AND_GET_TEXT),
+        (b"", b"end 0\nchain v=1 trim=0\nseg 0 file 0 open\n"),
+        (
+            b"\non n1 b get x",
+            b"2 b >0 none\nend 0\nchain v=1 trim=0\nseg 0 file 0 open\n",
+        ),
+        (
+            b"on n1 a put x 1\non n1 b put x 2\non n1 a get x\n",
+            b"1 a @0.0 ok\n2 b @1.0 ok\n3 a >2 = 2\nend 2\nchain v=1 trim=0\nseg 0 file 0 open\n",
+        ),
+        (
+            b"on n1 a put x 1\nbarrier\non n1 b get x\nbarrier\n",
+            b"1 a @0.0 ok\n3 b >1 = 1\nend 1\nchain v=1 trim=0\nseg 0 file 0 open\n",
+        ),
+        // A sum that leaves the range changes nothing.
+        (
+            b"on n1 a put c 9223372036854775807\non n1 a add c 1\non n1 a get c\n",
+            b"1 a @0.0 ok\n2 a @1.0 full\n3 a >2 = 9223372036854775807\nend 2\nchain v=1 trim=0\nseg 0 file 0 open\n",
+        ),
+        // Each reply of a logged command.
+        (
+            b"on n1 a add c 5\non n1 a add c -7\non n1 a cas c -2 z\non n1 a add c 1\non n1 a cas c q r\non n1 a del c\non n1 a del c\non n1 a cas c q r\non n1 a scan a z\n",
+            b"1 a @0.0 = 5\n2 a @1.0 = -2\n3 a @2.0 ok\n4 a @3.0 text\n5 a @4.0 was z\n6 a @5.0 ok\n7 a @6.0 none\n8 a @7.0 none\n9 a >8 []\nend 8\nchain v=1 trim=0\nseg 0 file 0 open\n",
+        ),
+        // A scan is in byte order, and ends below its second key.
+        (
+            b"on n1 a put b 2\non n1 b put a 1\non n1 a put c 3\non n1 b scan a c\n",
+            b"1 a @0.0 ok\n2 b @1.0 ok\n3 a @2.0 ok\n4 b >3 [a=1 b=2]\nend 3\nchain v=1 trim=0\nseg 0 file 0 open\n",
+        ),
+    ];
+    for (script, text) in rows {
+        ends_with(&rt, alloc, FILE_RUN, script, &CALM, 0, text)?;
+    }
+    Ok(())
 }
 
 #[test]
-fn refusals(rt: HostRuntime) -> Result<(), Fail> {
+fn bad_lines(rt: HostRuntime) -> Result<(), Fail> {
     let alloc = rt.alloc();
+    let rows = [
+        (&b"on n1 extend\n"[..], &b"line 1: word\n"[..]),
+        (b"on n1 a put x 1\n\non n2 a get x\n", b"line 3: node\n"),
+        (b"on n1 a add c -0\nwhat\n", b"line 1: number\n"),
+        (b"on n1 a put x 1\nbarrier 2\n", b"line 2: count\n"),
+    ];
+    for (script, text) in rows {
+        ends_with(&rt, alloc, FILE_RUN, script, &CALM, 2, text)?;
+    }
+    Ok(())
+}
+
+#[test]
+fn words_and_their_texts(rt: HostRuntime) -> Result<(), Fail> {
+    let alloc = rt.alloc();
+    let rows = [
+        (&[][..], 0, PUT_AND_GET_TEXT),
+        (&["run"], 0, PUT_AND_GET_TEXT),
+        (&["run", "--shelf=file", "--seed", "7"], 0, PUT_AND_GET_TEXT),
+        (&["run", "--shelf", "file,file"], 0, PUT_AND_GET_TEXT),
+        (&["run", "--nodes", "9"], 3, b"bad words\n"),
+        (&["run", "--help"], 3, b"bad words\n"),
+    ];
+    for (words, status, text) in rows {
+        ends_with(&rt, alloc, words, PUT_AND_GET, &CALM, status, text)?;
+    }
+    Ok(())
+}
+
+// So many copies of a byte.
+fn put_copies(text: &mut Vec<u8>, byte: u8, times: usize) -> Result<(), Fail> {
+    for _ in 0..times {
+        text.push(byte)?;
+    }
+    Ok(())
+}
+
+// A `cas` line with a key of 64 bytes, an old value of 256 and a new value of so many.
+fn longest_line(alloc: Global, empty_lines: usize, new: usize) -> Result<Vec<u8>, Fail> {
+    let mut text = Vec::new(alloc);
+    put_copies(&mut text, b'\n', empty_lines)?;
+    text.extend_from_slice(b"on n1 a cas ")?;
+    put_copies(&mut text, b'k', 64)?;
+    text.push(b' ')?;
+    put_copies(&mut text, b'o', 256)?;
+    text.push(b' ')?;
+    put_copies(&mut text, b'n', new)?;
+    Ok(text)
+}
+
+#[test]
+fn a_line_of_512_bytes_runs(rt: HostRuntime) -> Result<(), Fail> {
+    let alloc = rt.alloc();
+    let longest = longest_line(alloc, 0, 178)?;
+    assert_eq!(rt; longest.len(), 512);
     ends_with(
         &rt,
         alloc,
         FILE_RUN,
-        b"on n1 a del x\n",
+        longest.as_slice(),
         &CALM,
-        2,
-        b"line 1: word\n",
+        0,
+        b"1 a @0.0 none\nend 1\nchain v=1 trim=0\nseg 0 file 0 open\n",
     )?;
+    let longer = longest_line(alloc, 2, 179)?;
     ends_with(
         &rt,
         alloc,
         FILE_RUN,
-        b"on n1 a put x 1\n\non n2 a get x\n",
+        longer.as_slice(),
         &CALM,
         2,
-        b"line 3: word\n",
-    )?;
-    ends_with(
-        &rt,
-        alloc,
-        &["run", "--nodes", "9"],
-        PUT_AND_GET,
-        &CALM,
-        3,
-        b"bad words\n",
-    )?;
-    ends_with(&rt, alloc, &[], PUT_AND_GET, &CALM, 3, b"bad words\n")
+        b"line 3: too long\n",
+    )
 }
 
 #[test]

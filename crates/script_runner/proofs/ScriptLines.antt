@@ -115,16 +115,17 @@ printed (b ∷ w) e =
 
 can_log : (c : Command) → CommandFits c → IsSpellable c × (command_length c ≤ 984)
 can_log (Put k v) h = ((((omega (arith, h.0.most_bytes), printed k h.0.printed), omega (arith, h.1.most_bytes))), omega (arith, h.0.most_bytes, h.1.most_bytes))
-can_log (Del k) h = absurd h
-can_log (Cas k old new) h = absurd h
-can_log (Add k z) h = absurd h
+can_log (Del k) h = ((omega (arith, h.most_bytes), printed k h.printed), omega (arith, h.most_bytes))
+can_log (Cas k old new) h =
+    (((omega (arith, h.0.most_bytes), printed k h.0.printed), omega (arith, h.1.most_bytes), omega (arith, h.2.most_bytes)), omega (arith, h.0.most_bytes, h.1.most_bytes, h.2.most_bytes))
+can_log (Add k z) h = (((omega (arith, h.0.most_bytes), printed k h.0.printed), h.1), omega (arith, h.0.most_bytes))
 
 spelled : (nodes : ℕ) (b : Before) (n at : ℕ) (rs : List RawLine) (before ls : List Line) → SpellsFrom nodes b n at rs ls → AllByRecursion (λ l. CanLog l.asks) (lines_after before ls)
 spelled nodes b n at [] before [] h = tt
 spelled nodes b n at (r ∷ rs) before (line.Session node t (ask.Log c) ∷ ls) h = (can_log c h.3.fits.2, spelled nodes h.2 (n + 1) (at + r.size) rs (before ++ line.Session node t (ask.Log c) ∷ []) ls h.4)
 spelled nodes b n at (r ∷ rs) before (line.Session node t (ask.Look q) ∷ ls) h = (tt, spelled nodes h.2 (n + 1) (at + r.size) rs (before ++ line.Session node t (ask.Look q) ∷ []) ls h.4)
 spelled nodes b n at (r ∷ rs) before (line.Blank ∷ ls) h = spelled nodes h.2 (n + 1) (at + r.size) rs (before ++ line.Blank ∷ []) ls h.4
-spelled nodes b n at (r ∷ rs) before (line.Barrier ∷ ls) h = absurd h.3.fits
+spelled nodes b n at (r ∷ rs) before (line.Barrier ∷ ls) h = spelled nodes h.2 (n + 1) (at + r.size) rs (before ++ line.Barrier ∷ []) ls h.4
 spelled nodes b n at [] before (l ∷ ls) h = absurd h
 spelled nodes b n at (r ∷ rs) before [] h = absurd h
 

@@ -15,7 +15,9 @@ use Rattle.script_text.specs.Refusal.{refusal_text}
 use Rattle.script_text.specs.Script.{script_of}
 use Rattle.script_text.specs.Spelling.{IsScript}
 use Rattle.script_words.specs.declared.plan.Plan.{Plan}
-use Rattle.script_words.specs.Plans.{plan_of, kind_name, bad_words_text}
+pub use Rattle.script_words.specs.Plans.{IsPlan}
+use Rattle.script_words.specs.Plans.{plan_of, bad_words_text}
+use Rattle.script_words.specs.Shelf.{kind_name}
 use Rattle.script_runner.specs.declared.ended.Told.{Told}
 use Rattle.script_runner.specs.declared.ended.Status.{Status}
 use Rattle.script_runner.specs.declared.ended.Status.TheVariants as status
@@ -57,11 +59,6 @@ pub record Tells (lines : List NamedLine) (yard : Yard) (told : Told) : Type 0 w
   pub answered : all_answered told.rows ≡ true
   pub whole : told.end ≡ virtual_tail told.chain (shown yard).cells
   pub chain : told.chain ≡ first_chain
-
--- a plan for 1 to 8 nodes and a shelf that isn't empty
-pub record IsPlan (plan : Plan) : Type 0 where
-  pub nodes : (1 ≤ plan.nodes) × (plan.nodes ≤ 8)
-  pub shelf : 0 < length plan.shelf
 
 -- the text of what is told, over the plan's shelf
 abbrev pub text_of : Plan → Told → List ℕ

@@ -1,6 +1,8 @@
 -- What is spelled is read.
-use Rattle.std.proofs.Common.{◌≡◌, ◌==◌, ◌≤◌, ◌+◌, ◌-◌, ◌&&◌, inl, inr, ℕ, Bool, true, false, not, List, [], ◌∷◌, ◌++◌, length, All, Ok, refl, sym, ap, subst, ◌∙◌, arith}
-use Rattle.std.specs.Prelude.{codes, nat_lt, nat_le}
+use Rattle.std.proofs.Common.{◌≡◌, ◌==◌, ◌<◌, ◌≤◌, ◌+◌, ◌-◌, ◌&&◌, inl, inr, ℕ, ℤ, Bool, true, false, not, List, [], ◌∷◌, ◌++◌, length, All, Ok, refl, sym, ap, subst, ◌∙◌, arith}
+use Rattle.std.specs.Prelude.{codes, nat_lt, nat_le, FitsSigned}
+use Rattle.std.specs.Int.{w64}
+use Rattle.std.specs.Fmt.{signed_decimal}
 use Rattle.std.specs.List.{slice_split, join_with_byte, list_all, list_any, AllByRecursion}
 use Rattle.std.proofs.lemmas.List.Elements.{All-from_recursion}
 use Rattle.std.proofs.lemmas.Bool.{le-ltb, le-leb, lt-ltb}
@@ -21,6 +23,7 @@ use Rattle.script_text.specs.Forms.{form_of, session_line, line_in, line_at}
 use Rattle.script_text.specs.Spelling.{node_name, ask_words, line_words, spell, is_print, IsWord, IsNode, AskFits, LineFits, Belongs, Follows, Spells, SpellsFrom, IsScript}
 use Rattle.script_text.specs.Script.{RawLine, lines_in, lines_from, script_of}
 use Rattle.script_text.proofs.Takes.{both}
+use Rattle.script_text.proofs.Numbers.{number_again, number_prints}
 
 -- ---- words
 
@@ -116,13 +119,23 @@ literal w h = let k = both (not (is_empty w)) (list_all is_print w) h in record 
 plain_on : Plain (codes "on")
 plain_on = literal (codes "on") refl
 
+-- the text of a number
+plain_number : (z : ℤ) → FitsSigned w64 z → Plain (signed_decimal z)
+plain_number z fits = let h = number_prints z fits in record { some = not_empty (signed_decimal z) h.0; printed = h.1 }
+  where
+    not_empty : (w : Word) → 0 < length w → is_empty w ≡ false
+    not_empty w some = grind (arith, nat_tests)
+
+plain_barrier : Plain (codes "barrier")
+plain_barrier = literal (codes "barrier") refl
+
 plain_ask : (a : Ask) → AskFits a → AllPlain (ask_words a)
 plain_ask (Log (Put k v)) f = (literal (codes "put") refl, (plain_word 64 k f.0, (plain_word 256 v f.1, tt)))
-plain_ask (Log (Del k)) f = absurd f
-plain_ask (Log (Cas k old new)) f = absurd f
-plain_ask (Log (Add k z)) f = absurd f
+plain_ask (Log (Del k)) f = (literal (codes "del") refl, (plain_word 64 k f, tt))
+plain_ask (Log (Cas k old new)) f = (literal (codes "cas") refl, (plain_word 64 k f.0, (plain_word 256 old f.1, (plain_word 256 new f.2, tt))))
+plain_ask (Log (Add k z)) f = (literal (codes "add") refl, (plain_word 64 k f.0, (plain_number z f.1, tt)))
 plain_ask (Look (Get k)) f = (literal (codes "get") refl, (plain_word 64 k f, tt))
-plain_ask (Look (Scan low high)) f = absurd f
+plain_ask (Look (Scan low high)) f = (literal (codes "scan") refl, (plain_word 64 low f.0, (plain_word 64 high f.1, tt)))
 
 plain_session : (nodes n : ℕ) (s : Session) (a : Ask) → nodes ≤ 8 → LineFits nodes (line.Session n s a) → AllPlain (line_words (line.Session n s a))
 plain_session nodes n s a few f = (plain_on, (plain_node nodes n few f.0, (plain_name s.name f.1.letters, plain_ask a f.2)))
@@ -161,23 +174,27 @@ session_again : (nodes : ℕ) (b after : Before) (n : ℕ) (s : Session) (a : As
 unfolding session_line
 session_again nodes b after n s (Log (Put k v)) few f at =
     rw (f.1.not_admin, node_again nodes n few f.0, name_again s.name f.1.letters, key_again k f.2.0.most_bytes, value_again v f.2.1.most_bytes, admit_again b after n s at) refl
-session_again nodes b after n s (Log (Del k)) few f at = absurd f.2
-session_again nodes b after n s (Log (Cas k old new)) few f at = absurd f.2
-session_again nodes b after n s (Log (Add k z)) few f at = absurd f.2
+session_again nodes b after n s (Log (Del k)) few f at =
+    rw (f.1.not_admin, node_again nodes n few f.0, name_again s.name f.1.letters, key_again k f.2.most_bytes, admit_again b after n s at) refl
+session_again nodes b after n s (Log (Cas k old new)) few f at =
+    rw (f.1.not_admin, node_again nodes n few f.0, name_again s.name f.1.letters, key_again k f.2.0.most_bytes, value_again old f.2.1.most_bytes, value_again new f.2.2.most_bytes, admit_again b after n s at) refl
+session_again nodes b after n s (Log (Add k z)) few f at =
+    rw (f.1.not_admin, node_again nodes n few f.0, name_again s.name f.1.letters, number_again z f.2.1, key_again k f.2.0.most_bytes, admit_again b after n s at) refl
 session_again nodes b after n s (Look (Get k)) few f at =
     rw (f.1.not_admin, node_again nodes n few f.0, name_again s.name f.1.letters, key_again k f.2.most_bytes, admit_again b after n s at) refl
-session_again nodes b after n s (Look (Scan low high)) few f at = absurd f.2
+session_again nodes b after n s (Look (Scan low high)) few f at =
+    rw (f.1.not_admin, node_again nodes n few f.0, name_again s.name f.1.letters, key_again low f.2.0.most_bytes, key_again high f.2.1.most_bytes, admit_again b after n s at) refl
 
 by_words_again : (nodes : ℕ) (b after : Before) (l : Line) → nodes ≤ 8 → LineFits nodes l → Follows b l after
     → (form_of (line_words l) >>= λ f. line_in nodes b (line_words l) f) ≡ Ok (l, after)
 by_words_again nodes b after line.Blank few f follows = ap (λ (x : Before). Ok (line.Blank, x)) (sym follows)
 by_words_again nodes b after (line.Session n s a) few f follows = session_again nodes b after n s a few f follows
-by_words_again nodes b after line.Barrier few f follows = absurd f
+by_words_again nodes b after line.Barrier few f follows = ap (λ (x : Before). Ok (line.Barrier, x)) (sym follows)
 
 words_of_line : (nodes : ℕ) (l : Line) → nodes ≤ 8 → LineFits nodes l → length (spell l) ≤ 512 → words_of (spell l) ≡ Ok (line_words l)
 words_of_line nodes line.Blank few f short = refl
 words_of_line nodes (line.Session n s a) few f short = words_again _ _ (plain_session nodes n s a few f) short
-words_of_line nodes line.Barrier few f short = absurd f
+words_of_line nodes line.Barrier few f short = words_again _ _ (plain_barrier, tt) short
 
 -- a line that is spelled is read
 pub line_again : (nodes : ℕ) (b after : Before) (text : List ℕ) (l : Line) → nodes ≤ 8 → Spells nodes b text l after → line_at nodes b text ≡ Ok (l, after)

@@ -13,7 +13,7 @@ use Rattle.script_text.specs.declared.line.Fault.TheVariants as fault
 use Rattle.script_text.specs.Gives.{◌>>=◌, Fails}
 use Rattle.script_text.specs.Seen.{Before, nothing_yet}
 use Rattle.script_text.specs.Words.{is_empty}
-use Rattle.script_text.specs.Script.{RawLine, raw_line, raw_lines, lines_in, lines_from, script_of, line_numbered, ReadsScript, error_at, told_rule}
+use Rattle.script_text.specs.Script.{RawLine, raw_line, raw_lines, lines_in, lines_from, script_of, line_numbered, ReadsScript, error_at}
 
 -- what was read before, and what is still read
 abbrev pub with_front : List Line → Result (List Line) BadLine → Result (List Line) BadLine
@@ -38,7 +38,7 @@ pub ends : (e : Fault) (nodes : ℕ) (seen : Before) (n at : ℕ) (r : RawLine) 
 unfolding lines_from
 ends fault.Memory nodes seen n at r rs all front whole is h so_far = tt
 ends (fault.Breaks rule) nodes seen n at r rs all front whole is h so_far =
-    let one : with_front front (lines_from nodes seen n at all) ≡ Err (record { n = n; rule = told_rule rule }) = rw (is, h) refl in
+    let one : with_front front (lines_from nodes seen n at all) ≡ Err (record { n = n; rule = rule }) = rw (is, h) refl in
     sym so_far ∙ one
 
 pub is_done : (nodes : ℕ) (seen : Before) (n at : ℕ) (bytes : List ℕ) (front : List Line) (whole : Result (List Line) BadLine)

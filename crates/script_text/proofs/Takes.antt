@@ -3,12 +3,13 @@ use Rattle.std.proofs.Common.{◌≡◌, ◌==◌, ◌<◌, ◌≤◌, ◌+◌, 
 use Rattle.std.specs.Prelude.{codes, nat_lt, nat_le, slice_index}
 use Rattle.std.specs.List.{slice_split, onto_first, join_with_byte, list_all, list_any}
 use Rattle.std.specs.Str.{bytes_eq}
+use Rattle.std.specs.Fmt.{signed_decimal}
 use Rattle.std.proofs.lemmas.Bool.{ltb-true, ltb-false, leb-true, eqb-true}
 use Rattle.std.proofs.lemmas.Slice.Eq.{bytes_eq-Decides, text_from_reads}
 use Rattle.std.proofs.lemmas.Bool.Decides.{nat_tests}
 use Rattle.std.proofs.lemmas.List.Splits.{join_with_byte-slice_split}
-use Rattle.table_core.specs.declared.command.Command.TheVariants.{Put}
-use Rattle.table_core.specs.declared.command.Query.TheVariants.{Get}
+use Rattle.table_core.specs.declared.command.Command.TheVariants.{Put, Del, Cas, Add}
+use Rattle.table_core.specs.declared.command.Query.TheVariants.{Get, Scan}
 use Rattle.script_text.specs.declared.line.Rule.{Rule}
 use Rattle.script_text.specs.declared.line.Rule.TheVariants as rule
 use Rattle.script_text.specs.declared.line.Session.{Session}
@@ -23,9 +24,11 @@ use Rattle.script_text.specs.declared.forms.Form.TheVariants as form
 use Rattle.script_text.specs.declared.seen.Home.{Home}
 use Rattle.script_text.specs.Gives.{◌>>=◌}
 use Rattle.script_text.specs.Words.{Word, is_empty, is_text_byte, split_words, words_of}
-use Rattle.script_text.specs.Fields.{is_node, node_of, is_name, name_of, key_of, value_of}
+use Rattle.script_text.specs.Fields.{is_node, node_of, is_name, name_of, number_of, key_of, value_of}
 use Rattle.script_text.specs.Seen.{Before, session, home, is_named, home_of, with_session, admit, admit_at, admit_new}
 use Rattle.script_text.specs.Forms.{word, is_admin_word, verb_of, session_form, on_form, form_of, having, verb_count, ask_of, session_line, line_in, line_at}
+use Rattle.script_text.specs.Rules.{verb_name}
+use Rattle.script_text.proofs.Numbers.{number_takes}
 use Rattle.script_text.specs.Spelling.{node_name, ask_words, line_words, is_print, IsWord, IsNode, IsSessionName, AskFits, LineFits, Belongs, Follows, Spells}
 
 -- ---- steps that did not fail
@@ -217,10 +220,6 @@ admit_takes b n name x e = admit_at_takes b n name (home_of b.homes name) x refl
 pub by_words : (nodes : ℕ) (b after : Before) (text : List ℕ) (ws : List Word) (l : Line) → Cut text ws → ws ≡ line_words l → LineFits nodes l → Follows b l after → Spells nodes b text l after
 by_words nodes b after text ws l cut words fits follows = record { spelled = cut.joined ∙ ap (join_with_byte 32) words; short = cut.short; fits = fits; follows = follows }
 
-abbrev pub verb_name : Verb → Word
-verb_name verb.Put = codes "put"
-verb_name verb.Get = codes "get"
-
 -- what the form of a session's line says of the words
 pub record IsOn (ws : List Word) (v : Verb) : Type 0 where
   pub on : word ws 0 ≡ codes "on"
@@ -232,6 +231,9 @@ two a b p q h1 h2 = cc
 
 three : (a b c p q r : Word) → a ≡ p → b ≡ q → c ≡ r → a ∷ b ∷ c ∷ [] ≡ p ∷ q ∷ r ∷ []
 three a b c p q r h1 h2 h3 = cc
+
+four : (a b c d p q r s : Word) → a ≡ p → b ≡ q → c ≡ r → d ≡ s → a ∷ b ∷ c ∷ d ∷ [] ≡ p ∷ q ∷ r ∷ s ∷ []
+four a b c d p q r s h1 h2 h3 h4 = cc
 
 -- the words from the verb on are those of what is asked, which may be asked
 pub record TakesAsk (ws : List Word) (v : Verb) (a : Ask) : Type 0 where
@@ -250,6 +252,38 @@ ask_takes text ws verb.Put a cut len is e =
     let y : Ask = ask.Log (Put k.0 v.0) in
     subst (TakesAsk ws verb.Put) (ok_is y a v.2)
     (record { words = three (word ws 3) (word ws 4) (word ws 5) (codes "put") k.0 v.0 is tk.0 tv.0; fits = (key, value) })
+ask_takes text ws verb.Del a cut len is e =
+    let many : length ws ≡ 5 = len in
+    let k = bind_ok (key_of (word ws 4)) (λ key. Ok (ask.Log (Del key))) a e in
+    let tk = key_takes (word ws 4) k.0 k.1 in
+    let key : IsWord 64 k.0 = subst (IsWord 64) tk.0 (word_is text ws 4 64 cut (omega (arith, many)) tk.1) in
+    let y : Ask = ask.Log (Del k.0) in
+    subst (TakesAsk ws verb.Del) (ok_is y a k.2)
+    (record { words = two (word ws 3) (word ws 4) (codes "del") k.0 is tk.0; fits = key })
+ask_takes text ws verb.Cas a cut len is e =
+    let many : length ws ≡ 7 = len in
+    let k = bind_ok (key_of (word ws 4)) (λ key. value_of (word ws 5) >>= λ old. value_of (word ws 6) >>= λ new. Ok (ask.Log (Cas key old new))) a e in
+    let o = bind_ok (value_of (word ws 5)) (λ old. value_of (word ws 6) >>= λ new. Ok (ask.Log (Cas k.0 old new))) a k.2 in
+    let v = bind_ok (value_of (word ws 6)) (λ new. Ok (ask.Log (Cas k.0 o.0 new))) a o.2 in
+    let tk = key_takes (word ws 4) k.0 k.1 in
+    let to = value_takes (word ws 5) o.0 o.1 in
+    let tv = value_takes (word ws 6) v.0 v.1 in
+    let key : IsWord 64 k.0 = subst (IsWord 64) tk.0 (word_is text ws 4 64 cut (omega (arith, many)) tk.1) in
+    let old : IsWord 256 o.0 = subst (IsWord 256) to.0 (word_is text ws 5 256 cut (omega (arith, many)) to.1) in
+    let new : IsWord 256 v.0 = subst (IsWord 256) tv.0 (word_is text ws 6 256 cut (omega (arith, many)) tv.1) in
+    let y : Ask = ask.Log (Cas k.0 o.0 v.0) in
+    subst (TakesAsk ws verb.Cas) (ok_is y a v.2)
+    (record { words = four (word ws 3) (word ws 4) (word ws 5) (word ws 6) (codes "cas") k.0 o.0 v.0 is tk.0 to.0 tv.0; fits = (key, old, new) })
+ask_takes text ws verb.Add a cut len is e =
+    let many : length ws ≡ 6 = len in
+    let z = bind_ok (number_of (word ws 5)) (λ amount. key_of (word ws 4) >>= λ key. Ok (ask.Log (Add key amount))) a e in
+    let k = bind_ok (key_of (word ws 4)) (λ key. Ok (ask.Log (Add key z.0))) a z.2 in
+    let tz = number_takes (word ws 5) z.0 z.1 in
+    let tk = key_takes (word ws 4) k.0 k.1 in
+    let key : IsWord 64 k.0 = subst (IsWord 64) tk.0 (word_is text ws 4 64 cut (omega (arith, many)) tk.1) in
+    let y : Ask = ask.Log (Add k.0 z.0) in
+    subst (TakesAsk ws verb.Add) (ok_is y a k.2)
+    (record { words = three (word ws 3) (word ws 4) (word ws 5) (codes "add") k.0 (signed_decimal z.0) is tk.0 tz.0; fits = (key, tz.1) })
 ask_takes text ws verb.Get a cut len is e =
     let many : length ws ≡ 5 = len in
     let k = bind_ok (key_of (word ws 4)) (λ key. Ok (ask.Look (Get key))) a e in
@@ -258,11 +292,26 @@ ask_takes text ws verb.Get a cut len is e =
     let y : Ask = ask.Look (Get k.0) in
     subst (TakesAsk ws verb.Get) (ok_is y a k.2)
     (record { words = two (word ws 3) (word ws 4) (codes "get") k.0 is tk.0; fits = key })
+ask_takes text ws verb.Scan a cut len is e =
+    let many : length ws ≡ 6 = len in
+    let l = bind_ok (key_of (word ws 4)) (λ low. key_of (word ws 5) >>= λ high. Ok (ask.Look (Scan low high))) a e in
+    let h = bind_ok (key_of (word ws 5)) (λ high. Ok (ask.Look (Scan l.0 high))) a l.2 in
+    let tl = key_takes (word ws 4) l.0 l.1 in
+    let th = key_takes (word ws 5) h.0 h.1 in
+    let low : IsWord 64 l.0 = subst (IsWord 64) tl.0 (word_is text ws 4 64 cut (omega (arith, many)) tl.1) in
+    let high : IsWord 64 h.0 = subst (IsWord 64) th.0 (word_is text ws 5 64 cut (omega (arith, many)) th.1) in
+    let y : Ask = ask.Look (Scan l.0 h.0) in
+    subst (TakesAsk ws verb.Scan) (ok_is y a h.2)
+    (record { words = three (word ws 3) (word ws 4) (word ws 5) (codes "scan") l.0 h.0 is tl.0 th.0; fits = (low, high) })
 
 -- the words of a session's line, from its first three and the rest
 begun : (v : Verb) (f : ℕ → Word) (p q r : Word) (rest : List Word) → f 0 ≡ p → f 1 ≡ q → f 2 ≡ r → tabulate f 3 (verb_count v - 3) ≡ rest → tabulate f 0 (verb_count v) ≡ p ∷ q ∷ r ∷ rest
 begun verb.Put f p q r rest h0 h1 h2 h3 = cc
+begun verb.Del f p q r rest h0 h1 h2 h3 = cc
+begun verb.Cas f p q r rest h0 h1 h2 h3 = cc
+begun verb.Add f p q r rest h0 h1 h2 h3 = cc
 begun verb.Get f p q r rest h0 h1 h2 h3 = cc
+begun verb.Scan f p q r rest h0 h1 h2 h3 = cc
 
 name_is_session : (w name : Word) → w ≡ name → is_name name ≡ true → is_admin_word w ≡ false → IsSessionName name
 name_is_session w name same letters not_admin = record { letters = letters; not_admin = subst (λ (x : Word). is_admin_word x ≡ false) same not_admin }
@@ -296,11 +345,23 @@ blank_takes nodes b text ws x cut none e =
     let words : ws ≡ line_words y.0 = so_many ws 0 none in
     subst (λ (z : Line × Before). Spells nodes b text z.0 z.1) (ok_is y x e) (by_words nodes b y.1 text ws y.0 cut words tt refl)
 
+one : (a p : Word) → a ≡ p → a ∷ [] ≡ p ∷ []
+one a p h = cc
+
+pub barrier_takes : (nodes : ℕ) (b : Before) (text : List ℕ) (ws : List Word) (x : Line × Before) → Cut text ws → word ws 0 ≡ codes "barrier" → having 1 ws (Ok (line.Barrier, b)) ≡ Ok x
+    → Spells nodes b text x.0 x.1
+barrier_takes nodes b text ws x cut is e =
+    let y : Line × Before = (line.Barrier, b) in
+    let h = having_ok 1 ws (Ok y) x e in
+    let words : ws ≡ line_words y.0 = so_many ws 1 h.0 ∙ one (word ws 0) (codes "barrier") is in
+    subst (λ (z : Line × Before). Spells nodes b text z.0 z.1) (ok_is y x h.1) (by_words nodes b y.1 text ws y.0 cut words tt refl)
+
 -- ---- forms
 
 -- what a form says of the words
 abbrev pub Means : List Word → Form → Type 0
 Means ws form.Blank = length ws ≡ 0
+Means ws form.Barrier = word ws 0 ≡ codes "barrier"
 Means ws (form.Session v) = IsOn ws v
 
 leaf : (ws : List Word) (g f : Form) → Means ws g → done g ≡ Ok f → Means ws f
@@ -318,8 +379,12 @@ refused r f P e = absurd cc
 
 verb_means : (w : Word) (v : Verb) → verb_of w ≡ Ok v → w ≡ verb_name v
 verb_means w v = cased (bytes_eq w (codes "put")) _ _ v (w ≡ verb_name v) (λ y. verb_leaf w verb.Put v (same_bytes _ _ y))
-    (λ t. cased (bytes_eq w (codes "get")) _ _ v (w ≡ verb_name v) (λ y. verb_leaf w verb.Get v (same_bytes _ _ y))
-    (λ t1. refused rule.Word v (w ≡ verb_name v)))
+    (λ t. cased (bytes_eq w (codes "del")) _ _ v (w ≡ verb_name v) (λ y. verb_leaf w verb.Del v (same_bytes _ _ y))
+    (λ t1. cased (bytes_eq w (codes "cas")) _ _ v (w ≡ verb_name v) (λ y. verb_leaf w verb.Cas v (same_bytes _ _ y))
+    (λ t2. cased (bytes_eq w (codes "add")) _ _ v (w ≡ verb_name v) (λ y. verb_leaf w verb.Add v (same_bytes _ _ y))
+    (λ t3. cased (bytes_eq w (codes "get")) _ _ v (w ≡ verb_name v) (λ y. verb_leaf w verb.Get v (same_bytes _ _ y))
+    (λ t4. cased (bytes_eq w (codes "scan")) _ _ v (w ≡ verb_name v) (λ y. verb_leaf w verb.Scan v (same_bytes _ _ y))
+    (λ t5. refused rule.Word v (w ≡ verb_name v)))))))
 
 session_means : (ws : List Word) (f : Form) → word ws 0 ≡ codes "on" → is_admin_word (word ws 2) ≡ false → session_form ws ≡ Ok f → Means ws f
 session_means ws f on not_admin e =
@@ -335,11 +400,13 @@ on_means ws f on e =
 
 pub form_means : (ws : List Word) (f : Form) → form_of ws ≡ Ok f → Means ws f
 form_means ws f = cased (length ws == 0) _ _ f (Means ws f) (λ y. leaf ws form.Blank f (eqb-true _ _ y))
-    (λ t. cased (bytes_eq (word ws 0) (codes "on")) _ _ f (Means ws f) (λ y. on_means ws f (same_bytes _ _ y))
-    (λ t1. refused rule.Word f (Means ws f)))
+    (λ t. cased (bytes_eq (word ws 0) (codes "barrier")) _ _ f (Means ws f) (λ y. leaf ws form.Barrier f (same_bytes _ _ y))
+    (λ t1. cased (bytes_eq (word ws 0) (codes "on")) _ _ f (Means ws f) (λ y. on_means ws f (same_bytes _ _ y))
+    (λ t2. refused rule.Word f (Means ws f))))
 
 in_takes : (nodes : ℕ) (b : Before) (text : List ℕ) (ws : List Word) (f : Form) (x : Line × Before) → Cut text ws → Means ws f → line_in nodes b ws f ≡ Ok x → Spells nodes b text x.0 x.1
 in_takes nodes b text ws form.Blank x cut on e = blank_takes nodes b text ws x cut on e
+in_takes nodes b text ws form.Barrier x cut is e = barrier_takes nodes b text ws x cut is e
 in_takes nodes b text ws (form.Session v) x cut on e = session_takes nodes b text ws v x cut on e
 
 -- a line that is read is spelled so

@@ -5,6 +5,7 @@ pub mod Seen
 pub mod Forms
 pub mod Script
 pub mod Spelling
+pub mod Rules
 pub mod Refusal
 pub mod Lines
 pub mod Walks

@@ -2,7 +2,7 @@
 use Rattle.std.specs.Prelude.{◌≡◌, ◌==◌, ◌+◌, ℕ, List, [], ◌∷◌, Result, Ok, Err, length, nat_lt, if◌then◌else◌}
 use Rattle.std.specs.List.{slice_split}
 use Rattle.script_text.specs.declared.line.Rule.{Rule}
-use Rattle.script_text.specs.declared.line.Rule.TheVariants.{ScriptTooLong, TooManyLines, Word}
+use Rattle.script_text.specs.declared.line.Rule.TheVariants.{ScriptTooLong, TooManyLines}
 use Rattle.script_text.specs.declared.line.Line.{Line}
 use Rattle.script_text.specs.declared.line.Fault.{Fault}
 use Rattle.script_text.specs.declared.line.Fault.TheVariants as fault
@@ -37,18 +37,14 @@ abbrev pub line_numbered : ℕ → Before → ℕ → ℕ → RawLine → Result
 line_numbered nodes seen n at r = if nat_lt 1048576 (at + r.size) then Err ScriptTooLong
     else (if nat_lt 20000 n then Err TooManyLines else line_at nodes seen r.text)
 
--- the rule that a refusal names: at this stage each broken rule is told as `word`
-abbrev pub told_rule : Rule → Rule
-told_rule r = Word
-
 abbrev pub in_line : {A : Type 0} → ℕ → Result A Rule → Result A BadLine
 in_line n (Ok x) = Ok x
-in_line n (Err r) = Err (record { n = n; rule = told_rule r })
+in_line n (Err r) = Err (record { n = n; rule = r })
 
 -- why a script was not read whose n-th line was not
 abbrev pub error_at : ℕ → Fault → ParseError
 error_at n fault.Memory = error.Memory
-error_at n (fault.Breaks r) = error.Bad (record { n = n; rule = told_rule r })
+error_at n (fault.Breaks r) = error.Bad (record { n = n; rule = r })
 
 -- the lines from the n-th on, or the first that breaks a rule
 unfoldable pub lines_from : ℕ → Before → ℕ → ℕ → List RawLine → Result (List Line) BadLine

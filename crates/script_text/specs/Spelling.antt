@@ -1,7 +1,8 @@
 -- How a line is spelled, and which lists of lines have a spelling. This is written apart from reading.
-use Rattle.std.specs.Prelude.{◌≡◌, ◌<◌, ◌≤◌, ◌+◌, ◌⊎◌, ◌&&◌, ℕ, Bool, true, false, List, [], ◌∷◌, Some, None, length, codes, nat_le}
+use Rattle.std.specs.Prelude.{◌≡◌, ◌<◌, ◌≤◌, ◌+◌, ◌⊎◌, ◌&&◌, ℕ, Bool, true, false, List, [], ◌∷◌, Some, None, length, codes, nat_le, FitsSigned}
 use Rattle.std.specs.List.{join_with_byte, list_all}
 use Rattle.std.specs.Fmt.{signed_decimal}
+use Rattle.std.specs.Int.{w64}
 use Rattle.table_core.specs.declared.command.Command.{Command}
 use Rattle.table_core.specs.declared.command.Command.TheVariants.{Put, Del, Cas, Add}
 use Rattle.table_core.specs.declared.command.Query.{Query}
@@ -66,24 +67,26 @@ pub record IsSessionName (name : Word) : Type 0 where
   pub letters : is_name name ≡ true
   pub not_admin : is_admin_word name ≡ false
 
--- the commands that are taken at this stage, with their keys and values
+-- commands, with keys, values and numbers of 64 bits
 abbrev pub CommandFits : Command → Type 0
 CommandFits (Put k v) = IsWord 64 k × IsWord 256 v
-CommandFits _ = ⊥
+CommandFits (Del k) = IsWord 64 k
+CommandFits (Cas k old new) = IsWord 64 k × IsWord 256 old × IsWord 256 new
+CommandFits (Add k z) = IsWord 64 k × FitsSigned w64 z
 
 abbrev pub QueryFits : Query → Type 0
 QueryFits (Get k) = IsWord 64 k
-QueryFits _ = ⊥
+QueryFits (Scan low high) = IsWord 64 low × IsWord 64 high
 
 abbrev pub AskFits : Ask → Type 0
 AskFits (Log c) = CommandFits c
 AskFits (Look q) = QueryFits q
 
--- the lines that are taken at this stage
+-- lines, with such fields
 abbrev pub LineFits : ℕ → Line → Type 0
 LineFits nodes line.Blank = Unit {0}
 LineFits nodes (line.Session n s a) = IsNode nodes n × IsSessionName s.name × AskFits a
-LineFits nodes line.Barrier = ⊥
+LineFits nodes line.Barrier = Unit {0}
 
 -- ---- what a line may say after the lines before it
 

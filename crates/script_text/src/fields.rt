@@ -2,12 +2,13 @@
 ghost use Rattle.std.specs.Prelude.{◌≡◌, ◌≤◌};
 ghost use Rattle.std.specs.List.{list_all};
 ghost use Rattle.script_text.specs.Gives.{Gives, text_seen};
-ghost use Rattle.script_text.specs.Fields.{is_node, node_of, name_of, key_of, value_of, is_name_byte};
+ghost use Rattle.script_text.specs.Fields.{is_node, node_of, name_of, number_of, key_of, value_of, is_name_byte};
 
 use crate::line::{Fault, Rule};
 use delos_types::bytes::Bytes;
 use delos_types::numbers::NodeId;
 use std::alloc::Global;
+use table_core::amount::amount_of;
 
 fn is_node(nodes: u8, word: &[u8]) -> bool
     requires { nodes ≤ 8 }
@@ -45,6 +46,18 @@ pub fn name_at(word: &[u8]) -> Result<&[u8], Fault>
         Ok(word)
     } else {
         Err(Fault::Breaks(Rule::Session))
+    }
+}
+
+/// The number that a word is.
+#[tactic(auto, unfolding(crate::specs::Fields::number_of))]
+pub fn number_at(alloc: Global, word: &[u8]) -> Result<i64, Fault>
+    ensures { Gives result (number_of word.now) }
+{
+    let amount = amount_of(alloc, word)?;
+    match amount {
+        Some(number) => Ok(number),
+        None => Err(Fault::Breaks(Rule::Number)),
     }
 }
 

@@ -4,7 +4,7 @@ ghost use Rattle.script_text.specs.Gives.{Gives};
 ghost use Rattle.script_text.specs.Seen.{Reads};
 ghost use Rattle.script_text.specs.Forms.{is_admin_word, verb_of, session_form, on_form, form_of, verb_count, ask_of, session_line, line_in, line_at};
 
-use crate::fields::{key_at, name_at, node_at, value_at};
+use crate::fields::{key_at, name_at, node_at, number_at, value_at};
 use crate::line::{Ask, Fault, Line, Rule};
 use crate::seen::Seen;
 use crate::words::{Words, words_of};
@@ -15,13 +15,18 @@ use table_core::command::{Command, Query};
 #[derive(Clone, Copy)]
 pub enum Verb {
     Put,
+    Del,
+    Cas,
+    Add,
     Get,
+    Scan,
 }
 
 /// A form of line, by its words that stand for themselves.
 #[derive(Clone, Copy)]
 pub enum Form {
     Blank,
+    Barrier,
     Session(Verb),
 }
 
@@ -39,8 +44,16 @@ fn verb_of(word: &[u8]) -> Result<Verb, Fault>
 {
     if word == b"put".as_slice() {
         Ok(Verb::Put)
+    } else if word == b"del".as_slice() {
+        Ok(Verb::Del)
+    } else if word == b"cas".as_slice() {
+        Ok(Verb::Cas)
+    } else if word == b"add".as_slice() {
+        Ok(Verb::Add)
     } else if word == b"get".as_slice() {
         Ok(Verb::Get)
+    } else if word == b"scan".as_slice() {
+        Ok(Verb::Scan)
     } else {
         Err(Fault::Breaks(Rule::Word))
     }
@@ -74,6 +87,9 @@ fn form_of(words: &Words<'_>) -> Result<Form, Fault>
     if words.len() == 0 {
         return Ok(Form::Blank);
     }
+    if words.get(0) == b"barrier".as_slice() {
+        return Ok(Form::Barrier);
+    }
     if words.get(0) == b"on".as_slice() {
         on_form(words)
     } else {
@@ -86,7 +102,11 @@ fn verb_count(verb: Verb) -> usize
 {
     match verb {
         Verb::Put => 6,
+        Verb::Del => 5,
+        Verb::Cas => 7,
+        Verb::Add => 6,
         Verb::Get => 5,
+        Verb::Scan => 6,
     }
 }
 
@@ -100,9 +120,29 @@ fn ask_at(alloc: Global, verb: Verb, words: &Words<'_>) -> Result<Ask, Fault>
             let value = value_at(alloc, words.get(5))?;
             Ok(Ask::Log(Command::Put { key, value }))
         }
+        Verb::Del => {
+            let key = key_at(alloc, words.get(4))?;
+            Ok(Ask::Log(Command::Del { key }))
+        }
+        Verb::Cas => {
+            let key = key_at(alloc, words.get(4))?;
+            let old = value_at(alloc, words.get(5))?;
+            let new = value_at(alloc, words.get(6))?;
+            Ok(Ask::Log(Command::Cas { key, old, new }))
+        }
+        Verb::Add => {
+            let amount = number_at(alloc, words.get(5))?;
+            let key = key_at(alloc, words.get(4))?;
+            Ok(Ask::Log(Command::Add { key, amount }))
+        }
         Verb::Get => {
             let key = key_at(alloc, words.get(4))?;
             Ok(Ask::Look(Query::Get { key }))
+        }
+        Verb::Scan => {
+            let low = key_at(alloc, words.get(4))?;
+            let high = key_at(alloc, words.get(5))?;
+            Ok(Ask::Look(Query::Scan { low, high }))
         }
     }
 }
@@ -140,6 +180,12 @@ fn line_in(
 {
     match form {
         Form::Blank => Ok(Line::Blank),
+        Form::Barrier => {
+            if words.len() != 1 {
+                return Err(Fault::Breaks(Rule::Count));
+            }
+            Ok(Line::Barrier)
+        }
         Form::Session(verb) => session_line(alloc, nodes, seen, words, verb),
     }
 }

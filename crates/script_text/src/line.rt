@@ -6,7 +6,8 @@ use delos_types::numbers::{NodeId, SessionId};
 use std::alloc::{AllocError, AllocFailed};
 use table_core::command::{Command, Query};
 
-/// The rules of the grammar, in the order in which they are tried.
+/// The rules of the grammar, in the order in which they are tried. A script is refused for the least
+/// line that breaks one, with the first that it breaks.
 #[derive(Clone, Copy, Debug, PartialEq, Eq)]
 pub enum Rule {
     /// Byte number 1,048,577 stands in this line.
@@ -27,6 +28,8 @@ pub enum Rule {
     Node,
     /// No session may have this name.
     Session,
+    /// A number isn't the decimal text of an `i64`.
+    Number,
     /// A key has more than 64 bytes.
     Key,
     /// A value has more than 256 bytes.
@@ -102,6 +105,6 @@ pub enum Line {
         session: Session,
         ask: Ask,
     },
-    /// The phase ends. No script has such a line yet.
+    /// The phase ends.
     Barrier,
 }

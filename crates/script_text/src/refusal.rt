@@ -22,6 +22,7 @@ pub fn rule_text(rule: Rule) -> &'static str
         Rule::Count => "count",
         Rule::Node => "node",
         Rule::Session => "session",
+        Rule::Number => "number",
         Rule::Key => "key",
         Rule::Value => "value",
         Rule::Moved => "moved",

@@ -1,9 +1,10 @@
 //! A script, read whole.
-ghost use Rattle.std.specs.Prelude.{◌≡◌, ◌≤◌, ◌<◌, ◌∷◌, ◌+◌, ◌^◌, OnOk, IfOk, List, Ok, length};
+ghost use Rattle.std.specs.Prelude.{◌≡◌, ◌≤◌, ◌<◌, ◌∷◌, ◌+◌, ◌^◌, OnOk, IfOk, List, Ok, Err, length};
 ghost use Rattle.script_text.specs.declared.line.Line.{Line};
 ghost use Rattle.script_text.specs.Seen.{Reads};
-ghost use Rattle.script_text.specs.Script.{script_of, lines_in, raw_line, line_numbered, error_at, told_rule, ReadsScript};
+ghost use Rattle.script_text.specs.Script.{script_of, lines_in, raw_line, line_numbered, error_at, ReadsScript};
 ghost use Rattle.script_text.specs.Spelling.{IsScript};
+ghost use Rattle.script_text.specs.Rules.{IsRefused};
 
 use crate::forms::line_at;
 use crate::line::{Fault, Line, Rule};
@@ -121,29 +122,19 @@ fn numbered(
     line_at(alloc, nodes, seen, cut.text)
 }
 
-// The rule that a refusal names.
-fn told_rule(_: Rule) -> Rule
-    ensures { result ≡ Rule.Word }
-{
-    Rule::Word
-}
-
 // Why a script was not read whose n-th line was not.
 fn error_at(n: u64, fault: Fault) -> ParseError
     ensures { result ≡ error_at n fault }
 {
     match fault {
         Fault::Memory => ParseError::Memory,
-        Fault::Breaks(rule) => ParseError::Bad(BadLine {
-            n,
-            rule: told_rule(rule),
-        }),
+        Fault::Breaks(rule) => ParseError::Bad(BadLine { n, rule }),
     }
 }
 
-/// Reads a script for nodes 1 to `nodes`, in one pass. At this stage the lines that are taken are
-/// empty, `on N S put K V` or `on N S get K`, and a refusal names the rule `word`, whatever rule
-/// the line breaks.
+/// Reads a script for nodes 1 to `nodes`, in one pass: each key and value is copied once, and nothing
+/// else of a line is. A script has at most 1,048,576 bytes, 20,000 lines of at most 512 bytes, and 64
+/// sessions.
 pub fn parse(alloc: Global, bytes: &[u8], nodes: u8) -> Result<Script, ParseError>
     requires { nodes ≤ 8 }
     // What is read is spelled so.
@@ -151,7 +142,10 @@ pub fn parse(alloc: Global, bytes: &[u8], nodes: u8) -> Result<Script, ParseErro
     ensures short { OnOk result (length bytes.now ≤ 1048576) }
     // What is spelled so is read, unless memory runs out.
     ensures only { (s : List Line) → IsScript nodes bytes.now s → ReadsScript result (Ok s) }
-    // Else the first line that breaks a rule is told.
+    // Else the first line that breaks a rule is told, with the first rule of the table that it breaks.
+    ensures refused { (bad : BadLine) → result ≡ Err (ParseError.Bad bad) → IsRefused nodes bytes.now bad }
+    ensures told { (bad : BadLine) → IsRefused nodes bytes.now bad → ReadsScript result (Err bad) }
+    // This is what the reading definition gives.
     ensures exact { ReadsScript result (script_of nodes bytes.now) }
 {
     read_lines(alloc, bytes, nodes)

@@ -1,76 +1,22 @@
 //! What the words of the command line ask for.
-ghost use Rattle.std.specs.Prelude.{◌≡◌, ◌&&◌, IfOk, codes, map, string_bytes};
-ghost use Rattle.std.specs.Str.{bytes_eq};
-ghost use Rattle.script_words.specs.Plans.{Reads, plan_of, file_run, kind_name, bad_words_text};
+ghost use Rattle.std.specs.Prelude.{◌≡◌, ◌≢◌, ◌∷◌, IfOk, List, Option, codes, map, string_bytes, option_map};
+ghost use Rattle.clap.specs.Words.{found_of, rows_of, subcommand_rows_of, first_of, one_of, kind_of};
+ghost use Rattle.script_words.specs.Plans.{Reads, Matches, IsPlan, told_words, number_in, nodes_in, shelf_in, run_in, plan_in, plan_of, bad_words_text};
 
-use std::alloc::{AllocError, AllocFailed, Global};
-use std::marker::Model;
+use crate::command::the_command;
+use crate::shelf::{Shelf, kinds_of};
+use clap::error::ErrorKind;
+use clap::{ArgMatches, Error};
+use std::alloc::{AllocError, Global};
 
-/// The kinds of loglet that a shelf may have.
-#[derive(Clone, Copy, Debug, PartialEq, Eq)]
-pub enum Kind {
-    /// One server, whose log is one file.
-    File,
-}
-
-impl Kind {
-    /// The word for the kind.
-    pub fn name(self) -> &'static str
-        ensures { result.now ≡ kind_name self }
-    {
-        match self {
-            Kind::File => "file",
-        }
-    }
-}
-
-/// The loglets that a chain may be made of, by their kinds, in order.
-#[derive(Drop, Debug)]
-pub struct Shelf {
-    kinds: Vec<Kind>,
-}
-
-impl Model for Shelf {
-    ghost use Rattle.std.specs.Prelude.{List};
-    ghost use Rattle.script_words.specs.declared.plan.Kind.{Kind};
-
-    ghost Value = { List Kind };
-
-    ghost view = { λ s. s.kinds.items };
-}
-
-impl Shelf {
-    ghost use Rattle.std.specs.Prelude.{◌≡◌};
-
-    pub fn as_slice(&self) -> &[Kind]
-        ensures { result.now ≡ self.now }
-    {
-        self.kinds.as_slice()
-    }
-
-    /// The words for the kinds, in order.
-    pub fn names(&self, alloc: Global) -> Result<Vec<&'static str>, AllocError>
-        ensures { IfOk result (λ names. map (λ s. s.now) names.items ≡ map kind_name self.now) }
-    {
-        names_of(alloc, self.kinds.as_slice())
-    }
-}
-
-fn names_of(alloc: Global, kinds: &[Kind]) -> Result<Vec<&'static str>, AllocError>
-    ensures { IfOk result (λ names. map (λ s. s.now) names.items ≡ map kind_name kinds.now) }
-{
-    let mut names = Vec::with_capacity(alloc, kinds.len())?;
-    for kind in kinds {
-        names.push(kind.name())?;
-    }
-    Ok(names)
-}
-
-/// A run: how many nodes it has, and over which shelf.
+/// A run: how many nodes it has, from which seed its chances come, and over which shelf.
 #[derive(Drop, Debug)]
 pub struct Plan {
-    /// 1 to 8.
+    /// So far 1.
     pub nodes: u8,
+    /// Nothing is left to chance yet.
+    pub seed: u32,
+    /// 1 to 64 loglets.
     pub shelf: Shelf,
 }
 
@@ -79,52 +25,130 @@ pub struct Plan {
 pub enum WordsError {
     /// Memory ran out.
     Memory,
-    /// They are no command.
+    /// They are no command, or the shelf's text isn't 1 to 64 known kinds.
     BadWords,
 }
 
-impl<T: Drop> From<AllocFailed<T>> for WordsError {
+impl From<AllocError> for WordsError {
     ghost use Rattle.script_words.specs.declared.plan.WordsError.TheVariants.{Memory};
 
     ghost from_gives = { λ _ e. e ≡ Memory };
 
-    fn from(_: AllocFailed<T>) -> Self {
+    fn from(_: AllocError) -> Self {
         WordsError::Memory
     }
 }
 
-fn is_file_run(first: &str, second: &str, third: &str) -> bool
-    ensures { result ≡ (bytes_eq first.now (codes "run") && (bytes_eq second.now (codes "--shelf") && bytes_eq third.now (codes "file"))) }
+// The words as `clap` wants them: behind the program's name, and `run` where there are none.
+fn told_words<'a>(alloc: Global, words: &'a [String]) -> Result<Vec<&'a str>, AllocError>
+    ensures { IfOk result (λ v. map (λ s. s.now) v.items ≡ told_words (map string_bytes words.entry.now)) }
 {
-    first == "run" && second == "--shelf" && third == "file"
+    let mut told = Vec::new(alloc);
+    told.push("delos_sim")?;
+    if words.is_empty() {
+        told.push("run")?;
+        return Ok(told);
+    }
+    for word in words {
+        told.push(word.as_str())?;
+    }
+    Ok(told)
 }
 
-// A run of one node over a shelf of one file loglet.
-fn file_run(alloc: Global) -> Result<Plan, WordsError>
-    ensures { Reads result (Some file_run) }
+fn number_in(matches: &ArgMatches<'_>, id: &str) -> Option<u32>
+    ensures { result ≡ number_in id.now (rows_of (found_of matches.now)) }
 {
-    let mut kinds = Vec::new(alloc);
-    kinds.push(Kind::File)?;
-    Ok(Plan {
-        nodes: 1,
-        shelf: Shelf { kinds },
-    })
+    matches.get_one::<u32>(id)
 }
 
-/// Reads the words behind the program's name. At this stage exactly `run --shelf file` is taken.
-pub fn read_words(alloc: Global, words: &[String]) -> Result<Plan, WordsError>
+fn text_in<'a>(matches: &ArgMatches<'a>, id: &str) -> Option<&'a str>
+    ensures { option_map (λ s. s.now) result ≡ first_of id.now (rows_of (found_of matches.now)) }
+{
+    matches.get_str(id)
+}
+
+// How many nodes: so far one.
+fn nodes_in(matches: &ArgMatches<'_>) -> Option<u8>
+    ensures { result ≡ nodes_in (rows_of (found_of matches.now)) }
+{
+    match number_in(matches, "nodes") {
+        Some(n) => { if n == 1 { Some(n as u8) } else { None } }
+        None => None,
+    }
+}
+
+fn shelf_in(alloc: Global, matches: &ArgMatches<'_>) -> Result<Shelf, WordsError>
+    ensures { Reads result (shelf_in (rows_of (found_of matches.now))) }
+{
+    match text_in(matches, "shelf") {
+        Some(text) => match kinds_of(alloc, text)? {
+            Some(shelf) => Ok(shelf),
+            None => Err(WordsError::BadWords),
+        },
+        None => Err(WordsError::BadWords),
+    }
+}
+
+// The plan of the options of `run`.
+fn run_in(alloc: Global, matches: &ArgMatches<'_>) -> Result<Plan, WordsError>
+    ensures { Reads result (run_in (rows_of (found_of matches.now))) }
+{
+    let nodes = nodes_in(matches).ok_or(WordsError::BadWords)?;
+    let seed = number_in(matches, "seed").ok_or(WordsError::BadWords)?;
+    let shelf = shelf_in(alloc, matches)?;
+    Ok(Plan { nodes, seed, shelf })
+}
+
+// The plan of the subcommand.
+fn plan_in(alloc: Global, matches: &ArgMatches<'_>) -> Result<Plan, WordsError>
+    ensures { Reads result (plan_in (subcommand_rows_of matches.now)) }
+{
+    let Some((_, inner)) = matches.subcommand() else {
+        return Err(WordsError::BadWords);
+    };
+    run_in(alloc, inner)
+}
+
+// What a failed parse comes to.
+fn error_of(error: Error) -> WordsError
+    ensures memory { result ≡ WordsError.Memory → kind_of error ≡ ErrorKind.OutOfMemory }
+    ensures bad { result ≡ WordsError.BadWords → kind_of error ≢ ErrorKind.OutOfMemory }
+{
+    if error.kind() == ErrorKind::OutOfMemory {
+        WordsError::Memory
+    } else {
+        WordsError::BadWords
+    }
+}
+
+fn matches_of<'a>(alloc: Global, told: &'a [&'a str]) -> Result<ArgMatches<'a>, WordsError>
+    ensures { Matches result (map (λ s. s.now) told.entry.now) }
+{
+    let command = the_command(alloc)?;
+    match command.try_get_matches_from(told) {
+        Ok(matches) => Ok(matches),
+        Err(error) => Err(error_of(error)),
+    }
+}
+
+// What the words ask for.
+#[tactic(auto, unfolding(crate::specs::Plans::plan_of))]
+fn planned(alloc: Global, words: &[String]) -> Result<Plan, WordsError>
     ensures { Reads result (plan_of (map string_bytes words.now)) }
 {
-    match words {
-        [first, second, third] => {
-            if is_file_run(first.as_str(), second.as_str(), third.as_str()) {
-                file_run(alloc)
-            } else {
-                Err(WordsError::BadWords)
-            }
-        }
-        _ => Err(WordsError::BadWords),
-    }
+    let told = told_words(alloc, words)?;
+    let matches = matches_of(alloc, told.as_slice())?;
+    plan_in(alloc, &matches)
+}
+
+/// Reads the words behind the program's name; no words stand for `run`. They are bad words exactly
+/// where the command, as `clap` defines its matches, doesn't take them, or the shelf's text isn't 1
+/// to 64 known kinds with one comma between. A question for help or for the version is bad words too.
+pub fn read_words(alloc: Global, words: &[String]) -> Result<Plan, WordsError>
+    ensures reads { Reads result (plan_of (map string_bytes words.now)) }
+    ensures plan { IfOk result IsPlan }
+{
+    planned(alloc, words)
 }
 
 /// What is told of words that have no plan: `bad words` and LF.

@@ -1,6 +1,6 @@
-use crate::plan::{Kind, Plan, WordsError, bad_words_text, read_words};
+use crate::plan::{Plan, WordsError, bad_words_text, read_words};
+use crate::shelf::Kind;
 use std::alloc::{AllocError, Global};
-use std::process::Abort;
 use std::test::Fail;
 
 fn read(alloc: Global, words: &[&str]) -> Result<Result<Plan, WordsError>, AllocError> {
@@ -12,42 +12,100 @@ fn read(alloc: Global, words: &[&str]) -> Result<Result<Plan, WordsError>, Alloc
 }
 
 #[test]
-fn one_command_is_taken(rt: HostRuntime) -> Result<(), Fail> {
+fn words_that_have_a_plan(rt: HostRuntime) -> Result<(), Fail> {
     let alloc = rt.alloc();
-    match read(alloc, ["run", "--shelf", "file"].as_slice())? {
-        Ok(plan) => {
-            assert_eq!(rt; plan.nodes, 1);
-            assert_eq!(rt; plan.shelf.as_slice(), [Kind::File].as_slice());
-            assert_eq!(rt; plan.shelf.names(alloc)?.as_slice(), ["file"].as_slice());
+    // The words, the seed, and how many file loglets the shelf has.
+    let rows = [
+        (&[][..], 0, 1),
+        (&["run"], 0, 1),
+        (&["run", "--shelf", "file"], 0, 1),
+        (&["run", "--shelf=file"], 0, 1),
+        (&["run", "--shelf", "file,file,file"], 0, 3),
+        (&["run", "--nodes", "1", "--seed", "7"], 7, 1),
+        (&["run", "--seed", "4294967295"], 4294967295, 1),
+        (&["run", "--shelf", "file", "--seed=0"], 0, 1),
+        // Numbers are what the library's parser takes.
+        (&["run", "--seed", "03"], 3, 1),
+        (&["run", "--seed", "+3"], 3, 1),
+        (&["run", "--seed=-0"], 0, 1),
+    ];
+    for (words, seed, count) in rows {
+        match read(alloc, words)? {
+            Ok(plan) => {
+                assert_eq!(rt; plan.nodes, 1);
+                assert_eq!(rt; plan.seed, seed);
+                let kinds = plan.shelf.as_slice();
+                assert_eq!(rt; kinds.len(), count);
+                assert!(rt; kinds.iter().all(|kind| *kind == Kind::File));
+                let names = plan.shelf.names(alloc)?;
+                assert!(rt; names.iter().all(|name| *name == "file"));
+            }
+            Err(_) => panic!(rt; "refused"),
         }
-        Err(_) => panic!(rt; "refused"),
-    }
-    Ok(())
-}
-
-fn is_refused(rt: &impl Abort, alloc: Global, words: &[&str]) -> Result<(), Fail> {
-    match read(alloc, words)? {
-        Ok(_) => panic!(rt; "taken"),
-        Err(error) => assert_eq!(rt; error, WordsError::BadWords),
     }
     Ok(())
 }
 
 #[test]
-fn other_words_are_refused(rt: HostRuntime) -> Result<(), Fail> {
+fn bad_words(rt: HostRuntime) -> Result<(), Fail> {
     let alloc = rt.alloc();
-    is_refused(&rt, alloc, [].as_slice())?;
-    is_refused(&rt, alloc, ["run"].as_slice())?;
-    is_refused(&rt, alloc, ["run", "--shelf"].as_slice())?;
-    is_refused(&rt, alloc, ["run", "--shelf", "file,file"].as_slice())?;
-    is_refused(
-        &rt,
-        alloc,
-        ["run", "--shelf", "file", "--faults"].as_slice(),
-    )?;
-    is_refused(&rt, alloc, ["--shelf", "file", "run"].as_slice())?;
-    is_refused(&rt, alloc, ["run", "--nodes", "9"].as_slice())?;
-    is_refused(&rt, alloc, ["Run", "--shelf", "file"].as_slice())?;
+    let rows = [
+        &[""][..],
+        &["--shelf", "file"],
+        &["Run"],
+        &["make"],
+        &["run", "run"],
+        &["run", "--shelf"],
+        &["run", "--shelf", ""],
+        &["run", "--shelf", "File"],
+        &["run", "--shelf", "file,"],
+        &["run", "--shelf", ",file"],
+        &["run", "--shelf", "file, file"],
+        &["run", "--shelf", "native3"],
+        &["run", "--shelf", "file", "--shelf", "file"],
+        &["run", "--she", "file"],
+        &["run", "--nodes", "0"],
+        &["run", "--nodes", "2"],
+        &["run", "--nodes", "9"],
+        &["run", "--seed", "4294967296"],
+        &["run", "--seed", "-1"],
+        &["run", "--seed", "x"],
+        &["run", "--seed", ""],
+        &["run", "--faults"],
+        &["run", "--faults=yes"],
+        &["--help"],
+        &["-h"],
+        &["help"],
+        &["run", "--help"],
+        &["--version"],
+        &["-V"],
+    ];
+    for words in rows {
+        assert!(rt; matches!(read(alloc, words)?, Err(WordsError::BadWords)));
+    }
     assert_eq!(rt; bad_words_text(), b"bad words\n".as_slice());
+    Ok(())
+}
+
+// So many file loglets, with one comma between.
+fn shelf_of(alloc: Global, count: usize) -> Result<String, AllocError> {
+    let mut shelf = String::from_str(alloc, "file")?;
+    for _ in 1..count {
+        shelf.push_str(",file")?;
+    }
+    Ok(shelf)
+}
+
+#[test]
+fn a_shelf_has_at_most_64_loglets(rt: HostRuntime) -> Result<(), Fail> {
+    let alloc = rt.alloc();
+    let shelf = shelf_of(alloc, 64)?;
+    match read(alloc, &["run", "--shelf", shelf.as_str()])? {
+        Ok(plan) => assert_eq!(rt; plan.shelf.as_slice().len(), 64),
+        Err(_) => panic!(rt; "refused"),
+    }
+    let shelf = shelf_of(alloc, 65)?;
+    let read = read(alloc, &["run", "--shelf", shelf.as_str()])?;
+    assert!(rt; matches!(read, Err(WordsError::BadWords)));
     Ok(())
 }

@@ -3,7 +3,7 @@ use delos_types::bytes::Bytes;
 use std::marker::Model;
 
 /// A command that is logged. A key has 1 to 64 bytes and a value 1 to 256 where a script gives them.
-#[derive(Clone, Drop, Debug)]
+#[derive(Clone, Drop, Debug, PartialEq, Eq)]
 pub enum Command {
     /// The key has the value from here on.
     Put { key: Bytes, value: Bytes },
@@ -16,7 +16,7 @@ pub enum Command {
 }
 
 /// What a logged command is answered.
-#[derive(Clone, Drop, Debug)]
+#[derive(Clone, Drop, Debug, PartialEq, Eq)]
 pub enum Reply {
     /// It was done.
     Done,

@@ -19,13 +19,33 @@ pub enum Change {
     Remove,
 }
 
+/// What becomes of the value at the key, and what is answered.
 #[derive(Drop)]
 pub struct Decision {
     pub change: Change,
     pub reply: Reply,
 }
 
-/// Decides what the command does where its key has this value.
+impl Decision {
+    ghost use Rattle.table_core.specs.declared.decide.Change.TheVariants.{Keep};
+
+    fn new(change: Change, reply: Reply) -> Decision
+        ensures change { result.change ≡ change }
+        ensures reply { result.reply ≡ reply }
+    {
+        Decision { change, reply }
+    }
+
+    fn keep(reply: Reply) -> Decision
+        ensures change { result.change ≡ Keep }
+        ensures reply { result.reply ≡ reply }
+    {
+        Decision::new(Change::Keep, reply)
+    }
+}
+
+/// Decides what the command does where its key has the value `before`. It takes time that grows
+/// with the value and the command's bytes alone.
 pub fn decide(
     alloc: Global,
     command: &Command,
@@ -33,83 +53,49 @@ pub fn decide(
 ) -> Result<Decision, AllocError>
     ensures { IfOk result (Decides (option_copied before.entry) (outcome command.now (option_copied before.entry))) }
 {
-    match command {
-        Command::Put { value, .. } => {
+    match (command, before) {
+        (Command::Put { value, .. }, _) => {
             let change = Change::Set(value.clone()?);
-            Ok(Decision {
-                change,
-                reply: Reply::Done,
-            })
+            Ok(Decision::new(change, Reply::Done))
         }
-        Command::Del { .. } => match before {
-            None => Ok(Decision {
-                change: Change::Keep,
-                reply: Reply::Absent,
-            }),
-            Some(_) => Ok(Decision {
-                change: Change::Remove,
-                reply: Reply::Done,
-            }),
-        },
-        Command::Cas { old, new, .. } => match before {
-            None => Ok(Decision {
-                change: Change::Keep,
-                reply: Reply::Absent,
-            }),
-            Some(value) => swap(alloc, value, old, new),
-        },
-        Command::Add { amount, .. } => match before {
-            None => {
-                let decision = start(alloc, *amount)?;
-                Ok(decision)
-            }
-            Some(value) => add(alloc, value, *amount),
-        },
+        (Command::Del { .. }, None) => Ok(Decision::keep(Reply::Absent)),
+        (Command::Del { .. }, Some(_)) => Ok(Decision::new(Change::Remove, Reply::Done)),
+        (Command::Cas { .. }, None) => Ok(Decision::keep(Reply::Absent)),
+        (Command::Cas { old, new, .. }, Some(value)) => swap(value, old, new),
+        (Command::Add { amount, .. }, None) => start(alloc, *amount),
+        (Command::Add { amount, .. }, Some(value)) => add(alloc, value, *amount),
     }
 }
 
-fn swap(alloc: Global, value: &Bytes, old: &Bytes, new: &Bytes) -> Result<Decision, AllocError>
+// Sets the value to `new` where it is `old`.
+fn swap(value: &Bytes, old: &Bytes, new: &Bytes) -> Result<Decision, AllocError>
     ensures { IfOk result (Decides (Some value.now) (swapped value.now old.now new.now)) }
 {
     if value == old {
         let change = Change::Set(new.clone()?);
-        return Ok(Decision {
-            change,
-            reply: Reply::Done,
-        });
+        return Ok(Decision::new(change, Reply::Done));
     }
     let reply = Reply::Was(value.clone()?);
-    Ok(Decision {
-        change: Change::Keep,
-        reply,
-    })
+    Ok(Decision::keep(reply))
 }
 
+// Sets the value to the text of a number.
 fn start(alloc: Global, amount: i64) -> Result<Decision, AllocError>
     ensures { IfOk result (λ d. (d.change ≡ Change.Set (signed_decimal amount)) × (d.reply ≡ Reply.Number amount)) }
 {
     let change = Change::Set(text_of(alloc, amount)?);
-    Ok(Decision {
-        change,
-        reply: Reply::Number(amount),
-    })
+    Ok(Decision::new(change, Reply::Number(amount)))
 }
 
+// Adds to the number whose text the value is.
 fn add(alloc: Global, value: &Bytes, amount: i64) -> Result<Decision, AllocError>
     ensures { IfOk result (Decides (Some value.now) (added value.now (amount_of value.now) amount)) }
 {
     let Some(stored) = amount_of(alloc, value.as_slice())? else {
-        return Ok(Decision {
-            change: Change::Keep,
-            reply: Reply::NotNumber,
-        });
+        return Ok(Decision::keep(Reply::NotNumber));
     };
     let Some(sum) = stored.checked_add(amount) else {
-        return Ok(Decision {
-            change: Change::Keep,
-            reply: Reply::Full,
-        });
+        return Ok(Decision::keep(Reply::Full));
     };
-    let decision = start(alloc, sum)?;
-    Ok(decision)
+    start(alloc, sum)
 }

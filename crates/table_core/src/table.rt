@@ -13,6 +13,7 @@ use std::collections::BTreeMap;
 use std::collections::btree_map::Range;
 use std::marker::Model;
 
+/// A map from keys to values, both of them texts of bytes, in byte order of the keys.
 #[derive(Drop)]
 pub struct Table {
     entries: BTreeMap<Bytes, Bytes>,
@@ -31,6 +32,7 @@ impl Model for Table {
 }
 
 impl Table {
+    /// The table without a key, which takes no memory.
     pub fn new(alloc: Global) -> Table
         ensures { result ≡ map.empty }
     {
@@ -39,6 +41,7 @@ impl Table {
         }
     }
 
+    /// The value at a key. It takes O(log n) comparisons in a table of n keys.
     pub fn get(&self, key: &Bytes) -> Option<&Bytes>
         ensures { option_copied result ≡ map.get self.now key.now }
     {
@@ -46,7 +49,8 @@ impl Table {
     }
 
     /// The keys from `low` on, below `high`, in byte order, with copies of their values; none where
-    /// `high` isn't above `low`. It takes O(log n + k) steps, where k entries are found.
+    /// `high` isn't above `low`. It takes O(log n) comparisons in a table of n keys, and then time
+    /// that grows with what is found.
     pub fn scan(&self, alloc: Global, low: &Bytes, high: &Bytes) -> Result<Pairs, AllocError>
         ensures { IfOk result (λ found. found ≡ pairs_between self.now low.now high.now) }
     {
@@ -56,7 +60,7 @@ impl Table {
         copies(alloc, self.entries.range(low..high))
     }
 
-    /// What the table answers to a read.
+    /// What the table answers to a read, at the cost of `get` and a copy, or of `scan`.
     pub fn read(&self, alloc: Global, query: &Query) -> Result<Found, AllocError>
         ensures { IfOk result (λ found. found ≡ find_in self.now query.now) }
     {
@@ -83,7 +87,9 @@ impl Table {
         let _ = self.entries.remove(key);
     }
 
-    /// Does a command, and answers as the table says.
+    /// Does a command, and answers as the table says. It takes O(log n) comparisons in a table of n
+    /// keys, and time that grows with the command and the value at its key. Where memory runs out
+    /// nothing has changed.
     pub fn act(&mut self, alloc: Global, command: &Command) -> Result<Reply, AllocError>
         ensures ok { IfOk result (λ reply. Acts self.old command.now reply self.new) }
         ensures err { OnErr result (self.new ≡ self.old) }
@@ -106,7 +112,7 @@ impl Table {
     }
 }
 
-// The entries of a range, copied.
+// Copies of the entries of a range.
 fn copies(alloc: Global, entries: Range<'_, Bytes, Bytes>) -> Result<Pairs, AllocError>
     ensures { IfOk result (λ pairs. pairs ≡ pairs_of entries.entry) }
 {
@@ -119,6 +125,7 @@ fn copies(alloc: Global, entries: Range<'_, Bytes, Bytes>) -> Result<Pairs, Allo
     Ok(Pairs::from_vec(pairs))
 }
 
+// The key that a command speaks of.
 fn key_of(command: &Command) -> &Bytes
     ensures { result.now ≡ key_of command.now }
 {

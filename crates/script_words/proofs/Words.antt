@@ -1,0 +1,156 @@
+-- What clap's matches come to.
+use Rattle.std.proofs.Common.{◌≡◌, ◌==◌, ◌<◌, ◌≤◌, ◌^◌, ◌+◌, ℕ, Bool, true, false, cond, List, [], ◌∷◌, ◌++◌, length, map, drop, get_or, Option, Some, None, Result, Ok, Err, refl, sym, ap, subst, ◌∙◌, append_assoc, arith, inl, inr, codes}
+use Rattle.std.specs.Prelude.{option_map, option_and_then, ◌≢◌, nat_lt, IfOk}
+use Rattle.std.specs.List.{slice_split}
+use Rattle.std.specs.Str.Parse.{ParsesUnsigned, digits_value, without_leading_plus}
+use Rattle.std.specs.Borrow.{Bor}
+use Rattle.std.proofs.lemmas.List.{drop_more}
+use Rattle.std.proofs.lemmas.Bool.{eqb-true}
+use Rattle.std.proofs.lemmas.Bool.Decides.{nat_tests}
+use Rattle.std.proofs.lemmas.List.Splits.{length-slice_split}
+use Rattle.clap.specs.Words.{Row, Text, fault_of, is_simple, is_simple_and_free, kind_of, subcommand_of, first_of}
+use Rattle.clap.specs.Kinds.{Kinds, IsAmong, HasKind}
+use Rattle.clap.specs.Matches.{ReadsOne}
+use Rattle.clap.specs.ValueTests.{is_unsigned_in}
+use Rattle.clap.specs.declared.error.Error.{Error}
+use Rattle.clap.specs.declared.error.kind.ErrorKind.{ErrorKind}
+use Rattle.clap.specs.declared.error.kind.ErrorKind.TheVariants.{OutOfMemory}
+use Rattle.clap.specs.declared.builder.value_parser.ValueParser.TheVariants.{Unsigned}
+use Rattle.clap.proofs.ValueTestLemmas.{accepts-Accepts, Accepts-accepts}
+use Rattle.script_words.specs.declared.shelf.Kind.{Kind}
+use Rattle.script_words.specs.declared.plan.Plan.{Plan}
+use Rattle.script_words.specs.declared.plan.WordsError.{WordsError}
+use Rattle.script_words.specs.Shelf.{kind_of as kind_named, all_kinds, kinds_of}
+use Rattle.script_words.specs.App.{the_app}
+use Rattle.script_words.specs.Plans.{told_words, number_of, number_in, is_taken, node_count, plan_in, plan_of, IsPlan, Reads}
+
+pub told_some : (ws : List Text) → 0 < length ws → told_words ws ≡ codes "delos_sim" ∷ ws
+told_some [] some = absurd (omega arith)
+told_some (w ∷ ws) some = refl
+
+-- ---- kinds, one after the other
+
+abbrev pub with_front : List Kind → Option (List Kind) → Option (List Kind)
+with_front front = option_map (λ ks. front ++ ks)
+
+regroup : (front : List Kind) (k : Kind) (o : Option (List Kind)) → with_front front (option_map (λ ks. k ∷ ks) o) ≡ with_front (front ++ k ∷ []) o
+regroup front k None = refl
+regroup front k (Some ks) = ap (λ (x : List Kind). Some x) (sym (append_assoc front (k ∷ []) ks))
+
+pub one_kind : (front : List Kind) (name : Text) (names : List Text) (k : Kind) (whole : Option (List Kind)) → kind_named name ≡ Some k
+    → with_front front (all_kinds (name ∷ names)) ≡ whole → with_front (front ++ k ∷ []) (all_kinds names) ≡ whole
+one_kind front name names k whole is so_far =
+    sym (regroup front k (all_kinds names)) ∙ ap (λ o. with_front front (option_and_then (λ x. option_map (λ xs. x ∷ xs) (all_kinds names)) o)) (sym is) ∙ so_far
+
+pub no_kind : (front : List Kind) (name : Text) (names : List Text) (whole : Option (List Kind)) → kind_named name ≡ None
+    → with_front front (all_kinds (name ∷ names)) ≡ whole → None ≡ whole
+no_kind front name names whole is so_far =
+    ap (λ o. with_front front (option_and_then (λ x. option_map (λ xs. x ∷ xs) (all_kinds names)) o)) (sym is) ∙ so_far
+
+pub none_at : (front : List Kind) (names : List (Bor Text)) (i : ℕ) (d : Bor Text) (whole : Option (List Kind)) → i < length names → kind_named (get_or names i d).now ≡ None
+    → with_front front (all_kinds (map (λ s. s.now) (drop i names))) ≡ whole → None ≡ whole
+none_at front names i d whole lt is so_far =
+    no_kind front (get_or names i d).now (map (λ s. s.now) (drop (i + 1) names)) whole is (ap (λ (xs : List (Bor Text)). with_front front (all_kinds (map (λ s. s.now) xs))) (sym (drop_more names i d lt)) ∙ so_far)
+
+-- ---- numbers
+
+number_read : (t : Text) → is_unsigned_in 0 4294967295 t ≡ true → number_of t ≡ Some (digits_value 10 (without_leading_plus t))
+number_read t e = rw e refl
+
+number_unread : (t : Text) → is_unsigned_in 0 4294967295 t ≡ false → number_of t ≡ None
+number_unread t e = rw e refl
+
+-- what `get_one` reads is the number
+pub read_number : {E : Type 0} (G : Text → Result ℕ E → Type 0) (o : Option Text) (r : Option ℕ) → ((t : Text) (x : Result ℕ E) → G t x → ParsesUnsigned 32 10 t x)
+    → (o ≡ None → r ≡ None) → ((t : Text) → o ≡ Some t → ReadsOne G t r) → r ≡ option_and_then number_of o
+read_number G None r only none some = none refl
+read_number {E} G (Some t) r only none some = go r (some t refl)
+  where
+    go : (q : Option ℕ) → ReadsOne G t q → q ≡ number_of t
+    go (Some x) h =
+        let p = only t (Ok x) h in
+        let small : digits_value 10 (without_leading_plus t) < 2 ^ 64 = omega (arith, p.0.1) in
+        let most : digits_value 10 (without_leading_plus t) ≤ 4294967295 = omega (arith, p.0.1) in
+        let e : is_unsigned_in 0 4294967295 t ≡ true = Accepts-accepts false (Unsigned 0 4294967295) t (p.0.0, small, omega arith, most) in
+        ap (λ (n : ℕ). Some n) p.1 ∙ sym (number_read t e)
+    go None h = sort (is_unsigned_in 0 4294967295 t) refl
+      where
+        sort : (b : Bool) → is_unsigned_in 0 4294967295 t ≡ b → None ≡ number_of t
+        sort true e =
+            let a = accepts-Accepts false (Unsigned 0 4294967295) t e in
+            absurd (only t (Err h.0) h.1 (a.0, omega (arith, a.3)))
+        sort false e = sym (number_unread t e)
+
+-- ---- the command
+
+pub the_app_is_simple : is_simple_and_free the_app ≡ true
+the_app_is_simple = refl
+
+pub the_app_is_exact : is_simple the_app ≡ true
+the_app_is_exact = refl
+
+pub taken_at : (told : List Text) → fault_of the_app told ≡ [] → is_taken told ≡ true
+taken_at told e = ap (λ (ks : Kinds). length ks == 0) e
+
+among_some : (k : ErrorKind) (ks : Kinds) → IsAmong k ks → (length ks == 0) ≡ false
+among_some k [] h = absurd h
+among_some k (x ∷ xs) h = grind (arith, nat_tests)
+
+pub refused_at : (told : List Text) (e : Error) → HasKind (fault_of the_app told) e → kind_of e ≢ OutOfMemory → is_taken told ≡ false
+refused_at told e (inl h) other = absurd (other h)
+refused_at told e (inr h) other = among_some (kind_of e) (fault_of the_app told) h
+
+-- ---- a plan has 1 to 8 nodes and a shelf that isn't empty
+
+abbrev found : {A : Type 0} → A → Option A
+found x = Some x
+
+same : {A : Type 0} (x y : A) → found x ≡ found y → x ≡ y
+same x y e = cc
+
+some_kinds : (words : List Text) (ks : List Kind) → 0 < length words → all_kinds words ≡ Some ks → 0 < length ks
+some_kinds [] ks some e = absurd (omega arith)
+some_kinds (w ∷ ws) ks some e = go (kind_named w) (all_kinds ws) e
+  where
+    go : (o : Option Kind) (rest : Option (List Kind)) → option_and_then (λ k. option_map (λ xs. k ∷ xs) rest) o ≡ Some ks → 0 < length ks
+    go None rest h = absurd cc
+    go (Some k) None h = absurd cc
+    go (Some k) (Some xs) h = subst (λ (ys : List Kind). 0 < length ys) (same (k ∷ xs) ks h) (omega arith)
+
+shelf_some : (o : Option Text) (ks : List Kind) → option_and_then kinds_of o ≡ Some ks → 0 < length ks
+shelf_some None ks e = absurd cc
+shelf_some (Some text) ks e = go (nat_lt 64 (length (slice_split (λ b. b == 44) text))) e
+  where
+    go : (t : Bool) → cond t None (all_kinds (slice_split (λ b. b == 44) text)) ≡ Some ks → 0 < length ks
+    go true h = absurd cc
+    go false h = some_kinds (slice_split (λ b. b == 44) text) ks (omega (arith, length-slice_split (λ b. b == 44) text)) h
+
+abbrev built : ℕ → ℕ → List Kind → Plan
+built n s ks = record { nodes = n; seed = s; shelf = ks }
+
+counted : (n : ℕ) (t : Bool) (s : Option ℕ) (o : Option Text) (shelf : Option (List Kind)) (plan : Plan) → (n == 1) ≡ t → option_and_then kinds_of o ≡ shelf
+    → option_and_then (λ nodes. option_and_then (λ seed. option_map (λ ks. built nodes seed ks) shelf) s) (cond t (Some n) None) ≡ Some plan → IsPlan plan
+counted n false s o shelf plan is from h = absurd cc
+counted n true None o shelf plan is from h = absurd cc
+counted n true (Some k) o None plan is from h = absurd cc
+counted n true (Some k) o (Some ks) plan is from h =
+    let one : n ≡ 1 = eqb-true n 1 is in
+    subst IsPlan (same (built n k ks) plan h) (record { nodes = (omega (arith, one), omega (arith, one)); single = one; shelf = shelf_some o ks from })
+
+options_sized : (n s : Option ℕ) (o : Option Text) (plan : Plan)
+    → option_and_then (λ nodes. option_and_then (λ seed. option_map (λ ks. built nodes seed ks) (option_and_then kinds_of o)) s) (option_and_then node_count n) ≡ Some plan → IsPlan plan
+options_sized None s o plan e = absurd cc
+options_sized (Some n) s o plan e = counted n (n == 1) s o (option_and_then kinds_of o) plan refl refl e
+
+plan_sized : (o : Option (Text × List Row)) (plan : Plan) → plan_in o ≡ Some plan → IsPlan plan
+plan_sized None plan e = absurd cc
+plan_sized (Some p) plan e = options_sized (number_in (codes "nodes") p.1) (number_in (codes "seed") p.1) (first_of (codes "shelf") p.1) plan e
+
+taken_plan : (t : Bool) (o : Option (Text × List Row)) (plan : Plan) → cond t (plan_in o) None ≡ Some plan → IsPlan plan
+taken_plan true o plan e = plan_sized o plan e
+taken_plan false o plan e = absurd cc
+
+pub read_sized : (r : Result Plan WordsError) (words : List Text) → Reads r (plan_of words) → IfOk r IsPlan
+unfolding plan_of
+read_sized (Ok plan) words e = taken_plan (is_taken (told_words words)) (subcommand_of the_app (told_words words)) plan e
+read_sized (Err x) words e = tt

@@ -1,0 +1,22 @@
+-- The kinds of loglet, and the text of a shelf.
+use Rattle.std.specs.Prelude.{◌==◌, ℕ, List, [], ◌∷◌, Option, Some, None, length, nat_lt, codes, if◌then◌else◌, option_and_then, option_map}
+use Rattle.std.specs.List.{slice_split}
+use Rattle.std.specs.Str.{bytes_eq}
+use Rattle.script_words.specs.declared.shelf.Kind.{Kind}
+use Rattle.script_words.specs.declared.shelf.Kind.TheVariants.{File}
+
+abbrev pub kind_name : Kind → List ℕ
+kind_name File = codes "file"
+
+abbrev pub kind_of : List ℕ → Option Kind
+kind_of word = if bytes_eq word (codes "file") then Some File else None
+
+-- the kinds of these words, where each is known
+abbrev pub all_kinds : List (List ℕ) → Option (List Kind)
+all_kinds [] = Some []
+all_kinds (word ∷ words) = option_and_then (λ k. option_map (λ ks. k ∷ ks) (all_kinds words)) (kind_of word)
+
+-- 1 to 64 known kinds with one comma between
+abbrev pub kinds_of : List ℕ → Option (List Kind)
+kinds_of text = let words = slice_split (λ b. b == 44) text in
+    if nat_lt 64 (length words) then None else all_kinds words
