@@ -14,8 +14,8 @@
 pub mod decide;
 pub mod extent;
 pub mod file;
-
 pub mod marks;
 pub mod pending;
 pub mod server;
-
+#[cfg(test)]
+mod tests;
