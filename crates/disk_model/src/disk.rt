@@ -11,7 +11,7 @@ use crate::{Failed, WriteFault};
 /// its last sync, and which has the synced bytes where no write since touched them; what lies past the shortest of
 /// these lengths may be anything. After a sync with nothing written since, that image is what a read gives.
 ///
-/// `Failed` comes only where [`Disk::faults`] rose. A disk that was stopped inside a change answers `Failed` and does
+/// [`Disk::faults`] rises in the calls that answer `Failed`, and in no others. A disk that was stopped inside a change answers `Failed` and does
 /// nothing until [`Disk::reopen`].
 pub trait Disk: Drop {
     /// The disk as contracts see it.
@@ -29,6 +29,7 @@ pub trait Disk: Drop {
         ensures state { ((view self.new).stopped ≡ (view self.old).stopped) × ((view self.new).armed ≡ (view self.old).armed) }
         ensures faults { (view self.old).faults ≤ (view self.new).faults }
         ensures failed { OnErr result (Rose (view self.old).faults (view self.new).faults) }
+        ensures no_fault { OnOk result ((view self.new).faults ≡ (view self.old).faults) }
         ensures stopped { (view self.old).stopped ≡ true → IsErr result };
 
     /// Writes over what is there, and past the end: a gap before the offset reads as zeros. Until a sync, a crash may
@@ -38,6 +39,7 @@ pub trait Disk: Drop {
         ensures ok { OnOk result (((view self.new).timeline.now ≡ with_change (view self.old).timeline.now (Written at bytes.now)) × ((view self.new).stopped ≡ false)) }
         ensures fits { OnOk result (at + length bytes.now ≤ 2 ^ 48) }
         ensures failed { IsErrOf result WriteFault.Failed → (((view self.new).timeline ≡ (view self.old).timeline) ⊎ ((view self.new).stopped ≡ true)) × Rose (view self.old).faults (view self.new).faults }
+        ensures no_fault { OnOk result ((view self.new).faults ≡ (view self.old).faults) }
         ensures memory { IsErrOf result WriteFault.Memory → view self.new ≡ view self.old }
         ensures faults { (view self.old).faults ≤ (view self.new).faults }
         ensures stopped { (view self.old).stopped ≡ true → IsErrOf result WriteFault.Failed × ((view self.new).timeline ≡ (view self.old).timeline) × ((view self.new).stopped ≡ true) }
@@ -52,6 +54,7 @@ pub trait Disk: Drop {
         ensures time { OneStep (view self.old).timeline (with_change (view self.old).timeline.now (CutTo len)) (view self.new).timeline }
         ensures ok { OnOk result (((view self.new).timeline.now ≡ with_change (view self.old).timeline.now (CutTo len)) × ((view self.new).stopped ≡ false)) }
         ensures failed { IsErrOf result WriteFault.Failed → (((view self.new).timeline ≡ (view self.old).timeline) ⊎ ((view self.new).stopped ≡ true)) × Rose (view self.old).faults (view self.new).faults }
+        ensures no_fault { OnOk result ((view self.new).faults ≡ (view self.old).faults) }
         ensures memory { IsErrOf result WriteFault.Memory → view self.new ≡ view self.old }
         ensures faults { (view self.old).faults ≤ (view self.new).faults }
         ensures stopped { (view self.old).stopped ≡ true → IsErrOf result WriteFault.Failed × ((view self.new).timeline ≡ (view self.old).timeline) × ((view self.new).stopped ≡ true) }
@@ -66,6 +69,7 @@ pub trait Disk: Drop {
         ensures time { OneStep (view self.old).timeline (at_rest (reads (view self.old))) (view self.new).timeline }
         ensures ok { OnOk result ((view self.new).timeline.now ≡ at_rest (reads (view self.old))) }
         ensures failed { OnErr result (((view self.new).timeline ≡ (view self.old).timeline) × Rose (view self.old).faults (view self.new).faults) }
+        ensures no_fault { OnOk result ((view self.new).faults ≡ (view self.old).faults) }
         ensures state { ((view self.new).stopped ≡ (view self.old).stopped) × ((view self.new).armed ≡ (view self.old).armed) }
         ensures faults { (view self.old).faults ≤ (view self.new).faults }
         ensures stopped { (view self.old).stopped ≡ true → IsErr result };
@@ -80,6 +84,7 @@ pub trait Disk: Drop {
         ensures time { OneStep (view self.old).timeline (at_rest (reads (view self.new))) (view self.new).timeline }
         ensures ok { OnOk result (((view self.new).timeline.now ≡ at_rest (reads (view self.new))) × IsImage (view self.old).timeline.now (reads (view self.new)) × ((view self.new).stopped ≡ false) × ((view self.new).armed ≡ 0)) }
         ensures failed { OnErr result (((view self.new).timeline ≡ (view self.old).timeline) × ((view self.new).stopped ≡ (view self.old).stopped) × ((view self.new).armed ≡ (view self.old).armed) × Rose (view self.old).faults (view self.new).faults) }
+        ensures no_fault { OnOk result ((view self.new).faults ≡ (view self.old).faults) }
         ensures faults { (view self.old).faults ≤ (view self.new).faults };
 
     /// It was stopped inside a change, and hasn't been reopened since.

@@ -70,6 +70,7 @@ impl Disk for FailDisk {
         ensures state { ((shown self.new).stopped ≡ (shown self.old).stopped) × ((shown self.new).armed ≡ (shown self.old).armed) }
         ensures faults { (shown self.old).faults ≤ (shown self.new).faults }
         ensures failed { OnErr result (Rose (shown self.old).faults (shown self.new).faults) }
+        ensures no_fault { OnOk result ((shown self.new).faults ≡ (shown self.old).faults) }
         ensures stopped { (shown self.old).stopped ≡ true → IsErr result }
 
         // It fails just where it must.
@@ -87,6 +88,7 @@ impl Disk for FailDisk {
         ensures ok { OnOk result (((shown self.new).timeline.now ≡ with_change (shown self.old).timeline.now (Written at bytes.now)) × ((shown self.new).stopped ≡ false)) }
         ensures fits { OnOk result (at + length bytes.now ≤ 2 ^ 48) }
         ensures failed { IsErrOf result WriteFault.Failed → (((shown self.new).timeline ≡ (shown self.old).timeline) ⊎ ((shown self.new).stopped ≡ true)) × Rose (shown self.old).faults (shown self.new).faults }
+        ensures no_fault { OnOk result ((shown self.new).faults ≡ (shown self.old).faults) }
         ensures memory { IsErrOf result WriteFault.Memory → shown self.new ≡ shown self.old }
         ensures faults { (shown self.old).faults ≤ (shown self.new).faults }
         ensures stopped { (shown self.old).stopped ≡ true → IsErrOf result WriteFault.Failed × ((shown self.new).timeline ≡ (shown self.old).timeline) × ((shown self.new).stopped ≡ true) }
@@ -108,6 +110,7 @@ impl Disk for FailDisk {
         ensures time { OneStep (shown self.old).timeline (with_change (shown self.old).timeline.now (CutTo len)) (shown self.new).timeline }
         ensures ok { OnOk result (((shown self.new).timeline.now ≡ with_change (shown self.old).timeline.now (CutTo len)) × ((shown self.new).stopped ≡ false)) }
         ensures failed { IsErrOf result WriteFault.Failed → (((shown self.new).timeline ≡ (shown self.old).timeline) ⊎ ((shown self.new).stopped ≡ true)) × Rose (shown self.old).faults (shown self.new).faults }
+        ensures no_fault { OnOk result ((shown self.new).faults ≡ (shown self.old).faults) }
         ensures memory { IsErrOf result WriteFault.Memory → shown self.new ≡ shown self.old }
         ensures faults { (shown self.old).faults ≤ (shown self.new).faults }
         ensures stopped { (shown self.old).stopped ≡ true → IsErrOf result WriteFault.Failed × ((shown self.new).timeline ≡ (shown self.old).timeline) × ((shown self.new).stopped ≡ true) }
@@ -129,6 +132,7 @@ impl Disk for FailDisk {
         ensures time { OneStep (shown self.old).timeline (at_rest (reads (shown self.old))) (shown self.new).timeline }
         ensures ok { OnOk result ((shown self.new).timeline.now ≡ at_rest (reads (shown self.old))) }
         ensures failed { OnErr result (((shown self.new).timeline ≡ (shown self.old).timeline) × Rose (shown self.old).faults (shown self.new).faults) }
+        ensures no_fault { OnOk result ((shown self.new).faults ≡ (shown self.old).faults) }
         ensures state { ((shown self.new).stopped ≡ (shown self.old).stopped) × ((shown self.new).armed ≡ (shown self.old).armed) }
         ensures faults { (shown self.old).faults ≤ (shown self.new).faults }
         ensures stopped { (shown self.old).stopped ≡ true → IsErr result }
@@ -151,6 +155,7 @@ impl Disk for FailDisk {
         ensures time { OneStep (shown self.old).timeline (at_rest (reads (shown self.new))) (shown self.new).timeline }
         ensures ok { OnOk result (((shown self.new).timeline.now ≡ at_rest (reads (shown self.new))) × IsImage (shown self.old).timeline.now (reads (shown self.new)) × ((shown self.new).stopped ≡ false) × ((shown self.new).armed ≡ 0)) }
         ensures failed { OnErr result (((shown self.new).timeline ≡ (shown self.old).timeline) × ((shown self.new).stopped ≡ (shown self.old).stopped) × ((shown self.new).armed ≡ (shown self.old).armed) × Rose (shown self.old).faults (shown self.new).faults) }
+        ensures no_fault { OnOk result ((shown self.new).faults ≡ (shown self.old).faults) }
         ensures faults { (shown self.old).faults ≤ (shown self.new).faults }
 
         // It fails just where it must.

@@ -237,7 +237,7 @@ impl Disk for MemDisk {
         // It never fails, and the word picks the image.
         ensures succeeds { IsOk result }
         ensures picked { reads self.new ≡ image word self.old.timeline.now }
-        ensures no_fault { self.new.faults ≡ self.old.faults }
+        ensures no_fault { OnOk result (self.new.faults ≡ self.old.faults) }
     {
         self.stopped = false;
         self.armed = 0;

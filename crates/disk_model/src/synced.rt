@@ -19,6 +19,7 @@ pub fn write_synced<D: Disk>(disk: &mut D, at: u64, bytes: &[u8]) -> Result<(), 
     ensures memory { IsErrOf result WriteFault.Memory → D.view disk.new ≡ D.view disk.old }
     ensures failed { IsErrOf result WriteFault.Failed → Rose (D.view disk.old).faults (D.view disk.new).faults }
     ensures faults { (D.view disk.old).faults ≤ (D.view disk.new).faults }
+    ensures no_fault { OnOk result ((D.view disk.new).faults ≡ (D.view disk.old).faults) }
     ensures armed { (D.view disk.new).armed ≤ (D.view disk.old).armed }
 {
     disk.write_at(at, bytes)?;

@@ -1,4 +1,8 @@
+mod Writing
+mod Laters
 mod Maps
 mod Sound
 mod Told
 mod Steps
+mod Wholes
+mod Calls

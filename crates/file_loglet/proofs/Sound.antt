@@ -1,20 +1,19 @@
 -- A file loglet's fields give a sound view.
-use Rattle.std.proofs.Common.{◌≡◌, ℕ, zero, suc, ◌+◌, ◌≤◌, ◌⊎◌, inl, inr, Option, None, Some, List, [], ◌∷◌, length, drop, refl, subst, sym, ◌∙◌, arith, length-drop, zero-add}
+use Rattle.std.proofs.Common.{◌≡◌, ℕ, zero, suc, ◌+◌, ◌≤◌, Option, None, Some, List, [], ◌∷◌, length, drop, refl, subst, sym, ◌∙◌, arith, length-drop, zero-add}
 use Rattle.std.specs.Prelude.{slice_get}
 use Rattle.loglet_api.specs.declared.call.Answer.{Answer}
 use Rattle.loglet_api.specs.View.{Operation, size_of}
 use Rattle.loglet_api.specs.Sound.{IsSound, IsSoundOperation}
 use Rattle.file_loglet.specs.declared.pending.Pending.{Pending}
 use Rattle.file_loglet.specs.Pending.{operation_of, left_of}
-use Rattle.file_loglet.specs.File.{file_view, IsPending, IsFile, NeverFailed}
-use Rattle.file_loglet.specs.declared.file.FileLoglet.TheInside.{Inside}
+use Rattle.file_loglet.specs.State.{State, loglet_of, IsPending, IsFile}
 use Rattle.file_loglet.proofs.Maps.{behind}
 
 -- the size is the number of entries
-pub size_is : (a : Inside) → a.cut ≤ length a.entries.items → size_of (file_view a) ≡ length a.entries.items
-size_is a h = omega (arith, length-drop a.cut a.entries.items)
+pub size_is : (a : State) → a.cut ≤ length a.entries → size_of (loglet_of a) ≡ length a.entries
+size_is a h = omega (arith, length-drop a.cut a.entries)
 
-pub size_of_file : (a : Inside) → IsFile a → size_of (file_view a) ≡ length a.entries.items
+pub size_of_file : (a : State) → IsFile a → size_of (loglet_of a) ≡ length a.entries
 size_of_file a h = size_is a (omega (arith, h.cut, h.reach, h.firm, h.stored))
 
 pub slice_get-drop : {X : Type 0} (n : ℕ) (xs : List X) (i : ℕ) → slice_get (drop n xs) i ≡ slice_get xs (n + i)
@@ -26,7 +25,7 @@ small_left : (answer : Option Answer) → ((left_of answer).0 ≤ 1) × ((left_o
 small_left None = (omega arith, refl)
 small_left (Some answer) = (omega arith, refl)
 
-sound_operation : (a : Inside) (t : ℕ) (p : Pending) → size_of (file_view a) ≡ length a.entries.items → IsPending a t p → IsSoundOperation (file_view a) t (operation_of p)
+sound_operation : (a : State) (t : ℕ) (p : Pending) → size_of (loglet_of a) ≡ length a.entries → IsPending a t p → IsSoundOperation (loglet_of a) t (operation_of p)
 sound_operation a t p size h =
     let small = small_left p.answer in
     record {
@@ -40,7 +39,7 @@ sound_operation a t p size h =
       faults = h.faults;
     }
 
-pub file_sound : (a : Inside) → IsFile a → IsSound (file_view a)
+pub file_sound : (a : State) → IsFile a → IsSound (loglet_of a)
 file_sound a h =
     let size = size_of_file a h in
     record {
@@ -53,24 +52,10 @@ file_sound a h =
       sealing = h.sealing;
       begun = h.begun;
       seals = h.seals;
-      lacks = omega arith;
-      down = omega arith;
+      lacks = omega (arith, h.lacks);
+      down = h.down;
       faults = h.faults;
-      spelled = λ i e is. h.spelled (a.cut + i) e (sym (slice_get-drop a.cut a.entries.items i) ∙ is);
+      spelled = λ i e is. h.spelled (a.cut + i) e (sym (slice_get-drop a.cut a.entries i) ∙ is);
       operations = λ t o is. (let w = behind a.pending t o is in
-          subst (λ (x : Operation). IsSoundOperation (file_view a) t x) w.2 (sound_operation a t w.0 size (h.pending t w.0 w.1)));
-    }
-
-one_step : (answer : Option Answer) → (left_of answer ≡ (1, 0)) ⊎ (left_of answer ≡ (0, 0))
-one_step None = inl refl
-one_step (Some answer) = inr refl
-
-pub file_never_failed : (a : Inside) → NeverFailed (file_view a)
-file_never_failed a =
-    record {
-      servers = refl;
-      down = refl;
-      lacks = refl;
-      steps = λ t o is. (let w = behind a.pending t o is in
-          subst (λ (x : Operation). (x.left ≡ (1, 0)) ⊎ (x.left ≡ (0, 0))) w.2 (one_step w.0.answer));
+          subst (λ (x : Operation). IsSoundOperation (loglet_of a) t x) w.2 (sound_operation a t w.0 size (h.pending t w.0 w.1)));
     }

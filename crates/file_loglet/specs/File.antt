@@ -1,70 +1,45 @@
--- What a file loglet shows, and what holds of its fields.
-use Rattle.std.specs.Prelude.{◌≡◌, ℕ, ◌^◌, ◌<◌, ◌≤◌, ◌⊎◌, nat_eq, true, Some, map, drop, length, slice_get}
-use Rattle.std.specs.HashMap.{get}
-use Rattle.std.specs.Option.{ForSome}
+-- What a file loglet shows, and what holds of it.
+use Rattle.std.specs.Prelude.{◌≡◌, ℕ, ◌+◌, ◌-◌, ◌^◌, ◌<◌, ◌≤◌, ◌⊎◌, min, Bool, true, false, if◌then◌else◌, Some, List, slice_get}
 use Rattle.delos_types.specs.declared.entry.Entry.{Entry}
-use Rattle.delos_types.specs.Spelling.{IsSpellable}
-use Rattle.loglet_api.specs.declared.call.Kind.TheVariants.{File}
-use Rattle.loglet_api.specs.declared.call.Task.TheVariants.{Placing, Sealing}
-use Rattle.loglet_api.specs.View.{LogletView, Operation, operation_at}
-use Rattle.file_loglet.specs.declared.pending.Pending.{Pending}
-use Rattle.file_loglet.specs.Pending.{shown, Fits}
-use Rattle.file_loglet.specs.declared.file.FileLoglet.TheInside.{Inside}
+use Rattle.disk_model.specs.Disk.{DiskView}
+use Rattle.journal_core.specs.Journal.{LeavesRecords}
+use Rattle.loglet_api.specs.View.{LogletView, Operation, operation_at, IsDecided}
+use Rattle.loglet_api.specs.Step.{RoseBy}
+use Rattle.majority_rule.specs.Servers.{Server, length_of, is_sealed, restarted}
+use Rattle.server_records.specs.Spelled.{server_of}
+use Rattle.file_loglet.specs.declared.marks.Marks.{Marks}
+use Rattle.file_loglet.specs.Held.{Held}
+use Rattle.file_loglet.specs.Pending.{PendingMap}
+use Rattle.file_loglet.specs.State.{counted, down_of, state_of, loglet_of}
 
-abbrev pub file_view : Inside → LogletView
-file_view a =
-    record {
-      kind = File;
-      servers = 1;
-      quorum = 1;
-      room = a.room;
-      rounds = 1;
-      limit = 2 ^ 62;
-      cut = a.cut;
-      log = drop a.cut a.entries.items;
-      reach = a.reach;
-      cap = a.cap;
-      firm = a.firm;
-      shut = a.sealed;
-      operations = map shown a.pending.entries;
-      faults = a.faults;
-      down = 0;
-      begun = a.begun;
-      seals = a.seals;
-      lacks = 0;
-    }
+-- A file loglet: what every loglet shows, its server, its disk, and how many operations it refused as full.
+pub record FileView : Type 0 where
+  pub loglet : LogletView
+  pub server : Server
+  pub disk : DiskView
+  pub refusals : ℕ
 
--- nothing failed: no server is down, no operation was left without its answer, and one carry
--- decides an operation
-pub record NeverFailed (v : LogletView) : Type 0 where
-  pub servers : v.servers ≡ 1
-  pub down : v.down ≡ 0
-  pub lacks : v.lacks ≡ 0
-  pub steps : (t : ℕ) (o : Operation) → operation_at v.operations t ≡ Some o → (o.left ≡ (1, 0)) ⊎ (o.left ≡ (0, 0))
+abbrev pub file_view : ℕ → List Entry → Held → Marks → PendingMap → FileView
+file_view room entries held marks pending =
+    record { loglet = loglet_of (state_of room entries held marks pending); server = held.server; disk = held.disk; refusals = marks.refusals }
 
--- what holds of an open operation
-pub record IsPending (a : Inside) (t : ℕ) (p : Pending) : Type 0 where
-  pub ticket : t < a.begun
-  pub size : p.size ≤ length a.entries.items
-  pub placing : p.task ≡ Placing → p.size < length a.entries.items
-  pub reach : p.reach ≤ a.reach
-  pub firm : p.firm ≤ a.firm
-  pub shut : p.shut ≡ true → a.sealed ≡ true
-  pub faults : p.faults ≤ a.faults
-  pub sealing : p.task ≡ Sealing → 1 ≤ a.seals
-  pub told : ForSome p.answer (Fits a.entries.items a.stored a.sealed p p.task)
+-- What ties the parts of a file loglet together, at every moment.
+pub record IsServed (v : FileView) : Type 0 where
+  -- a crash leaves records that spell the server, with its torn write or without
+  pub left : LeavesRecords v.disk (λ found. (kept : Bool) × (server_of found ≡ Some (restarted v.server kept v.server.torn)))
+  -- the loglet is shut where the server is sealed, and has it down where it is down
+  pub shut : v.loglet.shut ≡ is_sealed v.server
+  pub down : v.loglet.down ≡ down_of v.server.up
+  pub faults : v.loglet.faults ≡ counted v.disk.faults v.refusals
+  -- the server stores all that an answer spoke of, and lets go of nothing above the cut
+  pub firm : v.loglet.firm ≤ length_of v.server
+  pub base : v.server.base ≤ v.loglet.cut
+  -- what it stores is the log
+  pub entries : (p : ℕ) (e : Entry) → v.loglet.cut ≤ p → slice_get v.server.entries (p - v.server.base) ≡ Some e → slice_get v.loglet.log (p - v.loglet.cut) ≡ Some e
 
-pub record IsFile (a : Inside) : Type 0 where
-  pub cut : a.cut ≤ a.reach
-  pub reach : a.reach ≤ a.firm
-  pub firm : a.firm ≤ a.stored
-  pub stored : a.stored ≤ length a.entries.items
-  pub size : length a.entries.items ≤ a.room
-  pub room : (1 ≤ a.room) × (a.room ≤ 2 ^ 32)
-  pub cap : ForSome a.cap (λ t. (a.sealed ≡ true) × (t ≡ a.stored) × (a.firm ≡ a.stored))
-  pub begun : a.begun ≤ 2 ^ 62
-  pub seals : a.seals ≤ a.begun
-  pub sealing : a.sealed ≡ true → 1 ≤ a.seals
-  pub faults : a.faults < 2 ^ 64
-  pub spelled : (i : ℕ) (e : Entry) → slice_get a.entries.items i ≡ Some e → IsSpellable e
-  pub pending : (t : ℕ) (p : Pending) → get nat_eq a.pending t ≡ Some p → IsPending a t p
+-- A carry decides its operation at once. Nothing failed, or the disk failed, and the server is down.
+pub record IsDecidedAtOnce (old : LogletView) (t : ℕ) (new : LogletView) : Type 0 where
+  pub operation : Operation
+  pub is : operation_at new.operations t ≡ Some operation
+  pub decided : IsDecided operation
+  pub failed : ((new.faults ≡ old.faults) × (new.down ≡ old.down)) ⊎ ((new.down ≡ 1) × RoseBy 1 old.faults new.faults)

@@ -1,102 +1,165 @@
 //! What carrying an operation comes to.
-ghost use Rattle.std.specs.Prelude.{◌≡◌, ◌<◌, ◌≤◌, true, max, if◌then◌else◌, length, IfOk};
+ghost use Rattle.std.specs.Prelude.{◌≡◌, ◌+◌, ◌^◌, ◌<◌, ◌≤◌, ℕ, Bool, true, false, if◌then◌else◌, List, length, slice_get, Some, IfOk, OnOk, OnErr};
+ghost use Rattle.delos_types.specs.Spelling.{IsSpellable};
+ghost use Rattle.delos_types.specs.declared.entry.Entry as given;
 ghost use Rattle.loglet_api.specs.declared.call.Answer.TheVariants.{Sealed};
-ghost use Rattle.file_loglet.specs.Pending.{Decides, Reads, told_at};
+ghost use Rattle.majority_rule.specs.Servers.{length_of, is_sealed};
+ghost use Rattle.file_loglet.specs.Later.{IsLater, GoesOn, MayFail, is_sealing};
+ghost use Rattle.file_loglet.specs.Pending.{Fits, told_at};
 
 use crate::pending::Pending;
+use crate::server::FileServer;
 use delos_types::entry::Entry;
+use disk_model::Disk;
+use journal_core::Fault;
 use loglet_api::call::{Answer, Task};
 use std::alloc::AllocError;
 
-/// How much the server stores after an operation was carried, whether it is sealed then, and what
-/// the operation is answered.
-#[derive(Drop)]
-pub struct Outcome {
-    pub stored: u64,
-    pub sealed: bool,
-    pub answer: Answer,
-}
-
-/// Carries an operation on a server that stores the first `stored` of the entries. Constant time
-/// but for a Read, which copies one entry.
-pub fn decide(
+/// Carries an operation on the server of a loglet that has these entries and this cut, and gives
+/// its answer. A server that is down, or whose disk fails now, is out of reach.
+///
+/// A Read whose position no answer had spoken of needs no server, and so is answered all the same.
+/// Whether its position is trimmed is seen when the answer is taken.
+///
+/// Cost: an Append or a Settle writes one record for each entry that isn't stored yet, up to its
+/// length; a Seal and a Trim write at most one; a Read copies one entry.
+pub fn decide<D: Disk>(
+    server: &mut FileServer<D>,
     entries: &[Entry],
-    stored: u64,
-    sealed: bool,
+    cut: u64,
     p: &Pending,
-) -> Result<Outcome, AllocError>
-    requires stored { stored ≤ length entries.now }
+) -> Result<Answer, AllocError>
     requires size { p.now.size ≤ length entries.now }
     requires placing { p.now.task ≡ Task.Placing → p.now.size < length entries.now }
-    requires reach { p.now.reach ≤ stored }
-    requires firm { p.now.firm ≤ stored }
-    requires shut { p.now.shut ≡ true → sealed ≡ true }
-    ensures { IfOk result (Decides entries.now stored sealed p.now) }
+    requires small { length entries.now ≤ 2 ^ 32 }
+    requires spelled { (i : ℕ) (e : given.Entry) → slice_get entries.now i ≡ Some e → IsSpellable e }
+    requires stored { length_of server.old.server ≤ length entries.now }
+    requires reach { p.now.reach ≤ length_of server.old.server }
+    requires firm { p.now.firm ≤ length_of server.old.server }
+    requires cut { cut ≤ length_of server.old.server }
+    requires shut { p.now.shut ≡ true → is_sealed server.old.server ≡ true }
+    ensures later { IsLater entries.now cut (is_sealing p.now.task) server.old.server server.new.server }
+    ensures may_fail { MayFail server.old server.new }
+    ensures fits { IfOk result (Fits entries.now (length_of server.new.server) (is_sealed server.new.server) (server.new.server.up ≡ false) p.now p.now.task) }
+    ensures memory { OnErr result ((server.new.server.up ≡ server.old.server.up) × (server.new.disk.faults ≡ server.old.disk.faults) × (is_sealed server.new.server ≡ is_sealed server.old.server)) }
+{
+    if p.is_unspoken() {
+        return Ok(Answer::Beyond(p.firm));
+    }
+    if !server.is_up() {
+        return Ok(Answer::NoQuorum { unreached: 1 });
+    }
+    match ask(server, entries, cut, p) {
+        Ok(answer) => Ok(answer),
+        Err(Fault::Disk) => Ok(Answer::NoQuorum { unreached: 1 }),
+        Err(Fault::Memory) => Err(AllocError),
+    }
+}
+
+/// Carries an operation on a server that is up.
+fn ask<D: Disk>(
+    server: &mut FileServer<D>,
+    entries: &[Entry],
+    cut: u64,
+    p: &Pending,
+) -> Result<Answer, Fault>
+    requires up { server.old.server.up ≡ true }
+    requires size { p.now.size ≤ length entries.now }
+    requires placing { p.now.task ≡ Task.Placing → p.now.size < length entries.now }
+    requires small { length entries.now ≤ 2 ^ 32 }
+    requires spelled { (i : ℕ) (e : given.Entry) → slice_get entries.now i ≡ Some e → IsSpellable e }
+    requires stored { length_of server.old.server ≤ length entries.now }
+    requires reach { p.now.reach ≤ length_of server.old.server }
+    requires reading { (q : ℕ) → p.now.task ≡ Task.Reading q → q < p.now.firm }
+    requires firm { p.now.firm ≤ length_of server.old.server }
+    requires cut { cut ≤ length_of server.old.server }
+    requires shut { p.now.shut ≡ true → is_sealed server.old.server ≡ true }
+    ensures later { IsLater entries.now cut (is_sealing p.now.task) server.old.server server.new.server }
+    ensures goes_on { GoesOn server.old result server.new }
+    ensures fits { IfOk result (Fits entries.now (length_of server.new.server) (is_sealed server.new.server) ⊥ p.now p.now.task) }
 {
     match p.task {
-        Task::Placing => Ok(store(stored, sealed, p.size + 1, Answer::Placed(p.size))),
-        Task::Settling(n) => Ok(store(stored, sealed, n.min(p.size), Answer::Settled)),
-        Task::Finding => Ok(Outcome {
-            stored,
-            sealed,
-            answer: if sealed {
-                Answer::SealedTail(stored)
-            } else {
-                Answer::OpenTail(stored)
-            },
-        }),
-        Task::Sealing => Ok(Outcome {
-            stored,
-            sealed: true,
-            answer: Answer::SealDone,
-        }),
-        Task::Reading(q) => {
-            let answer = read(entries, p.firm, q)?;
-            Ok(Outcome {
-                stored,
-                sealed,
-                answer,
-            })
-        }
-        Task::Trimming(_) => Ok(Outcome {
-            stored,
-            sealed,
-            answer: Answer::TrimDone,
-        }),
-    }
-}
-
-/// A server that isn't sealed stores entries up to this length, and then gives this answer.
-fn store(stored: u64, sealed: bool, length: u64, answer: Answer) -> Outcome
-    ensures { result ≡ (if sealed then record { stored = stored; sealed = sealed; answer = Sealed } else record { stored = max stored length; sealed = sealed; answer = answer }) }
-{
-    if sealed {
-        Outcome {
-            stored,
-            sealed,
-            answer: Answer::Sealed,
-        }
-    } else {
-        Outcome {
-            stored: stored.max(length),
-            sealed,
-            answer,
+        Task::Placing => store(server, entries, p.size + 1, Answer::Placed(p.size)),
+        Task::Settling(n) => store(server, entries, n.min(p.size), Answer::Settled),
+        Task::Finding => Ok(tail(server)),
+        Task::Sealing => seal(server),
+        Task::Reading(position) => Ok(Answer::Got(entries[position as usize].clone()?)),
+        Task::Trimming(_) => {
+            server.trim(cut)?;
+            Ok(Answer::TrimDone)
         }
     }
 }
 
-/// What a Read comes to that began where `firm` was the greatest length answered. Whether its
-/// position is trimmed is seen when the answer is taken.
-fn read(entries: &[Entry], firm: u64, position: u64) -> Result<Answer, AllocError>
-    requires { firm ≤ length entries.now }
-    ensures { IfOk result (Reads entries.now firm position) }
+/// A server that isn't sealed stores the entries below this position, and then gives this answer.
+fn store<D: Disk>(
+    server: &mut FileServer<D>,
+    entries: &[Entry],
+    end: u64,
+    answer: Answer,
+) -> Result<Answer, Fault>
+    requires up { server.old.server.up ≡ true }
+    requires within { end ≤ length entries.now }
+    requires small { length entries.now ≤ 2 ^ 32 }
+    requires spelled { (i : ℕ) (e : given.Entry) → slice_get entries.now i ≡ Some e → IsSpellable e }
+    ensures later { (cut : ℕ) (sealing : Bool) → IsLater entries.now cut sealing server.old.server server.new.server }
+    ensures goes_on { GoesOn server.old result server.new }
+    ensures sealed { is_sealed server.new.server ≡ is_sealed server.old.server }
+    ensures stored { is_sealed server.old.server ≡ false → IfOk result (λ made. (made ≡ answer) × (end ≤ length_of server.new.server)) }
+    ensures refused { is_sealed server.old.server ≡ true → IfOk result (λ made. made ≡ Sealed) }
 {
-    if firm <= position {
-        Ok(Answer::Beyond(firm))
-    } else {
-        let entry = entries[position as usize].clone()?;
-        Ok(Answer::Got(entry))
+    if server.is_sealed() {
+        return Ok(Answer::Sealed);
     }
+    store_up_to(server, entries, end)?;
+    Ok(answer)
+}
+
+/// Stores the entries below a position, one record each.
+fn store_up_to<D: Disk>(
+    server: &mut FileServer<D>,
+    entries: &[Entry],
+    end: u64,
+) -> Result<(), Fault>
+    requires up { server.old.server.up ≡ true }
+    requires unsealed { is_sealed server.old.server ≡ false }
+    requires within { end ≤ length entries.now }
+    requires small { length entries.now ≤ 2 ^ 32 }
+    requires spelled { (i : ℕ) (e : given.Entry) → slice_get entries.now i ≡ Some e → IsSpellable e }
+    ensures later { (cut : ℕ) (sealing : Bool) → IsLater entries.now cut sealing server.old.server server.new.server }
+    ensures goes_on { GoesOn server.old result server.new }
+    ensures unsealed { is_sealed server.new.server ≡ false }
+    ensures stored { OnOk result (end ≤ length_of server.new.server) }
+{
+    while server.length() < end {
+        let next = server.length() as usize;
+        server.store(&entries[next])?;
+    }
+    Ok(())
+}
+
+/// What a server that is up tells of its length.
+fn tail<D: Disk>(server: &FileServer<D>) -> Answer
+    ensures { result ≡ (if is_sealed server.now.server then Answer.SealedTail (length_of server.now.server) else Answer.OpenTail (length_of server.now.server)) }
+{
+    if server.is_sealed() {
+        Answer::SealedTail(server.length())
+    } else {
+        Answer::OpenTail(server.length())
+    }
+}
+
+/// Seals a server that is up, where it isn't sealed.
+fn seal<D: Disk>(server: &mut FileServer<D>) -> Result<Answer, Fault>
+    requires up { server.old.server.up ≡ true }
+    ensures later { (entries : List given.Entry) (cut : ℕ) → IsLater entries cut true server.old.server server.new.server }
+    ensures goes_on { GoesOn server.old result server.new }
+    ensures sealed { IfOk result (λ answer. (answer ≡ Answer.SealDone) × (is_sealed server.new.server ≡ true)) }
+{
+    if !server.is_sealed() {
+        server.seal()?;
+    }
+    Ok(Answer::SealDone)
 }
 
 /// What an operation is answered where the cut is here: a Read of a position below it is told so.

@@ -1,106 +1,125 @@
 //! A loglet of one server.
-ghost use Rattle.std.specs.Prelude.{◌≡◌, ℕ, ◌≤◌, ◌^◌, ◌⊎◌, ◌↔◌, IsTrue, IfOk};
+ghost use Rattle.std.specs.Prelude.{◌≡◌, ℕ, ◌≤◌, ◌^◌, ◌⊎◌, ◌↔◌, [], Bool, true, false, IsTrue, IfOk, IfErr, if◌then◌else◌};
+ghost use Rattle.disk_model.specs.Disk.{reads, IsSynced, Rose};
+ghost use Rattle.journal_core.specs.Records.{records_of};
+ghost use Rattle.journal_core.specs.Journal.{AnyCrashLeaves};
 ghost use Rattle.loglet_api.specs.Step.{IsAppend};
 ghost use Rattle.loglet_api.specs.View.{IsFresh};
-ghost use Rattle.file_loglet.specs.File.{NeverFailed};
+ghost use Rattle.file_loglet.specs.State.{counted};
+ghost use Rattle.file_loglet.specs.File.{IsServed};
 
-use crate::decide::{Outcome, decide, told};
+use crate::decide::{decide, told};
+use crate::marks::Marks;
 use crate::pending::{Decided, Pending, add, set_answer, take_decided};
+use crate::server::FileServer;
 use delos_types::entry::Entry;
 use delos_types::numbers::Ticket;
-use loglet_api::call::{Answer, Kind, LogletCall, Op, Refused};
+use disk_model::Disk;
+use journal_core::Fault;
+use loglet_api::call::{Answer, Kind, LogletAnswer, LogletCall, Op, Refused};
 use loglet_api::loglet::Loglet;
-use std::alloc::{AllocError, Global};
+use std::alloc::Global;
 use std::collections::HashMap;
 use std::marker::Model;
 
 /// How many operations may be begun: 2^62.
 const LIMIT: u64 = 0x4000_0000_0000_0000;
 
-/// How many open operations there is room for from the start.
-const FEW: usize = 4;
-
-/// A loglet of one server that keeps its entries in a list in memory.
+/// A loglet of one server, whose log is a journal on a disk. Contracts see what every loglet shows,
+/// its server and its disk: `IsServed` ties them together.
 ///
-/// One `carry` decides an operation, and nothing fails: the only fault is a refusal as `Full`, and
-/// no operation is answered `NoQuorum`. Words are ignored, and `stop` changes nothing.
+/// One `carry` decides an operation. It is `NoQuorum` where the disk fails in it or the server is
+/// down, and then the server is down until a `restart`, which finds the write done or not in which
+/// the disk failed. Its faults are those of its disk, and its `Full` answers. Words are ignored,
+/// but for that of `restart`.
 ///
-/// Each call takes constant time, amortised, but that the `carry` of a Read copies one entry.
-/// Entries below the cut are kept.
+/// Cost: an entry is written as one record, once, by the first `carry` that needs it; a Seal and a
+/// Trim write at most one record; a Read copies one entry; a restart reads the journal. All else
+/// takes constant time, amortised.
+///
+/// Memory: the entries from position 0 on, trimmed ones too, and the journal's records beside them;
+/// some 100 bytes for each open operation.
 #[derive(Drop)]
-pub struct FileLoglet {
+pub struct FileLoglet<D: Disk> {
     room: u64,
-    /// All entries from position 0 on.
+    /// All entries from position 0 on, stored or not.
     entries: Vec<Entry>,
-    /// How many of the entries the server has, and whether it is sealed.
-    stored: u64,
-    sealed: bool,
-    cut: u64,
-    reach: u64,
-    firm: u64,
-    cap: Option<u64>,
-    faults: u64,
-    begun: u64,
-    seals: u64,
+    server: FileServer<D>,
+    marks: Marks,
     /// The open operations, by ticket.
     pending: HashMap<u64, Pending>,
 }
 
-impl Model for FileLoglet {
-    ghost use Rattle.loglet_api.specs.View.{LogletView};
+impl<D: Disk> Model for FileLoglet<D> {
+    ghost use Rattle.file_loglet.specs.File.{FileView, file_view};
+    ghost use Rattle.file_loglet.specs.State.{IsWhole};
 
-    ghost Value = { LogletView };
+    ghost Value = { FileView };
 
-    ghost use Rattle.file_loglet.specs.File.{file_view, IsFile};
+    ghost view = { λ a. file_view a.room a.entries.items a.server a.marks a.pending };
 
-    ghost view = { file_view };
-
-    ghost invariant = { IsFile };
+    ghost invariant = { λ a. IsWhole a.room a.entries.items a.server a.marks a.pending };
 }
 
-impl FileLoglet {
+impl<D: Disk> FileLoglet<D> {
     ghost use Rattle.loglet_api.specs.declared.call.Kind.TheVariants.{File};
 
-    /// An empty loglet that takes at most `room` entries, from 1 to 2^32.
-    pub fn new(alloc: Global, room: u64) -> Result<FileLoglet, AllocError>
-        requires { (1 ≤ room) × (room ≤ 2 ^ 32) }
-        ensures fresh { IfOk result IsFresh }
-        ensures room { IfOk result (λ loglet. loglet.room ≡ room) }
-        ensures kind { IfOk result (λ loglet. loglet.kind ≡ File) }
-        ensures limit { IfOk result (λ loglet. loglet.limit ≡ 2 ^ 62) }
+    /// An empty loglet that takes at most `room` entries, from 1 to 2^32, on a disk that has no
+    /// records and nothing pending, as an empty one. A refusal hands the disk back, on which a
+    /// crash leaves no records either.
+    pub fn new(
+        alloc: Global,
+        disk: D,
+        room: u64,
+    ) -> Result<FileLoglet<D>, journal_core::Refused<D>>
+        requires room { (1 ≤ room) × (room ≤ 2 ^ 32) }
+        requires synced { IsSynced (D.view disk) }
+        requires empty { records_of (reads (D.view disk)) ≡ [] }
+        ensures fresh { (D.view disk).faults ≡ 0 → IfOk result (λ made. IsFresh made.loglet) }
+        ensures faults { IfOk result (λ made. made.loglet.faults ≡ counted (D.view disk).faults 0) }
+        ensures room { IfOk result (λ made. made.loglet.room ≡ room) }
+        ensures kind { IfOk result (λ made. made.loglet.kind ≡ File) }
+        ensures limit { IfOk result (λ made. made.loglet.limit ≡ 2 ^ 62) }
+
+        // Why the disk came back, and that it is as good as before, or failed.
+        ensures memory { IfErr result (λ e. e.fault ≡ Fault.Memory → ((D.view e.disk).timeline ≡ (D.view disk).timeline) × ((D.view e.disk).faults ≡ (D.view disk).faults)) }
+        ensures failed { IfErr result (λ e. e.fault ≡ Fault.Disk → Rose (D.view disk).faults (D.view e.disk).faults) }
+        ensures any_crash { IfErr result (λ e. AnyCrashLeaves (D.view disk) (D.view e.disk) (λ found. found ≡ [])) }
     {
-        let pending = HashMap::with_capacity(alloc, FEW)?;
+        let server = FileServer::new(alloc, disk)?;
         Ok(FileLoglet {
             room,
             entries: Vec::new(alloc),
-            stored: 0,
-            sealed: false,
-            cut: 0,
-            reach: 0,
-            firm: 0,
-            cap: None,
-            faults: 0,
-            begun: 0,
-            seals: 0,
-            pending,
+            server,
+            marks: Marks::new(),
+            pending: HashMap::new(alloc),
         })
     }
 
-    /// What holds of every loglet of this type: its server never fails. It does nothing.
-    pub fn never_failed(&self)
-        ensures { NeverFailed self.now }
+    /// Its disk. What a crash leaves of it, now or at any moment before, spells the server.
+    pub fn into_disk(self) -> D
+        ensures disk { D.view result ≡ self.disk }
+        ensures served { IsServed self }
     {
-        let _open = &self.room;
+        let FileLoglet {
+            room: _,
+            entries: _,
+            server,
+            marks: _,
+            pending: _,
+        } = self;
+        server.into_disk()
     }
 }
 
-impl Loglet for FileLoglet {
+impl<D: Disk> Loglet for FileLoglet<D> {
     ghost use Rattle.std.specs.Prelude.{OnOk};
     ghost use Rattle.loglet_api.specs.Step.{CanCall, LogletStep};
-    ghost use Rattle.loglet_api.specs.Answers.{carry_answer};
-    ghost use Rattle.file_loglet.specs.Calm.{IsDecidedCalmly};
+    ghost use Rattle.loglet_api.specs.Answers.{carry_answer, restart_answer};
+    ghost use Rattle.majority_rule.specs.Servers.{restarted};
+    ghost use Rattle.file_loglet.specs.File.{IsDecidedAtOnce};
 
-    ghost view = { λ v. v };
+    ghost view = { λ v. v.loglet };
 
     fn kind(&self) -> Kind {
         let _open = &self.room;
@@ -127,76 +146,63 @@ impl Loglet for FileLoglet {
     }
 
     fn faults(&self) -> u64 {
-        self.faults
+        self.server
+            .disk_faults()
+            .saturating_add(self.marks.refusals)
     }
 
     fn down(&self) -> u32 {
-        let _open = &self.room;
-        0
+        if self.server.is_up() { 0 } else { 1 }
     }
 
     fn begin(&mut self, op: Op) -> Result<Ticket, Refused> {
         let size = self.entries.len() as u64;
-        if is_full(&op, size, self.room, self.begun) {
-            self.faults = self.faults.saturating_add(1);
+        if is_full(&op, size, self.room, self.marks.begun) {
+            self.marks = self.marks.refused();
             return Err(Refused::Full);
         }
-        let number = self.begun;
-        let cut = op.cut(self.cut, self.reach);
-        let seals = self.seals + op.seals();
+        let number = self.marks.begun;
+        let marks = self.marks.begun(&op);
         let p = Pending {
             task: op.task(),
             size,
-            reach: self.reach,
-            firm: self.firm,
-            shut: self.sealed,
-            faults: self.faults,
+            reach: self.marks.reach,
+            firm: self.marks.firm,
+            shut: self.server.is_sealed(),
+            faults: self.faults(),
+            down: self.down(),
             answer: None,
         };
         let Ok(()) = add(&mut self.entries, &mut self.pending, op, number, p) else {
             return Err(Refused::Memory);
         };
-        self.cut = cut;
-        self.seals = seals;
-        self.begun = number + 1;
+        self.marks = marks;
         Ok(Ticket::new(number))
     }
 
     fn carry(&mut self, ticket: Ticket, _word: u64) -> Result<(), Refused>
-        requires { CanCall self.old (LogletCall.Carry ticket _word) }
-        ensures step { LogletStep self.old (LogletCall.Carry ticket _word) (carry_answer result) self.new }
-        // One carry decides, and nothing fails.
-        ensures at_once { OnOk result (IsDecidedCalmly self.old ticket self.new) }
+        requires { CanCall self.old.loglet (LogletCall.Carry ticket _word) }
+        ensures step { LogletStep self.old.loglet (LogletCall.Carry ticket _word) (carry_answer result) self.new.loglet }
+        ensures at_once { OnOk result (IsDecidedAtOnce self.old.loglet ticket self.new.loglet) }
     {
         let number = ticket.number();
-        let Ok(
-            Outcome {
-                stored,
-                sealed,
-                answer,
-            },
-        ) = decide(
+        let Ok(answer) = decide(
+            &mut self.server,
             self.entries.as_slice(),
-            self.stored,
-            self.sealed,
+            self.marks.cut,
             &self.pending[&number],
         )
         else {
             return Err(Refused::Memory);
         };
         set_answer(&mut self.pending, number, answer);
-        self.stored = stored;
-        self.sealed = sealed;
         Ok(())
     }
 
     fn take(&mut self, ticket: Ticket) -> Option<Answer> {
         let Decided { task, size, answer } = take_decided(&mut self.pending, ticket.number())?;
-        let length = task.wanted(size);
-        let answer = told(task, self.cut, answer);
-        self.reach = self.reach.max(answer.reach(length));
-        self.firm = self.firm.max(answer.firm(length));
-        self.cap = answer.cap(self.cap);
+        let answer = told(task, self.marks.cut, answer);
+        self.marks = self.marks.told(&answer, task.wanted(size));
         Some(answer)
     }
 
@@ -213,13 +219,30 @@ impl Loglet for FileLoglet {
         Ok(())
     }
 
-    fn stop(&mut self, _server: u32, _after: u64) {
-        let _open = &self.room;
+    fn stop(&mut self, server: u32, after: u64)
+        requires { CanCall self.old.loglet (LogletCall.Stop server after) }
+        ensures step { LogletStep self.old.loglet (LogletCall.Stop server after) LogletAnswer.Stopped self.new.loglet }
+        ensures arms { self.new ≡ record self.old { disk = if self.old.disk.stopped then self.old.disk else record self.old.disk { armed = after } } }
+    {
+        self.server.stop(after);
     }
 
-    fn restart(&mut self, _server: u32, _word: u64) -> Result<bool, Refused> {
-        let _open = &self.room;
-        Ok(true)
+    fn restart(&mut self, server: u32, word: u64) -> Result<bool, Refused>
+        requires { CanCall self.old.loglet (LogletCall.Restart server word) }
+        ensures step { LogletStep self.old.loglet (LogletCall.Restart server word) (restart_answer result) self.new.loglet }
+
+        // It comes up with the write done or not in which its disk failed.
+        ensures restarted { self.old.server.up ≡ false → IfOk result (λ up. up ≡ true → (kept : Bool) × (self.new.server ≡ restarted self.old.server kept self.old.server.torn)) }
+        ensures idle { self.old.server.up ≡ true → self.new ≡ self.old }
+    {
+        if self.server.is_up() {
+            return Ok(true);
+        }
+        match self.server.restart(word) {
+            Ok(()) => Ok(true),
+            Err(Fault::Disk) => Ok(false),
+            Err(Fault::Memory) => Err(Refused::Memory),
+        }
     }
 }
 

@@ -1,8 +1,21 @@
-//! A loglet of one server that keeps its entries in a list in memory, so that nothing fails.
+//! A loglet of one server, whose log is a journal on a disk.
+//!
+//! - `file`: the loglet.
+//! - `server`: its server: what the records of the journal spell.
+//! - `extent`: how far the server has got, in numbers, and how a record changes that.
+//! - `decide`: what carrying an operation comes to.
+//! - `pending`: the open operations, by ticket.
+//! - `marks`: what the loglet has told and counted.
+//!
+//! The definitions stand in `specs/`: `File` (what a file loglet shows, and what ties its parts together), `State` (what
+//! holds of its fields), `Held` (what its server holds), `Later` (how the server goes on), `Pending` (open operations).
 #![tactic(auto)]
 
 pub mod decide;
+pub mod extent;
 pub mod file;
+pub mod marks;
 pub mod pending;
+pub mod server;
 #[cfg(test)]
 mod tests;

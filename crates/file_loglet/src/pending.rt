@@ -1,8 +1,8 @@
 //! The open operations of a file loglet, by ticket.
-ghost use Rattle.std.specs.Prelude.{◌≡◌, ◌++◌, None, Some, nat_eq, OnOk, OnErr, IfSome, IfNone, IsSome};
-ghost use Rattle.std.specs.HashMap.{get, Updates, IsUnchanged};
+ghost use Rattle.std.specs.Prelude.{◌≡◌, ◌+◌, ◌≤◌, ◌++◌, ◌↔◌, None, Some, nat_eq, OnOk, OnErr, IfSome, IfNone, IsTrue};
+ghost use Rattle.std.specs.HashMap.{get, Updates, IsUnchanged, hash_map_len};
 ghost use Rattle.loglet_api.specs.Step.{entries_of};
-ghost use Rattle.file_loglet.specs.Pending.{left_of, SetsAnswer, Waits, TakesOut};
+ghost use Rattle.file_loglet.specs.Pending.{left_of, SetsAnswer, Waits, TakesOut, IsUnspoken};
 
 use delos_types::entry::Entry;
 use loglet_api::call::{Answer, Op, Task};
@@ -18,6 +18,7 @@ pub struct Pending {
     pub firm: u64,
     pub shut: bool,
     pub faults: u64,
+    pub down: u32,
     pub answer: Option<Answer>,
 }
 
@@ -39,6 +40,7 @@ pub fn add(
 ) -> Result<(), AllocError>
     ensures entries { OnOk result (entries.new.items ≡ entries.old.items ++ entries_of op) }
     ensures pending { OnOk result (Updates nat_eq pending.old pending.new number (Some p)) }
+    ensures more { OnOk result (hash_map_len pending.new ≤ hash_map_len pending.old + 1) }
     ensures err { OnErr result ((entries.new.items ≡ entries.old.items) × IsUnchanged pending.old pending.new) }
 {
     match op {
@@ -91,6 +93,16 @@ impl Pending {
             (1, 0)
         } else {
             (0, 0)
+        }
+    }
+
+    /// Whether it is a Read of a position of which no answer had spoken as it began.
+    pub fn is_unspoken(&self) -> bool
+        ensures { IsTrue result ↔ IsUnspoken self.now.task self.now.firm }
+    {
+        match self.task {
+            Task::Reading(position) => self.firm <= position,
+            _ => false,
         }
     }
 }

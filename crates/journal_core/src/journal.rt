@@ -53,11 +53,11 @@ impl<D: Disk> Journal<D> {
         ensures opened { IfOk result (λ j. (j.torn ≡ None) × (j.shut ≡ false)) }
         ensures survives { IfOk result Survives }
         ensures any_crash { IfOk result (λ j. AnyCrashLeaves (D.view disk) j.disk (λ found. found ≡ records_of (reads (D.view disk)))) }
-        ensures faults { IfOk result (λ j. (D.view disk).faults ≤ j.disk.faults) }
+        ensures no_fault { IfOk result (λ j. j.disk.faults ≡ (D.view disk).faults) }
         ensures armed { IfOk result (λ j. j.disk.armed ≤ (D.view disk).armed) }
 
         // A disk that is handed back has the same records, and failed where that is said.
-        ensures memory { IfErr result (λ e. e.fault ≡ Fault.Memory → (D.view e.disk).timeline ≡ (D.view disk).timeline) }
+        ensures memory { IfErr result (λ e. e.fault ≡ Fault.Memory → ((D.view e.disk).timeline ≡ (D.view disk).timeline) × ((D.view e.disk).faults ≡ (D.view disk).faults)) }
         ensures failed { IfErr result (λ e. e.fault ≡ Fault.Disk → Rose (D.view disk).faults (D.view e.disk).faults) }
         ensures any_crash_refused { IfErr result (λ e. AnyCrashLeaves (D.view disk) (D.view e.disk) (λ found. found ≡ records_of (reads (D.view disk)))) }
         ensures faults_refused { IfErr result (λ e. (D.view disk).faults ≤ (D.view e.disk).faults) }
@@ -88,13 +88,14 @@ impl<D: Disk> Journal<D> {
         ensures durable { OnOk result (LeavesRecords self.new.disk (λ found. found ≡ self.new.records)) }
         ensures shut { IsErrOf result AppendFault.Shut ↔ (self.old.shut ≡ true) }
         ensures shut_same { IsErrOf result AppendFault.Shut → self.new ≡ self.old }
-        ensures memory { IsErrOf result AppendFault.Memory → self.new ≡ record self.old { disk = self.new.disk } }
+        ensures memory { IsErrOf result AppendFault.Memory → (self.new ≡ record self.old { disk = self.new.disk }) × (self.new.disk.faults ≡ self.old.disk.faults) }
         ensures disk { IsErrOf result AppendFault.Disk → (self.new ≡ record self.old { torn = Some payload.now; shut = true; disk = self.new.disk }) × Rose self.old.disk.faults self.new.disk.faults }
 
         // A crash inside it leaves what one before it may leave, with the new record or without.
         ensures any_crash { AnyCrashLeaves self.old.disk self.new.disk (λ found. MayFind self.old found ⊎ (found ≡ self.old.records ++ payload.now ∷ [])) }
         ensures survives { Survives self.new }
         ensures faults { self.old.disk.faults ≤ self.new.disk.faults }
+        ensures no_fault { OnOk result (self.new.disk.faults ≡ self.old.disk.faults) }
         ensures armed { self.new.disk.armed ≤ self.old.disk.armed }
     {
         if self.shut {
@@ -126,13 +127,14 @@ impl<D: Disk> Journal<D> {
         ensures ok { OnOk result ((self.new ≡ record { records = self.new.records; torn = None; shut = false; disk = self.new.disk }) × MayFind self.old self.new.records) }
         ensures durable { OnOk result (LeavesRecords self.new.disk (λ found. found ≡ self.new.records)) }
         ensures same { self.old.shut ≡ false → OnOk result (self.new.records ≡ self.old.records) }
-        ensures memory { IsErrOf result Fault.Memory → self.new ≡ record self.old { disk = self.new.disk } }
+        ensures memory { IsErrOf result Fault.Memory → (self.new ≡ record self.old { disk = self.new.disk }) × (self.new.disk.faults ≡ self.old.disk.faults) }
         ensures disk { IsErrOf result Fault.Disk → (self.new ≡ record self.old { shut = true; disk = self.new.disk }) × Rose self.old.disk.faults self.new.disk.faults }
 
         // A crash inside it leaves what one before it may leave.
         ensures any_crash { AnyCrashLeaves self.old.disk self.new.disk (MayFind self.old) }
         ensures survives { Survives self.new }
         ensures faults { self.old.disk.faults ≤ self.new.disk.faults }
+        ensures no_fault { OnOk result (self.new.disk.faults ≡ self.old.disk.faults) }
         ensures armed { self.new.disk.armed ≤ self.old.disk.armed }
     {
         if self.disk.reopen(word).is_err() {

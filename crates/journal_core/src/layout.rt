@@ -49,6 +49,8 @@ pub(crate) fn add<D: Disk>(
     ensures memory_synced { IsErrOf result Fault.Memory → IsSynced (D.view disk.new) }
     ensures failed { IsErrOf result Fault.Disk → Rose (D.view disk.old).faults (D.view disk.new).faults }
     ensures faults { (D.view disk.old).faults ≤ (D.view disk.new).faults }
+    ensures no_fault { OnOk result ((D.view disk.new).faults ≡ (D.view disk.old).faults) }
+    ensures no_fault_memory { IsErrOf result Fault.Memory → (D.view disk.new).faults ≡ (D.view disk.old).faults }
     ensures armed { (D.view disk.new).armed ≤ (D.view disk.old).armed }
 {
     let behind = frame(alloc, payload)?;

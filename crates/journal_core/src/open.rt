@@ -22,6 +22,8 @@ pub(crate) fn scan<D: Disk>(alloc: Global, disk: &mut D) -> Result<(Vec<Vec<u8>>
     ensures memory { IsErrOf result Fault.Memory → (D.view disk.new).timeline ≡ (D.view disk.old).timeline }
     ensures failed { IsErrOf result Fault.Disk → Rose (D.view disk.old).faults (D.view disk.new).faults }
     ensures faults { (D.view disk.old).faults ≤ (D.view disk.new).faults }
+    ensures no_fault { OnOk result ((D.view disk.new).faults ≡ (D.view disk.old).faults) }
+    ensures no_fault_memory { IsErrOf result Fault.Memory → (D.view disk.new).faults ≡ (D.view disk.old).faults }
     ensures armed { (D.view disk.new).armed ≤ (D.view disk.old).armed }
 {
     let (found, end) = read_records(alloc, disk)?;
@@ -40,6 +42,8 @@ fn read_records<D: Disk>(alloc: Global, disk: &mut D) -> Result<(Vec<Vec<u8>>, u
     ensures same { (D.view disk.new).timeline ≡ (D.view disk.old).timeline }
     ensures failed { IsErrOf result Fault.Disk → Rose (D.view disk.old).faults (D.view disk.new).faults }
     ensures faults { (D.view disk.old).faults ≤ (D.view disk.new).faults }
+    ensures no_fault { OnOk result ((D.view disk.new).faults ≡ (D.view disk.old).faults) }
+    ensures no_fault_memory { IsErrOf result Fault.Memory → (D.view disk.new).faults ≡ (D.view disk.old).faults }
     ensures armed { (D.view disk.new).armed ≤ (D.view disk.old).armed }
 {
     let mut found = Vec::new(alloc);
@@ -60,6 +64,8 @@ fn read_record<D: Disk>(alloc: Global, disk: &mut D, at: u64) -> Result<Option<V
     ensures same { (D.view disk.new).timeline ≡ (D.view disk.old).timeline }
     ensures failed { IsErrOf result Fault.Disk → Rose (D.view disk.old).faults (D.view disk.new).faults }
     ensures faults { (D.view disk.old).faults ≤ (D.view disk.new).faults }
+    ensures no_fault { OnOk result ((D.view disk.new).faults ≡ (D.view disk.old).faults) }
+    ensures no_fault_memory { IsErrOf result Fault.Memory → (D.view disk.new).faults ≡ (D.view disk.old).faults }
     ensures armed { (D.view disk.new).armed ≤ (D.view disk.old).armed }
 {
     let left = disk.len() - at;
@@ -92,6 +98,7 @@ fn gate_is_open<D: Disk>(disk: &mut D, end: u64) -> Result<bool, Fault>
     ensures failed { IsErrOf result Fault.Disk → Rose (D.view disk.old).faults (D.view disk.new).faults }
     ensures memory { IsErrOf result Fault.Memory → ⊥ }
     ensures faults { (D.view disk.old).faults ≤ (D.view disk.new).faults }
+    ensures no_fault { OnOk result ((D.view disk.new).faults ≡ (D.view disk.old).faults) }
     ensures armed { (D.view disk.new).armed ≤ (D.view disk.old).armed }
 {
     if end == disk.len() {
@@ -116,6 +123,7 @@ fn close_gate<D: Disk>(disk: &mut D, end: u64) -> Result<(), Fault>
     ensures memory { IsErrOf result Fault.Memory → D.view disk.new ≡ D.view disk.old }
     ensures failed { IsErrOf result Fault.Disk → Rose (D.view disk.old).faults (D.view disk.new).faults }
     ensures faults { (D.view disk.old).faults ≤ (D.view disk.new).faults }
+    ensures no_fault { OnOk result ((D.view disk.new).faults ≡ (D.view disk.old).faults) }
     ensures armed { (D.view disk.new).armed ≤ (D.view disk.old).armed }
 {
     write_synced(disk, end, &[CLOSED])?;

@@ -8,10 +8,12 @@ use delos_types::bytes::Bytes;
 use delos_types::entry::Entry;
 use delos_types::item::Headers;
 use delos_types::numbers::{NodeId, Ticket};
+use disk_model::MemDisk;
 use file_loglet::file::FileLoglet;
 use loglet_api::call::{Answer, LogletAnswer, LogletCall, Op, Refused};
 use loglet_api::loglet::Loglet;
 use std::alloc::{AllocError, Global};
+use std::process::Abort;
 use std::test::Fail;
 
 /// A call, where an entry is known by one byte and a ticket by its number.
@@ -75,6 +77,7 @@ fn text(alloc: Global, answer: &LogletAnswer) -> Result<String, AllocError> {
         LogletAnswer::Taken(None) => format!(in alloc; "undecided"),
         LogletAnswer::Taken(Some(Answer::Placed(p))) => format!(in alloc; "placed {p}"),
         LogletAnswer::Taken(Some(Answer::Settled)) => format!(in alloc; "settled"),
+        LogletAnswer::Taken(Some(Answer::NoQuorum { unreached })) => format!(in alloc; "no quorum {unreached}"),
         LogletAnswer::Taken(Some(Answer::Got(e))) => format!(in alloc; "got {:?}", e.payload),
         LogletAnswer::Taken(Some(_)) => format!(in alloc; "another answer"),
         LogletAnswer::Forgotten => format!(in alloc; "forgotten"),
@@ -107,18 +110,59 @@ fn a_file_loglet_with_room_for_one(rt: HostRuntime) -> Result<(), Fail> {
         (Asked::Forget(3), "forgotten"),
         (Asked::Forget(3), "skipped"),
         (Asked::Take(2), "got [7]"),
-        (Asked::Stop(0), "stopped"),
-        (Asked::Stop(1), "skipped"),
         (Asked::Restart(0), "restarted true"),
+        (Asked::Stop(1), "skipped"),
         (Asked::Restart(1), "skipped"),
     ];
-    let mut loglet = FileLoglet::new(rt.alloc(), 1)?;
-    let calls = calls(rt.alloc(), &rows)?;
-    let answers = run_ops(rt.alloc(), &mut loglet, calls.as_slice())?;
+    runs(&rt, rt.alloc(), 1, &rows, 1)
+}
+
+#[test]
+fn a_file_loglet_that_stops(rt: HostRuntime) -> Result<(), Fail> {
+    let rows = [
+        (Asked::Append(7), "begun 0"),
+        (Asked::Append(8), "begun 1"),
+        (Asked::Settle(9), "begun 2"),
+        (Asked::Read(0), "begun 3"),
+        (Asked::Stop(0), "stopped"),
+        (Asked::Carry(1), "carried"),
+        (Asked::Carry(0), "carried"),
+        (Asked::Carry(3), "carried"),
+        (Asked::Left(2), "left 1 0"),
+        (Asked::Restart(0), "restarted true"),
+        (Asked::Carry(2), "carried"),
+        (Asked::Take(0), "no quorum 1"),
+        (Asked::Take(1), "no quorum 1"),
+        (Asked::Take(2), "settled"),
+        (Asked::Take(3), "another answer"),
+        (Asked::Read(1), "begun 4"),
+        (Asked::Carry(4), "carried"),
+        (Asked::Take(4), "got [8]"),
+    ];
+    runs(&rt, rt.alloc(), 9, &rows, 1)
+}
+
+/// Makes the calls on a file loglet of this room, and looks for the answers, and for so many
+/// faults.
+fn runs(
+    rt: &impl Abort,
+    alloc: Global,
+    room: u64,
+    rows: &[(Asked, &str)],
+    faults: u64,
+) -> Result<(), Fail>
+    requires { (1 ≤ room) × (room ≤ 2 ^ 32) }
+{
+    let mut loglet = match FileLoglet::new(alloc, MemDisk::new(alloc), room) {
+        Ok(loglet) => loglet,
+        Err(refused) => return Err(Fail::from(refused.fault)),
+    };
+    let calls = calls(alloc, rows)?;
+    let answers = run_ops(alloc, &mut loglet, calls.as_slice())?;
     for ((_, wanted), answer) in rows.iter().zip(answers.iter()) {
-        assert_eq!(rt; text(rt.alloc(), answer)?.as_str(), *wanted);
+        assert_eq!(rt; text(alloc, answer)?.as_str(), *wanted);
     }
-    assert_eq!(rt; (answers.len(), loglet.faults()), (rows.len(), 1));
+    assert_eq!(rt; (answers.len(), loglet.faults()), (rows.len(), faults));
     Ok(())
 }
 

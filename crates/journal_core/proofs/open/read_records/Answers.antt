@@ -25,5 +25,5 @@ loop-found-preserved g c =
       inside = omega (arith, there, long, ap length here);
       fits = omega (arith, rw c.in-Some.is at c.in_ok-payload.ensures.fits, long);
       armed = omega arith;
-      faults = omega arith;
+      faults = c.in_ok-payload.ensures.no_fault ∙ c.loop-found.invariant.faults;
     }

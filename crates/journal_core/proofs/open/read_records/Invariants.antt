@@ -11,7 +11,7 @@ invariant-loop-found g l = record {
   inside : l.end ≤ length (content (g.D.Disk.view l.fn.disk).timeline.now);
   fits : l.end + 1 < 2 ^ 64;
   armed : (g.D.Disk.view l.disk).armed ≤ (g.D.Disk.view l.fn.disk).armed;
-  faults : (g.D.Disk.view l.fn.disk).faults ≤ (g.D.Disk.view l.disk).faults;
+  faults : (g.D.Disk.view l.disk).faults ≡ (g.D.Disk.view l.fn.disk).faults;
 }
 
 abbrev pub decreases-loop-found : goal.decreases-loop-found

@@ -1,35 +1,40 @@
-use Rattle.std.proofs.Common.{◌≡◌, ◌^◌, ◌⊎◌, length, refl, inl, inr, arith}
-use Rattle.loglet_api.specs.Step.{Begins, IsAppend}
-use Rattle.file_loglet.specs.File.{IsFile, file_view}
-use Rattle.file_loglet.proofs.Steps.{step_from, step_alike, file_same, same_lists, refuses, with_faults, with_lists, file_faults, begin_all, with_begun}
+use Rattle.std.proofs.Common.{◌≡◌, ◌^◌, ◌⊎◌, length, refl, inl, inr, ap, sym, ◌∙◌, arith}
+use Rattle.file_loglet.specs.File.{FileView}
+use Rattle.file_loglet.proofs.Wholes.{step_whole, alike_whole}
+use Rattle.file_loglet.proofs.Calls.{whole_refused, whole_begun, whole_unchanged, unchanged_shown}
 use Rattle.file_loglet.proofs.file.FileLogletLoglet.begin.Goals as goal
 
-full : (c : goal.Joined-op) → (IsAppend c.args.op × (length c.self.inside.entries.items ≡ c.self.inside.room)) ⊎ (c.self.inside.begun ≡ 2 ^ 62)
-full c = elim (c.if-is_full.ensures.0 refl) [ inl x ↦ inl (x.0, omega arith) | inr y ↦ inr y ]
+pub invariant_of-self : goal.invariant_of-self
+invariant_of-self g c =
+    (whole_refused _ _ _ _ c.refused-self-inside.result _ c.args.op c.self.invariant
+      (elim (c.if-is_full.ensures.0 refl) [ inl x ↦ inl (x.0, omega arith) | inr y ↦ inr y ]) c.refused-self-inside.ensures).0
 
 pub returns-then-is_full : goal.returns-then-is_full
-returns-then-is_full c =
-    step_from c.self.inside (with_faults c.self.inside c.saturating_add-self-inside.result) _ _ _ c.self.view_is c.self.invariant
-    (file_faults c.self.inside c.saturating_add-self-inside.result c.self.invariant c.saturating_add-self-inside.ensures c.saturating_add-self-inside.type_inv) c.requires
-    (refuses c.self.inside c.args.op c.saturating_add-self-inside.result c.self.invariant (full c) c.saturating_add-self-inside.ensures)
+returns-then-is_full g c =
+    step_whole _ _ _ _ _ _ _ _ _ _ _ _ c.self.view_is c.self.invariant (invariant_of-self g c) c.requires
+    (whole_refused _ _ _ _ c.refused-self-inside.result _ c.args.op c.self.invariant
+      (elim (c.if-is_full.ensures.0 refl) [ inl x ↦ inl (x.0, omega arith) | inr y ↦ inr y ]) c.refused-self-inside.ensures).1
 
 pub invariant_of-self-in_default : goal.invariant_of-self-in_default
-invariant_of-self-in_default c =
-    file_same c.self.inside c.add.new.entries c.add.new.pending c.self.invariant c.in_default.ensures.err.0 c.in_default.ensures.err.1
+invariant_of-self-in_default g c =
+    whole_unchanged _ _ _ _ _ c.add.new.entries.items c.add.new.pending c.self.invariant c.in_default.ensures.err.0 c.in_default.ensures.err.1
 
 pub returns-in_default : goal.returns-in_default
-returns-in_default c =
-    step_alike c.self.inside (with_lists c.self.inside c.add.new.entries c.add.new.pending) _ _ _ c.self.view_is
-    (same_lists c.self.inside c.add.new.entries c.add.new.pending c.in_default.ensures.err.0 c.in_default.ensures.err.1) c.self.invariant c.requires refl
-
-all : (c : goal.After-new) → IsFile (with_begun c.self.inside c.cut-cut.result c.add.new.entries c.seals.result c.add.new.pending)
-    × Begins (file_view c.self.inside) c.args.op c.self.inside.begun (file_view (with_begun c.self.inside c.cut-cut.result c.add.new.entries c.seals.result c.add.new.pending))
-all c =
-    begin_all c.self.inside c.args.op c.add.new.entries c.add.new.pending c.task.result c.len-size.result c.cut-cut.result c.seals.result
-    c.self.invariant c.requires (λ p. (let t = c.if-is_full.ensures.1 p in cc)) (omega arith) c.task.ensures c.cut-cut.ensures c.seals.ensures c.in-Ok.ensures.entries c.in-Ok.ensures.pending
+returns-in_default g c =
+    let i = c.self.inside in
+    alike_whole i.room i.entries.items i.server i.marks i.pending c.add.new.entries.items i.server i.marks c.add.new.pending _ _ _ c.self.view_is c.self.invariant
+    (unchanged_shown i.room i.entries.items i.server i.marks i.pending c.add.new.entries.items c.add.new.pending c.in_default.ensures.err.0 c.in_default.ensures.err.1) c.requires refl
 
 pub invariant_of-self-2 : goal.invariant_of-self-2
-invariant_of-self-2 c = (all c).0
+invariant_of-self-2 g c =
+    let i = c.self.inside in
+    (whole_begun i.room i.entries.items i.server i.marks c.begun-marks.result i.pending c.args.op c.add.new.entries.items c.add.new.pending c.task.result c.len-size.result c.is_sealed.result c.faults.result c.down.result c.self.invariant c.requires
+      (λ p. (let t = c.if-is_full.ensures.1 p in cc)) (omega arith) c.task.ensures c.is_sealed.ensures (c.faults.ensures ∙ sym (ap (λ (w : FileView). w.loglet.faults) c.self.view_is)) (c.down.ensures ∙ sym (ap (λ (w : FileView). w.loglet.down) c.self.view_is)) c.begun-marks.ensures c.in-Ok.ensures.entries c.in-Ok.ensures.pending c.in-Ok.ensures.more).0
 
 pub returns : goal.returns
-returns c = step_from c.self.inside _ _ _ _ c.self.view_is c.self.invariant (invariant_of-self-2 c) c.requires ((rw c.new.ensures (all c).1))
+returns g c =
+    let i = c.self.inside in
+    step_whole _ _ _ _ _ _ _ _ _ _ _ _ c.self.view_is c.self.invariant (invariant_of-self-2 g c) c.requires
+    (rw c.new.ensures
+      (whole_begun i.room i.entries.items i.server i.marks c.begun-marks.result i.pending c.args.op c.add.new.entries.items c.add.new.pending c.task.result c.len-size.result c.is_sealed.result c.faults.result c.down.result c.self.invariant c.requires
+        (λ p. (let t = c.if-is_full.ensures.1 p in cc)) (omega arith) c.task.ensures c.is_sealed.ensures (c.faults.ensures ∙ sym (ap (λ (w : FileView). w.loglet.faults) c.self.view_is)) (c.down.ensures ∙ sym (ap (λ (w : FileView). w.loglet.down) c.self.view_is)) c.begun-marks.ensures c.in-Ok.ensures.entries c.in-Ok.ensures.pending c.in-Ok.ensures.more).1)

@@ -1,5 +1,6 @@
-use Rattle.file_loglet.proofs.Sound.{file_sound}
+use Rattle.file_loglet.proofs.Wholes.{sound}
+use Rattle.file_loglet.proofs.Steps.{step_from}
 use Rattle.file_loglet.proofs.file.FileLogletLoglet.servers.Goals as goal
 
 pub returns-clause-sound : goal.returns-clause-sound
-returns-clause-sound c = let s = file_sound c.self.inside c.self.invariant in rw (← c.self.view_is) s
+returns-clause-sound g c = sound _ _ _ _ _ _ c.self.view_is c.self.invariant

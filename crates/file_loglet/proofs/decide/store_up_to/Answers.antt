@@ -1,0 +1,31 @@
+use Rattle.std.proofs.Common.{◌≡◌, ◌<◌, length, Some, ap, sym, ◌∙◌, arith}
+use Rattle.std.specs.Prelude.{slice_get}
+use Rattle.majority_rule.specs.Servers.{Server, length_of, is_sealed}
+use Rattle.file_loglet.proofs.Laters.{got_at, later_then, store_later}
+use Rattle.file_loglet.proofs.decide.store_up_to.Goals as goal
+
+pub store-requires-clause-entry : goal.store-requires-clause-entry
+store-requires-clause-entry g c =
+    let lt : c.length-next.result < length c.args.entries.now = omega (arith, c.requires.within, c.length.ensures.length, c.length-next.ensures.length) in
+    c.requires.spelled c.length-next.result c.index-entries-next.result (got_at c.args.entries.now c.length-next.result c.index-entries-next.result lt c.index-entries-next.is)
+
+pub loop-server-preserved : goal.loop-server-preserved
+loop-server-preserved g c =
+    let lt : c.length-next.result < length c.args.entries.now = omega (arith, c.requires.within, c.length.ensures.length, c.length-next.ensures.length) in
+    let here : slice_get c.args.entries.now (length_of c.loop-server.server.server) ≡ Some c.index-entries-next.result =
+    ap (λ i. slice_get c.args.entries.now i) (sym c.length-next.ensures.length) ∙ got_at c.args.entries.now c.length-next.result c.index-entries-next.result lt c.index-entries-next.is in
+    record {
+      later = λ cut sealing. later_then c.args.entries.now cut sealing c.args.server.now.server c.loop-server.server.server c.store.new.self.server (c.loop-server.invariant.later cut sealing)
+          (store_later c.args.entries.now cut sealing c.loop-server.server c.store.new.self c.index-entries-next.result c.store.result c.loop-server.invariant.unsealed here c.store.ensures);
+      up = ap (λ (s : Server). s.up) c.in_ok-store.ensures.0 ∙ c.loop-server.invariant.up;
+      unsealed = ap (λ (s : Server). is_sealed s) c.in_ok-store.ensures.0 ∙ c.loop-server.invariant.unsealed;
+      faults = c.in_ok-store.ensures.1 ∙ c.loop-server.invariant.faults;
+    }
+
+pub returns-in_err-store-clause-later : goal.returns-in_err-store-clause-later
+returns-in_err-store-clause-later g c cut sealing =
+    let lt : c.length-next.result < length c.args.entries.now = omega (arith, c.requires.within, c.length.ensures.length, c.length-next.ensures.length) in
+    let here : slice_get c.args.entries.now (length_of c.loop-server.server.server) ≡ Some c.index-entries-next.result =
+    ap (λ i. slice_get c.args.entries.now i) (sym c.length-next.ensures.length) ∙ got_at c.args.entries.now c.length-next.result c.index-entries-next.result lt c.index-entries-next.is in
+    later_then c.args.entries.now cut sealing c.args.server.now.server c.loop-server.server.server c.store.new.self.server (c.loop-server.invariant.later cut sealing)
+    (store_later c.args.entries.now cut sealing c.loop-server.server c.store.new.self c.index-entries-next.result c.store.result c.loop-server.invariant.unsealed here c.store.ensures)

@@ -1,0 +1,72 @@
+-- The server of a file loglet: what the records of its journal spell, and its disk.
+use Rattle.std.specs.Prelude.{◌≡◌, ℕ, ◌^◌, ◌≤◌, ◌<◌, Bool, true, false, not, Option, Some, None, option_map, unwrap_or, List, Result, Ok, Err}
+use Rattle.disk_model.specs.Disk.{DiskView, Rose}
+use Rattle.journal_core.specs.Journal.{View, Survives}
+use Rattle.journal_core.specs.declared.fault.Fault.{Fault}
+use Rattle.journal_core.specs.declared.fault.Fault.TheVariants.{Disk, Memory}
+use Rattle.majority_rule.specs.declared.message.Ask.{Ask}
+use Rattle.majority_rule.specs.declared.message.Ask.TheVariants.{Store, Seal, Tail, Trim}
+use Rattle.majority_rule.specs.Servers.{Server, length_of, writes, wrote}
+use Rattle.server_records.specs.declared.record.Record.{Record}
+use Rattle.server_records.specs.declared.record.Record.TheVariants.{Stored, Sealed, Trimmed}
+use Rattle.server_records.specs.Reading.{record_of}
+use Rattle.server_records.specs.Spelled.{empty_server, server_of}
+use Rattle.file_loglet.specs.declared.extent.Change.{Change}
+use Rattle.file_loglet.specs.declared.extent.Change.TheVariants.{Storing, Sealing, Trimming}
+use Rattle.file_loglet.specs.declared.extent.Extent.{Extent}
+use Rattle.file_loglet.specs.Extents.{extent_of}
+
+-- A server that is up holds what its records spell. One that is down stopped inside a write, which a restart finds done
+-- or not.
+pub record Held : Type 0 where
+  pub server : Server
+  pub disk : DiskView
+
+-- the request for which a record is written
+abbrev pub ask_by : Option Record → Ask
+ask_by None = Tail
+ask_by (Some (Stored p e)) = Store p e
+ask_by (Some Sealed) = Seal
+ask_by (Some (Trimmed n)) = Trim n
+
+abbrev pub ask_of : List ℕ → Ask
+ask_of bytes = ask_by (record_of bytes)
+
+-- the server that the records spell
+abbrev pub spelled : List (List ℕ) → Server
+spelled records = unwrap_or (server_of records) empty_server
+
+abbrev pub held_by : View → Held
+held_by j = record { server = record (spelled j.records) { up = not j.shut; torn = option_map ask_of j.torn }; disk = j.disk }
+
+-- the request changes the server in this way
+abbrev pub Changes : Server → Ask → Change → Type 0
+Changes s (Store p e) Storing = length_of s < 2 ^ 32
+Changes s Seal Sealing = Unit {0}
+Changes s (Trim n) (Trimming m) = (n ≡ m) × (n ≤ length_of s)
+Changes s ask change = ⊥
+
+-- the record in whose write the disk failed, and the change that it is
+abbrev pub Tears : Server → Option (List ℕ) → Option Change → Type 0
+Tears s None None = Unit {0}
+Tears s (Some bytes) (Some change) = (writes s (ask_of bytes) ≡ true) × Changes s (ask_of bytes) change
+Tears s _ _ = ⊥
+
+-- what is kept in memory beside the journal
+pub record IsHeldBy (j : View) (extent : Extent) (torn : Option Change) : Type 0 where
+  pub is : server_of j.records ≡ Some (spelled j.records)
+  pub alone : ((spelled j.records).up ≡ true) × ((spelled j.records).torn ≡ None)
+  pub extent_is : extent ≡ extent_of (spelled j.records)
+  pub small : extent.length ≤ 2 ^ 32
+  pub tears : Tears (spelled j.records) j.torn torn
+  pub survives : Survives j
+
+-- a count of faults rose, or stands at its end
+abbrev pub Rises : ℕ → ℕ → Type 0
+Rises before now = (before ≤ now) × Rose before now
+
+-- A server that is up writes for this request. Where its disk fails it is down.
+abbrev pub Writes : {U : Type 0} → Held → Ask → Result U Fault → Held → Type 0
+Writes old ask (Ok u) new = (new.server ≡ wrote old.server ask) × (new.disk.faults ≡ old.disk.faults)
+Writes old ask (Err Disk) new = (new.server ≡ record old.server { up = false; torn = Some ask }) × Rises old.disk.faults new.disk.faults
+Writes old ask (Err Memory) new = (new.server ≡ old.server) × (new.disk.faults ≡ old.disk.faults)
