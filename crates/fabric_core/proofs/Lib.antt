@@ -1,1 +1,5 @@
 pub mod OneLoglet
+pub mod Carried
+pub mod AsTold
+pub mod Marks
+pub mod Kept
