@@ -1,12 +1,14 @@
 -- What a fabric shows, and what holds of it.
-use Rattle.std.specs.Prelude.{◌≡◌, ◌≢◌, ◌⊎◌, ℕ, ◌+◌, ◌≤◌, Bool, true, List, [], ◌∷◌, ◌++◌, length, map, slice_get, Option, Some, None}
+use Rattle.std.specs.Prelude.{◌≡◌, ◌≢◌, ◌⊎◌, ℕ, ◌+◌, ◌≤◌, Bool, true, false, List, [], ◌∷◌, ◌++◌, length, map, slice_get, Option, Some, None}
 use Rattle.delos_types.specs.declared.entry.Entry.{Entry}
 use Rattle.loglet_api.specs.View.{LogletView, Operation, operation_at}
 use Rattle.loglet_api.specs.Sound.{IsSound}
 use Rattle.loglet_api.specs.Step.{task_of}
 use Rattle.loglet_api.specs.Keeps.{work_of}
 use Rattle.legal_journal.specs.declared.events.FabricCall.{FabricCall}
+use Rattle.legal_journal.specs.declared.events.FabricCall.TheVariants.{ReadChain}
 use Rattle.legal_journal.specs.declared.events.FabricAnswer.{FabricAnswer}
+use Rattle.legal_journal.specs.declared.events.FabricAnswer.TheVariants.{At, Down, Memory}
 use Rattle.legal_journal.specs.declared.events.Event.{Event}
 use Rattle.legal_journal.specs.Told.{Told, Running}
 use Rattle.legal_journal.specs.Journal.{CellState, RegisterState, State, state_of, IsLegal, IsCurrent, patience}
@@ -78,3 +80,19 @@ pub record Adds (old : List Event) (who : ℕ) (call : FabricCall) (answer : Fab
   pub own : List Event
   pub event : OwnEvents who call answer own
   pub added : new ≡ old ++ own
+
+-- A call adds its event, and the journal stays legal; with Memory nothing changes, but as a Carry's event tells.
+pub record Keeps (may : ℕ → Entry → Type 0) (floor : List Entry → ℕ) (shelf : List ℕ) (old : FabricView) (who : ℕ) (call : FabricCall) (answer : FabricAnswer) (new : FabricView) : Type 0 where
+  pub adds : Adds old.journal who call answer new.journal
+  pub legal : IsLegal may floor shelf new.journal
+  pub same : new.journal ≡ old.journal → new ≡ old
+
+-- a read of the register, recorded; with Memory nothing changes
+abbrev pub ReadsAs : RegisterView → List Event → ℕ → FabricAnswer → RegisterView → List Event → Type 0
+ReadsAs old journal who (At v c) new now =
+    (old.down ≡ false) × (v ≡ old.version) × (c ≡ old.chain) × (new ≡ old)
+    × (now ≡ journal ++ record { who = who; call = ReadChain; answer = At v c } ∷ [])
+ReadsAs old journal who Down new now =
+    (old.down ≡ true) × (new ≡ record old { faults = new.faults }) × (now ≡ journal ++ record { who = who; call = ReadChain; answer = Down } ∷ [])
+ReadsAs old journal who Memory new now = (new ≡ old) × (now ≡ journal)
+ReadsAs old journal who a new now = ⊥

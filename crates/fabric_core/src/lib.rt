@@ -12,7 +12,7 @@
 #![tactic(auto)]
 
 pub mod cell;
-// pub mod fabric;
+pub mod fabric;
 pub mod laws;
-// pub mod own;
+pub mod own;
 pub mod register;
