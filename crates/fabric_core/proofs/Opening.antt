@@ -1,0 +1,49 @@
+-- A fabric of fresh parts.
+use Rattle.std.proofs.Common.{◌≡◌, ◌≢◌, ◌⊎◌, inl, inr, ℕ, zero, suc, ◌+◌, ◌<◌, ◌≤◌, List, [], ◌∷◌, length, map, Option, Some, None, Bool, true, false, refl, sym, ap, ◌∙◌, subst, arith}
+use Rattle.std.specs.Prelude.{slice_get, All}
+use Rattle.std.proofs.lemmas.List.{length-map}
+use Rattle.std.proofs.lemmas.List.Elements.{All-head, All-tail}
+use Rattle.std.proofs.lemmas.Option.{slice_get_within}
+use Rattle.delos_types.specs.declared.entry.Entry.{Entry}
+use Rattle.loglet_api.specs.View.{LogletView, Operation, operation_at, IsFresh}
+use Rattle.loglet_api.specs.Sound.{IsSound}
+use Rattle.legal_journal.specs.Journal.{start, fresh_cell, fresh_register}
+use Rattle.fabric_core.specs.Register.{RegisterView, IsFreshRegister}
+use Rattle.fabric_core.specs.Fabric.{FabricOk, CellOk, IsAsTold, AreMarked, MatchesOperation}
+
+at_all : {A : Type 0} (P : LogletView → Type 0) (view : A → LogletView) (xs : List A) (i : ℕ) (v : LogletView) → All (λ x. P (view x)) xs → slice_get (map view xs) i ≡ Some v → P v
+at_all P view [] i v h e = absurd (cc)
+at_all P view (x ∷ xs) zero v h e = let same : view x ≡ v = cc in subst P same (All-head (λ y. P (view y)) x xs h)
+at_all P view (x ∷ xs) (suc i) v h e = at_all P view xs i v (All-tail (λ y. P (view y)) x xs h) e
+
+all_none : {B : Type 0} (items : B → List Bool) (ms : List B) (i : ℕ) → i < length ms → All (λ m. items m ≡ []) ms → slice_get (map items ms) i ≡ Some []
+all_none items [] i l h = absurd (omega arith)
+all_none items (m ∷ ms) zero l h = ap (λ x. Some x) (All-head (λ y. items y ≡ []) m ms h)
+all_none items (m ∷ ms) (suc i) l h = all_none items ms i (omega arith) (All-tail (λ y. items y ≡ []) m ms h)
+
+fresh_as_told : (v : LogletView) → IsFresh v → IsSound v → IsAsTold fresh_cell v
+fresh_as_told v f sound = record {
+  cut = f.cut; log = f.log; reach = f.reach; cap = f.cap; firm = f.firm; begun = f.begun; seals = f.seals; lacks = f.lacks; sealed = λ e. absurd (cc);
+  operations = λ t. subst (λ ops. MatchesOperation None (operation_at ops t)) (sym f.operations) tt;
+  left = λ t o e. let no : None ≡ Some o = ap (λ ops. operation_at ops t) (sym f.operations) ∙ e in absurd (cc);
+  sound = sound;
+}
+
+no_mark : (t : ℕ) → slice_get {X = Bool} [] t ≢ Some true
+no_mark t e = absurd (cc)
+
+pub opened : (may : ℕ → Entry → Type 0) (floor : List Entry → ℕ) (shelf : List ℕ) {A B : Type 0} (view : A → LogletView) (items : B → List Bool) (cells : List A) (marks : List B) (register : RegisterView) → 0 < length cells → length cells ≤ 64 → map (λ v. v.servers) (map view cells) ≡ shelf → All (λ l. IsFresh (view l)) cells → All (λ l. IsSound (view l)) cells → IsFreshRegister register → length marks ≡ length cells → All (λ m. items m ≡ []) marks → FabricOk may floor shelf (record { cells = map view cells; register = register; journal = [] }) (map items marks)
+opened may floor shelf view items cells marks register least most shelf_is fresh sound r count none =
+    let size : length shelf ≡ length cells = sym (ap length shelf_is) ∙ (length-map (map view cells) (λ (v : LogletView). v.servers) ∙ length-map cells view) in record {
+      legal = record { least = omega arith; most = omega arith; steps = tt };
+      shelf_is = shelf_is;
+      cells = λ i v e.
+          let f = at_all IsFresh view cells i v fresh e in record {
+            told = fresh_as_told v f (at_all IsSound view cells i v sound e);
+            here = [];
+            is = all_none items marks i (omega (arith, slice_get_within (map view cells) i v e, length-map cells view)) none;
+            marked = record { count = refl; each = no_mark };
+            ran = record { opening = v; fresh = f; servers = refl; run = refl };
+          };
+      register = record { down = r.down; current = inl (r.version, r.chain) };
+    }

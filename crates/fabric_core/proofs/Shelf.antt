@@ -1,0 +1,172 @@
+-- A shelf of values, one of which takes part in an event.
+use Rattle.std.proofs.Common.{◌≡◌, ◌⊎◌, inl, inr, ℕ, zero, suc, ◌+◌, ◌<◌, List, [], ◌∷◌, ◌++◌, length, map, set, Option, Some, None, Bool, true, IsSome, refl, sym, ap, ◌∙◌, subst, ⊎_elim, arith}
+use Rattle.std.specs.Prelude.{slice_get, slice_set}
+use Rattle.std.proofs.lemmas.List.{length-append, length-map}
+use Rattle.std.proofs.lemmas.Option.{slice_get_within}
+use Rattle.delos_types.specs.declared.entry.Entry.{Entry}
+use Rattle.loglet_api.specs.View.{LogletView, Operation, operation_at, IsOpen}
+use Rattle.loglet_api.specs.declared.call.Op.{Op}
+use Rattle.legal_journal.specs.declared.events.Event.{Event}
+use Rattle.legal_journal.specs.declared.events.FabricCall.{FabricCall}
+use Rattle.legal_journal.specs.declared.events.FabricCall.TheVariants.{Begin, Carry, Forget, ReadChain, WriteChain, Stop, Mend, Stray, StopMeta, MendMeta}
+use Rattle.legal_journal.specs.declared.events.FabricAnswer.{FabricAnswer}
+use Rattle.legal_journal.specs.declared.events.FabricAnswer.TheVariants.{Begun, Full, Done, Going, NoTicket, Gone, Memory}
+use Rattle.legal_journal.specs.Told.{Running}
+use Rattle.legal_journal.specs.Journal.{state_of}
+use Rattle.legal_journal.specs.Turns.{MayCall, OwnEvents}
+use Rattle.fabric_core.specs.Register.{RegisterView}
+use Rattle.fabric_core.specs.Runs.{LogletSteps, StepsOf}
+use Rattle.fabric_core.specs.CellEvent.{CellView, Happens, Applies}
+use Rattle.fabric_core.specs.Fabric.{FabricView, FabricOk, IsMarked, MatchesOperation, Adds, Keeps}
+use Rattle.fabric_core.proofs.Kept.{IsAfter, begin_kept, carry_kept, forget_kept}
+
+pub map_get : {A C : Type 0} (g : A → C) (xs : List A) (i : ℕ) (x : A) → slice_get xs i ≡ Some x → slice_get (map g xs) i ≡ Some (g x)
+map_get g [] i x h = absurd (cc)
+map_get g (y ∷ ys) zero x h = let same : y ≡ x = cc in ap (λ z. Some (g z)) same
+map_get g (y ∷ ys) (suc i) x h = map_get g ys i x h
+
+pub map_set : {A C : Type 0} (g : A → C) (xs : List A) (i : ℕ) (x : A) → map g (set xs i x) ≡ set (map g xs) i (g x)
+map_set g [] i x = refl
+map_set g (y ∷ ys) zero x = refl
+map_set g (y ∷ ys) (suc i) x = ap (λ zs. g y ∷ zs) (map_set g ys i x)
+
+some_at : (xs : List LogletView) (i : ℕ) → i < length xs → (x : LogletView) × (slice_get xs i ≡ Some x)
+some_at [] i h = absurd (omega arith)
+some_at (x ∷ xs) zero h = (x, refl)
+some_at (x ∷ xs) (suc i) h = some_at xs i (omega arith)
+
+pub set_back : {A : Type 0} (xs : List A) (i : ℕ) (x : A) → slice_get xs i ≡ Some x → set xs i x ≡ xs
+set_back [] i x h = absurd (cc)
+set_back (y ∷ ys) zero x h = let same : x ≡ y = cc in ap (λ z. z ∷ ys) same
+set_back (y ∷ ys) (suc i) x h = ap (λ zs. y ∷ zs) (set_back ys i x h)
+
+nil : (xs : List Event) → xs ≡ xs ++ []
+nil [] = refl
+nil (x ∷ xs) = ap (λ l. x ∷ l) (nil xs)
+
+none_of : (who : ℕ) (call : FabricCall) → OwnEvents who call Memory []
+none_of who (Begin i op) = refl
+none_of who (Carry i t word) = inl refl
+none_of who (Forget i t) = refl
+none_of who ReadChain = refl
+none_of who (WriteChain x c) = refl
+none_of who (Stop i s n) = refl
+none_of who (Mend i s word) = refl
+none_of who (Stray i word) = refl
+none_of who (StopMeta n) = refl
+none_of who (MendMeta word) = refl
+
+-- a call that makes no event
+pub adds_none : (who : ℕ) (call : FabricCall) (j now : List Event) (answer : FabricAnswer) → answer ≡ Memory → now ≡ j → Adds j who call answer now
+adds_none who call j now answer e same = subst (λ (a : FabricAnswer). Adds j who call a now) (sym e) (record { own = []; event = none_of who call; added = same ∙ nil j })
+
+own_begin : (who i : ℕ) (op : Op) (a : FabricAnswer) (steps : LogletSteps) → StepsOf (Begin i op) a steps → OwnEvents who (Begin i op) a (record { who = who; call = Begin i op; answer = a } ∷ [])
+own_begin who i op (Begun t) steps h = refl
+own_begin who i op Full steps h = refl
+own_begin who i op a steps h = absurd h
+
+own_carry : (who i t word : ℕ) (a : FabricAnswer) (steps : LogletSteps) → StepsOf (Carry i t word) a steps → OwnEvents who (Carry i t word) a (record { who = who; call = Carry i t word; answer = a } ∷ [])
+own_carry who i t word Going steps h = refl
+own_carry who i t word (Done x) steps h = refl
+own_carry who i t word Memory steps h = inr refl
+own_carry who i t word NoTicket steps h = refl
+own_carry who i t word a steps h = absurd h
+
+own_forget : (who i t : ℕ) (a : FabricAnswer) (steps : LogletSteps) → StepsOf (Forget i t) a steps → OwnEvents who (Forget i t) a (record { who = who; call = Forget i t; answer = a } ∷ [])
+own_forget who i t Gone steps h = refl
+own_forget who i t NoTicket steps h = refl
+own_forget who i t a steps h = absurd h
+
+marked_open : (r : Option Running) (o : Option Operation) (m : Option Bool) → IsMarked r m → m ≡ Some true → MatchesOperation r o → IsSome o
+marked_open None o m h k e = absurd (h k)
+marked_open (Some r) None m h k e = absurd e
+marked_open (Some r) (Some o) m h k e = refl
+
+-- a cell of the shelf is there, and has its marks
+module _ (may : ℕ → Entry → Type 0) (floor : List Entry → ℕ) (shelf : List ℕ) {A B : Type 0} (view : A → LogletView) (items : B → List Bool) (cells : List A) (marks : List B) (register : RegisterView) (journal : List Event) (ok : FabricOk may floor shelf (record { cells = map view cells; register = register; journal = journal }) (map items marks)) (i : ℕ) (low : i < length shelf) where
+  pub cell_within : i < length cells
+  cell_within = omega (arith, ap length ok.shelf_is, length-map (map view cells) (λ (v : LogletView). v.servers), length-map cells view)
+
+  pub marks_within : i < length marks
+  marks_within =
+      let d = some_at (map view cells) i (omega (arith, cell_within, length-map cells view)) in
+      let k = ok.cells i d.0 d.1 in
+      omega (arith, slice_get_within (map items marks) i k.here k.is, length-map marks items)
+
+module _ (may : ℕ → Entry → Type 0) (floor : List Entry → ℕ) (shelf : List ℕ) {A B : Type 0} (view : A → LogletView) (items : B → List Bool) (cells : List A) (marks : List B) (register : RegisterView) (journal : List Event) (ok : FabricOk may floor shelf (record { cells = map view cells; register = register; journal = journal }) (map items marks)) (i : ℕ) (a : A) (b : B) (at : slice_get cells i ≡ Some a) (marked : slice_get marks i ≡ Some b) (a' : A) (b' : B) (journal' : List Event) where
+  -- a marked ticket is open
+  pub open_where_marked : (t : ℕ) → slice_get (items b) t ≡ Some true → IsOpen (view a) t
+  open_where_marked t h =
+      let k = ok.cells i (view a) (map_get view cells i a at) in
+      let both : Some k.here ≡ Some (items b) = sym k.is ∙ map_get items marks i b marked in
+      let same : k.here ≡ items b = cc in
+      let tie = subst (λ l. IsMarked (((state_of journal).cells i).told.ops t) (slice_get l t)) same (k.marked.each t) in
+      marked_open (((state_of journal).cells i).told.ops t) (operation_at (view a).operations t) (slice_get (items b) t) tie h (k.told.operations t)
+
+  -- the fabric before and after
+  abbrev old : FabricView
+  old = record { cells = map view cells; register = register; journal = journal }
+
+  abbrev new : FabricView
+  new = record { cells = map view (set cells i a'); register = register; journal = journal' }
+
+  abbrev cell_old : CellView
+  cell_old = record { loglet = view a; marks = items b; journal = journal }
+
+  abbrev cell_new : CellView
+  cell_new = record { loglet = view a'; marks = items b'; journal = journal' }
+
+  pub record Goes (who : ℕ) (call : FabricCall) (answer : FabricAnswer) : Type 0 where
+    pub now : FabricOk may floor shelf new (map items (set marks i b'))
+    pub keeps : Keeps may floor shelf old who call answer new
+
+  happened : (who : ℕ) (call : FabricCall) (answer : FabricAnswer) → ((steps : LogletSteps) → StepsOf call answer steps → OwnEvents who call answer (record { who = who; call = call; answer = answer } ∷ [])) → Happens cell_old who call answer cell_new → IsAfter may floor shelf old (map items marks) ok i (view a) (items b) (map_get view cells i a at) (map_get items marks i b marked) cell_new → Goes who call answer
+  happened who call answer own h after =
+      let now : FabricOk may floor shelf new (map items (set marks i b')) =
+          subst (λ (cs : List LogletView). FabricOk may floor shelf (record { cells = cs; register = register; journal = journal' }) (map items (set marks i b'))) (sym (map_set view cells i a'))
+              (subst (λ (ms : List (List Bool)). FabricOk may floor shelf (record { cells = set (map view cells) i (view a'); register = register; journal = journal' }) ms) (sym (map_set items marks i b')) after) in
+      let e : Event = record { who = who; call = call; answer = answer } in record {
+        now = now;
+        keeps = record {
+          adds = record { own = e ∷ []; event = own h.steps h.are; added = h.recorded };
+          legal = now.legal;
+          same = λ is. absurd (omega (arith, ap length is, ap length h.recorded, length-append journal (e ∷ [])));
+        };
+      }
+
+  unchanged : (who : ℕ) (call : FabricCall) (answer : FabricAnswer) → (answer ≡ Memory) × (cell_new ≡ cell_old) → Goes who call answer
+  unchanged who call answer h =
+      let cell : view a' ≡ view a = ap (λ (x : CellView). x.loglet) h.1 in
+      let cells_are : map view (set cells i a') ≡ map view cells = map_set view cells i a' ∙ (ap (set (map view cells) i) cell ∙ set_back (map view cells) i (view a) (map_get view cells i a at)) in
+      let mark : items b' ≡ items b = ap (λ (x : CellView). x.marks) h.1 in
+      let marks_are : map items (set marks i b') ≡ map items marks = map_set items marks i b' ∙ (ap (set (map items marks) i) mark ∙ set_back (map items marks) i (items b) (map_get items marks i b marked)) in
+      let journal_is : journal' ≡ journal = ap (λ (x : CellView). x.journal) h.1 in
+      let same : new ≡ old = ap (λ cs. record { cells = cs; register = register; journal = journal' }) cells_are ∙ ap (λ j. record { cells = map view cells; register = register; journal = j }) journal_is in
+      let now : FabricOk may floor shelf new (map items (set marks i b')) = subst (λ (f : FabricView). FabricOk may floor shelf f (map items (set marks i b'))) (sym same) (subst (FabricOk may floor shelf old) (sym marks_are) ok) in record {
+        now = now;
+        keeps = record { adds = adds_none who call journal journal' answer h.0 journal_is; legal = now.legal; same = λ _. same };
+      }
+
+  pub begun : (who : ℕ) (op : Op) (answer : FabricAnswer) → MayCall (state_of journal) may floor shelf who (Begin i op) → Applies cell_old who (Begin i op) answer cell_new → Goes who (Begin i op) answer
+  begun who op answer can h =
+      ⊎_elim
+      (λ (x : Happens cell_old who (Begin i op) answer cell_new). happened who (Begin i op) answer (own_begin who i op answer) x
+          (begin_kept may floor shelf old (map items marks) ok i (view a) (items b) (map_get view cells i a at) (map_get items marks i b marked) who op answer cell_new can x))
+      (λ (x : (answer ≡ Memory) × (cell_new ≡ cell_old)). unchanged who (Begin i op) answer x)
+      h
+
+  pub carried : (who t word : ℕ) (answer : FabricAnswer) → MayCall (state_of journal) may floor shelf who (Carry i t word) → Applies cell_old who (Carry i t word) answer cell_new → Goes who (Carry i t word) answer
+  carried who t word answer can h =
+      ⊎_elim
+      (λ (x : Happens cell_old who (Carry i t word) answer cell_new). happened who (Carry i t word) answer (own_carry who i t word answer) x
+          (carry_kept may floor shelf old (map items marks) ok i (view a) (items b) (map_get view cells i a at) (map_get items marks i b marked) who t word answer cell_new can x))
+      (λ (x : (answer ≡ Memory) × (cell_new ≡ cell_old)). unchanged who (Carry i t word) answer x)
+      h
+
+  pub forgotten : (who t : ℕ) (answer : FabricAnswer) → MayCall (state_of journal) may floor shelf who (Forget i t) → Applies cell_old who (Forget i t) answer cell_new → Goes who (Forget i t) answer
+  forgotten who t answer can h =
+      ⊎_elim
+      (λ (x : Happens cell_old who (Forget i t) answer cell_new). happened who (Forget i t) answer (own_forget who i t answer) x
+          (forget_kept may floor shelf old (map items marks) ok i (view a) (items b) (map_get view cells i a at) (map_get items marks i b marked) who t answer cell_new can x))
+      (λ (x : (answer ≡ Memory) × (cell_new ≡ cell_old)). unchanged who (Forget i t) answer x)
+      h

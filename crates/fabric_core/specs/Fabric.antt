@@ -1,0 +1,98 @@
+-- What a fabric shows, and what holds of it.
+use Rattle.std.specs.Prelude.{◌≡◌, ◌≢◌, ◌⊎◌, ℕ, ◌+◌, ◌≤◌, Bool, true, false, List, [], ◌∷◌, ◌++◌, length, map, slice_get, Option, Some, None}
+use Rattle.delos_types.specs.declared.entry.Entry.{Entry}
+use Rattle.loglet_api.specs.View.{LogletView, Operation, operation_at}
+use Rattle.loglet_api.specs.Sound.{IsSound}
+use Rattle.loglet_api.specs.Step.{task_of}
+use Rattle.loglet_api.specs.Keeps.{work_of}
+use Rattle.legal_journal.specs.declared.events.FabricCall.{FabricCall}
+use Rattle.legal_journal.specs.declared.events.FabricCall.TheVariants.{ReadChain}
+use Rattle.legal_journal.specs.declared.events.FabricAnswer.{FabricAnswer}
+use Rattle.legal_journal.specs.declared.events.FabricAnswer.TheVariants.{At, Down, Memory}
+use Rattle.legal_journal.specs.declared.events.Event.{Event}
+use Rattle.legal_journal.specs.Told.{Told, Running}
+use Rattle.legal_journal.specs.Journal.{CellState, RegisterState, State, state_of, IsLegal, IsCurrent, patience}
+use Rattle.legal_journal.specs.Turns.{OwnEvents}
+use Rattle.fabric_core.specs.Register.{RegisterView}
+use Rattle.fabric_core.specs.Runs.{HasRun}
+
+-- the loglets of the shelf, the register, and the journal of all events
+pub record FabricView : Type 0 where
+  pub cells : List LogletView
+  pub register : RegisterView
+  pub journal : List Event
+
+-- an open operation is as the journal tells it
+abbrev pub MatchesOperation : Option Running → Option Operation → Type 0
+MatchesOperation None None = Unit {0}
+MatchesOperation (Some r) (Some o) =
+    (o.task ≡ task_of r.op) × (o.size ≡ r.size) × (o.reach ≡ r.reach) × (o.firm ≡ r.firm) × (r.sealed ≡ true → o.shut ≡ true)
+MatchesOperation None (Some o) = ⊥
+MatchesOperation (Some r) None = ⊥
+
+-- A loglet is as the journal tells it: equal in all that answers tell, sealed where one told so; and the carries that the
+-- journal counts are paid for by what is left of the operation.
+pub record IsAsTold (c : CellState) (v : LogletView) : Type 0 where
+  pub cut : v.cut ≡ c.told.cut
+  pub log : v.log ≡ c.told.log
+  pub reach : v.reach ≡ c.told.reach
+  pub cap : v.cap ≡ c.told.cap
+  pub firm : v.firm ≡ c.told.firm
+  pub begun : v.begun ≡ c.told.begun
+  pub seals : v.seals ≡ c.told.seals
+  pub lacks : v.lacks ≡ c.told.lacks
+  pub sealed : c.told.sealed ≡ true → v.shut ≡ true
+  pub operations : (t : ℕ) → MatchesOperation (c.told.ops t) (operation_at v.operations t)
+  pub left : (t : ℕ) (o : Operation) → operation_at v.operations t ≡ Some o → c.carried t + work_of o.left ≤ patience
+  pub sound : IsSound v
+
+-- a ticket is marked where it is open
+abbrev pub IsMarked : Option Running → Option Bool → Type 0
+IsMarked (Some r) mark = mark ≡ Some true
+IsMarked None mark = mark ≢ Some true
+
+-- the marks of a cell's tickets
+pub record AreMarked (c : CellState) (marks : List Bool) : Type 0 where
+  pub count : length marks ≡ c.told.begun
+  pub each : (t : ℕ) → IsMarked (c.told.ops t) (slice_get marks t)
+
+-- a register is as the journal tells it
+pub record IsRegisterAsTold (r : RegisterState) (v : RegisterView) : Type 0 where
+  pub down : v.down ≡ r.down
+  pub current : IsCurrent r v.version v.chain
+
+pub record CellOk (w : State) (i : ℕ) (journal : List Event) (v : LogletView) (mark : Option (List Bool)) : Type 0 where
+  pub told : IsAsTold (w.cells i) v
+  pub here : List Bool
+  pub is : mark ≡ Some here
+  pub marked : AreMarked (w.cells i) here
+  pub ran : HasRun i journal v
+
+-- the journal is legal, each loglet's events are a run of it, and all is as the journal tells
+pub record FabricOk (may : ℕ → Entry → Type 0) (floor : List Entry → ℕ) (shelf : List ℕ) (f : FabricView) (marks : List (List Bool)) : Type 0 where
+  pub legal : IsLegal may floor shelf f.journal
+  pub shelf_is : map (λ v. v.servers) f.cells ≡ shelf
+  pub cells : (i : ℕ) (v : LogletView) → slice_get f.cells i ≡ Some v → CellOk (state_of f.journal) i f.journal v (slice_get marks i)
+  pub register : IsRegisterAsTold (state_of f.journal).register f.register
+
+-- the own events of a call are added
+pub record Adds (old : List Event) (who : ℕ) (call : FabricCall) (answer : FabricAnswer) (new : List Event) : Type 0 where
+  pub own : List Event
+  pub event : OwnEvents who call answer own
+  pub added : new ≡ old ++ own
+
+-- A call adds its event, and the journal stays legal; with Memory nothing changes, but as a Carry's event tells.
+pub record Keeps (may : ℕ → Entry → Type 0) (floor : List Entry → ℕ) (shelf : List ℕ) (old : FabricView) (who : ℕ) (call : FabricCall) (answer : FabricAnswer) (new : FabricView) : Type 0 where
+  pub adds : Adds old.journal who call answer new.journal
+  pub legal : IsLegal may floor shelf new.journal
+  pub same : new.journal ≡ old.journal → new ≡ old
+
+-- a read of the register, recorded; with Memory nothing changes
+abbrev pub ReadsAs : RegisterView → List Event → ℕ → FabricAnswer → RegisterView → List Event → Type 0
+ReadsAs old journal who (At v c) new now =
+    (old.down ≡ false) × (v ≡ old.version) × (c ≡ old.chain) × (new ≡ old)
+    × (now ≡ journal ++ record { who = who; call = ReadChain; answer = At v c } ∷ [])
+ReadsAs old journal who Down new now =
+    (old.down ≡ true) × (new ≡ record old { faults = new.faults }) × (now ≡ journal ++ record { who = who; call = ReadChain; answer = Down } ∷ [])
+ReadsAs old journal who Memory new now = (new ≡ old) × (now ≡ journal)
+ReadsAs old journal who a new now = ⊥

@@ -1,0 +1,213 @@
+//! A shelf of loglets, the register of their chain, and the journal of all events.
+ghost use Rattle.std.specs.Prelude.{◌≡◌, ℕ, ◌<◌, ◌≤◌, [], List, length, map, slice_get, All, false, IfOk, IfErr, Some};
+ghost use Rattle.chain_map.specs.Chain.{first_chain};
+ghost use Rattle.loglet_api.specs.View.{LogletView, IsFresh};
+ghost use Rattle.loglet_api.specs.Sound.{IsSound};
+ghost use Rattle.legal_journal.specs.Journal.{IsLegal, state_of};
+ghost use Rattle.legal_journal.specs.Turns.{MayCall};
+ghost use Rattle.fabric_core.specs.Register.{IsFreshRegister};
+ghost use Rattle.fabric_core.specs.Runs.{HasRun};
+ghost use Rattle.fabric_core.specs.Fabric.{Adds, Keeps, ReadsAs};
+
+use delos_types::numbers::Ticket;
+use legal_journal::events::{Event, FabricAnswer, FabricCall};
+use legal_journal::rules::Rules;
+use loglet_api::call::Op;
+use loglet_api::loglet::Loglet;
+use std::alloc::{AllocError, Global};
+use std::marker::{Model, PhantomData};
+
+use crate::cell::{begin_in, carry_in, forget_in};
+use crate::register::{ReadAnswer, Register};
+
+/// A shelf of loglets, the register of the chain that joins them, and the journal of all events.
+/// Cell i of the shelf is the loglet of segment id i.
+pub struct Fabric<L: Loglet, R: Register, P: Rules> {
+    cells: Vec<L>,
+    /// By cell, by ticket: whether it is open.
+    marks: Vec<Vec<bool>>,
+    register: R,
+    journal: Vec<Event>,
+    rules: PhantomData<P>,
+}
+
+impl<L: Loglet, R: Register, P: Rules> Model for Fabric<L, R, P> {
+    ghost use Rattle.std.specs.Prelude.{map};
+    ghost use Rattle.fabric_core.specs.Fabric.{FabricView, FabricOk};
+
+    ghost Value = { FabricView };
+
+    ghost view = { λ f. record { cells = map L.view f.cells.items; register = R.shows f.register; journal = f.journal.items } };
+
+    ghost invariant = { λ f. FabricOk P.may P.floor P.shelf (record { cells = map L.view f.cells.items; register = R.shows f.register; journal = f.journal.items })
+        (map (λ m. m.items) f.marks.items) };
+}
+
+/// Reads the chain. Room for the event, and the journal's copy of the chain, are made before it.
+fn read_in<R: Register>(register: &mut R, journal: &mut Vec<Event>, who: u32) -> FabricAnswer
+    ensures { ReadsAs (R.shows register.old) journal.old.items who result (R.shows register.new) journal.new.items }
+{
+    if journal.reserve(1).is_err() {
+        return FabricAnswer::Memory;
+    }
+    match register.read() {
+        ReadAnswer::At(version, chain) => {
+            let Ok(copy) = chain.clone() else {
+                return FabricAnswer::Memory;
+            };
+            let call = FabricCall::ReadChain;
+            let answer = FabricAnswer::At(version, copy);
+            journal.push_reserved(Event { who, call, answer });
+            return FabricAnswer::At(version, chain);
+        }
+        ReadAnswer::Down => {
+            let call = FabricCall::ReadChain;
+            let answer = FabricAnswer::Down;
+            journal.push_reserved(Event { who, call, answer });
+            return FabricAnswer::Down;
+        }
+        ReadAnswer::Memory => return FabricAnswer::Memory,
+    }
+}
+
+/// The parts of a fabric.
+pub struct Parts<L, R> {
+    pub cells: Vec<L>,
+    pub register: R,
+}
+
+/// No tickets, for so many cells.
+fn no_marks(alloc: Global, cells: usize) -> Result<Vec<Vec<bool>>, AllocError>
+    ensures count { IfOk result (λ m. length m.items ≡ cells) }
+    ensures none { IfOk result (λ m. All (λ marks. marks.items ≡ []) m.items) }
+{
+    let mut marks = Vec::with_capacity(alloc, cells)?;
+    'cell: for _ in 0..cells {
+        marks.push(Vec::new(alloc))?;
+    }
+    Ok(marks)
+}
+
+impl<L: Loglet, R: Register, P: Rules> Fabric<L, R, P> {
+    /// A fabric of fresh loglets, 1 to 64, and a fresh register, with no event. Without memory it
+    /// hands the parts back.
+    pub fn new(alloc: Global, cells: Vec<L>, register: R) -> Result<Self, Parts<L, R>>
+        requires least { 0 < length cells.items }
+        requires most { length cells.items ≤ 64 }
+        requires shelf { map (λ v. v.servers) (map L.view cells.items) ≡ P.shelf }
+        requires fresh { All (λ l. IsFresh (L.view l)) cells.items }
+        requires sound { All (λ l. IsSound (L.view l)) cells.items }
+        requires register { IsFreshRegister (R.shows register) }
+        ensures ok { IfOk result (λ f. f ≡ record { cells = map L.view cells.items; register = R.shows register; journal = [] }) }
+        ensures err { IfErr result (λ p. (p.cells ≡ cells) × (p.register ≡ register)) }
+    {
+        let Ok(marks) = no_marks(alloc, cells.len()) else {
+            return Err(Parts { cells, register });
+        };
+        Ok(Fabric {
+            cells,
+            marks,
+            register,
+            journal: Vec::new(alloc),
+            rules: PhantomData,
+        })
+    }
+
+    /// The parts, as they are now. Takes no memory.
+    pub fn into_parts(self) -> Parts<L, R>
+        ensures cells { map L.view result.cells.items ≡ self.cells }
+        ensures register { R.shows result.register ≡ self.register }
+    {
+        let Fabric {
+            cells,
+            marks: _,
+            register,
+            journal: _,
+            rules: _,
+        } = self;
+        Parts { cells, register }
+    }
+
+    /// The journal of all events so far. It is legal, and of each cell it is a run of its loglet.
+    pub fn journal(&self) -> &[Event]
+        ensures value { result.now ≡ self.now.journal }
+        ensures legal { IsLegal P.may P.floor P.shelf self.now.journal }
+        ensures runs { (i : ℕ) (v : LogletView) → slice_get self.now.cells i ≡ Some v → HasRun i self.now.journal v }
+        ensures shelf { map (λ v. v.servers) self.now.cells ≡ P.shelf }
+    {
+        self.journal.as_slice()
+    }
+
+    fn begin(&mut self, who: u32, cell: u32, op: Op) -> FabricAnswer
+        requires { MayCall (state_of self.old.journal) P.may P.floor P.shelf who (FabricCall.Begin cell op) }
+        ensures { Keeps P.may P.floor P.shelf self.old who (FabricCall.Begin cell op) result self.new }
+    {
+        let i = cell as usize;
+        begin_in(
+            &mut self.cells[i],
+            &mut self.marks[i],
+            &mut self.journal,
+            who,
+            cell,
+            op,
+        )
+    }
+
+    fn carry(&mut self, who: u32, cell: u32, ticket: Ticket, word: u64) -> FabricAnswer
+        requires { MayCall (state_of self.old.journal) P.may P.floor P.shelf who (FabricCall.Carry cell ticket word) }
+        ensures { Keeps P.may P.floor P.shelf self.old who (FabricCall.Carry cell ticket word) result self.new }
+    {
+        let i = cell as usize;
+        carry_in(
+            &mut self.cells[i],
+            &mut self.marks[i],
+            &mut self.journal,
+            who,
+            cell,
+            ticket,
+            word,
+        )
+    }
+
+    fn forget(&mut self, who: u32, cell: u32, ticket: Ticket) -> FabricAnswer
+        requires { MayCall (state_of self.old.journal) P.may P.floor P.shelf who (FabricCall.Forget cell ticket) }
+        ensures { Keeps P.may P.floor P.shelf self.old who (FabricCall.Forget cell ticket) result self.new }
+    {
+        let i = cell as usize;
+        forget_in(
+            &mut self.cells[i],
+            &mut self.marks[i],
+            &mut self.journal,
+            who,
+            cell,
+            ticket,
+        )
+    }
+
+    fn read_chain(&mut self, who: u32) -> FabricAnswer
+        ensures { Keeps P.may P.floor P.shelf self.old who FabricCall.ReadChain result self.new }
+    {
+        read_in(&mut self.register, &mut self.journal, who)
+    }
+
+    /// Makes one event. With `Memory` nothing changes, but for a `Carry` whose event has that answer.
+    ///
+    /// So far the register takes no writes and no fault, and no server is stopped: the calls for
+    /// these answer `Memory`. Cost: that of the loglet's or the register's calls, and O(1) beside
+    /// them, amortized.
+    pub fn apply(&mut self, who: u32, call: FabricCall) -> FabricAnswer
+        requires { MayCall (state_of self.old.journal) P.may P.floor P.shelf who call }
+        ensures { Keeps P.may P.floor P.shelf self.old who call result self.new }
+    {
+        match call {
+            FabricCall::Begin(cell, op) => return self.begin(who, cell, op),
+            FabricCall::Carry(cell, ticket, word) => return self.carry(who, cell, ticket, word),
+            FabricCall::Forget(cell, ticket) => return self.forget(who, cell, ticket),
+            FabricCall::ReadChain => return self.read_chain(who),
+            _ => {
+                let _journal = &self.journal;
+                return FabricAnswer::Memory;
+            }
+        }
+    }
+}

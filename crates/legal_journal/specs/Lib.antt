@@ -1,0 +1,6 @@
+pub mod Told
+pub mod Shown
+pub mod Moves
+pub mod Journal
+pub mod Laws
+pub mod Turns

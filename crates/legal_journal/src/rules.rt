@@ -1,0 +1,15 @@
+//! What the users of a fabric keep to.
+ghost use Rattle.std.specs.Prelude.{List, ℕ};
+ghost use Rattle.delos_types.specs.declared.entry.Entry.{Entry};
+
+/// Meanings alone: no value of it is ever made.
+pub trait Rules {
+    /// Who may append what.
+    ghost may: { ℕ → Entry → Type 0 };
+
+    /// Up to where the log may be trimmed, where it shows these entries from position 0 on.
+    ghost floor: { List Entry → ℕ };
+
+    /// The numbers of servers of the cells.
+    ghost shelf: { List ℕ };
+}

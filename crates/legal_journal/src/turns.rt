@@ -1,0 +1,25 @@
+//! Whoever takes turns at a fabric.
+ghost use Rattle.std.specs.Prelude.{◌≡◌, ℕ, List};
+ghost use Rattle.legal_journal.specs.declared.events.Event.{Event};
+ghost use Rattle.legal_journal.specs.Turns.{MayTurn, IsTurn};
+
+use crate::events::{FabricAnswer, FabricCall};
+use crate::rules::Rules;
+
+/// One of the users of a fabric. Others may take turns between any two of its own.
+pub trait Turns {
+    /// The rules of the fabric.
+    type Law: Rules;
+
+    /// By whom its events are.
+    ghost who: { Self → ℕ };
+
+    /// The journal, as far as it was seen.
+    ghost seen: { Self → List Event };
+
+    /// Makes one event, after any of others. `Memory` makes none, but as `FabricAnswer` says.
+    fn turn(&mut self, call: FabricCall) -> FabricAnswer
+        requires { MayTurn Self.Law.may Self.Law.floor Self.Law.shelf (who self.old) (seen self.old) call }
+        ensures turn { IsTurn Self.Law.may Self.Law.floor Self.Law.shelf (who self.old) (seen self.old) call result (seen self.new) }
+        ensures who { who self.new ≡ who self.old };
+}

@@ -1,0 +1,150 @@
+-- What single turns bring.
+use Rattle.std.proofs.Common.{◌≡◌, ◌≢◌, ◌⊎◌, inl, inr, ℕ, ◌+◌, ◌-◌, ◌<◌, ◌≤◌, List, [], ◌∷◌, ◌++◌, length, Option, Some, None, Bool, true, refl, sym, ap, ◌∙◌, subst, arith, append_assoc}
+use Rattle.delos_types.specs.declared.entry.Entry.{Entry}
+use Rattle.delos_types.specs.declared.chain.Chain.{Chain}
+use Rattle.loglet_api.specs.declared.call.Op.{Op}
+use Rattle.loglet_api.specs.declared.call.Answer.{Answer}
+use Rattle.loglet_api.specs.declared.call.Answer.TheVariants as answers
+use Rattle.legal_journal.specs.Told.{Told, Running, put, MayAnswer, answered, started, size_of}
+use Rattle.legal_journal.specs.declared.events.Event.{Event}
+use Rattle.legal_journal.specs.declared.events.FabricCall.{FabricCall}
+use Rattle.legal_journal.specs.declared.events.FabricAnswer.{FabricAnswer}
+use Rattle.legal_journal.specs.declared.events.FabricCall.TheVariants.{Begin, Carry, ReadChain, WriteChain}
+use Rattle.legal_journal.specs.declared.events.FabricAnswer.TheVariants.{Begun, Full, Done, Going, At, Down, Written, Conflict, MetaFault}
+use Rattle.legal_journal.specs.Moves.{Begins, Carries, Answers, OnCell, OnRegister, Gives, move}
+use Rattle.legal_journal.specs.Journal.{CellState, State, cell_after, answered_by, after, after_all, state_of, start, IsOwn, IsLegal, IsLegalFrom, ends_told, patience, reach}
+use Rattle.legal_journal.specs.Laws.{Goes, Continues}
+use Rattle.legal_journal.specs.Turns.{AreOthers, IsTurn, MayTurn}
+use Rattle.legal_journal.proofs.Cells.{put_same, CellOk}
+use Rattle.legal_journal.proofs.Sound.{StateOk}
+use Rattle.legal_journal.proofs.Legal.{legal_front, IsLegalFrom-split, after_all-append, sound, goes_on}
+use Rattle.legal_journal.proofs.Taken.{Keeps, own_stays, Took, took}
+use Rattle.virtual_log.specs.declared.fault.Fault.{Fault}
+use Rattle.virtual_log.specs.declared.fault.Fault.TheVariants as fault
+use Rattle.virtual_log.specs.Turning.{Later, Looked, Opened, Answered, HasEvent, IsAnswer}
+use Rattle.virtual_log.specs.Causes.{Causes, HasCause}
+
+pub nil : (xs : List Event) → xs ≡ xs ++ []
+nil [] = refl
+nil (x ∷ xs) = ap (λ l. x ∷ l) (nil xs)
+
+module _ (may : ℕ → Entry → Type 0) (floor : List Entry → ℕ) (shelf : List ℕ) (who : ℕ) (old new : List Event) where
+  pub look_ok : (v : ℕ) (c : Chain) → IsTurn may floor shelf who old ReadChain (At v c) new → Looked who old v c new
+  look_ok v c t =
+      let k = took may floor shelf old t.others _ new t.legal (t.seen ∙ ap (λ es. (old ++ t.others) ++ es) t.event) in record {
+        others = t.others; apart = t.apart; rest = t.own; seen = t.seen;
+        version_is = ap (λ (w : State). w.register.version) k.now;
+        chain_is = ap (λ (w : State). w.register.chain) k.now;
+      }
+
+  pub begin_ok : (i : ℕ) (op : Op) (t : ℕ) → IsTurn may floor shelf who old (Begin i op) (Begun t) new → Opened who old i op t new
+  begin_ok i op t h =
+      let k = took may floor shelf old h.others _ new h.legal (h.seen ∙ ap (λ es. (old ++ h.others) ++ es) h.event) in
+      let w = state_of (old ++ h.others) in
+      let at : (state_of new).cells i ≡ cell_after who (w.cells i) (Begins op t) = ap (λ (x : State). x.cells i) k.now ∙ put_same w.cells i (cell_after who (w.cells i) (Begins op t)) in
+      record {
+        others = h.others; apart = h.apart; rest = h.own; seen = h.seen;
+        own = subst (λ (c : CellState). IsOwn c who t (started (w.cells i).told op)) (sym at) (record {
+          is_open = put_same (w.cells i).told.ops t _; own = put_same (w.cells i).owner t who });
+      }
+
+  -- an own ticket may be carried, whatever others do first
+  pub may_carry : (i t word : ℕ) (r : Running) → i < length shelf → IsLegal may floor shelf old → IsOwn ((state_of old).cells i) who t r → MayTurn may floor shelf who old (Carry i t word)
+  may_carry i t word r l now own others apart legal =
+      let parts = IsLegalFrom-split may floor shelf start old others legal.steps in
+      let keeps = own_stays (state_of old) may floor shelf who i t r others apart (sound may floor shelf old now) parts.1 own in
+      record { there = l; asks = λ q h. ap (λ (w : State). (w.cells i).owner t) (after_all-append start old others) ∙ keeps.own.own }
+
+  -- the cell just before an own carry
+  kept : (i t : ℕ) (r : Running) (others : List Event) → AreOthers who others → IsLegal may floor shelf old → IsLegalFrom (state_of old) may floor shelf others → IsOwn ((state_of old).cells i) who t r → Keeps ((state_of (old ++ others)).cells i) who t (((state_of old).cells i).carried t) r
+  kept i t r others apart now legal own =
+      subst (λ (w : State). Keeps (w.cells i) who t (((state_of old).cells i).carried t) r) (sym (after_all-append start old others)) (own_stays (state_of old) may floor shelf who i t r others apart (sound may floor shelf old now) legal own)
+
+  pub going_ok : (i t word : ℕ) (r : Running) → IsLegal may floor shelf old → IsTurn may floor shelf who old (Carry i t word) Going new → IsOwn ((state_of old).cells i) who t r → IsOwn ((state_of new).cells i) who t r × ((((state_of new).cells i).carried t ≡ ((state_of old).cells i).carried t + 1) × (((state_of old).cells i).carried t < patience))
+  going_ok i t word r was h own =
+      let k = took may floor shelf old h.others _ new h.legal (h.seen ∙ ap (λ es. (old ++ h.others) ++ es) h.event) in
+      let w = state_of (old ++ h.others) in
+      let keeps = kept i t r h.others h.apart was k.legal_others own in
+      let at : (state_of new).cells i ≡ cell_after who (w.cells i) (Carries t) = ap (λ (x : State). x.cells i) k.now ∙ put_same w.cells i (cell_after who (w.cells i) (Carries t)) in
+      let count : ((state_of new).cells i).carried t ≡ (w.cells i).carried t + 1 = ap (λ (c : CellState). c.carried t) at ∙ put_same (w.cells i).carried t _ in
+      (subst (λ (c : CellState). IsOwn c who t r) (sym at) (record { is_open = keeps.own.is_open; own = keeps.own.own }), (omega (arith, count, keeps.carried), omega (arith, k.allowed.1, keeps.carried)))
+
+  pub done_ok : (i t word : ℕ) (r : Running) (a : Answer) → IsLegal may floor shelf old → IsTurn may floor shelf who old (Carry i t word) (Done a) new → IsOwn ((state_of old).cells i) who t r → Answered who old i t r a new
+  done_ok i t word r a was h own =
+      let seen = h.seen ∙ ap (λ es. (old ++ h.others) ++ es) h.event in
+      let k = took may floor shelf old h.others _ new h.legal seen in
+      let w = state_of (old ++ h.others) in
+      let keeps = kept i t r h.others h.apart was k.legal_others own in
+      let at : (state_of new).cells i ≡ cell_after who (w.cells i) (Answers t a) = ap (λ (x : State). x.cells i) k.now ∙ put_same w.cells i (cell_after who (w.cells i) (Answers t a)) in
+      let q = k.allowed.0 in
+      let both : Some q ≡ Some r = sym k.allowed.1.is_open ∙ keeps.own.is_open in
+      let same : q ≡ r = cc in record {
+        moment = old ++ h.others;
+        since = (h.others, refl);
+        rest = (h.own, h.seen);
+        may = subst (λ (x : Running). MayAnswer (w.cells i).told x x.op a) same k.allowed.2;
+        told = ap (λ (c : CellState). c.told) at ∙ ap (answered_by (w.cells i).told t a) keeps.own.is_open;
+        ends = ap (λ (c : CellState). c.ends) at;
+        event = record { event = record { who = who; call = Carry i t word; answer = Done a }; is = (word, refl); before = h.others; after = []; seen = seen };
+      }
+
+  -- a fault by the own event of a turn
+  pub full_cause : (i : ℕ) (op : Op) → IsTurn may floor shelf who old (Begin i op) Full new → HasCause who old (fault.Full i) new
+  full_cause i op h = record { event = record { who = who; call = Begin i op; answer = Full }; is = (refl, refl); before = h.others; after = []; seen = h.seen ∙ ap (λ es. (old ++ h.others) ++ es) h.event }
+
+  pub down_cause : IsTurn may floor shelf who old ReadChain Down new → HasCause who old fault.Meta new
+  down_cause h = record { event = record { who = who; call = ReadChain; answer = Down }; is = (refl, tt); before = h.others; after = []; seen = h.seen ∙ ap (λ es. (old ++ h.others) ++ es) h.event }
+
+pub later_refl : (may : ℕ → Entry → Type 0) (floor : List Entry → ℕ) (shelf : List ℕ) (es : List Event) → IsLegal may floor shelf es → Later may floor shelf es es
+later_refl may floor shelf es h = record { more = []; seen = nil es; legal = h }
+
+pub later_trans : (may : ℕ → Entry → Type 0) (floor : List Entry → ℕ) (shelf : List ℕ) (a b c : List Event) → Later may floor shelf a b → Later may floor shelf b c → Later may floor shelf a c
+later_trans may floor shelf a b c f g = record {
+  more = f.more ++ g.more; seen = g.seen ∙ (ap (λ l. l ++ g.more) f.seen ∙ append_assoc a f.more g.more); legal = g.legal;
+}
+
+pub later_continues : (may : ℕ → Entry → Type 0) (floor : List Entry → ℕ) (shelf : List ℕ) (a b : List Event) → Later may floor shelf a b → Continues (state_of a) (state_of b)
+later_continues may floor shelf a b h =
+    subst (λ es. Continues (state_of a) (state_of es)) (sym h.seen) (goes_on may floor shelf a h.more (subst (IsLegal may floor shelf) h.seen h.legal))
+
+pub turn_later : (may : ℕ → Entry → Type 0) (floor : List Entry → ℕ) (shelf : List ℕ) (who : ℕ) (old : List Event) (call : FabricCall) (answer : FabricAnswer) (new : List Event) → IsTurn may floor shelf who old call answer new → Later may floor shelf old new
+turn_later may floor shelf who old call answer new t = record { more = t.others ++ t.own; seen = t.seen ∙ append_assoc old t.others t.own; legal = t.legal }
+
+pub own_by : (c : CellState) (a b t : ℕ) (r : Running) → a ≡ b → IsOwn c b t r → IsOwn c a t r
+own_by c a b t r e h = subst (λ k. IsOwn c k t r) (sym e) h
+
+-- an event since a later moment is one since an earlier one
+pub event_since : (P : Event → Type 0) (a b c more : List Event) → b ≡ a ++ more → HasEvent b P c → HasEvent a P c
+event_since P a b c more is h = record {
+  event = h.event; is = h.is; before = more ++ h.before; after = h.after;
+  seen = h.seen ∙ (ap (λ l. (l ++ h.before) ++ h.event ∷ h.after) is ∙ ap (λ l. l ++ h.event ∷ h.after) (append_assoc a more h.before));
+}
+
+-- and one before an earlier moment is one before a later one
+pub event_until : (P : Event → Type 0) (a b c more : List Event) → c ≡ b ++ more → HasEvent a P b → HasEvent a P c
+event_until P a b c more is h = record {
+  event = h.event; is = h.is; before = h.before; after = h.after ++ more;
+  seen = is ∙ (ap (λ l. l ++ more) h.seen ∙ append_assoc (a ++ h.before) (h.event ∷ h.after) more);
+}
+
+pub cause_since : (who : ℕ) (f : Fault) (a b c more : List Event) → b ≡ a ++ more → HasCause who b f c → HasCause who a f c
+cause_since who fault.Memory a b c more is h = tt
+cause_since who (fault.NoQuorum id u) a b c more is h = event_since (Causes who (fault.NoQuorum id u)) a b c more is h
+cause_since who (fault.Full id) a b c more is h = event_since (Causes who (fault.Full id)) a b c more is h
+cause_since who fault.Meta a b c more is h = event_since (Causes who fault.Meta) a b c more is h
+
+-- an answer that tells of too few servers is a cause
+pub lack_cause : (who i t u : ℕ) (old new : List Event) → HasEvent old (λ e. IsAnswer who i t (answers.NoQuorum u) e) new → HasCause who old (fault.NoQuorum i u) new
+lack_cause who i t u old new h = record {
+  event = h.event; before = h.before; after = h.after; seen = h.seen;
+  is = subst (Causes who (fault.NoQuorum i u)) (sym h.is.1) (refl, (refl, refl));
+}
+
+-- an answer since a later moment is one since an earlier one
+pub answered_since : (who : ℕ) (a b c : List Event) (i t : ℕ) (r : Running) (x : Answer) (more : List Event) → b ≡ a ++ more → Answered who b i t r x c → Answered who a i t r x c
+answered_since who a b c i t r x more is h = record {
+  moment = h.moment;
+  since = (more ++ h.since.0, h.since.1 ∙ (ap (λ l. l ++ h.since.0) is ∙ append_assoc a more h.since.0));
+  rest = h.rest; may = h.may; told = h.told; ends = h.ends;
+  event = event_since (λ e. IsAnswer who i t x e) a b c more is h.event;
+}

@@ -1,0 +1,18 @@
+use Rattle.std.proofs.Common.{◌≡◌, ◌-◌}
+use Rattle.legal_journal.specs.Told.{Running}
+use Rattle.legal_journal.specs.Journal.{state_of, IsOwn, patience}
+use Rattle.virtual_log.specs.Turning.{Later}
+use Rattle.virtual_log.proofs.turn.carry_on.Given as goal
+
+abbrev pub invariant-loop-answer : goal.invariant-loop-answer
+invariant-loop-answer g l =
+    let t = g.T.Turns in
+    let p = g.T.Law.Rules in
+    record {
+      later : Later p.may p.floor p.shelf (t.seen l.fn.turns) (t.seen l.turns);
+      who : t.who l.turns ≡ t.who l.fn.turns;
+      own : (r : Running) → IsOwn ((state_of (t.seen l.fn.turns)).cells l.cell) (t.who l.fn.turns) l.ticket r → IsOwn ((state_of (t.seen l.turns)).cells l.cell) (t.who l.fn.turns) l.ticket r;
+    }
+
+abbrev pub decreases-loop-answer : goal.decreases-loop-answer
+decreases-loop-answer g l = patience - ((state_of (g.T.Turns.seen l.turns)).cells l.cell).carried l.ticket

@@ -1,0 +1,67 @@
+-- What turns bring.
+use Rattle.std.specs.Prelude.{◌≡◌, ℕ, List, ◌∷◌, ◌++◌}
+use Rattle.delos_types.specs.declared.entry.Entry.{Entry}
+use Rattle.delos_types.specs.declared.chain.Chain.{Chain}
+use Rattle.loglet_api.specs.declared.call.Op.{Op}
+use Rattle.loglet_api.specs.declared.call.Answer.{Answer}
+use Rattle.legal_journal.specs.declared.events.Event.{Event}
+use Rattle.legal_journal.specs.declared.events.FabricCall.{FabricCall}
+use Rattle.legal_journal.specs.declared.events.FabricCall.TheVariants.{Carry}
+use Rattle.legal_journal.specs.declared.events.FabricAnswer.TheVariants.{Done}
+use Rattle.legal_journal.specs.Told.{Running, started, MayAnswer, answered}
+use Rattle.legal_journal.specs.Journal.{State, state_of, IsOwn, IsLegal, ends_told}
+use Rattle.legal_journal.specs.Laws.{Clears}
+use Rattle.legal_journal.specs.Turns.{AreOthers}
+
+-- what was seen before is still seen, and what is seen is legal
+pub record Later (may : ℕ → Entry → Type 0) (floor : List Entry → ℕ) (shelf : List ℕ) (old new : List Event) : Type 0 where
+  pub more : List Event
+  pub seen : new ≡ old ++ more
+  pub legal : IsLegal may floor shelf new
+
+-- the register gave this chain
+pub record Looked (who : ℕ) (old : List Event) (version : ℕ) (chain : Chain) (new : List Event) : Type 0 where
+  pub others : List Event
+  pub apart : AreOthers who others
+  pub rest : List Event
+  pub seen : new ≡ (old ++ others) ++ rest
+  pub version_is : (state_of new).register.version ≡ version
+  pub chain_is : (state_of new).register.chain ≡ chain
+
+-- the operation is open and who's; it was begun after events of others alone, with what had been told then
+pub record Opened (who : ℕ) (old : List Event) (i : ℕ) (op : Op) (t : ℕ) (new : List Event) : Type 0 where
+  pub others : List Event
+  pub apart : AreOthers who others
+  pub rest : List Event
+  pub seen : new ≡ (old ++ others) ++ rest
+  pub own : IsOwn ((state_of new).cells i) who t (started ((state_of (old ++ others)).cells i).told op)
+
+-- an event since old is such
+pub record HasEvent (old : List Event) (P : Event → Type 0) (new : List Event) : Type 0 where
+  pub event : Event
+  pub is : P event
+  pub before : List Event
+  pub after : List Event
+  pub seen : new ≡ (old ++ before) ++ event ∷ after
+
+-- who's carry of the ticket was answered so
+abbrev pub IsAnswer : ℕ → ℕ → ℕ → Answer → Event → Type 0
+IsAnswer who i t a e = (word : ℕ) × (e ≡ record { who = who; call = Carry i t word; answer = Done a })
+
+-- the operation r of this ticket was answered so, at a moment since old, and the cell is as the answer leaves it
+pub record Answered (who : ℕ) (old : List Event) (i t : ℕ) (r : Running) (a : Answer) (new : List Event) : Type 0 where
+  pub moment : List Event
+  pub since : (more : List Event) × (moment ≡ old ++ more)
+  pub rest : (more : List Event) × (new ≡ moment ++ more)
+  pub may : MayAnswer ((state_of moment).cells i).told r r.op a
+  pub told : ((state_of new).cells i).told ≡ answered ((state_of moment).cells i).told t r a
+  pub ends : ((state_of new).cells i).ends ≡ ends_told ((state_of moment).cells i).ends a
+  pub event : HasEvent old (λ e. IsAnswer who i t a e) new
+
+-- The position is above each position that was answered, and not below any tail that was, before the first own event.
+pub record IsAbove (who : ℕ) (old : List Event) (pos : ℕ) (new : List Event) : Type 0 where
+  pub others : List Event
+  pub apart : AreOthers who others
+  pub rest : List Event
+  pub seen : new ≡ (old ++ others) ++ rest
+  pub clears : Clears (state_of (old ++ others)) pos

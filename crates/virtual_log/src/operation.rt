@@ -1,0 +1,59 @@
+//! One operation on one loglet of the chain, from its begin to its answer.
+ghost use Rattle.std.specs.Prelude.{◌≡◌, ◌<◌, ◌≤◌, ℕ, ◌+◌, length, IfOk, IfErr, IfSome, IfNone, Some, Contains, true};
+ghost use Rattle.delos_types.specs.Spelling.{IsSpellable};
+ghost use Rattle.legal_journal.specs.Journal.{state_of, IsLegal, tail_of};
+ghost use Rattle.legal_journal.specs.Laws.{Stands};
+ghost use Rattle.virtual_log.specs.Turning.{Later, IsAbove};
+ghost use Rattle.virtual_log.specs.Causes.{HasCause};
+
+use delos_types::chain::Segment;
+use delos_types::entry::Entry;
+use legal_journal::rules::Rules;
+use legal_journal::turns::Turns;
+use loglet_api::call::{Answer, Op};
+
+use crate::chooser::Chooser;
+use crate::fault::Fault;
+use crate::turn::{begin, carry_on};
+
+/// Appends to the loglet of this segment, which some chain had. None: that loglet is sealed.
+pub fn append_to<T: Turns, C: Chooser>(
+    turns: &mut T,
+    chooser: &mut C,
+    segment: Segment,
+    entry: &Entry,
+) -> Result<Option<u64>, Fault>
+    requires legal { IsLegal T.Law.may T.Law.floor T.Law.shelf (T.seen turns.old) }
+    requires started { (state_of (T.seen turns.old)).starts segment.id ≡ Some segment.start }
+    requires may { T.Law.may (T.who turns.old) entry.now }
+    requires spelled { IsSpellable entry.now }
+    ensures later { Later T.Law.may T.Law.floor T.Law.shelf (T.seen turns.old) (T.seen turns.new) }
+    ensures who { T.who turns.new ≡ T.who turns.old }
+    ensures sealed { IfOk result (λ o. IfNone o (((state_of (T.seen turns.new)).cells segment.id).told.sealed ≡ true)) }
+    ensures stands { IfOk result (λ o. IfSome o (λ pos. Stands (state_of (T.seen turns.new)) pos entry.now)) }
+    ensures above { IfOk result (λ o. IfSome o (λ pos. IsAbove (T.who turns.old) (T.seen turns.old) pos (T.seen turns.new))) }
+    ensures reached { IfOk result (λ o. IfSome o (λ pos. pos + 1 ≤ segment.start + ((state_of (T.seen turns.new)).cells segment.id).told.reach)) }
+    ensures err { IfErr result (λ fault. HasCause (T.who turns.old) (T.seen turns.old) fault (T.seen turns.new)) }
+{
+    let copy = entry.clone()?;
+    let ticket = begin(turns, segment.id, Op::Append(copy))?;
+    match carry_on(turns, chooser, segment.id, ticket)? {
+        Answer::Placed(place) => return Ok(Some(segment.start + place)),
+        Answer::Sealed => return Ok(None),
+        Answer::NoQuorum { unreached } => {
+            return Err(Fault::NoQuorum {
+                id: segment.id,
+                unreached,
+            });
+        }
+        _ => return Err(Fault::Memory),
+    }
+}
+
+/// The tail of the loglet of this segment, which some chain had: open or sealed.
+pub enum FoundTail {
+    /// The position of the tail in the log.
+    Open(u64),
+    /// The length of the sealed loglet.
+    Sealed(u64),
+}

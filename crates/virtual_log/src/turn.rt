@@ -1,0 +1,72 @@
+//! Single turns, and operations that are carried to their end.
+ghost use Rattle.std.specs.Prelude.{◌≡◌, ◌<◌, ℕ, length, IfOk, IfErr};
+ghost use Rattle.legal_journal.specs.Told.{Running};
+ghost use Rattle.legal_journal.specs.Journal.{state_of, IsOwn, IsLegal};
+ghost use Rattle.legal_journal.specs.Turns.{MayTurn};
+ghost use Rattle.virtual_log.specs.Turning.{Later, Looked, Opened, Answered};
+ghost use Rattle.virtual_log.specs.Causes.{HasCause};
+
+use delos_types::chain::Chain;
+use delos_types::numbers::Ticket;
+use legal_journal::events::{FabricAnswer, FabricCall};
+use legal_journal::rules::Rules;
+use legal_journal::turns::Turns;
+use loglet_api::call::{Answer, Op};
+use std::alloc::AllocError;
+
+use crate::chooser::Chooser;
+use crate::fault::Fault;
+
+/// Reads the chain.
+pub fn look<T: Turns>(turns: &mut T) -> Result<(u64, Chain), Fault>
+    ensures later { Later T.Law.may T.Law.floor T.Law.shelf (T.seen turns.old) (T.seen turns.new) }
+    ensures who { T.who turns.new ≡ T.who turns.old }
+    ensures ok { IfOk result (λ x. Looked (T.who turns.old) (T.seen turns.old) x.0 x.1 (T.seen turns.new)) }
+    ensures err { IfErr result (λ fault. HasCause (T.who turns.old) (T.seen turns.old) fault (T.seen turns.new)) }
+{
+    match turns.turn(FabricCall::ReadChain) {
+        FabricAnswer::At(version, chain) => return Ok((version, chain)),
+        FabricAnswer::Down => return Err(Fault::Meta),
+        _ => return Err(Fault::Memory),
+    }
+}
+
+/// Begins an operation.
+pub fn begin<T: Turns>(turns: &mut T, cell: u32, op: Op) -> Result<Ticket, Fault>
+    requires { MayTurn T.Law.may T.Law.floor T.Law.shelf (T.who turns.old) (T.seen turns.old) (FabricCall.Begin cell op) }
+    ensures later { Later T.Law.may T.Law.floor T.Law.shelf (T.seen turns.old) (T.seen turns.new) }
+    ensures who { T.who turns.new ≡ T.who turns.old }
+    ensures ok { IfOk result (λ t. Opened (T.who turns.old) (T.seen turns.old) cell op t (T.seen turns.new)) }
+    ensures err { IfErr result (λ fault. HasCause (T.who turns.old) (T.seen turns.old) fault (T.seen turns.new)) }
+{
+    match turns.turn(FabricCall::Begin(cell, op)) {
+        FabricAnswer::Begun(ticket) => return Ok(ticket),
+        FabricAnswer::Full => return Err(Fault::Full { id: cell }),
+        _ => return Err(Fault::Memory),
+    }
+}
+
+/// Carries an open operation to its end. Each carry takes its word from the chooser.
+pub fn carry_on<T: Turns, C: Chooser>(
+    turns: &mut T,
+    chooser: &mut C,
+    cell: u32,
+    ticket: Ticket,
+) -> Result<Answer, AllocError>
+    requires legal { IsLegal T.Law.may T.Law.floor T.Law.shelf (T.seen turns.old) }
+    requires cell { cell < length T.Law.shelf }
+    requires own { (r : Running) × IsOwn ((state_of (T.seen turns.old)).cells cell) (T.who turns.old) ticket r }
+    ensures later { Later T.Law.may T.Law.floor T.Law.shelf (T.seen turns.old) (T.seen turns.new) }
+    ensures who { T.who turns.new ≡ T.who turns.old }
+    ensures ok { IfOk result (λ a. (r : Running) → IsOwn ((state_of (T.seen turns.old)).cells cell) (T.who turns.old) ticket r
+        → Answered (T.who turns.old) (T.seen turns.old) cell ticket r a (T.seen turns.new)) }
+{
+    loop {
+        let word = chooser.word();
+        match turns.turn(FabricCall::Carry(cell, ticket, word)) {
+            FabricAnswer::Done(answer) => return Ok(answer),
+            FabricAnswer::Going => {}
+            _ => return Err(AllocError),
+        }
+    }
+}
