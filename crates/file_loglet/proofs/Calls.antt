@@ -145,7 +145,7 @@ whole_begun room es held marks marks' m op es' n task size shut faults down h ca
     let u' : Updates nat_eq m n marks.begun (Some (record { task = task; size = size; reach = marks.reach; firm = marks.firm; shut = is_sealed held.server; faults = counted held.disk.faults marks.refusals; down = down_of held.server.up; answer = None })) =
     subst (λ (d : ℕ). Updates nat_eq m n marks.begun (Some (record { task = task; size = size; reach = marks.reach; firm = marks.firm; shut = is_sealed held.server; faults = counted held.disk.faults marks.refusals; down = d; answer = None }))) ed
     (subst (λ (f : ℕ). Updates nat_eq m n marks.begun (Some (record { task = task; size = size; reach = marks.reach; firm = marks.firm; shut = is_sealed held.server; faults = f; down = down; answer = None }))) ef
-      (subst (λ (b : Bool). Updates nat_eq m n marks.begun (Some (record { task = task; size = size; reach = marks.reach; firm = marks.firm; shut = b; faults = faults; down = down; answer = None }))) esh u)) in
+    (subst (λ (b : Bool). Updates nat_eq m n marks.begun (Some (record { task = task; size = size; reach = marks.reach; firm = marks.firm; shut = b; faults = faults; down = down; answer = None }))) esh u)) in
     let all = begin_all a op es' n task size (cut_by op marks.cut marks.reach) (seals_of op) h.file can free esz et refl refl ee u' more in
     let copies : Copies es' held.server = subst (λ (xs : List Entry). Copies xs held.server) (sym ee) (copies_more es (entries_of op) held.server h.copies) in
     let torn : MayStand es' (cut_by op marks.cut marks.reach) (nat_lt 0 (marks.seals + seals_of op)) held.server.torn =

@@ -179,9 +179,10 @@ restarted_up s false (Some ask) = refl
 pub restart_later : (room : ℕ) (es : List Entry) (old new : Held) (marks : Marks) (m : PendingMap) (kept : Bool) → IsWhole room es old marks m → new.server ≡ restarted old.server kept old.server.torn
     → IsLater es marks.cut (nat_lt 0 marks.seals) old.server new.server × (new.server.up ≡ true)
 restart_later room es old new marks m kept h e =
-    let within : marks.cut ≤ length_of old.server = omega (arith, h.file.cut, h.file.reach, h.file.firm) in
-    (subst (λ (s : Server). IsLater es marks.cut (nat_lt 0 marks.seals) old.server s) (sym e) (restarted_later es marks.cut (nat_lt 0 marks.seals) old.server kept old.server.torn within h.torn),
-    ap (λ (s : Server). s.up) e ∙ restarted_up old.server kept old.server.torn)
+    let within : marks.cut ≤ length_of old.server = omega (arith, h.file.cut, h.file.reach, h.file.firm) in (
+      subst (λ (s : Server). IsLater es marks.cut (nat_lt 0 marks.seals) old.server s) (sym e) (restarted_later es marks.cut (nat_lt 0 marks.seals) old.server kept old.server.torn within h.torn),
+      ap (λ (s : Server). s.up) e ∙ restarted_up old.server kept old.server.torn,
+    )
 
 pub seals_begun : (n : ℕ) → nat_lt 0 n ≡ true → 1 ≤ n
 seals_begun n h = let lt : 0 < n = grind (arith, nat_tests) in omega arith
@@ -237,28 +238,30 @@ restarts_up room es old new marks m kept h was e f =
     let l = restart_later room es old new marks m kept h e in
     let down : RoseBy (down_of new.server.up - down_of old.server.up) (counted old.disk.faults marks.refusals) (counted new.disk.faults marks.refusals) =
     rw (l.1, was) (same_counted old.disk.faults new.disk.faults marks.refusals f) in
-    let o = onward room es old new marks m (nat_lt 0 marks.seals) h (seals_begun marks.seals) l.0 (omega (arith, f)) down in
-    (whole_onward room es old new marks m (nat_lt 0 marks.seals) h (seals_begun marks.seals) l.0 o,
-    record {
-      moves = moves_onward (state_of room es old marks m) (length_of new.server) (is_sealed new.server) new.server.base (counted new.disk.faults marks.refusals) (down_of new.server.up) o;
-      failed = λ x. absurd (cc);
-      up = λ x. (let now : down_of new.server.up ≡ 0 = ap down_of l.1 in omega arith);
-      idle = λ x. absurd (let one : down_of old.server.up ≡ 1 = ap down_of was in omega arith);
-    })
+    let o = onward room es old new marks m (nat_lt 0 marks.seals) h (seals_begun marks.seals) l.0 (omega (arith, f)) down in (
+      whole_onward room es old new marks m (nat_lt 0 marks.seals) h (seals_begun marks.seals) l.0 o,
+      record {
+        moves = moves_onward (state_of room es old marks m) (length_of new.server) (is_sealed new.server) new.server.base (counted new.disk.faults marks.refusals) (down_of new.server.up) o;
+        failed = λ x. absurd (cc);
+        up = λ x. (let now : down_of new.server.up ≡ 0 = ap down_of l.1 in omega arith);
+        idle = λ x. absurd (let one : down_of old.server.up ≡ 1 = ap down_of was in omega arith);
+      },
+    )
 
 pub restarts_not : (room : ℕ) (es : List Entry) (old new : Held) (marks : Marks) (m : PendingMap) → IsWhole room es old marks m → old.server.up ≡ false → new.server ≡ old.server → Rises old.disk.faults new.disk.faults
     → IsWhole room es new marks m × Restarts (loglet_of (state_of room es old marks m)) false (loglet_of (state_of room es new marks m))
 restarts_not room es old new marks m h was e f =
     let l : IsLater es marks.cut (nat_lt 0 marks.seals) old.server new.server = subst (λ (s : Server). IsLater es marks.cut (nat_lt 0 marks.seals) old.server s) (sym e) (later_same es marks.cut (nat_lt 0 marks.seals) old.server) in
     let still : new.server.up ≡ false = ap (λ (s : Server). s.up) e ∙ was in
-    let o = carried_onward room es old new marks m (nat_lt 0 marks.seals) h (seals_begun marks.seals) l (inr (still, f)) in
-    (whole_onward room es old new marks m (nat_lt 0 marks.seals) h (seals_begun marks.seals) l o,
-    record {
-      moves = moves_onward (state_of room es old marks m) (length_of new.server) (is_sealed new.server) new.server.base (counted new.disk.faults marks.refusals) (down_of new.server.up) o;
-      failed = λ x. rose_counted old.disk.faults new.disk.faults marks.refusals 1 (omega arith) f;
-      up = λ x. absurd (cc);
-      idle = λ x. absurd (let one : down_of old.server.up ≡ 1 = ap down_of was in omega arith);
-    })
+    let o = carried_onward room es old new marks m (nat_lt 0 marks.seals) h (seals_begun marks.seals) l (inr (still, f)) in (
+      whole_onward room es old new marks m (nat_lt 0 marks.seals) h (seals_begun marks.seals) l o,
+      record {
+        moves = moves_onward (state_of room es old marks m) (length_of new.server) (is_sealed new.server) new.server.base (counted new.disk.faults marks.refusals) (down_of new.server.up) o;
+        failed = λ x. rose_counted old.disk.faults new.disk.faults marks.refusals 1 (omega arith) f;
+        up = λ x. absurd (cc);
+        idle = λ x. absurd (let one : down_of old.server.up ≡ 1 = ap down_of was in omega arith);
+      },
+    )
 
 -- nothing is seen of a want of memory
 pub whole_same : (room : ℕ) (es : List Entry) (old new : Held) (marks : Marks) (m : PendingMap) → IsWhole room es old marks m → new.server ≡ old.server → new.disk.faults ≡ old.disk.faults → IsWhole room es new marks m
@@ -282,13 +285,13 @@ pub served : (room : ℕ) (es : List Entry) (held : Held) (marks : Marks) (m : P
     → LeavesRecords held.disk (λ found. (kept : Bool) × (server_of found ≡ Some (restarted held.server kept held.server.torn))) → IsServed w
 served room es held marks m w e h left =
     subst IsServed e (record {
-        left = left;
-        shut = refl;
-        down = refl;
-        faults = refl;
-        firm = h.file.firm;
-        base = h.file.base;
-        entries = λ p x above is. (let at : held.server.base + (p - held.server.base) ≡ p = (let low = h.file.base in omega arith) in
-            let here : marks.cut + (p - marks.cut) ≡ p = omega arith in
-            slice_get-drop marks.cut es (p - marks.cut) ∙ ap (λ n. slice_get es n) (here ∙ sym at) ∙ h.copies.same (p - held.server.base) x is);
-      })
+      left = left;
+      shut = refl;
+      down = refl;
+      faults = refl;
+      firm = h.file.firm;
+      base = h.file.base;
+      entries = λ p x above is. (let at : held.server.base + (p - held.server.base) ≡ p = (let low = h.file.base in omega arith) in
+          let here : marks.cut + (p - marks.cut) ≡ p = omega arith in
+          slice_get-drop marks.cut es (p - marks.cut) ∙ ap (λ n. slice_get es n) (here ∙ sym at) ∙ h.copies.same (p - held.server.base) x is);
+    })
