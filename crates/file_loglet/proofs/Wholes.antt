@@ -1,37 +1,33 @@
 -- A file loglet as its parts: its fields, its server and its disk.
-use Rattle.std.proofs.Common.{◌≡◌, ℕ, ◌+◌, ◌-◌, ◌^◌, ◌<◌, ◌≤◌, ◌⊎◌, Bool, nat_eq, nat_lt, ltb, not, ◌&&◌, true, false, cond, min, Option, Some, None, List, ◌∷◌, ◌++◌, length, drop, is_some, refl, inl, inr, ap, sym, ◌∙◌, subst, arith, length-append}
+use Rattle.std.proofs.Common.{◌≡◌, ℕ, ◌+◌, ◌-◌, ◌<◌, ◌≤◌, Bool, nat_eq, nat_lt, not, ◌&&◌, true, false, Option, Some, None, List, is_some, refl, inl, inr, ap, sym, ◌∙◌, subst, arith}
 use Rattle.std.specs.Prelude.{slice_get, if◌then◌else◌}
 use Rattle.std.specs.HashMap.{get, Updates, hash_map_len}
-use Rattle.std.proofs.lemmas.Bool.{cases_Bool, cases_lt}
+use Rattle.std.proofs.lemmas.Bool.{cases_Bool}
 use Rattle.std.proofs.lemmas.Bool.Decides.{nat_tests}
 use Rattle.delos_types.specs.declared.entry.Entry.{Entry}
 use Rattle.loglet_api.specs.declared.call.Answer.{Answer}
-use Rattle.loglet_api.specs.declared.call.Task.{Task}
-use Rattle.loglet_api.specs.declared.call.Task.TheVariants.{Placing, Settling, Finding, Sealing, Reading, Trimming}
 use Rattle.loglet_api.specs.declared.call.LogletCall.{LogletCall}
-use Rattle.loglet_api.specs.declared.call.LogletCall.TheVariants.{Carry, Forget, Left, Restart, Stop}
 use Rattle.loglet_api.specs.declared.call.LogletAnswer.{LogletAnswer}
-use Rattle.loglet_api.specs.declared.call.LogletAnswer.TheVariants.{Carried, Forgotten, Restarted, Stopped}
-use Rattle.loglet_api.specs.View.{LogletView, operation_at}
+use Rattle.loglet_api.specs.View.{operation_at}
 use Rattle.loglet_api.specs.Sound.{IsSound}
-use Rattle.loglet_api.specs.Step.{LogletStep, Does, CanCall, IsUndecidedAt, HasLeft, Forgets, Restarts, Carries, RoseBy, bumped}
+use Rattle.loglet_api.specs.Step.{LogletStep, Does, CanCall, HasLeft, Forgets, Restarts, RoseBy}
 use Rattle.majority_rule.specs.declared.message.Ask.{Ask}
 use Rattle.majority_rule.specs.declared.message.Ask.TheVariants.{Store, Seal, Tail, Repair, Read, Trim}
 use Rattle.majority_rule.specs.Servers.{Server, length_of, is_sealed, writes, wrote, written, restarted}
 use Rattle.file_loglet.specs.declared.marks.Marks.{Marks}
 use Rattle.file_loglet.specs.declared.pending.Pending.{Pending}
 use Rattle.file_loglet.specs.Held.{Held, Rises}
-use Rattle.file_loglet.specs.Later.{Copies, MayStand, IsLater, MayFail, is_sealing}
+use Rattle.file_loglet.specs.Later.{MayStand, IsLater, MayFail}
 use Rattle.disk_model.specs.Disk.{DiskView}
 use Rattle.file_loglet.specs.Pending.{PendingMap, Fits, left_of}
-use Rattle.file_loglet.specs.State.{State, counted, down_of, state_of, loglet_of, MayLack, IsPending, IsFile, IsWhole}
+use Rattle.file_loglet.specs.State.{counted, down_of, state_of, loglet_of, MayLack, IsWhole}
 use Rattle.journal_core.specs.Journal.{LeavesRecords}
 use Rattle.server_records.specs.Spelled.{server_of}
 use Rattle.file_loglet.specs.File.{FileView, file_view, IsServed}
 use Rattle.file_loglet.proofs.Sound.{file_sound, slice_get-drop}
 use Rattle.file_loglet.proofs.Laters.{later_same, later_then, stored_later, trimmed_later}
 use Rattle.file_loglet.proofs.Told.{Grows, fits_later, answered}
-use Rattle.file_loglet.proofs.Steps.{with_pending, with_server, Onward, file_onward, file_answered, step_from, step_same, step_alike, moves_same, moves_onward, forgets, open_at, undecided_at, has_left, carries, decided_at_once}
+use Rattle.file_loglet.proofs.Steps.{Onward, file_onward, file_answered, step_from, step_same, step_alike, moves_same, moves_onward, forgets, open_at, has_left}
 
 pub shows : (room : ℕ) (es : List Entry) (held : Held) (marks : Marks) (m : PendingMap) (w : FileView) → file_view room es held marks m ≡ w → loglet_of (state_of room es held marks m) ≡ w.loglet
 shows room es held marks m w e = ap (λ (x : FileView). x.loglet) e

@@ -1,4 +1,4 @@
-use Rattle.std.proofs.Common.{◌≡◌, Bool, true, false, Err, sym, ◌∙◌, ap, refl}
+use Rattle.std.proofs.Common.{◌≡◌, false, Err, sym, ◌∙◌, ap, refl}
 use Rattle.file_loglet.proofs.Wholes.{step_whole, same_whole, alike_whole, idle_restart, restarts_up, restarts_not, whole_same, same_shown}
 use Rattle.file_loglet.proofs.file.FileLogletLoglet.restart.Goals as goal
 use Rattle.file_loglet.proofs.file.FileLogletLoglet.restart.Goals.{in-Ok, in-Err-Disk, in-Err-Memory}
