@@ -22,6 +22,9 @@ const LIMIT: u64 = 1 << 48;
 /// | 2 | all but the last happened, and of a last write the first half of its bytes |
 /// | 3 | all happened, but each byte that was written and is still there is `word / 4 % 256` |
 ///
+/// Every write and cut that finds it running counts for [`Disk::arm`], also one past byte 2^48, which is refused; one
+/// that answers `Memory` doesn't.
+///
 /// Cost: a write of n bytes takes time O(n), amortized, and O(gap) where it begins past the end; a sync as much as was
 /// written since the one before; a reopening O(length). The disk holds its bytes twice, as read and as synced, and its
 /// record holds each written byte once more and some 40 bytes for each write, cut, sync and reopening, for good: so

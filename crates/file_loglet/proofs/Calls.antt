@@ -1,6 +1,5 @@
 -- The calls of a file loglet, by its parts.
-use Rattle.std.proofs.Common.{◌≡◌, ℕ, ◌+◌, ◌-◌, ◌^◌, ◌<◌, ◌≤◌, ◌⊎◌, Bool, nat_eq, nat_lt, true, false, min, max, Option, Some, None, List, ◌∷◌, ◌++◌, length, is_some, refl, inl, inr, ap, sym, ◌∙◌, subst, arith, length-append}
-use Rattle.std.specs.Prelude.{slice_get}
+use Rattle.std.proofs.Common.{◌≡◌, ℕ, ◌+◌, ◌-◌, ◌^◌, ◌<◌, ◌≤◌, ◌⊎◌, Bool, nat_eq, nat_lt, true, false, min, max, Option, Some, None, List, ◌++◌, length, is_some, refl, inl, inr, ap, sym, ◌∙◌, subst, arith, length-append}
 use Rattle.std.specs.HashMap.{get, Updates, hash_map_len}
 use Rattle.std.proofs.lemmas.Bool.Decides.{nat_tests}
 use Rattle.delos_types.specs.declared.entry.Entry.{Entry}
@@ -21,7 +20,6 @@ use Rattle.file_loglet.specs.Later.{Copies, MayStand, IsLater, MayFail, is_seali
 use Rattle.file_loglet.specs.Pending.{PendingMap, Fits, SetsAnswer, TakesOut, Waits, told_at}
 use Rattle.file_loglet.specs.State.{counted, down_of, state_of, loglet_of, IsPending, IsWhole}
 use Rattle.file_loglet.specs.File.{FileView, file_view, IsDecidedAtOnce}
-use Rattle.file_loglet.proofs.Told.{answered}
 use Rattle.file_loglet.proofs.Steps.{carries, decided_at_once, begin_all, refuses, file_faults, file_same, same_lists, take_all, small_taken, small_size, waits_undecided, slice_get-append, cut_rises}
 use Rattle.file_loglet.proofs.Wholes.{shows, carried_onward, whole_onward, whole_answered, rose_counted}
 
@@ -145,7 +143,7 @@ whole_begun room es held marks marks' m op es' n task size shut faults down h ca
     let u' : Updates nat_eq m n marks.begun (Some (record { task = task; size = size; reach = marks.reach; firm = marks.firm; shut = is_sealed held.server; faults = counted held.disk.faults marks.refusals; down = down_of held.server.up; answer = None })) =
     subst (λ (d : ℕ). Updates nat_eq m n marks.begun (Some (record { task = task; size = size; reach = marks.reach; firm = marks.firm; shut = is_sealed held.server; faults = counted held.disk.faults marks.refusals; down = d; answer = None }))) ed
     (subst (λ (f : ℕ). Updates nat_eq m n marks.begun (Some (record { task = task; size = size; reach = marks.reach; firm = marks.firm; shut = is_sealed held.server; faults = f; down = down; answer = None }))) ef
-      (subst (λ (b : Bool). Updates nat_eq m n marks.begun (Some (record { task = task; size = size; reach = marks.reach; firm = marks.firm; shut = b; faults = faults; down = down; answer = None }))) esh u)) in
+    (subst (λ (b : Bool). Updates nat_eq m n marks.begun (Some (record { task = task; size = size; reach = marks.reach; firm = marks.firm; shut = b; faults = faults; down = down; answer = None }))) esh u)) in
     let all = begin_all a op es' n task size (cut_by op marks.cut marks.reach) (seals_of op) h.file can free esz et refl refl ee u' more in
     let copies : Copies es' held.server = subst (λ (xs : List Entry). Copies xs held.server) (sym ee) (copies_more es (entries_of op) held.server h.copies) in
     let torn : MayStand es' (cut_by op marks.cut marks.reach) (nat_lt 0 (marks.seals + seals_of op)) held.server.torn =

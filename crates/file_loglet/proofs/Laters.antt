@@ -1,12 +1,12 @@
 -- How the server goes on from write to write.
-use Rattle.std.proofs.Common.{◌≡◌, ℕ, zero, suc, ◌+◌, ◌-◌, ◌<◌, ◌≤◌, ◌⊎◌, Bool, nat_lt, true, false, cond, Option, Some, None, List, [], ◌∷◌, ◌++◌, length, drop, get_or, refl, inl, inr, ap, sym, ◌∙◌, subst, arith, length-append, length-drop, add_assoc, zero-add}
+use Rattle.std.proofs.Common.{◌≡◌, ℕ, zero, suc, ◌+◌, ◌-◌, ◌<◌, ◌≤◌, ◌⊎◌, Bool, false, Some, List, [], ◌∷◌, ◌++◌, length, drop, get_or, refl, inl, inr, ap, sym, ◌∙◌, subst, arith, length-append, length-drop, zero-add}
 use Rattle.std.specs.Prelude.{slice_get, Result, Ok, Err, IsOk}
 use Rattle.std.proofs.lemmas.Bool.{cases_lt}
 use Rattle.delos_types.specs.declared.entry.Entry.{Entry}
 use Rattle.journal_core.specs.declared.fault.Fault.{Fault}
 use Rattle.journal_core.specs.declared.fault.Fault.TheVariants.{Disk, Memory}
 use Rattle.majority_rule.specs.declared.message.Ask.{Ask}
-use Rattle.majority_rule.specs.declared.message.Ask.TheVariants.{Store, Seal, Trim}
+use Rattle.majority_rule.specs.declared.message.Ask.TheVariants.{Store, Trim}
 use Rattle.majority_rule.specs.Servers.{Server, length_of, is_sealed, wrote}
 use Rattle.file_loglet.specs.Held.{Held, Writes}
 use Rattle.file_loglet.specs.Later.{Copies, MayStand, IsLater}

@@ -1,7 +1,6 @@
 -- The steps of a file loglet, by its fields.
-use Rattle.std.proofs.Common.{◌≡◌, ℕ, zero, suc, ◌+◌, ◌-◌, ◌^◌, ◌<◌, ◌≤◌, ◌⊎◌, Bool, nat_eq, true, if◌then◌else◌, Option, None, Some, is_some, List, [], ◌∷◌, ◌++◌, map, length, drop, min, max, refl, inl, inr, ap, subst, sym, ◌∙◌, arith, length-append, zero-add}
+use Rattle.std.proofs.Common.{◌≡◌, ℕ, zero, suc, ◌+◌, ◌-◌, ◌^◌, ◌<◌, ◌≤◌, ◌⊎◌, Bool, nat_eq, true, if◌then◌else◌, Option, None, Some, is_some, List, [], ◌∷◌, ◌++◌, map, length, drop, max, refl, inl, inr, ap, subst, sym, ◌∙◌, arith, length-append, zero-add}
 use Rattle.std.specs.Prelude.{slice_get}
-use Rattle.std.specs.Option.{ForSome}
 use Rattle.std.specs.HashMap.{get, Updates, hash_map_len}
 use Rattle.std.proofs.Math.Seq.{drop-nil}
 use Rattle.std.proofs.lemmas.List.{drop-append-le}
@@ -18,7 +17,7 @@ use Rattle.loglet_api.specs.declared.call.LogletCall.{LogletCall}
 use Rattle.loglet_api.specs.declared.call.LogletAnswer.{LogletAnswer}
 use Rattle.loglet_api.specs.View.{Operation, LogletView, operation_at, size_of, IsUndecided}
 use Rattle.loglet_api.specs.Sound.{IsSound}
-use Rattle.loglet_api.specs.Step.{LogletStep, Does, CanCall, CanBegin, Moves, Advances, Carries, Begins, TakesAnswer, Forgets, HasLeft, IsUndecidedAt, bumped, RoseBy, Restarts, IsFull, IsAppend, entries_of, cut_by, seals_of, task_of, begun_operation, told_reach, told_firm, told_cap, told_lacks, wanted_by}
+use Rattle.loglet_api.specs.Step.{LogletStep, Does, CanCall, CanBegin, Moves, Advances, Carries, Begins, TakesAnswer, Forgets, HasLeft, IsUndecidedAt, bumped, RoseBy, IsFull, IsAppend, entries_of, cut_by, seals_of, task_of, begun_operation, told_reach, told_firm, told_cap, told_lacks, wanted_by}
 use Rattle.file_loglet.specs.declared.pending.Pending.{Pending}
 use Rattle.file_loglet.specs.declared.pending.Decided.{Decided}
 use Rattle.file_loglet.specs.Pending.{PendingMap, shown, operation_of, left_of, Fits, TakesOut, Waits, told_at}

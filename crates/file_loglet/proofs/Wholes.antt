@@ -1,37 +1,33 @@
 -- A file loglet as its parts: its fields, its server and its disk.
-use Rattle.std.proofs.Common.{◌≡◌, ℕ, ◌+◌, ◌-◌, ◌^◌, ◌<◌, ◌≤◌, ◌⊎◌, Bool, nat_eq, nat_lt, ltb, not, ◌&&◌, true, false, cond, min, Option, Some, None, List, ◌∷◌, ◌++◌, length, drop, is_some, refl, inl, inr, ap, sym, ◌∙◌, subst, arith, length-append}
+use Rattle.std.proofs.Common.{◌≡◌, ℕ, ◌+◌, ◌-◌, ◌<◌, ◌≤◌, Bool, nat_eq, nat_lt, not, ◌&&◌, true, false, Option, Some, None, List, is_some, refl, inl, inr, ap, sym, ◌∙◌, subst, arith}
 use Rattle.std.specs.Prelude.{slice_get, if◌then◌else◌}
 use Rattle.std.specs.HashMap.{get, Updates, hash_map_len}
-use Rattle.std.proofs.lemmas.Bool.{cases_Bool, cases_lt}
+use Rattle.std.proofs.lemmas.Bool.{cases_Bool}
 use Rattle.std.proofs.lemmas.Bool.Decides.{nat_tests}
 use Rattle.delos_types.specs.declared.entry.Entry.{Entry}
 use Rattle.loglet_api.specs.declared.call.Answer.{Answer}
-use Rattle.loglet_api.specs.declared.call.Task.{Task}
-use Rattle.loglet_api.specs.declared.call.Task.TheVariants.{Placing, Settling, Finding, Sealing, Reading, Trimming}
 use Rattle.loglet_api.specs.declared.call.LogletCall.{LogletCall}
-use Rattle.loglet_api.specs.declared.call.LogletCall.TheVariants.{Carry, Forget, Left, Restart, Stop}
 use Rattle.loglet_api.specs.declared.call.LogletAnswer.{LogletAnswer}
-use Rattle.loglet_api.specs.declared.call.LogletAnswer.TheVariants.{Carried, Forgotten, Restarted, Stopped}
-use Rattle.loglet_api.specs.View.{LogletView, operation_at}
+use Rattle.loglet_api.specs.View.{operation_at}
 use Rattle.loglet_api.specs.Sound.{IsSound}
-use Rattle.loglet_api.specs.Step.{LogletStep, Does, CanCall, IsUndecidedAt, HasLeft, Forgets, Restarts, Carries, RoseBy, bumped}
+use Rattle.loglet_api.specs.Step.{LogletStep, Does, CanCall, HasLeft, Forgets, Restarts, RoseBy}
 use Rattle.majority_rule.specs.declared.message.Ask.{Ask}
 use Rattle.majority_rule.specs.declared.message.Ask.TheVariants.{Store, Seal, Tail, Repair, Read, Trim}
 use Rattle.majority_rule.specs.Servers.{Server, length_of, is_sealed, writes, wrote, written, restarted}
 use Rattle.file_loglet.specs.declared.marks.Marks.{Marks}
 use Rattle.file_loglet.specs.declared.pending.Pending.{Pending}
 use Rattle.file_loglet.specs.Held.{Held, Rises}
-use Rattle.file_loglet.specs.Later.{Copies, MayStand, IsLater, MayFail, is_sealing}
+use Rattle.file_loglet.specs.Later.{MayStand, IsLater, MayFail}
 use Rattle.disk_model.specs.Disk.{DiskView}
 use Rattle.file_loglet.specs.Pending.{PendingMap, Fits, left_of}
-use Rattle.file_loglet.specs.State.{State, counted, down_of, state_of, loglet_of, MayLack, IsPending, IsFile, IsWhole}
+use Rattle.file_loglet.specs.State.{counted, down_of, state_of, loglet_of, MayLack, IsWhole}
 use Rattle.journal_core.specs.Journal.{LeavesRecords}
 use Rattle.server_records.specs.Spelled.{server_of}
 use Rattle.file_loglet.specs.File.{FileView, file_view, IsServed}
 use Rattle.file_loglet.proofs.Sound.{file_sound, slice_get-drop}
 use Rattle.file_loglet.proofs.Laters.{later_same, later_then, stored_later, trimmed_later}
 use Rattle.file_loglet.proofs.Told.{Grows, fits_later, answered}
-use Rattle.file_loglet.proofs.Steps.{with_pending, with_server, Onward, file_onward, file_answered, step_from, step_same, step_alike, moves_same, moves_onward, forgets, open_at, undecided_at, has_left, carries, decided_at_once}
+use Rattle.file_loglet.proofs.Steps.{Onward, file_onward, file_answered, step_from, step_same, step_alike, moves_same, moves_onward, forgets, open_at, has_left}
 
 pub shows : (room : ℕ) (es : List Entry) (held : Held) (marks : Marks) (m : PendingMap) (w : FileView) → file_view room es held marks m ≡ w → loglet_of (state_of room es held marks m) ≡ w.loglet
 shows room es held marks m w e = ap (λ (x : FileView). x.loglet) e
@@ -179,9 +175,10 @@ restarted_up s false (Some ask) = refl
 pub restart_later : (room : ℕ) (es : List Entry) (old new : Held) (marks : Marks) (m : PendingMap) (kept : Bool) → IsWhole room es old marks m → new.server ≡ restarted old.server kept old.server.torn
     → IsLater es marks.cut (nat_lt 0 marks.seals) old.server new.server × (new.server.up ≡ true)
 restart_later room es old new marks m kept h e =
-    let within : marks.cut ≤ length_of old.server = omega (arith, h.file.cut, h.file.reach, h.file.firm) in
-    (subst (λ (s : Server). IsLater es marks.cut (nat_lt 0 marks.seals) old.server s) (sym e) (restarted_later es marks.cut (nat_lt 0 marks.seals) old.server kept old.server.torn within h.torn),
-    ap (λ (s : Server). s.up) e ∙ restarted_up old.server kept old.server.torn)
+    let within : marks.cut ≤ length_of old.server = omega (arith, h.file.cut, h.file.reach, h.file.firm) in (
+      subst (λ (s : Server). IsLater es marks.cut (nat_lt 0 marks.seals) old.server s) (sym e) (restarted_later es marks.cut (nat_lt 0 marks.seals) old.server kept old.server.torn within h.torn),
+      ap (λ (s : Server). s.up) e ∙ restarted_up old.server kept old.server.torn,
+    )
 
 pub seals_begun : (n : ℕ) → nat_lt 0 n ≡ true → 1 ≤ n
 seals_begun n h = let lt : 0 < n = grind (arith, nat_tests) in omega arith
@@ -237,28 +234,30 @@ restarts_up room es old new marks m kept h was e f =
     let l = restart_later room es old new marks m kept h e in
     let down : RoseBy (down_of new.server.up - down_of old.server.up) (counted old.disk.faults marks.refusals) (counted new.disk.faults marks.refusals) =
     rw (l.1, was) (same_counted old.disk.faults new.disk.faults marks.refusals f) in
-    let o = onward room es old new marks m (nat_lt 0 marks.seals) h (seals_begun marks.seals) l.0 (omega (arith, f)) down in
-    (whole_onward room es old new marks m (nat_lt 0 marks.seals) h (seals_begun marks.seals) l.0 o,
-    record {
-      moves = moves_onward (state_of room es old marks m) (length_of new.server) (is_sealed new.server) new.server.base (counted new.disk.faults marks.refusals) (down_of new.server.up) o;
-      failed = λ x. absurd (cc);
-      up = λ x. (let now : down_of new.server.up ≡ 0 = ap down_of l.1 in omega arith);
-      idle = λ x. absurd (let one : down_of old.server.up ≡ 1 = ap down_of was in omega arith);
-    })
+    let o = onward room es old new marks m (nat_lt 0 marks.seals) h (seals_begun marks.seals) l.0 (omega (arith, f)) down in (
+      whole_onward room es old new marks m (nat_lt 0 marks.seals) h (seals_begun marks.seals) l.0 o,
+      record {
+        moves = moves_onward (state_of room es old marks m) (length_of new.server) (is_sealed new.server) new.server.base (counted new.disk.faults marks.refusals) (down_of new.server.up) o;
+        failed = λ x. absurd (cc);
+        up = λ x. (let now : down_of new.server.up ≡ 0 = ap down_of l.1 in omega arith);
+        idle = λ x. absurd (let one : down_of old.server.up ≡ 1 = ap down_of was in omega arith);
+      },
+    )
 
 pub restarts_not : (room : ℕ) (es : List Entry) (old new : Held) (marks : Marks) (m : PendingMap) → IsWhole room es old marks m → old.server.up ≡ false → new.server ≡ old.server → Rises old.disk.faults new.disk.faults
     → IsWhole room es new marks m × Restarts (loglet_of (state_of room es old marks m)) false (loglet_of (state_of room es new marks m))
 restarts_not room es old new marks m h was e f =
     let l : IsLater es marks.cut (nat_lt 0 marks.seals) old.server new.server = subst (λ (s : Server). IsLater es marks.cut (nat_lt 0 marks.seals) old.server s) (sym e) (later_same es marks.cut (nat_lt 0 marks.seals) old.server) in
     let still : new.server.up ≡ false = ap (λ (s : Server). s.up) e ∙ was in
-    let o = carried_onward room es old new marks m (nat_lt 0 marks.seals) h (seals_begun marks.seals) l (inr (still, f)) in
-    (whole_onward room es old new marks m (nat_lt 0 marks.seals) h (seals_begun marks.seals) l o,
-    record {
-      moves = moves_onward (state_of room es old marks m) (length_of new.server) (is_sealed new.server) new.server.base (counted new.disk.faults marks.refusals) (down_of new.server.up) o;
-      failed = λ x. rose_counted old.disk.faults new.disk.faults marks.refusals 1 (omega arith) f;
-      up = λ x. absurd (cc);
-      idle = λ x. absurd (let one : down_of old.server.up ≡ 1 = ap down_of was in omega arith);
-    })
+    let o = carried_onward room es old new marks m (nat_lt 0 marks.seals) h (seals_begun marks.seals) l (inr (still, f)) in (
+      whole_onward room es old new marks m (nat_lt 0 marks.seals) h (seals_begun marks.seals) l o,
+      record {
+        moves = moves_onward (state_of room es old marks m) (length_of new.server) (is_sealed new.server) new.server.base (counted new.disk.faults marks.refusals) (down_of new.server.up) o;
+        failed = λ x. rose_counted old.disk.faults new.disk.faults marks.refusals 1 (omega arith) f;
+        up = λ x. absurd (cc);
+        idle = λ x. absurd (let one : down_of old.server.up ≡ 1 = ap down_of was in omega arith);
+      },
+    )
 
 -- nothing is seen of a want of memory
 pub whole_same : (room : ℕ) (es : List Entry) (old new : Held) (marks : Marks) (m : PendingMap) → IsWhole room es old marks m → new.server ≡ old.server → new.disk.faults ≡ old.disk.faults → IsWhole room es new marks m
@@ -282,13 +281,13 @@ pub served : (room : ℕ) (es : List Entry) (held : Held) (marks : Marks) (m : P
     → LeavesRecords held.disk (λ found. (kept : Bool) × (server_of found ≡ Some (restarted held.server kept held.server.torn))) → IsServed w
 served room es held marks m w e h left =
     subst IsServed e (record {
-        left = left;
-        shut = refl;
-        down = refl;
-        faults = refl;
-        firm = h.file.firm;
-        base = h.file.base;
-        entries = λ p x above is. (let at : held.server.base + (p - held.server.base) ≡ p = (let low = h.file.base in omega arith) in
-            let here : marks.cut + (p - marks.cut) ≡ p = omega arith in
-            slice_get-drop marks.cut es (p - marks.cut) ∙ ap (λ n. slice_get es n) (here ∙ sym at) ∙ h.copies.same (p - held.server.base) x is);
-      })
+      left = left;
+      shut = refl;
+      down = refl;
+      faults = refl;
+      firm = h.file.firm;
+      base = h.file.base;
+      entries = λ p x above is. (let at : held.server.base + (p - held.server.base) ≡ p = (let low = h.file.base in omega arith) in
+          let here : marks.cut + (p - marks.cut) ≡ p = omega arith in
+          slice_get-drop marks.cut es (p - marks.cut) ∙ ap (λ n. slice_get es n) (here ∙ sym at) ∙ h.copies.same (p - held.server.base) x is);
+    })

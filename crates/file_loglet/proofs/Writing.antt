@@ -1,12 +1,11 @@
 -- What the records of a server ask for, and what a restart finds.
-use Rattle.std.proofs.Common.{◌≡◌, ℕ, ◌+◌, ◌^◌, ◌<◌, ◌≤◌, ◌⊎◌, Bool, true, false, not, ◌&&◌, eqb, List, [], ◌∷◌, ◌++◌, Option, Some, None, refl, sym, ap, subst, ◌∙◌, arith, inl, inr}
+use Rattle.std.proofs.Common.{◌≡◌, ℕ, ◌<◌, ◌⊎◌, Bool, true, false, not, List, [], ◌∷◌, ◌++◌, Option, Some, None, refl, sym, ap, subst, ◌∙◌, arith, inl, inr}
 use Rattle.std.specs.Prelude.{option_map}
 use Rattle.std.proofs.lemmas.Bool.Decides.{nat_tests}
 use Rattle.delos_types.specs.declared.entry.Entry.{Entry}
-use Rattle.disk_model.specs.Disk.{DiskView}
-use Rattle.journal_core.specs.Journal.{View, MayFind, LeavesRecords}
+use Rattle.journal_core.specs.Journal.{View, LeavesRecords}
 use Rattle.majority_rule.specs.declared.message.Ask.{Ask}
-use Rattle.majority_rule.specs.declared.message.Ask.TheVariants.{Store, Seal, Tail, Trim}
+use Rattle.majority_rule.specs.declared.message.Ask.TheVariants.{Store, Seal, Trim}
 use Rattle.majority_rule.specs.Servers.{Server, length_of, is_sealed, writes, wrote, written, restarted}
 use Rattle.server_records.specs.declared.record.Record.{Record}
 use Rattle.server_records.specs.declared.record.Record.TheVariants.{Stored, Sealed, Trimmed}

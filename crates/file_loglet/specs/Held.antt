@@ -1,5 +1,5 @@
 -- The server of a file loglet: what the records of its journal spell, and its disk.
-use Rattle.std.specs.Prelude.{◌≡◌, ℕ, ◌^◌, ◌≤◌, ◌<◌, Bool, true, false, not, Option, Some, None, option_map, unwrap_or, List, Result, Ok, Err}
+use Rattle.std.specs.Prelude.{◌≡◌, ℕ, ◌^◌, ◌≤◌, ◌<◌, true, false, not, Option, Some, None, option_map, unwrap_or, List, Result, Ok, Err}
 use Rattle.disk_model.specs.Disk.{DiskView, Rose}
 use Rattle.journal_core.specs.Journal.{View, Survives}
 use Rattle.journal_core.specs.declared.fault.Fault.{Fault}

@@ -1,5 +1,5 @@
 -- What a file loglet keeps of its open operations.
-use Rattle.std.specs.Prelude.{◌≡◌, ℕ, ◌+◌, ◌<◌, ◌≤◌, nat_eq, nat_lt, if◌then◌else◌, min, Bool, true, false, Option, None, Some, List, length, slice_get}
+use Rattle.std.specs.Prelude.{◌≡◌, ℕ, ◌+◌, ◌<◌, ◌≤◌, nat_eq, nat_lt, if◌then◌else◌, min, Bool, true, false, Option, None, Some, List, slice_get}
 use Rattle.std.specs.HashMap.{HashMap, get, Updates, hash_map_len}
 use Rattle.std.specs.declared.hash.FoldHasher.{FoldHasher}
 use Rattle.std.specs.declared.hash.BuildHasherDefault.{BuildHasherDefault}

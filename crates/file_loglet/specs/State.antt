@@ -1,5 +1,5 @@
 -- What stands behind the view of a file loglet, as plain values.
-use Rattle.std.specs.Prelude.{◌≡◌, ℕ, ◌+◌, ◌-◌, ◌^◌, ◌<◌, ◌≤◌, nat_eq, nat_lt, min, if◌then◌else◌, Bool, true, Option, None, Some, List, map, drop, length, slice_get}
+use Rattle.std.specs.Prelude.{◌≡◌, ℕ, ◌+◌, ◌-◌, ◌^◌, ◌<◌, ◌≤◌, nat_eq, nat_lt, min, if◌then◌else◌, Bool, true, Option, Some, List, map, drop, length, slice_get}
 use Rattle.std.specs.HashMap.{get, hash_map_len}
 use Rattle.std.specs.Option.{ForSome}
 use Rattle.delos_types.specs.declared.entry.Entry.{Entry}

@@ -67,11 +67,7 @@ impl<D: Disk> FileLoglet<D> {
     /// An empty loglet that takes at most `room` entries, from 1 to 2^32, on a disk that has no
     /// records and nothing pending, as an empty one. A refusal hands the disk back, on which a
     /// crash leaves no records either.
-    pub fn new(
-        alloc: Global,
-        disk: D,
-        room: u64,
-    ) -> Result<FileLoglet<D>, journal_core::Refused<D>>
+    pub fn new(alloc: Global, disk: D, room: u64) -> Result<FileLoglet<D>, journal_core::Refused<D>>
         requires room { (1 ≤ room) × (room ≤ 2 ^ 32) }
         requires synced { IsSynced (D.view disk) }
         requires empty { records_of (reads (D.view disk)) ≡ [] }
@@ -191,8 +187,7 @@ impl<D: Disk> Loglet for FileLoglet<D> {
             self.entries.as_slice(),
             self.marks.cut,
             &self.pending[&number],
-        )
-        else {
+        ) else {
             return Err(Refused::Memory);
         };
         set_answer(&mut self.pending, number, answer);

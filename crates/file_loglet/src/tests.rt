@@ -135,8 +135,10 @@ fn operations_one_after_another(rt: HostRuntime) -> Result<(), Fail> {
         (Asked::Read(3), "beyond 3"),
     ];
     let alloc = rt.alloc();
-    let mut loglet: Box<dyn Loglet + Send> =
-        Box::new(alloc, on_disk(alloc, MemDisk::new(alloc), 3)?)?;
+    let mut loglet: Box<dyn Loglet + Send> = Box::new(
+        alloc,
+        on_disk(alloc, MemDisk::new(alloc), 3)?,
+    )?;
     asks(&rt, alloc, &mut loglet, &rows, "")?;
     assert_eq!(rt; (loglet.faults(), loglet.down()), (1, 0));
     Ok(())
@@ -240,7 +242,13 @@ fn failed_calls(rt: HostRuntime) -> Result<(), Fail> {
         let place = format!(in alloc; "call {call}")?;
         let failing = [call, call + 1].to_vec(alloc)?;
         let mut loglet = on_disk(alloc, FailDisk::new(MemDisk::new(alloc), failing), 9)?;
-        asks(&rt, alloc, &mut loglet, &[(Asked::Append(7), "no quorum 1")], &place)?;
+        asks(
+            &rt,
+            alloc,
+            &mut loglet,
+            &[(Asked::Append(7), "no quorum 1")],
+            &place,
+        )?;
         assert_eq!(rt; loglet.restart(0, 0)?, false, "{place}");
         assert_eq!(rt; (loglet.faults(), loglet.down()), (2, 1), "{place}");
         assert_eq!(rt; loglet.restart(0, 0)?, true, "{place}");

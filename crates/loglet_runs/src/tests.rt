@@ -77,7 +77,9 @@ fn text(alloc: Global, answer: &LogletAnswer) -> Result<String, AllocError> {
         LogletAnswer::Taken(None) => format!(in alloc; "undecided"),
         LogletAnswer::Taken(Some(Answer::Placed(p))) => format!(in alloc; "placed {p}"),
         LogletAnswer::Taken(Some(Answer::Settled)) => format!(in alloc; "settled"),
-        LogletAnswer::Taken(Some(Answer::NoQuorum { unreached })) => format!(in alloc; "no quorum {unreached}"),
+        LogletAnswer::Taken(Some(Answer::NoQuorum { unreached })) => format!(in alloc;
+            "no quorum {unreached}"
+        ),
         LogletAnswer::Taken(Some(Answer::Got(e))) => format!(in alloc; "got {:?}", e.payload),
         LogletAnswer::Taken(Some(_)) => format!(in alloc; "another answer"),
         LogletAnswer::Forgotten => format!(in alloc; "forgotten"),

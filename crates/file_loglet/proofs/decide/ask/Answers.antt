@@ -1,5 +1,4 @@
 use Rattle.std.proofs.Common.{◌<◌, Bool, Some, length, ap, sym, ◌∙◌, subst, arith}
-use Rattle.loglet_api.specs.declared.call.Task.{Task}
 use Rattle.file_loglet.specs.Later.{IsLater, is_sealing}
 use Rattle.file_loglet.proofs.Laters.{got_at, trim_later}
 use Rattle.file_loglet.proofs.decide.ask.Goals as goal

@@ -1,4 +1,4 @@
-use Rattle.std.proofs.Common.{◌≡◌, ◌^◌, ◌⊎◌, length, refl, inl, inr, ap, sym, ◌∙◌, arith}
+use Rattle.std.proofs.Common.{refl, inl, inr, ap, sym, ◌∙◌, arith}
 use Rattle.file_loglet.specs.File.{FileView}
 use Rattle.file_loglet.proofs.Wholes.{step_whole, alike_whole}
 use Rattle.file_loglet.proofs.Calls.{whole_refused, whole_begun, whole_unchanged, unchanged_shown}
@@ -7,13 +7,13 @@ use Rattle.file_loglet.proofs.file.FileLogletLoglet.begin.Goals as goal
 pub invariant_of-self : goal.invariant_of-self
 invariant_of-self g c =
     (whole_refused _ _ _ _ c.refused-self-inside.result _ c.args.op c.self.invariant
-      (elim (c.if-is_full.ensures.0 refl) [ inl x ↦ inl (x.0, omega arith) | inr y ↦ inr y ]) c.refused-self-inside.ensures).0
+    (elim (c.if-is_full.ensures.0 refl) [ inl x ↦ inl (x.0, omega arith) | inr y ↦ inr y ]) c.refused-self-inside.ensures).0
 
 pub returns-then-is_full : goal.returns-then-is_full
 returns-then-is_full g c =
     step_whole _ _ _ _ _ _ _ _ _ _ _ _ c.self.view_is c.self.invariant (invariant_of-self g c) c.requires
     (whole_refused _ _ _ _ c.refused-self-inside.result _ c.args.op c.self.invariant
-      (elim (c.if-is_full.ensures.0 refl) [ inl x ↦ inl (x.0, omega arith) | inr y ↦ inr y ]) c.refused-self-inside.ensures).1
+    (elim (c.if-is_full.ensures.0 refl) [ inl x ↦ inl (x.0, omega arith) | inr y ↦ inr y ]) c.refused-self-inside.ensures).1
 
 pub invariant_of-self-in_default : goal.invariant_of-self-in_default
 invariant_of-self-in_default g c =
@@ -29,12 +29,12 @@ pub invariant_of-self-2 : goal.invariant_of-self-2
 invariant_of-self-2 g c =
     let i = c.self.inside in
     (whole_begun i.room i.entries.items i.server i.marks c.begun-marks.result i.pending c.args.op c.add.new.entries.items c.add.new.pending c.task.result c.len-size.result c.is_sealed.result c.faults.result c.down.result c.self.invariant c.requires
-      (λ p. (let t = c.if-is_full.ensures.1 p in cc)) (omega arith) c.task.ensures c.is_sealed.ensures (c.faults.ensures ∙ sym (ap (λ (w : FileView). w.loglet.faults) c.self.view_is)) (c.down.ensures ∙ sym (ap (λ (w : FileView). w.loglet.down) c.self.view_is)) c.begun-marks.ensures c.in-Ok.ensures.entries c.in-Ok.ensures.pending c.in-Ok.ensures.more).0
+    (λ p. (let t = c.if-is_full.ensures.1 p in cc)) (omega arith) c.task.ensures c.is_sealed.ensures (c.faults.ensures ∙ sym (ap (λ (w : FileView). w.loglet.faults) c.self.view_is)) (c.down.ensures ∙ sym (ap (λ (w : FileView). w.loglet.down) c.self.view_is)) c.begun-marks.ensures c.in-Ok.ensures.entries c.in-Ok.ensures.pending c.in-Ok.ensures.more).0
 
 pub returns : goal.returns
 returns g c =
     let i = c.self.inside in
     step_whole _ _ _ _ _ _ _ _ _ _ _ _ c.self.view_is c.self.invariant (invariant_of-self-2 g c) c.requires
     (rw c.new.ensures
-      (whole_begun i.room i.entries.items i.server i.marks c.begun-marks.result i.pending c.args.op c.add.new.entries.items c.add.new.pending c.task.result c.len-size.result c.is_sealed.result c.faults.result c.down.result c.self.invariant c.requires
-        (λ p. (let t = c.if-is_full.ensures.1 p in cc)) (omega arith) c.task.ensures c.is_sealed.ensures (c.faults.ensures ∙ sym (ap (λ (w : FileView). w.loglet.faults) c.self.view_is)) (c.down.ensures ∙ sym (ap (λ (w : FileView). w.loglet.down) c.self.view_is)) c.begun-marks.ensures c.in-Ok.ensures.entries c.in-Ok.ensures.pending c.in-Ok.ensures.more).1)
+    (whole_begun i.room i.entries.items i.server i.marks c.begun-marks.result i.pending c.args.op c.add.new.entries.items c.add.new.pending c.task.result c.len-size.result c.is_sealed.result c.faults.result c.down.result c.self.invariant c.requires
+    (λ p. (let t = c.if-is_full.ensures.1 p in cc)) (omega arith) c.task.ensures c.is_sealed.ensures (c.faults.ensures ∙ sym (ap (λ (w : FileView). w.loglet.faults) c.self.view_is)) (c.down.ensures ∙ sym (ap (λ (w : FileView). w.loglet.down) c.self.view_is)) c.begun-marks.ensures c.in-Ok.ensures.entries c.in-Ok.ensures.pending c.in-Ok.ensures.more).1)

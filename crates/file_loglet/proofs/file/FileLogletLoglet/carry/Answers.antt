@@ -49,7 +49,7 @@ pub returns-clause-step : goal.returns-clause-step
 returns-clause-step g c =
     step_whole _ _ _ _ _ _ _ _ _ _ _ _ c.self.view_is c.self.invariant (invariant_of-self-2 g c) c.requires
     (carries_whole c.self.inside.room c.self.inside.entries.items c.self.inside.server c.decide.new.server c.self.inside.marks c.self.inside.pending c.set_answer.new.pending _ c.args.ticket c.index.result.now c.in-Ok.answer c.self.view_is c.self.invariant
-      (rw c.number-number.ensures at c.index.ensures) (rw c.as_slice.ensures.value at c.in-Ok.ensures.later) c.in-Ok.ensures.may_fail (rw c.number-number.ensures at c.set_answer.ensures) c.requires)
+    (rw c.number-number.ensures at c.index.ensures) (rw c.as_slice.ensures.value at c.in-Ok.ensures.later) c.in-Ok.ensures.may_fail (rw c.number-number.ensures at c.set_answer.ensures) c.requires)
 
 pub returns-clause-at_once : goal.returns-clause-at_once
 returns-clause-at_once g c =

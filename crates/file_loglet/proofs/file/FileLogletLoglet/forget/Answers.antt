@@ -6,10 +6,10 @@ use Rattle.file_loglet.proofs.file.FileLogletLoglet.forget.Goals as goal
 pub invariant_of-self : goal.invariant_of-self
 invariant_of-self g c =
     (let fewer : hash_map_len c.remove.new.self ≤ hash_map_len c.self.inside.pending = omega (arith, c.remove.ensures.len) in
-      (forgotten _ _ _ _ _ c.remove.new.self c.args.ticket c.self.invariant (rw c.number.ensures at c.remove.ensures.updates) fewer).0)
+    (forgotten _ _ _ _ _ c.remove.new.self c.args.ticket c.self.invariant (rw c.number.ensures at c.remove.ensures.updates) fewer).0)
 
 pub returns : goal.returns
 returns g c =
     (let fewer : hash_map_len c.remove.new.self ≤ hash_map_len c.self.inside.pending = omega (arith, c.remove.ensures.len) in
-      step_whole _ _ _ _ _ _ _ _ _ _ _ _ c.self.view_is c.self.invariant (invariant_of-self g c) c.requires
-      (forgotten _ _ _ _ _ c.remove.new.self c.args.ticket c.self.invariant (rw c.number.ensures at c.remove.ensures.updates) fewer).1)
+    step_whole _ _ _ _ _ _ _ _ _ _ _ _ c.self.view_is c.self.invariant (invariant_of-self g c) c.requires
+    (forgotten _ _ _ _ _ c.remove.new.self c.args.ticket c.self.invariant (rw c.number.ensures at c.remove.ensures.updates) fewer).1)

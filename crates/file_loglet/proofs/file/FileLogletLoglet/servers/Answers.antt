@@ -1,5 +1,4 @@
 use Rattle.file_loglet.proofs.Wholes.{sound}
-use Rattle.file_loglet.proofs.Steps.{step_from}
 use Rattle.file_loglet.proofs.file.FileLogletLoglet.servers.Goals as goal
 
 pub returns-clause-sound : goal.returns-clause-sound

@@ -11,8 +11,8 @@ returns-in_err-task g c =
     let i = c.self.inside in
     rw c.from_residual.ensures
     (alike_whole i.room i.entries.items i.server i.marks i.pending i.entries.items i.server i.marks c.take_decided.new.pending _ _ _ c.self.view_is c.self.invariant
-      (unchanged_shown i.room i.entries.items i.server i.marks i.pending i.entries.items c.take_decided.new.pending refl c.in_err-task.ensures.none) c.requires
-      (undecided_whole i.room i.entries.items i.server i.marks i.pending _ c.args.ticket c.self.view_is c.self.invariant c.requires (rw c.number.ensures at c.in_err-task.ensures.waits), refl))
+    (unchanged_shown i.room i.entries.items i.server i.marks i.pending i.entries.items c.take_decided.new.pending refl c.in_err-task.ensures.none) c.requires
+    (undecided_whole i.room i.entries.items i.server i.marks i.pending _ c.args.ticket c.self.view_is c.self.invariant c.requires (rw c.number.ensures at c.in_err-task.ensures.waits), refl))
 
 pub wanted-requires : goal.wanted-requires
 wanted-requires g c = size_small _ _ _ _ _ _ _ c.in_ok-task.field-0 c.self.invariant c.in_ok-task.ensures.taken
@@ -26,10 +26,10 @@ told-self-inside-requires-clause-firm g c = rw (c.told-answer.ensures, c.wanted.
 pub invariant_of-self-2 : goal.invariant_of-self-2
 invariant_of-self-2 g c =
     (whole_taken _ _ _ _ _ _ _ c.args.ticket c.in_ok-task.field-0 c.told-answer.result c.wanted.result c.self.invariant
-      (rw c.number.ensures at c.in_ok-task.ensures.taken) c.told-answer.ensures c.wanted.ensures c.told-self-inside.ensures).0
+    (rw c.number.ensures at c.in_ok-task.ensures.taken) c.told-answer.ensures c.wanted.ensures c.told-self-inside.ensures).0
 
 pub returns : goal.returns
 returns g c =
     step_whole _ _ _ _ _ _ _ _ _ _ _ _ c.self.view_is c.self.invariant (invariant_of-self-2 g c) c.requires
     (whole_taken _ _ _ _ _ _ _ c.args.ticket c.in_ok-task.field-0 c.told-answer.result c.wanted.result c.self.invariant
-      (rw c.number.ensures at c.in_ok-task.ensures.taken) c.told-answer.ensures c.wanted.ensures c.told-self-inside.ensures).1
+    (rw c.number.ensures at c.in_ok-task.ensures.taken) c.told-answer.ensures c.wanted.ensures c.told-self-inside.ensures).1

@@ -1,8 +1,6 @@
 use Rattle.std.proofs.Common.{subst}
 use Rattle.majority_rule.specs.declared.message.Ask.{Ask}
-use Rattle.majority_rule.specs.Servers.{writes}
-use Rattle.file_loglet.specs.declared.extent.Change.TheVariants.{Storing}
-use Rattle.file_loglet.specs.Held.{Changes, Writes}
+use Rattle.file_loglet.specs.Held.{Writes}
 use Rattle.file_loglet.proofs.Writing.{store_asked, may_store}
 use Rattle.file_loglet.proofs.server.FileServer.store.Goals as goal
 

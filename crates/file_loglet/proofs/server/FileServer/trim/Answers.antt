@@ -1,10 +1,8 @@
-use Rattle.std.proofs.Common.{◌<◌, subst, refl, ap, ◌∙◌, arith}
-use Rattle.std.proofs.lemmas.Bool.Decides.{nat_tests}
+use Rattle.std.proofs.Common.{subst, refl}
 use Rattle.majority_rule.specs.declared.message.Ask.{Ask}
 use Rattle.server_records.specs.declared.record.Record.TheVariants.{Trimmed}
-use Rattle.file_loglet.specs.declared.extent.Extent.{Extent}
-use Rattle.file_loglet.specs.Held.{Held, Writes}
-use Rattle.file_loglet.proofs.Writing.{asked, may_trim, base_is}
+use Rattle.file_loglet.specs.Held.{Writes}
+use Rattle.file_loglet.proofs.Writing.{asked, may_trim}
 use Rattle.file_loglet.proofs.server.FileServer.trim.Goals as goal
 
 pub write-requires-clause-writes : goal.write-requires-clause-writes
