@@ -81,7 +81,7 @@ below-more n (x ∷ xs) a e =
 
 -- Replies
 
-table_after-replied : (m : TableMap) (acts : List Act) → table_after m (replied m (map asked acts)) ≡ table_after m acts
+pub table_after-replied : (m : TableMap) (acts : List Act) → table_after m (replied m (map asked acts)) ≡ table_after m acts
 table_after-replied m [] = refl
 table_after-replied m (a ∷ acts) = table_after-replied (act_on m a.command).0 acts
 
@@ -133,7 +133,7 @@ counted : (s k : ℕ) (acts : List Act) → fold (λ c x. c + cond (x.session ==
 counted s k [] = refl
 counted s k (a ∷ acts) = counted s (k + cond (a.session == s) 1 0) acts
 
-count_of-asked : (s : ℕ) (acts : List Act) → count_of (map asked acts) s ≡ number_of s acts
+pub count_of-asked : (s : ℕ) (acts : List Act) → count_of (map asked acts) s ≡ number_of s acts
 count_of-asked s acts = counted s 0 acts
 
 in_turn_after-more : (start : ℕ → ℕ) (before xs : List Asked) (x : Asked) → in_turn_after start before xs ≡ true → (x.rank == (start x.session + count_of (before ++ xs) x.session)) ≡ true → in_turn_after start before (xs ++ x ∷ []) ≡ true

@@ -20,8 +20,8 @@ use Rattle.script_text.specs.Seen.{Before, nothing_yet}
 use Rattle.script_text.specs.Script.{RawLine, lines_in}
 use Rattle.script_text.specs.Spelling.{IsScript, SpellsFrom, CommandFits, is_print}
 use Rattle.script_runner.proofs.Tests.{and_both}
-use Rattle.script_text.specs.Lines.{lines_of, lines_after, named_after, asks_after, is_logged_by}
-use Rattle.script_runner.specs.Lines.{logs_for, has_rank, are_ranked, CanLog, ArePlayable}
+use Rattle.script_text.specs.Lines.{lines_of, lines_after, named_after, asks_after, is_logged_by, is_barrier}
+use Rattle.script_runner.specs.Lines.{logs_for, has_rank, are_ranked, are_in_phase, CanLog, ArePlayable}
 
 -- the line, where it names a node
 abbrev named : List Line → Line → List NamedLine
@@ -81,6 +81,33 @@ ranked before (line.Barrier ∷ ls) =
     let l : Line = line.Barrier in
     subst (λ b. are_ranked b (lines_after (before ++ l ∷ []) ls) ≡ true) (one_more before l ∙ append-nil (lines_of before)) (ranked (before ++ l ∷ []) ls)
 
+-- Phases
+
+earlier : (m n : ℕ) (ls : List NamedLine) → m ≤ n → are_in_phase n ls ≡ true → are_in_phase m ls ≡ true
+earlier m n [] low h = refl
+earlier m n (l ∷ ls) low h = let k = and_both (nat_le n l.phase) (are_in_phase l.phase ls) h in and_from (nat_le m l.phase) (are_in_phase l.phase ls) (below m n l.phase low k.0) k.1
+  where
+    below : (m n p : ℕ) → m ≤ n → nat_le n p ≡ true → nat_le m p ≡ true
+    below m n p low e = grind (arith, nat_tests)
+
+one_phase : (before : List Line) (l : Line) → count_by is_barrier (before ++ l ∷ []) ≡ count_by is_barrier before + cond (is_barrier l) 1 0
+one_phase before l = count_by-append is_barrier before (l ∷ []) ∙ ap (λ k. count_by is_barrier before + k) (zero-add (cond (is_barrier l) 1 0))
+
+no_barrier : (before : List Line) (l : Line) → is_barrier l ≡ false → count_by is_barrier (before ++ l ∷ []) ≡ count_by is_barrier before
+no_barrier before l e = omega (arith, one_phase before l, ap (λ b. 0 + cond b 1 0) e)
+
+phases : (before ls : List Line) → are_in_phase (count_by is_barrier before) (lines_after before ls) ≡ true
+phases before [] = refl
+phases before (line.Session node t a ∷ ls) =
+    let l : Line = line.Session node t a in
+    and_from (nat_le (count_by is_barrier before) (count_by is_barrier before)) _ (up_to (count_by is_barrier before))
+    (subst (λ n. are_in_phase n (lines_after (before ++ l ∷ []) ls) ≡ true) (no_barrier before l refl) (phases (before ++ l ∷ []) ls))
+  where
+    up_to : (n : ℕ) → nat_le n n ≡ true
+    up_to n = grind (arith, nat_tests)
+phases before (line.Blank ∷ ls) = subst (λ n. are_in_phase n (lines_after (before ++ line.Blank ∷ []) ls) ≡ true) (no_barrier before line.Blank refl) (phases (before ++ line.Blank ∷ []) ls)
+phases before (line.Barrier ∷ ls) = earlier (count_by is_barrier before) _ (lines_after (before ++ line.Barrier ∷ []) ls) (omega (arith, one_phase before line.Barrier)) (phases (before ++ line.Barrier ∷ []) ls)
+
 -- How many, and how they are spelled
 
 named_one : (before : List Line) (l : Line) → length (named before l) ≤ 1
@@ -129,11 +156,21 @@ spelled nodes b n at (r ∷ rs) before (line.Barrier ∷ ls) h = spelled nodes h
 spelled nodes b n at [] before (l ∷ ls) h = absurd h
 spelled nodes b n at (r ∷ rs) before [] h = absurd h
 
-pub playable : (nodes : ℕ) (bytes : List ℕ) (ls : List Line) → IsScript nodes bytes ls → ArePlayable (lines_of ls)
-playable nodes bytes ls h =
+node_one : (nodes : ℕ) (b : Before) (n at : ℕ) (rs : List RawLine) (before ls : List Line) → nodes ≡ 1 → SpellsFrom nodes b n at rs ls → AllByRecursion (λ (l : NamedLine). l.node ≡ 1) (lines_after before ls)
+node_one nodes b n at [] before [] e h = tt
+node_one nodes b n at (r ∷ rs) before (line.Session node t a ∷ ls) e h = (omega (arith, e, h.3.fits.0.least, h.3.fits.0.most), node_one nodes h.2 (n + 1) (at + r.size) rs (before ++ line.Session node t a ∷ []) ls e h.4)
+node_one nodes b n at (r ∷ rs) before (line.Blank ∷ ls) e h = node_one nodes h.2 (n + 1) (at + r.size) rs (before ++ line.Blank ∷ []) ls e h.4
+node_one nodes b n at (r ∷ rs) before (line.Barrier ∷ ls) e h = node_one nodes h.2 (n + 1) (at + r.size) rs (before ++ line.Barrier ∷ []) ls e h.4
+node_one nodes b n at [] before (l ∷ ls) e h = absurd h
+node_one nodes b n at (r ∷ rs) before [] e h = absurd h
+
+pub playable : (nodes : ℕ) (bytes : List ℕ) (ls : List Line) → nodes ≡ 1 → IsScript nodes bytes ls → ArePlayable (lines_of ls)
+playable nodes bytes ls single h =
     let some = few nodes nothing_yet 1 0 (lines_in bytes) ls h (omega arith) in
     record {
       few = omega (arith, no_more [] ls, some);
       ranked = ranked [] ls;
+      phases = phases [] ls;
+      one_node = node_one nodes nothing_yet 1 0 (lines_in bytes) [] ls single h;
       spelled = spelled nodes nothing_yet 1 0 (lines_in bytes) [] ls h;
     }

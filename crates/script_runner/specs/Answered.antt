@@ -47,6 +47,11 @@ cause_of other = None
 abbrev pub is_open : Outcome → Bool
 is_open o = is_some (cause_of o)
 
+-- placed, but after its phase
+abbrev pub is_late : Outcome → Bool
+is_late (out.Placed p reply late) = late
+is_late other = false
+
 -- Lines with their rows
 
 -- each `on` line with its row, in order

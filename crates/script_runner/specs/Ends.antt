@@ -1,11 +1,13 @@
 -- How a run ends: what stands behind each status.
-use Rattle.std.specs.Prelude.{◌≡◌, ◌<◌, ◌≤◌, ℕ, true, List, [], ◌∷◌, length, Option, Some, None, Result, Ok, Err, map, take}
+use Rattle.std.specs.Prelude.{◌≡◌, ◌<◌, ◌≤◌, ℕ, Bool, true, false, List, [], ◌∷◌, length, Option, Some, None, Result, Ok, Err, map, take, sum_by}
+use Rattle.std.specs.List.{list_any}
 use Rattle.delos_types.specs.declared.chain.Chain.{Chain}
 use Rattle.loglet_api.specs.View.{LogletView}
 use Rattle.chain_map.specs.Chain.{first_chain}
 use Rattle.fabric_core.specs.Log.{virtual_tail}
 use Rattle.outside_ends.specs.Sinks.{Gains}
 use Rattle.outside_ends.specs.Whole.{GainsFront}
+use Rattle.row_text.specs.declared.row.Row.{Row}
 use Rattle.row_text.specs.Output.{output}
 use Rattle.script_text.specs.declared.asks.NamedLine.{NamedLine}
 use Rattle.script_text.specs.declared.line.Line.{Line}
@@ -21,16 +23,21 @@ use Rattle.script_words.specs.Shelf.{kind_name}
 use Rattle.script_runner.specs.declared.ended.Told.{Told}
 use Rattle.script_runner.specs.declared.ended.Status.{Status}
 use Rattle.script_runner.specs.declared.ended.Status.TheVariants as status
-use Rattle.script_runner.specs.declared.yard.Yard.{Yard}
-use Rattle.script_runner.specs.Fits.{Fits, Shown}
+use Rattle.script_runner.specs.Answered.{is_open}
+use Rattle.script_runner.specs.Fits.{Fits}
 use Rattle.script_runner.specs.Plays.{all_answered}
 
 -- how many bytes of a source are read at most: one more than a script may have
 abbrev pub read_limit : ℕ
 read_limit = 1048577
 
-abbrev pub shown : Yard → Shown
-shown yard = record { cells = yard.shelf ∷ [] }
+-- no fault was counted in a loglet of the shelf
+abbrev pub IsCalm : List LogletView → Type 0
+IsCalm cells = sum_by (λ v. v.faults) cells ≡ 0
+
+-- some row is open
+abbrev pub any_open : List Row → Bool
+any_open rows = list_any (λ r. is_open r.outcome) rows
 
 -- these bytes were all that the source had left, where it tells that
 abbrev pub IsAllOf : Option (List ℕ) → List ℕ → Type 0
@@ -42,22 +49,22 @@ abbrev pub IsFrontOf : Option (List ℕ) → List ℕ → Type 0
 IsFrontOf None bytes = Unit {0}
 IsFrontOf (Some all) bytes = take read_limit all ≡ bytes
 
--- The run theorem: the script is all that the source had left; what is told fits it and the yard that comes
--- back; every line has its own answer, and the run saw the whole log.
-pub record Ran (plan : Plan) (left : Option (List ℕ)) (yard : Yard) (told : Told) : Type 0 where
+-- The run theorem: the script is all that the source had left; what is told fits it and the loglets that come
+-- back; and where none of them counted a fault, every line has its own answer, and the run saw the whole log.
+pub record Ran (plan : Plan) (left : Option (List ℕ)) (cells : List LogletView) (told : Told) : Type 0 where
   pub bytes : List ℕ
   pub all : IsAllOf left bytes
   pub script : List Line
   pub spelled : IsScript plan.nodes bytes script
-  pub fits : Fits (lines_of script) told (shown yard)
-  pub answered : all_answered told.rows ≡ true
-  pub whole : told.end ≡ virtual_tail told.chain (shown yard).cells
+  pub fits : Fits (lines_of script) told (record { cells = cells })
+  pub answered : IsCalm cells → all_answered told.rows ≡ true
+  pub whole : IsCalm cells → told.end ≡ virtual_tail told.chain cells
 
--- what a script's lines told on a fresh yard
-pub record Tells (lines : List NamedLine) (yard : Yard) (told : Told) : Type 0 where
-  pub fits : Fits lines told (shown yard)
-  pub answered : all_answered told.rows ≡ true
-  pub whole : told.end ≡ virtual_tail told.chain (shown yard).cells
+-- what a script's lines told on a fresh shelf
+pub record Tells (lines : List NamedLine) (cells : List LogletView) (told : Told) : Type 0 where
+  pub fits : Fits lines told (record { cells = cells })
+  pub answered : IsCalm cells → all_answered told.rows ≡ true
+  pub whole : IsCalm cells → told.end ≡ virtual_tail told.chain cells
   pub chain : told.chain ≡ first_chain
 
 -- the text of what is told, over the plan's shelf
@@ -70,28 +77,30 @@ pub record IsRefused (plan : Plan) (left : Option (List ℕ)) (bad : BadLine) : 
   pub front : IsFrontOf left bytes
   pub refused : script_of plan.nodes bytes ≡ Err bad
 
--- What is to be put, and which status it has once it is put whole: what a script told, or its first bad line ..
-abbrev pub ComposesScript : Plan → Option (List ℕ) → Yard → Status → Option Told → List ℕ → Type 0
-ComposesScript plan left yard status.Done (Some told) text = Ran plan left yard told × (text ≡ text_of plan told)
-ComposesScript plan left yard status.BadLine None text = (bad : BadLine) × IsRefused plan left bad × (text ≡ refusal_text bad)
-ComposesScript plan left yard end told text = ⊥
+-- What is to be put, and which status it has once it is put whole: what a script told, whose rows are or aren't
+-- all answered, or its first bad line ..
+abbrev pub ComposesScript : Plan → Option (List ℕ) → List LogletView → Status → Option Told → List ℕ → Type 0
+ComposesScript plan left cells status.Done (Some told) text = Ran plan left cells told × (text ≡ text_of plan told) × (any_open told.rows ≡ false)
+ComposesScript plan left cells status.Open (Some told) text = Ran plan left cells told × (text ≡ text_of plan told) × (any_open told.rows ≡ true)
+ComposesScript plan left cells status.BadLine None text = (bad : BadLine) × IsRefused plan left bad × (text ≡ refusal_text bad)
+ComposesScript plan left cells end told text = ⊥
 
 -- .. or that the words are not taken
-abbrev pub Composes : List (List ℕ) → Option (List ℕ) → Yard → Status → Option Told → List ℕ → Type 0
-Composes words left yard status.BadWords None text = (plan_of words ≡ None) × (text ≡ bad_words_text)
-Composes words left yard end told text = (plan : Plan) × (plan_of words ≡ Some plan) × ComposesScript plan left yard end told text
+abbrev pub Composes : List (List ℕ) → Option (List ℕ) → List LogletView → Status → Option Told → List ℕ → Type 0
+Composes words left cells status.BadWords None text = (plan_of words ≡ None) × (text ≡ bad_words_text)
+Composes words left cells end told text = (plan : Plan) × (plan_of words ≡ Some plan) × ComposesScript plan left cells end told text
 
 -- a text was composed with this status, and put whole
-pub record PutsWhole (words : List (List ℕ)) (left before after : Option (List ℕ)) (yard : Yard) (end : Status) (told : Option Told) : Type 0 where
+pub record PutsWhole (words : List (List ℕ)) (left before after : Option (List ℕ)) (cells : List LogletView) (end : Status) (told : Option Told) : Type 0 where
   pub text : List ℕ
-  pub composed : Composes words left yard end told text
+  pub composed : Composes words left cells end told text
   pub put : Gains before after text
 
 -- a text was composed, and a front of it put
-pub record PutsFront (words : List (List ℕ)) (left before after : Option (List ℕ)) (yard : Yard) (told : Option Told) : Type 0 where
+pub record PutsFront (words : List (List ℕ)) (left before after : Option (List ℕ)) (cells : List LogletView) (told : Option Told) : Type 0 where
   pub end : Status
   pub text : List ℕ
-  pub composed : Composes words left yard end told text
+  pub composed : Composes words left cells end told text
   pub front : GainsFront before after text
 
 -- the words are taken, and the bytes that the source has left are a script
@@ -104,7 +113,7 @@ pub record CanRun (words : List (List ℕ)) (left : Option (List ℕ)) : Type 0 
   pub read : script_of plan.nodes (take read_limit all) ≡ Ok script
 
 -- what is told is a run of the words' plan
-pub record IsRun (words : List (List ℕ)) (left : Option (List ℕ)) (yard : Yard) (told : Told) : Type 0 where
+pub record IsRun (words : List (List ℕ)) (left : Option (List ℕ)) (cells : List LogletView) (told : Told) : Type 0 where
   pub plan : Plan
   pub planned : plan_of words ≡ Some plan
-  pub ran : Ran plan left yard told
+  pub ran : Ran plan left cells told

@@ -7,6 +7,7 @@ use Rattle.script_runner.specs.Answered.{Answered, answered_lines}
 use Rattle.script_runner.specs.Acts.{ActsOnce}
 use Rattle.script_runner.specs.Outcomes.{OneRowEach, KeepsSessionOrder, keeps_barriers}
 use Rattle.script_runner.specs.Reads.{ReadsAreCurrent}
+use Rattle.script_runner.specs.Faults.{FaultsAreCounted}
 
 -- what is read of a yard once a run has ended: the loglets of its shelf
 pub record Shown : Type 0 where
@@ -23,3 +24,4 @@ pub record Fits (lines : List NamedLine) (o : Told) (yard : Shown) : Type 0 wher
   pub session_order : KeepsSessionOrder (told_of lines o)
   pub reads_are_current : ReadsAreCurrent (told_of lines o) o.end
   pub barriers : keeps_barriers (told_of lines o) ≡ true
+  pub faults_are_counted : FaultsAreCounted (told_of lines o) yard.cells

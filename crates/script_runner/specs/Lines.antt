@@ -1,5 +1,5 @@
 -- What holds of the lines of every script.
-use Rattle.std.specs.Prelude.{◌≡◌, ℕ, ◌+◌, ◌≤◌, ◌==◌, ◌&&◌, Bool, true, false, List, [], ◌∷◌, ◌++◌, length, count_by}
+use Rattle.std.specs.Prelude.{◌≡◌, ℕ, ◌+◌, ◌≤◌, ◌==◌, nat_le, ◌&&◌, Bool, true, false, List, [], ◌∷◌, ◌++◌, length, count_by}
 use Rattle.std.specs.List.{AllByRecursion}
 use Rattle.table_core.specs.declared.command.Command.{Command}
 use Rattle.table_core.specs.Spelling.{IsSpellable, command_length}
@@ -24,6 +24,11 @@ abbrev pub are_ranked : List NamedLine → List NamedLine → Bool
 are_ranked before [] = true
 are_ranked before (l ∷ ls) = has_rank before l.asks && are_ranked (before ++ l ∷ []) ls
 
+-- the phases of these lines don't fall, from this one on
+abbrev pub are_in_phase : ℕ → List NamedLine → Bool
+are_in_phase phase [] = true
+are_in_phase phase (l ∷ ls) = nat_le phase l.phase && are_in_phase l.phase ls
+
 -- an entry may hold the command
 abbrev pub CanLog : Asks → Type 0
 CanLog (asks.Logged s r c) = IsSpellable c × (command_length c ≤ 984)
@@ -33,4 +38,6 @@ CanLog (asks.Look s q) = Unit {0}
 pub record ArePlayable (lines : List NamedLine) : Type 0 where
   pub few : length lines ≤ 20000
   pub ranked : are_ranked [] lines ≡ true
+  pub phases : are_in_phase 0 lines ≡ true
+  pub one_node : AllByRecursion (λ l. l.node ≡ 1) lines
   pub spelled : AllByRecursion (λ l. CanLog l.asks) lines

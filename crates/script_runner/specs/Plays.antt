@@ -1,7 +1,7 @@
 -- What playing the lines of a script comes to.
 use Rattle.std.specs.Prelude.{◌≡◌, Bool, true, false, not, List, [], ◌∷◌}
 use Rattle.std.specs.List.{list_all}
-use Rattle.loglet_api.specs.View.{LogletView}
+use Rattle.loglet_api.specs.View.{LogletView, IsFresh}
 use Rattle.chain_map.specs.Chain.{first_chain}
 use Rattle.fabric_core.specs.Log.{virtual_tail}
 use Rattle.row_text.specs.declared.row.Row.{Row}
@@ -25,7 +25,9 @@ all_answered rows = list_all (λ r. is_answered r.outcome) rows
 abbrev pub told_by : Played → Told
 told_by p = record { rows = p.rows; end = p.end; version = 1; chain = first_chain; down = false }
 
+-- the first loglet of a shelf was played on, the others weren't used
 pub record Plays (lines : List NamedLine) (v : LogletView) (p : Played) : Type 0 where
-  pub fits : Fits lines (told_by p) (record { cells = v ∷ [] })
-  pub answered : all_answered p.rows ≡ true
-  pub whole : p.end ≡ virtual_tail first_chain (v ∷ [])
+  pub fits : (rest : List LogletView) → Fits lines (told_by p) (record { cells = v ∷ rest })
+  -- where no fault was counted, each line has its own answer, and the whole log was seen
+  pub answered : v.faults ≡ 0 → all_answered p.rows ≡ true
+  pub whole : v.faults ≡ 0 → (rest : List LogletView) → p.end ≡ virtual_tail first_chain (v ∷ rest)

@@ -6,8 +6,10 @@ use row_text::row::Rows;
 /// How a run ended.
 #[derive(Clone, Copy, PartialEq, Eq, Debug)]
 pub enum Status {
-    /// Every line has its answer, and the text was put.
+    /// The script was run, no row is open, and the text was put.
     Done,
+    /// The script was run, some row is open, and the text was put.
+    Open,
     /// A line of the script breaks a rule; `line N: RULE` was put.
     BadLine,
     /// The words of the command line aren't taken; `bad words` was put.
@@ -21,10 +23,11 @@ pub enum Status {
 }
 
 impl Status {
-    /// The exit status of the program, 0 to 6. Status 1, a row that is open, doesn't come yet.
+    /// The exit status of the program, 0 to 6.
     pub fn code(self) -> u8 {
         match self {
             Status::Done => 0,
+            Status::Open => 1,
             Status::BadLine => 2,
             Status::BadWords => 3,
             Status::SourceFault => 4,

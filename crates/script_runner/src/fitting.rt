@@ -67,7 +67,8 @@ fn looked_at(outcome: &Outcome) -> Option<u64>
     }
 }
 
-fn is_open(outcome: &Outcome) -> bool
+/// The row has a cause in the place of an answer.
+pub fn is_open(outcome: &Outcome) -> bool
     ensures { result ≡ answers_of.is_open outcome.now }
 {
     match outcome {

@@ -3,9 +3,12 @@
 #![tactic(auto)]
 
 pub mod answered;
+mod came;
 pub mod ended;
 pub mod fitting;
+mod line;
 mod log;
+mod phase;
 mod play;
 mod replica;
 pub mod run;

@@ -1,30 +1,21 @@
-//! Plays the lines of a script on one node and one loglet.
-ghost use Rattle.std.specs.Prelude.{◌≡◌, ◌+◌, ◌≤◌, ◌^◌, IfOk, length};
-ghost use Rattle.std.specs.Option.{ForSome};
+//! Plays the lines of a script on one node, phase by phase.
+ghost use Rattle.std.specs.Prelude.{◌≡◌, ℕ, IfOk, All, map};
 ghost use Rattle.loglet_api.specs.View.{IsFresh};
-ghost use Rattle.table_core.specs.Spelling.{IsSpellable, command_length};
-ghost use Rattle.script_runner.specs.Lines.{ArePlayable, CanLog};
-ghost use Rattle.script_runner.specs.Turns.{HasRoom, IsCaughtUp, AnswersLine};
+ghost use Rattle.script_runner.specs.Lines.{ArePlayable};
+ghost use Rattle.script_runner.specs.Turns.{IsAnswerable, CanTell, sent_row, row_of, session_asked, first_phase, fresh, standing_of};
 ghost use Rattle.script_runner.specs.Plays.{Plays};
 
-use crate::log;
+use crate::came::{Came, FRESH, Sent, Standing};
+use crate::line::answer;
+use crate::phase::{change_phase, end_phase};
 use crate::replica::{Replica, Synced, sync};
-use delos_types::numbers::{NodeId, Rank};
-use engine_api::pack::{batch, session_item};
-use file_loglet::file::FileLoglet;
+use delos_types::numbers::SessionId;
+use engine_api::act::{Act, Acts};
+use loglet_api::loglet::Loglet;
 use row_text::row::{Outcome, Row, Rows, Who};
 use script_text::asks::{Asks, NamedLine};
-use script_text::line::Session;
 use std::alloc::{AllocError, Global};
-use table_core::command::{Command, Query};
 use table_core::table::Table;
-
-/// A row, and the replica after it.
-#[derive(Drop)]
-pub struct Step {
-    pub replica: Replica,
-    pub row: Row,
-}
 
 /// The rows of a script, and the end of the log that the node has applied.
 #[derive(Drop)]
@@ -33,120 +24,120 @@ pub struct Played {
     pub end: u64,
 }
 
-/// Appends the command as an entry of its own, and applies it.
-fn log_command(
-    alloc: Global,
-    loglet: &mut FileLoglet,
-    replica: Replica,
-    line: &NamedLine,
-    session: &Session,
-    rank: Rank,
-    command: &Command,
-) -> Result<Step, AllocError>
-    requires asks { line.now.asks ≡ Asks.Logged session.now rank command.now }
-    requires can { CanLog line.now.asks }
-    requires caught_up { IsCaughtUp loglet.old replica }
-    requires room { HasRoom loglet.old 1 }
-    ensures { IfOk result (AnswersLine line.now loglet.old replica loglet.new) }
+/// The session that a line names.
+fn session_of(asks: &Asks) -> SessionId
+    ensures { result ≡ session_asked asks.now }
 {
-    let item = session_item(alloc, session.id, rank, command)?;
-    let entry = batch(alloc, line.node, &[item])?;
-    log::append(loglet, entry)?;
-    let Synced { replica, acts } = sync(alloc, loglet, replica)?;
-    match acts.into_vec().pop() {
-        Some(act) => {
-            let name = session.name.clone()?;
-            Ok(Step {
-                replica,
-                row: Row {
-                    number: line.number,
-                    who: Who::Session(name),
-                    outcome: Outcome::Placed {
-                        place: act.place,
-                        reply: act.reply,
-                        late: false,
-                    },
-                },
-            })
-        }
-        None => unreachable!(),
+    match asks {
+        Asks::Logged { session, .. } | Asks::Look { session, .. } => session.id,
     }
 }
 
-/// Looks at the table after all that the log holds.
-fn look(
-    alloc: Global,
-    loglet: &mut FileLoglet,
-    replica: Replica,
-    line: &NamedLine,
-    session: &Session,
-    query: &Query,
-) -> Result<Step, AllocError>
-    requires asks { line.now.asks ≡ Asks.Look session.now query.now }
-    requires caught_up { IsCaughtUp loglet.old replica }
-    requires room { HasRoom loglet.old 1 }
-    ensures { IfOk result (AnswersLine line.now loglet.old replica loglet.new) }
+/// The row of a command that was given to the log: where it acted, or why it didn't.
+fn row_of_sent(sent: Sent, acts: &[Act], standing: Standing) -> Result<Row, AllocError>
+    requires { IsAnswerable acts.now standing sent.at }
+    ensures { IfOk result (λ row. row ≡ sent_row acts.now standing sent) }
 {
-    let Synced { replica, .. } = sync(alloc, loglet, replica)?;
-    let found = replica.table.read(alloc, query)?;
-    let name = session.name.clone()?;
-    let after = replica.cursor;
-    Ok(Step {
-        replica,
-        row: Row {
-            number: line.number,
-            who: Who::Session(name),
-            outcome: Outcome::Read { after, found },
+    let who = Who::Session(sent.name);
+    let outcome = match (acts.get(sent.at as usize), standing.stopped) {
+        (Some(act), _) => Outcome::Placed {
+            place: act.place,
+            reply: act.reply.clone()?,
+            late: standing.missed <= sent.at,
         },
+        (None, Some(cause)) => Outcome::Open { cause },
+        (None, None) => unreachable!(),
+    };
+    Ok(Row {
+        number: sent.number,
+        who,
+        outcome,
     })
 }
 
-/// Answers one line.
-fn answer(
-    alloc: Global,
-    loglet: &mut FileLoglet,
-    replica: Replica,
-    line: &NamedLine,
-) -> Result<Step, AllocError>
-    requires can { CanLog line.now.asks }
-    requires caught_up { IsCaughtUp loglet.old replica }
-    requires room { HasRoom loglet.old 1 }
-    ensures { IfOk result (AnswersLine line.now loglet.old replica loglet.new) }
+/// The row of a line, once it is known what acted.
+fn row_of(came: Came, acts: &[Act], standings: &[Standing; 64]) -> Result<Row, AllocError>
+    requires { CanTell acts.now standings.now came }
+    ensures { IfOk result (λ row. row ≡ row_of acts.now standings.now came) }
 {
-    match &line.asks {
-        Asks::Logged {
-            session,
-            rank,
-            command,
-        } => log_command(alloc, loglet, replica, line, session, *rank, command),
-        Asks::Look { session, query } => look(alloc, loglet, replica, line, session, query),
+    match came {
+        Came::Told(row) => Ok(row),
+        Came::Sent(sent) => {
+            let standing = standings[usize::from(sent.session.number())];
+            row_of_sent(sent, acts, standing)
+        }
     }
 }
 
-/// Answers each line in order, and applies all of the log at the end.
-pub fn play(
+/// The rows of all lines, once it is known what acted.
+fn rows_of(
     alloc: Global,
-    loglet: &mut FileLoglet,
+    cames: Vec<Came>,
+    acts: &[Act],
+    standings: &[Standing; 64],
+) -> Result<Rows, AllocError>
+    requires { All (CanTell acts.now standings.now) cames.items }
+    ensures { IfOk result (λ rows. rows ≡ map (row_of acts.now standings.now) cames.items) }
+{
+    let mut rows = Vec::with_capacity(alloc, cames.len())?;
+    for came in cames {
+        rows.push(row_of(came, acts, standings)?)?;
+    }
+    Ok(Rows::from_vec(rows))
+}
+
+/// The number of barriers before the first line.
+fn first_phase(lines: &[NamedLine]) -> u64
+    ensures { result ≡ first_phase lines.now }
+{
+    match lines {
+        [first, ..] => first.phase,
+        [] => 0,
+    }
+}
+
+/// Each session before its first line.
+fn before_lines() -> [Standing; 64]
+    ensures { (s : ℕ) → standing_of result s ≡ fresh }
+{
+    [FRESH; 64]
+}
+
+/// Answers each line in order, ends each phase, and syncs once more. Takes a few operations on the
+/// log for each line and phase, beside one read for each entry.
+pub fn play<L: Loglet>(
+    alloc: Global,
+    loglet: &mut L,
     lines: &[NamedLine],
 ) -> Result<Played, AllocError>
-    requires fresh { IsFresh loglet.old }
-    requires room { HasRoom loglet.old 20000 }
+    requires fresh { IsFresh (L.view loglet.old) }
     requires playable { ArePlayable lines.now }
-    ensures { IfOk result (Plays lines.now loglet.new) }
+    ensures { IfOk result (Plays lines.now (L.view loglet.new)) }
 {
     let mut replica = Replica {
         table: Table::new(alloc),
         cursor: 0,
+        acts: Acts::from_vec(Vec::new(alloc)),
     };
-    let mut rows = Vec::new(alloc);
+    let mut standings = before_lines();
+    let mut sent = 0;
+    let mut phase = first_phase(lines);
+    let mut cames = Vec::new(alloc);
     for line in lines {
-        let step = answer(alloc, loglet, replica, line)?;
-        rows.push(step.row)?;
+        replica = change_phase(alloc, loglet, replica, &mut standings, phase, line.phase)?;
+        phase = line.phase;
+        let id = usize::from(session_of(&line.asks).number());
+        let step = answer(alloc, loglet, line, replica, sent, standings[id])?;
+        standings[id] = step.standing;
+        sent = step.sent;
         replica = step.replica;
+        cames.push(step.came)?;
     }
-    let synced = sync(alloc, loglet, replica)?;
+    let replica = end_phase(alloc, loglet, replica, &mut standings)?;
+    let Synced { replica, .. } = sync(alloc, loglet, replica)?;
+    let rows = rows_of(alloc, cames, replica.acts.as_slice(), &standings)?;
     Ok(Played {
-        rows: Rows::from_vec(rows),
-        end: synced.replica.cursor,
+        rows,
+        end: replica.cursor,
     })
 }

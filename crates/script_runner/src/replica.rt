@@ -1,31 +1,34 @@
 //! A node's copy of the table, which follows the log.
-ghost use Rattle.std.specs.Prelude.{◌≡◌, ◌+◌, ◌<◌, ◌≤◌, IfOk, length, [], drop};
-ghost use Rattle.engine_api.specs.Acted.{appearances, asked_in, replied, table_after};
+ghost use Rattle.std.specs.Prelude.{◌≡◌, ◌≤◌, IfOk, IsSomeAnd};
+ghost use Rattle.engine_api.specs.Acted.{appearances, replied, table_after};
 ghost use Rattle.engine_api.specs.Items.{unpack};
-ghost use Rattle.script_runner.specs.OneLoglet.{IsCalm};
-ghost use Rattle.script_runner.specs.Replicas.{Follows};
+ghost use Rattle.script_runner.specs.OneLoglet.{IsLog, Causes};
+ghost use Rattle.script_runner.specs.Replicas.{IsReplica, Follows, Syncs};
 
 use crate::log;
+use crate::log::Fault;
+use delos_types::cause::Cause;
 use delos_types::entry::Entry;
 use engine_api::act::Acts;
 use engine_api::acted::{Acted, appearances, replied};
 use engine_api::read::unpack;
-use file_loglet::file::FileLoglet;
+use loglet_api::loglet::Loglet;
 use std::alloc::{AllocError, Global};
 use table_core::table::Table;
 
-/// The table after all entries below the cursor.
+/// The table after all entries below the cursor, and what acted in them, in order.
 #[derive(Drop)]
 pub struct Replica {
     pub table: Table,
     pub cursor: u64,
+    pub acts: Acts,
 }
 
-/// A replica at the tail of the log, and what acted on its way there.
+/// A replica that went on along the log, and why it stopped below the tail, if it did.
 #[derive(Drop)]
 pub struct Synced {
     pub replica: Replica,
-    pub acts: Acts,
+    pub cause: Option<Cause>,
 }
 
 /// Applies the entry at a position to the table.
@@ -38,19 +41,50 @@ fn apply(alloc: Global, table: Table, pos: u64, entry: &Entry) -> Result<Acted, 
     replied(alloc, table, asked.as_slice())
 }
 
-/// Applies the entries from the cursor up to the tail, one after another.
-pub fn sync(alloc: Global, loglet: &mut FileLoglet, replica: Replica) -> Result<Synced, AllocError>
-    requires calm { IsCalm loglet.old }
-    requires behind { replica.cursor ≤ length loglet.old.log }
-    requires few { loglet.old.begun + length loglet.old.log < loglet.old.limit + replica.cursor }
-    ensures { IfOk result (Follows loglet.old replica loglet.new) }
+/// The replica stops where it is, unless memory ran out.
+fn stopped(replica: Replica, fault: Fault) -> Result<Synced, AllocError>
+    ensures { IfOk result (λ s. (s.replica ≡ replica) × IsSomeAnd s.cause (Causes fault)) }
 {
-    let Replica { table, cursor } = replica;
-    let tail = log::check_tail(loglet)?;
+    let cause = fault.cause()?;
+    Ok(Synced {
+        replica,
+        cause: Some(cause),
+    })
+}
+
+/// Applies the entries from the cursor up to a tail that was answered.
+fn follow<L: Loglet>(
+    alloc: Global,
+    loglet: &mut L,
+    replica: Replica,
+    tail: u64,
+) -> Result<Synced, AllocError>
+    requires log { IsLog (L.view loglet.old) }
+    requires follows { IsReplica (L.view loglet.old) replica }
+    requires tail { tail ≡ (L.view loglet.old).reach }
+    requires above { replica.cursor ≤ tail }
+    ensures { IfOk result (Follows (L.view loglet.old) replica.cursor tail (L.view loglet.new)) }
+{
+    let Replica {
+        table,
+        cursor,
+        acts,
+    } = replica;
     let mut table = table;
-    let mut acts = Vec::new(alloc);
+    let mut acts = acts.into_vec();
     for pos in cursor..tail {
-        let entry = log::read(loglet, pos)?;
+        let entry = match log::read(loglet, pos) {
+            Ok(entry) => entry,
+            Err(fault) => {
+                let acts = Acts::from_vec(acts);
+                let replica = Replica {
+                    table,
+                    cursor: pos,
+                    acts,
+                };
+                return stopped(replica, fault);
+            }
+        };
         let done = apply(alloc, table, pos, &entry)?;
         table = done.table;
         acts.append(&mut done.acts.into_vec())?;
@@ -59,7 +93,25 @@ pub fn sync(alloc: Global, loglet: &mut FileLoglet, replica: Replica) -> Result<
         replica: Replica {
             table,
             cursor: tail,
+            acts: Acts::from_vec(acts),
         },
-        acts: Acts::from_vec(acts),
+        cause: None,
     })
+}
+
+/// Applies the entries from the cursor up to the tail, one after another. Where an operation on the
+/// log fails, the replica stays at the entry that could not be read.
+pub fn sync<L: Loglet>(
+    alloc: Global,
+    loglet: &mut L,
+    replica: Replica,
+) -> Result<Synced, AllocError>
+    requires log { IsLog (L.view loglet.old) }
+    requires follows { IsReplica (L.view loglet.old) replica }
+    ensures { IfOk result (Syncs (L.view loglet.old) replica.cursor (L.view loglet.new)) }
+{
+    match log::check_tail(loglet) {
+        Ok(tail) => follow(alloc, loglet, replica, tail),
+        Err(fault) => stopped(replica, fault),
+    }
 }

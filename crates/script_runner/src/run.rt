@@ -5,20 +5,23 @@ ghost use Rattle.outside_ends.specs.Faults.{Rose};
 ghost use Rattle.script_text.specs.Lines.{lines_of};
 ghost use Rattle.script_text.specs.Refusal.{refusal_text};
 ghost use Rattle.script_words.specs.Plans.{plan_of, bad_words_text};
-ghost use Rattle.script_runner.specs.Composed.{ComposesRun, IsComposed, IsComposedScript};
-ghost use Rattle.script_runner.specs.Ends.{Tells, IsPlan, PutsWhole, PutsFront, CanRun, text_of, IsRun};
-ghost use Rattle.script_runner.specs.Fresh.{IsFreshYard};
+ghost use Rattle.script_runner.specs.Composed.{ComposesRun, IsComposed, IsComposedScript, status_of};
+ghost use Rattle.script_runner.specs.Ends.{Tells, IsPlan, IsCalm, PutsWhole, PutsFront, CanRun, text_of, any_open, IsRun};
+ghost use Rattle.script_runner.specs.Fresh.{AreFresh, IsFreshFor, IsFreshShelf};
 ghost use Rattle.script_runner.specs.Lines.{ArePlayable};
 
 use crate::ended::{Ended, Status, Told};
+use crate::fitting::is_open;
 use crate::play::{Played, play};
 use crate::yard::Yard;
 use delos_types::bytes::Bytes;
 use delos_types::chain::{Chain, Segment, Segments};
+use loglet_api::loglet::Loglet;
 use outside_ends::sink::Sink;
 use outside_ends::source::Source;
 use outside_ends::whole::{ReadError, put_whole, read_up_to};
 use row_text::render::render;
+use row_text::row::Rows;
 use script_text::asks::named_lines;
 use script_text::refusal::refusal_text;
 use script_text::script::{BadLine, ParseError, Script, parse};
@@ -69,14 +72,15 @@ fn first_chain(alloc: Global) -> Result<Chain, AllocError>
     })
 }
 
-/// Plays a script on a fresh yard.
-fn tell(alloc: Global, script: Script, yard: &mut Yard) -> Result<Told, AllocError>
-    requires fresh { IsFreshYard yard.old }
+/// Plays a script on the first loglet of a fresh shelf.
+fn tell<L: Loglet>(alloc: Global, script: Script, shelf: &mut [L]) -> Result<Told, AllocError>
+    requires some { 0 < length shelf.old }
+    requires fresh { AreFresh (map L.view shelf.old) }
     requires playable { ArePlayable (lines_of script) }
-    ensures { IfOk result (Tells (lines_of script) yard.new) }
+    ensures { IfOk result (Tells (lines_of script) (map L.view shelf.new)) }
 {
     let lines = named_lines(alloc, script)?;
-    let Played { rows, end } = play(alloc, &mut yard.shelf, lines.as_slice())?;
+    let Played { rows, end } = play(alloc, &mut shelf[0], lines.as_slice())?;
     let chain = first_chain(alloc)?;
     Ok(Told {
         rows,
@@ -104,22 +108,42 @@ fn told_text(alloc: Global, plan: &Plan, told: &Told) -> Result<Bytes, AllocErro
     )
 }
 
+/// Whether some row is open.
+fn any_open(rows: &Rows) -> bool
+    ensures { result ≡ any_open rows.now }
+{
+    rows.as_slice().iter().any(|row| is_open(&row.outcome))
+}
+
+/// The status that the text of a run has once it is put whole.
+fn status_of(told: &Told) -> Status
+    ensures { result ≡ status_of told.now }
+{
+    if any_open(&told.rows) {
+        Status::Open
+    } else {
+        Status::Done
+    }
+}
+
 /// Runs a script, and makes the text of what it told.
-fn compose_run(
+fn compose_run<L: Loglet>(
     alloc: Global,
     plan: &Plan,
     script: Script,
-    yard: &mut Yard,
+    shelf: &mut [L],
 ) -> Result<Composed, AllocError>
-    requires fresh { IsFreshYard yard.old }
+    requires some { 0 < length shelf.old }
+    requires fresh { AreFresh (map L.view shelf.old) }
     requires playable { ArePlayable (lines_of script) }
     requires shelf { 0 < length plan.now.shelf }
-    ensures { IfOk result (ComposesRun plan.now script yard.new) }
+    ensures { IfOk result (ComposesRun plan.now script (map L.view shelf.new)) }
 {
-    let told = tell(alloc, script, yard)?;
+    let told = tell(alloc, script, shelf)?;
     let text = told_text(alloc, plan, &told)?;
+    let status = status_of(&told);
     Ok(Composed {
-        status: Status::Done,
+        status,
         told: Some(told),
         text,
     })
@@ -150,15 +174,15 @@ fn compose_bad_words(alloc: Global) -> Result<Composed, AllocError>
 }
 
 /// Reads the script, runs it, and makes the text.
-fn compose_script<S: Source>(
+fn compose_script<L: Loglet, S: Source>(
     alloc: Global,
     plan: &Plan,
     source: &mut S,
-    yard: &mut Yard,
+    shelf: &mut [L],
 ) -> Result<Composed, Failure>
-    requires fresh { IsFreshYard yard.old }
+    requires fresh { IsFreshFor plan.now (map L.view shelf.old) }
     requires plan { IsPlan plan.now }
-    ensures ok { IfOk result (IsComposedScript plan.now (S.left source.old) yard.new) }
+    ensures ok { IfOk result (IsComposedScript plan.now (S.left source.old) (map L.view shelf.new)) }
     ensures source { result ≡ Err Failure.Source → Rose (S.counted source.old) (S.counted source.new) }
 {
     let bytes = match read_up_to(alloc, source, READ_LIMIT) {
@@ -168,7 +192,7 @@ fn compose_script<S: Source>(
     };
     match parse(alloc, bytes.as_slice(), plan.nodes) {
         Ok(script) => {
-            let composed = compose_run(alloc, plan, script, yard)?;
+            let composed = compose_run(alloc, plan, script, shelf)?;
             Ok(composed)
         }
         Err(ParseError::Bad(bad)) => {
@@ -180,18 +204,18 @@ fn compose_script<S: Source>(
 }
 
 /// Takes the words, and composes what they ask for.
-fn compose<S: Source>(
+fn compose<L: Loglet, S: Source>(
     alloc: Global,
     words: &[String],
     source: &mut S,
-    yard: &mut Yard,
+    shelf: &mut [L],
 ) -> Result<Composed, Failure>
-    requires fresh { IsFreshYard yard.old }
-    ensures ok { IfOk result (IsComposed (map string_bytes words.now) (S.left source.old) yard.new) }
+    requires fresh { IsFreshShelf (map string_bytes words.now) (map L.view shelf.old) }
+    ensures ok { IfOk result (IsComposed (map string_bytes words.now) (S.left source.old) (map L.view shelf.new)) }
     ensures source { result ≡ Err Failure.Source → Rose (S.counted source.old) (S.counted source.new) }
 {
     match read_words(alloc, words) {
-        Ok(plan) => compose_script(alloc, &plan, source, yard),
+        Ok(plan) => compose_script(alloc, &plan, source, shelf),
         Err(WordsError::BadWords) => {
             let composed = compose_bad_words(alloc)?;
             Ok(composed)
@@ -200,8 +224,62 @@ fn compose<S: Source>(
     }
 }
 
+/// How a run over some shelf ended, and what was run, if a script was.
+#[derive(Drop)]
+struct Finished {
+    status: Status,
+    told: Option<Told>,
+}
+
+/// The run over the loglets of any shelf.
+fn run_over<L: Loglet, S: Source, K: Sink>(
+    alloc: Global,
+    words: &[String],
+    source: &mut S,
+    sink: &mut K,
+    shelf: &mut [L],
+) -> Finished
+    requires { IsFreshShelf (map string_bytes words.now) (map L.view shelf.old) }
+    ensures told { IfSome result.told (λ t. IsRun (map string_bytes words.now) (S.left source.old) (map L.view shelf.new) t) }
+    ensures done { result.status ≡ Status.Done → PutsWhole (map string_bytes words.now) (S.left source.old) (K.held sink.old) (K.held sink.new) (map L.view shelf.new) Status.Done result.told }
+    ensures open { result.status ≡ Status.Open → PutsWhole (map string_bytes words.now) (S.left source.old) (K.held sink.old) (K.held sink.new) (map L.view shelf.new) Status.Open result.told }
+    ensures bad_line { result.status ≡ Status.BadLine → PutsWhole (map string_bytes words.now) (S.left source.old) (K.held sink.old) (K.held sink.new) (map L.view shelf.new) Status.BadLine result.told }
+    ensures bad_words { result.status ≡ Status.BadWords → PutsWhole (map string_bytes words.now) (S.left source.old) (K.held sink.old) (K.held sink.new) (map L.view shelf.new) Status.BadWords result.told }
+    ensures sink_front { result.status ≡ Status.SinkFault → PutsFront (map string_bytes words.now) (S.left source.old) (K.held sink.old) (K.held sink.new) (map L.view shelf.new) result.told }
+    ensures sink_fault { result.status ≡ Status.SinkFault → Rose (K.counted sink.old) (K.counted sink.new) }
+    ensures source_fault { result.status ≡ Status.SourceFault → Rose (S.counted source.old) (S.counted source.new) }
+    ensures source_silent { result.status ≡ Status.SourceFault → (sink.new ≡ sink.old) × (result.told ≡ None) }
+    ensures memory { result.status ≡ Status.Memory → (sink.new ≡ sink.old) × (result.told ≡ None) }
+    ensures complete { CanRun (map string_bytes words.now) (S.left source.old) → result.status ≢ Status.BadWords × (result.status ≢ Status.BadLine) }
+    ensures calm { IsCalm (map L.view shelf.new) → result.status ≢ Status.Open }
+{
+    match compose(alloc, words, source, shelf) {
+        Ok(composed) => {
+            let Composed { status, told, text } = composed;
+            match put_whole(sink, text.as_slice()) {
+                Ok(()) => Finished { status, told },
+                Err(_) => Finished {
+                    status: Status::SinkFault,
+                    told,
+                },
+            }
+        }
+        Err(Failure::Memory) => Finished {
+            status: Status::Memory,
+            told: None,
+        },
+        Err(Failure::Source) => Finished {
+            status: Status::SourceFault,
+            told: None,
+        },
+    }
+}
+
 /// Runs the script that the source has left, as the words say, and puts the text of its rows and
 /// of the chain. The text is whole before any of it is put.
+///
+/// The shelf has as many loglets as the words name, all fresh, of any kind and room; the first is
+/// the chain's open segment. Where the words have no plan, nothing of the yard is touched.
 ///
 /// Takes time that grows with the script and its rows.
 pub fn run<R, S: Source, K: Sink>(
@@ -212,17 +290,19 @@ pub fn run<R, S: Source, K: Sink>(
     sink: &mut K,
     yard: Yard,
 ) -> Ended
-    requires { IsFreshYard yard }
+    requires { IsFreshShelf (map string_bytes words.now) (map (λ b. view b) yard.shelf.items) }
 
-    // What is told fits the script and the yard that comes back.
-    ensures told { IfSome result.told (λ t. IsRun (map string_bytes words.now) (S.left source.old) result.yard t) }
+    // What is told fits the script and the loglets that come back.
+    ensures told { IfSome result.told (λ t. IsRun (map string_bytes words.now) (S.left source.old) (map (λ b. view b) result.yard.shelf.items) t) }
 
-    // With status 0 the text of what was told was put, with 2 that of the first bad line, with 3
-    // that the words are bad; with 5 a front of one of these.
-    ensures done { result.status ≡ Status.Done → PutsWhole (map string_bytes words.now) (S.left source.old) (K.held sink.old) (K.held sink.new) result.yard Status.Done result.told }
-    ensures bad_line { result.status ≡ Status.BadLine → PutsWhole (map string_bytes words.now) (S.left source.old) (K.held sink.old) (K.held sink.new) result.yard Status.BadLine result.told }
-    ensures bad_words { result.status ≡ Status.BadWords → PutsWhole (map string_bytes words.now) (S.left source.old) (K.held sink.old) (K.held sink.new) result.yard Status.BadWords result.told }
-    ensures sink_front { result.status ≡ Status.SinkFault → PutsFront (map string_bytes words.now) (S.left source.old) (K.held sink.old) (K.held sink.new) result.yard result.told }
+    // With status 0 the text of what was told was put, and no row of it is open; with 1 some row is
+    // open; with 2 the text of the first bad line was put, with 3 that the words are bad; with 5 a
+    // front of one of these.
+    ensures done { result.status ≡ Status.Done → PutsWhole (map string_bytes words.now) (S.left source.old) (K.held sink.old) (K.held sink.new) (map (λ b. view b) result.yard.shelf.items) Status.Done result.told }
+    ensures open { result.status ≡ Status.Open → PutsWhole (map string_bytes words.now) (S.left source.old) (K.held sink.old) (K.held sink.new) (map (λ b. view b) result.yard.shelf.items) Status.Open result.told }
+    ensures bad_line { result.status ≡ Status.BadLine → PutsWhole (map string_bytes words.now) (S.left source.old) (K.held sink.old) (K.held sink.new) (map (λ b. view b) result.yard.shelf.items) Status.BadLine result.told }
+    ensures bad_words { result.status ≡ Status.BadWords → PutsWhole (map string_bytes words.now) (S.left source.old) (K.held sink.old) (K.held sink.new) (map (λ b. view b) result.yard.shelf.items) Status.BadWords result.told }
+    ensures sink_front { result.status ≡ Status.SinkFault → PutsFront (map string_bytes words.now) (S.left source.old) (K.held sink.old) (K.held sink.new) (map (λ b. view b) result.yard.shelf.items) result.told }
 
     // A fault was counted, and without a text nothing was put or told.
     ensures sink_fault { result.status ≡ Status.SinkFault → Rose (K.counted sink.old) (K.counted sink.new) }
@@ -230,31 +310,12 @@ pub fn run<R, S: Source, K: Sink>(
     ensures source_silent { result.status ≡ Status.SourceFault → (sink.new ≡ sink.old) × (result.told ≡ None) }
     ensures memory { result.status ≡ Status.Memory → (sink.new ≡ sink.old) × (result.told ≡ None) }
 
-    // A script that the source tells is run, unless a fault is counted or memory runs out.
+    // A script that the source tells is run, and where no loglet counts a fault no row is open: so
+    // where no fault is counted the status is 0 or 6.
     ensures complete { CanRun (map string_bytes words.now) (S.left source.old) → result.status ≢ Status.BadWords × (result.status ≢ Status.BadLine) }
+    ensures calm { IsCalm (map (λ b. view b) result.yard.shelf.items) → result.status ≢ Status.Open }
 {
     let mut yard = yard;
-    match compose(alloc, words, source, &mut yard) {
-        Ok(composed) => {
-            let Composed { status, told, text } = composed;
-            match put_whole(sink, text.as_slice()) {
-                Ok(()) => Ended { status, yard, told },
-                Err(_) => Ended {
-                    status: Status::SinkFault,
-                    yard,
-                    told,
-                },
-            }
-        }
-        Err(Failure::Memory) => Ended {
-            status: Status::Memory,
-            yard,
-            told: None,
-        },
-        Err(Failure::Source) => Ended {
-            status: Status::SourceFault,
-            yard,
-            told: None,
-        },
-    }
+    let Finished { status, told } = run_over(alloc, words, source, sink, yard.shelf.as_mut_slice());
+    Ended { status, yard, told }
 }

@@ -1,8 +1,9 @@
 //! What a run works on.
-use file_loglet::file::FileLoglet;
+use loglet_api::loglet::Loglet;
 
-/// What a run works on, and gives back: the shelf of loglets, so far one.
+/// What a run works on, and gives back: the shelf of loglets, 1 to 64, the first of which is the
+/// chain's open segment.
 #[derive(Drop)]
 pub struct Yard {
-    pub shelf: FileLoglet,
+    pub shelf: Vec<Box<dyn Loglet + Send>>,
 }
