@@ -160,3 +160,11 @@ module _ (may : ℕ → Entry → Type 0) (floor : List Entry → ℕ) (shelf : 
 
   pub end_ok : (who : ℕ) (mid new : List Event) (i t n : ℕ) (r : Running) → Answered who mid i t r (SealedTail n) new → Contains ((state_of new).cells i).ends n
   end_ok who mid new i t n r a = subst (λ l. Contains l n) (sym a.ends) (Contains-push ((state_of a.moment).cells i).ends n)
+
+  -- a loglet that was told sealed before has no open tail
+  pub never_open : (who : ℕ) (old mid new : List Event) (i t n : ℕ) → IsLegal may floor shelf old → (first : Later may floor shelf old mid) → (o : Opened who old i Tail t mid) → Answered who mid i t (started ((state_of (old ++ o.others)).cells i).told Tail) (OpenTail n) new → ((state_of old).cells i).told.sealed ≡ true → ⊥
+  never_open who old mid new i t n legal first o x shut =
+      let begin = old ++ o.others in
+      let begin_legal = legal_front may floor shelf begin o.rest (subst (IsLegal may floor shelf) o.seen first.legal) in
+      let now = ((goes_on may floor shelf old o.others begin_legal).cell i).sealed shut in
+      let no : true ≡ false = sym now ∙ x.may.1.unsealed in absurd (cc)

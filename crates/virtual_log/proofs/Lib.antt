@@ -1,2 +1,4 @@
 pub mod OneTurn
 pub mod Appending
+pub mod Replacing
+pub mod Lasts

@@ -1,2 +1,4 @@
 pub mod Turning
 pub mod Causes
+pub mod Tails
+pub mod Log

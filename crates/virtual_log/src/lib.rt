@@ -14,7 +14,7 @@
 
 pub mod chooser;
 pub mod fault;
-// pub mod log;
+pub mod log;
 mod operation;
-// mod replace;
+mod replace;
 mod turn;
