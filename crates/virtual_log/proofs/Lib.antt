@@ -2,3 +2,4 @@ pub mod OneTurn
 pub mod Appending
 pub mod Replacing
 pub mod Lasts
+pub mod Going

@@ -21,7 +21,7 @@ use Rattle.legal_journal.proofs.Legal.{legal_front, IsLegalFrom-split, after_all
 use Rattle.legal_journal.proofs.Taken.{Keeps, own_stays, Took, took}
 use Rattle.virtual_log.specs.declared.fault.Fault.{Fault}
 use Rattle.virtual_log.specs.declared.fault.Fault.TheVariants as fault
-use Rattle.virtual_log.specs.Turning.{Later, Looked, Opened, Answered, HasEvent, IsAnswer}
+use Rattle.virtual_log.specs.Turning.{Later, Looked, FirstTurn, Opened, Answered, HasEvent, IsAnswer}
 use Rattle.virtual_log.specs.Causes.{Causes, HasCause}
 
 pub nil : (xs : List Event) → xs ≡ xs ++ []
@@ -43,7 +43,7 @@ module _ (may : ℕ → Entry → Type 0) (floor : List Entry → ℕ) (shelf : 
       let w = state_of (old ++ h.others) in
       let at : (state_of new).cells i ≡ cell_after who (w.cells i) (Begins op t) = ap (λ (x : State). x.cells i) k.now ∙ put_same w.cells i (cell_after who (w.cells i) (Begins op t)) in
       record {
-        others = h.others; apart = h.apart; rest = h.own; seen = h.seen;
+        first = record { others = h.others; apart = h.apart; event = record { who = who; call = Begin i op; answer = Begun t }; own = refl; rest = []; seen = h.seen ∙ ap (λ es. (old ++ h.others) ++ es) h.event };
         own = subst (λ (c : CellState). IsOwn c who t (started (w.cells i).told op)) (sym at) (record {
           is_open = put_same (w.cells i).told.ops t _; own = put_same (w.cells i).owner t who });
       }
@@ -147,4 +147,11 @@ answered_since who a b c i t r x more is h = record {
   since = (more ++ h.since.0, h.since.1 ∙ (ap (λ l. l ++ h.since.0) is ∙ append_assoc a more h.since.0));
   rest = h.rest; may = h.may; told = h.told; ends = h.ends;
   event = event_since (λ e. IsAnswer who i t x e) a b c more is h.event;
+}
+
+-- what was first stays first
+abbrev pub first_later : (who : ℕ) (a b c more : List Event) → c ≡ b ++ more → FirstTurn who a b → FirstTurn who a c
+first_later who a b c more is f = record {
+  others = f.others; apart = f.apart; event = f.event; own = f.own; rest = f.rest ++ more;
+  seen = is ∙ (ap (λ es. es ++ more) f.seen ∙ append_assoc (a ++ f.others) (f.event ∷ f.rest) more);
 }

@@ -2,3 +2,4 @@ pub mod Turning
 pub mod Causes
 pub mod Tails
 pub mod Log
+pub mod Next

@@ -3,7 +3,7 @@ ghost use Rattle.std.specs.Prelude.{◌≡◌, ◌<◌, ◌≤◌, ℕ, ◌+◌,
 ghost use Rattle.delos_types.specs.Spelling.{IsSpellable};
 ghost use Rattle.legal_journal.specs.Journal.{state_of, IsLegal, tail_of};
 ghost use Rattle.legal_journal.specs.Laws.{Stands};
-ghost use Rattle.virtual_log.specs.Turning.{Later, IsAbove};
+ghost use Rattle.virtual_log.specs.Turning.{Later, FirstTurn, IsAbove};
 ghost use Rattle.virtual_log.specs.Causes.{HasCause};
 ghost use Rattle.virtual_log.specs.Tails.{IsFound, IsSealedTail};
 
@@ -31,6 +31,7 @@ pub fn append_to<T: Turns, C: Chooser>(
     ensures later { Later T.Law.may T.Law.floor T.Law.shelf (T.seen turns.old) (T.seen turns.new) }
     ensures who { T.who turns.new ≡ T.who turns.old }
     ensures sealed { IfOk result (λ o. IfNone o (((state_of (T.seen turns.new)).cells segment.id).told.sealed ≡ true)) }
+    ensures retry { IfOk result (λ o. IfNone o (FirstTurn (T.who turns.old) (T.seen turns.old) (T.seen turns.new))) }
     ensures stands { IfOk result (λ o. IfSome o (λ pos. Stands (state_of (T.seen turns.new)) pos entry.now)) }
     ensures above { IfOk result (λ o. IfSome o (λ pos. IsAbove (T.who turns.old) (T.seen turns.old) pos (T.seen turns.new))) }
     ensures reached { IfOk result (λ o. IfSome o (λ pos. pos + 1 ≤ segment.start + ((state_of (T.seen turns.new)).cells segment.id).told.reach)) }

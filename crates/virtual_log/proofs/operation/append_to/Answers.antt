@@ -10,7 +10,7 @@ use Rattle.legal_journal.specs.Laws.{Stands}
 use Rattle.virtual_log.specs.Turning.{Answered, HasEvent, IsAnswer}
 use Rattle.virtual_log.specs.Causes.{HasCause}
 use Rattle.virtual_log.specs.declared.fault.Fault.TheVariants as fault
-use Rattle.virtual_log.proofs.OneTurn.{own_by, lack_cause, cause_since}
+use Rattle.virtual_log.proofs.OneTurn.{own_by, lack_cause, cause_since, first_later}
 use Rattle.virtual_log.proofs.Appending.{may_append, started_within, placed_ok, Placing, sealed_ok}
 use Rattle.virtual_log.proofs.operation.append_to.Goals as goal
 
@@ -36,7 +36,7 @@ overflow_add-result g c =
     let mid = t.seen c.begin.new.turns in
     let new = t.seen c.carry_on.new.turns in
     let o = c.in_ok-ticket.ensures.ok in
-    let r = started ((state_of (t.seen c.args.turns.now ++ o.others)).cells c.args.segment.id).told (Append c.in_ok-copy.copy) in
+    let r = started ((state_of (t.seen c.args.turns.now ++ o.first.others)).cells c.args.segment.id).told (Append c.in_ok-copy.copy) in
     let x = subst (λ (a : Answer). Answered who mid c.args.segment.id c.in_ok-ticket.ticket r a new) c.in-Placed.is
         (subst (λ k. Answered k mid c.args.segment.id c.in_ok-ticket.ticket r c.in_ok-place.field-0 new) c.in_ok-ticket.ensures.who (c.in_ok-place.ensures.ok r (own_by _ _ _ _ _ c.in_ok-ticket.ensures.who o.own))) in
     let k = placed_ok p.may p.floor p.shelf who (t.seen c.args.turns.now) mid new c.args.segment.id c.args.segment.start c.in_ok-ticket.ticket c.in-Placed.place c.in_ok-copy.copy
@@ -51,7 +51,7 @@ returns-in-Placed-clause-stands g c =
     let mid = t.seen c.begin.new.turns in
     let new = t.seen c.carry_on.new.turns in
     let o = c.in_ok-ticket.ensures.ok in
-    let r = started ((state_of (t.seen c.args.turns.now ++ o.others)).cells c.args.segment.id).told (Append c.in_ok-copy.copy) in
+    let r = started ((state_of (t.seen c.args.turns.now ++ o.first.others)).cells c.args.segment.id).told (Append c.in_ok-copy.copy) in
     let x = subst (λ (a : Answer). Answered who mid c.args.segment.id c.in_ok-ticket.ticket r a new) c.in-Placed.is
         (subst (λ k. Answered k mid c.args.segment.id c.in_ok-ticket.ticket r c.in_ok-place.field-0 new) c.in_ok-ticket.ensures.who (c.in_ok-place.ensures.ok r (own_by _ _ _ _ _ c.in_ok-ticket.ensures.who o.own))) in
     let k = placed_ok p.may p.floor p.shelf who (t.seen c.args.turns.now) mid new c.args.segment.id c.args.segment.start c.in_ok-ticket.ticket c.in-Placed.place c.in_ok-copy.copy
@@ -66,7 +66,7 @@ returns-in-Placed-clause-above g c =
     let mid = t.seen c.begin.new.turns in
     let new = t.seen c.carry_on.new.turns in
     let o = c.in_ok-ticket.ensures.ok in
-    let r = started ((state_of (t.seen c.args.turns.now ++ o.others)).cells c.args.segment.id).told (Append c.in_ok-copy.copy) in
+    let r = started ((state_of (t.seen c.args.turns.now ++ o.first.others)).cells c.args.segment.id).told (Append c.in_ok-copy.copy) in
     let x = subst (λ (a : Answer). Answered who mid c.args.segment.id c.in_ok-ticket.ticket r a new) c.in-Placed.is
         (subst (λ k. Answered k mid c.args.segment.id c.in_ok-ticket.ticket r c.in_ok-place.field-0 new) c.in_ok-ticket.ensures.who (c.in_ok-place.ensures.ok r (own_by _ _ _ _ _ c.in_ok-ticket.ensures.who o.own))) in
     (placed_ok p.may p.floor p.shelf who (t.seen c.args.turns.now) mid new c.args.segment.id c.args.segment.start c.in_ok-ticket.ticket c.in-Placed.place c.in_ok-copy.copy
@@ -80,7 +80,7 @@ returns-in-Placed-clause-reached g c =
     let mid = t.seen c.begin.new.turns in
     let new = t.seen c.carry_on.new.turns in
     let o = c.in_ok-ticket.ensures.ok in
-    let r = started ((state_of (t.seen c.args.turns.now ++ o.others)).cells c.args.segment.id).told (Append c.in_ok-copy.copy) in
+    let r = started ((state_of (t.seen c.args.turns.now ++ o.first.others)).cells c.args.segment.id).told (Append c.in_ok-copy.copy) in
     let x = subst (λ (a : Answer). Answered who mid c.args.segment.id c.in_ok-ticket.ticket r a new) c.in-Placed.is
         (subst (λ k. Answered k mid c.args.segment.id c.in_ok-ticket.ticket r c.in_ok-place.field-0 new) c.in_ok-ticket.ensures.who (c.in_ok-place.ensures.ok r (own_by _ _ _ _ _ c.in_ok-ticket.ensures.who o.own))) in
     (placed_ok p.may p.floor p.shelf who (t.seen c.args.turns.now) mid new c.args.segment.id c.args.segment.start c.in_ok-ticket.ticket c.in-Placed.place c.in_ok-copy.copy
@@ -91,7 +91,7 @@ returns-in-Sealed-clause-sealed g c =
     let p = g.T.Law.Rules in
     let t = g.T.Turns in
     let o = c.in_ok-ticket.ensures.ok in
-    let r = started ((state_of (t.seen c.args.turns.now ++ o.others)).cells c.args.segment.id).told (Append c.in_ok-copy.copy) in
+    let r = started ((state_of (t.seen c.args.turns.now ++ o.first.others)).cells c.args.segment.id).told (Append c.in_ok-copy.copy) in
     sealed_ok p.may p.floor p.shelf (t.who c.begin.new.turns) (t.seen c.begin.new.turns) (t.seen c.carry_on.new.turns) c.args.segment.id c.in_ok-ticket.ticket r
         (subst (λ (a : Answer). Answered (t.who c.begin.new.turns) (t.seen c.begin.new.turns) c.args.segment.id c.in_ok-ticket.ticket r a (t.seen c.carry_on.new.turns)) c.in-Sealed.is
             (c.in_ok-place.ensures.ok r (own_by _ _ _ _ _ c.in_ok-ticket.ensures.who o.own)))
@@ -104,8 +104,13 @@ returns-in-NoQuorum-clause-err g c =
     let mid = t.seen c.begin.new.turns in
     let new = t.seen c.carry_on.new.turns in
     let o = c.in_ok-ticket.ensures.ok in
-    let r = started ((state_of (t.seen c.args.turns.now ++ o.others)).cells c.args.segment.id).told (Append c.in_ok-copy.copy) in
+    let r = started ((state_of (t.seen c.args.turns.now ++ o.first.others)).cells c.args.segment.id).told (Append c.in_ok-copy.copy) in
     let x = subst (λ (a : Answer). Answered who mid c.args.segment.id c.in_ok-ticket.ticket r a new) c.in-NoQuorum.is
         (subst (λ k. Answered k mid c.args.segment.id c.in_ok-ticket.ticket r c.in_ok-place.field-0 new) c.in_ok-ticket.ensures.who (c.in_ok-place.ensures.ok r (own_by _ _ _ _ _ c.in_ok-ticket.ensures.who o.own))) in
     cause_since who (fault.NoQuorum c.args.segment.id c.in-NoQuorum.unreached) (t.seen c.args.turns.now) mid new c.in_ok-ticket.ensures.later.more c.in_ok-ticket.ensures.later.seen
         (lack_cause who c.args.segment.id c.in_ok-ticket.ticket c.in-NoQuorum.unreached mid new x.event)
+
+pub returns-in-Sealed-clause-retry : goal.returns-in-Sealed-clause-retry
+returns-in-Sealed-clause-retry g c =
+    let t = g.T.Turns in
+    first_later (t.who c.args.turns.now) (t.seen c.args.turns.now) (t.seen c.begin.new.turns) (t.seen c.carry_on.new.turns) c.in_ok-place.ensures.later.more c.in_ok-place.ensures.later.seen c.in_ok-ticket.ensures.ok.first
