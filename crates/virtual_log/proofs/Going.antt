@@ -1,20 +1,22 @@
 -- The chain that a virtual log goes by stays one that it may go by.
-use Rattle.std.proofs.Common.{◌≡◌, ◌⊎◌, ℕ, ◌+◌, ◌-◌, ◌<◌, ◌≤◌, ◌^◌, max, List, ◌++◌, length, Some, refl, sym, ap, ◌∙◌, subst, arith}
+use Rattle.std.specs.Prelude.{nat_lt}
+use Rattle.std.proofs.lemmas.Bool.Decides.{nat_tests}
+use Rattle.std.proofs.Common.{◌≡◌, ◌⊎◌, ℕ, ◌+◌, ◌-◌, ◌<◌, ◌≤◌, ◌^◌, max, List, ◌++◌, length, Bool, true, false, Some, refl, sym, ap, ◌∙◌, subst, arith}
 use Rattle.delos_types.specs.declared.entry.Entry.{Entry}
 use Rattle.delos_types.specs.declared.chain.Segment.{Segment}
 use Rattle.delos_types.specs.declared.chain.Chain.{Chain}
 use Rattle.chain_map.specs.Chain.{last_segment, last_of_segments}
 use Rattle.legal_journal.specs.declared.events.Event.{Event}
-use Rattle.legal_journal.specs.Journal.{State, state_of, IsLegal, tail_of}
+use Rattle.legal_journal.specs.Journal.{State, state_of, IsLegal, tail_of, trim_of}
 use Rattle.legal_journal.specs.Laws.{Continues}
 use Rattle.legal_journal.proofs.Cells.{CellOk}
 use Rattle.legal_journal.proofs.Sound.{StateOk, reach_le_end}
 use Rattle.legal_journal.proofs.Legal.{sound}
-use Rattle.virtual_log.specs.Turning.{Later}
+use Rattle.virtual_log.specs.Turning.{Later, Looked}
 use Rattle.virtual_log.specs.Log.{GoesBy}
 use Rattle.virtual_log.proofs.OneTurn.{later_continues}
 use Rattle.virtual_log.proofs.Appending.{reach_below}
-use Rattle.virtual_log.proofs.Replacing.{last_started}
+use Rattle.virtual_log.proofs.Replacing.{last_started, given_now}
 
 module _ (may : ℕ → Entry → Type 0) (floor : List Entry → ℕ) (shelf : List ℕ) where
   -- the last segment of the chain started where the chain says
@@ -59,3 +61,35 @@ module _ (may : ℕ → Entry → Type 0) (floor : List Entry → ℕ) (shelf : 
   fewer es v k i c legal g up =
       let ok = sound may floor shelf es legal in
       omega (arith, up, (ok.olds v c g.given).last, ok.shelf)
+
+  -- the chain that the register gives now may be gone by
+  pub goes_now : (who v k n : ℕ) (c d : Chain) (a b : List Event) → IsLegal may floor shelf a → Later may floor shelf a b → GoesBy (state_of a) v c k → Looked who a n d b → GoesBy (state_of b) n d k
+  goes_now who v k n c d a b legal later g l =
+      let given = given_now may floor shelf who n d a b later.legal l in
+      let ok = sound may floor shelf b later.legal in
+      let on = goes_later a b v k c later g in
+      let s = last_segment c in
+      let up : s.id ≤ (last_segment d).id = omega (arith, (ok.olds v c on.given).last, ap (λ (x : Chain). (last_of_segments x.segments).id) l.chain_is) in
+      by_test given on up (nat_lt s.id (last_segment d).id) refl
+    where
+      by_test : (state_of b).register.given n ≡ Some d → GoesBy (state_of b) v c k → (last_segment c).id ≤ (last_segment d).id → (t : Bool) → nat_lt (last_segment c).id (last_segment d).id ≡ t → GoesBy (state_of b) n d k
+      by_test given on up true t = goes_behind a b v k n c d (last_segment c) legal later g refl given (grind (arith, nat_tests))
+      by_test given on up false t =
+          let ok = sound may floor shelf b later.legal in
+          let same : (last_segment c).id ≡ (last_segment d).id = grind (arith, nat_tests) in
+          let both : Some (last_segment c).start ≡ Some (last_segment d).start = sym (last_started (length shelf) (state_of b) v c ok on.given) ∙ (ap (state_of b).starts same ∙ last_started (length shelf) (state_of b) n d ok given) in
+          let start_is : (last_segment c).start ≡ (last_segment d).start = cc in
+          record { given = given; reached = omega (arith, on.reached, start_is, ap (λ i. ((state_of b).cells i).told.reach) same) }
+
+  -- the chain that the register gives now has the log's trim, which is small
+  pub trim_now : (who n : ℕ) (d : Chain) (a b : List Event) → Later may floor shelf a b → Looked who a n d b → (d.trim ≡ trim_of (state_of b)) × (d.trim ≤ 2 ^ 38)
+  trim_now who n d a b later l =
+      let is : d.trim ≡ trim_of (state_of b) = ap (λ (x : Chain). x.trim) (sym l.chain_is) in
+      (is, omega (arith, is, (sound may floor shelf b later.legal).trim))
+
+  -- a chain that was given has no higher trim than the log
+  pub trim_below : (es : List Event) (v k : ℕ) (c : Chain) → IsLegal may floor shelf es → GoesBy (state_of es) v c k → (c.trim ≤ trim_of (state_of es)) × (c.trim ≤ 2 ^ 38)
+  trim_below es v k c legal g =
+      let ok = sound may floor shelf es legal in
+      let low = (ok.olds v c g.given).trim in
+      (low, omega (arith, low, ok.trim))

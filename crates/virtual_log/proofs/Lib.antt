@@ -3,3 +3,4 @@ pub mod Appending
 pub mod Replacing
 pub mod Lasts
 pub mod Going
+pub mod Reading

@@ -7,6 +7,7 @@ ghost use Rattle.legal_journal.specs.Laws.{Stands};
 ghost use Rattle.virtual_log.specs.Turning.{Later, IsAbove};
 ghost use Rattle.virtual_log.specs.Causes.{HasCause};
 ghost use Rattle.virtual_log.specs.Log.{GoesBy};
+ghost use Rattle.virtual_log.specs.Next.{IsNext};
 
 use chain_map::place::{Located, locate};
 use delos_types::chain::Chain;
@@ -20,7 +21,7 @@ use crate::chooser::Chooser;
 use crate::fault::Fault;
 use crate::operation::{FoundTail, append_to, find_tail};
 use crate::replace::{chain_behind, last_of};
-use crate::turn::{begin, carry_on};
+use crate::turn::{begin, carry_on, look};
 
 /// The chain that a virtual log goes by, and how much of the log it knows.
 pub struct Known {
@@ -132,5 +133,39 @@ fn read_at<T: Turns, C: Chooser>(
         Answer::CutAt(_) => return Ok(None),
         Answer::NoQuorum { unreached } => return Err(Fault::NoQuorum { id, unreached }),
         _ => return Err(Fault::Memory),
+    }
+}
+
+/// The first entry from position `min` on and below `m` that isn't trimmed.
+fn read_from<T: Turns, C: Chooser>(
+    turns: &mut T,
+    chooser: &mut C,
+    known: &mut Known,
+    min: u64,
+    m: u64,
+) -> Result<Next, Fault>
+    requires legal { IsLegal T.Law.may T.Law.floor T.Law.shelf (T.seen turns.old) }
+    requires goes_by { GoesBy (state_of (T.seen turns.old)) known.old.version known.old.chain known.old.tail }
+    requires some { min < m }
+    requires tail { m ≤ known.old.tail }
+    ensures later { Later T.Law.may T.Law.floor T.Law.shelf (T.seen turns.old) (T.seen turns.new) }
+    ensures who { T.who turns.new ≡ T.who turns.old }
+    ensures goes_by { GoesBy (state_of (T.seen turns.new)) known.new.version known.new.chain known.new.tail }
+    ensures known { known.new.tail ≡ known.old.tail }
+    ensures next { IfOk result (IsNext (T.seen turns.old) (T.seen turns.new) min m known.new.chain.trim) }
+    ensures err { IfErr result (λ fault. HasCause (T.who turns.old) (T.seen turns.old) fault (T.seen turns.new)) }
+{
+    'trim: loop {
+        let trim = known.chain.trim;
+        if m <= trim {
+            return Ok(Next::Trimmed(trim));
+        }
+        let pos = min.max(trim);
+        if let Some(entry) = read_at(turns, chooser, known, pos)? {
+            return Ok(Next::Found(pos, entry));
+        }
+        let (version, chain) = look(turns)?;
+        known.version = version;
+        known.chain = chain;
     }
 }
