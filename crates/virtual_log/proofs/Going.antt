@@ -1,17 +1,17 @@
 -- The chain that a virtual log goes by stays one that it may go by.
 use Rattle.std.specs.Prelude.{nat_lt}
 use Rattle.std.proofs.lemmas.Bool.Decides.{nat_tests}
-use Rattle.std.proofs.Common.{◌≡◌, ◌⊎◌, ℕ, ◌+◌, ◌-◌, ◌<◌, ◌≤◌, ◌^◌, max, List, ◌++◌, length, Bool, true, false, Some, refl, sym, ap, ◌∙◌, subst, arith}
+use Rattle.std.proofs.Common.{◌≡◌, ◌⊎◌, ℕ, ◌+◌, ◌-◌, ◌<◌, ◌≤◌, ◌^◌, max, List, [], ◌++◌, length, Bool, true, false, None, Some, refl, sym, ap, ◌∙◌, subst, arith}
 use Rattle.delos_types.specs.declared.entry.Entry.{Entry}
 use Rattle.delos_types.specs.declared.chain.Segment.{Segment}
 use Rattle.delos_types.specs.declared.chain.Chain.{Chain}
-use Rattle.chain_map.specs.Chain.{last_segment, last_of_segments}
+use Rattle.chain_map.specs.Chain.{first_chain, last_segment, last_of_segments}
 use Rattle.legal_journal.specs.declared.events.Event.{Event}
 use Rattle.legal_journal.specs.Journal.{State, state_of, IsLegal, tail_of, trim_of}
 use Rattle.legal_journal.specs.Laws.{Continues}
-use Rattle.legal_journal.proofs.Cells.{CellOk}
+use Rattle.legal_journal.proofs.Cells.{CellOk, put_same}
 use Rattle.legal_journal.proofs.Sound.{StateOk, reach_le_end}
-use Rattle.legal_journal.proofs.Legal.{sound}
+use Rattle.legal_journal.proofs.Legal.{sound, goes_on}
 use Rattle.virtual_log.specs.Turning.{Later, Looked}
 use Rattle.virtual_log.specs.Log.{GoesBy}
 use Rattle.virtual_log.proofs.OneTurn.{later_continues}
@@ -93,3 +93,15 @@ module _ (may : ℕ → Entry → Type 0) (floor : List Entry → ℕ) (shelf : 
       let ok = sound may floor shelf es legal in
       let low = (ok.olds v c g.given).trim in
       (low, omega (arith, low, ok.trim))
+
+  -- what is known is below the tail
+  pub known_below : (es : List Event) (v k : ℕ) (c : Chain) → IsLegal may floor shelf es → GoesBy (state_of es) v c k → k ≤ tail_of (state_of es)
+  known_below es v k c legal g =
+      let ok = sound may floor shelf es legal in
+      omega (arith, g.reached, reach_below (length shelf) (state_of es) (last_segment c).id (last_segment c).start ok (last_started (length shelf) (state_of es) v c ok g.given))
+
+  -- every journal gave the first chain
+  pub goes_first : (es : List Event) (c : Chain) → IsLegal may floor shelf es → c ≡ first_chain → GoesBy (state_of es) 1 c 0
+  goes_first es c legal is =
+      let on = goes_on may floor shelf [] es legal in
+      record { given = on.given 1 first_chain (put_same (λ _. None) 1 (Some first_chain)) ∙ ap (λ x. Some x) (sym is); reached = omega arith }

@@ -3,8 +3,8 @@ use Rattle.std.specs.Prelude.{◌≡◌, ℕ, ◌<◌, ◌≤◌, max, List, ◌
 use Rattle.legal_journal.specs.declared.events.Event.{Event}
 use Rattle.legal_journal.specs.Journal.{state_of}
 use Rattle.legal_journal.specs.Laws.{Stands}
-use Rattle.virtual_log.specs.declared.log.Next.{Next}
-use Rattle.virtual_log.specs.declared.log.Next.TheVariants.{Nothing, Trimmed, Found}
+use Rattle.virtual_log.specs.declared.calls.Next.{Next}
+use Rattle.virtual_log.specs.declared.calls.Next.TheVariants.{Nothing, Trimmed, Found}
 
 -- this was so at a moment since old
 pub record WasThere (old new : List Event) (P : List Event → Type 0) : Type 0 where

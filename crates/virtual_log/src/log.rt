@@ -1,171 +1,174 @@
 //! The virtual log.
-ghost use Rattle.std.specs.Prelude.{◌≡◌, ◌<◌, ◌≤◌, ◌+◌, ℕ, max, IfOk, IfErr, OnErr, IfSome, IfNone, Some, length};
-ghost use Rattle.chain_map.specs.Chain.{last_segment, last_id};
+ghost use Rattle.std.specs.Prelude.{◌≡◌, ◌≤◌, ◌<◌, ◌+◌, ℕ, min, max, IfOk, IfErr, OnErr};
 ghost use Rattle.delos_types.specs.Spelling.{IsSpellable};
-ghost use Rattle.legal_journal.specs.Journal.{state_of, IsLegal, tail_of, trim_of};
+ghost use Rattle.chain_map.specs.Chain.{first_chain};
+ghost use Rattle.legal_journal.specs.Journal.{state_of, IsLegal, tail_of};
 ghost use Rattle.legal_journal.specs.Laws.{Stands};
 ghost use Rattle.virtual_log.specs.Turning.{Later, IsAbove};
 ghost use Rattle.virtual_log.specs.Causes.{HasCause};
-ghost use Rattle.virtual_log.specs.Log.{GoesBy};
 ghost use Rattle.virtual_log.specs.Next.{IsNext};
+ghost use Rattle.virtual_log.specs.Log.{LogView};
 
-use chain_map::place::{Located, locate};
-use delos_types::chain::Chain;
+use chain_map::change::first_chain;
 use delos_types::entry::Entry;
 use legal_journal::rules::Rules;
 use legal_journal::turns::Turns;
-use loglet_api::call::{Answer, Op};
 use std::alloc::Global;
+use std::marker::Model;
 
 use crate::chooser::Chooser;
 use crate::fault::Fault;
-use crate::operation::{FoundTail, append_to, find_tail};
-use crate::replace::{chain_behind, last_of};
-use crate::turn::{begin, carry_on, look};
+use crate::calls::{Known, Next, append_on, read_from, tail_on};
 
-/// The chain that a virtual log goes by, and how much of the log it knows.
-pub struct Known {
-    pub version: u64,
-    pub chain: Chain,
-    /// The greatest position + 1 or tail that was answered.
-    pub tail: u64,
-}
-
-/// Appends an entry to the open loglet. Where that is sealed, lets the chain go on behind it, and
-/// appends again.
-fn append_on<T: Turns, C: Chooser>(
-    turns: &mut T,
-    chooser: &mut C,
+/// A log over a chain of loglets. It never answers "sealed": it finishes the replacement of a sealed
+/// loglet, whoever began it, and goes on.
+pub struct VirtualLog<T: Turns, C: Chooser> {
     alloc: Global,
-    known: &mut Known,
-    entry: &Entry,
-) -> Result<u64, Fault>
-    requires legal { IsLegal T.Law.may T.Law.floor T.Law.shelf (T.seen turns.old) }
-    requires goes_by { GoesBy (state_of (T.seen turns.old)) known.old.version known.old.chain known.old.tail }
-    requires may { T.Law.may (T.who turns.old) entry.now }
-    requires spelled { IsSpellable entry.now }
-    ensures later { Later T.Law.may T.Law.floor T.Law.shelf (T.seen turns.old) (T.seen turns.new) }
-    ensures who { T.who turns.new ≡ T.who turns.old }
-    ensures goes_by { GoesBy (state_of (T.seen turns.new)) known.new.version known.new.chain known.new.tail }
-    ensures stands { IfOk result (λ pos. Stands (state_of (T.seen turns.new)) pos entry.now) }
-    ensures above { IfOk result (λ pos. IsAbove (T.who turns.old) (T.seen turns.old) pos (T.seen turns.new)) }
-    ensures known { IfOk result (λ pos. known.new.tail ≡ max known.old.tail (pos + 1)) }
-    ensures unknown { OnErr result (known.new.tail ≡ known.old.tail) }
-    ensures err { IfErr result (λ fault. HasCause (T.who turns.old) (T.seen turns.old) fault (T.seen turns.new)) }
-{
-    'segment: loop {
-        let last = last_of(&known.chain);
-        if let Some(position) = append_to(turns, chooser, last, entry)? {
-            known.tail = known.tail.max(position + 1);
-            return Ok(position);
-        }
-        let (version, chain) = chain_behind(turns, chooser, alloc, last)?;
-        known.version = version;
-        known.chain = chain;
+    turns: T,
+    chooser: C,
+    known: Known,
+}
+
+/// What a virtual log was made of.
+pub struct Parts<T, C> {
+    pub turns: T,
+    pub chooser: C,
+}
+
+impl<T: Turns, C: Chooser> Model for VirtualLog<T, C> {
+    ghost use Rattle.virtual_log.specs.Log.{LogView, LogOk};
+
+    ghost Value = { LogView };
+
+    ghost view = { λ l. record { who = T.who l.turns; seen = T.seen l.turns; known = l.known.tail; version = l.known.version; chain = l.known.chain } };
+
+    ghost invariant = { λ l. LogOk T.Law.may T.Law.floor T.Law.shelf (record { who = T.who l.turns; seen = T.seen l.turns; known = l.known.tail; version = l.known.version; chain = l.known.chain }) };
+}
+
+impl<T: Turns, C: Chooser> VirtualLog<T, C> {
+    /// A virtual log that knows nothing yet but the first chain. Makes no event. Without memory it
+    /// hands the parts back.
+    pub fn new(alloc: Global, turns: T, chooser: C) -> Result<Self, Parts<T, C>>
+        requires { IsLegal T.Law.may T.Law.floor T.Law.shelf (T.seen turns) }
+        ensures ok { IfOk result (λ l. l ≡ record { who = T.who turns; seen = T.seen turns; known = 0; version = 1; chain = first_chain }) }
+        ensures err { IfErr result (λ p. (p.turns ≡ turns) × (p.chooser ≡ chooser)) }
+    {
+        let Ok(chain) = first_chain(alloc) else {
+            return Err(Parts { turns, chooser });
+        };
+        let known = Known {
+            version: 1,
+            chain,
+            tail: 0,
+        };
+        Ok(VirtualLog {
+            alloc,
+            turns,
+            chooser,
+            known,
+        })
     }
-}
 
-/// Finds the tail of the open loglet. Where that is sealed, lets the chain go on behind it, and looks
-/// there.
-fn tail_on<T: Turns, C: Chooser>(
-    turns: &mut T,
-    chooser: &mut C,
-    alloc: Global,
-    known: &mut Known,
-) -> Result<u64, Fault>
-    requires legal { IsLegal T.Law.may T.Law.floor T.Law.shelf (T.seen turns.old) }
-    requires goes_by { GoesBy (state_of (T.seen turns.old)) known.old.version known.old.chain known.old.tail }
-    ensures later { Later T.Law.may T.Law.floor T.Law.shelf (T.seen turns.old) (T.seen turns.new) }
-    ensures who { T.who turns.new ≡ T.who turns.old }
-    ensures goes_by { GoesBy (state_of (T.seen turns.new)) known.new.version known.new.chain known.new.tail }
-    ensures within { IfOk result (λ tail. tail ≤ tail_of (state_of (T.seen turns.new))) }
-    ensures above { IfOk result (λ tail. IsAbove (T.who turns.old) (T.seen turns.old) tail (T.seen turns.new)) }
-    ensures known { IfOk result (λ tail. known.new.tail ≡ max known.old.tail tail) }
-    ensures unknown { OnErr result (known.new.tail ≡ known.old.tail) }
-    ensures err { IfErr result (λ fault. HasCause (T.who turns.old) (T.seen turns.old) fault (T.seen turns.new)) }
-{
-    'segment: loop {
-        let last = last_of(&known.chain);
-        if let FoundTail::Open(tail) = find_tail(turns, chooser, last)? {
-            known.tail = known.tail.max(tail);
-            return Ok(tail);
-        }
-        let (version, chain) = chain_behind(turns, chooser, alloc, last)?;
-        known.version = version;
-        known.chain = chain;
+    /// The turns, with all that was seen. Takes no memory, and makes no event.
+    pub fn into_parts(self) -> Parts<T, C>
+        ensures who { T.who result.turns ≡ self.who }
+        ensures seen { T.seen result.turns ≡ self.seen }
+    {
+        let VirtualLog {
+            alloc: _,
+            turns,
+            chooser,
+            known: _,
+        } = self;
+        Parts { turns, chooser }
     }
-}
 
-/// What a read comes to.
-#[derive(Drop)]
-pub enum Next {
-    /// Nothing is known that is left to read.
-    Nothing,
-    /// All of it is below this trim.
-    Trimmed(u64),
-    /// The first entry that isn't trimmed, and its position.
-    Found(u64, Entry),
-}
-
-/// Reads one position. None: it was trimmed meanwhile.
-fn read_at<T: Turns, C: Chooser>(
-    turns: &mut T,
-    chooser: &mut C,
-    known: &Known,
-    pos: u64,
-) -> Result<Option<Entry>, Fault>
-    requires legal { IsLegal T.Law.may T.Law.floor T.Law.shelf (T.seen turns.old) }
-    requires goes_by { GoesBy (state_of (T.seen turns.old)) known.now.version known.now.chain known.now.tail }
-    requires trim { known.now.chain.trim ≤ pos }
-    requires tail { pos < known.now.tail }
-    ensures later { Later T.Law.may T.Law.floor T.Law.shelf (T.seen turns.old) (T.seen turns.new) }
-    ensures who { T.who turns.new ≡ T.who turns.old }
-    ensures found { IfOk result (λ o. IfSome o (λ e. Stands (state_of (T.seen turns.old)) pos e)) }
-    ensures cut { IfOk result (λ o. IfNone o (pos < trim_of (state_of (T.seen turns.new)))) }
-    ensures err { IfErr result (λ fault. HasCause (T.who turns.old) (T.seen turns.old) fault (T.seen turns.new)) }
-{
-    let Located::Inside { id, index } = locate(&known.chain, pos) else {
-        unreachable!()
-    };
-    let ticket = begin(turns, id, Op::Read(index))?;
-    match carry_on(turns, chooser, id, ticket)? {
-        Answer::Got(entry) => return Ok(Some(entry)),
-        Answer::CutAt(_) => return Ok(None),
-        Answer::NoQuorum { unreached } => return Err(Fault::NoQuorum { id, unreached }),
-        _ => return Err(Fault::Memory),
+    /// The greatest position + 1 or tail that this value was answered. Takes no memory.
+    pub fn known(&self) -> u64
+        ensures value { result ≡ self.now.known }
+        ensures within { result ≤ tail_of (state_of self.now.seen) }
+    {
+        self.known.tail
     }
-}
 
-/// The first entry from position `min` on and below `m` that isn't trimmed.
-fn read_from<T: Turns, C: Chooser>(
-    turns: &mut T,
-    chooser: &mut C,
-    known: &mut Known,
-    min: u64,
-    m: u64,
-) -> Result<Next, Fault>
-    requires legal { IsLegal T.Law.may T.Law.floor T.Law.shelf (T.seen turns.old) }
-    requires goes_by { GoesBy (state_of (T.seen turns.old)) known.old.version known.old.chain known.old.tail }
-    requires some { min < m }
-    requires tail { m ≤ known.old.tail }
-    ensures later { Later T.Law.may T.Law.floor T.Law.shelf (T.seen turns.old) (T.seen turns.new) }
-    ensures who { T.who turns.new ≡ T.who turns.old }
-    ensures goes_by { GoesBy (state_of (T.seen turns.new)) known.new.version known.new.chain known.new.tail }
-    ensures known { known.new.tail ≡ known.old.tail }
-    ensures next { IfOk result (IsNext (T.seen turns.old) (T.seen turns.new) min m known.new.chain.trim) }
-    ensures err { IfErr result (λ fault. HasCause (T.who turns.old) (T.seen turns.old) fault (T.seen turns.new)) }
-{
-    'trim: loop {
-        let trim = known.chain.trim;
-        if m <= trim {
-            return Ok(Next::Trimmed(trim));
+    /// Appends an entry, which is this user's to append. Where the last loglet is sealed, lets the
+    /// chain go on behind it, and appends again.
+    ///
+    /// Cost: one begin and its carries; after a replacement a few events more.
+    pub fn append(&mut self, entry: &Entry) -> Result<u64, Fault>
+        requires may { T.Law.may self.old.who entry.now }
+        requires spelled { IsSpellable entry.now }
+        ensures later { Later T.Law.may T.Law.floor T.Law.shelf self.old.seen self.new.seen }
+        ensures who { self.new.who ≡ self.old.who }
+
+        // The entry stands at its position: now, and by the laws of a legal journal for good, until
+        // it is trimmed there.
+        ensures stands { IfOk result (λ pos. Stands (state_of self.new.seen) pos entry.now) }
+
+        // The position is above each one, and not below any tail, that was answered before the first
+        // event of this call.
+        ensures above { IfOk result (λ pos. IsAbove self.old.who self.old.seen pos self.new.seen) }
+        ensures known { IfOk result (λ pos. self.new.known ≡ max self.old.known (pos + 1)) }
+
+        // Each fault but `Memory` was an own event of this call.
+        ensures err { IfErr result (λ fault. HasCause self.old.who self.old.seen fault self.new.seen) }
+        ensures unknown { OnErr result (self.new.known ≡ self.old.known) }
+    {
+        append_on(
+            &mut self.turns,
+            &mut self.chooser,
+            self.alloc,
+            &mut self.known,
+            entry,
+        )
+    }
+
+    /// A tail of the log.
+    pub fn check_tail(&mut self) -> Result<u64, Fault>
+        ensures later { Later T.Law.may T.Law.floor T.Law.shelf self.old.seen self.new.seen }
+        ensures who { self.new.who ≡ self.old.who }
+
+        // No entry of the log stands above its tail, and this is no higher.
+        ensures within { IfOk result (λ tail. tail ≤ tail_of (state_of self.new.seen)) }
+
+        // It is above each position, and not below any tail, that was answered before the first event
+        // of this call.
+        ensures above { IfOk result (λ tail. IsAbove self.old.who self.old.seen tail self.new.seen) }
+        ensures known { IfOk result (λ tail. self.new.known ≡ max self.old.known tail) }
+        ensures err { IfErr result (λ fault. HasCause self.old.who self.old.seen fault self.new.seen) }
+        ensures unknown { OnErr result (self.new.known ≡ self.old.known) }
+    {
+        tail_on(
+            &mut self.turns,
+            &mut self.chooser,
+            self.alloc,
+            &mut self.known,
+        )
+    }
+
+    /// The first entry from position `least` on that isn't trimmed, below `most` and below what is
+    /// known.
+    ///
+    /// Cost: one read of a loglet; the chain is read where others trimmed past what was known of it.
+    pub fn read_next(&mut self, least: u64, most: u64) -> Result<Next, Fault>
+        ensures later { Later T.Law.may T.Law.floor T.Law.shelf self.old.seen self.new.seen }
+        ensures who { self.new.who ≡ self.old.who }
+        ensures known { self.new.known ≡ self.old.known }
+
+        // The trim is that of the chain that this value goes by now.
+        ensures next { IfOk result (IsNext self.old.seen self.new.seen least (min most self.old.known) self.new.chain.trim) }
+        ensures err { IfErr result (λ fault. HasCause self.old.who self.old.seen fault self.new.seen) }
+    {
+        let end = most.min(self.known.tail);
+        if end <= least {
+            return Ok(Next::Nothing);
         }
-        let pos = min.max(trim);
-        if let Some(entry) = read_at(turns, chooser, known, pos)? {
-            return Ok(Next::Found(pos, entry));
-        }
-        let (version, chain) = look(turns)?;
-        known.version = version;
-        known.chain = chain;
+        read_from(
+            &mut self.turns,
+            &mut self.chooser,
+            &mut self.known,
+            least,
+            end,
+        )
     }
 }

@@ -4,7 +4,7 @@ use Rattle.legal_journal.specs.declared.events.Event.{Event}
 use Rattle.legal_journal.specs.Journal.{state_of}
 use Rattle.virtual_log.specs.Turning.{Later, IsAbove}
 use Rattle.virtual_log.specs.Log.{GoesBy}
-use Rattle.virtual_log.proofs.log.append_on.Given as goal
+use Rattle.virtual_log.proofs.calls.append_on.Given as goal
 
 abbrev pub invariant-segment : goal.invariant-segment
 invariant-segment g l =

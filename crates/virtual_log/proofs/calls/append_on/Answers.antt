@@ -7,7 +7,7 @@ use Rattle.virtual_log.specs.Causes.{HasCause}
 use Rattle.virtual_log.proofs.OneTurn.{later_trans, cause_since}
 use Rattle.virtual_log.proofs.Appending.{above_since}
 use Rattle.virtual_log.proofs.Going.{last_there, there_later, goes_later, goes_further, reach_fits, goes_behind, fewer}
-use Rattle.virtual_log.proofs.log.append_on.Goals as goal
+use Rattle.virtual_log.proofs.calls.append_on.Goals as goal
 
 pub append_to-requires-clause-started : goal.append_to-requires-clause-started
 append_to-requires-clause-started g c =

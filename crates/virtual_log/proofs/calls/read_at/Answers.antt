@@ -12,7 +12,7 @@ use Rattle.virtual_log.specs.declared.fault.Fault.TheVariants as fault
 use Rattle.virtual_log.proofs.OneTurn.{own_by, lack_cause, cause_since}
 use Rattle.virtual_log.proofs.Appending.{may_read, started_within}
 use Rattle.virtual_log.proofs.Reading.{place_of, got_ok, cut_ok}
-use Rattle.virtual_log.proofs.log.read_at.Goals as goal
+use Rattle.virtual_log.proofs.calls.read_at.Goals as goal
 
 pub locate-requires : goal.locate-requires
 locate-requires g c =

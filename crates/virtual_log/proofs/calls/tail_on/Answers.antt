@@ -8,7 +8,7 @@ use Rattle.virtual_log.specs.Tails.{IsFound}
 use Rattle.virtual_log.proofs.OneTurn.{later_trans, cause_since}
 use Rattle.virtual_log.proofs.Appending.{above_since}
 use Rattle.virtual_log.proofs.Going.{last_there, there_later, goes_later, goes_further, goes_behind, fewer}
-use Rattle.virtual_log.proofs.log.tail_on.Goals as goal
+use Rattle.virtual_log.proofs.calls.tail_on.Goals as goal
 
 pub find_tail-requires-clause-started : goal.find_tail-requires-clause-started
 find_tail-requires-clause-started g c =

@@ -2,7 +2,7 @@ use Rattle.std.proofs.Common.{◌≡◌, ◌-◌, ◌^◌}
 use Rattle.legal_journal.specs.Journal.{state_of}
 use Rattle.virtual_log.specs.Turning.{Later}
 use Rattle.virtual_log.specs.Log.{GoesBy}
-use Rattle.virtual_log.proofs.log.read_from.Given as goal
+use Rattle.virtual_log.proofs.calls.read_from.Given as goal
 
 abbrev pub invariant-trim : goal.invariant-trim
 invariant-trim g l =
