@@ -1,25 +1,22 @@
 -- An operation on a loglet of the chain.
-use Rattle.std.proofs.Common.{◌≡◌, ◌≢◌, ◌⊎◌, inl, inr, ℕ, ◌+◌, ◌-◌, ◌*◌, ◌<◌, ◌≤◌, ◌^◌, List, [], ◌∷◌, ◌++◌, length, Option, Some, None, Bool, true, false, refl, sym, ap, ◌∙◌, subst, arith, append_assoc}
+use Rattle.std.proofs.Common.{◌≡◌, ◌≢◌, ℕ, ◌+◌, ◌<◌, ◌≤◌, ◌^◌, List, ◌∷◌, ◌++◌, length, Some, Bool, true, false, refl, sym, ap, ◌∙◌, subst, arith, append_assoc}
 use Rattle.std.specs.Prelude.{Contains, slice_get, ◌==◌}
 use Rattle.std.proofs.lemmas.Bool.Decides.{nat_tests}
 use Rattle.std.proofs.lemmas.List.Elements.{Contains-push}
 use Rattle.delos_types.specs.declared.entry.Entry.{Entry}
 use Rattle.delos_types.specs.Spelling.{IsSpellable}
-use Rattle.delos_types.specs.declared.chain.Segment.{Segment}
-use Rattle.delos_types.specs.declared.chain.Chain.{Chain}
 use Rattle.loglet_api.specs.declared.call.Op.{Op}
 use Rattle.loglet_api.specs.declared.call.Op.TheVariants.{Append, Tail, Read}
 use Rattle.loglet_api.specs.declared.call.Answer.{Answer}
 use Rattle.loglet_api.specs.declared.call.Answer.TheVariants.{Placed, SealedTail, OpenTail, Sealed}
-use Rattle.legal_journal.specs.Told.{Told, Running, started, MayAnswer, answered}
+use Rattle.legal_journal.specs.Told.{Told, Running, started}
 use Rattle.legal_journal.specs.declared.events.Event.{Event}
 use Rattle.legal_journal.specs.declared.events.FabricCall.TheVariants.{Begin}
-use Rattle.legal_journal.specs.Journal.{CellState, State, state_of, IsLegal, last_segment, tail_of, entries, reach, ends}
-use Rattle.legal_journal.specs.Laws.{Continues, Stands, Clears}
-use Rattle.legal_journal.specs.Turns.{AreOthers, MayTurn}
+use Rattle.legal_journal.specs.Journal.{State, state_of, IsLegal, last_segment, tail_of, entries, reach}
+use Rattle.legal_journal.specs.Laws.{Continues, Stands}
+use Rattle.legal_journal.specs.Turns.{MayTurn}
 use Rattle.legal_journal.proofs.Log.{slice_get_front}
-use Rattle.legal_journal.proofs.Cells.{CellOk, OpOk}
-use Rattle.legal_journal.proofs.Sound.{StateOk, IsBelow, open_tail}
+use Rattle.legal_journal.proofs.Sound.{StateOk, open_tail}
 use Rattle.legal_journal.proofs.Legal.{sound, continues_trans, legal_front, reached_stands, goes_on, clears_on, last_clears}
 use Rattle.virtual_log.specs.Turning.{Later, FirstTurn, Opened, Answered, IsAbove}
 use Rattle.virtual_log.proofs.OneTurn.{later_continues, first_later}
@@ -86,11 +83,16 @@ module _ (may : ℕ → Entry → Type 0) (floor : List Entry → ℕ) (shelf : 
       let is : x.moment ≡ begin ++ ((o.first.event ∷ o.first.rest) ++ x.since.0) = x.since.1 ∙ (ap (λ es. es ++ x.since.0) o.first.seen ∙ append_assoc begin (o.first.event ∷ o.first.rest) x.since.0) in
       let from = subst (λ es. Continues (state_of begin) (state_of es)) (sym is) (goes_on may floor shelf begin ((o.first.event ∷ o.first.rest) ++ x.since.0) (subst (IsLegal may floor shelf) is answer_legal)) in
       let at_begin = to_begin.starts i s at in record {
-        old_ok = sound may floor shelf old legal; begin_ok = sound may floor shelf begin begin_legal;
-        answer_ok = sound may floor shelf x.moment answer_legal; new_ok = sound may floor shelf new second.legal;
+        old_ok = sound may floor shelf old legal;
+        begin_ok = sound may floor shelf begin begin_legal;
+        answer_ok = sound may floor shelf x.moment answer_legal;
+        new_ok = sound may floor shelf new second.legal;
         to_begin = to_begin;
         to_new = continues_trans (state_of begin) (state_of x.moment) (state_of new) from to_last;
-        to_last = to_last; from_begin = from; at_begin = at_begin; at_new = to_last.starts i s (from.starts i s at_begin);
+        to_last = to_last;
+        from_begin = from;
+        at_begin = at_begin;
+        at_new = to_last.starts i s (from.starts i s at_begin);
         few = legal.most;
       }
 
@@ -123,7 +125,7 @@ module _ (may : ℕ → Entry → Type 0) (floor : List Entry → ℕ) (shelf : 
       let to_new = later_continues may floor shelf mid new second in
       let more = (to_new.cell i).longer in
       let there : slice_get (entries (state_of new).cells i) p ≡ Some e =
-          subst (λ l. slice_get l p ≡ Some e) (sym more.1) (slice_get_front (entries (state_of mid).cells i) more.0 p e (subst (λ k. slice_get (entries (state_of mid).cells i) k ≡ Some e) (sym x.may.0) placed)) in
+      subst (λ l. slice_get l p ≡ Some e) (sym more.1) (slice_get_front (entries (state_of mid).cells i) more.0 p e (subst (λ k. slice_get (entries (state_of mid).cells i) k ≡ Some e) (sym x.may.0) placed)) in
       let reach_is : ((state_of new).cells i).told.reach ≡ _ = ap (λ (y : Told). y.reach) x.told in
       let new_cell = m.new_ok.cell i in
       record {

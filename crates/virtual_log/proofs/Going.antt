@@ -1,16 +1,15 @@
 -- The chain that a virtual log goes by stays one that it may go by.
 use Rattle.std.specs.Prelude.{nat_lt}
 use Rattle.std.proofs.lemmas.Bool.Decides.{nat_tests}
-use Rattle.std.proofs.Common.{◌≡◌, ◌⊎◌, ℕ, ◌+◌, ◌-◌, ◌<◌, ◌≤◌, ◌^◌, max, List, [], ◌++◌, length, Bool, true, false, None, Some, refl, sym, ap, ◌∙◌, subst, arith}
+use Rattle.std.proofs.Common.{◌≡◌, ℕ, ◌+◌, ◌-◌, ◌<◌, ◌≤◌, ◌^◌, max, List, [], length, Bool, true, false, None, Some, refl, sym, ap, ◌∙◌, subst, arith}
 use Rattle.delos_types.specs.declared.entry.Entry.{Entry}
 use Rattle.delos_types.specs.declared.chain.Segment.{Segment}
 use Rattle.delos_types.specs.declared.chain.Chain.{Chain}
 use Rattle.chain_map.specs.Chain.{first_chain, last_segment, last_of_segments}
 use Rattle.legal_journal.specs.declared.events.Event.{Event}
-use Rattle.legal_journal.specs.Journal.{State, state_of, IsLegal, tail_of, trim_of}
-use Rattle.legal_journal.specs.Laws.{Continues}
-use Rattle.legal_journal.proofs.Cells.{CellOk, put_same}
-use Rattle.legal_journal.proofs.Sound.{StateOk, reach_le_end}
+use Rattle.legal_journal.specs.Journal.{state_of, IsLegal, tail_of, trim_of}
+use Rattle.legal_journal.proofs.Cells.{put_same}
+use Rattle.legal_journal.proofs.Sound.{reach_le_end}
 use Rattle.legal_journal.proofs.Legal.{sound, goes_on}
 use Rattle.virtual_log.specs.Turning.{Later, Looked}
 use Rattle.virtual_log.specs.Log.{GoesBy}

@@ -1,5 +1,5 @@
 -- The writes of a replacement.
-use Rattle.std.proofs.Common.{◌≡◌, ◌≢◌, ◌⊎◌, inl, inr, ℕ, ◌+◌, ◌-◌, ◌*◌, ◌<◌, ◌≤◌, ◌^◌, List, [], ◌∷◌, ◌++◌, length, Option, Some, None, Bool, true, false, refl, sym, ap, ◌∙◌, subst, ⊎_elim, arith}
+use Rattle.std.proofs.Common.{◌≡◌, ◌≢◌, inl, inr, ℕ, ◌+◌, ◌<◌, ◌≤◌, ◌^◌, List, ◌++◌, length, Some, None, Bool, true, false, refl, sym, ap, ◌∙◌, arith}
 use Rattle.std.specs.Prelude.{Contains, nat_lt}
 use Rattle.std.proofs.lemmas.Bool.Decides.{nat_tests}
 use Rattle.delos_types.specs.declared.entry.Entry.{Entry}
@@ -11,14 +11,12 @@ use Rattle.legal_journal.specs.declared.events.Event.{Event}
 use Rattle.legal_journal.specs.declared.events.FabricCall.TheVariants.{WriteChain}
 use Rattle.legal_journal.specs.declared.events.FabricAnswer.TheVariants.{Written, Conflict}
 use Rattle.legal_journal.specs.Journal.{State, state_of, IsLegal, last_segment, ends, IsCurrent}
-use Rattle.legal_journal.specs.Laws.{Continues}
 use Rattle.legal_journal.specs.Turns.{IsTurn, MayTurn}
 use Rattle.legal_journal.proofs.Log.{next, last_of_segments-extended_segments, last_starts}
-use Rattle.legal_journal.proofs.Cells.{CellOk}
 use Rattle.legal_journal.proofs.Sound.{StateOk}
 use Rattle.legal_journal.proofs.Legal.{sound, goes_on}
 use Rattle.legal_journal.proofs.Chains.{chain_ok}
-use Rattle.legal_journal.proofs.Taken.{Took, took}
+use Rattle.legal_journal.proofs.Taken.{took}
 use Rattle.virtual_log.specs.Turning.{Looked}
 
 -- the last segment of a chain that was given started where the chain says
@@ -72,7 +70,7 @@ module _ (may : ℕ → Entry → Type 0) (floor : List Entry → ℕ) (shelf : 
       let same : c ≡ w.register.chain = cc in
       let now : last_segment (state_of new) ≡ last_of_segments d.segments = ap last_segment k.now in
       let after : last_of_segments d.segments ≡ next (last_of_segments w.register.chain.segments) t =
-          ap (λ (x : Chain). last_of_segments x.segments) is ∙ (ap (λ (x : Chain). last_of_segments (extended_segments x.segments t)) same ∙ last_of_segments-extended_segments (ends w.cells) k.ok.id k.ok.from w.register.chain.segments t k.ok.joined) in
+      ap (λ (x : Chain). last_of_segments x.segments) is ∙ (ap (λ (x : Chain). last_of_segments (extended_segments x.segments t)) same ∙ last_of_segments-extended_segments (ends w.cells) k.ok.id k.ok.from w.register.chain.segments t k.ok.joined) in
       omega (arith, ap (λ (s : Segment). s.id) now, ap (λ (s : Segment). s.id) after, ap (λ (x : Chain). (last_of_segments x.segments).id) same)
 
   pub conflict_ok : (n : ℕ) (e : Chain) (new : List Event) → IsTurn may floor shelf who old (WriteChain v d) (Conflict n e) new → Conflicted v t c n e new
@@ -101,6 +99,7 @@ module _ (may : ℕ → Entry → Type 0) (floor : List Entry → ℕ) (shelf : 
           by_test : (b : Bool) → nat_lt w.register.version x ≡ b → x ≤ w.register.version
           by_test true b = let l : w.register.version < x = grind (arith, nat_tests) in let no : Some y ≡ None = sym g ∙ ok.unborn x l in absurd (cc)
           by_test false b = grind (arith, nat_tests)
+
       rises : (w : State) (m : ℕ) (y : Chain) → v ≤ w.register.version → v ≢ m → IsCurrent w.register m y → v < m
       rises w m y l apart (inl x) = omega arith
       rises w m y l apart (inr x) = omega arith

@@ -5,11 +5,10 @@ use Rattle.delos_types.specs.declared.chain.Chain.{Chain}
 use Rattle.loglet_api.specs.declared.call.Op.{Op}
 use Rattle.loglet_api.specs.declared.call.Answer.{Answer}
 use Rattle.legal_journal.specs.declared.events.Event.{Event}
-use Rattle.legal_journal.specs.declared.events.FabricCall.{FabricCall}
 use Rattle.legal_journal.specs.declared.events.FabricCall.TheVariants.{Carry}
 use Rattle.legal_journal.specs.declared.events.FabricAnswer.TheVariants.{Done}
 use Rattle.legal_journal.specs.Told.{Running, started, MayAnswer, answered}
-use Rattle.legal_journal.specs.Journal.{State, state_of, IsOwn, IsLegal, ends_told}
+use Rattle.legal_journal.specs.Journal.{state_of, IsOwn, IsLegal, ends_told}
 use Rattle.legal_journal.specs.Laws.{Clears}
 use Rattle.legal_journal.specs.Turns.{AreOthers}
 

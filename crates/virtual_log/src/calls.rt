@@ -9,6 +9,11 @@ ghost use Rattle.virtual_log.specs.Causes.{HasCause};
 ghost use Rattle.virtual_log.specs.Log.{GoesBy};
 ghost use Rattle.virtual_log.specs.Next.{IsNext};
 
+use crate::chooser::Chooser;
+use crate::fault::Fault;
+use crate::operation::{FoundTail, append_to, find_tail};
+use crate::replace::{chain_behind, last_of};
+use crate::turn::{begin, carry_on, look};
 use chain_map::place::{Located, locate};
 use delos_types::chain::Chain;
 use delos_types::entry::Entry;
@@ -16,12 +21,6 @@ use legal_journal::rules::Rules;
 use legal_journal::turns::Turns;
 use loglet_api::call::{Answer, Op};
 use std::alloc::Global;
-
-use crate::chooser::Chooser;
-use crate::fault::Fault;
-use crate::operation::{FoundTail, append_to, find_tail};
-use crate::replace::{chain_behind, last_of};
-use crate::turn::{begin, carry_on, look};
 
 /// The chain that a virtual log goes by, and how much of the log it knows.
 #[derive(Drop)]

@@ -9,16 +9,15 @@ ghost use Rattle.virtual_log.specs.Causes.{HasCause};
 ghost use Rattle.virtual_log.specs.Next.{IsNext};
 ghost use Rattle.virtual_log.specs.Log.{LogView};
 
+use crate::calls::{Known, Next, append_on, read_from, tail_on};
+use crate::chooser::Chooser;
+use crate::fault::Fault;
 use chain_map::change::first_chain;
 use delos_types::entry::Entry;
 use legal_journal::rules::Rules;
 use legal_journal::turns::Turns;
 use std::alloc::Global;
 use std::marker::Model;
-
-use crate::chooser::Chooser;
-use crate::fault::Fault;
-use crate::calls::{Known, Next, append_on, read_from, tail_on};
 
 /// A log over a chain of loglets. It never answers "sealed": it finishes the replacement of a sealed
 /// loglet, whoever began it, and goes on.

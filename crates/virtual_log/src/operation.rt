@@ -7,15 +7,14 @@ ghost use Rattle.virtual_log.specs.Turning.{Later, FirstTurn, IsAbove};
 ghost use Rattle.virtual_log.specs.Causes.{HasCause};
 ghost use Rattle.virtual_log.specs.Tails.{IsFound, IsSealedTail};
 
+use crate::chooser::Chooser;
+use crate::fault::Fault;
+use crate::turn::{begin, carry_on};
 use delos_types::chain::Segment;
 use delos_types::entry::Entry;
 use legal_journal::rules::Rules;
 use legal_journal::turns::Turns;
 use loglet_api::call::{Answer, Op};
-
-use crate::chooser::Chooser;
-use crate::fault::Fault;
-use crate::turn::{begin, carry_on};
 
 /// Appends to the loglet of this segment, which some chain had. None: that loglet is sealed.
 pub fn append_to<T: Turns, C: Chooser>(

@@ -1,6 +1,4 @@
-use Rattle.std.proofs.Common.{◌≡◌, ◌∙◌, ◌++◌, ◌+◌, ◌<◌, ◌≤◌, ℕ, length, Some, sym, ap, subst, arith}
-use Rattle.chain_map.specs.Place.{Locates}
-use Rattle.chain_map.specs.declared.place.Located.{Located}
+use Rattle.std.proofs.Common.{◌++◌, length, subst}
 use Rattle.loglet_api.specs.declared.call.Op.TheVariants.{Read}
 use Rattle.loglet_api.specs.declared.call.Answer.{Answer}
 use Rattle.legal_journal.specs.Told.{started}
@@ -63,7 +61,7 @@ returns-in-Got-clause-found g c =
     let o = c.in_ok-ticket.ensures.ok in
     let r = started ((state_of (old ++ o.first.others)).cells id).told (Read index) in
     let x = subst (λ (a : Answer). Answered who mid id c.in_ok-ticket.ticket r a new) c.in-Got.is
-        (subst (λ w. Answered w mid id c.in_ok-ticket.ticket r c.in_ok-entry.field-0 new) c.in_ok-ticket.ensures.who (c.in_ok-entry.ensures.ok r (own_by _ _ _ _ _ c.in_ok-ticket.ensures.who o.own))) in
+    (subst (λ w. Answered w mid id c.in_ok-ticket.ticket r c.in_ok-entry.field-0 new) c.in_ok-ticket.ensures.who (c.in_ok-entry.ensures.ok r (own_by _ _ _ _ _ c.in_ok-ticket.ensures.who o.own))) in
     got_ok p.may p.floor p.shelf who old mid new k.version k.tail c.args.pos id index c.in_ok-ticket.ticket k.chain c.in-Got.entry c.requires.legal c.requires.goes_by c.requires.tail place c.in_ok-ticket.ensures.later c.in_ok-entry.ensures.later o x
 
 pub returns-in-CutAt-clause-cut : goal.returns-in-CutAt-clause-cut
@@ -82,7 +80,7 @@ returns-in-CutAt-clause-cut g c =
     let o = c.in_ok-ticket.ensures.ok in
     let r = started ((state_of (old ++ o.first.others)).cells id).told (Read index) in
     let x = subst (λ (a : Answer). Answered who mid id c.in_ok-ticket.ticket r a new) c.in-CutAt.is
-        (subst (λ w. Answered w mid id c.in_ok-ticket.ticket r c.in_ok-entry.field-0 new) c.in_ok-ticket.ensures.who (c.in_ok-entry.ensures.ok r (own_by _ _ _ _ _ c.in_ok-ticket.ensures.who o.own))) in
+    (subst (λ w. Answered w mid id c.in_ok-ticket.ticket r c.in_ok-entry.field-0 new) c.in_ok-ticket.ensures.who (c.in_ok-entry.ensures.ok r (own_by _ _ _ _ _ c.in_ok-ticket.ensures.who o.own))) in
     cut_ok p.may p.floor p.shelf who old mid new c.args.pos id index c.in_ok-ticket.ticket c.in-CutAt.field-0 k.chain c.requires.legal place c.in_ok-ticket.ensures.later c.in_ok-entry.ensures.later o x
 
 pub returns-in-NoQuorum-clause-err : goal.returns-in-NoQuorum-clause-err
@@ -101,7 +99,6 @@ returns-in-NoQuorum-clause-err g c =
     let o = c.in_ok-ticket.ensures.ok in
     let r = started ((state_of (old ++ o.first.others)).cells id).told (Read index) in
     let x = subst (λ (a : Answer). Answered who mid id c.in_ok-ticket.ticket r a new) c.in-NoQuorum.is
-        (subst (λ w. Answered w mid id c.in_ok-ticket.ticket r c.in_ok-entry.field-0 new) c.in_ok-ticket.ensures.who (c.in_ok-entry.ensures.ok r (own_by _ _ _ _ _ c.in_ok-ticket.ensures.who o.own))) in
+    (subst (λ w. Answered w mid id c.in_ok-ticket.ticket r c.in_ok-entry.field-0 new) c.in_ok-ticket.ensures.who (c.in_ok-entry.ensures.ok r (own_by _ _ _ _ _ c.in_ok-ticket.ensures.who o.own))) in
     cause_since who (fault.NoQuorum id c.in-NoQuorum.unreached) old mid new c.in_ok-ticket.ensures.later.more c.in_ok-ticket.ensures.later.seen
-        (lack_cause who id c.in_ok-ticket.ticket c.in-NoQuorum.unreached mid new x.event)
-
+    (lack_cause who id c.in_ok-ticket.ticket c.in-NoQuorum.unreached mid new x.event)

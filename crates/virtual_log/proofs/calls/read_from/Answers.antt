@@ -1,4 +1,4 @@
-use Rattle.std.proofs.Common.{◌≡◌, ◌∙◌, ◌+◌, ◌<◌, ◌≤◌, ℕ, max, sym, subst, IfNone, arith}
+use Rattle.std.proofs.Common.{◌∙◌, ◌<◌, subst, IfNone, arith}
 use Rattle.legal_journal.specs.Journal.{state_of, trim_of}
 use Rattle.virtual_log.proofs.OneTurn.{later_trans, later_continues}
 use Rattle.virtual_log.proofs.Going.{goes_later, goes_now, trim_now}
@@ -75,4 +75,3 @@ trim-preserved g c =
       goes_by = goes_now p.may p.floor p.shelf (t.who c.read_at.new.turns) k.version k.tail c.in_ok-version.version k.chain c.in_ok-version.chain mid end to_mid.legal to_end at_mid c.in_ok-version.ensures.ok;
       tail = i.tail;
     }
-

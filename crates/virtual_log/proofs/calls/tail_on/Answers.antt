@@ -1,7 +1,6 @@
-use Rattle.std.proofs.Common.{◌≡◌, ◌∙◌, ◌++◌, ◌+◌, ◌<◌, ◌≤◌, ℕ, max, length, Some, sym, ap, subst, arith}
+use Rattle.std.proofs.Common.{◌∙◌, ap, subst, arith}
 use Rattle.std.proofs.lemmas.Result.{err_from_is_err_and}
 use Rattle.delos_types.specs.declared.chain.Segment.{Segment}
-use Rattle.legal_journal.specs.Journal.{state_of}
 use Rattle.virtual_log.specs.Turning.{IsAbove, FirstTurn}
 use Rattle.virtual_log.specs.Causes.{HasCause}
 use Rattle.virtual_log.specs.Tails.{IsFound}
@@ -111,7 +110,7 @@ returns-in_err-version-clause-err g c =
     let f = c.in_err-version.field-0.0 in
     let before = later_trans p.may p.floor p.shelf (t.seen c.args.turns.now) now mid i.later to_mid in
     rw (r.1, r.2) (cause_since (t.who c.args.turns.now) f (t.seen c.args.turns.now) mid end before.more before.seen
-        (subst (λ w. HasCause w mid f end) (c.in_ok-tail.ensures.who ∙ i.who) c.in_err-version.ensures.err))
+    (subst (λ w. HasCause w mid f end) (c.in_ok-tail.ensures.who ∙ i.who) c.in_err-version.ensures.err))
 
 pub segment-smaller : goal.segment-smaller
 segment-smaller g c =
@@ -154,6 +153,5 @@ segment-preserved g c =
       tail = i.tail;
       above = λ pos new later x.
           i.above pos new (later_trans p.may p.floor p.shelf now end new (later_trans p.may p.floor p.shelf now mid end to_mid from.later) later)
-              (above_since p.may p.floor p.shelf (t.who c.args.turns.now) pos now mid end new (subst (λ w. FirstTurn w now mid) i.who first) from.later later x);
+          (above_since p.may p.floor p.shelf (t.who c.args.turns.now) pos now mid end new (subst (λ w. FirstTurn w now mid) i.who first) from.later later x);
     }
-

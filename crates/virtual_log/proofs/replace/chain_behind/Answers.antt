@@ -1,4 +1,4 @@
-use Rattle.std.proofs.Common.{◌≡◌, ◌∙◌, ◌<◌, ◌≤◌, ℕ, length, true, Some, sym, ap, subst, arith}
+use Rattle.std.proofs.Common.{◌≡◌, true, ap, subst, arith}
 use Rattle.std.proofs.lemmas.Result.{err_from_is_err_and}
 use Rattle.delos_types.specs.declared.chain.Segment.{Segment}
 use Rattle.delos_types.specs.declared.chain.Chain.{Chain}
@@ -37,7 +37,7 @@ returns-in_err-finish-clause-err g c =
     let new = t.seen c.finish.new.turns in
     let f = c.in_err-finish.field-0.0 in
     rw (p.1, p.2) (cause_since (t.who c.args.turns.now) f (t.seen c.args.turns.now) mid new c.in_ok-version.ensures.later.more c.in_ok-version.ensures.later.seen
-        (subst (λ k. HasCause k mid f new) c.in_ok-version.ensures.who c.in_err-finish.ensures.err))
+    (subst (λ k. HasCause k mid f new) c.in_ok-version.ensures.who c.in_err-finish.ensures.err))
 
 pub returns-clause-given : goal.returns-clause-given
 returns-clause-given g c =

@@ -11,7 +11,7 @@ find_tail-requires-clause-started g c =
     let p = g.T.Law.Rules in
     let w = state_of (g.T.Turns.seen c.args.turns.now) in
     subst (λ (s : Segment). w.starts s.id ≡ Some s.start) (sym c.last_of-last.ensures)
-        (last_started (length p.shelf) w c.args.version c.args.chain.now (sound p.may p.floor p.shelf (g.T.Turns.seen c.args.turns.now) c.requires.legal) c.requires.given)
+    (last_started (length p.shelf) w c.args.version c.args.chain.now (sound p.may p.floor p.shelf (g.T.Turns.seen c.args.turns.now) c.requires.legal) c.requires.given)
 
 pub replace-replaced-requires-clause-given : goal.replace-replaced-requires-clause-given
 replace-replaced-requires-clause-given g c =

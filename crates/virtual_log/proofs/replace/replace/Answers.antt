@@ -1,11 +1,11 @@
-use Rattle.std.proofs.Common.{◌≡◌, ◌∙◌, ℕ, ◌+◌, ◌-◌, ◌<◌, ◌≤◌, length, sym, subst, ap, refl, arith}
+use Rattle.std.proofs.Common.{◌≡◌, ◌∙◌, length, sym, subst, ap, arith}
 use Rattle.std.specs.Prelude.{Contains}
 use Rattle.delos_types.specs.declared.chain.Segment.{Segment}
 use Rattle.chain_map.specs.Chain.{last_of_segments}
 use Rattle.legal_journal.specs.Journal.{state_of}
 use Rattle.legal_journal.proofs.Legal.{sound}
 use Rattle.virtual_log.proofs.OneTurn.{turn_later, later_trans}
-use Rattle.virtual_log.proofs.Replacing.{fits, Fits, may_write, written_ok, conflict_ok, Conflicted}
+use Rattle.virtual_log.proofs.Replacing.{fits, may_write, written_ok, conflict_ok}
 use Rattle.virtual_log.proofs.replace.replace.Goals as goal
 
 pub extend-requires-clause-chain : goal.extend-requires-clause-chain
@@ -144,4 +144,3 @@ write-preserved g c =
       first = i.first;
       told = subst (λ x. Contains (now.cells x).ends c.args.length) i.id k.told;
     }
-

@@ -1,4 +1,4 @@
-use Rattle.std.proofs.Common.{◌≡◌, ◌-◌, ◌^◌, ◌≤◌, Some}
+use Rattle.std.proofs.Common.{◌≡◌, ◌-◌, ◌^◌, Some}
 use Rattle.std.specs.Prelude.{Contains}
 use Rattle.delos_types.specs.declared.chain.Chain.{Chain}
 use Rattle.chain_map.specs.Chain.{last_of_segments}
