@@ -1,5 +1,5 @@
 -- A loglet that takes a step goes on as the journal tells.
-use Rattle.std.proofs.Common.{◌≡◌, ◌≢◌, ◌⊎◌, inl, inr, ℕ, zero, suc, ◌+◌, ◌-◌, ◌*◌, ◌<◌, ◌≤◌, ◌^◌, min, max, List, [], ◌∷◌, ◌++◌, length, drop, Option, Some, None, Bool, true, false, cond, refl, sym, ap, ◌∙◌, subst, ⊎_elim, arith, IsSome}
+use Rattle.std.proofs.Common.{◌≡◌, ◌≢◌, inl, inr, ℕ, ◌+◌, ◌-◌, ◌<◌, ◌≤◌, ◌^◌, min, max, List, ◌++◌, length, drop, Option, Some, None, Bool, true, false, cond, refl, sym, ap, ◌∙◌, subst, arith, IsSome}
 use Rattle.std.specs.Prelude.{◌==◌, slice_get}
 use Rattle.std.proofs.lemmas.Bool.Decides.{nat_tests}
 use Rattle.delos_types.specs.declared.entry.Entry.{Entry}
@@ -14,7 +14,7 @@ use Rattle.loglet_api.specs.View as view
 use Rattle.loglet_api.specs.Sound.{IsSound}
 use Rattle.loglet_api.specs.Step as step
 use Rattle.loglet_api.specs.Keeps.{work_of}
-use Rattle.legal_journal.specs.Told.{Told, Running, put, size_of, started, cut_begun, wanted, told_sealed, answered, MayAnswer, MayReach, MayEnd, IsWithin}
+use Rattle.legal_journal.specs.Told.{Told, Running, put, size_of, started, cut_begun, told_sealed, MayAnswer, MayReach, MayEnd, IsWithin}
 use Rattle.legal_journal.specs.Moves.{Begins, Carries, Answers, Drops}
 use Rattle.legal_journal.specs.Journal.{CellState, cell_after, ends_told, answered_by, HasRoom, patience}
 use Rattle.legal_journal.proofs.Cells.{put_cases, told_by}
@@ -99,8 +99,12 @@ module _ (c : CellState) (v : LogletView) (m : IsAsTold c v) where
   advance : (r : Option Running) (o p : Option Operation) → MatchesOperation r o → step.Advances o p → MatchesOperation r p
   advance None None None h a = tt
   advance (Some r) (Some o) (Some p) h a = (
-    ap (λ (x : Operation). x.task) a.0 ∙ h.0, ap (λ (x : Operation). x.size) a.0 ∙ h.1, ap (λ (x : Operation). x.reach) a.0 ∙ h.2,
-    ap (λ (x : Operation). x.firm) a.0 ∙ h.3, λ k. ap (λ (x : Operation). x.shut) a.0 ∙ h.4 k)
+    ap (λ (x : Operation). x.task) a.0 ∙ h.0,
+    ap (λ (x : Operation). x.size) a.0 ∙ h.1,
+    ap (λ (x : Operation). x.reach) a.0 ∙ h.2,
+    ap (λ (x : Operation). x.firm) a.0 ∙ h.3,
+    λ k. ap (λ (x : Operation). x.shut) a.0 ∙ h.4 k,
+  )
   advance None None (Some p) h a = absurd a
   advance None (Some o) p h a = absurd h
   advance (Some r) None p h a = absurd h
@@ -149,16 +153,16 @@ module _ (c : CellState) (v : LogletView) (m : IsAsTold c v) where
   pub carried_as_told : (who t : ℕ) (now : LogletView) → step.Carries v t now → IsSound now → IsAsTold (cell_after who c (Carries t)) now
   carried_as_told who t now k sound =
       moved_as_told (cell_after who c (Carries t)) now refl k.moves sound
-          (λ u o h. put_cases (λ n. n + work_of o.left ≤ patience) c.carried t (c.carried t + 1) u
-              (λ e.
-                  let f = k.falls in
-                  let both : Some f.after ≡ Some o = sym f.is ∙ (ap (operation_at now.operations) (sym e) ∙ h) in
-                  let same : f.after ≡ o = cc in
-                  let less = below f.after.left f.before.left (small now t f.after sound f.is) f.less in
-                  let pays = m.left t f.before f.was in
-                  let work : work_of f.after.left ≡ work_of o.left = ap (λ (x : Operation). work_of x.left) same in
-                  omega (arith, less, pays, work))
-              (λ _. moved_left now k.moves sound u o h))
+      (λ u o h. put_cases (λ n. n + work_of o.left ≤ patience) c.carried t (c.carried t + 1) u
+      (λ e.
+      let f = k.falls in
+      let both : Some f.after ≡ Some o = sym f.is ∙ (ap (operation_at now.operations) (sym e) ∙ h) in
+      let same : f.after ≡ o = cc in
+      let less = below f.after.left f.before.left (small now t f.after sound f.is) f.less in
+      let pays = m.left t f.before f.was in
+      let work : work_of f.after.left ≡ work_of o.left = ap (λ (x : Operation). work_of x.left) same in
+      omega (arith, less, pays, work))
+      (λ _. moved_left now k.moves sound u o h))
 
   pub carried_few : (t : ℕ) (now : LogletView) → step.Carries v t now → IsSound now → c.carried t < patience
   carried_few t now k sound =
@@ -257,14 +261,14 @@ module _ (c : CellState) (v : LogletView) (m : IsAsTold c v) where
   closed_operation : (t : ℕ) (now : List (ℕ × Operation)) → step.PutsOperation v.operations t None now → (u : ℕ) → MatchesOperation (put c.told.ops t None u) (operation_at now u)
   closed_operation t now p u =
       put_cases (λ r. MatchesOperation r (operation_at now u)) c.told.ops t None u
-          (λ e. subst (MatchesOperation None) (sym (put_on t u None now p e)) tt)
-          (λ k. subst (MatchesOperation (c.told.ops u)) (sym (put_off t u None now p k)) (m.operations u))
+      (λ e. subst (MatchesOperation None) (sym (put_on t u None now p e)) tt)
+      (λ k. subst (MatchesOperation (c.told.ops u)) (sym (put_off t u None now p k)) (m.operations u))
 
   closed_left : (t : ℕ) (now : List (ℕ × Operation)) → step.PutsOperation v.operations t None now → (u : ℕ) (o : Operation) → operation_at now u ≡ Some o → c.carried u + work_of o.left ≤ patience
   closed_left t now p u o h =
       put_cases (λ (n : ℕ). c.carried u + work_of o.left ≤ patience) (λ (n : ℕ). n) t 0 u
-          (λ e. let no : None ≡ Some o = sym (put_on t u None now p e) ∙ h in absurd (cc))
-          (λ k. m.left u o (sym (put_off t u None now p k) ∙ h))
+      (λ e. let no : None ≡ Some o = sym (put_on t u None now p e) ∙ h in absurd (cc))
+      (λ k. m.left u o (sym (put_off t u None now p k) ∙ h))
 
   -- an answer may be given, and leaves the loglet as told
   pub record Answered (who t : ℕ) (a : Answer) (now : LogletView) : Type 0 where
@@ -279,8 +283,10 @@ module _ (c : CellState) (v : LogletView) (m : IsAsTold c v) where
       let r = q.0 in
       let o = k.operation in
       let leaves : Leaves r o q.2 t now sound a = record {
-        reach = ap (λ (x : LogletView). x.reach) k.rest; firm = ap (λ (x : LogletView). x.firm) k.rest;
-        cap = ap (λ (x : LogletView). x.cap) k.rest; size = ap (λ (x : LogletView). view.size_of x) k.rest;
+        reach = ap (λ (x : LogletView). x.reach) k.rest;
+        firm = ap (λ (x : LogletView). x.firm) k.rest;
+        cap = ap (λ (x : LogletView). x.cap) k.rest;
+        size = ap (λ (x : LogletView). view.size_of x) k.rest;
       } in
       let size_of_wanted = wanted_is r o q.2 t now sound r.op refl in
       let now_told : IsAsTold (told_by c t r a) now = record {
@@ -299,7 +305,8 @@ module _ (c : CellState) (v : LogletView) (m : IsAsTold c v) where
       } in
       let P : Option Running → Type 0 = λ x. IsAsTold (record { told = answered_by c.told t a x; entries = c.entries; ends = ends_told c.ends a; owner = c.owner; carried = c.carried }) now in
       record {
-        running = r; is_open = q.1;
+        running = r;
+        is_open = q.1;
         may = may_answer r o q.2 t now sound r.op a refl (subst (λ x. step.MayAnswer v o x a) q.2.0 k.may) leaves;
         told = subst P (sym q.1) now_told;
       }
@@ -313,7 +320,8 @@ module _ (c : CellState) (v : LogletView) (m : IsAsTold c v) where
   dropped_as_told who t now is_open k sound =
       let o = open_is (operation_at v.operations t) is_open in
       let q = told_open (c.told.ops t) o.0 (operation_at v.operations t) (m.operations t) o.1 in record {
-        running = q.0; is_open = q.1;
+        running = q.0;
+        is_open = q.1;
         told = record {
           cut = ap (λ (x : LogletView). x.cut) k.rest ∙ m.cut;
           log = ap (λ (x : LogletView). x.log) k.rest ∙ m.log;

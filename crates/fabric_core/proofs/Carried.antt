@@ -1,12 +1,11 @@
 -- An operation that is carried once, where it is undecided, and taken.
-use Rattle.std.proofs.Common.{◌≡◌, ◌⊎◌, inl, inr, ℕ, ◌+◌, ◌<◌, max, List, [], ◌∷◌, Option, Some, None, Result, Ok, Err, refl, sym, ap, ◌∙◌, subst, arith}
+use Rattle.std.proofs.Common.{◌≡◌, inl, inr, ℕ, ◌+◌, max, [], ◌∷◌, Option, Some, None, Ok, refl, sym, ap, ◌∙◌, subst, arith}
 use Rattle.loglet_api.specs.declared.call.Answer.{Answer}
 use Rattle.loglet_api.specs.declared.call.Answer.TheVariants.{Got, Placed, Settled, OpenTail, SealedTail, SealDone, CutAt, Beyond, TrimDone, Sealed, NoQuorum}
-use Rattle.loglet_api.specs.declared.call.Refused.{Refused}
 use Rattle.loglet_api.specs.declared.call.LogletCall.TheVariants as call
 use Rattle.loglet_api.specs.declared.call.LogletAnswer.TheVariants as answer
 use Rattle.loglet_api.specs.View.{LogletView, Operation}
-use Rattle.loglet_api.specs.Step.{LogletStep, HasLeft, TakesAnswer, Forgets}
+use Rattle.loglet_api.specs.Step.{LogletStep, HasLeft}
 use Rattle.loglet_api.specs.Run.{LogletRun}
 use Rattle.fabric_core.specs.Runs.{LogletSteps, CarriesFirst}
 use Rattle.fabric_core.specs.CellEvent.{IsGot, CarriedOnce}
@@ -35,7 +34,9 @@ got_forgotten v new t (Got e) g s =
     let on : max v.firm 0 ≡ v.firm = omega arith in
     let lacks : v.lacks + 0 ≡ v.lacks = omega arith in
     record {
-      before = s.before; can = s.can; after = s.after;
+      before = s.before;
+      can = s.can;
+      after = s.after;
       does = record {
         closed = d.closed;
         rest = d.rest ∙ (ap (λ n. record v { reach = n; firm = max v.firm 0; operations = new.operations; lacks = v.lacks + 0 }) at

@@ -1,5 +1,5 @@
 -- A fabric goes on after an event of one of its cells.
-use Rattle.std.proofs.Common.{◌≡◌, ◌≢◌, ◌⊎◌, inl, inr, ℕ, zero, suc, ◌+◌, ◌<◌, ◌≤◌, List, [], ◌∷◌, ◌++◌, length, map, set, Option, Some, None, Bool, true, false, refl, sym, ap, ◌∙◌, subst, ⊎_elim, arith}
+use Rattle.std.proofs.Common.{◌≡◌, ◌≢◌, ℕ, zero, suc, List, [], ◌∷◌, ◌++◌, length, map, set, Option, Some, None, Bool, true, false, refl, sym, ap, ◌∙◌, subst, ⊎_elim, arith}
 use Rattle.std.specs.Prelude.{slice_get, slice_set, ◌==◌, MatchBool}
 use Rattle.std.proofs.lemmas.Bool.Decides.{nat_tests}
 use Rattle.delos_types.specs.declared.entry.Entry.{Entry}
@@ -10,23 +10,22 @@ use Rattle.loglet_api.specs.declared.call.LogletAnswer.TheVariants as answer
 use Rattle.loglet_api.specs.declared.call.Refused.TheVariants as refused
 use Rattle.loglet_api.specs.declared.call.LogletCall.{LogletCall}
 use Rattle.loglet_api.specs.declared.call.LogletAnswer.{LogletAnswer}
-use Rattle.loglet_api.specs.View.{LogletView, Operation, operation_at, IsOpen}
+use Rattle.loglet_api.specs.View.{LogletView, operation_at}
 use Rattle.loglet_api.specs.Sound.{IsSound}
-use Rattle.loglet_api.specs.Step as step
 use Rattle.loglet_api.specs.Step.{LogletStep}
 use Rattle.loglet_api.specs.Run.{LogletRun}
 use Rattle.legal_journal.specs.declared.events.Event.{Event}
 use Rattle.legal_journal.specs.declared.events.FabricCall.{FabricCall}
-use Rattle.legal_journal.specs.declared.events.FabricCall.TheVariants.{Begin, Carry, Forget, ReadChain}
+use Rattle.legal_journal.specs.declared.events.FabricCall.TheVariants.{Begin, Carry, Forget}
 use Rattle.legal_journal.specs.declared.events.FabricAnswer.{FabricAnswer}
-use Rattle.legal_journal.specs.declared.events.FabricAnswer.TheVariants.{Begun, Full, Done, Going, NoTicket, Gone, At, Down, Written, Conflict, MetaFault, Set, Memory}
+use Rattle.legal_journal.specs.declared.events.FabricAnswer.TheVariants.{Begun, Full, Done, Going, NoTicket, Gone, Memory}
 use Rattle.legal_journal.specs.Told.{Running, put}
 use Rattle.legal_journal.specs.Moves.{Begins, Carries, Answers, Drops, Misses, OnCell, move, move_of}
 use Rattle.legal_journal.specs.Journal.{CellState, RegisterState, State, state_of, start, after, cell_after, answered_by, Exists, MayHappen, IsAllowed, IsOwn, IsLegal}
 use Rattle.legal_journal.specs.Turns.{MayCall, IsOwner}
 use Rattle.legal_journal.proofs.Cells.{put_cases, put_same}
 use Rattle.legal_journal.proofs.Legal.{after_all-append, IsLegalFrom-join}
-use Rattle.fabric_core.specs.Runs.{LogletSteps, CarriesFirst, StepsOf, StepsOn, CellRun, HasRun, is_on}
+use Rattle.fabric_core.specs.Runs.{LogletSteps, StepsOf, StepsOn, CellRun, HasRun, is_on}
 use Rattle.fabric_core.specs.CellEvent.{CellView, Happens, marks_after}
 use Rattle.fabric_core.specs.Fabric.{FabricView, FabricOk, CellOk, IsAsTold, AreMarked, IsMarked, IsRegisterAsTold}
 use Rattle.fabric_core.proofs.AsTold.{told_open, has_room, begun_as_told, moved_as_told, moved_left, carried_as_told, carried_few, answered_as_told, dropped_as_told}
@@ -47,7 +46,17 @@ has_run_same i v es e h off =
 -- faults count nothing that is told
 faulted : (c : CellState) (v now : LogletView) (n : ℕ) → IsAsTold c v → now ≡ record v { faults = n } → IsSound now → IsAsTold c now
 faulted c v now n m is sound = subst (IsAsTold c) (sym is) (record {
-  cut = m.cut; log = m.log; reach = m.reach; cap = m.cap; firm = m.firm; begun = m.begun; seals = m.seals; lacks = m.lacks; sealed = m.sealed; operations = m.operations; left = m.left;
+  cut = m.cut;
+  log = m.log;
+  reach = m.reach;
+  cap = m.cap;
+  firm = m.firm;
+  begun = m.begun;
+  seals = m.seals;
+  lacks = m.lacks;
+  sealed = m.sealed;
+  operations = m.operations;
+  left = m.left;
   sound = subst IsSound is sound;
 })
 
@@ -96,8 +105,8 @@ module _ (may : ℕ → Entry → Type 0) (floor : List Entry → ℕ) (shelf : 
               marked = subst (λ (y : CellState). AreMarked y there) (sym cell) marked;
               ran = subst (λ y. HasRun j (f.journal ++ e ∷ []) y) (sym is_now)
                   (subst (λ k. HasRun k (f.journal ++ e ∷ []) now) (sym same)
-                      (has_run_more i v now f.journal e steps (ok.cells i v at).ran
-                          (subst (λ t. MatchBool t (StepsOf e.call e.answer steps) (steps ≡ [])) (sym (subst (λ k. is_on k e.call ≡ true) same (on j ∙ b))) are) run servers));
+                  (has_run_more i v now f.journal e steps (ok.cells i v at).ran
+                  (subst (λ t. MatchBool t (StepsOf e.call e.answer steps) (steps ≡ [])) (sym (subst (λ k. is_on k e.call ≡ true) same (on j ∙ b))) are) run servers));
             }
         by_place j x g false b =
             let apart : j ≢ i = grind (arith, nat_tests) in
@@ -142,20 +151,20 @@ module _ (may : ℕ → Entry → Type 0) (floor : List Entry → ℕ) (shelf : 
         let b = s.does in
         let ticket : t ≡ ((state_of f.journal).cells i).told.begun = b.ticket ∙ told_now.begun in
         recorded new e h.recorded
-            (on_cell e (record { there = can.there; allowed = (can.asks, has_room ((state_of f.journal).cells i) v told_now op b.room, ticket) })
-                (cell_after who ((state_of f.journal).cells i) (Begins op t)) (λ j. refl) refl (λ j. refl) new.loglet new.marks
-                (begun_as_told ((state_of f.journal).cells i) v told_now who t op new.loglet b s.after)
-                (subst (AreMarked (cell_after who ((state_of f.journal).cells i) (Begins op t))) (sym h.marked) (marks_begun who ((state_of f.journal).cells i) op t here ticket marked_now))
-                (ap (λ (x : LogletView). x.servers) b.rest) h.steps h.are h.run)
+        (on_cell e (record { there = can.there; allowed = (can.asks, has_room ((state_of f.journal).cells i) v told_now op b.room, ticket) })
+        (cell_after who ((state_of f.journal).cells i) (Begins op t)) (λ j. refl) refl (λ j. refl) new.loglet new.marks
+        (begun_as_told ((state_of f.journal).cells i) v told_now who t op new.loglet b s.after)
+        (subst (AreMarked (cell_after who ((state_of f.journal).cells i) (Begins op t))) (sym h.marked) (marks_begun who ((state_of f.journal).cells i) op t here ticket marked_now))
+        (ap (λ (x : LogletView). x.servers) b.rest) h.steps h.are h.run)
     begin_kept who op Full new can h =
         let e : Event = record { who = who; call = Begin i op; answer = Full } in
         let s = only (call.Begin op) (answer.Refusal refused.Full) new.loglet (subst (λ x. LogletRun v x new.loglet) h.are h.run) in
         let is = s.does.1 in
         recorded new e h.recorded
-            (on_cell e (record { there = can.there; allowed = tt }) ((state_of f.journal).cells i) same_cells refl (λ j. refl) new.loglet new.marks
-                (faulted ((state_of f.journal).cells i) v new.loglet _ told_now is s.after)
-                (subst (AreMarked ((state_of f.journal).cells i)) (sym h.marked) marked_now)
-                (ap (λ (x : LogletView). x.servers) is) h.steps h.are h.run)
+        (on_cell e (record { there = can.there; allowed = tt }) ((state_of f.journal).cells i) same_cells refl (λ j. refl) new.loglet new.marks
+        (faulted ((state_of f.journal).cells i) v new.loglet _ told_now is s.after)
+        (subst (AreMarked ((state_of f.journal).cells i)) (sym h.marked) marked_now)
+        (ap (λ (x : LogletView). x.servers) is) h.steps h.are h.run)
     begin_kept who op a new can h = absurd h.are
 
     own : (who t : ℕ) (r : Running) → IsOwner (state_of f.journal) who i t → ((state_of f.journal).cells i).told.ops t ≡ Some r → IsOwn ((state_of f.journal).cells i) who t r
@@ -168,12 +177,12 @@ module _ (may : ℕ → Entry → Type 0) (floor : List Entry → ℕ) (shelf : 
         let c = (state_of f.journal).cells i in
         let k = answered_as_told c mid m who t a new.loglet s.does s.after in
         recorded new e h.recorded
-            (on_cell e (record { there = can.there; allowed = (k.running, own who t k.running can.asks k.is_open, k.may) })
-                (cell_after who c (Answers t a)) (λ j. refl) refl (λ j. refl) new.loglet new.marks k.told
-                (subst (AreMarked (cell_after who c (Answers t a))) (sym h.marked)
-                    (marks_closed c (cell_after who c (Answers t a)) t here
-                        (ap (λ o. (answered_by c.told t a o).begun) k.is_open) (λ u. ap (λ o. (answered_by c.told t a o).ops u) k.is_open) marked_now))
-                (ap (λ (x : LogletView). x.servers) s.does.rest ∙ servers) h.steps h.are h.run)
+        (on_cell e (record { there = can.there; allowed = (k.running, own who t k.running can.asks k.is_open, k.may) })
+        (cell_after who c (Answers t a)) (λ j. refl) refl (λ j. refl) new.loglet new.marks k.told
+        (subst (AreMarked (cell_after who c (Answers t a))) (sym h.marked)
+        (marks_closed c (cell_after who c (Answers t a)) t here
+        (ap (λ o. (answered_by c.told t a o).begun) k.is_open) (λ u. ap (λ o. (answered_by c.told t a o).ops u) k.is_open) marked_now))
+        (ap (λ (x : LogletView). x.servers) s.does.rest ∙ servers) h.steps h.are h.run)
 
     -- the operation is closed without its answer
     dropped_from : (who t word : ℕ) (mid : LogletView) (c : FabricCall) (a : FabricAnswer) (new : CellView) → move_of c a ≡ OnCell i (Drops t) → Exists shelf c → IsOwner (state_of f.journal) who i t → ((j : ℕ) → is_on j c ≡ (j == i)) → marks_after here c a ≡ slice_set here t false → Happens (record { loglet = v; marks = here; journal = f.journal }) who c a new → IsAsTold ((state_of f.journal).cells i) mid → mid.servers ≡ v.servers → LogletStep mid (call.Forget t) answer.Forgotten new.loglet → IsAfter new
@@ -182,12 +191,12 @@ module _ (may : ℕ → Entry → Type 0) (floor : List Entry → ℕ) (shelf : 
         let c = (state_of f.journal).cells i in
         let k = dropped_as_told c mid m who t new.loglet s.can s.does s.after in
         recorded new e h.recorded
-            (on_cell e (record { there = there; allowed = subst (λ x. IsAllowed (state_of f.journal) may floor (length shelf) who x) (sym drops) (k.running, own who t k.running owner k.is_open) })
-                (cell_after who c (Drops t))
-                (λ j. ap (λ x. (after (state_of f.journal) who x).cells j) drops)
-                (ap (λ x. (after (state_of f.journal) who x).register) drops) on new.loglet new.marks k.told
-                (subst (AreMarked (cell_after who c (Drops t))) (sym (h.marked ∙ marks_are)) (marks_closed c (cell_after who c (Drops t)) t here refl (λ u. refl) marked_now))
-                (ap (λ (x : LogletView). x.servers) s.does.rest ∙ servers) h.steps h.are h.run)
+        (on_cell e (record { there = there; allowed = subst (λ x. IsAllowed (state_of f.journal) may floor (length shelf) who x) (sym drops) (k.running, own who t k.running owner k.is_open) })
+        (cell_after who c (Drops t))
+        (λ j. ap (λ x. (after (state_of f.journal) who x).cells j) drops)
+        (ap (λ x. (after (state_of f.journal) who x).register) drops) on new.loglet new.marks k.told
+        (subst (AreMarked (cell_after who c (Drops t))) (sym (h.marked ∙ marks_are)) (marks_closed c (cell_after who c (Drops t)) t here refl (λ u. refl) marked_now))
+        (ap (λ (x : LogletView). x.servers) s.does.rest ∙ servers) h.steps h.are h.run)
 
     -- the ticket isn't open, and the loglet isn't called
     missed_by : (who t : ℕ) (c : FabricCall) (a : FabricAnswer) (new : CellView) → move_of c a ≡ OnCell i (Misses t) → Exists shelf c → ((j : ℕ) → is_on j c ≡ (j == i)) → marks_after here c a ≡ here → slice_get here t ≢ Some true → (h : Happens (record { loglet = v; marks = here; journal = f.journal }) who c a new) → h.steps ≡ [] → IsAfter new
@@ -197,12 +206,12 @@ module _ (may : ℕ → Entry → Type 0) (floor : List Entry → ℕ) (shelf : 
         let same : new.loglet ≡ v = subst (λ x. LogletRun v x new.loglet) none h.run in
         let closed = unmarked (c.told.ops t) (slice_get here t) (marked_now.each t) not_open in
         recorded new e h.recorded
-            (on_cell e (record { there = there; allowed = subst (λ x. IsAllowed (state_of f.journal) may floor (length shelf) who x) (sym misses) closed })
-                c
-                (λ j. ap (λ x. (after (state_of f.journal) who x).cells j) misses)
-                (ap (λ x. (after (state_of f.journal) who x).register) misses) on new.loglet new.marks (subst (IsAsTold c) (sym same) told_now)
-                (subst (AreMarked c) (sym (h.marked ∙ marks_are)) marked_now)
-                (ap (λ (x : LogletView). x.servers) same) h.steps h.are h.run)
+        (on_cell e (record { there = there; allowed = subst (λ x. IsAllowed (state_of f.journal) may floor (length shelf) who x) (sym misses) closed })
+        c
+        (λ j. ap (λ x. (after (state_of f.journal) who x).cells j) misses)
+        (ap (λ x. (after (state_of f.journal) who x).register) misses) on new.loglet new.marks (subst (IsAsTold c) (sym same) told_now)
+        (subst (AreMarked c) (sym (h.marked ∙ marks_are)) marked_now)
+        (ap (λ (x : LogletView). x.servers) same) h.steps h.are h.run)
 
     -- carried once, and then this is left of the loglet
     first_carried : (t word : ℕ) (mid : LogletView) → LogletStep v (call.Carry t word) answer.Carried mid → IsAsTold ((state_of f.journal).cells i) mid
@@ -220,28 +229,28 @@ module _ (may : ℕ → Entry → Type 0) (floor : List Entry → ℕ) (shelf : 
         let falls = s.does.falls in
         let q = told_open (c.told.ops t) falls.before (operation_at v.operations t) (told_now.operations t) falls.was in
         recorded new e h.recorded
-            (on_cell e (record { there = can.there; allowed = ((q.0, own who t q.0 can.asks q.1), carried_few c v told_now t r.0 s.does s.after) })
-                (cell_after who c (Carries t)) (λ j. refl) refl (λ j. refl) new.loglet new.marks
-                (subst (IsAsTold (cell_after who c (Carries t))) (sym is) (carried_as_told c v told_now who t r.0 s.does s.after))
-                (subst (AreMarked (cell_after who c (Carries t))) (sym h.marked) (record { count = marked_now.count; each = marked_now.each }))
-                (ap (λ (x : LogletView). x.servers) is ∙ ap (λ (x : LogletView). x.servers) s.does.moves.rest) h.steps h.are h.run)
+        (on_cell e (record { there = can.there; allowed = ((q.0, own who t q.0 can.asks q.1), carried_few c v told_now t r.0 s.does s.after) })
+        (cell_after who c (Carries t)) (λ j. refl) refl (λ j. refl) new.loglet new.marks
+        (subst (IsAsTold (cell_after who c (Carries t))) (sym is) (carried_as_told c v told_now who t r.0 s.does s.after))
+        (subst (AreMarked (cell_after who c (Carries t))) (sym h.marked) (record { count = marked_now.count; each = marked_now.each }))
+        (ap (λ (x : LogletView). x.servers) is ∙ ap (λ (x : LogletView). x.servers) s.does.moves.rest) h.steps h.are h.run)
     carry_kept who t word (Done a) new can h =
         ⊎_elim
         (λ (x : h.steps ≡ (call.Carry t word, answer.Carried) ∷ (call.Take t, answer.Taken (Some a)) ∷ []).
-            let r = subst (λ y. LogletRun v y new.loglet) x h.run in
-            answered_from who t word a r.0 new can h (first_carried t word r.0 r.1) (ap (λ (y : LogletView). y.servers) r.1.does.moves.rest)
-                (subst (LogletStep r.0 (call.Take t) (answer.Taken (Some a))) (sym r.2.2) r.2.1))
+        let r = subst (λ y. LogletRun v y new.loglet) x h.run in
+        answered_from who t word a r.0 new can h (first_carried t word r.0 r.1) (ap (λ (y : LogletView). y.servers) r.1.does.moves.rest)
+        (subst (LogletStep r.0 (call.Take t) (answer.Taken (Some a))) (sym r.2.2) r.2.1))
         (λ (x : h.steps ≡ (call.Take t, answer.Taken (Some a)) ∷ []).
-            answered_from who t word a v new can h told_now refl (only (call.Take t) (answer.Taken (Some a)) new.loglet (subst (λ y. LogletRun v y new.loglet) x h.run)))
+        answered_from who t word a v new can h told_now refl (only (call.Take t) (answer.Taken (Some a)) new.loglet (subst (λ y. LogletRun v y new.loglet) x h.run)))
         h.are
     carry_kept who t word Memory new can h =
         ⊎_elim
         (λ (x : h.steps ≡ (call.Carry t word, answer.Carried) ∷ (call.Forget t, answer.Forgotten) ∷ []).
-            let r = subst (λ y. LogletRun v y new.loglet) x h.run in
-            dropped_from who t word r.0 (Carry i t word) Memory new refl can.there can.asks (λ j. refl) refl h (first_carried t word r.0 r.1) (ap (λ (y : LogletView). y.servers) r.1.does.moves.rest)
-                (subst (LogletStep r.0 (call.Forget t) answer.Forgotten) (sym r.2.2) r.2.1))
+        let r = subst (λ y. LogletRun v y new.loglet) x h.run in
+        dropped_from who t word r.0 (Carry i t word) Memory new refl can.there can.asks (λ j. refl) refl h (first_carried t word r.0 r.1) (ap (λ (y : LogletView). y.servers) r.1.does.moves.rest)
+        (subst (LogletStep r.0 (call.Forget t) answer.Forgotten) (sym r.2.2) r.2.1))
         (λ (x : h.steps ≡ (call.Forget t, answer.Forgotten) ∷ []).
-            dropped_from who t word v (Carry i t word) Memory new refl can.there can.asks (λ j. refl) refl h told_now refl (only (call.Forget t) answer.Forgotten new.loglet (subst (λ y. LogletRun v y new.loglet) x h.run)))
+        dropped_from who t word v (Carry i t word) Memory new refl can.there can.asks (λ j. refl) refl h told_now refl (only (call.Forget t) answer.Forgotten new.loglet (subst (λ y. LogletRun v y new.loglet) x h.run)))
         h.are
     carry_kept who t word NoTicket new can h = missed_by who t (Carry i t word) NoTicket new refl can.there (λ j. refl) refl h.missed h h.are
     carry_kept who t word a new can h = absurd h.are

@@ -1,10 +1,10 @@
 -- The marks of a cell's tickets follow its operations.
-use Rattle.std.proofs.Common.{◌≡◌, ◌≢◌, ℕ, zero, suc, ◌+◌, ◌<◌, Bool, true, false, List, [], ◌∷◌, ◌++◌, length, set, Option, Some, None, refl, sym, ap, ◌∙◌, subst, arith}
+use Rattle.std.proofs.Common.{◌≡◌, ◌≢◌, ℕ, zero, suc, Bool, true, false, List, [], ◌∷◌, ◌++◌, length, set, Some, None, refl, sym, ap, subst, arith}
 use Rattle.std.specs.Prelude.{slice_get, slice_set}
 use Rattle.std.proofs.lemmas.List.{length-append, length-set}
 use Rattle.loglet_api.specs.declared.call.Op.{Op}
-use Rattle.legal_journal.specs.Told.{Running, put, started}
-use Rattle.legal_journal.specs.Moves.{Begins, Answers, Drops}
+use Rattle.legal_journal.specs.Told.{put, started}
+use Rattle.legal_journal.specs.Moves.{Begins}
 use Rattle.legal_journal.specs.Journal.{CellState, cell_after}
 use Rattle.legal_journal.proofs.Cells.{put_cases}
 use Rattle.fabric_core.specs.Fabric.{IsMarked, AreMarked}
@@ -45,14 +45,14 @@ marks_begun who c op t marks is m = record {
   each = λ u. put_cases (λ r. IsMarked r (slice_get (marks ++ true ∷ []) u)) c.told.ops t (Some (started c.told op)) u
       (λ e. at_end marks true u (omega (arith, m.count)))
       (λ k. let other : u ≢ length marks = λ e. k (omega (arith, m.count)) in
-          subst (IsMarked (c.told.ops u)) (sym (not_at_end marks true u other)) (m.each u));
+      subst (IsMarked (c.told.ops u)) (sym (not_at_end marks true u other)) (m.each u));
 }
 
 closed : (c : CellState) (t : ℕ) (marks : List Bool) → ((u : ℕ) → IsMarked (c.told.ops u) (slice_get marks u)) → (u : ℕ) → IsMarked (put c.told.ops t None u) (slice_get (set marks t false) u)
 closed c t marks m u =
     put_cases (λ r. IsMarked r (slice_get (set marks t false) u)) c.told.ops t None u
-        (λ e. subst (λ k. slice_get (set marks t false) k ≢ Some true) (sym e) (not_set marks t))
-        (λ k. subst (IsMarked (c.told.ops u)) (sym (set_other marks t u false k)) (m u))
+    (λ e. subst (λ k. slice_get (set marks t false) k ≢ Some true) (sym e) (not_set marks t))
+    (λ k. subst (IsMarked (c.told.ops u)) (sym (set_other marks t u false k)) (m u))
 
 -- the operation of the ticket is closed
 pub marks_closed : (c d : CellState) (t : ℕ) (marks : List Bool) → d.told.begun ≡ c.told.begun → ((u : ℕ) → d.told.ops u ≡ put c.told.ops t None u) → AreMarked c marks → AreMarked d (slice_set marks t false)

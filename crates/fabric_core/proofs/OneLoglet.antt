@@ -1,13 +1,11 @@
 -- The log of a chain of one open segment, from position 0, is that of its loglet.
-use Rattle.std.proofs.Common.{◌≡◌, refl, sym, ap, ◌∙◌, subst, ℕ, zero, suc, ◌+◌, ◌-◌, ◌<◌, ◌≤◌, nat_lt, nat_le, Bool, true, false, ◌&&◌, List, [], ◌∷◌, length, take, drop, Option, Some, None, arith, add-one, slice_get, filter_map, is_some, if◌then◌else◌}
+use Rattle.std.proofs.Common.{◌≡◌, refl, ap, ◌∙◌, ℕ, zero, suc, ◌+◌, ◌-◌, ◌<◌, ◌≤◌, nat_lt, nat_le, true, List, [], ◌∷◌, length, take, drop, Option, Some, arith, add-one, slice_get, filter_map, is_some}
 use Rattle.std.specs.List.{list_all}
-use Rattle.std.specs.Option.{option_and_then}
 use Rattle.std.proofs.lemmas.Grind.{common_steps}
 use Rattle.std.proofs.lemmas.Bool.Decides.{nat_tests}
 use Rattle.delos_types.specs.declared.entry.Entry.{Entry}
-use Rattle.delos_types.specs.declared.chain.Chain.{Chain}
 use Rattle.loglet_api.specs.View.{LogletView}
-use Rattle.fabric_core.specs.Log.{numbers, virtual_log_at, virtual_log, virtual_tail, has_no_gap, entry_of_cell}
+use Rattle.fabric_core.specs.Log.{numbers, virtual_log_at, virtual_log, virtual_tail, has_no_gap}
 use Rattle.chain_map.specs.Chain.{first_chain}
 
 -- an element, and the list from it on

@@ -1,15 +1,15 @@
 -- A fabric of fresh parts.
-use Rattle.std.proofs.Common.{◌≡◌, ◌≢◌, ◌⊎◌, inl, inr, ℕ, zero, suc, ◌+◌, ◌<◌, ◌≤◌, List, [], ◌∷◌, length, map, Option, Some, None, Bool, true, false, refl, sym, ap, ◌∙◌, subst, arith}
+use Rattle.std.proofs.Common.{◌≡◌, ◌≢◌, inl, ℕ, zero, suc, ◌<◌, ◌≤◌, List, [], ◌∷◌, length, map, Some, None, Bool, true, refl, sym, ap, ◌∙◌, subst, arith}
 use Rattle.std.specs.Prelude.{slice_get, All}
 use Rattle.std.proofs.lemmas.List.{length-map}
 use Rattle.std.proofs.lemmas.List.Elements.{All-head, All-tail}
 use Rattle.std.proofs.lemmas.Option.{slice_get_within}
 use Rattle.delos_types.specs.declared.entry.Entry.{Entry}
-use Rattle.loglet_api.specs.View.{LogletView, Operation, operation_at, IsFresh}
+use Rattle.loglet_api.specs.View.{LogletView, operation_at, IsFresh}
 use Rattle.loglet_api.specs.Sound.{IsSound}
-use Rattle.legal_journal.specs.Journal.{start, fresh_cell, fresh_register}
+use Rattle.legal_journal.specs.Journal.{fresh_cell}
 use Rattle.fabric_core.specs.Register.{RegisterView, IsFreshRegister}
-use Rattle.fabric_core.specs.Fabric.{FabricOk, CellOk, IsAsTold, AreMarked, MatchesOperation}
+use Rattle.fabric_core.specs.Fabric.{FabricOk, IsAsTold, MatchesOperation}
 
 at_all : {A : Type 0} (P : LogletView → Type 0) (view : A → LogletView) (xs : List A) (i : ℕ) (v : LogletView) → All (λ x. P (view x)) xs → slice_get (map view xs) i ≡ Some v → P v
 at_all P view [] i v h e = absurd (cc)
@@ -23,7 +23,15 @@ all_none items (m ∷ ms) (suc i) l h = all_none items ms i (omega arith) (All-t
 
 fresh_as_told : (v : LogletView) → IsFresh v → IsSound v → IsAsTold fresh_cell v
 fresh_as_told v f sound = record {
-  cut = f.cut; log = f.log; reach = f.reach; cap = f.cap; firm = f.firm; begun = f.begun; seals = f.seals; lacks = f.lacks; sealed = λ e. absurd (cc);
+  cut = f.cut;
+  log = f.log;
+  reach = f.reach;
+  cap = f.cap;
+  firm = f.firm;
+  begun = f.begun;
+  seals = f.seals;
+  lacks = f.lacks;
+  sealed = λ e. absurd (cc);
   operations = λ t. subst (λ ops. MatchesOperation None (operation_at ops t)) (sym f.operations) tt;
   left = λ t o e. let no : None ≡ Some o = ap (λ ops. operation_at ops t) (sym f.operations) ∙ e in absurd (cc);
   sound = sound;

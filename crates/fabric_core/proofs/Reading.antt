@@ -1,21 +1,18 @@
 -- A fabric goes on after an event of its register.
-use Rattle.std.proofs.Common.{◌≡◌, ◌⊎◌, inl, inr, ℕ, ◌+◌, ◌<◌, List, [], ◌∷◌, ◌++◌, length, Option, Some, None, Bool, true, false, refl, sym, ap, ◌∙◌, subst, ⊎_elim, arith}
-use Rattle.std.specs.Prelude.{slice_get}
+use Rattle.std.proofs.Common.{◌≡◌, inl, ℕ, List, [], ◌∷◌, ◌++◌, length, Bool, false, refl, sym, ap, ◌∙◌, subst, arith}
 use Rattle.std.proofs.lemmas.List.{length-append}
 use Rattle.delos_types.specs.declared.entry.Entry.{Entry}
-use Rattle.delos_types.specs.declared.chain.Chain.{Chain}
-use Rattle.loglet_api.specs.View.{LogletView}
 use Rattle.legal_journal.specs.declared.events.Event.{Event}
 use Rattle.legal_journal.specs.declared.events.FabricCall.{FabricCall}
 use Rattle.legal_journal.specs.declared.events.FabricCall.TheVariants.{ReadChain}
 use Rattle.legal_journal.specs.declared.events.FabricAnswer.{FabricAnswer}
 use Rattle.legal_journal.specs.declared.events.FabricAnswer.TheVariants.{At, Down, Memory}
 use Rattle.legal_journal.specs.Moves.{move}
-use Rattle.legal_journal.specs.Journal.{CellState, RegisterState, State, state_of, after, known, MayHappen, IsCurrent, IsLegal}
+use Rattle.legal_journal.specs.Journal.{CellState, State, state_of, after, MayHappen, IsCurrent, IsLegal}
 use Rattle.legal_journal.specs.Turns.{MayCall, MayTurn, IsTurn}
 use Rattle.fabric_core.specs.Register.{RegisterView}
 use Rattle.fabric_core.specs.Runs.{is_on}
-use Rattle.fabric_core.specs.Fabric.{FabricView, FabricOk, CellOk, IsAsTold, AreMarked, IsRegisterAsTold, Adds, Keeps, ReadsAs}
+use Rattle.fabric_core.specs.Fabric.{FabricView, FabricOk, IsAsTold, AreMarked, IsRegisterAsTold, Adds, Keeps, ReadsAs}
 use Rattle.fabric_core.proofs.Kept.{legal_more, state_more, has_run_same}
 use Rattle.fabric_core.proofs.Shelf.{adds_none}
 
@@ -30,7 +27,8 @@ module _ (may : ℕ → Entry → Type 0) (floor : List Entry → ℕ) (shelf : 
             let old = ok.cells j x g in
             let cell : (state_of (f.journal ++ e ∷ [])).cells j ≡ (state_of f.journal).cells j = ap (λ (y : State). y.cells j) next ∙ same j in record {
               told = subst (λ (y : CellState). IsAsTold y x) (sym cell) old.told;
-              here = old.here; is = old.is;
+              here = old.here;
+              is = old.is;
               marked = subst (λ (y : CellState). AreMarked y old.here) (sym cell) old.marked;
               ran = has_run_same j x f.journal e old.ran (off j);
             };
@@ -55,19 +53,19 @@ module _ (may : ℕ → Entry → Type 0) (floor : List Entry → ℕ) (shelf : 
       let e : Event = record { who = who; call = ReadChain; answer = At v c } in
       let current = subst (λ n. IsCurrent (state_of f.journal).register n c) (sym h.1) (subst (λ x. IsCurrent (state_of f.journal).register f.register.version x) (sym h.2) ok.register.current) in
       one_more who (At v c) r journal h.4
-          (off_cells e (record { there = tt; allowed = (sym ok.register.down ∙ h.0, current) }) (λ j. refl) (λ j. refl) r (record {
-            down = ap (λ (x : RegisterView). x.down) h.3 ∙ h.0;
-            current = inl (ap (λ (x : RegisterView). x.version) h.3 ∙ sym h.1, ap (λ (x : RegisterView). x.chain) h.3 ∙ sym h.2);
-          }))
-          (record { own = e ∷ []; event = refl; added = h.4 })
+      (off_cells e (record { there = tt; allowed = (sym ok.register.down ∙ h.0, current) }) (λ j. refl) (λ j. refl) r (record {
+        down = ap (λ (x : RegisterView). x.down) h.3 ∙ h.0;
+        current = inl (ap (λ (x : RegisterView). x.version) h.3 ∙ sym h.1, ap (λ (x : RegisterView). x.chain) h.3 ∙ sym h.2);
+      }))
+      (record { own = e ∷ []; event = refl; added = h.4 })
   read_goes who Down r journal h =
       let e : Event = record { who = who; call = ReadChain; answer = Down } in
       one_more who Down r journal h.2
-          (off_cells e (record { there = tt; allowed = sym ok.register.down ∙ h.0 }) (λ j. refl) (λ j. refl) r (record {
-            down = ap (λ (x : RegisterView). x.down) h.1 ∙ ok.register.down;
-            current = subst (λ n. IsCurrent (state_of f.journal).register n r.chain) (sym (ap (λ (x : RegisterView). x.version) h.1)) (subst (λ x. IsCurrent (state_of f.journal).register f.register.version x) (sym (ap (λ (x : RegisterView). x.chain) h.1)) ok.register.current);
-          }))
-          (record { own = e ∷ []; event = refl; added = h.2 })
+      (off_cells e (record { there = tt; allowed = sym ok.register.down ∙ h.0 }) (λ j. refl) (λ j. refl) r (record {
+        down = ap (λ (x : RegisterView). x.down) h.1 ∙ ok.register.down;
+        current = subst (λ n. IsCurrent (state_of f.journal).register n r.chain) (sym (ap (λ (x : RegisterView). x.version) h.1)) (subst (λ x. IsCurrent (state_of f.journal).register f.register.version x) (sym (ap (λ (x : RegisterView). x.chain) h.1)) ok.register.current);
+      }))
+      (record { own = e ∷ []; event = refl; added = h.2 })
   read_goes who Memory r journal h =
       let same : ◌≡◌ {A = FabricView} (record { cells = f.cells; register = r; journal = journal }) f = ap (λ x. record { cells = f.cells; register = x; journal = journal }) h.0 ∙ ap (λ j. record { cells = f.cells; register = f.register; journal = j }) h.1 in
       let all = subst (λ (x : FabricView). FabricOk may floor shelf x marks) (sym same) ok in record {
@@ -93,5 +91,10 @@ module _ (may : ℕ → Entry → Type 0) (floor : List Entry → ℕ) (shelf : 
   -- a call of one thread alone is a turn
   pub turn_of : (answer : FabricAnswer) (new : List Event) → Adds old who call answer new → IsLegal may floor shelf new → IsTurn may floor shelf who old call answer new
   turn_of answer new a legal = record {
-    others = []; own = a.own; apart = tt; event = a.event; seen = a.added ∙ ap (λ l. l ++ a.own) (sym (nil old)); legal = legal;
+    others = [];
+    own = a.own;
+    apart = tt;
+    event = a.event;
+    seen = a.added ∙ ap (λ l. l ++ a.own) (sym (nil old));
+    legal = legal;
   }

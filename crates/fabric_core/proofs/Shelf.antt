@@ -1,6 +1,6 @@
 -- A shelf of values, one of which takes part in an event.
-use Rattle.std.proofs.Common.{◌≡◌, ◌⊎◌, inl, inr, ℕ, zero, suc, ◌+◌, ◌<◌, List, [], ◌∷◌, ◌++◌, length, map, set, Option, Some, None, Bool, true, IsSome, refl, sym, ap, ◌∙◌, subst, ⊎_elim, arith}
-use Rattle.std.specs.Prelude.{slice_get, slice_set}
+use Rattle.std.proofs.Common.{◌≡◌, inl, inr, ℕ, zero, suc, ◌<◌, List, [], ◌∷◌, ◌++◌, length, map, set, Option, Some, None, Bool, true, IsSome, refl, sym, ap, ◌∙◌, subst, ⊎_elim, arith}
+use Rattle.std.specs.Prelude.{slice_get}
 use Rattle.std.proofs.lemmas.List.{length-append, length-map}
 use Rattle.std.proofs.lemmas.Option.{slice_get_within}
 use Rattle.delos_types.specs.declared.entry.Entry.{Entry}
@@ -123,8 +123,8 @@ module _ (may : ℕ → Entry → Type 0) (floor : List Entry → ℕ) (shelf : 
   happened : (who : ℕ) (call : FabricCall) (answer : FabricAnswer) → ((steps : LogletSteps) → StepsOf call answer steps → OwnEvents who call answer (record { who = who; call = call; answer = answer } ∷ [])) → Happens cell_old who call answer cell_new → IsAfter may floor shelf old (map items marks) ok i (view a) (items b) (map_get view cells i a at) (map_get items marks i b marked) cell_new → Goes who call answer
   happened who call answer own h after =
       let now : FabricOk may floor shelf new (map items (set marks i b')) =
-          subst (λ (cs : List LogletView). FabricOk may floor shelf (record { cells = cs; register = register; journal = journal' }) (map items (set marks i b'))) (sym (map_set view cells i a'))
-              (subst (λ (ms : List (List Bool)). FabricOk may floor shelf (record { cells = set (map view cells) i (view a'); register = register; journal = journal' }) ms) (sym (map_set items marks i b')) after) in
+      subst (λ (cs : List LogletView). FabricOk may floor shelf (record { cells = cs; register = register; journal = journal' }) (map items (set marks i b'))) (sym (map_set view cells i a'))
+      (subst (λ (ms : List (List Bool)). FabricOk may floor shelf (record { cells = set (map view cells) i (view a'); register = register; journal = journal' }) ms) (sym (map_set items marks i b')) after) in
       let e : Event = record { who = who; call = call; answer = answer } in record {
         now = now;
         keeps = record {
@@ -151,7 +151,7 @@ module _ (may : ℕ → Entry → Type 0) (floor : List Entry → ℕ) (shelf : 
   begun who op answer can h =
       ⊎_elim
       (λ (x : Happens cell_old who (Begin i op) answer cell_new). happened who (Begin i op) answer (own_begin who i op answer) x
-          (begin_kept may floor shelf old (map items marks) ok i (view a) (items b) (map_get view cells i a at) (map_get items marks i b marked) who op answer cell_new can x))
+      (begin_kept may floor shelf old (map items marks) ok i (view a) (items b) (map_get view cells i a at) (map_get items marks i b marked) who op answer cell_new can x))
       (λ (x : (answer ≡ Memory) × (cell_new ≡ cell_old)). unchanged who (Begin i op) answer x)
       h
 
@@ -159,7 +159,7 @@ module _ (may : ℕ → Entry → Type 0) (floor : List Entry → ℕ) (shelf : 
   carried who t word answer can h =
       ⊎_elim
       (λ (x : Happens cell_old who (Carry i t word) answer cell_new). happened who (Carry i t word) answer (own_carry who i t word answer) x
-          (carry_kept may floor shelf old (map items marks) ok i (view a) (items b) (map_get view cells i a at) (map_get items marks i b marked) who t word answer cell_new can x))
+      (carry_kept may floor shelf old (map items marks) ok i (view a) (items b) (map_get view cells i a at) (map_get items marks i b marked) who t word answer cell_new can x))
       (λ (x : (answer ≡ Memory) × (cell_new ≡ cell_old)). unchanged who (Carry i t word) answer x)
       h
 
@@ -167,6 +167,6 @@ module _ (may : ℕ → Entry → Type 0) (floor : List Entry → ℕ) (shelf : 
   forgotten who t answer can h =
       ⊎_elim
       (λ (x : Happens cell_old who (Forget i t) answer cell_new). happened who (Forget i t) answer (own_forget who i t answer) x
-          (forget_kept may floor shelf old (map items marks) ok i (view a) (items b) (map_get view cells i a at) (map_get items marks i b marked) who t answer cell_new can x))
+      (forget_kept may floor shelf old (map items marks) ok i (view a) (items b) (map_get view cells i a at) (map_get items marks i b marked) who t answer cell_new can x))
       (λ (x : (answer ≡ Memory) × (cell_new ≡ cell_old)). unchanged who (Forget i t) answer x)
       h

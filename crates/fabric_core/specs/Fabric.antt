@@ -1,5 +1,5 @@
 -- What a fabric shows, and what holds of it.
-use Rattle.std.specs.Prelude.{◌≡◌, ◌≢◌, ◌⊎◌, ℕ, ◌+◌, ◌≤◌, Bool, true, false, List, [], ◌∷◌, ◌++◌, length, map, slice_get, Option, Some, None}
+use Rattle.std.specs.Prelude.{◌≡◌, ◌≢◌, ℕ, ◌+◌, ◌≤◌, Bool, true, false, List, [], ◌∷◌, ◌++◌, length, map, slice_get, Option, Some, None}
 use Rattle.delos_types.specs.declared.entry.Entry.{Entry}
 use Rattle.loglet_api.specs.View.{LogletView, Operation, operation_at}
 use Rattle.loglet_api.specs.Sound.{IsSound}
@@ -10,7 +10,7 @@ use Rattle.legal_journal.specs.declared.events.FabricCall.TheVariants.{ReadChain
 use Rattle.legal_journal.specs.declared.events.FabricAnswer.{FabricAnswer}
 use Rattle.legal_journal.specs.declared.events.FabricAnswer.TheVariants.{At, Down, Memory}
 use Rattle.legal_journal.specs.declared.events.Event.{Event}
-use Rattle.legal_journal.specs.Told.{Told, Running}
+use Rattle.legal_journal.specs.Told.{Running}
 use Rattle.legal_journal.specs.Journal.{CellState, RegisterState, State, state_of, IsLegal, IsCurrent, patience}
 use Rattle.legal_journal.specs.Turns.{OwnEvents}
 use Rattle.fabric_core.specs.Register.{RegisterView}

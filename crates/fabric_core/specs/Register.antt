@@ -1,5 +1,5 @@
 -- What a register shows, and what its calls do.
-use Rattle.std.specs.Prelude.{◌≡◌, ℕ, ◌<◌, Bool, true, false}
+use Rattle.std.specs.Prelude.{◌≡◌, ℕ, Bool, true, false}
 use Rattle.delos_types.specs.declared.chain.Chain.{Chain}
 use Rattle.chain_map.specs.Chain.{first_chain}
 use Rattle.fabric_core.specs.declared.register.ReadAnswer.{ReadAnswer}

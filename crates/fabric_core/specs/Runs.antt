@@ -1,6 +1,5 @@
 -- Which calls of its loglets a fabric makes for an event, and that each loglet's are a run of the loglet step.
-use Rattle.std.specs.Prelude.{◌≡◌, ◌⊎◌, ◌==◌, ℕ, Bool, false, MatchBool, List, [], ◌∷◌, Option, None, Some}
-use Rattle.loglet_api.specs.declared.call.Op.{Op}
+use Rattle.std.specs.Prelude.{◌≡◌, ◌⊎◌, ◌==◌, ℕ, Bool, false, MatchBool, List, [], ◌∷◌, None, Some}
 use Rattle.loglet_api.specs.declared.call.Refused.TheVariants as refused
 use Rattle.loglet_api.specs.declared.call.LogletCall.{LogletCall}
 use Rattle.loglet_api.specs.declared.call.LogletCall.TheVariants as call

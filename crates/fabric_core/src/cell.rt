@@ -4,10 +4,10 @@ ghost use Rattle.loglet_api.specs.View.{IsOpen};
 ghost use Rattle.loglet_api.specs.Step.{CanBegin};
 ghost use Rattle.fabric_core.specs.CellEvent.{IsGot, CarriedOnce, Applies};
 
+use delos_types::numbers::Ticket;
 use legal_journal::events::{Event, FabricAnswer, FabricCall};
 use loglet_api::call::{Answer, Op, Refused};
 use loglet_api::loglet::Loglet;
-use delos_types::numbers::Ticket;
 use std::alloc::AllocError;
 
 /// The ticket is open.

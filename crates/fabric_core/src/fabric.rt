@@ -9,6 +9,8 @@ ghost use Rattle.fabric_core.specs.Register.{IsFreshRegister};
 ghost use Rattle.fabric_core.specs.Runs.{HasRun};
 ghost use Rattle.fabric_core.specs.Fabric.{Adds, Keeps, ReadsAs};
 
+use crate::cell::{begin_in, carry_in, forget_in};
+use crate::register::{ReadAnswer, Register};
 use delos_types::numbers::Ticket;
 use legal_journal::events::{Event, FabricAnswer, FabricCall};
 use legal_journal::rules::Rules;
@@ -16,9 +18,6 @@ use loglet_api::call::Op;
 use loglet_api::loglet::Loglet;
 use std::alloc::{AllocError, Global};
 use std::marker::{Model, PhantomData};
-
-use crate::cell::{begin_in, carry_in, forget_in};
-use crate::register::{ReadAnswer, Register};
 
 /// A shelf of loglets, the register of the chain that joins them, and the journal of all events.
 /// Cell i of the shelf is the loglet of segment id i.

@@ -1,9 +1,9 @@
 -- What holds of a cell after any allowed moves, and how a move changes it.
-use Rattle.std.proofs.Common.{◌≡◌, ◌≢◌, ◌⊎◌, inl, inr, ℕ, zero, suc, ◌+◌, ◌-◌, ◌<◌, ◌≤◌, ◌^◌, min, max, List, [], ◌∷◌, ◌++◌, length, drop, Option, Some, None, Bool, true, false, cond, refl, sym, ap, ◌∙◌, subst, ⊎_elim, arith}
+use Rattle.std.proofs.Common.{◌≡◌, ◌≢◌, ◌⊎◌, inl, inr, ℕ, ◌+◌, ◌-◌, ◌<◌, ◌≤◌, ◌^◌, min, max, List, [], ◌∷◌, ◌++◌, length, drop, Option, Some, None, Bool, true, false, cond, refl, sym, ap, ◌∙◌, subst, ⊎_elim, arith}
 use Rattle.std.specs.Prelude.{slice_get, ◌==◌, Contains}
 use Rattle.std.proofs.lemmas.Bool.Decides.{nat_tests}
 use Rattle.std.proofs.lemmas.List.{drop-drop, drop-append-le, length-drop, length-append}
-use Rattle.std.proofs.lemmas.List.Elements.{Contains-append_left, Contains-push_cases, Contains-push}
+use Rattle.std.proofs.lemmas.List.Elements.{Contains-append_left, Contains-push_cases}
 use Rattle.delos_types.specs.declared.entry.Entry.{Entry}
 use Rattle.loglet_api.specs.declared.call.Op.{Op}
 use Rattle.loglet_api.specs.declared.call.Op.TheVariants.{Append, Settle, Tail, Seal, Read, Trim}
@@ -11,8 +11,8 @@ use Rattle.loglet_api.specs.declared.call.Answer.{Answer}
 use Rattle.loglet_api.specs.declared.call.Answer.TheVariants.{Placed, Settled, OpenTail, SealedTail, SealDone, Got, CutAt, Beyond, TrimDone, Sealed, NoQuorum}
 use Rattle.loglet_api.specs.Step.{entries_of, cut_by, task_of, wanted_by, told_cap}
 use Rattle.legal_journal.specs.Told.{Told, Running, put, answered, size_of, started, cut_begun, MayAnswer, IsWithin, MayReach, MayEnd}
-use Rattle.legal_journal.specs.Moves.{CellMove, Begins, Carries, Answers, Drops, Misses}
-use Rattle.legal_journal.specs.Journal.{CellState, cell_after, ends_told, answered_by, HasRoom, IsOwn, fresh_cell}
+use Rattle.legal_journal.specs.Moves.{Begins, Answers, Drops}
+use Rattle.legal_journal.specs.Journal.{CellState, cell_after, ends_told, answered_by, HasRoom, fresh_cell}
 use Rattle.legal_journal.specs.Laws.{Goes}
 use Rattle.legal_journal.proofs.Log.{slice_get_front}
 
@@ -24,8 +24,8 @@ by_test P false h k = k refl
 pub put_cases : {A : Type 0} (P : A → Type 0) (f : ℕ → A) (i : ℕ) (x : A) (j : ℕ) → (j ≡ i → P x) → (j ≢ i → P (f j)) → P (put f i x j)
 put_cases P f i x j h k =
     by_test _ (j == i)
-        (λ t. let same : j ≡ i = grind (arith, nat_tests) in subst (λ b. P (cond b x (f j))) (sym t) (h same))
-        (λ t. let apart : j ≢ i = grind (arith, nat_tests) in subst (λ b. P (cond b x (f j))) (sym t) (k apart))
+    (λ t. let same : j ≡ i = grind (arith, nat_tests) in subst (λ b. P (cond b x (f j))) (sym t) (h same))
+    (λ t. let apart : j ≢ i = grind (arith, nat_tests) in subst (λ b. P (cond b x (f j))) (sym t) (k apart))
 
 pub put_same : {A : Type 0} (f : ℕ → A) (i : ℕ) (x : A) → put f i x i ≡ x
 put_same f i x = put_cases (λ y. y ≡ x) f i x i (λ _. refl) (λ k. absurd (k refl))
@@ -56,8 +56,16 @@ pub record CellOk (c : CellState) : Type 0 where
 
 pub fresh_ok : CellOk fresh_cell
 fresh_ok = record {
-  size = refl; log = refl; cut = omega arith; reach = omega arith; firm = omega arith; room = omega arith;
-  cap = λ k e. absurd (cc); ends = λ t h. absurd (omega (arith, h.1)); seals = λ e. absurd (cc); ops = λ t r e. absurd (cc);
+  size = refl;
+  log = refl;
+  cut = omega arith;
+  reach = omega arith;
+  firm = omega arith;
+  room = omega arith;
+  cap = λ k e. absurd (cc);
+  ends = λ t h. absurd (omega (arith, h.1));
+  seals = λ e. absurd (cc);
+  ops = λ t r e. absurd (cc);
 }
 
 -- A begin.
@@ -96,15 +104,20 @@ module _ (who : ℕ) (c : CellState) (op : Op) (t : ℕ) (ok : CellOk c) (room :
   begun_op : (u : ℕ) (r : Running) → put c.told.ops t (Some (started c.told op)) u ≡ Some r → OpOk (cell_after who c (Begins op t)).told (c.entries ++ entries_of op) u r
   begun_op u r =
       put_cases (λ o. o ≡ Some r → OpOk (cell_after who c (Begins op t)).told (c.entries ++ entries_of op) u r) c.told.ops t (Some (started c.told op)) u
-          (λ at e. let same : started c.told op ≡ r = cc in subst (OpOk (cell_after who c (Begins op t)).told (c.entries ++ entries_of op) u) same (record {
-            ticket = omega arith;
-            size = omega (arith, ok.size, length-append c.entries (entries_of op)); reach = omega arith; firm = omega arith;
-            place = λ x h. let at_end = slice_get_end c.entries x (size_of c.told) ok.size in subst (λ o. slice_get (c.entries ++ entries_of o) (size_of c.told) ≡ Some x) (sym h) at_end;
-          }))
-          (λ _ e. let was = ok.ops u r e in record {
-            ticket = omega (arith, was.ticket); size = omega (arith, was.size, length-append c.entries (entries_of op)); reach = was.reach; firm = was.firm;
-            place = λ x h. slice_get_front c.entries (entries_of op) r.size x (was.place x h);
-          })
+      (λ at e. let same : started c.told op ≡ r = cc in subst (OpOk (cell_after who c (Begins op t)).told (c.entries ++ entries_of op) u) same (record {
+        ticket = omega arith;
+        size = omega (arith, ok.size, length-append c.entries (entries_of op));
+        reach = omega arith;
+        firm = omega arith;
+        place = λ x h. let at_end = slice_get_end c.entries x (size_of c.told) ok.size in subst (λ o. slice_get (c.entries ++ entries_of o) (size_of c.told) ≡ Some x) (sym h) at_end;
+      }))
+      (λ _ e. let was = ok.ops u r e in record {
+        ticket = omega (arith, was.ticket);
+        size = omega (arith, was.size, length-append c.entries (entries_of op));
+        reach = was.reach;
+        firm = was.firm;
+        place = λ x h. slice_get_front c.entries (entries_of op) r.size x (was.place x h);
+      })
 
   pub begins_ok : CellOk (cell_after who c (Begins op t)) × Goes c (cell_after who c (Begins op t))
   begins_ok =
@@ -117,13 +130,22 @@ module _ (who : ℕ) (c : CellState) (op : Op) (t : ℕ) (ok : CellOk c) (room :
         record {
           size = omega (arith, ok.size, low, at, length-append (drop step c.told.log) more, length-drop step c.told.log, length-append c.entries more);
           log = ap (λ l. l ++ more) (ap (drop step) ok.log ∙ (drop-drop step c.told.cut c.entries ∙ ap (λ k. drop k c.entries) at)) ∙ sym (drop-append-le cut c.entries more low);
-          cut = bounds.1; reach = ok.reach; firm = omega (arith, ok.firm, length-append c.entries more);
+          cut = bounds.1;
+          reach = ok.reach;
+          firm = omega (arith, ok.firm, length-append c.entries more);
           room = omega (arith, room_for c.told op (length c.entries) ok.size ok.room room, length-append c.entries more);
-          cap = ok.cap; ends = ok.ends; seals = λ h. seals_grow _ _ (ok.seals h);
+          cap = ok.cap;
+          ends = ok.ends;
+          seals = λ h. seals_grow _ _ (ok.seals h);
           ops = begun_op;
         },
         record {
-          reach = omega arith; firm = omega arith; begun = omega arith; longer = (more, refl); ends = λ u h. h; sealed = λ h. h;
+          reach = omega arith;
+          firm = omega arith;
+          begun = omega arith;
+          longer = (more, refl);
+          ends = λ u h. h;
+          sealed = λ h. h;
           owner = λ u h. put_other c.owner t who u (λ e. absurd (omega arith));
         },
       )
@@ -133,13 +155,21 @@ module _ (who : ℕ) (c : CellState) (op : Op) (t : ℕ) (ok : CellOk c) (room :
 closes : (c : Told) (es : List Entry) (t u : ℕ) (r : Running) (d : Told) → ((v : ℕ) (q : Running) → c.ops v ≡ Some q → OpOk c es v q) → c.begun ≤ d.begun → c.reach ≤ d.reach → c.firm ≤ d.firm → put c.ops t None u ≡ Some r → OpOk d es u r
 closes c es t u r d ok hb hr hf =
     put_cases (λ o. o ≡ Some r → OpOk d es u r) c.ops t None u
-        (λ _ e. absurd (cc))
-        (λ _ e. let was = ok u r e in record { ticket = omega (arith, was.ticket); size = was.size; reach = omega (arith, was.reach); firm = omega (arith, was.firm); place = was.place })
+    (λ _ e. absurd (cc))
+    (λ _ e. let was = ok u r e in record { ticket = omega (arith, was.ticket); size = was.size; reach = omega (arith, was.reach); firm = omega (arith, was.firm); place = was.place })
 
 pub drops_ok : (who : ℕ) (c : CellState) (t : ℕ) → CellOk c → CellOk (cell_after who c (Drops t)) × Goes c (cell_after who c (Drops t))
 drops_ok who c t ok = (
   record {
-    size = ok.size; log = ok.log; cut = ok.cut; reach = ok.reach; firm = ok.firm; room = ok.room; cap = ok.cap; ends = ok.ends; seals = ok.seals;
+    size = ok.size;
+    log = ok.log;
+    cut = ok.cut;
+    reach = ok.reach;
+    firm = ok.firm;
+    room = ok.room;
+    cap = ok.cap;
+    ends = ok.ends;
+    seals = ok.seals;
     ops = λ u r e. closes c.told c.entries t u r _ ok.ops (omega arith) (omega arith) (omega arith) e;
   },
   record { reach = omega arith; firm = omega arith; begun = omega arith; longer = ([], append_nil c.entries); ends = λ u h. h; sealed = λ h. h; owner = λ u h. refl },
@@ -147,13 +177,21 @@ drops_ok who c t ok = (
 
 -- an answer that tells length n and is no sealed tail
 plain_ok : (c : CellState) (t n lacks : ℕ) (sealed : Bool) (new : CellState) → CellOk c → n ≤ size_of c.told → ((k : ℕ) → c.told.cap ≡ Some k → n ≤ k) → (c.told.sealed ≡ true → sealed ≡ true) → (sealed ≡ true → 0 < c.told.seals) → new ≡ record {
-    told = record { cut = c.told.cut; log = c.told.log; reach = max c.told.reach n; cap = c.told.cap; firm = max c.told.firm n; sealed = sealed; begun = c.told.begun; seals = c.told.seals; lacks = lacks; ops = put c.told.ops t None };
-    entries = c.entries; ends = c.ends; owner = c.owner; carried = c.carried;
-  } → CellOk new × Goes c new
+  told = record { cut = c.told.cut; log = c.told.log; reach = max c.told.reach n; cap = c.told.cap; firm = max c.told.firm n; sealed = sealed; begun = c.told.begun; seals = c.told.seals; lacks = lacks; ops = put c.told.ops t None };
+  entries = c.entries;
+  ends = c.ends;
+  owner = c.owner;
+  carried = c.carried;
+} → CellOk new × Goes c new
 plain_ok c t n lacks sealed new ok small capped keeps seals is =
     subst (λ x. CellOk x × Goes c x) (sym is) (
       record {
-        size = ok.size; log = ok.log; cut = omega (arith, ok.cut); reach = omega (arith, ok.reach); firm = omega (arith, ok.firm, ok.size); room = ok.room;
+        size = ok.size;
+        log = ok.log;
+        cut = omega (arith, ok.cut);
+        reach = omega (arith, ok.reach);
+        firm = omega (arith, ok.firm, ok.size);
+        room = ok.room;
         cap = λ k e. (omega (arith, (ok.cap k e).0, capped k e), keeps (ok.cap k e).1);
         ends = λ u h. let w = ok.ends u h in (w.0, w.1, w.2, omega (arith, w.3));
         seals = seals;
@@ -179,13 +217,21 @@ least_of o t m e = ap (λ x. told_cap (SealedTail t) x) e
 
 -- a sealed tail
 ended_ok : (c : CellState) (t n lacks : ℕ) (new : CellState) → CellOk c → MayEnd c.told n → new ≡ record {
-    told = record { cut = c.told.cut; log = c.told.log; reach = max c.told.reach 0; cap = told_cap (SealedTail n) c.told.cap; firm = max c.told.firm n; sealed = true; begun = c.told.begun; seals = c.told.seals; lacks = lacks; ops = put c.told.ops t None };
-    entries = c.entries; ends = c.ends ++ n ∷ []; owner = c.owner; carried = c.carried;
-  } → CellOk new × Goes c new
+  told = record { cut = c.told.cut; log = c.told.log; reach = max c.told.reach 0; cap = told_cap (SealedTail n) c.told.cap; firm = max c.told.firm n; sealed = true; begun = c.told.begun; seals = c.told.seals; lacks = lacks; ops = put c.told.ops t None };
+  entries = c.entries;
+  ends = c.ends ++ n ∷ [];
+  owner = c.owner;
+  carried = c.carried;
+} → CellOk new × Goes c new
 ended_ok c t n lacks new ok e is =
     subst (λ x. CellOk x × Goes c x) (sym is) (
       record {
-        size = ok.size; log = ok.log; cut = omega (arith, ok.cut); reach = omega (arith, ok.reach); firm = omega (arith, ok.firm, ok.size, e.exists); room = ok.room;
+        size = ok.size;
+        log = ok.log;
+        cut = omega (arith, ok.cut);
+        reach = omega (arith, ok.reach);
+        firm = omega (arith, ok.firm, ok.size, e.exists);
+        room = ok.room;
         cap = λ k h. (at_cap k (least_is c.told.cap n k h), refl);
         ends = λ u h. ⊎_elim
             (λ (w : Contains c.ends u). let old = ok.ends u w in (min old.0 n, least_of c.told.cap n old.0 old.1, omega (arith, old.2), omega (arith, old.3)))
@@ -208,22 +254,31 @@ abbrev pub told_by : CellState → ℕ → Running → Answer → CellState
 told_by c t r a = record { told = answered c.told t r a; entries = c.entries; ends = ends_told c.ends a; owner = c.owner; carried = c.carried }
 
 reaches_ok : (c : CellState) (t n lacks : ℕ) (r : Running) (new : CellState) → CellOk c → MayReach c.told r n → new ≡ record {
-    told = record { cut = c.told.cut; log = c.told.log; reach = max c.told.reach n; cap = c.told.cap; firm = max c.told.firm n; sealed = c.told.sealed; begun = c.told.begun; seals = c.told.seals; lacks = lacks; ops = put c.told.ops t None };
-    entries = c.entries; ends = c.ends; owner = c.owner; carried = c.carried;
-  } → CellOk new × Goes c new
+  told = record { cut = c.told.cut; log = c.told.log; reach = max c.told.reach n; cap = c.told.cap; firm = max c.told.firm n; sealed = c.told.sealed; begun = c.told.begun; seals = c.told.seals; lacks = lacks; ops = put c.told.ops t None };
+  entries = c.entries;
+  ends = c.ends;
+  owner = c.owner;
+  carried = c.carried;
+} → CellOk new × Goes c new
 reaches_ok c t n lacks r new ok h is = plain_ok c t n lacks c.told.sealed new ok h.exists (λ k e. within_is n k c.told.cap h.capped e) (λ x. x) ok.seals is
 
 -- an answer that tells of no length
 silent_ok : (c : CellState) (t lacks : ℕ) (new : CellState) → CellOk c → new ≡ record {
-    told = record { cut = c.told.cut; log = c.told.log; reach = max c.told.reach 0; cap = c.told.cap; firm = max c.told.firm 0; sealed = c.told.sealed; begun = c.told.begun; seals = c.told.seals; lacks = lacks; ops = put c.told.ops t None };
-    entries = c.entries; ends = c.ends; owner = c.owner; carried = c.carried;
-  } → CellOk new × Goes c new
+  told = record { cut = c.told.cut; log = c.told.log; reach = max c.told.reach 0; cap = c.told.cap; firm = max c.told.firm 0; sealed = c.told.sealed; begun = c.told.begun; seals = c.told.seals; lacks = lacks; ops = put c.told.ops t None };
+  entries = c.entries;
+  ends = c.ends;
+  owner = c.owner;
+  carried = c.carried;
+} → CellOk new × Goes c new
 silent_ok c t lacks new ok is = plain_ok c t 0 lacks c.told.sealed new ok (omega arith) (λ k e. omega arith) (λ x. x) ok.seals is
 
 sealed_ok : (c : CellState) (t lacks : ℕ) (new : CellState) → CellOk c → 0 < c.told.seals → new ≡ record {
-    told = record { cut = c.told.cut; log = c.told.log; reach = max c.told.reach 0; cap = c.told.cap; firm = max c.told.firm 0; sealed = true; begun = c.told.begun; seals = c.told.seals; lacks = lacks; ops = put c.told.ops t None };
-    entries = c.entries; ends = c.ends; owner = c.owner; carried = c.carried;
-  } → CellOk new × Goes c new
+  told = record { cut = c.told.cut; log = c.told.log; reach = max c.told.reach 0; cap = c.told.cap; firm = max c.told.firm 0; sealed = true; begun = c.told.begun; seals = c.told.seals; lacks = lacks; ops = put c.told.ops t None };
+  entries = c.entries;
+  ends = c.ends;
+  owner = c.owner;
+  carried = c.carried;
+} → CellOk new × Goes c new
 sealed_ok c t lacks new ok h is = plain_ok c t 0 lacks true new ok (omega arith) (λ k e. omega arith) (λ _. refl) (λ _. h) is
 
 told_ok : (c : CellState) (t : ℕ) (r : Running) (op : Op) (a : Answer) → CellOk c → r.op ≡ op → MayAnswer c.told r op a → CellOk (told_by c t r a) × Goes c (told_by c t r a)

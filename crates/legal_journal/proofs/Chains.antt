@@ -1,16 +1,15 @@
 -- Joined segments are a chain.
-use Rattle.std.proofs.Common.{◌≡◌, ◌⊎◌, inl, inr, ℕ, zero, suc, ◌+◌, ◌<◌, ◌≤◌, ◌^◌, Bool, true, false, ◌&&◌, List, [], ◌∷◌, length, Option, Some, None, refl, sym, ap, ◌∙◌, subst, ⊎_elim, arith}
-use Rattle.std.specs.Prelude.{slice_get, Contains, nat_lt, nat_le, is_none, ◌==◌, IsTrue}
+use Rattle.std.proofs.Common.{◌≡◌, inl, inr, ℕ, zero, suc, ◌+◌, ◌<◌, ◌≤◌, Bool, true, false, ◌&&◌, List, [], ◌∷◌, Some, None, sym, ap, ◌∙◌, ⊎_elim, arith}
+use Rattle.std.specs.Prelude.{slice_get, Contains, nat_lt, nat_le, is_none, ◌==◌}
 use Rattle.std.specs.Option.{option_map_or}
 use Rattle.std.proofs.lemmas.Bool.Decides.{nat_tests}
-use Rattle.delos_types.specs.declared.entry.Entry.{Entry}
 use Rattle.delos_types.specs.declared.chain.Segment.{Segment}
 use Rattle.delos_types.specs.declared.chain.Chain.{Chain}
-use Rattle.chain_map.specs.Chain.{last_of_segments, first_of_segments, first_start, goes_on, is_linked, is_chain, IsChain}
+use Rattle.chain_map.specs.Chain.{last_of_segments, first_of_segments, first_start, goes_on, is_linked, is_chain}
 use Rattle.legal_journal.specs.Journal.{State, ends}
 use Rattle.legal_journal.specs.Laws.{IsClosedAtTails}
 use Rattle.legal_journal.proofs.Log.{Joined, IsIn, closed_or_last, last_open}
-use Rattle.legal_journal.proofs.Sound.{StateOk, Given}
+use Rattle.legal_journal.proofs.Sound.{StateOk}
 
 both : (a b : Bool) → a ≡ true → b ≡ true → (a && b) ≡ true
 both a b h k = ap (λ x. x && b) h ∙ k
@@ -34,7 +33,7 @@ linked es i a (s ∷ r ∷ rs) j h =
     let up_test : nat_le s.start (a + j.2.0) ≡ true = grind (arith, nat_tests) in
     let at_test : ((a + j.2.0) == r.start) ≡ true = grind (arith, nat_tests) in
     let end_test : option_map_or (λ end. nat_le s.start end && (end == r.start)) s.end false ≡ true =
-        ap (λ o. option_map_or (λ end. nat_le s.start end && (end == r.start)) o false) j.2.1 ∙ both _ _ up_test at_test in
+    ap (λ o. option_map_or (λ end. nat_le s.start end && (end == r.start)) o false) j.2.1 ∙ both _ _ up_test at_test in
     both (goes_on s r) (is_linked (r ∷ rs)) (both _ _ id_test end_test) (linked es (i + 1) (a + j.2.0) (r ∷ rs) j.2.3 h)
 
 first_at : (es : ℕ → List ℕ) (i a : ℕ) (ss : List Segment) → Joined es i a ss → (first_of_segments ss).start ≡ a
@@ -60,9 +59,9 @@ closed_at cells w v c ok given k end s at is =
     let g = ok.olds v c given in
     ⊎_elim
     (λ (x : s ≡ last_of_segments c.segments).
-        let no : Some end ≡ None = sym is ∙ (ap (λ (y : Segment). y.end) x ∙ last_open (ends w.cells) g.id g.from c.segments g.joined) in absurd (cc))
+    let no : Some end ≡ None = sym is ∙ (ap (λ (y : Segment). y.end) x ∙ last_open (ends w.cells) g.id g.from c.segments g.joined) in absurd (cc))
     (λ (x : (t : ℕ) × (s.end ≡ Some (s.start + t)) × Contains (ends w.cells s.id) t).
-        let both_are : Some end ≡ Some (s.start + x.0) = sym is ∙ x.1 in
-        let same : end ≡ s.start + x.0 = cc in
-        (x.0, same, x.2))
+    let both_are : Some end ≡ Some (s.start + x.0) = sym is ∙ x.1 in
+    let same : end ≡ s.start + x.0 = cc in
+    (x.0, same, x.2))
     (closed_or_last (ends w.cells) g.id g.from c.segments s g.joined (is_in_at c.segments k s at))

@@ -1,18 +1,17 @@
 -- What holds of whole journals.
 use Rattle.std.proofs.Common.{◌≡◌, ◌≢◌, ◌⊎◌, inl, inr, ℕ, zero, suc, ◌+◌, ◌-◌, ◌*◌, ◌<◌, ◌≤◌, ◌^◌, List, [], ◌∷◌, ◌++◌, length, Option, Some, None, Bool, true, false, cond, refl, sym, ap, ◌∙◌, subst, ⊎_elim, arith, IsSome}
-use Rattle.std.specs.Prelude.{slice_get, ◌==◌, nat_lt, Contains, unwrap_or}
+use Rattle.std.specs.Prelude.{slice_get, ◌==◌, nat_lt}
 use Rattle.std.proofs.lemmas.Bool.Decides.{nat_tests}
 use Rattle.delos_types.specs.declared.entry.Entry.{Entry}
 use Rattle.delos_types.specs.declared.chain.Segment.{Segment}
-use Rattle.delos_types.specs.declared.chain.Chain.{Chain}
 use Rattle.legal_journal.specs.declared.events.Event.{Event}
 use Rattle.chain_map.specs.Chain.{last_of_segments, no_segment, first_chain}
-use Rattle.legal_journal.specs.Shown.{entry_of, entry_in, end_of, is_within}
+use Rattle.legal_journal.specs.Shown.{entry_in, end_of, is_within}
 use Rattle.legal_journal.specs.Moves.{move}
 use Rattle.legal_journal.specs.Told.{put}
 use Rattle.legal_journal.specs.Journal.{CellState, State, log_at, trim_of, tail_of, last_segment, reach, entries, ends, after, after_all, state_of, start, IsLegalFrom, IsLegal}
 use Rattle.legal_journal.specs.Laws.{Goes, Continues, Stands, Clears}
-use Rattle.legal_journal.proofs.Log.{Joined, HasStart, entry_in-at, start_above, within_cases, within_true, end_closed, end_open}
+use Rattle.legal_journal.proofs.Log.{Joined, HasStart, entry_in-at, within_cases, end_closed, end_open}
 use Rattle.legal_journal.proofs.Cells.{CellOk, put_cases, put_same, put_other, fresh_ok}
 use Rattle.legal_journal.proofs.Sound.{StateOk, Given, IsBelow, step_ok, continues_refl, log_to, log_from, reach_le_end, open_tail}
 
@@ -46,7 +45,14 @@ continues_trans a b c f g = record {
 
 first_given : Given (λ _. []) (put (λ _. None) 0 (Some 0)) first_chain first_chain
 first_given = record {
-  id = 0; from = 0; joined = (refl, refl, refl); low = omega arith; start = at; closed = λ x n h e. inl h; trim = omega arith; last = omega arith;
+  id = 0;
+  from = 0;
+  joined = (refl, refl, refl);
+  low = omega arith;
+  start = at;
+  closed = λ x n h e. inl h;
+  trim = omega arith;
+  last = omega arith;
 }
   where
     at : (i s : ℕ) → HasStart (no_segment ∷ []) i s → put (λ _. None) 0 (Some 0) i ≡ Some s
@@ -55,9 +61,16 @@ first_given = record {
 
 pub start_ok : (cells : ℕ) → 0 < cells → cells ≤ 64 → StateOk cells start
 start_ok cells h most = record {
-  few = most; cuts = λ i. inl refl;
-  cell = λ i. fresh_ok; spare = λ i l. absurd (omega arith); id = 0; from = 0; joined = (refl, refl, refl); low = omega arith;
-  asked = λ c e. absurd (cc); given = put_same (λ _. None) 1 (Some first_chain);
+  few = most;
+  cuts = λ i. inl refl;
+  cell = λ i. fresh_ok;
+  spare = λ i l. absurd (omega arith);
+  id = 0;
+  from = 0;
+  joined = (refl, refl, refl);
+  low = omega arith;
+  asked = λ c e. absurd (cc);
+  given = put_same (λ _. None) 1 (Some first_chain);
   unborn = λ v l. put_other (λ _. None) 1 (Some first_chain) v (λ e. absurd (omega arith));
   start = λ i s. put_cases (λ o. o ≡ Some s → HasStart (no_segment ∷ []) i s ⊎ IsBelow [] s 0) (λ _. None) 0 (Some 0) i (λ e k. let at : 0 ≡ s = cc in inl (inl (sym e, at))) (λ _ k. absurd (cc));
   order = λ i j s u l a. put_cases (λ o. o ≡ Some u → IsBelow [] s u) (λ _. None) 0 (Some 0) j (λ e k. absurd (omega arith)) (λ _ k. absurd (cc));
@@ -65,7 +78,8 @@ start_ok cells h most = record {
   ids = λ i s. put_cases (λ o. o ≡ Some s → i ≤ 0) (λ _. None) 0 (Some 0) i (λ e k. omega arith) (λ _ k. absurd (cc));
   shelf = h;
   rooms = λ i s. put_cases (λ o. o ≡ Some s → s ≤ i * 2 ^ 32) (λ _. None) 0 (Some 0) i (λ e k. let at : 0 ≡ s = cc in omega arith) (λ _ k. absurd (cc));
-  version = omega arith; trim = omega arith;
+  version = omega arith;
+  trim = omega arith;
   olds = λ v c. put_cases (λ o. o ≡ Some c → Given (λ _. []) (put (λ _. None) 0 (Some 0)) first_chain c) (λ _. None) 1 (Some first_chain) v
       (λ _ k. let same : first_chain ≡ c = cc in subst (Given (λ _. []) (put (λ _. None) 0 (Some 0)) first_chain) same first_given)
       (λ _ k. absurd (cc));
@@ -134,7 +148,7 @@ reached_stands cells w i s p e ok at l is =
     by_test x false t =
         let up : trim_of w ≤ s + p = grind (arith, nat_tests) in
         inr (log_to (reach w.cells) (entries w.cells) w.register.chain (s + p) (Some e) up
-            (entry_in-at (reach w.cells) (entries w.cells) (ends w.cells) ok.id ok.from w.register.chain.segments i s p ok.joined x (λ t h. reach_le_end (w.cells i) t (ok.cell i) h) l ∙ is))
+        (entry_in-at (reach w.cells) (entries w.cells) (ends w.cells) ok.id ok.from w.register.chain.segments i s p ok.joined x (λ t h. reach_le_end (w.cells i) t (ok.cell i) h) l ∙ is))
 
 -- a position in the last cell that isn't below its reach is above all that was answered
 pub last_clears : (cells : ℕ) (w : State) (pos : ℕ) → StateOk cells w → tail_of w ≤ pos → Clears w pos
@@ -169,17 +183,17 @@ pub entry_in-whole : (cells : ℕ → CellState) (i a : ℕ) (ss : List Segment)
 entry_in-whole cells i a [] pos ok j h l = absurd j
 entry_in-whole cells i a (s ∷ []) pos ok j h l =
     some_in s.start (end_of (reach cells) s) pos _ None
-        (λ up low. front (entries cells s.id) (pos - s.start) (omega (arith, end_open (reach cells) s j.2, (ok s.id).reach, (ok s.id).firm)))
-        (λ far. absurd (omega arith)) (omega arith)
+    (λ up low. front (entries cells s.id) (pos - s.start) (omega (arith, end_open (reach cells) s j.2, (ok s.id).reach, (ok s.id).firm)))
+    (λ far. absurd (omega arith)) (omega arith)
 entry_in-whole cells i a (s ∷ r ∷ rs) pos ok j h l =
     let end = (ok i).ends j.2.0 j.2.2 in
     some_in s.start (end_of (reach cells) s) pos _ (entry_in (reach cells) (entries cells) (r ∷ rs) pos)
-        (λ up low. front (entries cells s.id) (pos - s.start) (omega (arith, end_closed (reach cells) s _ j.2.1, end.3, (ok i).firm, ap (λ k. length (entries cells k)) j.0)))
-        (λ far. entry_in-whole cells (i + 1) (a + j.2.0) (r ∷ rs) pos ok j.2.3 (omega (arith, end_closed (reach cells) s _ j.2.1)) l)
-        (omega arith)
+    (λ up low. front (entries cells s.id) (pos - s.start) (omega (arith, end_closed (reach cells) s _ j.2.1, end.3, (ok i).firm, ap (λ k. length (entries cells k)) j.0)))
+    (λ far. entry_in-whole cells (i + 1) (a + j.2.0) (r ∷ rs) pos ok j.2.3 (omega (arith, end_closed (reach cells) s _ j.2.1)) l)
+    (omega arith)
 
 pub whole : (cells : ℕ) (w : State) (pos : ℕ) → StateOk cells w → trim_of w ≤ pos → pos < tail_of w → IsSome (log_at w pos)
 whole cells w pos ok h l =
     let t : nat_lt pos (trim_of w) ≡ false = grind (arith, nat_tests) in
     subst (λ b. IsSome (cond b None (entry_in (reach w.cells) (entries w.cells) w.register.chain.segments pos))) (sym t)
-        (entry_in-whole w.cells ok.id ok.from w.register.chain.segments pos ok.cell ok.joined (omega (arith, ok.low)) l)
+    (entry_in-whole w.cells ok.id ok.from w.register.chain.segments pos ok.cell ok.joined (omega (arith, ok.low)) l)

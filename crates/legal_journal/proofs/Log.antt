@@ -1,6 +1,6 @@
 -- The log of joined segments, as reach grow and the chain goes on.
-use Rattle.std.proofs.Common.{◌≡◌, ◌≢◌, ◌⊎◌, inl, inr, ℕ, zero, suc, ◌+◌, ◌-◌, ◌<◌, ◌≤◌, List, [], ◌∷◌, ◌++◌, length, Option, Some, None, Bool, true, false, cond, ◌&&◌, refl, sym, ap, ◌∙◌, subst, ⊎_elim, arith}
-use Rattle.std.specs.Prelude.{slice_get, nat_le, nat_lt, unwrap_or, Contains, filter, not}
+use Rattle.std.proofs.Common.{◌≡◌, ◌⊎◌, inl, inr, ℕ, zero, suc, ◌+◌, ◌-◌, ◌<◌, ◌≤◌, List, [], ◌∷◌, ◌++◌, Option, Some, None, Bool, true, false, cond, refl, sym, ap, ◌∙◌, subst, ⊎_elim, arith}
+use Rattle.std.specs.Prelude.{slice_get, nat_le, unwrap_or, Contains, filter, not}
 use Rattle.std.proofs.lemmas.Bool.Decides.{nat_tests}
 use Rattle.delos_types.specs.declared.entry.Entry.{Entry}
 use Rattle.delos_types.specs.declared.chain.Segment.{Segment}
@@ -76,11 +76,11 @@ entry_in-grows reach reach' entries entries' ends i a (s ∷ []) pos e g j h =
 entry_in-grows reach reach' entries entries' ends i a (s ∷ r ∷ rs) pos e g j h =
     let m = g.longer s.id in
     let same : is_within s.start (end_of reach s) pos ≡ is_within s.start (end_of reach' s) pos =
-        ap (λ n. is_within s.start n pos) (end_closed reach s _ j.2.1 ∙ sym (end_closed reach' s _ j.2.1)) in
+    ap (λ n. is_within s.start n pos) (end_closed reach s _ j.2.1 ∙ sym (end_closed reach' s _ j.2.1)) in
     subst (λ b. cond b (slice_get (entries' s.id) (pos - s.start)) (entry_in reach' entries' (r ∷ rs) pos) ≡ Some e) same
-        (either_way _ _ _ _ _ e h
-            (slice_get-grows (entries s.id) (entries' s.id) m.0 (pos - s.start) e m.1)
-            (entry_in-grows reach reach' entries entries' ends (i + 1) (a + j.2.0) (r ∷ rs) pos e g j.2.3))
+    (either_way _ _ _ _ _ e h
+    (slice_get-grows (entries s.id) (entries' s.id) m.0 (pos - s.start) e m.1)
+    (entry_in-grows reach reach' entries entries' ends (i + 1) (a + j.2.0) (r ∷ rs) pos e g j.2.3))
 
 -- closing the last segment no earlier than its cell's answers reach keeps each entry
 pub entry_in-extended_segments : (reach : ℕ → ℕ) (entries : ℕ → List Entry) (ends : ℕ → List ℕ) (i a : ℕ) (ss : List Segment) (t pos : ℕ) (e : Entry) → Joined ends i a ss → reach (last_of_segments ss).id ≤ t → entry_in reach entries ss pos ≡ Some e → entry_in reach entries (extended_segments ss t) pos ≡ Some e
@@ -321,7 +321,7 @@ HasStart-was ends k a (x ∷ []) t i s j (inr (inr h)) = absurd h
 HasStart-was ends k a (x ∷ r ∷ rs) t i s j (inl h) = inl (inl h)
 HasStart-was ends k a (x ∷ r ∷ rs) t i s j (inr h) =
     ⊎_elim (λ (w : HasStart (r ∷ rs) i s). inl (inr w)) (λ (w : (i ≡ (last_of_segments (r ∷ rs)).id + 1) × (s ≡ (last_of_segments (r ∷ rs)).start + t)). inr w)
-        (HasStart-was ends (k + 1) (a + j.2.0) (r ∷ rs) t i s j.2.3 h)
+    (HasStart-was ends (k + 1) (a + j.2.0) (r ∷ rs) t i s j.2.3 h)
 
 kept_was : (n : ℕ) (x : Segment) (rest : List Segment) (b : Bool) (i s : ℕ) → HasStart (cond (not b) (x ∷ kept n rest) (kept n rest)) i s → (HasStart (kept n rest) i s → HasStart rest i s) → HasStart (x ∷ rest) i s
 kept_was n x rest true i s h f = inr (f h)

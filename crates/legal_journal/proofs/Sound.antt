@@ -1,6 +1,6 @@
 -- What holds after every legal journal, and how one allowed move goes on from there.
-use Rattle.std.proofs.Common.{◌≡◌, ◌≢◌, ◌⊎◌, inl, inr, ℕ, zero, suc, ◌+◌, ◌-◌, ◌*◌, ◌<◌, ◌≤◌, ◌^◌, List, [], ◌∷◌, ◌++◌, length, Option, Some, None, Bool, true, false, cond, refl, sym, ap, ◌∙◌, subst, ⊎_elim, arith}
-use Rattle.std.specs.Prelude.{slice_get, ◌==◌, nat_lt, Contains, not}
+use Rattle.std.proofs.Common.{◌≡◌, ◌≢◌, ◌⊎◌, inl, inr, ℕ, ◌+◌, ◌*◌, ◌<◌, ◌≤◌, ◌^◌, List, [], ◌∷◌, ◌++◌, Option, Some, None, Bool, true, false, cond, refl, sym, ap, ◌∙◌, subst, ⊎_elim, arith}
+use Rattle.std.specs.Prelude.{◌==◌, nat_lt, Contains, not}
 use Rattle.std.proofs.lemmas.Bool.Decides.{nat_tests}
 use Rattle.delos_types.specs.declared.entry.Entry.{Entry}
 use Rattle.delos_types.specs.declared.chain.Segment.{Segment}
@@ -9,14 +9,12 @@ use Rattle.chain_map.specs.Chain.{last_of_segments}
 use Rattle.chain_map.specs.Step.{extended_segments}
 use Rattle.legal_journal.specs.Shown.{entry_of, entry_in, end_of}
 use Rattle.legal_journal.specs.Told.{put, cut_begun}
-use Rattle.legal_journal.specs.Journal.{CellState, RegisterState, State, make, answered_by, log_of, log_at, trim_of, tail_of, last_segment, reach, entries, ends, now_or_before, Extends, Raises, known, register_after, cell_after, after, after_all, state_of, fresh_cell, start, IsCurrent, MayFollow, MayBegin, CellAllowed, RegisterAllowed, IsAllowed, IsOwn}
+use Rattle.legal_journal.specs.Journal.{CellState, RegisterState, State, make, answered_by, log_of, log_at, trim_of, tail_of, last_segment, reach, entries, ends, now_or_before, Extends, Raises, known, register_after, cell_after, after, start, IsCurrent, MayFollow, CellAllowed, RegisterAllowed, IsAllowed}
 use Rattle.legal_journal.specs.Laws.{Goes, Continues}
-use Rattle.legal_journal.proofs.Log.{kept, next, ends_by, Joined, Joined-more, Joined-extended_segments, HasStart, HasStart-was, HasStart-kept_was, IsIn, IsIn-extended, IsIn-kept, Grows, entry_in-grows, entry_in-extended_segments, entry_in-kept, entry_in-at, last_open, last_of_segments-extended_segments, last_starts, rest_of, end_open, start_above}
-use Rattle.legal_journal.specs.declared.events.Event.{Event}
-use Rattle.legal_journal.specs.Moves.{CellMove, Begins, Carries, Answers, Drops, Misses, RegisterMove, Gives, Conflicts, Writes, Faults, Fails, Mends, Move, OnCell, OnRegister, Nothing, Never, move}
-use Rattle.loglet_api.specs.declared.call.Op.{Op}
+use Rattle.legal_journal.proofs.Log.{kept, next, ends_by, Joined, Joined-more, Joined-extended_segments, HasStart, HasStart-was, HasStart-kept_was, IsIn, IsIn-extended, IsIn-kept, Grows, entry_in-grows, entry_in-extended_segments, entry_in-kept, last_open, last_of_segments-extended_segments, last_starts, rest_of, end_open}
+use Rattle.legal_journal.specs.Moves.{CellMove, Begins, Carries, Answers, Drops, Misses, RegisterMove, Gives, Conflicts, Writes, Faults, Fails, Mends, Move, OnCell, OnRegister, Nothing, Never}
 use Rattle.loglet_api.specs.declared.call.Op.TheVariants.{Append, Settle, Tail, Seal, Read, Trim}
-use Rattle.legal_journal.proofs.Cells.{CellOk, put_cases, put_same, put_other, fresh_ok, begins_ok, drops_ok, answers_ok}
+use Rattle.legal_journal.proofs.Cells.{CellOk, put_cases, put_same, begins_ok, drops_ok, answers_ok}
 
 -- a chain that closes its last segment, and one that raises its trim, field by field
 pub record Extending (ends : ℕ → List ℕ) (cells : ℕ) (old new : Chain) : Type 0 where
@@ -33,13 +31,18 @@ pub record Raising (old new : Chain) : Type 0 where
 
 extending : (es : ℕ → List ℕ) (cells : ℕ) (old new : Chain) → Extends es cells old new → Extending es cells old new
 extending es cells old new x = record {
-  at = x.at; told = x.told; spare = x.spare; trim = ap (λ (c : Chain). c.trim) x.is; segments = ap (λ (c : Chain). c.segments) x.is;
+  at = x.at;
+  told = x.told;
+  spare = x.spare;
+  trim = ap (λ (c : Chain). c.trim) x.is;
+  segments = ap (λ (c : Chain). c.segments) x.is;
 }
 
 raising : (old new : Chain) → Raises old new → Raising old new
 raising old new x =
     let trim : new.trim ≡ x.trim = ap (λ (c : Chain). c.trim) x.is in record {
-      above = omega (arith, x.above); small = omega (arith, x.small);
+      above = omega (arith, x.above);
+      small = omega (arith, x.small);
       segments = subst (λ n. new.segments ≡ kept n old.segments) (sym trim) (ap (λ (c : Chain). c.segments) x.is);
     }
 
@@ -155,7 +158,14 @@ more_ends es es' cells a b f (inr x) = inr x
 
 given_more : (es es' : ℕ → List ℕ) (starts : ℕ → Option ℕ) (now c : Chain) → ((i t : ℕ) → Contains (es i) t → Contains (es' i) t) → Given es starts now c → Given es' starts now c
 given_more es es' starts now c f g = record {
-  id = g.id; from = g.from; joined = Joined-more es es' g.id g.from c.segments f g.joined; low = g.low; start = g.start; closed = g.closed; trim = g.trim; last = g.last;
+  id = g.id;
+  from = g.from;
+  joined = Joined-more es es' g.id g.from c.segments f g.joined;
+  low = g.low;
+  start = g.start;
+  closed = g.closed;
+  trim = g.trim;
+  last = g.last;
 }
 
 pub cells_ok : (cells : ℕ) (w : State) (now : ℕ → CellState) → StateOk cells w → ((i : ℕ) → CellOk (now i) × Goes (w.cells i) (now i)) → ((i : ℕ) → 0 < (now i).told.seals → i + 1 < cells) → ((i : ℕ) → CutBelow w.starts (trim_of w) i (now i).told.cut) → StateOk cells (make now w.register w.starts w.shown) × Continues w (make now w.register w.starts w.shown)
@@ -164,25 +174,42 @@ cells_ok cells w now ok each spare cuts =
     let grows : Grows (reach w.cells) (reach now) (entries w.cells) (entries now) = record { further = λ i. (each i).1.reach; longer = λ i. (each i).1.longer } in
     let more : (i t : ℕ) → Contains (ends w.cells i) t → Contains (ends now i) t = λ i t h. (each i).1.ends t h in
     let stays : (pos : ℕ) (e : Entry) → log_at w pos ≡ Some e → chain.trim ≤ pos → log_of now chain pos ≡ Some e =
-        λ pos e h up. log_to (reach now) (entries now) chain pos (Some e) up (entry_in-grows (reach w.cells) (reach now) (entries w.cells) (entries now) (ends w.cells) ok.id ok.from chain.segments pos e grows ok.joined (log_from (reach w.cells) (entries w.cells) chain pos e h).1) in
+    λ pos e h up. log_to (reach now) (entries now) chain pos (Some e) up (entry_in-grows (reach w.cells) (reach now) (entries w.cells) (entries now) (ends w.cells) ok.id ok.from chain.segments pos e grows ok.joined (log_from (reach w.cells) (entries w.cells) chain pos e h).1) in
     let above : (pos : ℕ) (e : Entry) → log_of now chain pos ≡ Some e → chain.trim ≤ pos = λ pos e h. (log_from (reach now) (entries now) chain pos e h).0 in
     let is_last = last_open (ends w.cells) ok.id ok.from chain.segments ok.joined in (
       record {
-        few = ok.few; cell = λ i. (each i).0; spare = spare; id = ok.id; from = ok.from;
+        few = ok.few;
+        cell = λ i. (each i).0;
+        spare = spare;
+        id = ok.id;
+        from = ok.from;
         joined = Joined-more (ends w.cells) (ends now) ok.id ok.from chain.segments more ok.joined;
         low = ok.low;
         asked = λ c h. more_ends (ends w.cells) (ends now) cells chain c more (ok.asked c h);
-        given = ok.given; unborn = ok.unborn;
+        given = ok.given;
+        unborn = ok.unborn;
         start = λ i s h. ⊎_elim (λ (x : HasStart chain.segments i s). inl x) (λ (x : IsBelow (ends w.cells i) s chain.trim). inr (x.0, more i x.0 x.1, x.2)) (ok.start i s h);
         order = λ i j s u l h k. let x = ok.order i j s u l h k in (x.0, more i x.0 x.1, x.2);
-        last = ok.last; ids = ok.ids; shelf = ok.shelf; rooms = ok.rooms; version = ok.version; trim = ok.trim; olds = λ v c h. given_more (ends w.cells) (ends now) w.starts chain c more (ok.olds v c h); cuts = cuts;
+        last = ok.last;
+        ids = ok.ids;
+        shelf = ok.shelf;
+        rooms = ok.rooms;
+        version = ok.version;
+        trim = ok.trim;
+        olds = λ v c h. given_more (ends w.cells) (ends now) w.starts chain c more (ok.olds v c h);
+        cuts = cuts;
         was_shown = shown_is chain.trim chain.trim (log_at w) (log_of now chain) w.shown (omega arith) stays above ok.was_shown;
       },
       record {
-        trim = omega arith; entries = stays;
+        trim = omega arith;
+        entries = stays;
         tail = omega (arith, end_open (reach w.cells) (last_segment w) is_last, end_open (reach now) (last_segment w) is_last, (each (last_segment w).id).1.reach);
         shown = shown_stays chain.trim chain.trim (log_at w) (log_of now chain) w.shown (omega arith) stays above ok.was_shown;
-        cell = λ i. (each i).1; starts = λ i s h. h; version = omega arith; given = λ v c h. h; last = omega arith;
+        cell = λ i. (each i).1;
+        starts = λ i s h. h;
+        version = omega arith;
+        given = λ v c h. h;
+        last = omega arith;
       },
     )
 
@@ -213,11 +240,11 @@ HasStart-kept es n k a (x ∷ []) i s j h =
     kept_start n x [] (ends_by n x.end) refl i s (es i) (λ m e w. let no : None ≡ Some m = sym j.2 ∙ e in absurd (cc)) h (λ w. absurd w)
 HasStart-kept es n k a (x ∷ r ∷ rs) i s j h =
     kept_start n x (r ∷ rs) (ends_by n x.end) refl i s (es i)
-        (λ m e w.
-            let same : Some (a + j.2.0) ≡ Some m = sym j.2.1 ∙ e in
-            let at : a + j.2.0 ≡ m = cc in
-            (j.2.0, subst (λ y. Contains (es y) j.2.0) (sym j.0 ∙ w.0) j.2.2, omega arith))
-        h (HasStart-kept es n (k + 1) (a + j.2.0) (r ∷ rs) i s j.2.3)
+    (λ m e w.
+    let same : Some (a + j.2.0) ≡ Some m = sym j.2.1 ∙ e in
+    let at : a + j.2.0 ≡ m = cc in
+    (j.2.0, subst (λ y. Contains (es y) j.2.0) (sym j.0 ∙ w.0) j.2.2, omega arith))
+    h (HasStart-kept es n (k + 1) (a + j.2.0) (r ∷ rs) i s j.2.3)
 
 -- what a chain that follows brings
 pub record Turned (cells : ℕ) (w : State) (c : Chain) (starts : ℕ → Option ℕ) : Type 0 where
@@ -257,7 +284,12 @@ module _ (cells : ℕ) (w : State) (ok : StateOk cells w) where
       let at : w.starts (last_of_segments c.segments).id ≡ Some (last_of_segments c.segments).start = subst (λ (s : Segment). w.starts s.id ≡ Some s.start) (sym same) ok.last in
       let was : (i s : ℕ) → starts_with w.starts (last_of_segments c.segments) i ≡ Some s → w.starts i ≡ Some s = λ i s h. sym (starts_same w.starts (last_of_segments c.segments) i at) ∙ h in
       record {
-        id = id; from = from; joined = joined; low = low; trim = trim; stays = stays;
+        id = id;
+        from = from;
+        joined = joined;
+        low = low;
+        trim = trim;
+        stays = stays;
         tail = subst (λ (s : Segment). tail_of w ≤ end_of (reach w.cells) s) (sym same) (omega arith);
         start = λ i s h. start i s (was i s h);
         order = λ i j s u l h k. ok.order i j s u l (was i s h) (was j u k);
@@ -283,15 +315,15 @@ module _ (cells : ℕ) (w : State) (ok : StateOk cells w) where
       let P : List Segment → Type 0 = λ ss. (last_of_segments ss ≡ last_segment w) × Joined (ends w.cells) rest.id rest.from ss in
       let at = subst P (sym r.segments) (rest.last, rest.joined) in
       turned_by c r.small at.0 rest.id rest.from at.1 (rest.low (omega (arith, ok.low, r.above))) (omega (arith, r.above))
-          (λ pos e h up. log_to (reach w.cells) (entries w.cells) c pos (Some e) up
-              (subst (λ ss. entry_in (reach w.cells) (entries w.cells) ss pos ≡ Some e) (sym r.segments)
-                  (entry_in-kept (reach w.cells) (entries w.cells) c.trim pos old.segments e up (log_from (reach w.cells) (entries w.cells) old pos e h).1)))
-          (λ i s h. ⊎_elim
-              (λ (x : HasStart old.segments i s). subst (λ ss. HasStart ss i s ⊎ IsBelow (ends w.cells i) s c.trim) (sym r.segments) (HasStart-kept (ends w.cells) c.trim ok.id ok.from old.segments i s ok.joined x))
-              (λ (x : IsBelow (ends w.cells i) s (trim_of w)). inr (x.0, x.1, omega (arith, x.2, r.above)))
-              (ok.start i s h))
-          (λ i s h. HasStart-kept_was c.trim old.segments i s (subst (λ ss. HasStart ss i s) r.segments h))
-          (λ x n h e. subst (λ ss. IsIn x ss ⊎ (n ≤ c.trim)) (sym r.segments) (IsIn-kept c.trim n old.segments x e h))
+      (λ pos e h up. log_to (reach w.cells) (entries w.cells) c pos (Some e) up
+      (subst (λ ss. entry_in (reach w.cells) (entries w.cells) ss pos ≡ Some e) (sym r.segments)
+      (entry_in-kept (reach w.cells) (entries w.cells) c.trim pos old.segments e up (log_from (reach w.cells) (entries w.cells) old pos e h).1)))
+      (λ i s h. ⊎_elim
+      (λ (x : HasStart old.segments i s). subst (λ ss. HasStart ss i s ⊎ IsBelow (ends w.cells i) s c.trim) (sym r.segments) (HasStart-kept (ends w.cells) c.trim ok.id ok.from old.segments i s ok.joined x))
+      (λ (x : IsBelow (ends w.cells i) s (trim_of w)). inr (x.0, x.1, omega (arith, x.2, r.above)))
+      (ok.start i s h))
+      (λ i s h. HasStart-kept_was c.trim old.segments i s (subst (λ ss. HasStart ss i s) r.segments h))
+      (λ x n h e. subst (λ ss. IsIn x ss ⊎ (n ≤ c.trim)) (sym r.segments) (IsIn-kept c.trim n old.segments x e h))
 
   turned_extend : (c : Chain) → Extending (ends w.cells) cells w.register.chain c → Turned cells w c (starts_with w.starts (last_of_segments c.segments))
   turned_extend c x =
@@ -305,26 +337,30 @@ module _ (cells : ℕ) (w : State) (ok : StateOk cells w) where
       let joined = subst (Joined (ends w.cells) ok.id ok.from) (sym x.segments) (Joined-extended_segments (ends w.cells) ok.id ok.from old.segments t ok.joined x.told) in
       let new_last = last_of_segments c.segments in
       let was : (i v : ℕ) → starts_with w.starts new_last i ≡ Some v → ((i ≡ new_last.id) × (v ≡ new_last.start)) ⊎ (w.starts i ≡ Some v) =
-          λ i v. put_cases (λ o. o ≡ Some v → ((i ≡ new_last.id) × (v ≡ new_last.start)) ⊎ (w.starts i ≡ Some v)) w.starts new_last.id (Some new_last.start) i
-              (λ e h. let at : new_last.start ≡ v = cc in inl (e, sym at))
-              (λ _ h. inr h) in
+      λ i v. put_cases (λ o. o ≡ Some v → ((i ≡ new_last.id) × (v ≡ new_last.start)) ⊎ (w.starts i ≡ Some v)) w.starts new_last.id (Some new_last.start) i
+      (λ e h. let at : new_last.start ≡ v = cc in inl (e, sym at))
+      (λ _ h. inr h) in
       let new_starts = last_starts (ends w.cells) ok.id ok.from c.segments joined in
       let length_of = ok.cell s.id in
       let end = (ok.cell s.id).ends t x.told in
       let small = ok.rooms s.id s.start ok.last in
       record {
-        id = ok.id; from = ok.from; joined = joined; low = omega (arith, ok.low, x.trim); trim = omega (arith, x.trim);
+        id = ok.id;
+        from = ok.from;
+        joined = joined;
+        low = omega (arith, ok.low, x.trim);
+        trim = omega (arith, x.trim);
         stays = λ pos e h up.
             log_to (reach w.cells) (entries w.cells) c pos (Some e) up
-                (subst (λ ss. entry_in (reach w.cells) (entries w.cells) ss pos ≡ Some e) (sym x.segments)
-                    (entry_in-extended_segments (reach w.cells) (entries w.cells) (ends w.cells) ok.id ok.from old.segments t pos e ok.joined far (log_from (reach w.cells) (entries w.cells) old pos e h).1));
+            (subst (λ ss. entry_in (reach w.cells) (entries w.cells) ss pos ≡ Some e) (sym x.segments)
+            (entry_in-extended_segments (reach w.cells) (entries w.cells) (ends w.cells) ok.id ok.from old.segments t pos e ok.joined far (log_from (reach w.cells) (entries w.cells) old pos e h).1));
         tail = omega (arith, open_tail cells w ok, end_open (reach w.cells) new_last (last_open (ends w.cells) ok.id ok.from c.segments joined), start_is, far);
         start = λ i v h. ⊎_elim
             (λ (y : (i ≡ new_last.id) × (v ≡ new_last.start)). inl (subst (λ (p : ℕ × ℕ). HasStart c.segments p.0 p.1) (λ k. (sym y.0 k, sym y.1 k)) new_starts))
             (λ (y : w.starts i ≡ Some v). ⊎_elim
-                (λ (z : HasStart old.segments i v). inl (subst (λ ss. HasStart ss i v) (sym x.segments) (HasStart-extended_segments (ends w.cells) ok.id ok.from old.segments t i v ok.joined z)))
-                (λ (z : IsBelow (ends w.cells i) v (trim_of w)). inr (z.0, z.1, omega (arith, z.2, x.trim)))
-                (ok.start i v y))
+            (λ (z : HasStart old.segments i v). inl (subst (λ ss. HasStart ss i v) (sym x.segments) (HasStart-extended_segments (ends w.cells) ok.id ok.from old.segments t i v ok.joined z)))
+            (λ (z : IsBelow (ends w.cells i) v (trim_of w)). inr (z.0, z.1, omega (arith, z.2, x.trim)))
+            (ok.start i v y))
             (was i v h);
         order = λ i j v u l h k. order_of is_next id_is start_is i j v u l (was i v h) (was j u k);
         last = put_same w.starts new_last.id (Some new_last.start);
@@ -344,12 +380,12 @@ module _ (cells : ℕ) (w : State) (ok : StateOk cells w) where
         small = omega (arith, x.trim, ok.trim);
         placed = λ i v h. ⊎_elim
             (λ (y : HasStart old.segments i v). put_cases (λ o. o ≡ Some v) w.starts new_last.id (Some new_last.start) i
-                (λ e. absurd (omega (arith, ok.ids i v (current.start i v y), id_is)))
-                (λ _. current.start i v y))
+            (λ e. absurd (omega (arith, ok.ids i v (current.start i v y), id_is)))
+            (λ _. current.start i v y))
             (λ (y : (i ≡ s.id + 1) × (v ≡ s.start + t)).
-                let i_is : i ≡ new_last.id = omega (arith, y.0, id_is) in
-                let v_is : v ≡ new_last.start = omega (arith, y.1, start_is) in
-                subst (λ k. starts_with w.starts new_last k ≡ Some v) (sym i_is) (put_same w.starts new_last.id (Some new_last.start) ∙ ap (λ n. Some n) (sym v_is)))
+            let i_is : i ≡ new_last.id = omega (arith, y.0, id_is) in
+            let v_is : v ≡ new_last.start = omega (arith, y.1, start_is) in
+            subst (λ k. starts_with w.starts new_last k ≡ Some v) (sym i_is) (put_same w.starts new_last.id (Some new_last.start) ∙ ap (λ n. Some n) (sym v_is)))
             (HasStart-was (ends w.cells) ok.id ok.from old.segments t i v ok.joined (subst (λ ss. HasStart ss i v) x.segments h));
         closed = λ y n h e. inl (subst (λ ss. IsIn y ss) (sym x.segments) (IsIn-extended (ends w.cells) ok.id ok.from old.segments t n y ok.joined e h));
       }
@@ -384,9 +420,14 @@ module _ (cells : ℕ) (w : State) (ok : StateOk cells w) where
 
   given_turned : (c : Chain) → Turned cells w c (starts_with w.starts (last_of_segments c.segments)) → (d : Chain) → Given (ends w.cells) w.starts w.register.chain d → Given (ends w.cells) (starts_with w.starts (last_of_segments c.segments)) c d
   given_turned c t d g = record {
-    id = g.id; from = g.from; joined = g.joined; low = g.low; start = λ i s h. t.keeps i s (g.start i s h);
+    id = g.id;
+    from = g.from;
+    joined = g.joined;
+    low = g.low;
+    start = λ i s h. t.keeps i s (g.start i s h);
     closed = λ x n h e. ⊎_elim (λ (y : IsIn x w.register.chain.segments). t.closed x n y e) (λ (y : n ≤ trim_of w). inr (omega (arith, t.trim))) (g.closed x n h e);
-    trim = omega (arith, g.trim, t.trim); last = omega (arith, g.last, t.later);
+    trim = omega (arith, g.trim, t.trim);
+    last = omega (arith, g.last, t.later);
   }
 
   cut_turned : (c : Chain) → Turned cells w c (starts_with w.starts (last_of_segments c.segments)) → (i : ℕ) → CutBelow w.starts (trim_of w) i (w.cells i).told.cut → CutBelow (starts_with w.starts (last_of_segments c.segments)) c.trim i (w.cells i).told.cut
@@ -397,15 +438,38 @@ module _ (cells : ℕ) (w : State) (ok : StateOk cells w) where
   register_ok r counts t asked given unborn later keeps olds =
       let above : (pos : ℕ) (e : Entry) → log_of w.cells r.chain pos ≡ Some e → r.chain.trim ≤ pos = λ pos e h. (log_from (reach w.cells) (entries w.cells) r.chain pos e h).0 in (
         record {
-          few = ok.few; cell = ok.cell; spare = ok.spare; id = t.id; from = t.from; joined = t.joined; low = t.low; asked = asked; given = given; unborn = unborn;
-          start = t.start; order = t.order; last = t.last; ids = t.ids; shelf = t.shelf; rooms = t.rooms; version = counts; trim = t.small; olds = λ v c h. ⊎_elim (λ (x : w.register.given v ≡ Some c). given_turned r.chain t c (ok.olds v c x)) (λ (x : c ≡ r.chain). subst (Given (ends w.cells) (starts_with w.starts (last_of_segments r.chain.segments)) r.chain) (sym x) (given_now r.chain t)) (olds v c h);
+          few = ok.few;
+          cell = ok.cell;
+          spare = ok.spare;
+          id = t.id;
+          from = t.from;
+          joined = t.joined;
+          low = t.low;
+          asked = asked;
+          given = given;
+          unborn = unborn;
+          start = t.start;
+          order = t.order;
+          last = t.last;
+          ids = t.ids;
+          shelf = t.shelf;
+          rooms = t.rooms;
+          version = counts;
+          trim = t.small;
+          olds = λ v c h. ⊎_elim (λ (x : w.register.given v ≡ Some c). given_turned r.chain t c (ok.olds v c x)) (λ (x : c ≡ r.chain). subst (Given (ends w.cells) (starts_with w.starts (last_of_segments r.chain.segments)) r.chain) (sym x) (given_now r.chain t)) (olds v c h);
           cuts = λ i. cut_turned r.chain t i (ok.cuts i);
           was_shown = shown_is (trim_of w) r.chain.trim (log_at w) (log_of w.cells r.chain) w.shown t.trim t.stays above ok.was_shown;
         },
         record {
-          trim = t.trim; entries = t.stays; tail = t.tail;
+          trim = t.trim;
+          entries = t.stays;
+          tail = t.tail;
           shown = shown_stays (trim_of w) r.chain.trim (log_at w) (log_of w.cells r.chain) w.shown t.trim t.stays above ok.was_shown;
-          cell = λ i. goes_refl (w.cells i); starts = t.keeps; version = later; given = keeps; last = t.later;
+          cell = λ i. goes_refl (w.cells i);
+          starts = t.keeps;
+          version = later;
+          given = keeps;
+          last = t.later;
         },
       )
 
@@ -430,17 +494,17 @@ module _ (cells : ℕ) (w : State) (ok : StateOk cells w) where
       let turned : Turned cells w c (starts_with w.starts (last_of_segments c.segments)) = ⊎_elim (λ (x : (v ≡ w.register.version) × (c ≡ w.register.chain)). turned_same cells w ok c x.1) (λ (x : (v ≡ w.register.version + 1) × Follows (ends w.cells) cells w.register.chain c). turned_follow c x.1) h in
       let later : w.register.version ≤ v = ⊎_elim (λ (x : (v ≡ w.register.version) × (c ≡ w.register.chain)). omega arith) (λ (x : (v ≡ w.register.version + 1) × Follows (ends w.cells) cells w.register.chain c). omega arith) h in
       register_ok (known w.register v c) (counts_of v c h)
-          turned
-          (λ d e. absurd (cc))
-          (put_same w.register.given v (Some c))
-          (λ u l. put_cases (λ o. o ≡ None) w.register.given v (Some c) u (λ e. absurd (omega arith)) (λ _. ok.unborn u (omega arith)))
-          later
-          (λ u d k. put_cases (λ o. o ≡ Some d) w.register.given v (Some c) u
-              (λ e. at u d k e h)
-              (λ _. k))
-          (λ u d. put_cases (λ o. o ≡ Some d → (w.register.given u ≡ Some d) ⊎ (d ≡ c)) w.register.given v (Some c) u
-              (λ _ k. let same : d ≡ c = cc in inr same)
-              (λ _ k. inl k))
+      turned
+      (λ d e. absurd (cc))
+      (put_same w.register.given v (Some c))
+      (λ u l. put_cases (λ o. o ≡ None) w.register.given v (Some c) u (λ e. absurd (omega arith)) (λ _. ok.unborn u (omega arith)))
+      later
+      (λ u d k. put_cases (λ o. o ≡ Some d) w.register.given v (Some c) u
+      (λ e. at u d k e h)
+      (λ _. k))
+      (λ u d. put_cases (λ o. o ≡ Some d → (w.register.given u ≡ Some d) ⊎ (d ≡ c)) w.register.given v (Some c) u
+      (λ _ k. let same : d ≡ c = cc in inr same)
+      (λ _ k. inl k))
     where
       at : (u : ℕ) (d : Chain) → w.register.given u ≡ Some d → u ≡ v → ((v ≡ w.register.version) × (c ≡ w.register.chain)) ⊎ ((v ≡ w.register.version + 1) × Follows (ends w.cells) cells w.register.chain c) → Some c ≡ Some d
       at u d k e (inl x) = let same : u ≡ w.register.version = e ∙ x.0 in ap (λ y. Some y) x.1 ∙ (sym ok.given ∙ (ap w.register.given (sym same) ∙ k))
@@ -457,10 +521,10 @@ module _ (cells : ℕ) (w : State) (ok : StateOk cells w) where
   same_ok : (r : RegisterState) → r.chain ≡ w.register.chain → r.version ≡ w.register.version → r.given ≡ w.register.given → ((c : Chain) → r.asked ≡ Some c → Follows (ends w.cells) cells w.register.chain c) → StateOk cells (make w.cells r (starts_with w.starts (last_of_segments r.chain.segments)) w.shown) × Continues w (make w.cells r (starts_with w.starts (last_of_segments r.chain.segments)) w.shown)
   same_ok r is version given asked =
       register_ok r (subst (λ (y : Chain). r.version ≤ 1 + (last_of_segments y.segments).id + y.trim) (sym is) (omega (arith, ok.version, version))) (turned_same cells w ok r.chain is) (λ c h. subst (λ (x : Chain). Follows (ends w.cells) cells x c) (sym is) (asked c h))
-          (ap (λ (f : ℕ → Option Chain). f r.version) given ∙ (ap w.register.given version ∙ (ok.given ∙ ap (λ x. Some x) (sym is))))
-          (λ v h. ap (λ (f : ℕ → Option Chain). f v) given ∙ ok.unborn v (omega arith)) (omega arith)
-          (λ v c h. ap (λ (f : ℕ → Option Chain). f v) given ∙ h)
-          (λ v c h. inl (sym (ap (λ (f : ℕ → Option Chain). f v) given) ∙ h))
+      (ap (λ (f : ℕ → Option Chain). f r.version) given ∙ (ap w.register.given version ∙ (ok.given ∙ ap (λ x. Some x) (sym is))))
+      (λ v h. ap (λ (f : ℕ → Option Chain). f v) given ∙ ok.unborn v (omega arith)) (omega arith)
+      (λ v c h. ap (λ (f : ℕ → Option Chain). f v) given ∙ h)
+      (λ v c h. inl (sym (ap (λ (f : ℕ → Option Chain). f v) given) ∙ h))
 
   turns_ok : (floor : List Entry → ℕ) (who : ℕ) (m : RegisterMove) → RegisterAllowed w floor cells m → StateOk cells (after w who (OnRegister m)) × Continues w (after w who (OnRegister m))
   turns_ok floor who (Gives v c) a = known_ok v c (current_ok v c a.1)
@@ -505,17 +569,36 @@ module _ (cells : ℕ) (w : State) (ok : StateOk cells w) where
 
   move_ok : (may : ℕ → Entry → Type 0) (who i : ℕ) (m : CellMove) → CellAllowed w may cells who i m → CellOk (cell_after who (w.cells i) m) × Goes (w.cells i) (cell_after who (w.cells i) m)
   move_ok may who i (Begins op t) a = begins_ok who (w.cells i) op t (ok.cell i) a.1 a.2
-  move_ok may who i (Carries t) a = (record {
-    size = (ok.cell i).size; log = (ok.cell i).log; cut = (ok.cell i).cut; reach = (ok.cell i).reach; firm = (ok.cell i).firm; room = (ok.cell i).room;
-    cap = (ok.cell i).cap; ends = (ok.cell i).ends; seals = (ok.cell i).seals; ops = (ok.cell i).ops }, record { reach = omega arith; firm = omega arith; begun = omega arith; owner = λ t h. refl; longer = (goes_refl (w.cells i)).longer; ends = λ t h. h; sealed = λ h. h })
+  move_ok may who i (Carries t) a = (
+    record {
+      size = (ok.cell i).size;
+      log = (ok.cell i).log;
+      cut = (ok.cell i).cut;
+      reach = (ok.cell i).reach;
+      firm = (ok.cell i).firm;
+      room = (ok.cell i).room;
+      cap = (ok.cell i).cap;
+      ends = (ok.cell i).ends;
+      seals = (ok.cell i).seals;
+      ops = (ok.cell i).ops;
+    },
+    record { reach = omega arith; firm = omega arith; begun = omega arith; owner = λ t h. refl; longer = (goes_refl (w.cells i)).longer; ends = λ t h. h; sealed = λ h. h },
+  )
   move_ok may who i (Answers t x) a = answers_ok who (w.cells i) t x a.0 (ok.cell i) a.1.is_open a.2
   move_ok may who i (Drops t) a = drops_ok who (w.cells i) t (ok.cell i)
   move_ok may who i (Misses t) a = (ok.cell i, goes_refl (w.cells i))
 
 pub continues_refl : (w : State) → Continues w w
 continues_refl w = record {
-  trim = omega arith; entries = λ pos e h _. h; tail = omega arith; shown = λ pos e h. h; cell = λ i. goes_refl (w.cells i);
-  starts = λ i s h. h; version = omega arith; given = λ v c h. h; last = omega arith;
+  trim = omega arith;
+  entries = λ pos e h _. h;
+  tail = omega arith;
+  shown = λ pos e h. h;
+  cell = λ i. goes_refl (w.cells i);
+  starts = λ i s h. h;
+  version = omega arith;
+  given = λ v c h. h;
+  last = omega arith;
 }
 
 -- Each allowed move keeps what holds, and the log goes on.
@@ -523,15 +606,15 @@ pub step_ok : (may : ℕ → Entry → Type 0) (floor : List Entry → ℕ) (cel
 step_ok may floor cells w who (OnCell i m) ok a =
     let new = cell_after who (w.cells i) m in
     cells_ok cells w (put w.cells i new) ok
-        (λ j. put_cases (λ (x : CellState). CellOk x × Goes (w.cells j) x) w.cells i new j
-            (λ e. subst (λ k. CellOk new × Goes (w.cells k) new) (sym e) (move_ok cells w ok may who i m a))
-            (λ _. (ok.cell j, goes_refl (w.cells j))))
-        (λ j. put_cases (λ (x : CellState). 0 < x.told.seals → j + 1 < cells) w.cells i new j
-            (λ e h. let far = seals_of cells w ok may who i m a h in omega arith)
-            (λ _ h. ok.spare j h))
-        (λ j. put_cases (λ (x : CellState). CutBelow w.starts (trim_of w) j x.told.cut) w.cells i new j
-            (λ e. subst (λ k. CutBelow w.starts (trim_of w) k new.told.cut) (sym e) (cuts_of cells w ok may who i m a))
-            (λ _. ok.cuts j))
+    (λ j. put_cases (λ (x : CellState). CellOk x × Goes (w.cells j) x) w.cells i new j
+    (λ e. subst (λ k. CellOk new × Goes (w.cells k) new) (sym e) (move_ok cells w ok may who i m a))
+    (λ _. (ok.cell j, goes_refl (w.cells j))))
+    (λ j. put_cases (λ (x : CellState). 0 < x.told.seals → j + 1 < cells) w.cells i new j
+    (λ e h. let far = seals_of cells w ok may who i m a h in omega arith)
+    (λ _ h. ok.spare j h))
+    (λ j. put_cases (λ (x : CellState). CutBelow w.starts (trim_of w) j x.told.cut) w.cells i new j
+    (λ e. subst (λ k. CutBelow w.starts (trim_of w) k new.told.cut) (sym e) (cuts_of cells w ok may who i m a))
+    (λ _. ok.cuts j))
 step_ok may floor cells w who (OnRegister m) ok a = turns_ok cells w ok floor who m a
 step_ok may floor cells w who Nothing ok a = (ok, continues_refl w)
 step_ok may floor cells w who Never ok a = absurd a

@@ -1,17 +1,13 @@
 -- What a turn brings.
-use Rattle.std.proofs.Common.{◌≡◌, ◌≢◌, ◌⊎◌, inl, inr, ℕ, ◌+◌, ◌<◌, ◌≤◌, List, [], ◌∷◌, ◌++◌, length, Option, Some, None, refl, sym, ap, ◌∙◌, subst, ⊎_elim, arith, append_assoc}
-use Rattle.std.specs.Prelude.{◌==◌, Contains}
+use Rattle.std.proofs.Common.{◌≡◌, ◌≢◌, ℕ, List, [], ◌∷◌, ◌++◌, length, Some, None, refl, sym, ap, ◌∙◌, subst, arith}
 use Rattle.delos_types.specs.declared.entry.Entry.{Entry}
-use Rattle.loglet_api.specs.declared.call.Answer.{Answer}
-use Rattle.legal_journal.specs.Told.{Told, Running, answered, MayAnswer}
-use Rattle.delos_types.specs.declared.chain.Chain.{Chain}
+use Rattle.legal_journal.specs.Told.{Running}
 use Rattle.legal_journal.specs.declared.events.Event.{Event}
-use Rattle.legal_journal.specs.Moves.{CellMove, Begins, Carries, Answers, Drops, Misses, RegisterMove, Move, OnCell, OnRegister, Nothing, Never, move}
-use Rattle.legal_journal.specs.Told.{put}
+use Rattle.legal_journal.specs.Moves.{CellMove, Begins, Carries, Answers, Drops, Misses, Move, OnCell, OnRegister, Nothing, Never, move}
 use Rattle.legal_journal.specs.Journal.{CellState, State, cell_after, answered_by, after, after_all, state_of, start, IsOwn, CellAllowed, IsAllowed, IsLegalFrom, IsLegal}
-use Rattle.legal_journal.specs.Laws.{Goes, Continues}
-use Rattle.legal_journal.specs.Turns.{AreOthers, IsTurn}
-use Rattle.legal_journal.proofs.Cells.{CellOk, put_cases, put_same, put_other}
+use Rattle.legal_journal.specs.Laws.{Continues}
+use Rattle.legal_journal.specs.Turns.{AreOthers}
+use Rattle.legal_journal.proofs.Cells.{CellOk, put_cases, put_other}
 use Rattle.legal_journal.proofs.Sound.{StateOk, step_ok}
 use Rattle.legal_journal.proofs.Legal.{sound, legal_front, goes_on, after_all-append, IsLegalFrom-split}
 
@@ -51,9 +47,9 @@ module _ (w : State) (may : ℕ → Entry → Type 0) (cells who by j t : ℕ) (
 own_step : (w : State) (may : ℕ → Entry → Type 0) (floor : List Entry → ℕ) (cells who by i t : ℕ) (r : Running) (m : Move) → by ≢ who → StateOk cells w → IsOwn (w.cells i) who t r → IsAllowed w may floor cells by m → Keeps ((after w by m).cells i) who t ((w.cells i).carried t) r
 own_step w may floor cells who by i t r (OnCell j m) apart ok own a =
     put_cases (λ (c : CellState). Keeps c who t ((w.cells i).carried t) r) w.cells j (cell_after by (w.cells j) m) i
-        (λ e. let at : IsOwn (w.cells j) who t r = subst (λ k. IsOwn (w.cells k) who t r) e own in
-            subst (λ k. Keeps (cell_after by (w.cells j) m) who t ((w.cells k).carried t) r) (sym e) (own_move w may cells who by j t r apart (ok.cell j) at m a))
-        (λ _. record { own = own; carried = refl })
+    (λ e. let at : IsOwn (w.cells j) who t r = subst (λ k. IsOwn (w.cells k) who t r) e own in
+    subst (λ k. Keeps (cell_after by (w.cells j) m) who t ((w.cells k).carried t) r) (sym e) (own_move w may cells who by j t r apart (ok.cell j) at m a))
+    (λ _. record { own = own; carried = refl })
 own_step w may floor cells who by i t r (OnRegister m) apart ok own a = record { own = own; carried = refl }
 own_step w may floor cells who by i t r Nothing apart ok own a = record { own = own; carried = refl }
 own_step w may floor cells who by i t r Never apart ok own a = absurd a

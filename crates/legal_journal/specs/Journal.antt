@@ -7,7 +7,7 @@ use Rattle.delos_types.specs.declared.chain.Chain.{Chain}
 use Rattle.chain_map.specs.Chain.{first_chain, last_of_segments}
 use Rattle.chain_map.specs.Step.{extended, dropped_below}
 use Rattle.loglet_api.specs.declared.call.Op.{Op}
-use Rattle.loglet_api.specs.declared.call.Op.TheVariants.{Append, Settle, Tail, Seal, Read, Trim}
+use Rattle.loglet_api.specs.declared.call.Op.TheVariants.{Append, Seal, Trim}
 use Rattle.loglet_api.specs.declared.call.Answer.{Answer}
 use Rattle.loglet_api.specs.declared.call.Answer.TheVariants.{SealedTail}
 use Rattle.loglet_api.specs.Step.{entries_of}
@@ -54,12 +54,19 @@ fresh_cell = record { told = untold; entries = []; ends = []; owner = λ _. 0; c
 
 abbrev pub fresh_register : RegisterState
 fresh_register = record {
-  version = 1; chain = first_chain; given = put (λ _. None) 1 (Some first_chain); asked = None; down = false;
+  version = 1;
+  chain = first_chain;
+  given = put (λ _. None) 1 (Some first_chain);
+  asked = None;
+  down = false;
 }
 
 abbrev pub start : State
 start = record {
-  cells = λ _. fresh_cell; register = fresh_register; starts = put (λ _. None) 0 (Some 0); shown = λ _. None;
+  cells = λ _. fresh_cell;
+  register = fresh_register;
+  starts = put (λ _. None) 0 (Some 0);
+  shown = λ _. None;
 }
 
 -- What each move does to it.
@@ -74,19 +81,32 @@ answered_by c t a (Some r) = answered c t r a
 
 abbrev pub cell_after : ℕ → CellState → CellMove → CellState
 cell_after who c (Begins op t) = record {
-  told = begun c.told op t; entries = c.entries ++ entries_of op; ends = c.ends;
-  owner = put c.owner t who; carried = put c.carried t 0;
+  told = begun c.told op t;
+  entries = c.entries ++ entries_of op;
+  ends = c.ends;
+  owner = put c.owner t who;
+  carried = put c.carried t 0;
 }
 cell_after who c (Carries t) = record {
-  told = c.told; entries = c.entries; ends = c.ends; owner = c.owner;
+  told = c.told;
+  entries = c.entries;
+  ends = c.ends;
+  owner = c.owner;
   carried = put c.carried t (c.carried t + 1);
 }
 cell_after who c (Answers t a) = record {
-  told = answered_by c.told t a (c.told.ops t); entries = c.entries; ends = ends_told c.ends a;
-  owner = c.owner; carried = c.carried;
+  told = answered_by c.told t a (c.told.ops t);
+  entries = c.entries;
+  ends = ends_told c.ends a;
+  owner = c.owner;
+  carried = c.carried;
 }
 cell_after who c (Drops t) = record {
-  told = forgotten c.told t; entries = c.entries; ends = c.ends; owner = c.owner; carried = c.carried;
+  told = forgotten c.told t;
+  entries = c.entries;
+  ends = c.ends;
+  owner = c.owner;
+  carried = c.carried;
 }
 cell_after who c (Misses t) = c
 
@@ -98,11 +118,19 @@ register_after r (Gives v c) = known r v c
 register_after r (Conflicts x v c) = known r v c
 register_after r (Writes x c v) = known r v c
 register_after r (Faults x c) = record {
-  version = r.version; chain = r.chain; given = r.given; asked = Some c; down = true;
+  version = r.version;
+  chain = r.chain;
+  given = r.given;
+  asked = Some c;
+  down = true;
 }
 register_after r Fails = r
 register_after r (Mends b) = record {
-  version = r.version; chain = r.chain; given = r.given; asked = r.asked; down = if b then false else r.down;
+  version = r.version;
+  chain = r.chain;
+  given = r.given;
+  asked = r.asked;
+  down = if b then false else r.down;
 }
 
 abbrev pub reach : (ℕ → CellState) → ℕ → ℕ
@@ -138,7 +166,9 @@ now_or_before None before = before
 
 abbrev pub make : (ℕ → CellState) → RegisterState → (ℕ → Option ℕ) → (ℕ → Option Entry) → State
 make cells register starts shown = record {
-  cells = cells; register = register; starts = starts;
+  cells = cells;
+  register = register;
+  starts = starts;
   shown = λ pos. now_or_before (log_of cells register.chain pos) (shown pos);
 }
 

@@ -38,7 +38,15 @@ put f i x j = if j == i then x else f j
 
 abbrev pub untold : Told
 untold = record {
-  cut = 0; log = []; reach = 0; cap = None; firm = 0; sealed = false; begun = 0; seals = 0; lacks = 0;
+  cut = 0;
+  log = [];
+  reach = 0;
+  cap = None;
+  firm = 0;
+  sealed = false;
+  begun = 0;
+  seals = 0;
+  lacks = 0;
   ops = λ _. None;
 }
 
@@ -56,8 +64,15 @@ cut_begun c op = cut_by op c.cut c.reach
 -- after `begin` gave this ticket
 abbrev pub begun : Told → Op → ℕ → Told
 begun c op t = record {
-  cut = cut_begun c op; log = drop (cut_begun c op - c.cut) c.log ++ entries_of op; reach = c.reach; cap = c.cap;
-  firm = c.firm; sealed = c.sealed; begun = c.begun + 1; seals = c.seals + seals_of op; lacks = c.lacks;
+  cut = cut_begun c op;
+  log = drop (cut_begun c op - c.cut) c.log ++ entries_of op;
+  reach = c.reach;
+  cap = c.cap;
+  firm = c.firm;
+  sealed = c.sealed;
+  begun = c.begun + 1;
+  seals = c.seals + seals_of op;
+  lacks = c.lacks;
   ops = put c.ops t (Some (started c op));
 }
 
@@ -74,16 +89,31 @@ told_sealed b answer = b
 -- after `take` gave this answer of the operation
 abbrev pub answered : Told → ℕ → Running → Answer → Told
 answered c t r a = record {
-  cut = c.cut; log = c.log; reach = max c.reach (told_reach (wanted r) a); cap = told_cap a c.cap;
-  firm = max c.firm (told_firm (wanted r) a); sealed = told_sealed c.sealed a; begun = c.begun; seals = c.seals;
-  lacks = c.lacks + told_lacks a; ops = put c.ops t None;
+  cut = c.cut;
+  log = c.log;
+  reach = max c.reach (told_reach (wanted r) a);
+  cap = told_cap a c.cap;
+  firm = max c.firm (told_firm (wanted r) a);
+  sealed = told_sealed c.sealed a;
+  begun = c.begun;
+  seals = c.seals;
+  lacks = c.lacks + told_lacks a;
+  ops = put c.ops t None;
 }
 
 -- after the operation was closed without its answer
 abbrev pub forgotten : Told → ℕ → Told
 forgotten c t = record {
-  cut = c.cut; log = c.log; reach = c.reach; cap = c.cap; firm = c.firm; sealed = c.sealed; begun = c.begun;
-  seals = c.seals; lacks = c.lacks; ops = put c.ops t None;
+  cut = c.cut;
+  log = c.log;
+  reach = c.reach;
+  cap = c.cap;
+  firm = c.firm;
+  sealed = c.sealed;
+  begun = c.begun;
+  seals = c.seals;
+  lacks = c.lacks;
+  ops = put c.ops t None;
 }
 
 -- at most the cap, where there is one

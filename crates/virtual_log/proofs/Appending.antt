@@ -1,28 +1,25 @@
 -- An operation on a loglet of the chain.
-use Rattle.std.proofs.Common.{◌≡◌, ◌≢◌, ◌⊎◌, inl, inr, ℕ, ◌+◌, ◌-◌, ◌*◌, ◌<◌, ◌≤◌, ◌^◌, List, [], ◌∷◌, ◌++◌, length, Option, Some, None, Bool, true, false, refl, sym, ap, ◌∙◌, subst, arith, append_assoc}
+use Rattle.std.proofs.Common.{◌≡◌, ◌≢◌, ℕ, ◌+◌, ◌<◌, ◌≤◌, ◌^◌, List, ◌∷◌, ◌++◌, length, Some, Bool, true, false, refl, sym, ap, ◌∙◌, subst, arith, append_assoc}
 use Rattle.std.specs.Prelude.{Contains, slice_get, ◌==◌}
 use Rattle.std.proofs.lemmas.Bool.Decides.{nat_tests}
 use Rattle.std.proofs.lemmas.List.Elements.{Contains-push}
 use Rattle.delos_types.specs.declared.entry.Entry.{Entry}
 use Rattle.delos_types.specs.Spelling.{IsSpellable}
-use Rattle.delos_types.specs.declared.chain.Segment.{Segment}
-use Rattle.delos_types.specs.declared.chain.Chain.{Chain}
 use Rattle.loglet_api.specs.declared.call.Op.{Op}
 use Rattle.loglet_api.specs.declared.call.Op.TheVariants.{Append, Tail, Read}
 use Rattle.loglet_api.specs.declared.call.Answer.{Answer}
 use Rattle.loglet_api.specs.declared.call.Answer.TheVariants.{Placed, SealedTail, OpenTail, Sealed}
-use Rattle.legal_journal.specs.Told.{Told, Running, started, MayAnswer, answered}
+use Rattle.legal_journal.specs.Told.{Told, Running, started}
 use Rattle.legal_journal.specs.declared.events.Event.{Event}
 use Rattle.legal_journal.specs.declared.events.FabricCall.TheVariants.{Begin}
-use Rattle.legal_journal.specs.Journal.{CellState, State, state_of, IsLegal, last_segment, tail_of, entries, reach, ends}
-use Rattle.legal_journal.specs.Laws.{Continues, Stands, Clears}
-use Rattle.legal_journal.specs.Turns.{AreOthers, MayTurn}
+use Rattle.legal_journal.specs.Journal.{State, state_of, IsLegal, last_segment, tail_of, entries, reach}
+use Rattle.legal_journal.specs.Laws.{Continues, Stands}
+use Rattle.legal_journal.specs.Turns.{MayTurn}
 use Rattle.legal_journal.proofs.Log.{slice_get_front}
-use Rattle.legal_journal.proofs.Cells.{CellOk, OpOk}
-use Rattle.legal_journal.proofs.Sound.{StateOk, IsBelow, open_tail}
+use Rattle.legal_journal.proofs.Sound.{StateOk, open_tail}
 use Rattle.legal_journal.proofs.Legal.{sound, continues_trans, legal_front, reached_stands, goes_on, clears_on, last_clears}
-use Rattle.virtual_log.specs.Turning.{Later, Opened, Answered, IsAbove}
-use Rattle.virtual_log.proofs.OneTurn.{later_continues}
+use Rattle.virtual_log.specs.Turning.{Later, FirstTurn, Opened, Answered, IsAbove}
+use Rattle.virtual_log.proofs.OneTurn.{later_continues, first_later}
 
 -- a started cell that no answer told sealed is the last
 unsealed_last : (cells : ℕ) (w : State) (i s : ℕ) → StateOk cells w → w.starts i ≡ Some s → (w.cells i).told.sealed ≡ false → tail_of w ≡ s + (w.cells i).told.reach
@@ -74,33 +71,37 @@ module _ (may : ℕ → Entry → Type 0) (floor : List Entry → ℕ) (shelf : 
     pub at_new : (state_of new).starts i ≡ Some s
     pub few : length shelf ≤ 64
 
-  pub moments : (who : ℕ) (old mid new : List Event) (i s t : ℕ) (op : Op) (a : Answer) (r : Running) → IsLegal may floor shelf old → Later may floor shelf old mid → Later may floor shelf mid new → (o : Opened who old i op t mid) → (x : Answered who mid i t r a new) → (state_of old).starts i ≡ Some s → Moments who old new i s (old ++ o.others) x.moment
+  pub moments : (who : ℕ) (old mid new : List Event) (i s t : ℕ) (op : Op) (a : Answer) (r : Running) → IsLegal may floor shelf old → Later may floor shelf old mid → Later may floor shelf mid new → (o : Opened who old i op t mid) → (x : Answered who mid i t r a new) → (state_of old).starts i ≡ Some s → Moments who old new i s (old ++ o.first.others) x.moment
   moments who old mid new i s t op a r legal first second o x at =
-      let begin = old ++ o.others in
-      let mid_legal = subst (IsLegal may floor shelf) o.seen first.legal in
-      let begin_legal = legal_front may floor shelf begin o.rest mid_legal in
+      let begin = old ++ o.first.others in
+      let mid_legal = subst (IsLegal may floor shelf) o.first.seen first.legal in
+      let begin_legal = legal_front may floor shelf begin (o.first.event ∷ o.first.rest) mid_legal in
       let new_legal = subst (IsLegal may floor shelf) x.rest.1 second.legal in
       let answer_legal = legal_front may floor shelf x.moment x.rest.0 new_legal in
-      let to_begin = goes_on may floor shelf old o.others begin_legal in
+      let to_begin = goes_on may floor shelf old o.first.others begin_legal in
       let to_last = subst (λ es. Continues (state_of x.moment) (state_of es)) (sym x.rest.1) (goes_on may floor shelf x.moment x.rest.0 new_legal) in
-      let is : x.moment ≡ begin ++ (o.rest ++ x.since.0) = x.since.1 ∙ (ap (λ es. es ++ x.since.0) o.seen ∙ append_assoc begin o.rest x.since.0) in
-      let from = subst (λ es. Continues (state_of begin) (state_of es)) (sym is) (goes_on may floor shelf begin (o.rest ++ x.since.0) (subst (IsLegal may floor shelf) is answer_legal)) in
+      let is : x.moment ≡ begin ++ ((o.first.event ∷ o.first.rest) ++ x.since.0) = x.since.1 ∙ (ap (λ es. es ++ x.since.0) o.first.seen ∙ append_assoc begin (o.first.event ∷ o.first.rest) x.since.0) in
+      let from = subst (λ es. Continues (state_of begin) (state_of es)) (sym is) (goes_on may floor shelf begin ((o.first.event ∷ o.first.rest) ++ x.since.0) (subst (IsLegal may floor shelf) is answer_legal)) in
       let at_begin = to_begin.starts i s at in record {
-        old_ok = sound may floor shelf old legal; begin_ok = sound may floor shelf begin begin_legal;
-        answer_ok = sound may floor shelf x.moment answer_legal; new_ok = sound may floor shelf new second.legal;
+        old_ok = sound may floor shelf old legal;
+        begin_ok = sound may floor shelf begin begin_legal;
+        answer_ok = sound may floor shelf x.moment answer_legal;
+        new_ok = sound may floor shelf new second.legal;
         to_begin = to_begin;
         to_new = continues_trans (state_of begin) (state_of x.moment) (state_of new) from to_last;
-        to_last = to_last; from_begin = from; at_begin = at_begin; at_new = to_last.starts i s (from.starts i s at_begin);
+        to_last = to_last;
+        from_begin = from;
+        at_begin = at_begin;
+        at_new = to_last.starts i s (from.starts i s at_begin);
         few = legal.most;
       }
 
   -- a position that is no lower than the tail at the begin is above all that was answered before it
-  pub above_begin : (who : ℕ) (old mid new : List Event) (i t pos : ℕ) (op : Op) → IsLegal may floor shelf old → Later may floor shelf old mid → Later may floor shelf mid new → (o : Opened who old i op t mid) → tail_of (state_of (old ++ o.others)) ≤ pos → IsAbove who old pos new
+  pub above_begin : (who : ℕ) (old mid new : List Event) (i t pos : ℕ) (op : Op) → IsLegal may floor shelf old → Later may floor shelf old mid → Later may floor shelf mid new → (o : Opened who old i op t mid) → tail_of (state_of (old ++ o.first.others)) ≤ pos → IsAbove who old pos new
   above_begin who old mid new i t pos op legal first second o up =
-      let begin = old ++ o.others in
-      let begin_legal = legal_front may floor shelf begin o.rest (subst (IsLegal may floor shelf) o.seen first.legal) in record {
-        others = o.others; apart = o.apart; rest = o.rest ++ second.more;
-        seen = second.seen ∙ (ap (λ es. es ++ second.more) o.seen ∙ append_assoc begin o.rest second.more);
+      let begin = old ++ o.first.others in
+      let begin_legal = legal_front may floor shelf begin (o.first.event ∷ o.first.rest) (subst (IsLegal may floor shelf) o.first.seen first.legal) in record {
+        first = first_later who old mid new second.more second.seen o.first;
         clears = last_clears (length shelf) (state_of begin) pos (sound may floor shelf begin begin_legal) up;
       }
 
@@ -111,9 +112,9 @@ module _ (may : ℕ → Entry → Type 0) (floor : List Entry → ℕ) (shelf : 
     pub reached : pos + 1 ≤ s + ((state_of new).cells i).told.reach
     pub fits : pos < 2 ^ 64
 
-  pub placed_ok : (who : ℕ) (old mid new : List Event) (i s t p : ℕ) (e : Entry) → IsLegal may floor shelf old → (state_of old).starts i ≡ Some s → (first : Later may floor shelf old mid) → Later may floor shelf mid new → (o : Opened who old i (Append e) t mid) → Answered who mid i t (started ((state_of (old ++ o.others)).cells i).told (Append e)) (Placed p) new → Placing who old new i s e (s + p)
+  pub placed_ok : (who : ℕ) (old mid new : List Event) (i s t p : ℕ) (e : Entry) → IsLegal may floor shelf old → (state_of old).starts i ≡ Some s → (first : Later may floor shelf old mid) → Later may floor shelf mid new → (o : Opened who old i (Append e) t mid) → Answered who mid i t (started ((state_of (old ++ o.first.others)).cells i).told (Append e)) (Placed p) new → Placing who old new i s e (s + p)
   placed_ok who old mid new i s t p e legal at first second o x =
-      let begin = old ++ o.others in
+      let begin = old ++ o.first.others in
       let cell = (state_of begin).cells i in
       let r = started cell.told (Append e) in
       let m = moments who old mid new i s t (Append e) (Placed p) r legal first second o x at in
@@ -124,7 +125,7 @@ module _ (may : ℕ → Entry → Type 0) (floor : List Entry → ℕ) (shelf : 
       let to_new = later_continues may floor shelf mid new second in
       let more = (to_new.cell i).longer in
       let there : slice_get (entries (state_of new).cells i) p ≡ Some e =
-          subst (λ l. slice_get l p ≡ Some e) (sym more.1) (slice_get_front (entries (state_of mid).cells i) more.0 p e (subst (λ k. slice_get (entries (state_of mid).cells i) k ≡ Some e) (sym x.may.0) placed)) in
+      subst (λ l. slice_get l p ≡ Some e) (sym more.1) (slice_get_front (entries (state_of mid).cells i) more.0 p e (subst (λ k. slice_get (entries (state_of mid).cells i) k ≡ Some e) (sym x.may.0) placed)) in
       let reach_is : ((state_of new).cells i).told.reach ≡ _ = ap (λ (y : Told). y.reach) x.told in
       let new_cell = m.new_ok.cell i in
       record {
@@ -144,9 +145,9 @@ module _ (may : ℕ → Entry → Type 0) (floor : List Entry → ℕ) (shelf : 
     pub reached : pos ≤ s + ((state_of new).cells i).told.reach
     pub fits : pos < 2 ^ 64
 
-  pub tail_ok : (who : ℕ) (old mid new : List Event) (i s t n : ℕ) → IsLegal may floor shelf old → (state_of old).starts i ≡ Some s → (first : Later may floor shelf old mid) → Later may floor shelf mid new → (o : Opened who old i Tail t mid) → Answered who mid i t (started ((state_of (old ++ o.others)).cells i).told Tail) (OpenTail n) new → Finding who old new i s (s + n)
+  pub tail_ok : (who : ℕ) (old mid new : List Event) (i s t n : ℕ) → IsLegal may floor shelf old → (state_of old).starts i ≡ Some s → (first : Later may floor shelf old mid) → Later may floor shelf mid new → (o : Opened who old i Tail t mid) → Answered who mid i t (started ((state_of (old ++ o.first.others)).cells i).told Tail) (OpenTail n) new → Finding who old new i s (s + n)
   tail_ok who old mid new i s t n legal at first second o x =
-      let begin = old ++ o.others in
+      let begin = old ++ o.first.others in
       let m = moments who old mid new i s t Tail (OpenTail n) (started ((state_of begin).cells i).told Tail) legal first second o x at in
       let tail = unsealed_last (length shelf) (state_of begin) i s m.begin_ok m.at_begin x.may.1.unsealed in
       let reach_is : ((state_of new).cells i).told.reach ≡ _ = ap (λ (y : Told). y.reach) x.told in
@@ -160,3 +161,28 @@ module _ (may : ℕ → Entry → Type 0) (floor : List Entry → ℕ) (shelf : 
 
   pub end_ok : (who : ℕ) (mid new : List Event) (i t n : ℕ) (r : Running) → Answered who mid i t r (SealedTail n) new → Contains ((state_of new).cells i).ends n
   end_ok who mid new i t n r a = subst (λ l. Contains l n) (sym a.ends) (Contains-push ((state_of a.moment).cells i).ends n)
+
+  pub shut_ok : (who : ℕ) (mid new : List Event) (i t n : ℕ) (r : Running) → Answered who mid i t r (SealedTail n) new → ((state_of new).cells i).told.sealed ≡ true
+  shut_ok who mid new i t n r a = ap (λ (x : Told). x.sealed) a.told
+
+  -- a loglet that was told sealed before has no open tail
+  pub never_open : (who : ℕ) (old mid new : List Event) (i t n : ℕ) → IsLegal may floor shelf old → (first : Later may floor shelf old mid) → (o : Opened who old i Tail t mid) → Answered who mid i t (started ((state_of (old ++ o.first.others)).cells i).told Tail) (OpenTail n) new → ((state_of old).cells i).told.sealed ≡ true → ⊥
+  never_open who old mid new i t n legal first o x shut =
+      let begin = old ++ o.first.others in
+      let begin_legal = legal_front may floor shelf begin (o.first.event ∷ o.first.rest) (subst (IsLegal may floor shelf) o.first.seen first.legal) in
+      let now = ((goes_on may floor shelf old o.first.others begin_legal).cell i).sealed shut in
+      let no : true ≡ false = sym now ∙ x.may.1.unsealed in absurd (cc)
+
+  -- a position above what an attempt found before its first event is above what the call did before its own
+  pub above_since : (who pos : ℕ) (a b c new : List Event) → FirstTurn who a b → Later may floor shelf b c → Later may floor shelf c new → IsAbove who c pos new → IsAbove who a pos new
+  above_since who pos a b c new f second third x =
+      let front = a ++ f.others in
+      let start = f.event ∷ f.rest in
+      let c_is : c ≡ front ++ (start ++ second.more) = second.seen ∙ (ap (λ es. es ++ second.more) f.seen ∙ append_assoc front start second.more) in
+      let at = c ++ x.first.others in
+      let at_is : at ≡ front ++ ((start ++ second.more) ++ x.first.others) = ap (λ es. es ++ x.first.others) c_is ∙ append_assoc front (start ++ second.more) x.first.others in
+      let at_legal = legal_front may floor shelf at (x.first.event ∷ x.first.rest) (subst (IsLegal may floor shelf) x.first.seen third.legal) in
+      let goes = subst (λ es. Continues (state_of front) (state_of es)) (sym at_is) (goes_on may floor shelf front ((start ++ second.more) ++ x.first.others) (subst (IsLegal may floor shelf) at_is at_legal)) in record {
+        first = first_later who a b new (second.more ++ third.more) (third.seen ∙ (ap (λ es. es ++ third.more) second.seen ∙ append_assoc b second.more third.more)) f;
+        clears = clears_on (state_of front) (state_of at) pos goes x.clears;
+      }

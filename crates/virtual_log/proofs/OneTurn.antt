@@ -1,27 +1,26 @@
 -- What single turns bring.
-use Rattle.std.proofs.Common.{◌≡◌, ◌≢◌, ◌⊎◌, inl, inr, ℕ, ◌+◌, ◌-◌, ◌<◌, ◌≤◌, List, [], ◌∷◌, ◌++◌, length, Option, Some, None, Bool, true, refl, sym, ap, ◌∙◌, subst, arith, append_assoc}
+use Rattle.std.proofs.Common.{◌≡◌, ℕ, ◌+◌, ◌<◌, List, [], ◌∷◌, ◌++◌, length, Some, refl, sym, ap, ◌∙◌, subst, arith, append_assoc}
 use Rattle.delos_types.specs.declared.entry.Entry.{Entry}
 use Rattle.delos_types.specs.declared.chain.Chain.{Chain}
 use Rattle.loglet_api.specs.declared.call.Op.{Op}
 use Rattle.loglet_api.specs.declared.call.Answer.{Answer}
 use Rattle.loglet_api.specs.declared.call.Answer.TheVariants as answers
-use Rattle.legal_journal.specs.Told.{Told, Running, put, MayAnswer, answered, started, size_of}
+use Rattle.legal_journal.specs.Told.{Running, MayAnswer, started}
 use Rattle.legal_journal.specs.declared.events.Event.{Event}
 use Rattle.legal_journal.specs.declared.events.FabricCall.{FabricCall}
 use Rattle.legal_journal.specs.declared.events.FabricAnswer.{FabricAnswer}
-use Rattle.legal_journal.specs.declared.events.FabricCall.TheVariants.{Begin, Carry, ReadChain, WriteChain}
-use Rattle.legal_journal.specs.declared.events.FabricAnswer.TheVariants.{Begun, Full, Done, Going, At, Down, Written, Conflict, MetaFault}
-use Rattle.legal_journal.specs.Moves.{Begins, Carries, Answers, OnCell, OnRegister, Gives, move}
-use Rattle.legal_journal.specs.Journal.{CellState, State, cell_after, answered_by, after, after_all, state_of, start, IsOwn, IsLegal, IsLegalFrom, ends_told, patience, reach}
-use Rattle.legal_journal.specs.Laws.{Goes, Continues}
+use Rattle.legal_journal.specs.declared.events.FabricCall.TheVariants.{Begin, Carry, ReadChain}
+use Rattle.legal_journal.specs.declared.events.FabricAnswer.TheVariants.{Begun, Full, Done, Going, At, Down}
+use Rattle.legal_journal.specs.Moves.{Begins, Carries, Answers}
+use Rattle.legal_journal.specs.Journal.{CellState, State, cell_after, answered_by, state_of, start, IsOwn, IsLegal, IsLegalFrom, patience}
+use Rattle.legal_journal.specs.Laws.{Continues}
 use Rattle.legal_journal.specs.Turns.{AreOthers, IsTurn, MayTurn}
-use Rattle.legal_journal.proofs.Cells.{put_same, CellOk}
-use Rattle.legal_journal.proofs.Sound.{StateOk}
-use Rattle.legal_journal.proofs.Legal.{legal_front, IsLegalFrom-split, after_all-append, sound, goes_on}
-use Rattle.legal_journal.proofs.Taken.{Keeps, own_stays, Took, took}
+use Rattle.legal_journal.proofs.Cells.{put_same}
+use Rattle.legal_journal.proofs.Legal.{IsLegalFrom-split, after_all-append, sound, goes_on}
+use Rattle.legal_journal.proofs.Taken.{Keeps, own_stays, took}
 use Rattle.virtual_log.specs.declared.fault.Fault.{Fault}
 use Rattle.virtual_log.specs.declared.fault.Fault.TheVariants as fault
-use Rattle.virtual_log.specs.Turning.{Later, Looked, Opened, Answered, HasEvent, IsAnswer}
+use Rattle.virtual_log.specs.Turning.{Later, Looked, FirstTurn, Opened, Answered, HasEvent, IsAnswer}
 use Rattle.virtual_log.specs.Causes.{Causes, HasCause}
 
 pub nil : (xs : List Event) → xs ≡ xs ++ []
@@ -32,7 +31,10 @@ module _ (may : ℕ → Entry → Type 0) (floor : List Entry → ℕ) (shelf : 
   pub look_ok : (v : ℕ) (c : Chain) → IsTurn may floor shelf who old ReadChain (At v c) new → Looked who old v c new
   look_ok v c t =
       let k = took may floor shelf old t.others _ new t.legal (t.seen ∙ ap (λ es. (old ++ t.others) ++ es) t.event) in record {
-        others = t.others; apart = t.apart; rest = t.own; seen = t.seen;
+        others = t.others;
+        apart = t.apart;
+        rest = t.own;
+        seen = t.seen;
         version_is = ap (λ (w : State). w.register.version) k.now;
         chain_is = ap (λ (w : State). w.register.chain) k.now;
       }
@@ -43,9 +45,11 @@ module _ (may : ℕ → Entry → Type 0) (floor : List Entry → ℕ) (shelf : 
       let w = state_of (old ++ h.others) in
       let at : (state_of new).cells i ≡ cell_after who (w.cells i) (Begins op t) = ap (λ (x : State). x.cells i) k.now ∙ put_same w.cells i (cell_after who (w.cells i) (Begins op t)) in
       record {
-        others = h.others; apart = h.apart; rest = h.own; seen = h.seen;
+        first = record { others = h.others; apart = h.apart; event = record { who = who; call = Begin i op; answer = Begun t }; own = refl; rest = []; seen = h.seen ∙ ap (λ es. (old ++ h.others) ++ es) h.event };
         own = subst (λ (c : CellState). IsOwn c who t (started (w.cells i).told op)) (sym at) (record {
-          is_open = put_same (w.cells i).told.ops t _; own = put_same (w.cells i).owner t who });
+          is_open = put_same (w.cells i).told.ops t _;
+          own = put_same (w.cells i).owner t who;
+        });
       }
 
   -- an own ticket may be carried, whatever others do first
@@ -100,7 +104,9 @@ later_refl may floor shelf es h = record { more = []; seen = nil es; legal = h }
 
 pub later_trans : (may : ℕ → Entry → Type 0) (floor : List Entry → ℕ) (shelf : List ℕ) (a b c : List Event) → Later may floor shelf a b → Later may floor shelf b c → Later may floor shelf a c
 later_trans may floor shelf a b c f g = record {
-  more = f.more ++ g.more; seen = g.seen ∙ (ap (λ l. l ++ g.more) f.seen ∙ append_assoc a f.more g.more); legal = g.legal;
+  more = f.more ++ g.more;
+  seen = g.seen ∙ (ap (λ l. l ++ g.more) f.seen ∙ append_assoc a f.more g.more);
+  legal = g.legal;
 }
 
 pub later_continues : (may : ℕ → Entry → Type 0) (floor : List Entry → ℕ) (shelf : List ℕ) (a b : List Event) → Later may floor shelf a b → Continues (state_of a) (state_of b)
@@ -116,14 +122,20 @@ own_by c a b t r e h = subst (λ k. IsOwn c k t r) (sym e) h
 -- an event since a later moment is one since an earlier one
 pub event_since : (P : Event → Type 0) (a b c more : List Event) → b ≡ a ++ more → HasEvent b P c → HasEvent a P c
 event_since P a b c more is h = record {
-  event = h.event; is = h.is; before = more ++ h.before; after = h.after;
+  event = h.event;
+  is = h.is;
+  before = more ++ h.before;
+  after = h.after;
   seen = h.seen ∙ (ap (λ l. (l ++ h.before) ++ h.event ∷ h.after) is ∙ ap (λ l. l ++ h.event ∷ h.after) (append_assoc a more h.before));
 }
 
 -- and one before an earlier moment is one before a later one
 pub event_until : (P : Event → Type 0) (a b c more : List Event) → c ≡ b ++ more → HasEvent a P b → HasEvent a P c
 event_until P a b c more is h = record {
-  event = h.event; is = h.is; before = h.before; after = h.after ++ more;
+  event = h.event;
+  is = h.is;
+  before = h.before;
+  after = h.after ++ more;
   seen = is ∙ (ap (λ l. l ++ more) h.seen ∙ append_assoc (a ++ h.before) (h.event ∷ h.after) more);
 }
 
@@ -136,7 +148,10 @@ cause_since who fault.Meta a b c more is h = event_since (Causes who fault.Meta)
 -- an answer that tells of too few servers is a cause
 pub lack_cause : (who i t u : ℕ) (old new : List Event) → HasEvent old (λ e. IsAnswer who i t (answers.NoQuorum u) e) new → HasCause who old (fault.NoQuorum i u) new
 lack_cause who i t u old new h = record {
-  event = h.event; before = h.before; after = h.after; seen = h.seen;
+  event = h.event;
+  before = h.before;
+  after = h.after;
+  seen = h.seen;
   is = subst (Causes who (fault.NoQuorum i u)) (sym h.is.1) (refl, (refl, refl));
 }
 
@@ -145,6 +160,20 @@ pub answered_since : (who : ℕ) (a b c : List Event) (i t : ℕ) (r : Running) 
 answered_since who a b c i t r x more is h = record {
   moment = h.moment;
   since = (more ++ h.since.0, h.since.1 ∙ (ap (λ l. l ++ h.since.0) is ∙ append_assoc a more h.since.0));
-  rest = h.rest; may = h.may; told = h.told; ends = h.ends;
+  rest = h.rest;
+  may = h.may;
+  told = h.told;
+  ends = h.ends;
   event = event_since (λ e. IsAnswer who i t x e) a b c more is h.event;
+}
+
+-- what was first stays first
+abbrev pub first_later : (who : ℕ) (a b c more : List Event) → c ≡ b ++ more → FirstTurn who a b → FirstTurn who a c
+first_later who a b c more is f = record {
+  others = f.others;
+  apart = f.apart;
+  event = f.event;
+  own = f.own;
+  rest = f.rest ++ more;
+  seen = is ∙ (ap (λ es. es ++ more) f.seen ∙ append_assoc (a ++ f.others) (f.event ∷ f.rest) more);
 }

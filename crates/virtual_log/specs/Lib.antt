@@ -1,2 +1,5 @@
 pub mod Turning
 pub mod Causes
+pub mod Tails
+pub mod Log
+pub mod Next

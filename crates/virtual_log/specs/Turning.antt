@@ -5,11 +5,10 @@ use Rattle.delos_types.specs.declared.chain.Chain.{Chain}
 use Rattle.loglet_api.specs.declared.call.Op.{Op}
 use Rattle.loglet_api.specs.declared.call.Answer.{Answer}
 use Rattle.legal_journal.specs.declared.events.Event.{Event}
-use Rattle.legal_journal.specs.declared.events.FabricCall.{FabricCall}
 use Rattle.legal_journal.specs.declared.events.FabricCall.TheVariants.{Carry}
 use Rattle.legal_journal.specs.declared.events.FabricAnswer.TheVariants.{Done}
 use Rattle.legal_journal.specs.Told.{Running, started, MayAnswer, answered}
-use Rattle.legal_journal.specs.Journal.{State, state_of, IsOwn, IsLegal, ends_told}
+use Rattle.legal_journal.specs.Journal.{state_of, IsOwn, IsLegal, ends_told}
 use Rattle.legal_journal.specs.Laws.{Clears}
 use Rattle.legal_journal.specs.Turns.{AreOthers}
 
@@ -28,13 +27,19 @@ pub record Looked (who : ℕ) (old : List Event) (version : ℕ) (chain : Chain)
   pub version_is : (state_of new).register.version ≡ version
   pub chain_is : (state_of new).register.chain ≡ chain
 
--- the operation is open and who's; it was begun after events of others alone, with what had been told then
-pub record Opened (who : ℕ) (old : List Event) (i : ℕ) (op : Op) (t : ℕ) (new : List Event) : Type 0 where
+-- the first own event since old, with those of others before it
+pub record FirstTurn (who : ℕ) (old new : List Event) : Type 0 where
   pub others : List Event
   pub apart : AreOthers who others
+  pub event : Event
+  pub own : event.who ≡ who
   pub rest : List Event
-  pub seen : new ≡ (old ++ others) ++ rest
-  pub own : IsOwn ((state_of new).cells i) who t (started ((state_of (old ++ others)).cells i).told op)
+  pub seen : new ≡ (old ++ others) ++ event ∷ rest
+
+-- the operation is open and who's; it was begun by the first own event, with what had been told then
+pub record Opened (who : ℕ) (old : List Event) (i : ℕ) (op : Op) (t : ℕ) (new : List Event) : Type 0 where
+  pub first : FirstTurn who old new
+  pub own : IsOwn ((state_of new).cells i) who t (started ((state_of (old ++ first.others)).cells i).told op)
 
 -- an event since old is such
 pub record HasEvent (old : List Event) (P : Event → Type 0) (new : List Event) : Type 0 where
@@ -60,8 +65,5 @@ pub record Answered (who : ℕ) (old : List Event) (i t : ℕ) (r : Running) (a 
 
 -- The position is above each position that was answered, and not below any tail that was, before the first own event.
 pub record IsAbove (who : ℕ) (old : List Event) (pos : ℕ) (new : List Event) : Type 0 where
-  pub others : List Event
-  pub apart : AreOthers who others
-  pub rest : List Event
-  pub seen : new ≡ (old ++ others) ++ rest
-  pub clears : Clears (state_of (old ++ others)) pos
+  pub first : FirstTurn who old new
+  pub clears : Clears (state_of (old ++ first.others)) pos

@@ -2,6 +2,7 @@
 //! of a sealed loglet, whoever began it, and goes on.
 //!
 //! - `log`: the virtual log.
+//! - `calls`: its calls, each over as many turns as it takes.
 //! - `fault`: why a call failed.
 //! - `chooser`: where the words of its carries come from.
 //! - `turn`: single turns.
@@ -12,9 +13,10 @@
 //! virtual log shows, and what its answers say).
 #![tactic(auto)]
 
+pub mod calls;
 pub mod chooser;
 pub mod fault;
-// pub mod log;
+pub mod log;
 mod operation;
-// mod replace;
+mod replace;
 mod turn;

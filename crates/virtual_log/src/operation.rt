@@ -3,18 +3,18 @@ ghost use Rattle.std.specs.Prelude.{◌≡◌, ◌<◌, ◌≤◌, ℕ, ◌+◌,
 ghost use Rattle.delos_types.specs.Spelling.{IsSpellable};
 ghost use Rattle.legal_journal.specs.Journal.{state_of, IsLegal, tail_of};
 ghost use Rattle.legal_journal.specs.Laws.{Stands};
-ghost use Rattle.virtual_log.specs.Turning.{Later, IsAbove};
+ghost use Rattle.virtual_log.specs.Turning.{Later, FirstTurn, IsAbove};
 ghost use Rattle.virtual_log.specs.Causes.{HasCause};
+ghost use Rattle.virtual_log.specs.Tails.{IsFound, IsSealedTail};
 
+use crate::chooser::Chooser;
+use crate::fault::Fault;
+use crate::turn::{begin, carry_on};
 use delos_types::chain::Segment;
 use delos_types::entry::Entry;
 use legal_journal::rules::Rules;
 use legal_journal::turns::Turns;
 use loglet_api::call::{Answer, Op};
-
-use crate::chooser::Chooser;
-use crate::fault::Fault;
-use crate::turn::{begin, carry_on};
 
 /// Appends to the loglet of this segment, which some chain had. None: that loglet is sealed.
 pub fn append_to<T: Turns, C: Chooser>(
@@ -30,6 +30,7 @@ pub fn append_to<T: Turns, C: Chooser>(
     ensures later { Later T.Law.may T.Law.floor T.Law.shelf (T.seen turns.old) (T.seen turns.new) }
     ensures who { T.who turns.new ≡ T.who turns.old }
     ensures sealed { IfOk result (λ o. IfNone o (((state_of (T.seen turns.new)).cells segment.id).told.sealed ≡ true)) }
+    ensures retry { IfOk result (λ o. IfNone o (FirstTurn (T.who turns.old) (T.seen turns.old) (T.seen turns.new))) }
     ensures stands { IfOk result (λ o. IfSome o (λ pos. Stands (state_of (T.seen turns.new)) pos entry.now)) }
     ensures above { IfOk result (λ o. IfSome o (λ pos. IsAbove (T.who turns.old) (T.seen turns.old) pos (T.seen turns.new))) }
     ensures reached { IfOk result (λ o. IfSome o (λ pos. pos + 1 ≤ segment.start + ((state_of (T.seen turns.new)).cells segment.id).told.reach)) }
@@ -50,10 +51,39 @@ pub fn append_to<T: Turns, C: Chooser>(
     }
 }
 
-/// The tail of the loglet of this segment, which some chain had: open or sealed.
+/// The tail of a loglet.
+#[derive(Clone, Copy, PartialEq, Eq, Debug)]
 pub enum FoundTail {
-    /// The position of the tail in the log.
+    /// The loglet takes entries. Its tail is this position of the log.
     Open(u64),
-    /// The length of the sealed loglet.
+    /// The loglet is sealed at this length.
     Sealed(u64),
+}
+
+/// Finds the tail of the loglet of this segment, which some chain had.
+pub fn find_tail<T: Turns, C: Chooser>(
+    turns: &mut T,
+    chooser: &mut C,
+    segment: Segment,
+) -> Result<FoundTail, Fault>
+    requires legal { IsLegal T.Law.may T.Law.floor T.Law.shelf (T.seen turns.old) }
+    requires started { (state_of (T.seen turns.old)).starts segment.id ≡ Some segment.start }
+    ensures later { Later T.Law.may T.Law.floor T.Law.shelf (T.seen turns.old) (T.seen turns.new) }
+    ensures who { T.who turns.new ≡ T.who turns.old }
+    ensures found { IfOk result (IsFound (T.who turns.old) (T.seen turns.old) segment (T.seen turns.new)) }
+    ensures shut { ((state_of (T.seen turns.old)).cells segment.id).told.sealed ≡ true → IfOk result IsSealedTail }
+    ensures err { IfErr result (λ fault. HasCause (T.who turns.old) (T.seen turns.old) fault (T.seen turns.new)) }
+{
+    let ticket = begin(turns, segment.id, Op::Tail)?;
+    match carry_on(turns, chooser, segment.id, ticket)? {
+        Answer::OpenTail(length) => return Ok(FoundTail::Open(segment.start + length)),
+        Answer::SealedTail(length) => return Ok(FoundTail::Sealed(length)),
+        Answer::NoQuorum { unreached } => {
+            return Err(Fault::NoQuorum {
+                id: segment.id,
+                unreached,
+            });
+        }
+        _ => return Err(Fault::Memory),
+    }
 }

@@ -6,6 +6,8 @@ ghost use Rattle.legal_journal.specs.Turns.{MayTurn};
 ghost use Rattle.virtual_log.specs.Turning.{Later, Looked, Opened, Answered};
 ghost use Rattle.virtual_log.specs.Causes.{HasCause};
 
+use crate::chooser::Chooser;
+use crate::fault::Fault;
 use delos_types::chain::Chain;
 use delos_types::numbers::Ticket;
 use legal_journal::events::{FabricAnswer, FabricCall};
@@ -13,9 +15,6 @@ use legal_journal::rules::Rules;
 use legal_journal::turns::Turns;
 use loglet_api::call::{Answer, Op};
 use std::alloc::AllocError;
-
-use crate::chooser::Chooser;
-use crate::fault::Fault;
 
 /// Reads the chain.
 pub fn look<T: Turns>(turns: &mut T) -> Result<(u64, Chain), Fault>

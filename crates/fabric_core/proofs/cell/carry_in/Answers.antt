@@ -1,4 +1,4 @@
-use Rattle.std.proofs.Common.{◌≡◌, ◌∙◌, ◌++◌, ◌∷◌, [], List, inl, ap, sym, subst, Option, Ok, false}
+use Rattle.std.proofs.Common.{◌∙◌, ◌++◌, ◌∷◌, [], List, inl, ap, subst, Option, Ok, false}
 use Rattle.std.specs.Prelude.{slice_set}
 use Rattle.loglet_api.specs.declared.call.Answer.{Answer}
 use Rattle.legal_journal.specs.declared.events.Event.{Event}
@@ -15,7 +15,10 @@ returns-in_default-copy_of g c =
     let once = subst (λ (r : Option Answer). CarriedOnce old c.args.ticket c.args.word (Ok r) new) c.in-Some.is c.in-Ok.ensures in
     let dropped = got_dropped old new c.args.ticket c.args.word c.in-Some.answer c.in_default-copy_of.ensures.err once in
     inl (record {
-      steps = dropped.0; are = dropped.1; run = dropped.2; missed = tt;
+      steps = dropped.0;
+      are = dropped.1;
+      run = dropped.2;
+      missed = tt;
       marked = ap (λ n. slice_set c.args.marks.now.items n false) c.number.ensures;
       recorded = c.push_reserved-in_default-copy_of.ensures.items ∙ ap (λ (l : List Event). l ++ record { who = c.args.who; call = Carry c.args.cell c.args.ticket c.args.word; answer = Memory } ∷ []) c.reserve.ensures.items;
     })

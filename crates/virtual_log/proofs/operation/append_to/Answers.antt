@@ -1,17 +1,15 @@
-use Rattle.std.proofs.Common.{◌≡◌, ◌∙◌, ℕ, ◌+◌, ◌<◌, ◌≤◌, ◌++◌, length, sym, subst, ap, Some, List, arith}
+use Rattle.std.proofs.Common.{◌+◌, ◌++◌, sym, subst, arith}
 use Rattle.delos_types.specs.declared.entry.Entry.{Entry}
 use Rattle.delos_types.specs.Spelling.{IsSpellable}
 use Rattle.loglet_api.specs.declared.call.Op.TheVariants.{Append}
 use Rattle.loglet_api.specs.declared.call.Answer.{Answer}
-use Rattle.loglet_api.specs.declared.call.Answer.TheVariants.{NoQuorum}
 use Rattle.legal_journal.specs.Told.{started}
 use Rattle.legal_journal.specs.Journal.{state_of}
 use Rattle.legal_journal.specs.Laws.{Stands}
-use Rattle.virtual_log.specs.Turning.{Answered, HasEvent, IsAnswer}
-use Rattle.virtual_log.specs.Causes.{HasCause}
+use Rattle.virtual_log.specs.Turning.{Answered}
 use Rattle.virtual_log.specs.declared.fault.Fault.TheVariants as fault
-use Rattle.virtual_log.proofs.OneTurn.{own_by, lack_cause, cause_since}
-use Rattle.virtual_log.proofs.Appending.{may_append, started_within, placed_ok, Placing, sealed_ok}
+use Rattle.virtual_log.proofs.OneTurn.{own_by, lack_cause, cause_since, first_later}
+use Rattle.virtual_log.proofs.Appending.{may_append, started_within, placed_ok, sealed_ok}
 use Rattle.virtual_log.proofs.operation.append_to.Goals as goal
 
 pub begin-requires : goal.begin-requires
@@ -19,9 +17,9 @@ begin-requires g c =
     let p = g.T.Law.Rules in
     let t = g.T.Turns in
     may_append p.may p.floor p.shelf (t.who c.args.turns.now) (t.seen c.args.turns.now) c.args.segment.id c.in_ok-copy.copy
-        (started_within p.may p.floor p.shelf (t.seen c.args.turns.now) c.args.segment.id c.args.segment.start c.requires.legal c.requires.started)
-        (subst (λ (e : Entry). p.may (t.who c.args.turns.now) e) (sym c.in_ok-copy.ensures.cases) c.requires.may)
-        (subst IsSpellable (sym c.in_ok-copy.ensures.cases) c.requires.spelled)
+    (started_within p.may p.floor p.shelf (t.seen c.args.turns.now) c.args.segment.id c.args.segment.start c.requires.legal c.requires.started)
+    (subst (λ (e : Entry). p.may (t.who c.args.turns.now) e) (sym c.in_ok-copy.ensures.cases) c.requires.may)
+    (subst IsSpellable (sym c.in_ok-copy.ensures.cases) c.requires.spelled)
 
 pub carry_on-requires-clause-cell : goal.carry_on-requires-clause-cell
 carry_on-requires-clause-cell g c =
@@ -36,11 +34,11 @@ overflow_add-result g c =
     let mid = t.seen c.begin.new.turns in
     let new = t.seen c.carry_on.new.turns in
     let o = c.in_ok-ticket.ensures.ok in
-    let r = started ((state_of (t.seen c.args.turns.now ++ o.others)).cells c.args.segment.id).told (Append c.in_ok-copy.copy) in
+    let r = started ((state_of (t.seen c.args.turns.now ++ o.first.others)).cells c.args.segment.id).told (Append c.in_ok-copy.copy) in
     let x = subst (λ (a : Answer). Answered who mid c.args.segment.id c.in_ok-ticket.ticket r a new) c.in-Placed.is
-        (subst (λ k. Answered k mid c.args.segment.id c.in_ok-ticket.ticket r c.in_ok-place.field-0 new) c.in_ok-ticket.ensures.who (c.in_ok-place.ensures.ok r (own_by _ _ _ _ _ c.in_ok-ticket.ensures.who o.own))) in
+    (subst (λ k. Answered k mid c.args.segment.id c.in_ok-ticket.ticket r c.in_ok-place.field-0 new) c.in_ok-ticket.ensures.who (c.in_ok-place.ensures.ok r (own_by _ _ _ _ _ c.in_ok-ticket.ensures.who o.own))) in
     let k = placed_ok p.may p.floor p.shelf who (t.seen c.args.turns.now) mid new c.args.segment.id c.args.segment.start c.in_ok-ticket.ticket c.in-Placed.place c.in_ok-copy.copy
-        c.requires.legal c.requires.started c.in_ok-ticket.ensures.later c.in_ok-place.ensures.later o x in
+    c.requires.legal c.requires.started c.in_ok-ticket.ensures.later c.in_ok-place.ensures.later o x in
     omega (arith, k.fits)
 
 pub returns-in-Placed-clause-stands : goal.returns-in-Placed-clause-stands
@@ -51,11 +49,11 @@ returns-in-Placed-clause-stands g c =
     let mid = t.seen c.begin.new.turns in
     let new = t.seen c.carry_on.new.turns in
     let o = c.in_ok-ticket.ensures.ok in
-    let r = started ((state_of (t.seen c.args.turns.now ++ o.others)).cells c.args.segment.id).told (Append c.in_ok-copy.copy) in
+    let r = started ((state_of (t.seen c.args.turns.now ++ o.first.others)).cells c.args.segment.id).told (Append c.in_ok-copy.copy) in
     let x = subst (λ (a : Answer). Answered who mid c.args.segment.id c.in_ok-ticket.ticket r a new) c.in-Placed.is
-        (subst (λ k. Answered k mid c.args.segment.id c.in_ok-ticket.ticket r c.in_ok-place.field-0 new) c.in_ok-ticket.ensures.who (c.in_ok-place.ensures.ok r (own_by _ _ _ _ _ c.in_ok-ticket.ensures.who o.own))) in
+    (subst (λ k. Answered k mid c.args.segment.id c.in_ok-ticket.ticket r c.in_ok-place.field-0 new) c.in_ok-ticket.ensures.who (c.in_ok-place.ensures.ok r (own_by _ _ _ _ _ c.in_ok-ticket.ensures.who o.own))) in
     let k = placed_ok p.may p.floor p.shelf who (t.seen c.args.turns.now) mid new c.args.segment.id c.args.segment.start c.in_ok-ticket.ticket c.in-Placed.place c.in_ok-copy.copy
-        c.requires.legal c.requires.started c.in_ok-ticket.ensures.later c.in_ok-place.ensures.later o x in
+    c.requires.legal c.requires.started c.in_ok-ticket.ensures.later c.in_ok-place.ensures.later o x in
     subst (λ (e : Entry). Stands (state_of new) (c.args.segment.start + c.in-Placed.place) e) c.in_ok-copy.ensures.cases k.stands
 
 pub returns-in-Placed-clause-above : goal.returns-in-Placed-clause-above
@@ -66,11 +64,11 @@ returns-in-Placed-clause-above g c =
     let mid = t.seen c.begin.new.turns in
     let new = t.seen c.carry_on.new.turns in
     let o = c.in_ok-ticket.ensures.ok in
-    let r = started ((state_of (t.seen c.args.turns.now ++ o.others)).cells c.args.segment.id).told (Append c.in_ok-copy.copy) in
+    let r = started ((state_of (t.seen c.args.turns.now ++ o.first.others)).cells c.args.segment.id).told (Append c.in_ok-copy.copy) in
     let x = subst (λ (a : Answer). Answered who mid c.args.segment.id c.in_ok-ticket.ticket r a new) c.in-Placed.is
-        (subst (λ k. Answered k mid c.args.segment.id c.in_ok-ticket.ticket r c.in_ok-place.field-0 new) c.in_ok-ticket.ensures.who (c.in_ok-place.ensures.ok r (own_by _ _ _ _ _ c.in_ok-ticket.ensures.who o.own))) in
+    (subst (λ k. Answered k mid c.args.segment.id c.in_ok-ticket.ticket r c.in_ok-place.field-0 new) c.in_ok-ticket.ensures.who (c.in_ok-place.ensures.ok r (own_by _ _ _ _ _ c.in_ok-ticket.ensures.who o.own))) in
     (placed_ok p.may p.floor p.shelf who (t.seen c.args.turns.now) mid new c.args.segment.id c.args.segment.start c.in_ok-ticket.ticket c.in-Placed.place c.in_ok-copy.copy
-        c.requires.legal c.requires.started c.in_ok-ticket.ensures.later c.in_ok-place.ensures.later o x).above
+    c.requires.legal c.requires.started c.in_ok-ticket.ensures.later c.in_ok-place.ensures.later o x).above
 
 pub returns-in-Placed-clause-reached : goal.returns-in-Placed-clause-reached
 returns-in-Placed-clause-reached g c =
@@ -80,21 +78,21 @@ returns-in-Placed-clause-reached g c =
     let mid = t.seen c.begin.new.turns in
     let new = t.seen c.carry_on.new.turns in
     let o = c.in_ok-ticket.ensures.ok in
-    let r = started ((state_of (t.seen c.args.turns.now ++ o.others)).cells c.args.segment.id).told (Append c.in_ok-copy.copy) in
+    let r = started ((state_of (t.seen c.args.turns.now ++ o.first.others)).cells c.args.segment.id).told (Append c.in_ok-copy.copy) in
     let x = subst (λ (a : Answer). Answered who mid c.args.segment.id c.in_ok-ticket.ticket r a new) c.in-Placed.is
-        (subst (λ k. Answered k mid c.args.segment.id c.in_ok-ticket.ticket r c.in_ok-place.field-0 new) c.in_ok-ticket.ensures.who (c.in_ok-place.ensures.ok r (own_by _ _ _ _ _ c.in_ok-ticket.ensures.who o.own))) in
+    (subst (λ k. Answered k mid c.args.segment.id c.in_ok-ticket.ticket r c.in_ok-place.field-0 new) c.in_ok-ticket.ensures.who (c.in_ok-place.ensures.ok r (own_by _ _ _ _ _ c.in_ok-ticket.ensures.who o.own))) in
     (placed_ok p.may p.floor p.shelf who (t.seen c.args.turns.now) mid new c.args.segment.id c.args.segment.start c.in_ok-ticket.ticket c.in-Placed.place c.in_ok-copy.copy
-        c.requires.legal c.requires.started c.in_ok-ticket.ensures.later c.in_ok-place.ensures.later o x).reached
+    c.requires.legal c.requires.started c.in_ok-ticket.ensures.later c.in_ok-place.ensures.later o x).reached
 
 pub returns-in-Sealed-clause-sealed : goal.returns-in-Sealed-clause-sealed
 returns-in-Sealed-clause-sealed g c =
     let p = g.T.Law.Rules in
     let t = g.T.Turns in
     let o = c.in_ok-ticket.ensures.ok in
-    let r = started ((state_of (t.seen c.args.turns.now ++ o.others)).cells c.args.segment.id).told (Append c.in_ok-copy.copy) in
+    let r = started ((state_of (t.seen c.args.turns.now ++ o.first.others)).cells c.args.segment.id).told (Append c.in_ok-copy.copy) in
     sealed_ok p.may p.floor p.shelf (t.who c.begin.new.turns) (t.seen c.begin.new.turns) (t.seen c.carry_on.new.turns) c.args.segment.id c.in_ok-ticket.ticket r
-        (subst (λ (a : Answer). Answered (t.who c.begin.new.turns) (t.seen c.begin.new.turns) c.args.segment.id c.in_ok-ticket.ticket r a (t.seen c.carry_on.new.turns)) c.in-Sealed.is
-            (c.in_ok-place.ensures.ok r (own_by _ _ _ _ _ c.in_ok-ticket.ensures.who o.own)))
+    (subst (λ (a : Answer). Answered (t.who c.begin.new.turns) (t.seen c.begin.new.turns) c.args.segment.id c.in_ok-ticket.ticket r a (t.seen c.carry_on.new.turns)) c.in-Sealed.is
+    (c.in_ok-place.ensures.ok r (own_by _ _ _ _ _ c.in_ok-ticket.ensures.who o.own)))
 
 pub returns-in-NoQuorum-clause-err : goal.returns-in-NoQuorum-clause-err
 returns-in-NoQuorum-clause-err g c =
@@ -104,8 +102,13 @@ returns-in-NoQuorum-clause-err g c =
     let mid = t.seen c.begin.new.turns in
     let new = t.seen c.carry_on.new.turns in
     let o = c.in_ok-ticket.ensures.ok in
-    let r = started ((state_of (t.seen c.args.turns.now ++ o.others)).cells c.args.segment.id).told (Append c.in_ok-copy.copy) in
+    let r = started ((state_of (t.seen c.args.turns.now ++ o.first.others)).cells c.args.segment.id).told (Append c.in_ok-copy.copy) in
     let x = subst (λ (a : Answer). Answered who mid c.args.segment.id c.in_ok-ticket.ticket r a new) c.in-NoQuorum.is
-        (subst (λ k. Answered k mid c.args.segment.id c.in_ok-ticket.ticket r c.in_ok-place.field-0 new) c.in_ok-ticket.ensures.who (c.in_ok-place.ensures.ok r (own_by _ _ _ _ _ c.in_ok-ticket.ensures.who o.own))) in
+    (subst (λ k. Answered k mid c.args.segment.id c.in_ok-ticket.ticket r c.in_ok-place.field-0 new) c.in_ok-ticket.ensures.who (c.in_ok-place.ensures.ok r (own_by _ _ _ _ _ c.in_ok-ticket.ensures.who o.own))) in
     cause_since who (fault.NoQuorum c.args.segment.id c.in-NoQuorum.unreached) (t.seen c.args.turns.now) mid new c.in_ok-ticket.ensures.later.more c.in_ok-ticket.ensures.later.seen
-        (lack_cause who c.args.segment.id c.in_ok-ticket.ticket c.in-NoQuorum.unreached mid new x.event)
+    (lack_cause who c.args.segment.id c.in_ok-ticket.ticket c.in-NoQuorum.unreached mid new x.event)
+
+pub returns-in-Sealed-clause-retry : goal.returns-in-Sealed-clause-retry
+returns-in-Sealed-clause-retry g c =
+    let t = g.T.Turns in
+    first_later (t.who c.args.turns.now) (t.seen c.args.turns.now) (t.seen c.begin.new.turns) (t.seen c.carry_on.new.turns) c.in_ok-place.ensures.later.more c.in_ok-place.ensures.later.seen c.in_ok-ticket.ensures.ok.first

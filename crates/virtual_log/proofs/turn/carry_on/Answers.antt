@@ -1,9 +1,7 @@
-use Rattle.std.proofs.Common.{◌≡◌, ◌∙◌, ℕ, ◌+◌, ◌<◌, ◌≤◌, sym, subst, arith}
-use Rattle.loglet_api.specs.declared.call.Answer.{Answer}
-use Rattle.legal_journal.specs.Told.{Running}
-use Rattle.legal_journal.specs.Journal.{state_of, IsOwn, patience}
+use Rattle.std.proofs.Common.{◌∙◌, sym, subst, arith}
+use Rattle.legal_journal.specs.Journal.{state_of, IsOwn}
 use Rattle.virtual_log.specs.Turning.{Answered}
-use Rattle.virtual_log.proofs.OneTurn.{may_carry, going_ok, done_ok, answered_since, turn_later, later_refl, later_trans}
+use Rattle.virtual_log.proofs.OneTurn.{may_carry, going_ok, done_ok, answered_since, turn_later, later_trans}
 use Rattle.virtual_log.proofs.turn.carry_on.Goals as goal
 
 pub turn-requires : goal.turn-requires
@@ -13,7 +11,7 @@ turn-requires g c =
     let l = c.loop-answer in
     let r = c.requires.own.0 in
     may_carry p.may p.floor p.shelf (t.who l.turns) (t.seen l.turns) (t.seen l.turns) c.args.cell c.args.ticket c.word-word.result r c.requires.cell l.invariant.later.legal
-        (subst (λ k. IsOwn ((state_of (t.seen l.turns)).cells c.args.cell) k c.args.ticket r) (sym l.invariant.who) (l.invariant.own r c.requires.own.1))
+    (subst (λ k. IsOwn ((state_of (t.seen l.turns)).cells c.args.cell) k c.args.ticket r) (sym l.invariant.who) (l.invariant.own r c.requires.own.1))
 
 pub returns-in-Done-clause-ok : goal.returns-in-Done-clause-ok
 returns-in-Done-clause-ok g c = λ r h.
@@ -22,9 +20,9 @@ returns-in-Done-clause-ok g c = λ r h.
     let l = c.loop-answer in
     let now = t.seen c.turn.new.self in
     let done = done_ok p.may p.floor p.shelf (t.who l.turns) (t.seen l.turns) now c.args.cell c.args.ticket c.word-word.result r c.in-Done.answer l.invariant.later.legal c.in-Done.ensures.turn
-        (subst (λ k. IsOwn ((state_of (t.seen l.turns)).cells c.args.cell) k c.args.ticket r) (sym l.invariant.who) (l.invariant.own r h)) in
+    (subst (λ k. IsOwn ((state_of (t.seen l.turns)).cells c.args.cell) k c.args.ticket r) (sym l.invariant.who) (l.invariant.own r h)) in
     answered_since (t.who c.args.turns.now) (t.seen c.args.turns.now) (t.seen l.turns) now c.args.cell c.args.ticket r c.in-Done.answer l.invariant.later.more l.invariant.later.seen
-        (subst (λ k. Answered k (t.seen l.turns) c.args.cell c.args.ticket r c.in-Done.answer now) l.invariant.who done)
+    (subst (λ k. Answered k (t.seen l.turns) c.args.cell c.args.ticket r c.in-Done.answer now) l.invariant.who done)
 
 pub loop-answer-smaller : goal.loop-answer-smaller
 loop-answer-smaller g c =
@@ -33,7 +31,7 @@ loop-answer-smaller g c =
     let l = c.loop-answer in
     let r = c.requires.own.0 in
     let k = going_ok p.may p.floor p.shelf (t.who l.turns) (t.seen l.turns) (t.seen c.turn.new.self) c.args.cell c.args.ticket c.word-word.result r l.invariant.later.legal c.in-Going.ensures.turn
-        (subst (λ x. IsOwn ((state_of (t.seen l.turns)).cells c.args.cell) x c.args.ticket r) (sym l.invariant.who) (l.invariant.own r c.requires.own.1)) in
+    (subst (λ x. IsOwn ((state_of (t.seen l.turns)).cells c.args.cell) x c.args.ticket r) (sym l.invariant.who) (l.invariant.own r c.requires.own.1)) in
     omega (arith, k.1.0, k.1.1)
 
 pub loop-answer-preserved : goal.loop-answer-preserved
@@ -46,6 +44,6 @@ loop-answer-preserved g c =
       who = c.turn.ensures.who ∙ l.invariant.who;
       own = λ r h.
           subst (λ x. IsOwn ((state_of (t.seen c.turn.new.self)).cells c.args.cell) x c.args.ticket r) l.invariant.who
-              (going_ok p.may p.floor p.shelf (t.who l.turns) (t.seen l.turns) (t.seen c.turn.new.self) c.args.cell c.args.ticket c.word-word.result r l.invariant.later.legal c.in-Going.ensures.turn
-                  (subst (λ x. IsOwn ((state_of (t.seen l.turns)).cells c.args.cell) x c.args.ticket r) (sym l.invariant.who) (l.invariant.own r h))).0;
+          (going_ok p.may p.floor p.shelf (t.who l.turns) (t.seen l.turns) (t.seen c.turn.new.self) c.args.cell c.args.ticket c.word-word.result r l.invariant.later.legal c.in-Going.ensures.turn
+          (subst (λ x. IsOwn ((state_of (t.seen l.turns)).cells c.args.cell) x c.args.ticket r) (sym l.invariant.who) (l.invariant.own r h))).0;
     }

@@ -1,10 +1,10 @@
-use Rattle.std.proofs.Common.{◌≡◌, ◌<◌, ℕ, List, length, Bool, map, set, refl, sym, subst, arith}
+use Rattle.std.proofs.Common.{map, set, refl, sym, subst, arith}
 use Rattle.std.proofs.lemmas.Option.{slice_get_read}
 use Rattle.legal_journal.specs.declared.events.FabricCall.TheVariants.{Begin}
 use Rattle.legal_journal.specs.Journal.{state_of}
 use Rattle.legal_journal.specs.Turns.{MayCall}
 use Rattle.fabric_core.specs.Fabric.{FabricView, Keeps}
-use Rattle.fabric_core.proofs.Shelf.{Goes, cell_within, marks_within, begun}
+use Rattle.fabric_core.proofs.Shelf.{cell_within, marks_within, begun}
 use Rattle.fabric_core.proofs.fabric.Fabric.begin.Goals as goal
 
 pub index_mut-requires-2 : goal.index_mut-requires-2
@@ -21,7 +21,7 @@ invariant_of-self g c =
     let at = slice_get_read s.cells.items _ c.args.cell c.index_mut.result.now refl (cell_within p.may p.floor p.shelf g.L.Loglet.view (λ m. m.items) s.cells.items s.marks.items (g.R.Register.shows s.register) s.journal.items c.self.invariant c.args.cell can.there) c.index_mut.ensures.value in
     let marked = slice_get_read s.marks.items _ c.args.cell c.index_mut-2.result.now refl (marks_within p.may p.floor p.shelf g.L.Loglet.view (λ m. m.items) s.cells.items s.marks.items (g.R.Register.shows s.register) s.journal.items c.self.invariant c.args.cell can.there) c.index_mut-2.ensures.value in
     (begun p.may p.floor p.shelf g.L.Loglet.view (λ m. m.items) s.cells.items s.marks.items (g.R.Register.shows s.register) s.journal.items c.self.invariant c.args.cell c.index_mut.result.now c.index_mut-2.result.now at marked c.begin_in.new.loglet c.begin_in.new.marks c.begin_in.new.journal.items
-        c.args.who c.args.op c.begin_in.result can c.begin_in.ensures).now
+    c.args.who c.args.op c.begin_in.result can c.begin_in.ensures).now
 
 pub returns : goal.returns
 returns g c =
@@ -32,5 +32,5 @@ returns g c =
     let marked = slice_get_read s.marks.items _ c.args.cell c.index_mut-2.result.now refl (marks_within p.may p.floor p.shelf g.L.Loglet.view (λ m. m.items) s.cells.items s.marks.items (g.R.Register.shows s.register) s.journal.items c.self.invariant c.args.cell can.there) c.index_mut-2.ensures.value in
     let now : FabricView = record { cells = map g.L.Loglet.view (set s.cells.items c.args.cell c.begin_in.new.loglet); register = g.R.Register.shows s.register; journal = c.begin_in.new.journal.items } in
     subst (λ (f : FabricView). Keeps p.may p.floor p.shelf f c.args.who (Begin c.args.cell c.args.op) c.begin_in.result now) c.self.view_is
-        (begun p.may p.floor p.shelf g.L.Loglet.view (λ m. m.items) s.cells.items s.marks.items (g.R.Register.shows s.register) s.journal.items c.self.invariant c.args.cell c.index_mut.result.now c.index_mut-2.result.now at marked c.begin_in.new.loglet c.begin_in.new.marks c.begin_in.new.journal.items
-            c.args.who c.args.op c.begin_in.result can c.begin_in.ensures).keeps
+    (begun p.may p.floor p.shelf g.L.Loglet.view (λ m. m.items) s.cells.items s.marks.items (g.R.Register.shows s.register) s.journal.items c.self.invariant c.args.cell c.index_mut.result.now c.index_mut-2.result.now at marked c.begin_in.new.loglet c.begin_in.new.marks c.begin_in.new.journal.items
+    c.args.who c.args.op c.begin_in.result can c.begin_in.ensures).keeps

@@ -1,4 +1,4 @@
-use Rattle.std.proofs.Common.{◌≡◌, ◌<◌, ℕ, Some, sym, subst}
+use Rattle.std.proofs.Common.{◌≡◌, ℕ, Some, subst}
 use Rattle.std.specs.Prelude.{slice_get}
 use Rattle.loglet_api.specs.View.{LogletView}
 use Rattle.fabric_core.specs.Runs.{HasRun}

@@ -1,4 +1,4 @@
-use Rattle.std.proofs.Common.{◌≡◌, List, length, [], sym, subst, arith, map}
+use Rattle.std.proofs.Common.{◌≡◌, List, length, sym, subst, arith, map}
 use Rattle.legal_journal.specs.declared.events.Event.{Event}
 use Rattle.fabric_core.specs.Fabric.{FabricOk}
 use Rattle.fabric_core.proofs.Opening.{opened}
@@ -11,4 +11,4 @@ invariant_of-result g c =
     let m = c.in-Ok.marks.items in
     let count : length m ≡ length c.args.cells.items = omega (arith, c.in-Ok.ensures.count, c.len.ensures) in
     subst (λ (j : List Event). FabricOk p.may p.floor p.shelf (record { cells = map g.L.Loglet.view c.args.cells.items; register = g.R.Register.shows c.args.register; journal = j }) (map (λ m. m.items) m)) (sym c.new.ensures.items)
-        (opened p.may p.floor p.shelf g.L.Loglet.view (λ m. m.items) c.args.cells.items m (g.R.Register.shows c.args.register) r.least r.most r.shelf r.fresh r.sound r.register count c.in-Ok.ensures.none)
+    (opened p.may p.floor p.shelf g.L.Loglet.view (λ m. m.items) c.args.cells.items m (g.R.Register.shows c.args.register) r.least r.most r.shelf r.fresh r.sound r.register count c.in-Ok.ensures.none)

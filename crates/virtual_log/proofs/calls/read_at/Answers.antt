@@ -1,0 +1,104 @@
+use Rattle.std.proofs.Common.{◌++◌, length, subst}
+use Rattle.loglet_api.specs.declared.call.Op.TheVariants.{Read}
+use Rattle.loglet_api.specs.declared.call.Answer.{Answer}
+use Rattle.legal_journal.specs.Told.{started}
+use Rattle.legal_journal.specs.Journal.{state_of}
+use Rattle.legal_journal.proofs.Legal.{sound}
+use Rattle.legal_journal.proofs.Chains.{chain_ok}
+use Rattle.virtual_log.specs.Turning.{Answered}
+use Rattle.virtual_log.specs.declared.fault.Fault.TheVariants as fault
+use Rattle.virtual_log.proofs.OneTurn.{own_by, lack_cause, cause_since}
+use Rattle.virtual_log.proofs.Appending.{may_read, started_within}
+use Rattle.virtual_log.proofs.Reading.{place_of, got_ok, cut_ok}
+use Rattle.virtual_log.proofs.calls.read_at.Goals as goal
+
+pub locate-requires : goal.locate-requires
+locate-requires g c =
+    let p = g.T.Law.Rules in
+    let t = g.T.Turns in
+    let k = c.args.known.now in
+    let old = t.seen c.args.turns.now in
+    let ok = sound p.may p.floor p.shelf old c.requires.legal in
+    chain_ok (length p.shelf) (state_of old) k.version k.chain ok c.requires.goes_by.given
+
+pub begin-requires : goal.begin-requires
+begin-requires g c =
+    let p = g.T.Law.Rules in
+    let t = g.T.Turns in
+    let k = c.args.known.now in
+    let old = t.seen c.args.turns.now in
+    let ok = sound p.may p.floor p.shelf old c.requires.legal in
+    let id = c.in-Inside.id in
+    let index = c.in-Inside.index in
+    let place = place_of (length p.shelf) (state_of old) k.version c.args.pos id index k.chain ok c.requires.goes_by.given c.in-Inside.ensures in
+    may_read p.may p.floor p.shelf _ _ id index (started_within p.may p.floor p.shelf old id place.segment.start c.requires.legal place.started)
+
+pub carry_on-requires-clause-cell : goal.carry_on-requires-clause-cell
+carry_on-requires-clause-cell g c =
+    let p = g.T.Law.Rules in
+    let t = g.T.Turns in
+    let k = c.args.known.now in
+    let old = t.seen c.args.turns.now in
+    let ok = sound p.may p.floor p.shelf old c.requires.legal in
+    let id = c.in-Inside.id in
+    let index = c.in-Inside.index in
+    let place = place_of (length p.shelf) (state_of old) k.version c.args.pos id index k.chain ok c.requires.goes_by.given c.in-Inside.ensures in
+    started_within p.may p.floor p.shelf old id place.segment.start c.requires.legal place.started
+
+pub returns-in-Got-clause-found : goal.returns-in-Got-clause-found
+returns-in-Got-clause-found g c =
+    let p = g.T.Law.Rules in
+    let t = g.T.Turns in
+    let k = c.args.known.now in
+    let old = t.seen c.args.turns.now in
+    let ok = sound p.may p.floor p.shelf old c.requires.legal in
+    let id = c.in-Inside.id in
+    let index = c.in-Inside.index in
+    let place = place_of (length p.shelf) (state_of old) k.version c.args.pos id index k.chain ok c.requires.goes_by.given c.in-Inside.ensures in
+    let who = t.who c.args.turns.now in
+    let mid = t.seen c.begin.new.turns in
+    let new = t.seen c.carry_on.new.turns in
+    let o = c.in_ok-ticket.ensures.ok in
+    let r = started ((state_of (old ++ o.first.others)).cells id).told (Read index) in
+    let x = subst (λ (a : Answer). Answered who mid id c.in_ok-ticket.ticket r a new) c.in-Got.is
+    (subst (λ w. Answered w mid id c.in_ok-ticket.ticket r c.in_ok-entry.field-0 new) c.in_ok-ticket.ensures.who (c.in_ok-entry.ensures.ok r (own_by _ _ _ _ _ c.in_ok-ticket.ensures.who o.own))) in
+    got_ok p.may p.floor p.shelf who old mid new k.version k.tail c.args.pos id index c.in_ok-ticket.ticket k.chain c.in-Got.entry c.requires.legal c.requires.goes_by c.requires.tail place c.in_ok-ticket.ensures.later c.in_ok-entry.ensures.later o x
+
+pub returns-in-CutAt-clause-cut : goal.returns-in-CutAt-clause-cut
+returns-in-CutAt-clause-cut g c =
+    let p = g.T.Law.Rules in
+    let t = g.T.Turns in
+    let k = c.args.known.now in
+    let old = t.seen c.args.turns.now in
+    let ok = sound p.may p.floor p.shelf old c.requires.legal in
+    let id = c.in-Inside.id in
+    let index = c.in-Inside.index in
+    let place = place_of (length p.shelf) (state_of old) k.version c.args.pos id index k.chain ok c.requires.goes_by.given c.in-Inside.ensures in
+    let who = t.who c.args.turns.now in
+    let mid = t.seen c.begin.new.turns in
+    let new = t.seen c.carry_on.new.turns in
+    let o = c.in_ok-ticket.ensures.ok in
+    let r = started ((state_of (old ++ o.first.others)).cells id).told (Read index) in
+    let x = subst (λ (a : Answer). Answered who mid id c.in_ok-ticket.ticket r a new) c.in-CutAt.is
+    (subst (λ w. Answered w mid id c.in_ok-ticket.ticket r c.in_ok-entry.field-0 new) c.in_ok-ticket.ensures.who (c.in_ok-entry.ensures.ok r (own_by _ _ _ _ _ c.in_ok-ticket.ensures.who o.own))) in
+    cut_ok p.may p.floor p.shelf who old mid new c.args.pos id index c.in_ok-ticket.ticket c.in-CutAt.field-0 k.chain c.requires.legal place c.in_ok-ticket.ensures.later c.in_ok-entry.ensures.later o x
+
+pub returns-in-NoQuorum-clause-err : goal.returns-in-NoQuorum-clause-err
+returns-in-NoQuorum-clause-err g c =
+    let p = g.T.Law.Rules in
+    let t = g.T.Turns in
+    let k = c.args.known.now in
+    let old = t.seen c.args.turns.now in
+    let ok = sound p.may p.floor p.shelf old c.requires.legal in
+    let id = c.in-Inside.id in
+    let index = c.in-Inside.index in
+    let place = place_of (length p.shelf) (state_of old) k.version c.args.pos id index k.chain ok c.requires.goes_by.given c.in-Inside.ensures in
+    let who = t.who c.args.turns.now in
+    let mid = t.seen c.begin.new.turns in
+    let new = t.seen c.carry_on.new.turns in
+    let o = c.in_ok-ticket.ensures.ok in
+    let r = started ((state_of (old ++ o.first.others)).cells id).told (Read index) in
+    let x = subst (λ (a : Answer). Answered who mid id c.in_ok-ticket.ticket r a new) c.in-NoQuorum.is
+    (subst (λ w. Answered w mid id c.in_ok-ticket.ticket r c.in_ok-entry.field-0 new) c.in_ok-ticket.ensures.who (c.in_ok-entry.ensures.ok r (own_by _ _ _ _ _ c.in_ok-ticket.ensures.who o.own))) in
+    cause_since who (fault.NoQuorum id c.in-NoQuorum.unreached) old mid new c.in_ok-ticket.ensures.later.more c.in_ok-ticket.ensures.later.seen
+    (lack_cause who id c.in_ok-ticket.ticket c.in-NoQuorum.unreached mid new x.event)

@@ -1,0 +1,19 @@
+use Rattle.std.proofs.Common.{◌≡◌, ◌-◌, ◌^◌}
+use Rattle.legal_journal.specs.Journal.{state_of}
+use Rattle.virtual_log.specs.Turning.{Later}
+use Rattle.virtual_log.specs.Log.{GoesBy}
+use Rattle.virtual_log.proofs.calls.read_from.Given as goal
+
+abbrev pub invariant-trim : goal.invariant-trim
+invariant-trim g l =
+    let t = g.T.Turns in
+    let p = g.T.Law.Rules in
+    record {
+      later : Later p.may p.floor p.shelf (t.seen l.fn.turns) (t.seen l.turns);
+      who : t.who l.turns ≡ t.who l.fn.turns;
+      goes_by : GoesBy (state_of (t.seen l.turns)) l.known.version l.known.chain l.known.tail;
+      tail : l.known.tail ≡ l.fn.known.tail;
+    }
+
+abbrev pub decreases-trim : goal.decreases-trim
+decreases-trim g l = 2 ^ 38 - l.known.chain.trim

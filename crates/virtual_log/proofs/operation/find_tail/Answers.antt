@@ -1,0 +1,90 @@
+use Rattle.std.proofs.Common.{◌++◌, subst, arith}
+use Rattle.loglet_api.specs.declared.call.Op.TheVariants.{Tail}
+use Rattle.loglet_api.specs.declared.call.Answer.{Answer}
+use Rattle.legal_journal.specs.Told.{started}
+use Rattle.legal_journal.specs.Journal.{state_of}
+use Rattle.virtual_log.specs.Turning.{Answered}
+use Rattle.virtual_log.specs.declared.fault.Fault.TheVariants as fault
+use Rattle.virtual_log.proofs.OneTurn.{own_by, lack_cause, cause_since, first_later}
+use Rattle.virtual_log.proofs.Appending.{may_tail, started_within, tail_ok, end_ok, shut_ok, never_open}
+use Rattle.virtual_log.proofs.operation.find_tail.Goals as goal
+
+pub begin-requires : goal.begin-requires
+begin-requires g c =
+    let p = g.T.Law.Rules in
+    may_tail p.may p.floor p.shelf _ _ c.args.segment.id (started_within p.may p.floor p.shelf (g.T.Turns.seen c.args.turns.now) c.args.segment.id c.args.segment.start c.requires.legal c.requires.started)
+
+pub carry_on-requires-clause-cell : goal.carry_on-requires-clause-cell
+carry_on-requires-clause-cell g c =
+    let p = g.T.Law.Rules in
+    started_within p.may p.floor p.shelf (g.T.Turns.seen c.args.turns.now) c.args.segment.id c.args.segment.start c.requires.legal c.requires.started
+
+pub overflow_add-result : goal.overflow_add-result
+overflow_add-result g c =
+    let p = g.T.Law.Rules in
+    let t = g.T.Turns in
+    let who = t.who c.args.turns.now in
+    let mid = t.seen c.begin.new.turns in
+    let new = t.seen c.carry_on.new.turns in
+    let o = c.in_ok-ticket.ensures.ok in
+    let r = started ((state_of (t.seen c.args.turns.now ++ o.first.others)).cells c.args.segment.id).told Tail in
+    let x = subst (λ (a : Answer). Answered who mid c.args.segment.id c.in_ok-ticket.ticket r a new) c.in-OpenTail.is
+    (subst (λ k. Answered k mid c.args.segment.id c.in_ok-ticket.ticket r c.in_ok-length.field-0 new) c.in_ok-ticket.ensures.who (c.in_ok-length.ensures.ok r (own_by _ _ _ _ _ c.in_ok-ticket.ensures.who o.own))) in
+    let k = tail_ok p.may p.floor p.shelf who (t.seen c.args.turns.now) mid new c.args.segment.id c.args.segment.start c.in_ok-ticket.ticket c.in-OpenTail.length
+    c.requires.legal c.requires.started c.in_ok-ticket.ensures.later c.in_ok-length.ensures.later o x in
+    omega (arith, k.fits)
+
+pub returns-in-OpenTail-clause-found : goal.returns-in-OpenTail-clause-found
+returns-in-OpenTail-clause-found g c =
+    let p = g.T.Law.Rules in
+    let t = g.T.Turns in
+    let who = t.who c.args.turns.now in
+    let mid = t.seen c.begin.new.turns in
+    let new = t.seen c.carry_on.new.turns in
+    let o = c.in_ok-ticket.ensures.ok in
+    let r = started ((state_of (t.seen c.args.turns.now ++ o.first.others)).cells c.args.segment.id).told Tail in
+    let x = subst (λ (a : Answer). Answered who mid c.args.segment.id c.in_ok-ticket.ticket r a new) c.in-OpenTail.is
+    (subst (λ k. Answered k mid c.args.segment.id c.in_ok-ticket.ticket r c.in_ok-length.field-0 new) c.in_ok-ticket.ensures.who (c.in_ok-length.ensures.ok r (own_by _ _ _ _ _ c.in_ok-ticket.ensures.who o.own))) in
+    let k = tail_ok p.may p.floor p.shelf who (t.seen c.args.turns.now) mid new c.args.segment.id c.args.segment.start c.in_ok-ticket.ticket c.in-OpenTail.length
+    c.requires.legal c.requires.started c.in_ok-ticket.ensures.later c.in_ok-length.ensures.later o x in
+    (k.within, k.above, k.reached)
+
+pub returns-in-OpenTail-clause-shut : goal.returns-in-OpenTail-clause-shut
+returns-in-OpenTail-clause-shut g c = λ shut.
+    let p = g.T.Law.Rules in
+    let t = g.T.Turns in
+    let who = t.who c.args.turns.now in
+    let mid = t.seen c.begin.new.turns in
+    let new = t.seen c.carry_on.new.turns in
+    let o = c.in_ok-ticket.ensures.ok in
+    let r = started ((state_of (t.seen c.args.turns.now ++ o.first.others)).cells c.args.segment.id).told Tail in
+    let x = subst (λ (a : Answer). Answered who mid c.args.segment.id c.in_ok-ticket.ticket r a new) c.in-OpenTail.is
+    (subst (λ k. Answered k mid c.args.segment.id c.in_ok-ticket.ticket r c.in_ok-length.field-0 new) c.in_ok-ticket.ensures.who (c.in_ok-length.ensures.ok r (own_by _ _ _ _ _ c.in_ok-ticket.ensures.who o.own))) in
+    never_open p.may p.floor p.shelf who (t.seen c.args.turns.now) mid new c.args.segment.id c.in_ok-ticket.ticket c.in-OpenTail.length c.requires.legal c.in_ok-ticket.ensures.later o x shut
+
+pub returns-in-SealedTail-clause-found : goal.returns-in-SealedTail-clause-found
+returns-in-SealedTail-clause-found g c =
+    let p = g.T.Law.Rules in
+    let t = g.T.Turns in
+    let who = t.who c.args.turns.now in
+    let mid = t.seen c.begin.new.turns in
+    let new = t.seen c.carry_on.new.turns in
+    let o = c.in_ok-ticket.ensures.ok in
+    let r = started ((state_of (t.seen c.args.turns.now ++ o.first.others)).cells c.args.segment.id).told Tail in
+    let x = subst (λ (a : Answer). Answered who mid c.args.segment.id c.in_ok-ticket.ticket r a new) c.in-SealedTail.is
+    (subst (λ k. Answered k mid c.args.segment.id c.in_ok-ticket.ticket r c.in_ok-length.field-0 new) c.in_ok-ticket.ensures.who (c.in_ok-length.ensures.ok r (own_by _ _ _ _ _ c.in_ok-ticket.ensures.who o.own))) in
+    (end_ok p.may p.floor p.shelf who mid new c.args.segment.id c.in_ok-ticket.ticket c.in-SealedTail.length r x, shut_ok p.may p.floor p.shelf who mid new c.args.segment.id c.in_ok-ticket.ticket c.in-SealedTail.length r x, first_later who (t.seen c.args.turns.now) mid new c.in_ok-length.ensures.later.more c.in_ok-length.ensures.later.seen o.first)
+
+pub returns-in-NoQuorum-clause-err : goal.returns-in-NoQuorum-clause-err
+returns-in-NoQuorum-clause-err g c =
+    let p = g.T.Law.Rules in
+    let t = g.T.Turns in
+    let who = t.who c.args.turns.now in
+    let mid = t.seen c.begin.new.turns in
+    let new = t.seen c.carry_on.new.turns in
+    let o = c.in_ok-ticket.ensures.ok in
+    let r = started ((state_of (t.seen c.args.turns.now ++ o.first.others)).cells c.args.segment.id).told Tail in
+    let x = subst (λ (a : Answer). Answered who mid c.args.segment.id c.in_ok-ticket.ticket r a new) c.in-NoQuorum.is
+    (subst (λ k. Answered k mid c.args.segment.id c.in_ok-ticket.ticket r c.in_ok-length.field-0 new) c.in_ok-ticket.ensures.who (c.in_ok-length.ensures.ok r (own_by _ _ _ _ _ c.in_ok-ticket.ensures.who o.own))) in
+    cause_since who (fault.NoQuorum c.args.segment.id c.in-NoQuorum.unreached) (t.seen c.args.turns.now) mid new c.in_ok-ticket.ensures.later.more c.in_ok-ticket.ensures.later.seen
+    (lack_cause who c.args.segment.id c.in_ok-ticket.ticket c.in-NoQuorum.unreached mid new x.event)

@@ -1,0 +1,25 @@
+-- What a virtual log shows, and what holds of it.
+use Rattle.std.specs.Prelude.{◌≡◌, ℕ, ◌+◌, ◌≤◌, List, Some}
+use Rattle.delos_types.specs.declared.entry.Entry.{Entry}
+use Rattle.delos_types.specs.declared.chain.Chain.{Chain}
+use Rattle.chain_map.specs.Chain.{last_segment}
+use Rattle.legal_journal.specs.declared.events.Event.{Event}
+use Rattle.legal_journal.specs.Journal.{State, state_of, IsLegal}
+
+-- by whom its events are, the journal as far as it was seen, the greatest position + 1 or tail that it was answered, and
+-- the chain that it goes by, with its version
+pub record LogView : Type 0 where
+  pub who : ℕ
+  pub seen : List Event
+  pub known : ℕ
+  pub version : ℕ
+  pub chain : Chain
+
+-- the register gave this chain, and the answers of its last loglet reach what is known
+pub record GoesBy (w : State) (version : ℕ) (chain : Chain) (known : ℕ) : Type 0 where
+  pub given : w.register.given version ≡ Some chain
+  pub reached : known ≤ (last_segment chain).start + (w.cells (last_segment chain).id).told.reach
+
+pub record LogOk (may : ℕ → Entry → Type 0) (floor : List Entry → ℕ) (shelf : List ℕ) (v : LogView) : Type 0 where
+  pub legal : IsLegal may floor shelf v.seen
+  pub goes_by : GoesBy (state_of v.seen) v.version v.chain v.known
