@@ -6,6 +6,7 @@
 //! - `decide`: what carrying an operation comes to.
 //! - `pending`: the open operations, by ticket.
 //! - `marks`: what the loglet has told and counted.
+//! - `memory`: a file loglet on a disk in memory.
 //!
 //! The definitions stand in `specs/`: `File` (what a file loglet shows, and what ties its parts together), `State` (what
 //! holds of its fields), `Held` (what its server holds), `Later` (how the server goes on), `Pending` (open operations).
@@ -15,6 +16,7 @@ pub mod decide;
 pub mod extent;
 pub mod file;
 pub mod marks;
+pub mod memory;
 pub mod pending;
 pub mod server;
 #[cfg(test)]
