@@ -1,9 +1,9 @@
 //! The tests of which a fitting run is made: on the rows of runs, and on rows that no run gives.
+use crate::shelves::run_files;
 use delos_types::cause::Cause;
 use delos_types::numbers::{Rank, SessionId};
 use delos_types::place::Place;
 use engine_api::act::Act;
-use file_loglet::file::FileLoglet;
 use outside_ends::memory::{MemSink, MemSource};
 use row_text::row::{Outcome, Row, Who};
 use script_runner::answered::Answered;
@@ -11,8 +11,6 @@ use script_runner::fitting::{
     are_rows_of, has_first_ranks, keeps_barriers, places_dont_fall, reads_are_within,
     reads_keep_order, stand_apart, stays_stopped,
 };
-use script_runner::run::run;
-use script_runner::yard::Yard;
 use script_text::asks::{Asks, NamedLine, named_lines};
 use script_text::script::parse;
 use std::alloc::{AllocError, Global};
@@ -276,11 +274,8 @@ fn played(rt: &impl Abort, alloc: Global, script: &[u8]) -> Result<(Vec<Answered
     }
     let mut source = MemSource::new(Vec::from_slice(alloc, script)?, 64, Vec::new(alloc));
     let mut sink = MemSink::new(alloc, 4096, 64, Vec::new(alloc))?;
-    let yard = Yard {
-        shelf: FileLoglet::new(alloc, ROOM)?,
-    };
-    let ended = run(rt, alloc, words.as_slice(), &mut source, &mut sink, yard);
-    let told = ended.told.ok_or("told nothing")?;
+    let ran = run_files(rt, alloc, words.as_slice(), ROOM, &mut source, &mut sink)?;
+    let told = ran.told.ok_or("told nothing")?;
     let end = told.end;
     let rows = told.rows.into_vec();
     let mut all = Vec::new(alloc);

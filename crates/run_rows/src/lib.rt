@@ -4,5 +4,6 @@
 
 #[cfg(test)]
 mod fitting;
+pub mod shelves;
 #[cfg(test)]
 mod tests;

@@ -1,9 +1,7 @@
-ghost use Rattle.std.specs.Prelude.{◌≤◌};
+ghost use Rattle.std.specs.Prelude.{◌≤◌, ◌^◌};
 
-use file_loglet::file::FileLoglet;
+use crate::shelves::run_files;
 use outside_ends::memory::{MemSink, MemSource};
-use script_runner::run::run;
-use script_runner::yard::Yard;
 use std::alloc::Global;
 use std::process::Abort;
 use std::test::Fail;
@@ -17,15 +15,17 @@ const PUT_AND_GET_TEXT: &[u8] =
 
 const FILE_RUN: &[&str] = &["run", "--shelf", "file"];
 
-/// Which calls of the ends fail, and how many bytes each moves.
+/// Which calls of the ends fail, how many bytes each moves, and the room of each loglet.
 #[derive(Clone, Copy)]
 struct Ends<'a> {
+    room: u64,
     piece: usize,
     source_fails: &'a [u64],
     sink_fails: &'a [u64],
 }
 
 const CALM: Ends<'static> = Ends {
+    room: ROOM,
     piece: 64,
     source_fails: &[],
     sink_fails: &[],
@@ -41,7 +41,8 @@ fn ends_with(
     status: u8,
     text: &[u8],
 ) -> Result<(), Fail>
-    requires { 1 ≤ ends.now.piece }
+    requires piece { 1 ≤ ends.now.piece }
+    requires room { (1 ≤ ends.now.room) × (ends.now.room ≤ 2 ^ 32) }
 {
     let mut owned = Vec::new(alloc);
     for word in words {
@@ -51,11 +52,15 @@ fn ends_with(
     let mut source = MemSource::new(Vec::from_slice(alloc, script)?, ends.piece, failing);
     let failing = Vec::from_slice(alloc, ends.sink_fails)?;
     let mut sink = MemSink::new(alloc, 4096, ends.piece, failing)?;
-    let yard = Yard {
-        shelf: FileLoglet::new(alloc, ROOM)?,
-    };
-    let ended = run(rt, alloc, owned.as_slice(), &mut source, &mut sink, yard);
-    assert_eq!(rt; ended.status.code(), status);
+    let ran = run_files(
+        rt,
+        alloc,
+        owned.as_slice(),
+        ends.room,
+        &mut source,
+        &mut sink,
+    )?;
+    assert_eq!(rt; ran.status.code(), status);
     assert_eq!(rt; sink.as_slice(), text);
     Ok(())
 }
@@ -184,15 +189,44 @@ fn a_line_of_512_bytes_runs(rt: HostRuntime) -> Result<(), Fail> {
 fn failing_ends(rt: HostRuntime) -> Result<(), Fail> {
     let alloc = rt.alloc();
     let sink = Ends {
+        room: ROOM,
         piece: 8,
         source_fails: &[],
         sink_fails: &[2],
     };
     ends_with(&rt, alloc, FILE_RUN, PUT_AND_GET, &sink, 5, b"1 a @0.0")?;
     let source = Ends {
+        room: ROOM,
         piece: 64,
         source_fails: &[1],
         sink_fails: &[],
     };
     ends_with(&rt, alloc, FILE_RUN, PUT_AND_GET, &source, 4, b"")
+}
+
+// A loglet of room 1 refuses the second append, which stops its session and no other.
+#[test]
+fn a_full_loglet(rt: HostRuntime) -> Result<(), Fail> {
+    let alloc = rt.alloc();
+    let small = Ends {
+        room: 1,
+        piece: 64,
+        source_fails: &[],
+        sink_fails: &[],
+    };
+    let rows = [
+        (
+            &b"on n1 a put x 1\non n1 a get x\non n1 a put y 2\non n1 b get x\n"[..],
+            &b"1 a @0.0 ok\n2 a >1 = 1\n3 a open full 0\n4 b >1 = 1\nend 1\nchain v=1 trim=0\nseg 0 file 0 open\n"[..],
+        ),
+        // What follows in the session stays open, in its phase and behind the barrier.
+        (
+            b"on n1 a put x 1\non n1 a put y 2\non n1 a get x\nbarrier\non n1 a put z 3\non n1 b put z 4\non n1 b get x\n",
+            b"1 a @0.0 ok\n2 a open full 0\n3 a open full 0\n5 a open full 0\n6 b open full 0\n7 b open full 0\nend 1\nchain v=1 trim=0\nseg 0 file 0 open\n",
+        ),
+    ];
+    for (script, text) in rows {
+        ends_with(&rt, alloc, FILE_RUN, script, &small, 1, text)?;
+    }
+    Ok(())
 }

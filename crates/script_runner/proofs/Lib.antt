@@ -17,3 +17,4 @@ pub mod Counting
 pub mod ScriptLines
 pub mod Playing
 pub mod Outside
+pub mod Shelves
