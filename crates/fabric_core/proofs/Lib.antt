@@ -6,3 +6,4 @@ pub mod Kept
 pub mod Shelf
 pub mod Reading
 pub mod Opening
+pub mod Ties

@@ -3,9 +3,10 @@ ghost use Rattle.std.specs.Prelude.{◌≡◌, ℕ, ◌<◌, ◌≤◌, [], List
 ghost use Rattle.chain_map.specs.Chain.{first_chain};
 ghost use Rattle.loglet_api.specs.View.{LogletView, IsFresh};
 ghost use Rattle.loglet_api.specs.Sound.{IsSound};
-ghost use Rattle.legal_journal.specs.Journal.{IsLegal, state_of};
+ghost use Rattle.legal_journal.specs.Journal.{IsLegal, state_of, log_at, trim_of, tail_of};
 ghost use Rattle.legal_journal.specs.Turns.{MayCall};
 ghost use Rattle.fabric_core.specs.Register.{IsFreshRegister};
+ghost use Rattle.fabric_core.specs.Log.{virtual_log_at, virtual_tail};
 ghost use Rattle.fabric_core.specs.Runs.{HasRun};
 ghost use Rattle.fabric_core.specs.Fabric.{Adds, Keeps, ReadsAs};
 
@@ -21,6 +22,7 @@ use std::marker::{Model, PhantomData};
 
 /// A shelf of loglets, the register of the chain that joins them, and the journal of all events.
 /// Cell i of the shelf is the loglet of segment id i.
+#[derive(Drop)]
 pub struct Fabric<L: Loglet, R: Register, P: Rules> {
     cells: Vec<L>,
     /// By cell, by ticket: whether it is open.
@@ -70,6 +72,7 @@ fn read_in<R: Register>(register: &mut R, journal: &mut Vec<Event>, who: u32) ->
 }
 
 /// The parts of a fabric.
+#[derive(Drop)]
 pub struct Parts<L, R> {
     pub cells: Vec<L>,
     pub register: R,
@@ -133,6 +136,11 @@ impl<L: Loglet, R: Register, P: Rules> Fabric<L, R, P> {
         ensures legal { IsLegal P.may P.floor P.shelf self.now.journal }
         ensures runs { (i : ℕ) (v : LogletView) → slice_get self.now.cells i ≡ Some v → HasRun i self.now.journal v }
         ensures shelf { map (λ v. v.servers) self.now.cells ≡ P.shelf }
+
+        // What the loglets show is what the journal tells.
+        ensures shows { (pos : ℕ) → trim_of (state_of self.now.journal) ≤ pos
+            → virtual_log_at (state_of self.now.journal).register.chain self.now.cells pos ≡ log_at (state_of self.now.journal) pos }
+        ensures tail { virtual_tail (state_of self.now.journal).register.chain self.now.cells ≡ tail_of (state_of self.now.journal) }
     {
         self.journal.as_slice()
     }

@@ -8,6 +8,7 @@ use legal_journal::turns::Turns;
 use loglet_api::loglet::Loglet;
 
 /// The one user of a fabric, under its number.
+#[derive(Drop)]
 pub struct Own<L: Loglet, R: Register, P: Rules> {
     pub who: u32,
     pub fabric: Fabric<L, R, P>,

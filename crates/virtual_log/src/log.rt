@@ -21,6 +21,7 @@ use std::marker::Model;
 
 /// A log over a chain of loglets. It never answers "sealed": it finishes the replacement of a sealed
 /// loglet, whoever began it, and goes on.
+#[derive(Drop)]
 pub struct VirtualLog<T: Turns, C: Chooser> {
     alloc: Global,
     turns: T,
@@ -29,6 +30,7 @@ pub struct VirtualLog<T: Turns, C: Chooser> {
 }
 
 /// What a virtual log was made of.
+#[derive(Drop)]
 pub struct Parts<T, C> {
     pub turns: T,
     pub chooser: C,

@@ -1,0 +1,89 @@
+//! A shelf of one loglet of any kind, under a virtual log.
+ghost use Rattle.std.specs.Prelude.{◌≡◌, [], ◌∷◌};
+ghost use Rattle.delos_types.specs.Spelling.{IsSpellable};
+ghost use Rattle.loglet_api.specs.View.{IsFresh};
+
+use delos_types::entry::Entry;
+use fabric_core::fabric::Fabric;
+use fabric_core::own::Own;
+use fabric_core::register::FirstChain;
+use legal_journal::rules::Rules;
+use loglet_api::loglet::Loglet;
+use std::alloc::Global;
+use virtual_log::calls::Next;
+use virtual_log::chooser::Chooser;
+use virtual_log::fault::Fault;
+use virtual_log::log::VirtualLog;
+
+/// Who may append anything, over a shelf of one cell with one server.
+#[derive(Drop)]
+pub struct Anyone;
+
+impl Rules for Anyone {
+    ghost use Rattle.std.specs.Prelude.{[], ◌∷◌};
+
+    ghost may = { λ _ _. Unit {0} };
+
+    ghost floor = { λ _. 0 };
+
+    ghost shelf = { 1 ∷ [] };
+}
+
+/// Always the word 0.
+#[derive(Drop)]
+pub struct Zeros;
+
+impl Chooser for Zeros {
+    fn word(&mut self) -> u64 {
+        0
+    }
+}
+
+/// What the calls answered, in their order.
+#[derive(Drop)]
+pub struct Answers {
+    pub first: Result<u64, Fault>,
+    pub second: Result<u64, Fault>,
+    pub tail: Result<u64, Fault>,
+    pub known: u64,
+    pub reads: [Result<Next, Fault>; 3],
+}
+
+/// Appends the entry twice, finds the tail, and reads the positions 0, 1 and 2.
+pub fn calls_on<L: Loglet>(alloc: Global, loglet: L, entry: &Entry) -> Option<Answers>
+    requires fresh { IsFresh (L.view loglet) }
+    requires spelled { IsSpellable entry.now }
+{
+    let servers = loglet.servers();
+    if servers != 1 {
+        return None;
+    }
+    let mut cells = Vec::new(alloc);
+    if cells.push(loglet).is_err() {
+        return None;
+    }
+    let Ok(register) = FirstChain::new(alloc) else {
+        return None;
+    };
+    let Ok(fabric) = Fabric::<L, FirstChain, Anyone>::new(alloc, cells, register) else {
+        return None;
+    };
+    let _journal = fabric.journal();
+    let Ok(mut log) = VirtualLog::new(alloc, Own { who: 1, fabric }, Zeros) else {
+        return None;
+    };
+    let first = log.append(entry);
+    let second = log.append(entry);
+    let tail = log.check_tail();
+    let known = log.known();
+    let zero = log.read_next(0, 9);
+    let one = log.read_next(1, 9);
+    let two = log.read_next(2, 9);
+    Some(Answers {
+        first,
+        second,
+        tail,
+        known,
+        reads: [zero, one, two],
+    })
+}
