@@ -85,13 +85,16 @@ module _ (may : ℕ → Entry → Type 0) (floor : List Entry → ℕ) (shelf : 
   cell_at id start pos low at =
       let few : id < length f.cells = omega (arith, state_ok.ids id start at, state_ok.shelf, ap length ok.shelf_is, length-map f.cells (λ (v : LogletView). v.servers)) in
       let v = some_at f.cells id few in record {
-        view = v.0; at = v.1; told = (ok.cells id v.0 v.1).told; ok = state_ok.cell id;
+        view = v.0;
+        at = v.1;
+        told = (ok.cells id v.0 v.1).told;
+        ok = state_ok.cell id;
         low = λ up. ⊎_elim
             (λ (x : ((state_of f.journal).cells id).told.cut ≡ 0). omega arith)
             (λ (x : (s : ℕ) × ((state_of f.journal).starts id ≡ Some s) × (s + ((state_of f.journal).cells id).told.cut ≤ trim_of (state_of f.journal))).
-                let both : Some start ≡ Some x.0 = sym at ∙ x.1 in
-                let same : start ≡ x.0 = cc in
-                omega (arith, x.2))
+            let both : Some start ≡ Some x.0 = sym at ∙ x.1 in
+            let same : start ≡ x.0 = cc in
+            omega (arith, x.2))
             (state_ok.cuts id);
       }
 
@@ -103,7 +106,7 @@ module _ (may : ℕ → Entry → Type 0) (floor : List Entry → ℕ) (shelf : 
       let w = state_of f.journal in
       let ss = w.register.chain.segments in
       sym (log_to (reach w.cells) (entries w.cells) w.register.chain pos _ low
-          (sym (entry_same f.cells w pos ss (λ x h. cell_at x.id x.start pos low (current.start x.id x.start (HasStart-in x ss h))))))
+      (sym (entry_same f.cells w pos ss (λ x h. cell_at x.id x.start pos low (current.start x.id x.start (HasStart-in x ss h))))))
 
   pub tails : log.virtual_tail (state_of f.journal).register.chain f.cells ≡ tail_of (state_of f.journal)
   tails =
