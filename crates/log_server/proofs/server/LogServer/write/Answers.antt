@@ -100,6 +100,6 @@ returns-in-Err-Memory-clause-survives g c =
     let k : IsKept c.make_room.new.self i.torn i.journal = kept_same i.held c.make_room.new.self i.torn i.journal c.make_room.ensures.same c.self.invariant in
     let after : Survives (view_of c.make_room.new.self i.torn c.append.new.self) =
     kept_survives c.make_room.new.self i.torn c.append.new.self
-    (kept_moved c.make_room.new.self i.torn i.journal c.append.new.self.disk c.append.new.self k (c.append.ensures.memory (c.in-Err-Memory.is ∙ ap (λ e. Err e) c.in-Err-Memory.field-0-is)) c.append.ensures.survives) in
+    (kept_moved c.make_room.new.self i.torn i.journal c.append.new.self.disk c.append.new.self k (c.append.ensures.memory (c.in-Err-Memory.is ∙ ap (λ e. Err e) c.in-Err-Memory.field-0-is)).0 c.append.ensures.survives) in
     let Left : View → Type 0 = λ v. Survives v in
     elim c.match-ask-2.branch [ in-Store-2 w ↦ subst Left (sym w.self-is) after | in-Repair-2 w ↦ subst Left (sym w.self-is) after | in-Seal-2 w ↦ subst Left (sym w.self-is) after ]
