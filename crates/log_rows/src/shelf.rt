@@ -1,5 +1,4 @@
 //! A shelf of one loglet of any kind, under a virtual log.
-ghost use Rattle.std.specs.Prelude.{◌≡◌, [], ◌∷◌};
 ghost use Rattle.delos_types.specs.Spelling.{IsSpellable};
 ghost use Rattle.loglet_api.specs.View.{IsFresh};
 
@@ -39,14 +38,34 @@ impl Chooser for Zeros {
     }
 }
 
-/// What the calls answered, in their order.
-#[derive(Drop)]
+/// What the calls answered, in their order; of an entry that was read, its position.
+#[derive(Clone, Copy, PartialEq, Eq, Debug)]
 pub struct Answers {
     pub first: Result<u64, Fault>,
     pub second: Result<u64, Fault>,
     pub tail: Result<u64, Fault>,
     pub known: u64,
-    pub reads: [Result<Next, Fault>; 3],
+    pub zero: Read,
+    pub one: Read,
+    pub two: Read,
+}
+
+/// What a read came to.
+#[derive(Clone, Copy, PartialEq, Eq, Debug)]
+pub enum Read {
+    Nothing,
+    Trimmed(u64),
+    Found(u64),
+    Failed(Fault),
+}
+
+fn read_of(answer: Result<Next, Fault>) -> Read {
+    match answer {
+        Ok(Next::Nothing) => Read::Nothing,
+        Ok(Next::Trimmed(trim)) => Read::Trimmed(trim),
+        Ok(Next::Found(pos, _)) => Read::Found(pos),
+        Err(fault) => Read::Failed(fault),
+    }
 }
 
 /// Appends the entry twice, finds the tail, and reads the positions 0, 1 and 2.
@@ -76,14 +95,16 @@ pub fn calls_on<L: Loglet>(alloc: Global, loglet: L, entry: &Entry) -> Option<An
     let second = log.append(entry);
     let tail = log.check_tail();
     let known = log.known();
-    let zero = log.read_next(0, 9);
-    let one = log.read_next(1, 9);
-    let two = log.read_next(2, 9);
+    let zero = read_of(log.read_next(0, 9));
+    let one = read_of(log.read_next(1, 9));
+    let two = read_of(log.read_next(2, 9));
     Some(Answers {
         first,
         second,
         tail,
         known,
-        reads: [zero, one, two],
+        zero,
+        one,
+        two,
     })
 }
