@@ -1,0 +1,33 @@
+-- A register as its callers see it, and what a crash leaves of it.
+use Rattle.std.specs.Prelude.{◌≡◌, ◌⊎◌, ℕ, ◌+◌, ◌-◌, ◌^◌, min, Bool, List, Some}
+use Rattle.delos_types.specs.declared.chain.Chain.{Chain}
+use Rattle.disk_model.specs.Disk.{DiskView}
+use Rattle.journal_core.specs.Journal.{LeavesRecords}
+use Rattle.register_api.specs.View.{RegisterView}
+use Rattle.register_api.specs.Calls.{reopened}
+use Rattle.meta_register.specs.declared.standing.Standing.{Standing}
+use Rattle.meta_register.specs.Records.{standing_of}
+
+-- what every register shows, and its disk
+pub record View : Type 0 where
+  pub register : RegisterView
+  pub disk : DiskView
+
+abbrev pub standing_in_view : RegisterView → Standing
+standing_in_view v = record { version = v.version; chain = v.chain }
+
+-- these records spell what a reopening may find
+abbrev pub MayFind : RegisterView → List (List ℕ) → Type 0
+MayFind v found = (kept : Bool) × (standing_of found ≡ Some (standing_in_view (reopened v kept v.asked)))
+
+-- A crash leaves what a reopening may find. While it is up that is just what stands.
+abbrev pub Survives : View → Type 0
+Survives v = LeavesRecords v.disk (MayFind v.register)
+
+-- the faults of a disk and the answers that it was down, in a word of 64 bits that stands still at its end
+abbrev pub counted : ℕ → ℕ → ℕ
+counted faults downs = min (faults + downs) (2 ^ 64 - 1)
+
+-- what a crash inside a write may leave: what one before it may leave, or the chain under the next version
+abbrev pub MayFindDuring : RegisterView → Chain → List (List ℕ) → Type 0
+MayFindDuring v chain found = MayFind v found ⊎ (standing_of found ≡ Some (record { version = v.version + 1; chain = chain }))

@@ -1,0 +1,240 @@
+//! A register over its disk.
+ghost use Rattle.std.specs.Prelude.{◌≡◌, ◌≢◌, ℕ, ◌+◌, ◌^◌, ◌<◌, ◌≤◌, true, false, Some, None, [], IfOk, IfErr};
+ghost use Rattle.disk_model.specs.Disk.{reads, IsSynced, Rose};
+ghost use Rattle.journal_core.specs.Records.{records_of};
+ghost use Rattle.journal_core.specs.Journal.{AnyCrashLeaves};
+ghost use Rattle.chain_map.specs.Chain.{IsChain};
+ghost use Rattle.register_api.specs.View.{IsFresh};
+ghost use Rattle.register_api.specs.Calls.{Writes, Reopens};
+ghost use Rattle.meta_register.specs.Records.{standing_of, IsFirstBad};
+ghost use Rattle.meta_register.specs.View.{View, MayFind, MayFindDuring, Survives, standing_in_view};
+ghost use Rattle.meta_register.specs.Keeping.{open_fault_of};
+
+use crate::fault::{OpenFault, Refused};
+use crate::records::spell;
+use crate::replay::replay;
+use crate::standing::{Standing, settle};
+use delos_types::chain::Chain;
+use disk_model::Disk;
+use journal_core::{AppendFault, Fault, Journal};
+use register_api::{ReadAnswer, Register, WriteAnswer};
+use std::alloc::{AllocError, Global};
+use std::marker::Model;
+
+/// A register over one journal on a disk. Its faults are those of its disk, and its `Down` answers.
+///
+/// Contracts see it as a `View`: what every register shows, and its disk. A crash leaves what a reopening may find; while
+/// it is up, just what stands.
+///
+/// Cost: a read copies the chain, a write copies and spells it: at most 64 segments. A reopening reads the journal, which
+/// keeps the record of every write.
+#[derive(Drop)]
+pub struct MetaRegister<D: Disk> {
+    alloc: Global,
+    journal: Journal<D>,
+    standing: Standing,
+    /// What was given last, where that isn't what stands.
+    older: Option<Standing>,
+    asked: Option<Chain>,
+    downs: u64,
+    misses: u64,
+}
+
+impl<D: Disk> Model for MetaRegister<D> {
+    ghost use Rattle.meta_register.specs.View.{View};
+    ghost use Rattle.meta_register.specs.Keeping.{view_of, IsKept};
+
+    ghost Value = { View };
+
+    ghost view = { λ r. view_of r.standing r.older r.asked r.downs r.misses r.journal };
+
+    ghost invariant = { λ r. IsKept r.standing r.older r.asked r.journal };
+}
+
+impl<D: Disk> MetaRegister<D> {
+    /// Opens a disk on which nothing is pending: what its records spell stands, and was given last. An empty disk is a
+    /// fresh register. A refusal hands the disk back, with the same records. A crash inside leaves the same records.
+    ///
+    /// Cost: one pass over the records.
+    pub fn open_on(alloc: Global, disk: D) -> Result<MetaRegister<D>, Refused<D>>
+        requires { IsSynced (D.view disk) }
+        ensures spelled { IfOk result (λ r. standing_of (records_of (reads (D.view disk))) ≡ Some (standing_in_view r.register)) }
+        ensures up { IfOk result (λ r. (r.register.down ≡ false) × (r.register.given ≡ r.register.version) × (r.register.misses ≡ 0)) }
+        ensures fresh { records_of (reads (D.view disk)) ≡ [] → (D.view disk).faults ≡ 0 → IfOk result (λ r. IsFresh r.register) }
+        ensures survives { IfOk result Survives }
+        ensures any_crash { IfOk result (λ r. AnyCrashLeaves (D.view disk) r.disk (λ found. found ≡ records_of (reads (D.view disk)))) }
+        ensures faults { IfOk result (λ r. r.disk.faults ≡ (D.view disk).faults) }
+
+        // The first record that is none of a register's or doesn't follow is told; a disk's fault was counted.
+        ensures bad { (index : ℕ) → IfErr result (λ e. e.fault ≡ OpenFault.BadRecord index → IsFirstBad (records_of (reads (D.view disk))) index) }
+        ensures failed { IfErr result (λ e. e.fault ≡ OpenFault.Disk → Rose (D.view disk).faults (D.view e.disk).faults) }
+        ensures any_crash_refused { IfErr result (λ e. AnyCrashLeaves (D.view disk) (D.view e.disk) (λ found. found ≡ records_of (reads (D.view disk)))) }
+    {
+        let journal = match Journal::open_on(alloc, disk) {
+            Ok(journal) => journal,
+            Err(refused) => {
+                return Err(Refused {
+                    fault: fault_of(refused.fault),
+                    disk: refused.disk,
+                });
+            }
+        };
+        match replay(alloc, &journal) {
+            Ok(standing) => Ok(MetaRegister {
+                alloc,
+                journal,
+                standing,
+                older: None,
+                asked: None,
+                downs: 0,
+                misses: 0,
+            }),
+            Err(fault) => Err(Refused {
+                fault,
+                disk: journal.into_parts(),
+            }),
+        }
+    }
+
+    /// Writes a chain under the next version.
+    fn replace(&mut self, version: u64, chain: &Chain) -> Result<WriteAnswer, AllocError>
+        requires up { self.old.register.down ≡ false }
+        requires next { version ≡ self.old.register.version + 1 }
+        requires small { self.old.register.version < 2 ^ 48 }
+        requires chain { IsChain chain.now }
+        ensures writes { Writes self.old.register self.old.register.version chain.now result self.new.register }
+        ensures any_crash { AnyCrashLeaves self.old.disk self.new.disk (MayFindDuring self.old.register chain.now) }
+        ensures survives { Survives self.new }
+    {
+        let _open = &self.standing;
+        let kept = chain.clone()?;
+        let bytes = spell(self.alloc, version, chain)?;
+        match self.journal.append(bytes.as_slice()) {
+            Ok(()) => {
+                self.standing = Standing {
+                    version,
+                    chain: kept,
+                };
+                self.older = None;
+                Ok(WriteAnswer::Written(version))
+            }
+            Err(AppendFault::Disk) => {
+                self.asked = Some(kept);
+                Ok(WriteAnswer::MetaFault)
+            }
+            Err(AppendFault::Memory) => Err(AllocError),
+            Err(AppendFault::Shut) => unreachable!(),
+        }
+    }
+
+    /// The disk.
+    pub fn into_parts(self) -> D
+        ensures disk { D.view result ≡ self.disk }
+        ensures survives { Survives self }
+    {
+        let MetaRegister {
+            alloc: _,
+            journal,
+            standing: _,
+            older: _,
+            asked: _,
+            downs: _,
+            misses: _,
+        } = self;
+        journal.into_parts()
+    }
+}
+
+impl<D: Disk> Register for MetaRegister<D> {
+    ghost view = { λ r. r.register };
+
+    fn read(&mut self) -> Result<ReadAnswer, AllocError> {
+        if self.journal.is_shut() {
+            self.downs = self.downs.saturating_add(1);
+            return Ok(ReadAnswer::Down);
+        }
+        let chain = self.standing.chain.clone()?;
+        self.older = None;
+        Ok(ReadAnswer::At(self.standing.version, chain))
+    }
+
+    fn write(&mut self, expected: u64, chain: &Chain) -> Result<WriteAnswer, AllocError>
+        requires version { self.old.register.version < 2 ^ 48 }
+        requires chain { IsChain chain.now }
+        ensures writes { Writes self.old.register expected chain.now result self.new.register }
+
+        // A crash inside it leaves what one before it may leave, or the chain under the next version.
+        ensures any_crash { AnyCrashLeaves self.old.disk self.new.disk (MayFindDuring self.old.register chain.now) }
+        ensures survives { Survives self.new }
+    {
+        if self.journal.is_shut() {
+            self.downs = self.downs.saturating_add(1);
+            return Ok(WriteAnswer::Down);
+        }
+        let version = self.standing.version;
+        if expected != version {
+            let standing = self.standing.chain.clone()?;
+            self.older = None;
+            return Ok(WriteAnswer::Conflict(version, standing));
+        }
+        self.replace(version + 1, chain)
+    }
+
+    fn stop(&mut self, after: u64) {
+        self.journal.stop(after);
+    }
+
+    fn reopen(&mut self, word: u64) -> Result<bool, AllocError>
+        ensures reopens { Reopens self.old.register result self.new.register }
+
+        // A crash inside it leaves what one before it may leave.
+        ensures any_crash { AnyCrashLeaves self.old.disk self.new.disk (MayFind self.old.register) }
+        ensures survives { Survives self.new }
+    {
+        if !self.journal.is_shut() {
+            return Ok(true);
+        }
+        let before = self.journal.count();
+        match self.journal.reopen(word) {
+            Ok(()) => {
+                let done = before < self.journal.count();
+                let asked = self.asked.take();
+                settle(&mut self.standing, &mut self.older, asked, done);
+                Ok(true)
+            }
+            Err(Fault::Memory) => Err(AllocError),
+            Err(Fault::Disk) => {
+                self.misses = self.misses.saturating_add(1);
+                Ok(false)
+            }
+        }
+    }
+
+    fn version(&self) -> u64 {
+        match &self.older {
+            Some(older) => older.version,
+            None => self.standing.version,
+        }
+    }
+
+    fn faults(&self) -> u64 {
+        self.journal.disk_faults().saturating_add(self.downs)
+    }
+
+    fn misses(&self) -> u64 {
+        self.misses
+    }
+
+    fn is_down(&self) -> bool {
+        self.journal.is_shut()
+    }
+}
+
+fn fault_of(fault: Fault) -> OpenFault
+    ensures { result ≡ open_fault_of fault }
+{
+    match fault {
+        Fault::Disk => OpenFault::Disk,
+        Fault::Memory => OpenFault::Memory,
+    }
+}
