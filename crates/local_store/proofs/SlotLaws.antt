@@ -1,0 +1,238 @@
+-- What slots hold, and what changes of one slot do.
+use Rattle.std.proofs.Common.{◌≡◌, ℕ, ◌^◌, ◌<◌, Bool, true, false, cond, List, [], ◌∷◌, ◌++◌, map, length, Option, Some, None, refl, sym, ap, subst, ◌∙◌, Bor}
+use Rattle.std.specs.Option.{option_copied}
+use Rattle.std.specs.Prelude.{is_some, IsSome, IfSome, unwrap_or}
+use Rattle.std.specs.List.{AllByRecursion}
+use Rattle.std.specs.List.Sorted.{IsStrictlySortedBy}
+use Rattle.std.specs.Ordering.{eq_by_cmp, is_eq, nat_cmp, ordering_then}
+use Rattle.std.specs.declared.cmp.Ordering.{Ordering}
+use Rattle.std.specs.declared.cmp.Ordering.TheVariants.{Less, Equal, Greater}
+use Rattle.std.specs.Map.{lookup, keys_of}
+use Rattle.std.specs.BTreeMap.{is_at}
+use Rattle.std.specs.Cmp.{IsTotalOrder, nat_cmp_total, Equal-is}
+use Rattle.std.specs.Cmp.Lexicographic.{slice_cmp}
+use Rattle.std.proofs.lemmas.Cmp.{nat_list_cmp_total, eq_by_cmp_equiv, then_total, on_total}
+use Rattle.std.proofs.lemmas.Map.Lookups.{CmpEqualImpliesEq, exact_pairs, exact_unsigned, exact_bytes}
+use Rattle.std.specs.FinMap.{get, insert, remove, empty, get-empty, get-insert, get-remove, same_map}
+use Rattle.delos_types.specs.Spaces.{SpaceMap, Text, space_cmp}
+use Rattle.store_records.specs.Changing.{set_at, applied}
+use Rattle.local_store.specs.declared.key.SpaceKey.{SpaceKey}
+use Rattle.local_store.specs.Slots.{Entries, key_cmp, key_pair, slot_of, value_in, held, change_of, changes_of, AreShort, AreFit, HaveRoom}
+
+-- ---- keys
+
+pub space_total : IsTotalOrder space_cmp
+space_total = then_total (on_total (λ (p : ℕ × Text). p.0) nat_cmp_total) (on_total (λ (p : ℕ × Text). p.1) nat_list_cmp_total)
+
+pub space_exact : CmpEqualImpliesEq space_cmp
+space_exact x y e = exact_pairs nat_cmp (slice_cmp nat_cmp) exact_unsigned exact_bytes x y e
+
+pub key_total : IsTotalOrder key_cmp
+key_total = then_total (on_total (λ (k : SpaceKey). k.kind) nat_cmp_total) (on_total (λ (k : SpaceKey). k.key) nat_list_cmp_total)
+
+pub key_of : ℕ × Text → SpaceKey
+key_of p = record { kind = p.0; key = p.1 }
+
+pub same_key : (x y : SpaceKey) → key_cmp x y ≡ Equal → x ≡ y
+unfolding key_of
+same_key x y e = ap key_of (space_exact (key_pair x) (key_pair y) e)
+
+pub at_same : (x y : SpaceKey) → is_at (key_cmp x) y ≡ true → x ≡ y
+at_same x y e = same_key x y ((Equal-is (key_cmp x y)).0 e)
+
+turn : (k q : SpaceKey) → is_at (key_cmp k) q ≡ eq_by_cmp space_cmp (key_pair q) (key_pair k)
+turn k q = (eq_by_cmp_equiv space_total).symm (key_pair k) (key_pair q)
+
+-- ---- what slots hold
+
+pub get-set_at : (m : SpaceMap) (p : ℕ × Text) (o : Option Text) (q : ℕ × Text) → get (set_at m p o) q ≡ cond (eq_by_cmp space_cmp q p) o (get m q)
+get-set_at m p None q = get-remove space_total m p q
+get-set_at m p (Some v) q = get-insert space_total m p v q
+
+value_step : (b : Bool) (o r : Option Text) (slot : Option (Option Text)) → r ≡ value_in slot → cond b o r ≡ value_in (cond b (Some o) slot)
+value_step true o r slot e = refl
+value_step false o r slot e = e
+
+pub get-held : (es : Entries) (q : SpaceKey) → get (held es) (key_pair q) ≡ value_in (slot_of es q)
+get-held [] q = get-empty space_cmp (key_pair q)
+get-held (e ∷ es) q =
+    get-set_at (held es) (key_pair e.0) e.1 (key_pair q)
+    ∙ value_step (is_at (key_cmp q) e.0) e.1 (get (held es) (key_pair q)) (slot_of es q) (get-held es q)
+
+-- a key that is below all of them has no slot
+pub none_later : (x : SpaceKey) (es : Entries) → AllByRecursion (λ y. key_cmp x y ≡ Less) (keys_of es) → slot_of es x ≡ None
+none_later x [] h = refl
+none_later x (e ∷ es) h = ap (λ (r : Ordering). cond (is_eq r) (Some e.1) (slot_of es x)) h.0 ∙ none_later x es h.1
+
+applied_step : (b : Bool) (o r : Option Text) (slot : Option (Option Text)) → (b ≡ true → slot ≡ None) → unwrap_or slot (cond b o r) ≡ unwrap_or (cond b (Some o) slot) r
+applied_step true o r slot none = ap (λ (s : Option (Option Text)). unwrap_or s o) (none refl)
+applied_step false o r slot none = refl
+
+-- the keys are in order
+abbrev pub IsInOrder : Entries → Type 0
+IsInOrder es = IsStrictlySortedBy key_cmp (keys_of es)
+
+pub head_below : (e : SpaceKey × Option Text) (es : Entries) → IsInOrder (e ∷ es) → AllByRecursion (λ y. key_cmp e.0 y ≡ Less) (keys_of es)
+unfolding IsStrictlySortedBy
+head_below e es h = h.0
+
+pub tail_ordered : (e : SpaceKey × Option Text) (es : Entries) → IsInOrder (e ∷ es) → IsInOrder es
+unfolding IsStrictlySortedBy
+tail_ordered e es h = h.1
+
+-- what a space has at a key after changes at keys in order
+pub get-applied : (es : Entries) → IsInOrder es → (m : SpaceMap) (q : SpaceKey) → get (applied m (changes_of es)) (key_pair q) ≡ unwrap_or (slot_of es q) (get m (key_pair q))
+get-applied [] s m q = refl
+get-applied (e ∷ es) s m q =
+    let none : is_at (key_cmp q) e.0 ≡ true → slot_of es q ≡ None =
+    λ (b : is_at (key_cmp q) e.0 ≡ true). subst (λ (x : SpaceKey). slot_of es x ≡ None) (sym (at_same q e.0 b)) (none_later e.0 es (head_below e es s)) in
+    get-applied es (tail_ordered e es s) (set_at m (key_pair e.0) e.1) q
+    ∙ ap (λ (r : Option Text). unwrap_or (slot_of es q) r) (get-set_at m (key_pair e.0) e.1 (key_pair q))
+    ∙ applied_step (is_at (key_cmp q) e.0) e.1 (get m (key_pair q)) (slot_of es q) none
+
+-- a look-up that found none
+pub no_slot : (found : Option (Bor (Option Text))) (slot : Option (Option Text)) (b : Bool) → option_copied found ≡ slot → b ≡ is_some found → b ≡ false → slot ≡ None
+no_slot None slot b is told e = sym is
+no_slot (Some x) slot b is told e = absurd (cc)
+
+pub a_slot : (found : Option (Bor (Option Text))) (slot : Option (Option Text)) (b : Bool) → option_copied found ≡ slot → b ≡ is_some found → b ≡ true → IsSome slot
+a_slot None slot b is told e = absurd (cc)
+a_slot (Some x) slot b is told e = ap is_some (sym is)
+
+-- ---- one slot changes
+
+cond_unwrap : (b : Bool) (o r : Option Text) (slot : Option (Option Text)) → unwrap_or (cond b (Some o) slot) r ≡ cond b o (unwrap_or slot r)
+cond_unwrap true o r slot = refl
+cond_unwrap false o r slot = refl
+
+gone_unwrap : (b : Bool) (r : Option Text) (slot : Option (Option Text)) → r ≡ value_in slot → value_in (cond b None slot) ≡ cond b None r
+gone_unwrap true r slot e = refl
+gone_unwrap false r slot e = sym e
+
+same_unwrap : (b : Bool) (slot : Option (Option Text)) → (b ≡ true → slot ≡ None) → value_in (cond b (Some None) slot) ≡ value_in slot
+same_unwrap true slot none = ap value_in (sym (none refl))
+same_unwrap false slot none = refl
+
+-- a slot is set
+abbrev pub SetsSlot : Entries → Entries → SpaceKey → Option Text → Type 0
+SetsSlot es fs k o = (q : SpaceKey) → slot_of fs q ≡ cond (is_at (key_cmp k) q) (Some o) (slot_of es q)
+
+-- a slot is let go
+abbrev pub DropsSlot : Entries → Entries → SpaceKey → Type 0
+DropsSlot es fs k = (q : SpaceKey) → slot_of fs q ≡ cond (is_at (key_cmp k) q) None (slot_of es q)
+
+pub applied-set : (m : SpaceMap) (es fs : Entries) (k : SpaceKey) (o : Option Text) → IsInOrder es → IsInOrder fs → SetsSlot es fs k o → applied m (changes_of fs) ≡ set_at (applied m (changes_of es)) (key_pair k) o
+unfolding key_of
+applied-set m es fs k o s t h = same_map space_total space_exact _ _ (λ p.
+    let q = key_of p in
+    get-applied fs t m q ∙ ap (λ (x : Option (Option Text)). unwrap_or x (get m p)) (h q) ∙ cond_unwrap (is_at (key_cmp k) q) o (get m p) (slot_of es q)
+    ∙ ap (λ b. cond b o (unwrap_or (slot_of es q) (get m p))) (turn k q)
+    ∙ sym (get-set_at (applied m (changes_of es)) (key_pair k) o p ∙ ap (cond (eq_by_cmp space_cmp p (key_pair k)) o) (get-applied es s m q)))
+
+pub held-set : (es fs : Entries) (k : SpaceKey) (o : Option Text) → SetsSlot es fs k o → held fs ≡ set_at (held es) (key_pair k) o
+unfolding key_of
+held-set es fs k o h = same_map space_total space_exact _ _ (λ p.
+    let q = key_of p in
+    get-held fs q ∙ ap value_in (h q) ∙ cond_unwrap (is_at (key_cmp k) q) o None (slot_of es q)
+    ∙ ap (λ b. cond b o (value_in (slot_of es q))) (turn k q)
+    ∙ sym (get-set_at (held es) (key_pair k) o p ∙ ap (cond (eq_by_cmp space_cmp p (key_pair k)) o) (get-held es q)))
+
+pub held-gone : (es fs : Entries) (k : SpaceKey) → DropsSlot es fs k → held fs ≡ set_at (held es) (key_pair k) None
+unfolding key_of
+held-gone es fs k h = same_map space_total space_exact _ _ (λ p.
+    let q = key_of p in
+    get-held fs q ∙ ap value_in (h q) ∙ gone_unwrap (is_at (key_cmp k) q) (get (held es) p) (slot_of es q) (get-held es q)
+    ∙ ap (λ b. cond b None (get (held es) p)) (turn k q)
+    ∙ sym (get-set_at (held es) (key_pair k) None p))
+
+-- an empty slot more
+pub held-same : (es fs : Entries) (k : SpaceKey) → slot_of es k ≡ None → SetsSlot es fs k None → held fs ≡ held es
+unfolding key_of
+held-same es fs k none h = same_map space_total space_exact _ _ (λ p.
+    let q = key_of p in
+    get-held fs q ∙ ap value_in (h q)
+    ∙ same_unwrap (is_at (key_cmp k) q) (slot_of es q) (λ b. subst (λ (x : SpaceKey). slot_of es x ≡ None) (at_same k q b) none)
+    ∙ sym (get-held es q))
+
+-- ---- which keys have slots
+
+short_by : (k q : SpaceKey) (slot : Option (Option Text)) (o : Option Text) (b : Bool) → is_at (key_cmp k) q ≡ b → (IsSome slot → length q.key < 2 ^ 16) → length k.key < 2 ^ 16 → IsSome (cond b (Some o) slot) → length q.key < 2 ^ 16
+short_by k q slot o true e old lt some = subst (λ (x : SpaceKey). length x.key < 2 ^ 16) (at_same k q e) lt
+short_by k q slot o false e old lt some = old some
+
+pub short-set : (es fs : Entries) (k : SpaceKey) (o : Option Text) → AreShort es → length k.key < 2 ^ 16 → SetsSlot es fs k o → AreShort fs
+short-set es fs k o old lt h = λ q some. short_by k q (slot_of es q) o (is_at (key_cmp k) q) refl (old q) lt (subst (λ (s : Option (Option Text)). IsSome s) (h q) some)
+
+still_some : (b : Bool) (slot : Option (Option Text)) → IsSome (cond b None slot) → IsSome slot
+still_some true slot some = cc
+still_some false slot some = some
+
+pub short-gone : (es fs : Entries) (k : SpaceKey) → AreShort es → DropsSlot es fs k → AreShort fs
+short-gone es fs k old h = λ q some. old q (still_some (is_at (key_cmp k) q) (slot_of es q) (subst (λ (s : Option (Option Text)). IsSome s) (h q) some))
+
+some_set : (b : Bool) (o : Option Text) (slot : Option (Option Text)) → IsSome slot → IsSome (cond b (Some o) slot)
+some_set true o slot some = refl
+some_set false o slot some = some
+
+pub grows-set : (es fs : Entries) (k : SpaceKey) (o : Option Text) → SetsSlot es fs k o → (q : SpaceKey) → IsSome (slot_of es q) → IsSome (slot_of fs q)
+grows-set es fs k o h = λ q some. subst (λ (s : Option (Option Text)). IsSome s) (sym (h q)) (some_set (is_at (key_cmp k) q) o (slot_of es q) some)
+
+pub others-set : (es fs : Entries) (k : SpaceKey) (o : Option (Option Text)) → ((q : SpaceKey) → slot_of fs q ≡ cond (is_at (key_cmp k) q) o (slot_of es q)) → (q : SpaceKey) → is_at (key_cmp k) q ≡ false → slot_of fs q ≡ slot_of es q
+others-set es fs k o h = λ q apart. h q ∙ ap (λ b. cond b o (slot_of es q)) apart
+
+fit_by : (k q : SpaceKey) (slot : Option (Option Text)) (o p : Option Text) (b : Bool) → is_at (key_cmp k) q ≡ b → (slot ≡ Some p → (length q.key < 2 ^ 16) × IfSome p (λ v. length v < 2 ^ 32)) → length k.key < 2 ^ 16 → IfSome o (λ v. length v < 2 ^ 32) → cond b (Some o) slot ≡ Some p → (length q.key < 2 ^ 16) × IfSome p (λ v. length v < 2 ^ 32)
+fit_by k q slot o p true e old lt small is =
+    let same : o ≡ p = cc in
+    (subst (λ (x : SpaceKey). length x.key < 2 ^ 16) (at_same k q e) lt, subst (λ (x : Option Text). IfSome x (λ v. length v < 2 ^ 32)) same small)
+fit_by k q slot o p false e old lt small is = old is
+
+pub fit-set : (es fs : Entries) (k : SpaceKey) (o : Option Text) → AreFit es → length k.key < 2 ^ 16 → IfSome o (λ v. length v < 2 ^ 32) → SetsSlot es fs k o → AreFit fs
+fit-set es fs k o old lt small h = λ q p is. fit_by k q (slot_of es q) o p (is_at (key_cmp k) q) refl (old q p) lt small (sym (h q) ∙ is)
+
+-- ---- room
+
+pub room_grows : (es fs cs : Entries) → ((q : SpaceKey) → IsSome (slot_of es q) → IsSome (slot_of fs q)) → HaveRoom es cs → HaveRoom fs cs
+room_grows es fs [] grows room = tt
+room_grows es fs (c ∷ cs) grows room = (grows c.0 room.0, room_grows es fs cs grows room.1)
+
+pub room_push : (es cs : Entries) (c : SpaceKey × Option Text) → HaveRoom es cs → IsSome (slot_of es c.0) → HaveRoom es (cs ++ c ∷ [])
+room_push es [] c room here = (here, tt)
+room_push es (d ∷ cs) c room here = (room.0, room_push es cs c room.1 here)
+
+apart_of_less : (r : Ordering) → r ≡ Less → is_eq r ≡ false
+apart_of_less r e = ap is_eq e
+
+-- other keys keep their room
+pub room_keeps : (es fs : Entries) (k : SpaceKey) (cs : Entries) → ((q : SpaceKey) → is_at (key_cmp k) q ≡ false → slot_of fs q ≡ slot_of es q) → AllByRecursion (λ y. key_cmp k y ≡ Less) (keys_of cs) → HaveRoom es cs → HaveRoom fs cs
+room_keeps es fs k [] others below room = tt
+room_keeps es fs k (c ∷ cs) others below room =
+    (subst (λ (s : Option (Option Text)). IsSome s) (sym (others c.0 (apart_of_less (key_cmp k c.0) below.0))) room.0, room_keeps es fs k cs others below.1 room.1)
+
+-- ---- keys that are too long
+
+none_of : (slot : Option (Option Text)) → (IsSome slot → ⊥) → slot ≡ None
+none_of None never = refl
+none_of (Some o) never = absurd (never refl)
+
+unfit_by : (es : Entries) (k : SpaceKey) (slot : Option (Option Text)) → slot_of es k ≡ slot → AreFit es → (length k.key < 2 ^ 16 → ⊥) → slot ≡ None
+unfit_by es k None is fit long = refl
+unfit_by es k (Some o) is fit long = absurd (long (fit k o is).0)
+
+absent_step : (b : Bool) (r : Option Text) → (b ≡ true → r ≡ None) → cond b None r ≡ r
+absent_step true r none = sym (none refl)
+absent_step false r none = refl
+
+-- a key that isn't there is removed
+pub remove-absent : (m : SpaceMap) (p : ℕ × Text) → get m p ≡ None → remove m p ≡ m
+remove-absent m p none = same_map space_total space_exact _ _ (λ q.
+    get-remove space_total m p q
+    ∙ absent_step (eq_by_cmp space_cmp q p) (get m q) (λ b. ap (get m) (space_exact q p ((Equal-is (space_cmp q p)).0 b)) ∙ none))
+
+-- a transaction has no key that is too long
+pub no_long_key : (base changes : Entries) (k : SpaceKey) → AreShort base → AreFit changes → IsInOrder changes → (length k.key < 2 ^ 16 → ⊥) → get (applied (held base) (changes_of changes)) (key_pair k) ≡ None
+no_long_key base changes k short fit ordered long =
+    let unchanged : slot_of changes k ≡ None = unfit_by changes k (slot_of changes k) refl fit long in
+    let absent : slot_of base k ≡ None = none_of (slot_of base k) (λ some. long (short k some)) in
+    get-applied changes ordered (held base) k
+    ∙ ap (λ (slot : Option (Option Text)). unwrap_or slot (get (held base) (key_pair k))) unchanged
+    ∙ get-held base k ∙ ap value_in absent

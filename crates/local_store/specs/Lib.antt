@@ -1,0 +1,4 @@
+pub mod Codes
+pub mod Slots
+pub mod View
+pub mod Keeping

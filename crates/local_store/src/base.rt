@@ -1,0 +1,133 @@
+//! A space in memory, which a store changes and its transactions share.
+ghost use Rattle.std.specs.Prelude.{◌≡◌, ◌<◌, ◌^◌, length, [], false, OnOk, OnErr, IsSome, None};
+ghost use Rattle.std.specs.Option.{option_copied};
+ghost use Rattle.std.specs.List.{AllByRecursion};
+ghost use Rattle.std.specs.BTreeMap.{is_at};
+ghost use Rattle.store_records.specs.Changing.{applied, set_at};
+ghost use Rattle.store_records.specs.Format.{IsSpellableChange};
+ghost use Rattle.local_store.specs.declared.key.SpaceKey.{SpaceKey};
+ghost use Rattle.local_store.specs.Slots.{held, slot_of, value_in, changes_of, key_pair, key_cmp, AreShort, AreFit, HaveRoom};
+
+use crate::key::{Slots, SpaceKey};
+use delos_types::bytes::Bytes;
+use std::alloc::{AllocError, Global};
+use store_records::Change;
+
+/// A space. A key that has no value may have a slot all the same, as room for a value.
+#[derive(Drop)]
+pub(crate) struct Base {
+    pub(crate) slots: Slots,
+}
+
+impl Clone for Base {
+    ghost is_clone = { λ x y. y.slots.entries ≡ x.slots.entries };
+
+    fn clone(&self) -> Result<Base, AllocError> {
+        let slots = self.slots.clone()?;
+        Ok(Base { slots })
+    }
+}
+
+impl Base {
+    /// The empty space, which takes no memory.
+    pub(crate) fn new(alloc: Global) -> Base
+        ensures { result.slots.entries ≡ [] }
+    {
+        Base {
+            slots: Slots::new(alloc),
+        }
+    }
+
+    /// The value at a key.
+    pub(crate) fn get(&self, key: &SpaceKey) -> Option<&Bytes>
+        ensures { option_copied result ≡ value_in (slot_of self.now.slots.entries key.now) }
+    {
+        match self.slots.get(key) {
+            Some(slot) => slot.as_ref(),
+            None => None,
+        }
+    }
+
+    /// The key gets the value, or is removed.
+    fn set(&mut self, key: SpaceKey, value: Option<Bytes>) -> Result<(), AllocError>
+        requires short { length key.key < 2 ^ 16 }
+        requires old { AreShort self.old.slots.entries }
+        ensures ok { OnOk result (held self.new.slots.entries ≡ set_at (held self.old.slots.entries) (key_pair key) value) }
+        ensures err { OnErr result (self.new.slots.entries ≡ self.old.slots.entries) }
+
+        // Only a key without a slot takes memory; other keys keep their slots.
+        ensures absent { OnErr result (slot_of self.old.slots.entries key ≡ None) }
+        ensures others { (q : SpaceKey) → is_at (key_cmp key) q ≡ false → slot_of self.new.slots.entries q ≡ slot_of self.old.slots.entries q }
+        ensures short { AreShort self.new.slots.entries }
+    {
+        match value {
+            Some(value) => {
+                self.slots.insert(key, Some(value))?;
+                Ok(())
+            }
+            None => {
+                let _ = self.slots.remove(&key);
+                Ok(())
+            }
+        }
+    }
+
+    /// Makes these changes, one after another; some of them where memory runs out.
+    pub(crate) fn change_all(&mut self, changes: Vec<Change>) -> Result<(), AllocError>
+        requires fit { AllByRecursion IsSpellableChange changes.items }
+        requires old { AreShort self.old.slots.entries }
+        ensures ok { OnOk result (held self.new.slots.entries ≡ applied (held self.old.slots.entries) changes.items) }
+        ensures short { AreShort self.new.slots.entries }
+    {
+        for change in changes {
+            let Change { kind, key, value } = change;
+            self.set(SpaceKey { kind, key }, value)?;
+        }
+        Ok(())
+    }
+
+    /// A slot for each key that is changed. The space stays as it is.
+    pub(crate) fn make_room(&mut self, changes: &Slots) -> Result<(), AllocError>
+        requires fit { AreFit changes.now.entries }
+        requires old { AreShort self.old.slots.entries }
+        ensures room { OnOk result (HaveRoom self.new.slots.entries changes.now.entries) }
+        ensures same { held self.new.slots.entries ≡ held self.old.slots.entries }
+        ensures short { AreShort self.new.slots.entries }
+    {
+        for (key, _) in changes {
+            self.make_slot(key)?;
+        }
+        Ok(())
+    }
+
+    /// A slot for a key. The space stays as it is.
+    fn make_slot(&mut self, key: &SpaceKey) -> Result<(), AllocError>
+        requires short { length key.now.key < 2 ^ 16 }
+        requires old { AreShort self.old.slots.entries }
+        ensures room { OnOk result (IsSome (slot_of self.new.slots.entries key.now)) }
+        ensures same { held self.new.slots.entries ≡ held self.old.slots.entries }
+        ensures grows { (q : SpaceKey) → IsSome (slot_of self.old.slots.entries q) → IsSome (slot_of self.new.slots.entries q) }
+        ensures short { AreShort self.new.slots.entries }
+    {
+        if self.slots.get(key).is_some() {
+            return Ok(());
+        }
+        let key = key.clone()?;
+        self.slots.insert(key, None)?;
+        Ok(())
+    }
+
+    /// Makes changes for whose keys there is room, which takes no memory.
+    pub(crate) fn change(&mut self, changes: Slots)
+        requires room { HaveRoom self.old.slots.entries changes.entries }
+        requires old { AreShort self.old.slots.entries }
+        ensures changed { held self.new.slots.entries ≡ applied (held self.old.slots.entries) (changes_of changes.entries) }
+        ensures short { AreShort self.new.slots.entries }
+    {
+        for (key, value) in changes {
+            let Ok(()) = self.set(key, value) else {
+                unreachable!()
+            };
+        }
+    }
+}
