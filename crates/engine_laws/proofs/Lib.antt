@@ -1,0 +1,15 @@
+pub mod Firsts
+pub mod Freed
+pub mod Holding
+pub mod Keys
+pub mod Lists
+pub mod Ranks
+pub mod Replies
+pub mod SessionLevel
+pub mod Sinking
+pub mod Start
+pub mod TableLevel
+pub mod TrimLevel
+pub mod ViewLevel
+pub mod Whole
+pub mod Words

@@ -1,0 +1,3 @@
+pub mod Laws
+pub mod Rises
+pub mod State
