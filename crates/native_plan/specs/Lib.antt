@@ -1,0 +1,4 @@
+pub mod Members
+pub mod Plans
+pub mod Pendings
+pub mod Course

@@ -1,0 +1,6 @@
+//! The open operations of a native loglet as parts of its quorum cell.
+//!
+//! - `laws`: what they are stays, and each message that moves is a list of steps of the cell.
+#![tactic(auto)]
+
+pub mod laws;

@@ -1,0 +1,2 @@
+pub mod Striping
+pub mod Shares
