@@ -16,9 +16,9 @@ use Rattle.loglet_api.specs.Step.{LogletStep}
 use Rattle.loglet_api.specs.Run.{LogletRun}
 use Rattle.legal_journal.specs.declared.events.Event.{Event}
 use Rattle.legal_journal.specs.declared.events.FabricCall.{FabricCall}
-use Rattle.legal_journal.specs.declared.events.FabricCall.TheVariants.{Begin, Carry, Forget}
+use Rattle.legal_journal.specs.declared.events.FabricCall.TheVariants.{Begin, Carry, Forget, Stop, Mend, Stray}
 use Rattle.legal_journal.specs.declared.events.FabricAnswer.{FabricAnswer}
-use Rattle.legal_journal.specs.declared.events.FabricAnswer.TheVariants.{Begun, Full, Done, Going, NoTicket, Gone, Memory}
+use Rattle.legal_journal.specs.declared.events.FabricAnswer.TheVariants.{Begun, Full, Done, Going, NoTicket, Gone, Set, Memory}
 use Rattle.legal_journal.specs.Told.{Running, put}
 use Rattle.legal_journal.specs.Moves.{Begins, Carries, Answers, Drops, Misses, OnCell, move, move_of}
 use Rattle.legal_journal.specs.Journal.{CellState, RegisterState, State, state_of, start, after, cell_after, answered_by, Exists, MayHappen, IsAllowed, IsOwn, IsLegal}
@@ -26,9 +26,10 @@ use Rattle.legal_journal.specs.Turns.{MayCall, IsOwner}
 use Rattle.legal_journal.proofs.Cells.{put_cases, put_same}
 use Rattle.legal_journal.proofs.Legal.{after_all-append, IsLegalFrom-join}
 use Rattle.fabric_core.specs.Runs.{LogletSteps, StepsOf, StepsOn, CellRun, HasRun, is_on}
-use Rattle.fabric_core.specs.CellEvent.{CellView, Happens, marks_after}
+use Rattle.fabric_core.specs.CellEvent.{CellView, Happens, Serves, marks_after}
 use Rattle.fabric_core.specs.Fabric.{FabricView, FabricOk, CellOk, IsAsTold, AreMarked, IsMarked, IsRegisterAsTold}
 use Rattle.fabric_core.proofs.AsTold.{told_open, has_room, begun_as_told, moved_as_told, moved_left, carried_as_told, carried_few, answered_as_told, dropped_as_told}
+use Rattle.fabric_core.proofs.Ran.{register_same, off_register}
 use Rattle.fabric_core.proofs.Marks.{set_same, set_other, marks_begun, marks_closed}
 
 run_more : (i : ℕ) (o v now : LogletView) (es : List Event) (e : Event) (steps : LogletSteps) → CellRun i o es v → StepsOn i e steps → LogletRun v steps now → CellRun i o (es ++ e ∷ []) now
@@ -78,6 +79,9 @@ module _ (may : ℕ → Entry → Type 0) (floor : List Entry → ℕ) (shelf : 
   state_more j e = after_all-append start j (e ∷ [])
 
   module _ (f : FabricView) (marks : List (List Bool)) (ok : FabricOk may floor shelf f marks) (i : ℕ) (v : LogletView) (here : List Bool) (at : slice_get f.cells i ≡ Some v) (marked_at : slice_get marks i ≡ Some here) where
+    here_is : (j : ℕ) → (j == j) ≡ true
+    here_is j = grind (arith, nat_tests)
+
     -- one cell takes its steps, and all else stays
     on_cell : (e : Event) → MayHappen (state_of f.journal) may floor shelf e → (c : CellState) → ((j : ℕ) → (after (state_of f.journal) e.who (move e)).cells j ≡ put (state_of f.journal).cells i c j) → (after (state_of f.journal) e.who (move e)).register ≡ (state_of f.journal).register → ((j : ℕ) → is_on j e.call ≡ (j == i)) → (now : LogletView) (there : List Bool) → IsAsTold c now → AreMarked c there → now.servers ≡ v.servers → (steps : LogletSteps) → StepsOf e.call e.answer steps → LogletRun v steps now → FabricOk may floor shelf (record { cells = slice_set f.cells i now; register = f.register; journal = f.journal ++ e ∷ [] }) (slice_set marks i there)
     on_cell e can c cells_are register_is on now there told marked servers steps are run =
@@ -87,6 +91,7 @@ module _ (may : ℕ → Entry → Type 0) (floor : List Entry → ℕ) (shelf : 
           shelf_is = map_same (λ (x : LogletView). x.servers) f.cells i now v at servers ∙ ok.shelf_is;
           cells = λ j x g. by_place j x g (j == i) refl;
           register = subst (λ (r : RegisterState). IsRegisterAsTold r f.register) (sym (ap (λ (y : State). y.register) next ∙ register_is)) ok.register;
+          register_ran = register_same f.register f.journal e ok.register_ran (off_register i e.call (on i ∙ here_is i));
         }
       where
         cell_is : (j : ℕ) → (state_of (f.journal ++ e ∷ [])).cells j ≡ put (state_of f.journal).cells i c j
@@ -260,3 +265,35 @@ module _ (may : ℕ → Entry → Type 0) (floor : List Entry → ℕ) (shelf : 
         dropped_from who t 0 v (Forget i t) Gone new refl can.there can.asks (λ j. refl) refl h told_now refl (only (call.Forget t) answer.Forgotten new.loglet (subst (λ y. LogletRun v y new.loglet) h.are h.run))
     forget_kept who t NoTicket new can h = missed_by who t (Forget i t) NoTicket new refl can.there (λ j. refl) refl h.missed h h.are
     forget_kept who t a new can h = absurd h.are
+
+    -- Events that open and close no ticket.
+
+    served : (who : ℕ) (c : FabricCall) (a : FabricAnswer) (now : LogletView) (journal : List Event) → MayHappen (state_of f.journal) may floor shelf (record { who = who; call = c; answer = a }) → ((j : ℕ) → (after (state_of f.journal) who (move_of c a)).cells j ≡ (state_of f.journal).cells j) → (after (state_of f.journal) who (move_of c a)).register ≡ (state_of f.journal).register → ((j : ℕ) → is_on j c ≡ (j == i)) → Serves v f.journal who c a now journal → IsAsTold ((state_of f.journal).cells i) now → now.servers ≡ v.servers → IsAfter (record { loglet = now; marks = here; journal = journal })
+    served who c a now journal can cells register on h told servers =
+        recorded (record { loglet = now; marks = here; journal = journal }) (record { who = who; call = c; answer = a }) h.recorded
+        (on_cell (record { who = who; call = c; answer = a }) can ((state_of f.journal).cells i) (λ j. cells j ∙ same_cells j) register on now here told marked_now servers h.steps h.are h.run)
+
+    pub stop_kept : (who server n : ℕ) (a : FabricAnswer) (now : LogletView) (journal : List Event) → MayCall (state_of f.journal) may floor shelf who (Stop i server n) → Serves v f.journal who (Stop i server n) a now journal → IsAfter (record { loglet = now; marks = here; journal = journal })
+    stop_kept who server n (Set true) now journal can h =
+        let s = only (call.Stop server n) answer.Stopped now (subst (λ x. LogletRun v x now) h.are h.run) in
+        served who (Stop i server n) (Set true) now journal (record { there = can.there; allowed = tt }) (λ j. refl) refl (λ j. refl) h
+        (subst (IsAsTold ((state_of f.journal).cells i)) (sym s.does) told_now) (ap (λ (x : LogletView). x.servers) s.does)
+    stop_kept who server n a now journal can h = absurd h.are
+
+    pub mend_kept : (who server word : ℕ) (a : FabricAnswer) (now : LogletView) (journal : List Event) → MayCall (state_of f.journal) may floor shelf who (Mend i server word) → Serves v f.journal who (Mend i server word) a now journal → IsAfter (record { loglet = now; marks = here; journal = journal })
+    mend_kept who server word (Set b) now journal can h =
+        let c = (state_of f.journal).cells i in
+        let s = only (call.Restart server word) (answer.Restarted b) now (subst (λ x. LogletRun v x now) h.are h.run) in
+        served who (Mend i server word) (Set b) now journal (record { there = can.there; allowed = tt }) (λ j. refl) refl (λ j. refl) h
+        (moved_as_told c v told_now c now refl s.does.moves s.after (moved_left c v told_now now s.does.moves s.after))
+        (ap (λ (x : LogletView). x.servers) s.does.moves.rest)
+    mend_kept who server word a now journal can h = absurd h.are
+
+    pub stray_kept : (who word : ℕ) (a : FabricAnswer) (now : LogletView) (journal : List Event) → MayCall (state_of f.journal) may floor shelf who (Stray i word) → Serves v f.journal who (Stray i word) a now journal → IsAfter (record { loglet = now; marks = here; journal = journal })
+    stray_kept who word (Set true) now journal can h =
+        let c = (state_of f.journal).cells i in
+        let s = only (call.Stray word) answer.Strayed now (subst (λ x. LogletRun v x now) h.are h.run) in
+        served who (Stray i word) (Set true) now journal (record { there = can.there; allowed = tt }) (λ j. refl) refl (λ j. refl) h
+        (moved_as_told c v told_now c now refl s.does s.after (moved_left c v told_now now s.does s.after))
+        (ap (λ (x : LogletView). x.servers) s.does.rest)
+    stray_kept who word a now journal can h = absurd h.are

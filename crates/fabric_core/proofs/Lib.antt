@@ -2,8 +2,11 @@ pub mod OneLoglet
 pub mod Carried
 pub mod AsTold
 pub mod Marks
+pub mod Ran
+pub mod Registers
 pub mod Kept
 pub mod Shelf
-pub mod Reading
+pub mod Registered
+pub mod OneThread
 pub mod Opening
 pub mod Ties

@@ -8,7 +8,9 @@ use Rattle.delos_types.specs.declared.entry.Entry.{Entry}
 use Rattle.loglet_api.specs.View.{LogletView, operation_at, IsFresh}
 use Rattle.loglet_api.specs.Sound.{IsSound}
 use Rattle.legal_journal.specs.Journal.{fresh_cell}
-use Rattle.fabric_core.specs.Register.{RegisterView, IsFreshRegister}
+use Rattle.register_api.specs.View.{RegisterView}
+use Rattle.register_api.specs.View as register_view
+use Rattle.fabric_core.proofs.Ran.{still_refl}
 use Rattle.fabric_core.specs.Fabric.{FabricOk, IsAsTold, MatchesOperation}
 
 at_all : {A : Type 0} (P : LogletView → Type 0) (view : A → LogletView) (xs : List A) (i : ℕ) (v : LogletView) → All (λ x. P (view x)) xs → slice_get (map view xs) i ≡ Some v → P v
@@ -40,7 +42,7 @@ fresh_as_told v f sound = record {
 no_mark : (t : ℕ) → slice_get {X = Bool} [] t ≢ Some true
 no_mark t e = absurd (cc)
 
-pub opened : (may : ℕ → Entry → Type 0) (floor : List Entry → ℕ) (shelf : List ℕ) {A B : Type 0} (view : A → LogletView) (items : B → List Bool) (cells : List A) (marks : List B) (register : RegisterView) → 0 < length cells → length cells ≤ 64 → map (λ v. v.servers) (map view cells) ≡ shelf → All (λ l. IsFresh (view l)) cells → All (λ l. IsSound (view l)) cells → IsFreshRegister register → length marks ≡ length cells → All (λ m. items m ≡ []) marks → FabricOk may floor shelf (record { cells = map view cells; register = register; journal = [] }) (map items marks)
+pub opened : (may : ℕ → Entry → Type 0) (floor : List Entry → ℕ) (shelf : List ℕ) {A B : Type 0} (view : A → LogletView) (items : B → List Bool) (cells : List A) (marks : List B) (register : RegisterView) → 0 < length cells → length cells ≤ 64 → map (λ v. v.servers) (map view cells) ≡ shelf → All (λ l. IsFresh (view l)) cells → All (λ l. IsSound (view l)) cells → register_view.IsFresh register → length marks ≡ length cells → All (λ m. items m ≡ []) marks → FabricOk may floor shelf (record { cells = map view cells; register = register; journal = [] }) (map items marks)
 opened may floor shelf view items cells marks register least most shelf_is fresh sound r count none =
     let size : length shelf ≡ length cells = sym (ap length shelf_is) ∙ (length-map (map view cells) (λ (v : LogletView). v.servers) ∙ length-map cells view) in record {
       legal = record { least = omega arith; most = omega arith; steps = tt };
@@ -53,5 +55,12 @@ opened may floor shelf view items cells marks register least most shelf_is fresh
             marked = record { count = refl; each = no_mark };
             ran = record { opening = v; fresh = f; servers = refl; run = refl };
           };
-      register = record { down = r.down; current = inl (r.version, r.chain) };
+      register = record {
+        down = r.down;
+        given = r.given;
+        given_chain = r.given_chain;
+        current = inl (r.version, r.chain);
+        torn = λ c e. let none = r.asked in absurd (cc);
+      };
+      register_ran = record { opening = register; fresh = r; run = still_refl register };
     }

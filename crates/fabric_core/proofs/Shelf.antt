@@ -10,15 +10,15 @@ use Rattle.legal_journal.specs.declared.events.Event.{Event}
 use Rattle.legal_journal.specs.declared.events.FabricCall.{FabricCall}
 use Rattle.legal_journal.specs.declared.events.FabricCall.TheVariants.{Begin, Carry, Forget, ReadChain, WriteChain, Stop, Mend, Stray, StopMeta, MendMeta}
 use Rattle.legal_journal.specs.declared.events.FabricAnswer.{FabricAnswer}
-use Rattle.legal_journal.specs.declared.events.FabricAnswer.TheVariants.{Begun, Full, Done, Going, NoTicket, Gone, Memory}
+use Rattle.legal_journal.specs.declared.events.FabricAnswer.TheVariants.{Begun, Full, Done, Going, NoTicket, Gone, Set, Memory}
 use Rattle.legal_journal.specs.Told.{Running}
 use Rattle.legal_journal.specs.Journal.{state_of}
 use Rattle.legal_journal.specs.Turns.{MayCall, OwnEvents}
-use Rattle.fabric_core.specs.Register.{RegisterView}
+use Rattle.register_api.specs.View.{RegisterView}
 use Rattle.fabric_core.specs.Runs.{LogletSteps, StepsOf}
-use Rattle.fabric_core.specs.CellEvent.{CellView, Happens, Applies}
-use Rattle.fabric_core.specs.Fabric.{FabricView, FabricOk, IsMarked, MatchesOperation, Adds, Keeps}
-use Rattle.fabric_core.proofs.Kept.{IsAfter, begin_kept, carry_kept, forget_kept}
+use Rattle.fabric_core.specs.CellEvent.{CellView, Happens, Applies, Serves, ServerApplies}
+use Rattle.fabric_core.specs.Fabric.{FabricView, FabricOk, IsMarked, MatchesOperation, Adds, Stays, Keeps}
+use Rattle.fabric_core.proofs.Kept.{IsAfter, begin_kept, carry_kept, forget_kept, stop_kept, mend_kept, stray_kept}
 
 pub map_get : {A C : Type 0} (g : A → C) (xs : List A) (i : ℕ) (x : A) → slice_get xs i ≡ Some x → slice_get (map g xs) i ≡ Some (g x)
 map_get g [] i x h = absurd (cc)
@@ -30,7 +30,7 @@ map_set g [] i x = refl
 map_set g (y ∷ ys) zero x = refl
 map_set g (y ∷ ys) (suc i) x = ap (λ zs. g y ∷ zs) (map_set g ys i x)
 
-some_at : (xs : List LogletView) (i : ℕ) → i < length xs → (x : LogletView) × (slice_get xs i ≡ Some x)
+pub some_at : {A : Type 0} (xs : List A) (i : ℕ) → i < length xs → (x : A) × (slice_get xs i ≡ Some x)
 some_at [] i h = absurd (omega arith)
 some_at (x ∷ xs) zero h = (x, refl)
 some_at (x ∷ xs) (suc i) h = some_at xs i (omega arith)
@@ -134,8 +134,8 @@ module _ (may : ℕ → Entry → Type 0) (floor : List Entry → ℕ) (shelf : 
         };
       }
 
-  unchanged : (who : ℕ) (call : FabricCall) (answer : FabricAnswer) → (answer ≡ Memory) × (cell_new ≡ cell_old) → Goes who call answer
-  unchanged who call answer h =
+  unchanged : (who : ℕ) (call : FabricCall) (answer : FabricAnswer) → (new ≡ old → Stays call old new) → (answer ≡ Memory) × (cell_new ≡ cell_old) → Goes who call answer
+  unchanged who call answer stays h =
       let cell : view a' ≡ view a = ap (λ (x : CellView). x.loglet) h.1 in
       let cells_are : map view (set cells i a') ≡ map view cells = map_set view cells i a' ∙ (ap (set (map view cells) i) cell ∙ set_back (map view cells) i (view a) (map_get view cells i a at)) in
       let mark : items b' ≡ items b = ap (λ (x : CellView). x.marks) h.1 in
@@ -144,7 +144,7 @@ module _ (may : ℕ → Entry → Type 0) (floor : List Entry → ℕ) (shelf : 
       let same : new ≡ old = ap (λ cs. record { cells = cs; register = register; journal = journal' }) cells_are ∙ ap (λ j. record { cells = map view cells; register = register; journal = j }) journal_is in
       let now : FabricOk may floor shelf new (map items (set marks i b')) = subst (λ (f : FabricView). FabricOk may floor shelf f (map items (set marks i b'))) (sym same) (subst (FabricOk may floor shelf old) (sym marks_are) ok) in record {
         now = now;
-        keeps = record { adds = adds_none who call journal journal' answer h.0 journal_is; legal = now.legal; same = λ _. same };
+        keeps = record { adds = adds_none who call journal journal' answer h.0 journal_is; legal = now.legal; same = λ _. stays same };
       }
 
   pub begun : (who : ℕ) (op : Op) (answer : FabricAnswer) → MayCall (state_of journal) may floor shelf who (Begin i op) → Applies cell_old who (Begin i op) answer cell_new → Goes who (Begin i op) answer
@@ -152,7 +152,7 @@ module _ (may : ℕ → Entry → Type 0) (floor : List Entry → ℕ) (shelf : 
       ⊎_elim
       (λ (x : Happens cell_old who (Begin i op) answer cell_new). happened who (Begin i op) answer (own_begin who i op answer) x
       (begin_kept may floor shelf old (map items marks) ok i (view a) (items b) (map_get view cells i a at) (map_get items marks i b marked) who op answer cell_new can x))
-      (λ (x : (answer ≡ Memory) × (cell_new ≡ cell_old)). unchanged who (Begin i op) answer x)
+      (λ (x : (answer ≡ Memory) × (cell_new ≡ cell_old)). unchanged who (Begin i op) answer (λ e. e) x)
       h
 
   pub carried : (who t word : ℕ) (answer : FabricAnswer) → MayCall (state_of journal) may floor shelf who (Carry i t word) → Applies cell_old who (Carry i t word) answer cell_new → Goes who (Carry i t word) answer
@@ -160,7 +160,7 @@ module _ (may : ℕ → Entry → Type 0) (floor : List Entry → ℕ) (shelf : 
       ⊎_elim
       (λ (x : Happens cell_old who (Carry i t word) answer cell_new). happened who (Carry i t word) answer (own_carry who i t word answer) x
       (carry_kept may floor shelf old (map items marks) ok i (view a) (items b) (map_get view cells i a at) (map_get items marks i b marked) who t word answer cell_new can x))
-      (λ (x : (answer ≡ Memory) × (cell_new ≡ cell_old)). unchanged who (Carry i t word) answer x)
+      (λ (x : (answer ≡ Memory) × (cell_new ≡ cell_old)). unchanged who (Carry i t word) answer (λ e. e) x)
       h
 
   pub forgotten : (who t : ℕ) (answer : FabricAnswer) → MayCall (state_of journal) may floor shelf who (Forget i t) → Applies cell_old who (Forget i t) answer cell_new → Goes who (Forget i t) answer
@@ -168,5 +168,83 @@ module _ (may : ℕ → Entry → Type 0) (floor : List Entry → ℕ) (shelf : 
       ⊎_elim
       (λ (x : Happens cell_old who (Forget i t) answer cell_new). happened who (Forget i t) answer (own_forget who i t answer) x
       (forget_kept may floor shelf old (map items marks) ok i (view a) (items b) (map_get view cells i a at) (map_get items marks i b marked) who t answer cell_new can x))
-      (λ (x : (answer ≡ Memory) × (cell_new ≡ cell_old)). unchanged who (Forget i t) answer x)
+      (λ (x : (answer ≡ Memory) × (cell_new ≡ cell_old)). unchanged who (Forget i t) answer (λ e. e) x)
       h
+
+own_stop : (who i server n : ℕ) (a : FabricAnswer) (steps : LogletSteps) → StepsOf (Stop i server n) a steps → OwnEvents who (Stop i server n) a (record { who = who; call = Stop i server n; answer = a } ∷ [])
+own_stop who i server n (Set true) steps h = refl
+own_stop who i server n a steps h = absurd h
+
+own_mend : (who i server word : ℕ) (a : FabricAnswer) (steps : LogletSteps) → StepsOf (Mend i server word) a steps → OwnEvents who (Mend i server word) a (record { who = who; call = Mend i server word; answer = a } ∷ [])
+own_mend who i server word (Set b) steps h = refl
+own_mend who i server word a steps h = absurd h
+
+own_stray : (who i word : ℕ) (a : FabricAnswer) (steps : LogletSteps) → StepsOf (Stray i word) a steps → OwnEvents who (Stray i word) a (record { who = who; call = Stray i word; answer = a } ∷ [])
+own_stray who i word (Set true) steps h = refl
+own_stray who i word a steps h = absurd h
+
+-- an event of a cell's servers, which opens and closes no ticket
+module _ (may : ℕ → Entry → Type 0) (floor : List Entry → ℕ) (shelf : List ℕ) {A B : Type 0} (view : A → LogletView) (items : B → List Bool) (cells : List A) (marks : List B) (register : RegisterView) (journal : List Event) (ok : FabricOk may floor shelf (record { cells = map view cells; register = register; journal = journal }) (map items marks)) (i : ℕ) (low : i < length shelf) (a : A) (at : slice_get cells i ≡ Some a) (a' : A) (journal' : List Event) where
+  mark : (b : B) × (slice_get marks i ≡ Some b)
+  mark = some_at marks i (marks_within may floor shelf view items cells marks register journal ok i low)
+
+  abbrev before : FabricView
+  before = record { cells = map view cells; register = register; journal = journal }
+
+  abbrev served_cells : FabricView
+  served_cells = record { cells = map view (set cells i a'); register = register; journal = journal' }
+
+  pub record Served (who : ℕ) (call : FabricCall) (answer : FabricAnswer) : Type 0 where
+    pub now : FabricOk may floor shelf served_cells (map items marks)
+    pub keeps : Keeps may floor shelf before who call answer served_cells
+
+  serves : (who : ℕ) (call : FabricCall) (answer : FabricAnswer) → ((steps : LogletSteps) → StepsOf call answer steps → OwnEvents who call answer (record { who = who; call = call; answer = answer } ∷ [])) → (served_cells ≡ before → Stays call before served_cells) → (Serves (view a) journal who call answer (view a') journal' → IsAfter may floor shelf before (map items marks) ok i (view a) (items mark.0) (map_get view cells i a at) (map_get items marks i mark.0 mark.1) (record { loglet = view a'; marks = items mark.0; journal = journal' })) → ServerApplies (view a) journal who call answer (view a') journal' → Served who call answer
+  serves who call answer own stays after h = ⊎_elim happened unchanged h
+    where
+      happened : Serves (view a) journal who call answer (view a') journal' → Served who call answer
+      happened x =
+          let k : FabricOk may floor shelf (record { cells = set (map view cells) i (view a'); register = register; journal = journal' }) (set (map items marks) i (items mark.0)) = after x in
+          let same : set (map items marks) i (items mark.0) ≡ map items marks = set_back (map items marks) i (items mark.0) (map_get items marks i mark.0 mark.1) in
+          let now : FabricOk may floor shelf served_cells (map items marks) =
+          subst (λ (cs : List LogletView). FabricOk may floor shelf (record { cells = cs; register = register; journal = journal' }) (map items marks)) (sym (map_set view cells i a'))
+          (subst (FabricOk may floor shelf (record { cells = set (map view cells) i (view a'); register = register; journal = journal' })) same k) in
+          let e : Event = record { who = who; call = call; answer = answer } in record {
+            now = now;
+            keeps = record {
+              adds = record { own = e ∷ []; event = own x.steps x.are; added = x.recorded };
+              legal = now.legal;
+              same = λ is. absurd (omega (arith, ap length is, ap length x.recorded, length-append journal (e ∷ [])));
+            };
+          }
+
+      unchanged : (answer ≡ Memory) × (view a' ≡ view a) × (journal' ≡ journal) → Served who call answer
+      unchanged x =
+          let cells_are : map view (set cells i a') ≡ map view cells = map_set view cells i a' ∙ (ap (set (map view cells) i) x.1 ∙ set_back (map view cells) i (view a) (map_get view cells i a at)) in
+          let same : served_cells ≡ before = ap (λ cs. record { cells = cs; register = register; journal = journal' }) cells_are ∙ ap (λ j. record { cells = map view cells; register = register; journal = j }) x.2 in
+          let now : FabricOk may floor shelf served_cells (map items marks) = subst (λ (f : FabricView). FabricOk may floor shelf f (map items marks)) (sym same) ok in record {
+            now = now;
+            keeps = record { adds = adds_none who call journal journal' answer x.0 x.2; legal = now.legal; same = λ _. stays same };
+          }
+
+  pub stopped : (who server n : ℕ) (answer : FabricAnswer) → MayCall (state_of journal) may floor shelf who (Stop i server n) → ServerApplies (view a) journal who (Stop i server n) answer (view a') journal' → Served who (Stop i server n) answer
+  stopped who server n answer can h =
+      serves who (Stop i server n) answer (own_stop who i server n answer) (λ e. e)
+      (stop_kept may floor shelf before (map items marks) ok i (view a) (items mark.0) (map_get view cells i a at) (map_get items marks i mark.0 mark.1) who server n answer (view a') journal' can) h
+
+  pub mended : (who server word : ℕ) (answer : FabricAnswer) → MayCall (state_of journal) may floor shelf who (Mend i server word) → ServerApplies (view a) journal who (Mend i server word) answer (view a') journal' → Served who (Mend i server word) answer
+  mended who server word answer can h =
+      serves who (Mend i server word) answer (own_mend who i server word answer) (λ e. e)
+      (mend_kept may floor shelf before (map items marks) ok i (view a) (items mark.0) (map_get view cells i a at) (map_get items marks i mark.0 mark.1) who server word answer (view a') journal' can) h
+
+  pub strayed : (who word : ℕ) (answer : FabricAnswer) → MayCall (state_of journal) may floor shelf who (Stray i word) → ServerApplies (view a) journal who (Stray i word) answer (view a') journal' → Served who (Stray i word) answer
+  strayed who word answer can h =
+      serves who (Stray i word) answer (own_stray who i word answer) (λ e. e)
+      (stray_kept may floor shelf before (map items marks) ok i (view a) (items mark.0) (map_get view cells i a at) (map_get items marks i mark.0 mark.1) who word answer (view a') journal' can) h
+
+  -- the cell has this server
+  pub server_within : (server : ℕ) → (n : ℕ) → slice_get shelf i ≡ Some n → server < n → server < (view a).servers
+  server_within server n is h =
+      let counts = map_get (λ (v : LogletView). v.servers) (map view cells) i (view a) (map_get view cells i a at) in
+      let both : Some n ≡ Some (view a).servers = sym is ∙ (ap (λ (l : List ℕ). slice_get l i) (sym ok.shelf_is) ∙ counts) in
+      let same : n ≡ (view a).servers = cc in
+      omega (arith, h, same)

@@ -57,3 +57,13 @@ pub record Happens (old : CellView) (who : ℕ) (c : FabricCall) (a : FabricAnsw
 -- an event, or want of memory that left all as it was
 abbrev pub Applies : CellView → ℕ → FabricCall → FabricAnswer → CellView → Type 0
 Applies old who c a new = Happens old who c a new ⊎ ((a ≡ Memory) × (new ≡ old))
+
+-- An event that closes and opens no ticket is recorded as it happened; or there was no memory, and nothing changed.
+pub record Serves (old : LogletView) (before : List Event) (who : ℕ) (c : FabricCall) (a : FabricAnswer) (new : LogletView) (now : List Event) : Type 0 where
+  pub steps : LogletSteps
+  pub are : StepsOf c a steps
+  pub run : LogletRun old steps new
+  pub recorded : now ≡ before ++ record { who = who; call = c; answer = a } ∷ []
+
+abbrev pub ServerApplies : LogletView → List Event → ℕ → FabricCall → FabricAnswer → LogletView → List Event → Type 0
+ServerApplies old before who c a new now = Serves old before who c a new now ⊎ ((a ≡ Memory) × (new ≡ old) × (now ≡ before))

@@ -1,20 +1,21 @@
 -- What a fabric shows, and what holds of it.
 use Rattle.std.specs.Prelude.{◌≡◌, ◌≢◌, ℕ, ◌+◌, ◌≤◌, Bool, true, false, List, [], ◌∷◌, ◌++◌, length, map, slice_get, Option, Some, None}
 use Rattle.delos_types.specs.declared.entry.Entry.{Entry}
+use Rattle.delos_types.specs.declared.chain.Chain.{Chain}
 use Rattle.loglet_api.specs.View.{LogletView, Operation, operation_at}
 use Rattle.loglet_api.specs.Sound.{IsSound}
 use Rattle.loglet_api.specs.Step.{task_of}
 use Rattle.loglet_api.specs.Keeps.{work_of}
 use Rattle.legal_journal.specs.declared.events.FabricCall.{FabricCall}
-use Rattle.legal_journal.specs.declared.events.FabricCall.TheVariants.{ReadChain}
+use Rattle.legal_journal.specs.declared.events.FabricCall.TheVariants.{WriteChain, MendMeta}
 use Rattle.legal_journal.specs.declared.events.FabricAnswer.{FabricAnswer}
-use Rattle.legal_journal.specs.declared.events.FabricAnswer.TheVariants.{At, Down, Memory}
 use Rattle.legal_journal.specs.declared.events.Event.{Event}
 use Rattle.legal_journal.specs.Told.{Running}
 use Rattle.legal_journal.specs.Journal.{CellState, RegisterState, State, state_of, IsLegal, IsCurrent, patience}
 use Rattle.legal_journal.specs.Turns.{OwnEvents}
-use Rattle.fabric_core.specs.Register.{RegisterView}
-use Rattle.fabric_core.specs.Runs.{HasRun}
+use Rattle.register_api.specs.View.{RegisterView}
+use Rattle.register_api.specs.Calls.{IsStill}
+use Rattle.fabric_core.specs.Runs.{HasRun, HasRegisterRun}
 
 -- the loglets of the shelf, the register, and the journal of all events
 pub record FabricView : Type 0 where
@@ -56,10 +57,14 @@ pub record AreMarked (c : CellState) (marks : List Bool) : Type 0 where
   pub count : length marks ≡ c.told.begun
   pub each : (t : ℕ) → IsMarked (c.told.ops t) (slice_get marks t)
 
--- a register is as the journal tells it
+-- A register is as the journal tells it: it gave last what is known; what stands is that, or the write that faulted; and a
+-- write that a reopening may find is the one that faulted, over what is known.
 pub record IsRegisterAsTold (r : RegisterState) (v : RegisterView) : Type 0 where
   pub down : v.down ≡ r.down
+  pub given : v.given ≡ r.version
+  pub given_chain : v.given_chain ≡ r.chain
   pub current : IsCurrent r v.version v.chain
+  pub torn : (c : Chain) → v.asked ≡ Some c → (r.asked ≡ Some c) × (v.version ≡ r.version) × (v.chain ≡ r.chain)
 
 pub record CellOk (w : State) (i : ℕ) (journal : List Event) (v : LogletView) (mark : Option (List Bool)) : Type 0 where
   pub told : IsAsTold (w.cells i) v
@@ -74,6 +79,7 @@ pub record FabricOk (may : ℕ → Entry → Type 0) (floor : List Entry → ℕ
   pub shelf_is : map (λ v. v.servers) f.cells ≡ shelf
   pub cells : (i : ℕ) (v : LogletView) → slice_get f.cells i ≡ Some v → CellOk (state_of f.journal) i f.journal v (slice_get marks i)
   pub register : IsRegisterAsTold (state_of f.journal).register f.register
+  pub register_ran : HasRegisterRun f.journal f.register
 
 -- the own events of a call are added
 pub record Adds (old : List Event) (who : ℕ) (call : FabricCall) (answer : FabricAnswer) (new : List Event) : Type 0 where
@@ -81,18 +87,15 @@ pub record Adds (old : List Event) (who : ℕ) (call : FabricCall) (answer : Fab
   pub event : OwnEvents who call answer own
   pub added : new ≡ old ++ own
 
+-- What a call that adds no event leaves: all as it was, but that a write or a reopening of the register may have counted
+-- a fault.
+abbrev pub Stays : FabricCall → FabricView → FabricView → Type 0
+Stays (WriteChain x c) old new = (r : RegisterView) × IsStill old.register r × (new ≡ record old { register = r })
+Stays (MendMeta word) old new = (r : RegisterView) × IsStill old.register r × (new ≡ record old { register = r })
+Stays call old new = new ≡ old
+
 -- A call adds its event, and the journal stays legal; with Memory nothing changes, but as a Carry's event tells.
 pub record Keeps (may : ℕ → Entry → Type 0) (floor : List Entry → ℕ) (shelf : List ℕ) (old : FabricView) (who : ℕ) (call : FabricCall) (answer : FabricAnswer) (new : FabricView) : Type 0 where
   pub adds : Adds old.journal who call answer new.journal
   pub legal : IsLegal may floor shelf new.journal
-  pub same : new.journal ≡ old.journal → new ≡ old
-
--- a read of the register, recorded; with Memory nothing changes
-abbrev pub ReadsAs : RegisterView → List Event → ℕ → FabricAnswer → RegisterView → List Event → Type 0
-ReadsAs old journal who (At v c) new now =
-    (old.down ≡ false) × (v ≡ old.version) × (c ≡ old.chain) × (new ≡ old)
-    × (now ≡ journal ++ record { who = who; call = ReadChain; answer = At v c } ∷ [])
-ReadsAs old journal who Down new now =
-    (old.down ≡ true) × (new ≡ record old { faults = new.faults }) × (now ≡ journal ++ record { who = who; call = ReadChain; answer = Down } ∷ [])
-ReadsAs old journal who Memory new now = (new ≡ old) × (now ≡ journal)
-ReadsAs old journal who a new now = ⊥
+  pub same : new.journal ≡ old.journal → Stays call old new

@@ -1,5 +1,5 @@
 pub mod Log
-pub mod Register
 pub mod Runs
 pub mod CellEvent
 pub mod Fabric
+pub mod RegisterEvent

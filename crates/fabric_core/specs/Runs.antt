@@ -1,5 +1,5 @@
--- Which calls of its loglets a fabric makes for an event, and that each loglet's are a run of the loglet step.
-use Rattle.std.specs.Prelude.{◌≡◌, ◌⊎◌, ◌==◌, ℕ, Bool, false, MatchBool, List, [], ◌∷◌, None, Some}
+-- Which calls of its loglets and its register a fabric makes for an event, and that those of each are a run.
+use Rattle.std.specs.Prelude.{◌≡◌, ◌⊎◌, ◌==◌, ℕ, Bool, true, false, MatchBool, List, [], ◌∷◌, None, Some, Ok}
 use Rattle.loglet_api.specs.declared.call.Refused.TheVariants as refused
 use Rattle.loglet_api.specs.declared.call.LogletCall.{LogletCall}
 use Rattle.loglet_api.specs.declared.call.LogletCall.TheVariants as call
@@ -7,10 +7,16 @@ use Rattle.loglet_api.specs.declared.call.LogletAnswer.{LogletAnswer}
 use Rattle.loglet_api.specs.declared.call.LogletAnswer.TheVariants as answer
 use Rattle.loglet_api.specs.View.{LogletView, IsFresh}
 use Rattle.loglet_api.specs.Run.{LogletRun}
+use Rattle.delos_types.specs.declared.chain.Chain.{Chain}
+use Rattle.register_api.specs.declared.answer.ReadAnswer.TheVariants as read
+use Rattle.register_api.specs.declared.answer.WriteAnswer.TheVariants as write
+use Rattle.register_api.specs.View as register
+use Rattle.register_api.specs.View.{RegisterView}
+use Rattle.register_api.specs.Calls.{Reads, Writes, Reopens, IsStill}
 use Rattle.legal_journal.specs.declared.events.FabricCall.{FabricCall}
 use Rattle.legal_journal.specs.declared.events.FabricCall.TheVariants.{Begin, Carry, Forget, ReadChain, WriteChain, Stop, Mend, Stray, StopMeta, MendMeta}
 use Rattle.legal_journal.specs.declared.events.FabricAnswer.{FabricAnswer}
-use Rattle.legal_journal.specs.declared.events.FabricAnswer.TheVariants.{Begun, Full, Done, Going, NoTicket, Gone, Set, Memory}
+use Rattle.legal_journal.specs.declared.events.FabricAnswer.TheVariants.{Begun, Full, Done, Going, NoTicket, Gone, At, Down, Written, Conflict, MetaFault, Set, Memory}
 use Rattle.legal_journal.specs.declared.events.Event.{Event}
 
 abbrev pub LogletSteps : Type 0
@@ -30,9 +36,9 @@ StepsOf (Carry i t word) Memory steps = CarriesFirst t word ((call.Forget t, ans
 StepsOf (Carry i t word) NoTicket steps = steps ≡ []
 StepsOf (Forget i t) Gone steps = steps ≡ (call.Forget t, answer.Forgotten) ∷ []
 StepsOf (Forget i t) NoTicket steps = steps ≡ []
-StepsOf (Stop i server n) (Set b) steps = steps ≡ (call.Stop server n, answer.Stopped) ∷ []
+StepsOf (Stop i server n) (Set true) steps = steps ≡ (call.Stop server n, answer.Stopped) ∷ []
 StepsOf (Mend i server word) (Set b) steps = steps ≡ (call.Restart server word, answer.Restarted b) ∷ []
-StepsOf (Stray i word) (Set b) steps = steps ≡ (call.Stray word, answer.Strayed) ∷ []
+StepsOf (Stray i word) (Set true) steps = steps ≡ (call.Stray word, answer.Strayed) ∷ []
 StepsOf c a steps = ⊥
 
 -- the call is of this cell
@@ -64,3 +70,44 @@ pub record HasRun (i : ℕ) (events : List Event) (now : LogletView) : Type 0 wh
   pub fresh : IsFresh opening
   pub servers : now.servers ≡ opening.servers
   pub run : CellRun i opening events now
+
+-- what the call and its answer do to the register
+abbrev pub RegisterDoes : RegisterView → FabricCall → FabricAnswer → RegisterView → Type 0
+RegisterDoes old ReadChain (At version chain) new = Reads old (Ok (read.At version chain)) new
+RegisterDoes old ReadChain Down new = Reads old (Ok read.Down) new
+RegisterDoes old (WriteChain x c) (Written version) new = Writes old x c (Ok (write.Written version)) new
+RegisterDoes old (WriteChain x c) (Conflict version chain) new = Writes old x c (Ok (write.Conflict version chain)) new
+RegisterDoes old (WriteChain x c) MetaFault new = Writes old x c (Ok write.MetaFault) new
+RegisterDoes old (WriteChain x c) Down new = Writes old x c (Ok write.Down) new
+RegisterDoes old (StopMeta n) (Set true) new = new ≡ old
+RegisterDoes old (MendMeta word) (Set b) new = Reopens old (Ok b) new
+RegisterDoes old call answer new = ⊥
+
+-- the call is of the register
+abbrev pub is_on_register : FabricCall → Bool
+is_on_register ReadChain = true
+is_on_register (WriteChain x c) = true
+is_on_register (StopMeta n) = true
+is_on_register (MendMeta word) = true
+is_on_register (Begin j op) = false
+is_on_register (Carry j t word) = false
+is_on_register (Forget j t) = false
+is_on_register (Stop j server n) = false
+is_on_register (Mend j server word) = false
+is_on_register (Stray j word) = false
+
+-- what the event does to the register
+abbrev pub RegisterStep : RegisterView → Event → RegisterView → Type 0
+RegisterStep old e new = MatchBool (is_on_register e.call) (RegisterDoes old e.call e.answer new) (new ≡ old)
+
+-- The events are a run of the register. A write or a reopening that had no memory is no event, and may count a fault.
+abbrev pub RegisterRun : RegisterView → List Event → RegisterView → Type 0
+RegisterRun old [] new = IsStill old new
+RegisterRun old (e ∷ es) new =
+    (before : RegisterView) × IsStill old before × ((mid : RegisterView) × RegisterStep before e mid × RegisterRun mid es new)
+
+-- the events are a run of the register from a fresh one to this one
+pub record HasRegisterRun (events : List Event) (now : RegisterView) : Type 0 where
+  pub opening : RegisterView
+  pub fresh : register.IsFresh opening
+  pub run : RegisterRun opening events now

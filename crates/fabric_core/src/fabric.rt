@@ -5,18 +5,21 @@ ghost use Rattle.loglet_api.specs.View.{LogletView, IsFresh};
 ghost use Rattle.loglet_api.specs.Sound.{IsSound};
 ghost use Rattle.legal_journal.specs.Journal.{IsLegal, state_of, log_at, trim_of, tail_of};
 ghost use Rattle.legal_journal.specs.Turns.{MayCall};
-ghost use Rattle.fabric_core.specs.Register.{IsFreshRegister};
+ghost use Rattle.register_api.specs.View as view;
 ghost use Rattle.fabric_core.specs.Log.{virtual_log_at, virtual_tail};
-ghost use Rattle.fabric_core.specs.Runs.{HasRun};
-ghost use Rattle.fabric_core.specs.Fabric.{Adds, Keeps, ReadsAs};
+ghost use Rattle.fabric_core.specs.Runs.{HasRun, HasRegisterRun};
+ghost use Rattle.fabric_core.specs.Fabric.{Keeps, IsRegisterAsTold};
 
 use crate::cell::{begin_in, carry_in, forget_in};
-use crate::register::{ReadAnswer, Register};
+use crate::chain::{arm_in, read_in, reopen_in, write_in};
+use crate::server::{mend_in, stop_in, stray_in};
+use delos_types::chain::Chain;
 use delos_types::numbers::Ticket;
 use legal_journal::events::{Event, FabricAnswer, FabricCall};
 use legal_journal::rules::Rules;
 use loglet_api::call::Op;
 use loglet_api::loglet::Loglet;
+use register_api::Register;
 use std::alloc::{AllocError, Global};
 use std::marker::{Model, PhantomData};
 
@@ -24,6 +27,7 @@ use std::marker::{Model, PhantomData};
 /// Cell i of the shelf is the loglet of segment id i.
 #[derive(Drop)]
 pub struct Fabric<L: Loglet, R: Register, P: Rules> {
+    alloc: Global,
     cells: Vec<L>,
     /// By cell, by ticket: whether it is open.
     marks: Vec<Vec<bool>>,
@@ -38,37 +42,10 @@ impl<L: Loglet, R: Register, P: Rules> Model for Fabric<L, R, P> {
 
     ghost Value = { FabricView };
 
-    ghost view = { λ f. record { cells = map L.view f.cells.items; register = R.shows f.register; journal = f.journal.items } };
+    ghost view = { λ f. record { cells = map L.view f.cells.items; register = R.view f.register; journal = f.journal.items } };
 
-    ghost invariant = { λ f. FabricOk P.may P.floor P.shelf (record { cells = map L.view f.cells.items; register = R.shows f.register; journal = f.journal.items })
+    ghost invariant = { λ f. FabricOk P.may P.floor P.shelf (record { cells = map L.view f.cells.items; register = R.view f.register; journal = f.journal.items })
         (map (λ m. m.items) f.marks.items) };
-}
-
-/// Reads the chain. Room for the event, and the journal's copy of the chain, are made before it.
-fn read_in<R: Register>(register: &mut R, journal: &mut Vec<Event>, who: u32) -> FabricAnswer
-    ensures { ReadsAs (R.shows register.old) journal.old.items who result (R.shows register.new) journal.new.items }
-{
-    if journal.reserve(1).is_err() {
-        return FabricAnswer::Memory;
-    }
-    match register.read() {
-        ReadAnswer::At(version, chain) => {
-            let Ok(copy) = chain.clone() else {
-                return FabricAnswer::Memory;
-            };
-            let call = FabricCall::ReadChain;
-            let answer = FabricAnswer::At(version, copy);
-            journal.push_reserved(Event { who, call, answer });
-            return FabricAnswer::At(version, chain);
-        }
-        ReadAnswer::Down => {
-            let call = FabricCall::ReadChain;
-            let answer = FabricAnswer::Down;
-            journal.push_reserved(Event { who, call, answer });
-            return FabricAnswer::Down;
-        }
-        ReadAnswer::Memory => return FabricAnswer::Memory,
-    }
 }
 
 /// The parts of a fabric.
@@ -99,14 +76,15 @@ impl<L: Loglet, R: Register, P: Rules> Fabric<L, R, P> {
         requires shelf { map (λ v. v.servers) (map L.view cells.items) ≡ P.shelf }
         requires fresh { All (λ l. IsFresh (L.view l)) cells.items }
         requires sound { All (λ l. IsSound (L.view l)) cells.items }
-        requires register { IsFreshRegister (R.shows register) }
-        ensures ok { IfOk result (λ f. f ≡ record { cells = map L.view cells.items; register = R.shows register; journal = [] }) }
+        requires register { view.IsFresh (R.view register) }
+        ensures ok { IfOk result (λ f. f ≡ record { cells = map L.view cells.items; register = R.view register; journal = [] }) }
         ensures err { IfErr result (λ p. (p.cells ≡ cells) × (p.register ≡ register)) }
     {
         let Ok(marks) = no_marks(alloc, cells.len()) else {
             return Err(Parts { cells, register });
         };
         Ok(Fabric {
+            alloc,
             cells,
             marks,
             register,
@@ -118,9 +96,10 @@ impl<L: Loglet, R: Register, P: Rules> Fabric<L, R, P> {
     /// The parts, as they are now. Takes no memory.
     pub fn into_parts(self) -> Parts<L, R>
         ensures cells { map L.view result.cells.items ≡ self.cells }
-        ensures register { R.shows result.register ≡ self.register }
+        ensures register { R.view result.register ≡ self.register }
     {
         let Fabric {
+            alloc: _,
             cells,
             marks: _,
             register,
@@ -136,6 +115,10 @@ impl<L: Loglet, R: Register, P: Rules> Fabric<L, R, P> {
         ensures legal { IsLegal P.may P.floor P.shelf self.now.journal }
         ensures runs { (i : ℕ) (v : LogletView) → slice_get self.now.cells i ≡ Some v → HasRun i self.now.journal v }
         ensures shelf { map (λ v. v.servers) self.now.cells ≡ P.shelf }
+
+        // The register's events are a run of it, and what it shows is what the journal tells.
+        ensures register_runs { HasRegisterRun self.now.journal self.now.register }
+        ensures register { IsRegisterAsTold (state_of self.now.journal).register self.now.register }
 
         // What the loglets show is what the journal tells.
         ensures shows { (pos : ℕ) → trim_of (state_of self.now.journal) ≤ pos
@@ -194,14 +177,64 @@ impl<L: Loglet, R: Register, P: Rules> Fabric<L, R, P> {
     fn read_chain(&mut self, who: u32) -> FabricAnswer
         ensures { Keeps P.may P.floor P.shelf self.old who FabricCall.ReadChain result self.new }
     {
-        read_in(&mut self.register, &mut self.journal, who)
+        read_in(self.alloc, &mut self.register, &mut self.journal, who)
     }
 
-    /// Makes one event. With `Memory` nothing changes, but for a `Carry` whose event has that answer.
+    fn write_chain(&mut self, who: u32, expected: u64, chain: Chain) -> FabricAnswer
+        requires { MayCall (state_of self.old.journal) P.may P.floor P.shelf who (FabricCall.WriteChain expected chain) }
+        ensures { Keeps P.may P.floor P.shelf self.old who (FabricCall.WriteChain expected chain) result self.new }
+    {
+        write_in(
+            self.alloc,
+            &mut self.register,
+            &mut self.journal,
+            who,
+            expected,
+            chain,
+        )
+    }
+
+    fn stop(&mut self, who: u32, cell: u32, server: u32, after: u64) -> FabricAnswer
+        requires { MayCall (state_of self.old.journal) P.may P.floor P.shelf who (FabricCall.Stop cell server after) }
+        ensures { Keeps P.may P.floor P.shelf self.old who (FabricCall.Stop cell server after) result self.new }
+    {
+        let loglet = &mut self.cells[cell as usize];
+        stop_in(loglet, &mut self.journal, who, cell, server, after)
+    }
+
+    fn mend(&mut self, who: u32, cell: u32, server: u32, word: u64) -> FabricAnswer
+        requires { MayCall (state_of self.old.journal) P.may P.floor P.shelf who (FabricCall.Mend cell server word) }
+        ensures { Keeps P.may P.floor P.shelf self.old who (FabricCall.Mend cell server word) result self.new }
+    {
+        let loglet = &mut self.cells[cell as usize];
+        mend_in(loglet, &mut self.journal, who, cell, server, word)
+    }
+
+    fn stray(&mut self, who: u32, cell: u32, word: u64) -> FabricAnswer
+        requires { MayCall (state_of self.old.journal) P.may P.floor P.shelf who (FabricCall.Stray cell word) }
+        ensures { Keeps P.may P.floor P.shelf self.old who (FabricCall.Stray cell word) result self.new }
+    {
+        let loglet = &mut self.cells[cell as usize];
+        stray_in(loglet, &mut self.journal, who, cell, word)
+    }
+
+    fn stop_meta(&mut self, who: u32, after: u64) -> FabricAnswer
+        ensures { Keeps P.may P.floor P.shelf self.old who (FabricCall.StopMeta after) result self.new }
+    {
+        arm_in(&mut self.register, &mut self.journal, who, after)
+    }
+
+    fn mend_meta(&mut self, who: u32, word: u64) -> FabricAnswer
+        ensures { Keeps P.may P.floor P.shelf self.old who (FabricCall.MendMeta word) result self.new }
+    {
+        reopen_in(&mut self.register, &mut self.journal, who, word)
+    }
+
+    /// Makes one event. With `Memory` nothing changes, but for a `Carry` whose event has that answer,
+    /// and for the register's faults, of which a write and a reopening may count one all the same.
     ///
-    /// So far the register takes no writes and no fault, and no server is stopped: the calls for
-    /// these answer `Memory`. Cost: that of the loglet's or the register's calls, and O(1) beside
-    /// them, amortized.
+    /// Cost: that of the loglet's or the register's calls, and O(1) beside them, amortized. A chain
+    /// that the register gives is copied, of 64 segments at most.
     pub fn apply(&mut self, who: u32, call: FabricCall) -> FabricAnswer
         requires { MayCall (state_of self.old.journal) P.may P.floor P.shelf who call }
         ensures { Keeps P.may P.floor P.shelf self.old who call result self.new }
@@ -211,10 +244,14 @@ impl<L: Loglet, R: Register, P: Rules> Fabric<L, R, P> {
             FabricCall::Carry(cell, ticket, word) => return self.carry(who, cell, ticket, word),
             FabricCall::Forget(cell, ticket) => return self.forget(who, cell, ticket),
             FabricCall::ReadChain => return self.read_chain(who),
-            _ => {
-                let _journal = &self.journal;
-                return FabricAnswer::Memory;
+            FabricCall::WriteChain(expected, chain) => {
+                return self.write_chain(who, expected, chain);
             }
+            FabricCall::Stop(cell, server, after) => return self.stop(who, cell, server, after),
+            FabricCall::Mend(cell, server, word) => return self.mend(who, cell, server, word),
+            FabricCall::Stray(cell, word) => return self.stray(who, cell, word),
+            FabricCall::StopMeta(after) => return self.stop_meta(who, after),
+            FabricCall::MendMeta(word) => return self.mend_meta(who, word),
         }
     }
 }

@@ -1,11 +1,11 @@
 //! Turns of one thread.
 
 use crate::fabric::Fabric;
-use crate::register::Register;
 use legal_journal::events::{FabricAnswer, FabricCall};
 use legal_journal::rules::Rules;
 use legal_journal::turns::Turns;
 use loglet_api::loglet::Loglet;
+use register_api::Register;
 
 /// The one user of a fabric, under its number.
 #[derive(Drop)]

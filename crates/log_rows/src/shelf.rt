@@ -1,16 +1,19 @@
 //! A shelf of one loglet of any kind, under a virtual log.
 ghost use Rattle.delos_types.specs.Spelling.{IsSpellable};
 ghost use Rattle.loglet_api.specs.View.{IsFresh};
+ghost use Rattle.std.specs.Prelude.{IfSome};
+ghost use Rattle.register_api.specs.View as register;
 
 use delos_types::entry::Entry;
+use disk_model::MemDisk;
 use fabric_core::fabric::Fabric;
 use fabric_core::own::Own;
-use fabric_core::register::FirstChain;
+use fate_words::chooser::Calm;
 use legal_journal::rules::Rules;
 use loglet_api::loglet::Loglet;
+use meta_register::MetaRegister;
 use std::alloc::Global;
 use virtual_log::calls::Next;
-use virtual_log::chooser::Chooser;
 use virtual_log::fault::Fault;
 use virtual_log::log::VirtualLog;
 
@@ -28,13 +31,16 @@ impl Rules for Anyone {
     ghost shelf = { 1 ∷ [] };
 }
 
-/// Always the word 0.
-#[derive(Drop)]
-pub struct Zeros;
+/// A register on a disk in memory.
+pub type Register = MetaRegister<MemDisk>;
 
-impl Chooser for Zeros {
-    fn word(&mut self) -> u64 {
-        0
+/// A register to which nothing was written.
+pub fn fresh_register(alloc: Global) -> Option<Register>
+    ensures { IfSome result (λ made. register.IsFresh made.register) }
+{
+    match MetaRegister::open_on(alloc, MemDisk::new(alloc)) {
+        Ok(register) => Some(register),
+        Err(_) => None,
     }
 }
 
@@ -81,14 +87,12 @@ pub fn calls_on<L: Loglet>(alloc: Global, loglet: L, entry: &Entry) -> Option<An
     if cells.push(loglet).is_err() {
         return None;
     }
-    let Ok(register) = FirstChain::new(alloc) else {
-        return None;
-    };
-    let Ok(fabric) = Fabric::<L, FirstChain, Anyone>::new(alloc, cells, register) else {
+    let register = fresh_register(alloc)?;
+    let Ok(fabric) = Fabric::<L, Register, Anyone>::new(alloc, cells, register) else {
         return None;
     };
     let _journal = fabric.journal();
-    let Ok(mut log) = VirtualLog::new(alloc, Own { who: 1, fabric }, Zeros) else {
+    let Ok(mut log) = VirtualLog::new(alloc, Own { who: 1, fabric }, Calm, 1) else {
         return None;
     };
     let first = log.append(entry);

@@ -8,7 +8,7 @@ use Rattle.delos_types.specs.Spelling.{IsSpellable}
 use Rattle.loglet_api.specs.declared.call.Op.{Op}
 use Rattle.loglet_api.specs.declared.call.Op.TheVariants.{Append, Tail, Read}
 use Rattle.loglet_api.specs.declared.call.Answer.{Answer}
-use Rattle.loglet_api.specs.declared.call.Answer.TheVariants.{Placed, SealedTail, OpenTail, Sealed}
+use Rattle.loglet_api.specs.declared.call.Answer.TheVariants.{Placed, SealedTail, SealDone, OpenTail, Sealed}
 use Rattle.legal_journal.specs.Told.{Told, Running, started}
 use Rattle.legal_journal.specs.declared.events.Event.{Event}
 use Rattle.legal_journal.specs.declared.events.FabricCall.TheVariants.{Begin}
@@ -137,6 +137,9 @@ module _ (may : ℕ → Entry → Type 0) (floor : List Entry → ℕ) (shelf : 
 
   pub sealed_ok : (who : ℕ) (mid new : List Event) (i t : ℕ) (r : Running) → Answered who mid i t r Sealed new → ((state_of new).cells i).told.sealed ≡ true
   sealed_ok who mid new i t r a = ap (λ (x : Told). x.sealed) a.told
+
+  pub sealing_ok : (who : ℕ) (mid new : List Event) (i t : ℕ) (r : Running) → Answered who mid i t r SealDone new → ((state_of new).cells i).told.sealed ≡ true
+  sealing_ok who mid new i t r a = ap (λ (x : Told). x.sealed) a.told
 
   -- what an open tail brings
   pub record Finding (who : ℕ) (old new : List Event) (i s : ℕ) (pos : ℕ) : Type 0 where

@@ -23,6 +23,12 @@ module _ (may : ℕ → Entry → Type 0) (floor : List Entry → ℕ) (shelf : 
   last_there es v k c s legal g is =
       subst (λ (x : Segment). (state_of es).starts x.id ≡ Some x.start) (sym is) (last_started (length shelf) (state_of es) v c (sound may floor shelf es legal) g.given)
 
+  -- the last loglet of a chain that was given is in the shelf
+  pub last_within : (es : List Event) (v k : ℕ) (c : Chain) (s : Segment) → IsLegal may floor shelf es → GoesBy (state_of es) v c k → s ≡ last_segment c → (s.id < length shelf) × (length shelf ≤ 64)
+  last_within es v k c s legal g is =
+      let ok = sound may floor shelf es legal in
+      (omega (arith, (ok.olds v c g.given).last, ok.shelf, ap (λ (x : Segment). x.id) is), ok.few)
+
   pub there_later : (a b : List Event) (i s : ℕ) → Later may floor shelf a b → (state_of a).starts i ≡ Some s → (state_of b).starts i ≡ Some s
   there_later a b i s later at = (later_continues may floor shelf a b later).starts i s at
 
@@ -61,24 +67,27 @@ module _ (may : ℕ → Entry → Type 0) (floor : List Entry → ℕ) (shelf : 
       let ok = sound may floor shelf es legal in
       omega (arith, up, (ok.olds v c g.given).last, ok.shelf)
 
-  -- the chain that the register gives now may be gone by
-  pub goes_now : (who v k n : ℕ) (c d : Chain) (a b : List Event) → IsLegal may floor shelf a → Later may floor shelf a b → GoesBy (state_of a) v c k → Looked who a n d b → GoesBy (state_of b) n d k
-  goes_now who v k n c d a b legal later g l =
-      let given = given_now may floor shelf who n d a b later.legal l in
-      let ok = sound may floor shelf b later.legal in
-      let on = goes_later a b v k c later g in
-      let s = last_segment c in
-      let up : s.id ≤ (last_segment d).id = omega (arith, (ok.olds v c on.given).last, ap (λ (x : Chain). (last_of_segments x.segments).id) l.chain_is) in
-      by_test given on up (nat_lt s.id (last_segment d).id) refl
+  -- a chain that was given and whose last loglet is no earlier may be gone by
+  pub goes_onto : (v k n : ℕ) (c d : Chain) (a b : List Event) → IsLegal may floor shelf a → Later may floor shelf a b → GoesBy (state_of a) v c k → (state_of b).register.given n ≡ Some d → (last_segment c).id ≤ (last_segment d).id → GoesBy (state_of b) n d k
+  goes_onto v k n c d a b legal later g given up = by_test (nat_lt (last_segment c).id (last_segment d).id) refl
     where
-      by_test : (state_of b).register.given n ≡ Some d → GoesBy (state_of b) v c k → (last_segment c).id ≤ (last_segment d).id → (t : Bool) → nat_lt (last_segment c).id (last_segment d).id ≡ t → GoesBy (state_of b) n d k
-      by_test given on up true t = goes_behind a b v k n c d (last_segment c) legal later g refl given (grind (arith, nat_tests))
-      by_test given on up false t =
+      by_test : (t : Bool) → nat_lt (last_segment c).id (last_segment d).id ≡ t → GoesBy (state_of b) n d k
+      by_test true t = goes_behind a b v k n c d (last_segment c) legal later g refl given (grind (arith, nat_tests))
+      by_test false t =
           let ok = sound may floor shelf b later.legal in
+          let on = goes_later a b v k c later g in
           let same : (last_segment c).id ≡ (last_segment d).id = grind (arith, nat_tests) in
           let both : Some (last_segment c).start ≡ Some (last_segment d).start = sym (last_started (length shelf) (state_of b) v c ok on.given) ∙ (ap (state_of b).starts same ∙ last_started (length shelf) (state_of b) n d ok given) in
           let start_is : (last_segment c).start ≡ (last_segment d).start = cc in
           record { given = given; reached = omega (arith, on.reached, start_is, ap (λ i. ((state_of b).cells i).told.reach) same) }
+
+  -- the chain that the register gives now may be gone by
+  pub goes_now : (who v k n : ℕ) (c d : Chain) (a b : List Event) → IsLegal may floor shelf a → Later may floor shelf a b → GoesBy (state_of a) v c k → Looked who a n d b → GoesBy (state_of b) n d k
+  goes_now who v k n c d a b legal later g l =
+      let ok = sound may floor shelf b later.legal in
+      let on = goes_later a b v k c later g in
+      goes_onto v k n c d a b legal later g (given_now may floor shelf who n d a b later.legal l)
+      (omega (arith, (ok.olds v c on.given).last, ap (λ (x : Chain). (last_of_segments x.segments).id) l.chain_is))
 
   -- the chain that the register gives now has the log's trim, which is small
   pub trim_now : (who n : ℕ) (d : Chain) (a b : List Event) → Later may floor shelf a b → Looked who a n d b → (d.trim ≡ trim_of (state_of b)) × (d.trim ≤ 2 ^ 38)

@@ -3,4 +3,7 @@ pub mod Appending
 pub mod Replacing
 pub mod Lasts
 pub mod Going
+pub mod Closing
+pub mod Raising
+pub mod Trimming
 pub mod Reading

@@ -9,8 +9,8 @@ use Rattle.legal_journal.specs.Told.{Running, MayAnswer, started}
 use Rattle.legal_journal.specs.declared.events.Event.{Event}
 use Rattle.legal_journal.specs.declared.events.FabricCall.{FabricCall}
 use Rattle.legal_journal.specs.declared.events.FabricAnswer.{FabricAnswer}
-use Rattle.legal_journal.specs.declared.events.FabricCall.TheVariants.{Begin, Carry, ReadChain}
-use Rattle.legal_journal.specs.declared.events.FabricAnswer.TheVariants.{Begun, Full, Done, Going, At, Down}
+use Rattle.legal_journal.specs.declared.events.FabricCall.TheVariants.{Begin, Carry, ReadChain, WriteChain}
+use Rattle.legal_journal.specs.declared.events.FabricAnswer.TheVariants.{Begun, Full, Done, Going, At, MetaFault, Down}
 use Rattle.legal_journal.specs.Moves.{Begins, Carries, Answers}
 use Rattle.legal_journal.specs.Journal.{CellState, State, cell_after, answered_by, state_of, start, IsOwn, IsLegal, IsLegalFrom, patience}
 use Rattle.legal_journal.specs.Laws.{Continues}
@@ -33,8 +33,7 @@ module _ (may : ℕ → Entry → Type 0) (floor : List Entry → ℕ) (shelf : 
       let k = took may floor shelf old t.others _ new t.legal (t.seen ∙ ap (λ es. (old ++ t.others) ++ es) t.event) in record {
         others = t.others;
         apart = t.apart;
-        rest = t.own;
-        seen = t.seen;
+        seen = t.seen ∙ ap (λ es. (old ++ t.others) ++ es) t.event;
         version_is = ap (λ (w : State). w.register.version) k.now;
         chain_is = ap (λ (w : State). w.register.chain) k.now;
       }
@@ -50,6 +49,7 @@ module _ (may : ℕ → Entry → Type 0) (floor : List Entry → ℕ) (shelf : 
           is_open = put_same (w.cells i).told.ops t _;
           own = put_same (w.cells i).owner t who;
         });
+        event = record { event = record { who = who; call = Begin i op; answer = Begun t }; is = refl; before = h.others; after = []; seen = h.seen ∙ ap (λ es. (old ++ h.others) ++ es) h.event };
       }
 
   -- an own ticket may be carried, whatever others do first
@@ -98,6 +98,12 @@ module _ (may : ℕ → Entry → Type 0) (floor : List Entry → ℕ) (shelf : 
 
   pub down_cause : IsTurn may floor shelf who old ReadChain Down new → HasCause who old fault.Meta new
   down_cause h = record { event = record { who = who; call = ReadChain; answer = Down }; is = (refl, tt); before = h.others; after = []; seen = h.seen ∙ ap (λ es. (old ++ h.others) ++ es) h.event }
+
+  pub meta_cause : (x : ℕ) (d : Chain) → IsTurn may floor shelf who old (WriteChain x d) MetaFault new → HasCause who old fault.Meta new
+  meta_cause x d h = record { event = record { who = who; call = WriteChain x d; answer = MetaFault }; is = (refl, tt); before = h.others; after = []; seen = h.seen ∙ ap (λ es. (old ++ h.others) ++ es) h.event }
+
+  pub gone_cause : (x : ℕ) (d : Chain) → IsTurn may floor shelf who old (WriteChain x d) Down new → HasCause who old fault.Meta new
+  gone_cause x d h = record { event = record { who = who; call = WriteChain x d; answer = Down }; is = (refl, tt); before = h.others; after = []; seen = h.seen ∙ ap (λ es. (old ++ h.others) ++ es) h.event }
 
 pub later_refl : (may : ℕ → Entry → Type 0) (floor : List Entry → ℕ) (shelf : List ℕ) (es : List Event) → IsLegal may floor shelf es → Later may floor shelf es es
 later_refl may floor shelf es h = record { more = []; seen = nil es; legal = h }

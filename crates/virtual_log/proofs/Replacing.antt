@@ -16,6 +16,7 @@ use Rattle.legal_journal.proofs.Log.{next, last_of_segments-extended_segments, l
 use Rattle.legal_journal.proofs.Sound.{StateOk}
 use Rattle.legal_journal.proofs.Legal.{sound, goes_on}
 use Rattle.legal_journal.proofs.Chains.{chain_ok}
+use Rattle.legal_journal.proofs.Cells.{put_same}
 use Rattle.legal_journal.proofs.Taken.{took}
 use Rattle.virtual_log.specs.Turning.{Looked}
 
@@ -47,6 +48,14 @@ fits cells w v t c ok given told =
     }
 
 -- a conflict brings a later version, and a chain whose last cell is no earlier
+pub record Lost (v : ℕ) (c : Chain) (n : ℕ) (e : Chain) (new : List Event) : Type 0 where
+  pub later : v < n
+  pub given : (state_of new).register.given n ≡ Some e
+  pub last : (last_of_segments c.segments).id ≤ (last_of_segments e.segments).id
+  pub is_last : last_segment (state_of new) ≡ last_of_segments e.segments
+  pub few : n ≤ 2 ^ 38 + 64
+
+-- and sealed tails stay answered
 pub record Conflicted (v t : ℕ) (c : Chain) (n : ℕ) (e : Chain) (new : List Event) : Type 0 where
   pub later : v < n
   pub given : (state_of new).register.given n ≡ Some e
@@ -54,6 +63,42 @@ pub record Conflicted (v t : ℕ) (c : Chain) (n : ℕ) (e : Chain) (new : List 
   pub is_last : last_segment (state_of new) ≡ last_of_segments e.segments
   pub told : Contains ((state_of new).cells (last_of_segments c.segments).id).ends t
   pub few : n ≤ 2 ^ 38 + 64
+
+module _ (may : ℕ → Entry → Type 0) (floor : List Entry → ℕ) (shelf : List ℕ) (who : ℕ) (old : List Event) (v : ℕ) (c d : Chain) (given : (state_of old).register.given v ≡ Some c) where
+  pub written_given : (n : ℕ) (new : List Event) → IsTurn may floor shelf who old (WriteChain v d) (Written n) new → (state_of new).register.given n ≡ Some d
+  written_given n new h =
+      let k = took may floor shelf old h.others _ new h.legal (h.seen ∙ ap (λ es. (old ++ h.others) ++ es) h.event) in
+      ap (λ (x : State). x.register.given n) k.now ∙ put_same (state_of (old ++ h.others)).register.given n (Some d)
+
+  pub lost_ok : (n : ℕ) (e : Chain) (new : List Event) → IsTurn may floor shelf who old (WriteChain v d) (Conflict n e) new → Lost v c n e new
+  lost_ok n e new h =
+      let k = took may floor shelf old h.others _ new h.legal (h.seen ∙ ap (λ es. (old ++ h.others) ++ es) h.event) in
+      let w = state_of (old ++ h.others) in
+      let chain_is : (state_of new).register.chain ≡ e = ap (λ (x : State). x.register.chain) k.now in
+      let version_is : (state_of new).register.version ≡ n = ap (λ (x : State). x.register.version) k.now in
+      let ok = k.now_ok in
+      let given_now = k.goes.given v c (k.before.given v c given) in
+      let old_one = ok.olds v c given_now in
+      let below : v ≤ w.register.version = born w v c k.ok (k.before.given v c given) in
+      let is_last : last_segment (state_of new) ≡ last_of_segments e.segments = ap (λ (x : Chain). last_of_segments x.segments) chain_is in
+      record {
+        later = rises w n e below k.allowed.2 k.allowed.1;
+        given = ap (state_of new).register.given (sym version_is) ∙ (ok.given ∙ ap (λ x. Some x) chain_is);
+        last = omega (arith, old_one.last, ap (λ (s : Segment). s.id) is_last);
+        is_last = is_last;
+        few = omega (arith, version_is, ok.version, ok.trim, ok.shelf, h.legal.most);
+      }
+    where
+      born : (w : State) (x : ℕ) (y : Chain) → StateOk (length shelf) w → w.register.given x ≡ Some y → x ≤ w.register.version
+      born w x y ok g = by_test (nat_lt w.register.version x) refl
+        where
+          by_test : (b : Bool) → nat_lt w.register.version x ≡ b → x ≤ w.register.version
+          by_test true b = let l : w.register.version < x = grind (arith, nat_tests) in let no : Some y ≡ None = sym g ∙ ok.unborn x l in absurd (cc)
+          by_test false b = grind (arith, nat_tests)
+
+      rises : (w : State) (m : ℕ) (y : Chain) → v ≤ w.register.version → v ≢ m → IsCurrent w.register m y → v < m
+      rises w m y l apart (inl x) = omega arith
+      rises w m y l apart (inr x) = omega arith
 
 module _ (may : ℕ → Entry → Type 0) (floor : List Entry → ℕ) (shelf : List ℕ) (who : ℕ) (old : List Event) (v t : ℕ) (c d : Chain) (given : (state_of old).register.given v ≡ Some c) (told : Contains ((state_of old).cells (last_of_segments c.segments).id).ends t) (is : d ≡ extended c t) where
   pub may_write : IsLegal may floor shelf old → MayTurn may floor shelf who old (WriteChain v d)
@@ -76,33 +121,14 @@ module _ (may : ℕ → Entry → Type 0) (floor : List Entry → ℕ) (shelf : 
   pub conflict_ok : (n : ℕ) (e : Chain) (new : List Event) → IsTurn may floor shelf who old (WriteChain v d) (Conflict n e) new → Conflicted v t c n e new
   conflict_ok n e new h =
       let k = took may floor shelf old h.others _ new h.legal (h.seen ∙ ap (λ es. (old ++ h.others) ++ es) h.event) in
-      let w = state_of (old ++ h.others) in
-      let chain_is : (state_of new).register.chain ≡ e = ap (λ (x : State). x.register.chain) k.now in
-      let version_is : (state_of new).register.version ≡ n = ap (λ (x : State). x.register.version) k.now in
-      let ok = k.now_ok in
-      let given_now = k.goes.given v c (k.before.given v c given) in
-      let old_one = ok.olds v c given_now in
-      let below : v ≤ w.register.version = born w v c k.ok (k.before.given v c given) in
-      let is_last : last_segment (state_of new) ≡ last_of_segments e.segments = ap (λ (x : Chain). last_of_segments x.segments) chain_is in
-      record {
-        later = rises w n e below k.allowed.2 k.allowed.1;
-        given = ap (state_of new).register.given (sym version_is) ∙ (ok.given ∙ ap (λ x. Some x) chain_is);
-        last = omega (arith, old_one.last, ap (λ (s : Segment). s.id) is_last);
-        is_last = is_last;
+      let x = lost_ok may floor shelf who old v c d given n e new h in record {
+        later = x.later;
+        given = x.given;
+        last = x.last;
+        is_last = x.is_last;
         told = (k.goes.cell (last_of_segments c.segments).id).ends t ((k.before.cell (last_of_segments c.segments).id).ends t told);
-        few = omega (arith, version_is, ok.version, ok.trim, ok.shelf, h.legal.most);
+        few = x.few;
       }
-    where
-      born : (w : State) (x : ℕ) (y : Chain) → StateOk (length shelf) w → w.register.given x ≡ Some y → x ≤ w.register.version
-      born w x y ok g = by_test (nat_lt w.register.version x) refl
-        where
-          by_test : (b : Bool) → nat_lt w.register.version x ≡ b → x ≤ w.register.version
-          by_test true b = let l : w.register.version < x = grind (arith, nat_tests) in let no : Some y ≡ None = sym g ∙ ok.unborn x l in absurd (cc)
-          by_test false b = grind (arith, nat_tests)
-
-      rises : (w : State) (m : ℕ) (y : Chain) → v ≤ w.register.version → v ≢ m → IsCurrent w.register m y → v < m
-      rises w m y l apart (inl x) = omega arith
-      rises w m y l apart (inr x) = omega arith
 
 -- a chain that the register just gave
 pub given_now : (may : ℕ → Entry → Type 0) (floor : List Entry → ℕ) (shelf : List ℕ) (who v : ℕ) (c : Chain) (old new : List Event) → IsLegal may floor shelf new → Looked who old v c new → (state_of new).register.given v ≡ Some c

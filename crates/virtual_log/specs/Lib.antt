@@ -3,3 +3,5 @@ pub mod Causes
 pub mod Tails
 pub mod Log
 pub mod Next
+pub mod Extending
+pub mod Truncating

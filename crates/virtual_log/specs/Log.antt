@@ -1,5 +1,5 @@
 -- What a virtual log shows, and what holds of it.
-use Rattle.std.specs.Prelude.{◌≡◌, ℕ, ◌+◌, ◌≤◌, List, Some}
+use Rattle.std.specs.Prelude.{◌≡◌, ℕ, ◌+◌, ◌≤◌, List, length, Some}
 use Rattle.delos_types.specs.declared.entry.Entry.{Entry}
 use Rattle.delos_types.specs.declared.chain.Chain.{Chain}
 use Rattle.chain_map.specs.Chain.{last_segment}
@@ -15,11 +15,19 @@ pub record LogView : Type 0 where
   pub version : ℕ
   pub chain : Chain
 
+-- what is left of it without its turns
+pub record RestedView : Type 0 where
+  pub known : ℕ
+  pub version : ℕ
+  pub chain : Chain
+  pub shelf_len : ℕ
+
 -- the register gave this chain, and the answers of its last loglet reach what is known
 pub record GoesBy (w : State) (version : ℕ) (chain : Chain) (known : ℕ) : Type 0 where
   pub given : w.register.given version ≡ Some chain
   pub reached : known ≤ (last_segment chain).start + (w.cells (last_segment chain).id).told.reach
 
-pub record LogOk (may : ℕ → Entry → Type 0) (floor : List Entry → ℕ) (shelf : List ℕ) (v : LogView) : Type 0 where
+pub record LogOk (may : ℕ → Entry → Type 0) (floor : List Entry → ℕ) (shelf : List ℕ) (v : LogView) (shelf_len : ℕ) : Type 0 where
+  pub count : shelf_len ≡ length shelf
   pub legal : IsLegal may floor shelf v.seen
   pub goes_by : GoesBy (state_of v.seen) v.version v.chain v.known

@@ -1,12 +1,12 @@
 -- What turns bring.
-use Rattle.std.specs.Prelude.{◌≡◌, ℕ, List, ◌∷◌, ◌++◌}
+use Rattle.std.specs.Prelude.{◌≡◌, ℕ, List, [], ◌∷◌, ◌++◌}
 use Rattle.delos_types.specs.declared.entry.Entry.{Entry}
 use Rattle.delos_types.specs.declared.chain.Chain.{Chain}
 use Rattle.loglet_api.specs.declared.call.Op.{Op}
 use Rattle.loglet_api.specs.declared.call.Answer.{Answer}
 use Rattle.legal_journal.specs.declared.events.Event.{Event}
-use Rattle.legal_journal.specs.declared.events.FabricCall.TheVariants.{Carry}
-use Rattle.legal_journal.specs.declared.events.FabricAnswer.TheVariants.{Done}
+use Rattle.legal_journal.specs.declared.events.FabricCall.TheVariants.{Begin, Carry, ReadChain}
+use Rattle.legal_journal.specs.declared.events.FabricAnswer.TheVariants.{Begun, Done, At}
 use Rattle.legal_journal.specs.Told.{Running, started, MayAnswer, answered}
 use Rattle.legal_journal.specs.Journal.{state_of, IsOwn, IsLegal, ends_told}
 use Rattle.legal_journal.specs.Laws.{Clears}
@@ -18,12 +18,11 @@ pub record Later (may : ℕ → Entry → Type 0) (floor : List Entry → ℕ) (
   pub seen : new ≡ old ++ more
   pub legal : IsLegal may floor shelf new
 
--- the register gave this chain
+-- the one own event since old is a read, to which the register gave this chain
 pub record Looked (who : ℕ) (old : List Event) (version : ℕ) (chain : Chain) (new : List Event) : Type 0 where
   pub others : List Event
   pub apart : AreOthers who others
-  pub rest : List Event
-  pub seen : new ≡ (old ++ others) ++ rest
+  pub seen : new ≡ (old ++ others) ++ record { who = who; call = ReadChain; answer = At version chain } ∷ []
   pub version_is : (state_of new).register.version ≡ version
   pub chain_is : (state_of new).register.chain ≡ chain
 
@@ -36,11 +35,6 @@ pub record FirstTurn (who : ℕ) (old new : List Event) : Type 0 where
   pub rest : List Event
   pub seen : new ≡ (old ++ others) ++ event ∷ rest
 
--- the operation is open and who's; it was begun by the first own event, with what had been told then
-pub record Opened (who : ℕ) (old : List Event) (i : ℕ) (op : Op) (t : ℕ) (new : List Event) : Type 0 where
-  pub first : FirstTurn who old new
-  pub own : IsOwn ((state_of new).cells i) who t (started ((state_of (old ++ first.others)).cells i).told op)
-
 -- an event since old is such
 pub record HasEvent (old : List Event) (P : Event → Type 0) (new : List Event) : Type 0 where
   pub event : Event
@@ -48,6 +42,12 @@ pub record HasEvent (old : List Event) (P : Event → Type 0) (new : List Event)
   pub before : List Event
   pub after : List Event
   pub seen : new ≡ (old ++ before) ++ event ∷ after
+
+-- the operation is open and who's; it was begun by the first own event, with what had been told then
+pub record Opened (who : ℕ) (old : List Event) (i : ℕ) (op : Op) (t : ℕ) (new : List Event) : Type 0 where
+  pub first : FirstTurn who old new
+  pub own : IsOwn ((state_of new).cells i) who t (started ((state_of (old ++ first.others)).cells i).told op)
+  pub event : HasEvent old (λ e. e ≡ record { who = who; call = Begin i op; answer = Begun t }) new
 
 -- who's carry of the ticket was answered so
 abbrev pub IsAnswer : ℕ → ℕ → ℕ → Answer → Event → Type 0

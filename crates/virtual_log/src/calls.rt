@@ -9,7 +9,6 @@ ghost use Rattle.virtual_log.specs.Causes.{HasCause};
 ghost use Rattle.virtual_log.specs.Log.{GoesBy};
 ghost use Rattle.virtual_log.specs.Next.{IsNext};
 
-use crate::chooser::Chooser;
 use crate::fault::Fault;
 use crate::operation::{FoundTail, append_to, find_tail};
 use crate::replace::{chain_behind, last_of};
@@ -17,6 +16,7 @@ use crate::turn::{begin, carry_on, look};
 use chain_map::place::{Located, locate};
 use delos_types::chain::Chain;
 use delos_types::entry::Entry;
+use fate_words::chooser::Chooser;
 use legal_journal::rules::Rules;
 use legal_journal::turns::Turns;
 use loglet_api::call::{Answer, Op};

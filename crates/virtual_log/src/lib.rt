@@ -3,20 +3,24 @@
 //!
 //! - `log`: the virtual log.
 //! - `calls`: its calls, each over as many turns as it takes.
+//! - `rest`: a virtual log between two times at which it has turns.
 //! - `fault`: why a call failed.
-//! - `chooser`: where the words of its carries come from.
 //! - `turn`: single turns.
 //! - `operation`: one operation on one loglet of the chain, from its begin to its answer.
 //! - `replace`: how the chain goes on behind a sealed loglet.
+//! - `extend`: the last loglet is replaced on request.
+//! - `truncate`: the trim is raised, and the loglets let go of what lies below it.
 //!
 //! The definitions stand in `specs/`: `Turning` (what turns bring), `Causes` (the cause of each fault), `Log` (what a
 //! virtual log shows, and what its answers say).
 #![tactic(auto)]
 
 pub mod calls;
-pub mod chooser;
+pub mod extend;
 pub mod fault;
 pub mod log;
 mod operation;
 mod replace;
+pub mod rest;
+pub mod truncate;
 mod turn;

@@ -1,19 +1,24 @@
 //! The virtual log.
-ghost use Rattle.std.specs.Prelude.{◌≡◌, ◌≤◌, ◌<◌, ◌+◌, ℕ, min, max, IfOk, IfErr, OnErr};
+ghost use Rattle.std.specs.Prelude.{◌≡◌, ◌≤◌, ◌<◌, ◌+◌, ℕ, length, min, max, IfOk, IfErr, OnErr};
 ghost use Rattle.delos_types.specs.Spelling.{IsSpellable};
 ghost use Rattle.chain_map.specs.Chain.{first_chain};
-ghost use Rattle.legal_journal.specs.Journal.{state_of, IsLegal, tail_of};
+ghost use Rattle.legal_journal.specs.Journal.{state_of, IsLegal, IsFree, tail_of};
 ghost use Rattle.legal_journal.specs.Laws.{Stands};
 ghost use Rattle.virtual_log.specs.Turning.{Later, IsAbove};
 ghost use Rattle.virtual_log.specs.Causes.{HasCause};
 ghost use Rattle.virtual_log.specs.Next.{IsNext};
-ghost use Rattle.virtual_log.specs.Log.{LogView};
+ghost use Rattle.virtual_log.specs.Log.{LogView, GoesBy};
+ghost use Rattle.virtual_log.specs.Extending.{IsExtension};
+ghost use Rattle.virtual_log.specs.Truncating.{IsTruncated, IsPrefixTrimmed};
 
 use crate::calls::{Known, Next, append_on, read_from, tail_on};
-use crate::chooser::Chooser;
+use crate::extend::{Extension, extend_on};
 use crate::fault::Fault;
+use crate::rest::Rested;
+use crate::truncate::{prefix_trim_on, truncate_on};
 use chain_map::change::first_chain;
 use delos_types::entry::Entry;
+use fate_words::chooser::Chooser;
 use legal_journal::rules::Rules;
 use legal_journal::turns::Turns;
 use std::alloc::Global;
@@ -23,10 +28,11 @@ use std::marker::Model;
 /// loglet, whoever began it, and goes on.
 #[derive(Drop)]
 pub struct VirtualLog<T: Turns, C: Chooser> {
-    alloc: Global,
-    turns: T,
-    chooser: C,
-    known: Known,
+    pub(crate) alloc: Global,
+    pub(crate) turns: T,
+    pub(crate) chooser: C,
+    pub(crate) shelf_len: u32,
+    pub(crate) known: Known,
 }
 
 /// What a virtual log was made of.
@@ -43,14 +49,15 @@ impl<T: Turns, C: Chooser> Model for VirtualLog<T, C> {
 
     ghost view = { λ l. record { who = T.who l.turns; seen = T.seen l.turns; known = l.known.tail; version = l.known.version; chain = l.known.chain } };
 
-    ghost invariant = { λ l. LogOk T.Law.may T.Law.floor T.Law.shelf (record { who = T.who l.turns; seen = T.seen l.turns; known = l.known.tail; version = l.known.version; chain = l.known.chain }) };
+    ghost invariant = { λ l. LogOk T.Law.may T.Law.floor T.Law.shelf (record { who = T.who l.turns; seen = T.seen l.turns; known = l.known.tail; version = l.known.version; chain = l.known.chain }) l.shelf_len };
 }
 
 impl<T: Turns, C: Chooser> VirtualLog<T, C> {
-    /// A virtual log that knows nothing yet but the first chain. Makes no event. Without memory it
-    /// hands the parts back.
-    pub fn new(alloc: Global, turns: T, chooser: C) -> Result<Self, Parts<T, C>>
-        requires { IsLegal T.Law.may T.Law.floor T.Law.shelf (T.seen turns) }
+    /// A virtual log that knows nothing yet but the first chain, over a shelf of so many loglets. Makes
+    /// no event. Without memory it hands the parts back.
+    pub fn new(alloc: Global, turns: T, chooser: C, shelf_len: u32) -> Result<Self, Parts<T, C>>
+        requires legal { IsLegal T.Law.may T.Law.floor T.Law.shelf (T.seen turns) }
+        requires shelf { shelf_len ≡ length T.Law.shelf }
         ensures ok { IfOk result (λ l. l ≡ record { who = T.who turns; seen = T.seen turns; known = 0; version = 1; chain = first_chain }) }
         ensures err { IfErr result (λ p. (p.turns ≡ turns) × (p.chooser ≡ chooser)) }
     {
@@ -66,6 +73,7 @@ impl<T: Turns, C: Chooser> VirtualLog<T, C> {
             alloc,
             turns,
             chooser,
+            shelf_len,
             known,
         })
     }
@@ -79,12 +87,36 @@ impl<T: Turns, C: Chooser> VirtualLog<T, C> {
             alloc: _,
             turns,
             chooser,
+            shelf_len: _,
             known: _,
         } = self;
         Parts { turns, chooser }
     }
 
-    /// The greatest position + 1 or tail that this value was answered. Takes no memory.
+    /// Gives the turns out, until `Rested::wake`. Takes no memory, and makes no event.
+    pub fn rest(self) -> (Rested<C>, T)
+        ensures rested { result.0 ≡ record { known = self.known; version = self.version; chain = self.chain; shelf_len = length T.Law.shelf } }
+        ensures goes_by { GoesBy (state_of self.seen) self.version self.chain self.known }
+        ensures who { T.who result.1 ≡ self.who }
+        ensures seen { T.seen result.1 ≡ self.seen }
+    {
+        let VirtualLog {
+            alloc,
+            turns,
+            chooser,
+            shelf_len,
+            known,
+        } = self;
+        let rested = Rested {
+            alloc,
+            chooser,
+            shelf_len,
+            known,
+        };
+        (rested, turns)
+    }
+
+    /// The greatest position + 1, tail or start that this value was answered. Takes no memory.
     pub fn known(&self) -> u64
         ensures value { result ≡ self.now.known }
         ensures within { result ≤ tail_of (state_of self.now.seen) }
@@ -144,6 +176,79 @@ impl<T: Turns, C: Chooser> VirtualLog<T, C> {
             &mut self.chooser,
             self.alloc,
             &mut self.known,
+        )
+    }
+
+    /// Seals the last loglet, and lets the chain go on in the next one of the shelf. Where another does so
+    /// first, answers `Moved`; where the shelf has no next loglet, `NoSpare`, and nothing is sealed.
+    ///
+    /// Cost: a read of the chain, a seal, a tail and a write. A write is tried again where others raised
+    /// the trim meanwhile.
+    pub fn extend(&mut self) -> Result<Extension, Fault>
+        ensures later { Later T.Law.may T.Law.floor T.Law.shelf self.old.seen self.new.seen }
+        ensures who { self.new.who ≡ self.old.who }
+
+        // By the chain of this call's first look: there is no next loglet exactly with `NoSpare`, which
+        // makes no other event. `Extended`: an own write stands, which closes that chain's last segment
+        // and goes on at `start`. `Moved`: an own write was refused, and by the chain that stands under
+        // that version another closed that segment.
+        ensures extension { IfOk result (IsExtension (length T.Law.shelf) self.old.who self.old.seen self.old.known self.new.known self.new.version self.new.seen) }
+        ensures err { IfErr result (λ fault. HasCause self.old.who self.old.seen fault self.new.seen) }
+        ensures unknown { OnErr result (self.new.known ≡ self.old.known) }
+    {
+        extend_on(
+            &mut self.turns,
+            &mut self.chooser,
+            self.alloc,
+            self.shelf_len,
+            &mut self.known,
+        )
+    }
+
+    /// Raises the trim of the chain to `n`, which is known and may be trimmed, and drops the segments
+    /// below it. Answers the version and the trim of the chain then. Writes nothing where the trim is
+    /// as high already.
+    ///
+    /// Cost: a read of the chain and a write, which is tried again where others changed the chain
+    /// meanwhile.
+    pub fn truncate(&mut self, n: u64) -> Result<(u64, u64), Fault>
+        requires known { n ≤ self.old.known }
+        requires free { IsFree (state_of self.old.seen).shown T.Law.floor n }
+        ensures later { Later T.Law.may T.Law.floor T.Law.shelf self.old.seen self.new.seen }
+        ensures who { self.new.who ≡ self.old.who }
+        ensures known { self.new.known ≡ self.old.known }
+
+        // An own write raised the trim to n; or the register told a chain whose trim isn't below n.
+        ensures truncated { IfOk result (λ x. IsTruncated self.old.who self.old.seen n x.0 x.1 self.new.seen) }
+        ensures stands { IfOk result (λ x. (x.0 ≡ self.new.version) × (x.1 ≡ self.new.chain.trim)) }
+        ensures err { IfErr result (λ fault. HasCause self.old.who self.old.seen fault self.new.seen) }
+    {
+        truncate_on(&mut self.turns, self.alloc, &mut self.known, n)
+    }
+
+    /// Raises the trim of the chain to `n`, as `truncate` does, and lets the loglets go of what lies
+    /// below it. Answers the trim.
+    ///
+    /// Cost: two reads of the chain, a write, and a trim of each loglet whose segment starts below `n`.
+    pub fn prefix_trim(&mut self, n: u64) -> Result<u64, Fault>
+        requires known { n ≤ self.old.known }
+        requires free { IsFree (state_of self.old.seen).shown T.Law.floor n }
+        ensures later { Later T.Law.may T.Law.floor T.Law.shelf self.old.seen self.new.seen }
+        ensures who { self.new.who ≡ self.old.who }
+        ensures known { self.new.known ≡ self.old.known }
+
+        // Each segment, of the chain that was looked at first, that starts below n was trimmed up to n or
+        // to its end.
+        ensures trimmed { IfOk result (λ trim. IsPrefixTrimmed self.old.who self.old.seen n trim self.new.seen) }
+        ensures stands { IfOk result (λ trim. trim ≡ self.new.chain.trim) }
+        ensures err { IfErr result (λ fault. HasCause self.old.who self.old.seen fault self.new.seen) }
+    {
+        prefix_trim_on(
+            &mut self.turns,
+            &mut self.chooser,
+            self.alloc,
+            &mut self.known,
+            n,
         )
     }
 

@@ -1,5 +1,5 @@
 //! One operation on one loglet of the chain, from its begin to its answer.
-ghost use Rattle.std.specs.Prelude.{◌≡◌, ◌<◌, ◌≤◌, ℕ, ◌+◌, length, IfOk, IfErr, IfSome, IfNone, Some, Contains, true};
+ghost use Rattle.std.specs.Prelude.{◌≡◌, ◌<◌, ◌≤◌, ℕ, ◌+◌, length, IfOk, OnOk, IfErr, IfSome, IfNone, Some, Contains, true};
 ghost use Rattle.delos_types.specs.Spelling.{IsSpellable};
 ghost use Rattle.legal_journal.specs.Journal.{state_of, IsLegal, tail_of};
 ghost use Rattle.legal_journal.specs.Laws.{Stands};
@@ -7,11 +7,11 @@ ghost use Rattle.virtual_log.specs.Turning.{Later, FirstTurn, IsAbove};
 ghost use Rattle.virtual_log.specs.Causes.{HasCause};
 ghost use Rattle.virtual_log.specs.Tails.{IsFound, IsSealedTail};
 
-use crate::chooser::Chooser;
 use crate::fault::Fault;
 use crate::turn::{begin, carry_on};
 use delos_types::chain::Segment;
 use delos_types::entry::Entry;
+use fate_words::chooser::Chooser;
 use legal_journal::rules::Rules;
 use legal_journal::turns::Turns;
 use loglet_api::call::{Answer, Op};
@@ -84,6 +84,23 @@ pub fn find_tail<T: Turns, C: Chooser>(
                 unreached,
             });
         }
+        _ => return Err(Fault::Memory),
+    }
+}
+
+/// Seals a loglet, behind which the shelf has another.
+pub fn seal<T: Turns, C: Chooser>(turns: &mut T, chooser: &mut C, id: u32) -> Result<(), Fault>
+    requires legal { IsLegal T.Law.may T.Law.floor T.Law.shelf (T.seen turns.old) }
+    requires spare { id + 1 < length T.Law.shelf }
+    ensures later { Later T.Law.may T.Law.floor T.Law.shelf (T.seen turns.old) (T.seen turns.new) }
+    ensures who { T.who turns.new ≡ T.who turns.old }
+    ensures sealed { OnOk result (((state_of (T.seen turns.new)).cells id).told.sealed ≡ true) }
+    ensures err { IfErr result (λ fault. HasCause (T.who turns.old) (T.seen turns.old) fault (T.seen turns.new)) }
+{
+    let ticket = begin(turns, id, Op::Seal)?;
+    match carry_on(turns, chooser, id, ticket)? {
+        Answer::SealDone => return Ok(()),
+        Answer::NoQuorum { unreached } => return Err(Fault::NoQuorum { id, unreached }),
         _ => return Err(Fault::Memory),
     }
 }

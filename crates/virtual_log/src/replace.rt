@@ -6,12 +6,12 @@ ghost use Rattle.legal_journal.specs.Journal.{state_of, IsLegal};
 ghost use Rattle.virtual_log.specs.Turning.{Later};
 ghost use Rattle.virtual_log.specs.Causes.{HasCause};
 
-use crate::chooser::Chooser;
 use crate::fault::Fault;
 use crate::operation::{FoundTail, find_tail};
 use crate::turn::look;
 use chain_map::change::extend;
 use delos_types::chain::{Chain, Segment};
+use fate_words::chooser::Chooser;
 use legal_journal::events::{FabricAnswer, FabricCall};
 use legal_journal::rules::Rules;
 use legal_journal::turns::Turns;

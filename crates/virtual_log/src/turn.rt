@@ -6,10 +6,10 @@ ghost use Rattle.legal_journal.specs.Turns.{MayTurn};
 ghost use Rattle.virtual_log.specs.Turning.{Later, Looked, Opened, Answered};
 ghost use Rattle.virtual_log.specs.Causes.{HasCause};
 
-use crate::chooser::Chooser;
 use crate::fault::Fault;
 use delos_types::chain::Chain;
 use delos_types::numbers::Ticket;
+use fate_words::chooser::Chooser;
 use legal_journal::events::{FabricAnswer, FabricCall};
 use legal_journal::rules::Rules;
 use legal_journal::turns::Turns;

@@ -3,8 +3,8 @@ use Rattle.std.specs.Prelude.{slice_get}
 use Rattle.loglet_api.specs.View.{LogletView}
 use Rattle.legal_journal.specs.Journal.{state_of, log_at, trim_of, tail_of}
 use Rattle.fabric_core.specs.Log.{virtual_log_at, virtual_tail}
-use Rattle.fabric_core.specs.Runs.{HasRun}
-use Rattle.fabric_core.specs.Fabric.{FabricView}
+use Rattle.fabric_core.specs.Runs.{HasRun, HasRegisterRun}
+use Rattle.fabric_core.specs.Fabric.{FabricView, IsRegisterAsTold}
 use Rattle.fabric_core.proofs.Ties.{shows, tails}
 use Rattle.fabric_core.proofs.fabric.Fabric.journal.Goals as goal
 
@@ -16,7 +16,7 @@ pub returns-clause-shows : goal.returns-clause-shows
 returns-clause-shows g c =
     let p = g.P.Rules in
     let s = c.self.inside in
-    let f : FabricView = record { cells = map g.L.Loglet.view s.cells.items; register = g.R.Register.shows s.register; journal = s.journal.items } in
+    let f : FabricView = record { cells = map g.L.Loglet.view s.cells.items; register = g.R.Register.view s.register; journal = s.journal.items } in
     subst (λ (v : FabricView). (pos : ℕ) → trim_of (state_of v.journal) ≤ pos → virtual_log_at (state_of v.journal).register.chain v.cells pos ≡ log_at (state_of v.journal) pos) c.self.view_is
     (shows p.may p.floor p.shelf f (map (λ m. m.items) s.marks.items) c.self.invariant)
 
@@ -24,6 +24,13 @@ pub returns-clause-tail : goal.returns-clause-tail
 returns-clause-tail g c =
     let p = g.P.Rules in
     let s = c.self.inside in
-    let f : FabricView = record { cells = map g.L.Loglet.view s.cells.items; register = g.R.Register.shows s.register; journal = s.journal.items } in
+    let f : FabricView = record { cells = map g.L.Loglet.view s.cells.items; register = g.R.Register.view s.register; journal = s.journal.items } in
     subst (λ (v : FabricView). virtual_tail (state_of v.journal).register.chain v.cells ≡ tail_of (state_of v.journal)) c.self.view_is
     (tails p.may p.floor p.shelf f (map (λ m. m.items) s.marks.items) c.self.invariant)
+
+pub returns-clause-register_runs : goal.returns-clause-register_runs
+returns-clause-register_runs g c = subst (λ (f : FabricView). HasRegisterRun f.journal f.register) c.self.view_is c.self.invariant.register_ran
+
+pub returns-clause-register : goal.returns-clause-register
+returns-clause-register g c =
+    subst (λ (f : FabricView). IsRegisterAsTold (state_of f.journal).register f.register) c.self.view_is c.self.invariant.register

@@ -1,21 +1,21 @@
 use Rattle.std.proofs.Common.{map, subst}
 use Rattle.legal_journal.specs.declared.events.FabricCall.TheVariants.{ReadChain}
 use Rattle.fabric_core.specs.Fabric.{FabricView, Keeps}
-use Rattle.fabric_core.proofs.Reading.{read_goes}
+use Rattle.fabric_core.proofs.Registered.{read_goes}
 use Rattle.fabric_core.proofs.fabric.Fabric.read_chain.Goals as goal
 
 pub invariant_of-self : goal.invariant_of-self
 invariant_of-self g c =
     let p = g.P.Rules in
     let s = c.self.inside in
-    let f : FabricView = record { cells = map g.L.Loglet.view s.cells.items; register = g.R.Register.shows s.register; journal = s.journal.items } in
-    (read_goes p.may p.floor p.shelf f (map (λ m. m.items) s.marks.items) c.self.invariant c.args.who c.read_in.result (g.R.Register.shows c.read_in.new.register) c.read_in.new.journal.items c.read_in.ensures).now
+    let f : FabricView = record { cells = map g.L.Loglet.view s.cells.items; register = g.R.Register.view s.register; journal = s.journal.items } in
+    (read_goes p.may p.floor p.shelf f (map (λ m. m.items) s.marks.items) c.self.invariant c.args.who c.read_in.result (g.R.Register.view c.read_in.new.register) c.read_in.new.journal.items c.read_in.ensures).now
 
 pub returns : goal.returns
 returns g c =
     let p = g.P.Rules in
     let s = c.self.inside in
-    let f : FabricView = record { cells = map g.L.Loglet.view s.cells.items; register = g.R.Register.shows s.register; journal = s.journal.items } in
-    let now : FabricView = record { cells = map g.L.Loglet.view s.cells.items; register = g.R.Register.shows c.read_in.new.register; journal = c.read_in.new.journal.items } in
+    let f : FabricView = record { cells = map g.L.Loglet.view s.cells.items; register = g.R.Register.view s.register; journal = s.journal.items } in
+    let now : FabricView = record { cells = map g.L.Loglet.view s.cells.items; register = g.R.Register.view c.read_in.new.register; journal = c.read_in.new.journal.items } in
     subst (λ (x : FabricView). Keeps p.may p.floor p.shelf x c.args.who ReadChain c.read_in.result now) c.self.view_is
-    (read_goes p.may p.floor p.shelf f (map (λ m. m.items) s.marks.items) c.self.invariant c.args.who c.read_in.result (g.R.Register.shows c.read_in.new.register) c.read_in.new.journal.items c.read_in.ensures).keeps
+    (read_goes p.may p.floor p.shelf f (map (λ m. m.items) s.marks.items) c.self.invariant c.args.who c.read_in.result (g.R.Register.view c.read_in.new.register) c.read_in.new.journal.items c.read_in.ensures).keeps

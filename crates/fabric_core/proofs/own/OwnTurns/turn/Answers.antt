@@ -1,4 +1,4 @@
-use Rattle.fabric_core.proofs.Reading.{may_now, turn_of}
+use Rattle.fabric_core.proofs.OneThread.{may_now, turn_of}
 use Rattle.fabric_core.proofs.own.OwnTurns.turn.Goals as goal
 
 pub apply-requires : goal.apply-requires

@@ -1,0 +1,193 @@
+use Rattle.std.proofs.Common.{◌≡◌, ◌+◌, ◌<◌, ◌≤◌, max, ◌∙◌, refl, sym, ap, subst, arith}
+use Rattle.std.specs.Prelude.{Contains}
+use Rattle.delos_types.specs.declared.chain.Segment.{Segment}
+use Rattle.chain_map.specs.Chain.{last_segment}
+use Rattle.legal_journal.specs.Journal.{state_of}
+use Rattle.virtual_log.specs.Extending.{IsWritten, IsPassed}
+use Rattle.virtual_log.proofs.OneTurn.{turn_later, later_trans}
+use Rattle.virtual_log.proofs.Going.{goes_later}
+use Rattle.virtual_log.proofs.Closing.{fits_now, may_close, closed_ok, refused, refused_goes, refused_same, passed_ok, written_since, passed_since}
+use Rattle.virtual_log.proofs.extend.close_at.Goals as goal
+
+pub extend-requires-clause-chain : goal.extend-requires-clause-chain
+extend-requires-clause-chain g c =
+    let p = g.T.Law.Rules in
+    let t = g.T.Turns in
+    let l = c.write in
+    let i = l.invariant in
+    let k = l.known in
+    let now = t.seen l.turns in
+    (fits_now p.may p.floor p.shelf (t.who l.turns) now k.version k.tail c.args.length k.chain i.later.legal i.goes_by i.told).chain
+
+pub extend-requires-clause-seam : goal.extend-requires-clause-seam
+extend-requires-clause-seam g c =
+    let p = g.T.Law.Rules in
+    let t = g.T.Turns in
+    let l = c.write in
+    let i = l.invariant in
+    let k = l.known in
+    let now = t.seen l.turns in
+    (fits_now p.may p.floor p.shelf (t.who l.turns) now k.version k.tail c.args.length k.chain i.later.legal i.goes_by i.told).seam
+
+pub extend-requires-clause-next : goal.extend-requires-clause-next
+extend-requires-clause-next g c =
+    let p = g.T.Law.Rules in
+    let t = g.T.Turns in
+    let l = c.write in
+    let i = l.invariant in
+    let k = l.known in
+    let now = t.seen l.turns in
+    let f = fits_now p.may p.floor p.shelf (t.who l.turns) now k.version k.tail c.args.length k.chain i.later.legal i.goes_by i.told in
+    omega (arith, f.spare, f.few)
+
+pub turn-requires : goal.turn-requires
+turn-requires g c =
+    let p = g.T.Law.Rules in
+    let t = g.T.Turns in
+    let l = c.write in
+    let i = l.invariant in
+    let k = l.known in
+    let now = t.seen l.turns in
+    may_close p.may p.floor p.shelf (t.who l.turns) now k.version k.tail c.args.length k.chain i.later.legal i.goes_by i.told _ c.in_ok-next.ensures.value
+
+pub overflow_add-start : goal.overflow_add-start
+overflow_add-start g c =
+    let p = g.T.Law.Rules in
+    let t = g.T.Turns in
+    let l = c.write in
+    let i = l.invariant in
+    let k = l.known in
+    let now = t.seen l.turns in
+    let f = fits_now p.may p.floor p.shelf (t.who l.turns) now k.version k.tail c.args.length k.chain i.later.legal i.goes_by i.told in
+    omega (arith, f.seam, ap (λ (s : Segment). s.start) (c.last_of-last.ensures ∙ sym i.last))
+
+pub returns-in-Written-clause-goes_by : goal.returns-in-Written-clause-goes_by
+returns-in-Written-clause-goes_by g c =
+    let p = g.T.Law.Rules in
+    let t = g.T.Turns in
+    let l = c.write in
+    let i = l.invariant in
+    let k = l.known in
+    let now = t.seen l.turns in
+    let new = t.seen c.turn.new.self in
+    let z = closed_ok p.may p.floor p.shelf (t.who l.turns) now k.version k.tail c.args.length k.chain i.later.legal i.goes_by i.told c.in-Written.version (c.last_of-last.result.start + c.args.length) c.max-known.result c.in_ok-next.next c.in_ok-copy.copy new c.in_ok-next.ensures.value c.in_ok-copy.ensures.cases
+    (ap (λ (s : Segment). s.start + c.args.length) (c.last_of-last.ensures ∙ sym i.last)) c.max-known.ensures c.in-Written.ensures.turn in
+    z.goes_by
+
+pub returns-in-Written-clause-closed : goal.returns-in-Written-clause-closed
+returns-in-Written-clause-closed g c =
+    let p = g.T.Law.Rules in
+    let t = g.T.Turns in
+    let l = c.write in
+    let i = l.invariant in
+    let k = l.known in
+    let now = t.seen l.turns in
+    let new = t.seen c.turn.new.self in
+    let z = closed_ok p.may p.floor p.shelf (t.who l.turns) now k.version k.tail c.args.length k.chain i.later.legal i.goes_by i.told c.in-Written.version (c.last_of-last.result.start + c.args.length) c.max-known.result c.in_ok-next.next c.in_ok-copy.copy new c.in_ok-next.ensures.value c.in_ok-copy.ensures.cases
+    (ap (λ (s : Segment). s.start + c.args.length) (c.last_of-last.ensures ∙ sym i.last)) c.max-known.ensures c.in-Written.ensures.turn in (
+      written_since (t.who c.args.turns.now) (t.seen c.args.turns.now) now (last_segment k.chain) (last_segment c.args.known.now.chain) c.in-Written.version _ new i.later.more i.later.seen i.last
+          (subst (λ w. IsWritten w now (last_segment k.chain) c.in-Written.version (c.last_of-last.result.start + c.args.length) new) i.who z.written),
+      subst (λ n. c.max-known.result ≡ max n (c.last_of-last.result.start + c.args.length)) i.tail c.max-known.ensures,
+      refl,
+    )
+
+pub returns-then-newest-last-clause-goes_by : goal.returns-then-newest-last-clause-goes_by
+returns-then-newest-last-clause-goes_by g c =
+    let p = g.T.Law.Rules in
+    let t = g.T.Turns in
+    let l = c.write in
+    let i = l.invariant in
+    let k = l.known in
+    let now = t.seen l.turns in
+    let new = t.seen c.turn.new.self in
+    refused_goes p.may p.floor p.shelf (t.who l.turns) now k.version k.tail c.args.length k.chain i.later.legal i.goes_by i.told c.in-Conflict.version c.in_ok-next.next c.in-Conflict.chain new c.in_ok-next.ensures.value c.in-Conflict.ensures.turn
+
+pub returns-then-newest-last-clause-closed : goal.returns-then-newest-last-clause-closed
+returns-then-newest-last-clause-closed g c =
+    let p = g.T.Law.Rules in
+    let t = g.T.Turns in
+    let l = c.write in
+    let i = l.invariant in
+    let k = l.known in
+    let now = t.seen l.turns in
+    let new = t.seen c.turn.new.self in
+    let up : (last_segment k.chain).id < (last_segment c.in-Conflict.chain).id = omega (arith, c.if-newest-last.true, ap (λ (s : Segment). s.id) c.last_of-newest.ensures, ap (λ (s : Segment). s.id) (c.last_of-last.ensures ∙ sym i.last)) in (
+      passed_since (t.who c.args.turns.now) (t.seen c.args.turns.now) now (last_segment k.chain) (last_segment c.args.known.now.chain) c.in-Conflict.version new i.later.more i.later.seen i.last
+          (subst (λ w. IsPassed w now (last_segment k.chain) c.in-Conflict.version new) i.who (passed_ok p.may p.floor p.shelf (t.who l.turns) now k.version k.tail c.args.length k.chain i.later.legal i.goes_by i.told c.in-Conflict.version c.in_ok-next.next c.in-Conflict.chain new c.in-Conflict.ensures.turn up)),
+      i.tail,
+      refl,
+    )
+
+pub returns-in-MetaFault-clause-goes_by : goal.returns-in-MetaFault-clause-goes_by
+returns-in-MetaFault-clause-goes_by g c =
+    let p = g.T.Law.Rules in
+    let t = g.T.Turns in
+    let l = c.write in
+    let i = l.invariant in
+    let k = l.known in
+    let now = t.seen l.turns in
+    let new = t.seen c.turn.new.self in
+    goes_later p.may p.floor p.shelf now new k.version k.tail k.chain (turn_later p.may p.floor p.shelf _ _ _ _ _ c.in-MetaFault.ensures.turn) i.goes_by
+
+pub returns-in-Down-clause-goes_by : goal.returns-in-Down-clause-goes_by
+returns-in-Down-clause-goes_by g c =
+    let p = g.T.Law.Rules in
+    let t = g.T.Turns in
+    let l = c.write in
+    let i = l.invariant in
+    let k = l.known in
+    let now = t.seen l.turns in
+    let new = t.seen c.turn.new.self in
+    goes_later p.may p.floor p.shelf now new k.version k.tail k.chain (turn_later p.may p.floor p.shelf _ _ _ _ _ c.in-Down.ensures.turn) i.goes_by
+
+pub returns-in_default : goal.returns-in_default
+returns-in_default g c =
+    let p = g.T.Law.Rules in
+    let t = g.T.Turns in
+    let l = c.write in
+    let i = l.invariant in
+    let k = l.known in
+    let now = t.seen l.turns in
+    let new = t.seen c.turn.new.self in
+    let step = turn_later p.may p.floor p.shelf _ _ _ _ _ c.turn.ensures.turn in
+    record {
+      later = later_trans p.may p.floor p.shelf (t.seen c.args.turns.now) now new i.later step;
+      who = c.turn.ensures.who ∙ i.who;
+      goes_by = goes_later p.may p.floor p.shelf now new k.version k.tail k.chain step i.goes_by;
+      closed = tt;
+      unknown = i.tail;
+      err = tt;
+    }
+
+pub write-smaller : goal.write-smaller
+write-smaller g c =
+    let p = g.T.Law.Rules in
+    let t = g.T.Turns in
+    let l = c.write in
+    let i = l.invariant in
+    let k = l.known in
+    let now = t.seen l.turns in
+    let new = t.seen c.turn.new.self in
+    let x = refused p.may p.floor p.shelf (t.who l.turns) now k.version k.tail c.args.length k.chain i.later.legal i.goes_by i.told c.in-Conflict.version c.in_ok-next.next c.in-Conflict.chain new c.in_ok-next.ensures.value c.in-Conflict.ensures.turn in
+    omega (arith, x.later, x.few)
+
+pub write-preserved : goal.write-preserved
+write-preserved g c =
+    let p = g.T.Law.Rules in
+    let t = g.T.Turns in
+    let l = c.write in
+    let i = l.invariant in
+    let k = l.known in
+    let now = t.seen l.turns in
+    let new = t.seen c.turn.new.self in
+    let x = refused p.may p.floor p.shelf (t.who l.turns) now k.version k.tail c.args.length k.chain i.later.legal i.goes_by i.told c.in-Conflict.version c.in_ok-next.next c.in-Conflict.chain new c.in_ok-next.ensures.value c.in-Conflict.ensures.turn in
+    let low : (last_segment c.in-Conflict.chain).id ≤ (last_segment k.chain).id = omega (arith, c.if-newest-last.false, ap (λ (s : Segment). s.id) c.last_of-newest.ensures, ap (λ (s : Segment). s.id) (c.last_of-last.ensures ∙ sym i.last)) in
+    let same = refused_same p.may p.floor p.shelf (t.who l.turns) now k.version k.tail c.args.length k.chain i.later.legal i.goes_by i.told c.in-Conflict.version c.in_ok-next.next c.in-Conflict.chain new c.in_ok-next.ensures.value c.in-Conflict.ensures.turn low in
+    record {
+      later = later_trans p.may p.floor p.shelf (t.seen c.args.turns.now) now new i.later (turn_later p.may p.floor p.shelf _ _ _ _ _ c.in-Conflict.ensures.turn);
+      who = c.turn.ensures.who ∙ i.who;
+      goes_by = refused_goes p.may p.floor p.shelf (t.who l.turns) now k.version k.tail c.args.length k.chain i.later.legal i.goes_by i.told c.in-Conflict.version c.in_ok-next.next c.in-Conflict.chain new c.in_ok-next.ensures.value c.in-Conflict.ensures.turn;
+      last = same ∙ i.last;
+      told = subst (λ (s : Segment). Contains ((state_of new).cells s.id).ends c.args.length) (sym same) x.told;
+      tail = i.tail;
+    }

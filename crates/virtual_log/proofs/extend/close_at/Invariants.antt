@@ -1,0 +1,23 @@
+use Rattle.std.proofs.Common.{◌≡◌, ◌-◌, ◌^◌}
+use Rattle.std.specs.Prelude.{Contains}
+use Rattle.chain_map.specs.Chain.{last_segment}
+use Rattle.legal_journal.specs.Journal.{state_of}
+use Rattle.virtual_log.specs.Turning.{Later}
+use Rattle.virtual_log.specs.Log.{GoesBy}
+use Rattle.virtual_log.proofs.extend.close_at.Given as goal
+
+abbrev pub invariant-write : goal.invariant-write
+invariant-write g l =
+    let t = g.T.Turns in
+    let p = g.T.Law.Rules in
+    record {
+      later : Later p.may p.floor p.shelf (t.seen l.fn.turns) (t.seen l.turns);
+      who : t.who l.turns ≡ t.who l.fn.turns;
+      goes_by : GoesBy (state_of (t.seen l.turns)) l.known.version l.known.chain l.known.tail;
+      last : last_segment l.known.chain ≡ last_segment l.fn.known.chain;
+      told : Contains ((state_of (t.seen l.turns)).cells (last_segment l.known.chain).id).ends l.length;
+      tail : l.known.tail ≡ l.fn.known.tail;
+    }
+
+abbrev pub decreases-write : goal.decreases-write
+decreases-write g l = 2 ^ 39 - l.known.version

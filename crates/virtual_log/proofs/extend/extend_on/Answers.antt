@@ -1,0 +1,254 @@
+use Rattle.std.proofs.Common.{◌≡◌, ◌+◌, ◌<◌, ◌∙◌, [], length, refl, sym, ap, subst, arith}
+use Rattle.std.proofs.lemmas.Result.{err_from_is_err_and}
+use Rattle.delos_types.specs.declared.chain.Segment.{Segment}
+use Rattle.chain_map.specs.Chain.{last_segment}
+use Rattle.virtual_log.specs.Causes.{HasCause}
+use Rattle.virtual_log.specs.Extending.{IsClosed}
+use Rattle.virtual_log.proofs.OneTurn.{nil, later_trans, cause_since}
+use Rattle.virtual_log.proofs.Going.{last_there, there_later, goes_later, goes_now, last_within}
+use Rattle.virtual_log.proofs.Closing.{closed_since, follows_closed}
+use Rattle.virtual_log.proofs.extend.extend_on.Goals as goal
+
+pub returns-in_err-version-clause-goes_by : goal.returns-in_err-version-clause-goes_by
+returns-in_err-version-clause-goes_by g c =
+    let p = g.T.Law.Rules in
+    let t = g.T.Turns in
+    let who = t.who c.args.turns.now in
+    let k = c.args.known.now in
+    let old = t.seen c.args.turns.now in
+    let a = t.seen c.look.new.turns in
+    goes_later p.may p.floor p.shelf old a k.version k.tail k.chain c.in_err-version.ensures.later c.requires.goes_by
+
+pub overflow_add-last : goal.overflow_add-last
+overflow_add-last g c =
+    let p = g.T.Law.Rules in
+    let t = g.T.Turns in
+    let who = t.who c.args.turns.now in
+    let k = c.args.known.now in
+    let old = t.seen c.args.turns.now in
+    let a = t.seen c.look.new.turns in
+    let first = c.in_ok-version.ensures in
+    let v = c.in_ok-version.version in
+    let chain = c.in_ok-version.chain in
+    let goes = goes_now p.may p.floor p.shelf who k.version k.tail v k.chain chain old a c.requires.legal first.later c.requires.goes_by first.ok in
+    let last = c.last_of-last.result in
+    let few = last_within p.may p.floor p.shelf a v k.tail chain last first.later.legal goes c.last_of-last.ensures in
+    omega (arith, few.0, few.1)
+
+pub returns-then-last-shelf_len-clause-goes_by : goal.returns-then-last-shelf_len-clause-goes_by
+returns-then-last-shelf_len-clause-goes_by g c =
+    let p = g.T.Law.Rules in
+    let t = g.T.Turns in
+    let who = t.who c.args.turns.now in
+    let k = c.args.known.now in
+    let old = t.seen c.args.turns.now in
+    let a = t.seen c.look.new.turns in
+    let first = c.in_ok-version.ensures in
+    let v = c.in_ok-version.version in
+    let chain = c.in_ok-version.chain in
+    let goes = goes_now p.may p.floor p.shelf who k.version k.tail v k.chain chain old a c.requires.legal first.later c.requires.goes_by first.ok in
+    let last = c.last_of-last.result in
+    let few = last_within p.may p.floor p.shelf a v k.tail chain last first.later.legal goes c.last_of-last.ensures in
+    goes
+
+pub seal-requires-clause-spare : goal.seal-requires-clause-spare
+seal-requires-clause-spare g c =
+    let p = g.T.Law.Rules in
+    let t = g.T.Turns in
+    let who = t.who c.args.turns.now in
+    let k = c.args.known.now in
+    let old = t.seen c.args.turns.now in
+    let a = t.seen c.look.new.turns in
+    let first = c.in_ok-version.ensures in
+    let v = c.in_ok-version.version in
+    let chain = c.in_ok-version.chain in
+    let goes = goes_now p.may p.floor p.shelf who k.version k.tail v k.chain chain old a c.requires.legal first.later c.requires.goes_by first.ok in
+    let last = c.last_of-last.result in
+    let few = last_within p.may p.floor p.shelf a v k.tail chain last first.later.legal goes c.last_of-last.ensures in
+    omega (arith, few.0, c.if-last-shelf_len.false, c.requires.shelf)
+
+pub returns-in_err-seal-clause-goes_by : goal.returns-in_err-seal-clause-goes_by
+returns-in_err-seal-clause-goes_by g c =
+    let p = g.T.Law.Rules in
+    let t = g.T.Turns in
+    let who = t.who c.args.turns.now in
+    let k = c.args.known.now in
+    let old = t.seen c.args.turns.now in
+    let a = t.seen c.look.new.turns in
+    let first = c.in_ok-version.ensures in
+    let v = c.in_ok-version.version in
+    let chain = c.in_ok-version.chain in
+    let goes = goes_now p.may p.floor p.shelf who k.version k.tail v k.chain chain old a c.requires.legal first.later c.requires.goes_by first.ok in
+    let last = c.last_of-last.result in
+    let few = last_within p.may p.floor p.shelf a v k.tail chain last first.later.legal goes c.last_of-last.ensures in
+    let b = t.seen c.seal.new.turns in
+    goes_later p.may p.floor p.shelf a b v k.tail chain c.in_err-seal.ensures.later goes
+
+pub returns-in_err-seal-clause-err : goal.returns-in_err-seal-clause-err
+returns-in_err-seal-clause-err g c =
+    let p = g.T.Law.Rules in
+    let t = g.T.Turns in
+    let who = t.who c.args.turns.now in
+    let k = c.args.known.now in
+    let old = t.seen c.args.turns.now in
+    let a = t.seen c.look.new.turns in
+    let first = c.in_ok-version.ensures in
+    let v = c.in_ok-version.version in
+    let chain = c.in_ok-version.chain in
+    let goes = goes_now p.may p.floor p.shelf who k.version k.tail v k.chain chain old a c.requires.legal first.later c.requires.goes_by first.ok in
+    let last = c.last_of-last.result in
+    let few = last_within p.may p.floor p.shelf a v k.tail chain last first.later.legal goes c.last_of-last.ensures in
+    let b = t.seen c.seal.new.turns in
+    let r = err_from_is_err_and c.from_residual-in_err-seal.result c.from_residual-in_err-seal.ensures.1 in
+    let f = c.in_err-seal.field-0.0 in
+    rw (r.1, r.2) (cause_since who f old a b first.later.more first.later.seen (subst (λ w. HasCause w a f b) first.who c.in_err-seal.ensures.err))
+
+pub find_tail-requires-clause-started : goal.find_tail-requires-clause-started
+find_tail-requires-clause-started g c =
+    let p = g.T.Law.Rules in
+    let t = g.T.Turns in
+    let who = t.who c.args.turns.now in
+    let k = c.args.known.now in
+    let old = t.seen c.args.turns.now in
+    let a = t.seen c.look.new.turns in
+    let first = c.in_ok-version.ensures in
+    let v = c.in_ok-version.version in
+    let chain = c.in_ok-version.chain in
+    let goes = goes_now p.may p.floor p.shelf who k.version k.tail v k.chain chain old a c.requires.legal first.later c.requires.goes_by first.ok in
+    let last = c.last_of-last.result in
+    let few = last_within p.may p.floor p.shelf a v k.tail chain last first.later.legal goes c.last_of-last.ensures in
+    let b = t.seen c.seal.new.turns in
+    let second = c.in_ok-seal.ensures in
+    let goes_b = goes_later p.may p.floor p.shelf a b v k.tail chain second.later goes in
+    last_there p.may p.floor p.shelf b v k.tail chain last second.later.legal goes_b c.last_of-last.ensures
+
+pub returns-in_err-length-clause-goes_by : goal.returns-in_err-length-clause-goes_by
+returns-in_err-length-clause-goes_by g c =
+    let p = g.T.Law.Rules in
+    let t = g.T.Turns in
+    let who = t.who c.args.turns.now in
+    let k = c.args.known.now in
+    let old = t.seen c.args.turns.now in
+    let a = t.seen c.look.new.turns in
+    let first = c.in_ok-version.ensures in
+    let v = c.in_ok-version.version in
+    let chain = c.in_ok-version.chain in
+    let goes = goes_now p.may p.floor p.shelf who k.version k.tail v k.chain chain old a c.requires.legal first.later c.requires.goes_by first.ok in
+    let last = c.last_of-last.result in
+    let few = last_within p.may p.floor p.shelf a v k.tail chain last first.later.legal goes c.last_of-last.ensures in
+    let b = t.seen c.seal.new.turns in
+    let second = c.in_ok-seal.ensures in
+    let goes_b = goes_later p.may p.floor p.shelf a b v k.tail chain second.later goes in
+    let d = t.seen c.find_tail.new.turns in
+    goes_later p.may p.floor p.shelf b d v k.tail chain c.in_err-length.ensures.later goes_b
+
+pub close_at-requires-clause-goes_by : goal.close_at-requires-clause-goes_by
+close_at-requires-clause-goes_by g c =
+    let p = g.T.Law.Rules in
+    let t = g.T.Turns in
+    let who = t.who c.args.turns.now in
+    let k = c.args.known.now in
+    let old = t.seen c.args.turns.now in
+    let a = t.seen c.look.new.turns in
+    let first = c.in_ok-version.ensures in
+    let v = c.in_ok-version.version in
+    let chain = c.in_ok-version.chain in
+    let goes = goes_now p.may p.floor p.shelf who k.version k.tail v k.chain chain old a c.requires.legal first.later c.requires.goes_by first.ok in
+    let last = c.last_of-last.result in
+    let few = last_within p.may p.floor p.shelf a v k.tail chain last first.later.legal goes c.last_of-last.ensures in
+    let b = t.seen c.seal.new.turns in
+    let second = c.in_ok-seal.ensures in
+    let goes_b = goes_later p.may p.floor p.shelf a b v k.tail chain second.later goes in
+    let d = t.seen c.find_tail.new.turns in
+    let third = c.in_ok-length.ensures in
+    let goes_d = goes_later p.may p.floor p.shelf b d v k.tail chain third.later goes_b in
+    let to_d = later_trans p.may p.floor p.shelf a b d second.later third.later in
+    let who_d = third.who ∙ (second.who ∙ first.who) in
+    goes_d
+
+pub returns-in_err-closed-clause-err : goal.returns-in_err-closed-clause-err
+returns-in_err-closed-clause-err g c =
+    let p = g.T.Law.Rules in
+    let t = g.T.Turns in
+    let who = t.who c.args.turns.now in
+    let k = c.args.known.now in
+    let old = t.seen c.args.turns.now in
+    let a = t.seen c.look.new.turns in
+    let first = c.in_ok-version.ensures in
+    let v = c.in_ok-version.version in
+    let chain = c.in_ok-version.chain in
+    let goes = goes_now p.may p.floor p.shelf who k.version k.tail v k.chain chain old a c.requires.legal first.later c.requires.goes_by first.ok in
+    let last = c.last_of-last.result in
+    let few = last_within p.may p.floor p.shelf a v k.tail chain last first.later.legal goes c.last_of-last.ensures in
+    let b = t.seen c.seal.new.turns in
+    let second = c.in_ok-seal.ensures in
+    let goes_b = goes_later p.may p.floor p.shelf a b v k.tail chain second.later goes in
+    let d = t.seen c.find_tail.new.turns in
+    let third = c.in_ok-length.ensures in
+    let goes_d = goes_later p.may p.floor p.shelf b d v k.tail chain third.later goes_b in
+    let to_d = later_trans p.may p.floor p.shelf a b d second.later third.later in
+    let e = t.seen c.close_at.new.turns in
+    let who_d = third.who ∙ (second.who ∙ first.who) in
+    let r = err_from_is_err_and c.from_residual-in_err-closed.result c.from_residual-in_err-closed.ensures.1 in
+    let f = c.in_err-closed.field-0.0 in
+    let before = later_trans p.may p.floor p.shelf old a d first.later to_d in
+    rw (r.1, r.2) (cause_since who f old d e before.more before.seen (subst (λ w. HasCause w d f e) who_d c.in_err-closed.ensures.err))
+
+pub returns-clause-extension : goal.returns-clause-extension
+returns-clause-extension g c =
+    let p = g.T.Law.Rules in
+    let t = g.T.Turns in
+    let who = t.who c.args.turns.now in
+    let k = c.args.known.now in
+    let old = t.seen c.args.turns.now in
+    let a = t.seen c.look.new.turns in
+    let first = c.in_ok-version.ensures in
+    let v = c.in_ok-version.version in
+    let chain = c.in_ok-version.chain in
+    let goes = goes_now p.may p.floor p.shelf who k.version k.tail v k.chain chain old a c.requires.legal first.later c.requires.goes_by first.ok in
+    let last = c.last_of-last.result in
+    let few = last_within p.may p.floor p.shelf a v k.tail chain last first.later.legal goes c.last_of-last.ensures in
+    let b = t.seen c.seal.new.turns in
+    let second = c.in_ok-seal.ensures in
+    let goes_b = goes_later p.may p.floor p.shelf a b v k.tail chain second.later goes in
+    let d = t.seen c.find_tail.new.turns in
+    let third = c.in_ok-length.ensures in
+    let goes_d = goes_later p.may p.floor p.shelf b d v k.tail chain third.later goes_b in
+    let to_d = later_trans p.may p.floor p.shelf a b d second.later third.later in
+    let e = t.seen c.close_at.new.turns in
+    let who_d = third.who ∙ (second.who ∙ first.who) in
+    let fourth = c.in_ok-closed.ensures in
+    let to_e = later_trans p.may p.floor p.shelf a d e to_d fourth.later in
+    let spare : (last_segment chain).id + 1 < length p.shelf = omega (arith, few.0, c.if-last-shelf_len.false, c.requires.shelf, ap (λ (s : Segment). s.id) c.last_of-last.ensures) in
+    record {
+      others = first.ok.others;
+      apart = first.ok.apart;
+      version = v;
+      chain = chain;
+      looked = a;
+      look = first.ok.seen;
+      rest = to_e.more;
+      seen = to_e.seen;
+      follows = follows_closed (length p.shelf) who a (last_segment chain) k.tail c.close_at.new.known.tail c.close_at.new.known.version to_e.more e c.in_ok-closed.closed spare
+          (closed_since who a d (last_segment chain) k.tail c.close_at.new.known.tail c.close_at.new.known.version e to_d.more to_d.seen c.in_ok-closed.closed (subst (λ w. IsClosed w d (last_segment chain) k.tail c.close_at.new.known.tail c.close_at.new.known.version e c.in_ok-closed.closed) who_d fourth.closed));
+    }
+
+pub returns-then-last-shelf_len-clause-extension : goal.returns-then-last-shelf_len-clause-extension
+returns-then-last-shelf_len-clause-extension g c =
+    let p = g.T.Law.Rules in
+    let t = g.T.Turns in
+    let a = t.seen c.look.new.turns in
+    let first = c.in_ok-version.ensures in
+    let chain = c.in_ok-version.chain in
+    let none : (last_segment chain).id + 1 ≡ length p.shelf = omega (arith, c.if-last-shelf_len.true, c.requires.shelf, ap (λ (s : Segment). s.id) c.last_of-last.ensures) in
+    record {
+      others = first.ok.others;
+      apart = first.ok.apart;
+      version = c.in_ok-version.version;
+      chain = chain;
+      looked = a;
+      look = first.ok.seen;
+      rest = [];
+      seen = nil a;
+      follows = (none, refl, refl);
+    }

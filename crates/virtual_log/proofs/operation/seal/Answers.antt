@@ -1,0 +1,37 @@
+use Rattle.std.proofs.Common.{◌++◌, ap, subst}
+use Rattle.loglet_api.specs.declared.call.Op.TheVariants.{Seal}
+use Rattle.loglet_api.specs.declared.call.Answer.{Answer}
+use Rattle.legal_journal.specs.Told.{started}
+use Rattle.legal_journal.specs.Journal.{state_of}
+use Rattle.virtual_log.specs.Turning.{Answered}
+use Rattle.virtual_log.specs.declared.fault.Fault.TheVariants as fault
+use Rattle.virtual_log.proofs.OneTurn.{own_by, lack_cause, cause_since}
+use Rattle.virtual_log.proofs.Appending.{sealing_ok}
+use Rattle.virtual_log.proofs.operation.seal.Goals as goal
+
+pub returns-in-SealDone-clause-sealed : goal.returns-in-SealDone-clause-sealed
+returns-in-SealDone-clause-sealed g c =
+    let p = g.T.Law.Rules in
+    let t = g.T.Turns in
+    let who = t.who c.args.turns.now in
+    let mid = t.seen c.begin.new.turns in
+    let new = t.seen c.carry_on.new.turns in
+    let o = c.in_ok-ticket.ensures.ok in
+    let r = started ((state_of (t.seen c.args.turns.now ++ o.first.others)).cells c.args.id).told Seal in
+    let x = subst (λ (a : Answer). Answered who mid c.args.id c.in_ok-ticket.ticket r a new) c.in-SealDone.is
+    (subst (λ k. Answered k mid c.args.id c.in_ok-ticket.ticket r c.in_ok-carry_on.field-0 new) c.in_ok-ticket.ensures.who (c.in_ok-carry_on.ensures.ok r (own_by _ _ _ _ _ c.in_ok-ticket.ensures.who o.own))) in
+    sealing_ok p.may p.floor p.shelf who mid new c.args.id c.in_ok-ticket.ticket r x
+
+pub returns-in-NoQuorum-clause-err : goal.returns-in-NoQuorum-clause-err
+returns-in-NoQuorum-clause-err g c =
+    let p = g.T.Law.Rules in
+    let t = g.T.Turns in
+    let who = t.who c.args.turns.now in
+    let mid = t.seen c.begin.new.turns in
+    let new = t.seen c.carry_on.new.turns in
+    let o = c.in_ok-ticket.ensures.ok in
+    let r = started ((state_of (t.seen c.args.turns.now ++ o.first.others)).cells c.args.id).told Seal in
+    let x = subst (λ (a : Answer). Answered who mid c.args.id c.in_ok-ticket.ticket r a new) c.in-NoQuorum.is
+    (subst (λ k. Answered k mid c.args.id c.in_ok-ticket.ticket r c.in_ok-carry_on.field-0 new) c.in_ok-ticket.ensures.who (c.in_ok-carry_on.ensures.ok r (own_by _ _ _ _ _ c.in_ok-ticket.ensures.who o.own))) in
+    cause_since who (fault.NoQuorum c.args.id c.in-NoQuorum.unreached) (t.seen c.args.turns.now) mid new c.in_ok-ticket.ensures.later.more c.in_ok-ticket.ensures.later.seen
+    (lack_cause who c.args.id c.in_ok-ticket.ticket c.in-NoQuorum.unreached mid new x.event)

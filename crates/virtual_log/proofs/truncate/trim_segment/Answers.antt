@@ -1,0 +1,45 @@
+use Rattle.std.proofs.Common.{◌≡◌, ◌++◌, ◌<◌, ap, subst, arith}
+use Rattle.loglet_api.specs.declared.call.Op.TheVariants.{Trim}
+use Rattle.loglet_api.specs.declared.call.Answer.{Answer}
+use Rattle.legal_journal.specs.Told.{started}
+use Rattle.legal_journal.specs.Journal.{state_of}
+use Rattle.virtual_log.specs.Turning.{Answered, HasEvent}
+use Rattle.virtual_log.specs.Truncating.{IsTrimOf}
+use Rattle.virtual_log.specs.declared.fault.Fault.TheVariants as fault
+use Rattle.virtual_log.proofs.OneTurn.{own_by, lack_cause, cause_since, event_until}
+use Rattle.virtual_log.proofs.Appending.{started_within}
+use Rattle.virtual_log.proofs.Trimming.{may_trim, trim_event}
+use Rattle.virtual_log.proofs.truncate.trim_segment.Goals as goal
+
+pub begin-requires : goal.begin-requires
+begin-requires g c =
+    let p = g.T.Law.Rules in
+    may_trim p.may p.floor p.shelf (g.T.Turns.who c.args.turns.now) (g.T.Turns.seen c.args.turns.now) c.args.segment c.args.n c.length_below-length.result c.requires.legal c.requires.started (omega (arith, c.if-segment-n.false)) c.requires.trim c.length_below-length.ensures
+
+pub carry_on-requires-clause-cell : goal.carry_on-requires-clause-cell
+carry_on-requires-clause-cell g c =
+    let p = g.T.Law.Rules in
+    started_within p.may p.floor p.shelf (g.T.Turns.seen c.args.turns.now) c.args.segment.id c.args.segment.start c.requires.legal c.requires.started
+
+pub returns-in-TrimDone-clause-trimmed : goal.returns-in-TrimDone-clause-trimmed
+returns-in-TrimDone-clause-trimmed g c = λ _.
+    let t = g.T.Turns in
+    let who = t.who c.args.turns.now in
+    let old = t.seen c.args.turns.now in
+    let mid = t.seen c.begin.new.turns in
+    let new = t.seen c.carry_on.new.turns in
+    event_until (IsTrimOf who c.args.segment c.args.n) old mid new c.in_ok-carry_on.ensures.later.more c.in_ok-carry_on.ensures.later.seen
+    (trim_event who old mid c.args.segment c.args.n c.length_below-length.result c.in_ok-ticket.ticket c.length_below-length.ensures c.in_ok-ticket.ensures.ok)
+
+pub returns-in-NoQuorum-clause-err : goal.returns-in-NoQuorum-clause-err
+returns-in-NoQuorum-clause-err g c =
+    let t = g.T.Turns in
+    let who = t.who c.args.turns.now in
+    let mid = t.seen c.begin.new.turns in
+    let new = t.seen c.carry_on.new.turns in
+    let o = c.in_ok-ticket.ensures.ok in
+    let r = started ((state_of (t.seen c.args.turns.now ++ o.first.others)).cells c.args.segment.id).told (Trim c.length_below-length.result) in
+    let x = subst (λ (a : Answer). Answered who mid c.args.segment.id c.in_ok-ticket.ticket r a new) c.in-NoQuorum.is
+    (subst (λ k. Answered k mid c.args.segment.id c.in_ok-ticket.ticket r c.in_ok-carry_on.field-0 new) c.in_ok-ticket.ensures.who (c.in_ok-carry_on.ensures.ok r (own_by _ _ _ _ _ c.in_ok-ticket.ensures.who o.own))) in
+    cause_since who (fault.NoQuorum c.args.segment.id c.in-NoQuorum.unreached) (t.seen c.args.turns.now) mid new c.in_ok-ticket.ensures.later.more c.in_ok-ticket.ensures.later.seen
+    (lack_cause who c.args.segment.id c.in_ok-ticket.ticket c.in-NoQuorum.unreached mid new x.event)

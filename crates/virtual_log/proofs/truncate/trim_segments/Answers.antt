@@ -1,0 +1,60 @@
+use Rattle.std.proofs.Common.{◌≡◌, ◌≢◌, ℕ, ◌+◌, ◌<◌, ◌≤◌, Bool, true, false, None, Some, refl, sym, ap, ◌∙◌, subst, arith}
+use Rattle.std.specs.Prelude.{slice_get, slice_index_or, ◌==◌}
+use Rattle.std.proofs.lemmas.Bool.Decides.{nat_tests}
+use Rattle.std.proofs.lemmas.Option.{slice_get_within}
+use Rattle.delos_types.specs.declared.chain.Segment.{Segment}
+use Rattle.virtual_log.specs.Turning.{HasEvent}
+use Rattle.virtual_log.specs.Truncating.{IsTrimOf}
+use Rattle.virtual_log.proofs.OneTurn.{later_trans, later_continues, event_since, event_until}
+use Rattle.virtual_log.proofs.Trimming.{at_index}
+use Rattle.virtual_log.proofs.truncate.trim_segments.Goals as goal
+
+pub trim_segment-requires-clause-started : goal.trim_segment-requires-clause-started
+trim_segment-requires-clause-started g c =
+    let p = g.T.Law.Rules in
+    let t = g.T.Turns in
+    let l = c.segment in
+    (later_continues p.may p.floor p.shelf (t.seen c.args.turns.now) (t.seen l.turns) l.invariant.later).starts _ _
+    (c.requires.started l.segment-index _ (at_index c.args.segments.now l.segment-index _ (omega arith)))
+
+pub trim_segment-requires-clause-trim : goal.trim_segment-requires-clause-trim
+trim_segment-requires-clause-trim g c =
+    let p = g.T.Law.Rules in
+    let t = g.T.Turns in
+    let l = c.segment in
+    omega (arith, c.requires.trim, (later_continues p.may p.floor p.shelf (t.seen c.args.turns.now) (t.seen l.turns) l.invariant.later).trim)
+
+pub segment-preserved : goal.segment-preserved
+segment-preserved g c =
+    let p = g.T.Law.Rules in
+    let t = g.T.Turns in
+    let who = t.who c.args.turns.now in
+    let old = t.seen c.args.turns.now in
+    let n = c.args.n in
+    let ss = c.args.segments.now in
+    let l = c.segment in
+    let i = l.invariant in
+    let now = t.seen l.turns in
+    let new = t.seen c.trim_segment.new.turns in
+    let step = c.in_ok-trim_segment.ensures in
+    let by_test : (k : ℕ) (s : Segment) → k < l.segment-index + 1 → slice_get ss k ≡ Some s → s.start < n → (b : Bool) → (k == l.segment-index) ≡ b → HasEvent old (IsTrimOf who s n) new = λ k s h at below b.
+    elim b as (λ b. (k == l.segment-index) ≡ b → HasEvent old (IsTrimOf who s n) new) [
+      | true ↦ λ e.
+          let same : k ≡ l.segment-index = grind (arith, nat_tests) in
+          let none : Segment = record { id = 0; start = 0; end = None } in
+          let both : Some s ≡ Some (slice_index_or ss l.segment-index none) = sym at ∙ (ap (slice_get ss) same ∙ at_index ss l.segment-index none (omega arith)) in
+          let is : slice_index_or ss l.segment-index none ≡ s = cc in
+          event_since (IsTrimOf who s n) old now new i.later.more i.later.seen
+          (subst (λ w. HasEvent now (IsTrimOf w s n) new) i.who (subst (λ (x : Segment). x.start < n → HasEvent now (IsTrimOf (t.who l.turns) x n) new) is step.trimmed below))
+      | false ↦ λ e.
+          let apart : k ≢ l.segment-index = grind (arith, nat_tests) in
+          event_until (IsTrimOf who s n) old now new step.later.more step.later.seen (i.trimmed k s (omega arith) at below)
+    ] in
+    record {
+      later = later_trans p.may p.floor p.shelf old now new i.later step.later;
+      who = step.who ∙ i.who;
+      trimmed = λ k s h at below. by_test k s h at below (k == l.segment-index) refl;
+    }
+
+pub returns-clause-trimmed : goal.returns-clause-trimmed
+returns-clause-trimmed g c = λ k s at below. c.segment.invariant.trimmed k s (omega (arith, slice_get_within c.args.segments.now k s at)) at below

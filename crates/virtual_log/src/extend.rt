@@ -1,0 +1,110 @@
+//! The last loglet of the chain is replaced on request (OSDI 2020): it is sealed, its tail is found, and the chain is
+//! written that closes it there. Whoever writes first wins.
+ghost use Rattle.std.specs.Prelude.{◌≡◌, ◌<◌, ◌+◌, ℕ, length, IfOk, IfErr, OnErr, Contains};
+ghost use Rattle.chain_map.specs.Chain.{last_segment};
+ghost use Rattle.legal_journal.specs.Journal.{state_of, IsLegal};
+ghost use Rattle.virtual_log.specs.Turning.{Later};
+ghost use Rattle.virtual_log.specs.Causes.{HasCause};
+ghost use Rattle.virtual_log.specs.Log.{GoesBy};
+ghost use Rattle.virtual_log.specs.Extending.{IsClosed, IsExtension};
+
+use crate::calls::Known;
+use crate::fault::Fault;
+use crate::operation::{FoundTail, find_tail, seal};
+use crate::replace::last_of;
+use crate::turn::look;
+use chain_map::change::extend;
+use fate_words::chooser::Chooser;
+use legal_journal::events::{FabricAnswer, FabricCall};
+use legal_journal::rules::Rules;
+use legal_journal::turns::Turns;
+use std::alloc::Global;
+
+/// What a replacement comes to.
+#[derive(Clone, Copy, PartialEq, Eq, Debug)]
+pub enum Extension {
+    /// The chain goes on in the next loglet: under this version, from this position on.
+    Extended { version: u64, start: u64 },
+    /// Another wrote a chain, of this version, that goes on behind the loglet.
+    Moved { version: u64 },
+    /// The shelf has no next loglet. Nothing was sealed.
+    NoSpare,
+}
+
+/// Closes the last segment of the known chain at a sealed tail of its loglet, unless another chain has
+/// closed it.
+fn close_at<T: Turns>(
+    turns: &mut T,
+    alloc: Global,
+    known: &mut Known,
+    length: u64,
+) -> Result<Extension, Fault>
+    requires legal { IsLegal T.Law.may T.Law.floor T.Law.shelf (T.seen turns.old) }
+    requires goes_by { GoesBy (state_of (T.seen turns.old)) known.old.version known.old.chain known.old.tail }
+    requires told { Contains ((state_of (T.seen turns.old)).cells (last_segment known.old.chain).id).ends length }
+    ensures later { Later T.Law.may T.Law.floor T.Law.shelf (T.seen turns.old) (T.seen turns.new) }
+    ensures who { T.who turns.new ≡ T.who turns.old }
+    ensures goes_by { GoesBy (state_of (T.seen turns.new)) known.new.version known.new.chain known.new.tail }
+    ensures closed { IfOk result (IsClosed (T.who turns.old) (T.seen turns.old) (last_segment known.old.chain) known.old.tail known.new.tail known.new.version (T.seen turns.new)) }
+    ensures unknown { OnErr result (known.new.tail ≡ known.old.tail) }
+    ensures err { IfErr result (λ fault. HasCause (T.who turns.old) (T.seen turns.old) fault (T.seen turns.new)) }
+{
+    let last = last_of(&known.chain);
+    'write: loop {
+        let next = extend(alloc, &known.chain, length)?;
+        let copy = next.clone()?;
+        match turns.turn(FabricCall::WriteChain(known.version, next)) {
+            FabricAnswer::Written(version) => {
+                let start = last.start + length;
+                known.version = version;
+                known.chain = copy;
+                known.tail = known.tail.max(start);
+                return Ok(Extension::Extended { version, start });
+            }
+            FabricAnswer::Conflict(version, chain) => {
+                let newest = last_of(&chain).id;
+                known.version = version;
+                known.chain = chain;
+                if newest > last.id {
+                    return Ok(Extension::Moved { version });
+                }
+            }
+            FabricAnswer::MetaFault => return Err(Fault::Meta),
+            FabricAnswer::Down => return Err(Fault::Meta),
+            _ => return Err(Fault::Memory),
+        }
+    }
+}
+
+/// Seals the last loglet, and lets the chain go on in the next one of the shelf, if there is one.
+pub fn extend_on<T: Turns, C: Chooser>(
+    turns: &mut T,
+    chooser: &mut C,
+    alloc: Global,
+    shelf_len: u32,
+    known: &mut Known,
+) -> Result<Extension, Fault>
+    requires legal { IsLegal T.Law.may T.Law.floor T.Law.shelf (T.seen turns.old) }
+    requires goes_by { GoesBy (state_of (T.seen turns.old)) known.old.version known.old.chain known.old.tail }
+    requires shelf { shelf_len ≡ length T.Law.shelf }
+    ensures later { Later T.Law.may T.Law.floor T.Law.shelf (T.seen turns.old) (T.seen turns.new) }
+    ensures who { T.who turns.new ≡ T.who turns.old }
+    ensures goes_by { GoesBy (state_of (T.seen turns.new)) known.new.version known.new.chain known.new.tail }
+    ensures extension { IfOk result (IsExtension (length T.Law.shelf) (T.who turns.old) (T.seen turns.old) known.old.tail known.new.tail known.new.version (T.seen turns.new)) }
+    ensures unknown { OnErr result (known.new.tail ≡ known.old.tail) }
+    ensures err { IfErr result (λ fault. HasCause (T.who turns.old) (T.seen turns.old) fault (T.seen turns.new)) }
+{
+    let (version, chain) = look(turns)?;
+    known.version = version;
+    known.chain = chain;
+    let last = last_of(&known.chain);
+    if last.id + 1 == shelf_len {
+        return Ok(Extension::NoSpare);
+    }
+    seal(turns, chooser, last.id)?;
+    let FoundTail::Sealed(length) = find_tail(turns, chooser, last)? else {
+        unreachable!()
+    };
+    let closed = close_at(turns, alloc, known, length)?;
+    Ok(closed)
+}

@@ -1,0 +1,155 @@
+//! The trim of the chain is raised, and the loglets let go of what lies below it.
+ghost use Rattle.std.specs.Prelude.{◌≡◌, ◌<◌, ◌≤◌, ℕ, Some, slice_get, IfOk, OnOk, IfErr};
+ghost use Rattle.delos_types.specs.declared.chain.Segment.{Segment};
+ghost use Rattle.legal_journal.specs.Journal.{state_of, trim_of, IsLegal, IsFree};
+ghost use Rattle.virtual_log.specs.Turning.{Later, HasEvent};
+ghost use Rattle.virtual_log.specs.Causes.{HasCause};
+ghost use Rattle.virtual_log.specs.Log.{GoesBy};
+ghost use Rattle.virtual_log.specs.Truncating.{IsTruncated, length_below, IsTrimOf, AreTrimmed, IsPrefixTrimmed};
+
+use crate::calls::Known;
+use crate::fault::Fault;
+use crate::turn::{begin, carry_on, look};
+use chain_map::change::drop_below;
+use delos_types::chain::Segment;
+use fate_words::chooser::Chooser;
+use legal_journal::events::{FabricAnswer, FabricCall};
+use legal_journal::rules::Rules;
+use legal_journal::turns::Turns;
+use loglet_api::call::{Answer, Op};
+use std::alloc::Global;
+
+/// Raises the trim of the chain to `n`, and drops the segments below it. Writes nothing where the trim
+/// is as high already.
+pub fn truncate_on<T: Turns>(
+    turns: &mut T,
+    alloc: Global,
+    known: &mut Known,
+    n: u64,
+) -> Result<(u64, u64), Fault>
+    requires legal { IsLegal T.Law.may T.Law.floor T.Law.shelf (T.seen turns.old) }
+    requires goes_by { GoesBy (state_of (T.seen turns.old)) known.old.version known.old.chain known.old.tail }
+    requires known { n ≤ known.old.tail }
+    requires free { IsFree (state_of (T.seen turns.old)).shown T.Law.floor n }
+    ensures later { Later T.Law.may T.Law.floor T.Law.shelf (T.seen turns.old) (T.seen turns.new) }
+    ensures who { T.who turns.new ≡ T.who turns.old }
+    ensures goes_by { GoesBy (state_of (T.seen turns.new)) known.new.version known.new.chain known.new.tail }
+    ensures known { known.new.tail ≡ known.old.tail }
+    ensures truncated { IfOk result (λ x. IsTruncated (T.who turns.old) (T.seen turns.old) n x.0 x.1 (T.seen turns.new)) }
+    ensures stands { IfOk result (λ x. (x.0 ≡ known.new.version) × (x.1 ≡ known.new.chain.trim)) }
+    ensures err { IfErr result (λ fault. HasCause (T.who turns.old) (T.seen turns.old) fault (T.seen turns.new)) }
+{
+    let (version, chain) = look(turns)?;
+    known.version = version;
+    known.chain = chain;
+    'write: loop {
+        let trim = known.chain.trim;
+        if n <= trim {
+            return Ok((known.version, trim));
+        }
+        let next = drop_below(alloc, &known.chain, n)?;
+        let copy = next.clone()?;
+        match turns.turn(FabricCall::WriteChain(known.version, next)) {
+            FabricAnswer::Written(version) => {
+                known.version = version;
+                known.chain = copy;
+                return Ok((version, n));
+            }
+            FabricAnswer::Conflict(version, chain) => {
+                known.version = version;
+                known.chain = chain;
+            }
+            FabricAnswer::MetaFault => return Err(Fault::Meta),
+            FabricAnswer::Down => return Err(Fault::Meta),
+            _ => return Err(Fault::Memory),
+        }
+    }
+}
+
+/// How much of a segment lies below `n`.
+fn length_below(segment: Segment, n: u64) -> u64
+    ensures { result ≡ length_below segment n }
+{
+    match segment.end {
+        None => n.saturating_sub(segment.start),
+        Some(end) => end.min(n).saturating_sub(segment.start),
+    }
+}
+
+/// Lets the loglet of a segment go of what lies below `n`, if the segment starts there.
+fn trim_segment<T: Turns, C: Chooser>(
+    turns: &mut T,
+    chooser: &mut C,
+    segment: Segment,
+    n: u64,
+) -> Result<(), Fault>
+    requires legal { IsLegal T.Law.may T.Law.floor T.Law.shelf (T.seen turns.old) }
+    requires started { (state_of (T.seen turns.old)).starts segment.id ≡ Some segment.start }
+    requires trim { n ≤ trim_of (state_of (T.seen turns.old)) }
+    ensures later { Later T.Law.may T.Law.floor T.Law.shelf (T.seen turns.old) (T.seen turns.new) }
+    ensures who { T.who turns.new ≡ T.who turns.old }
+    ensures trimmed { OnOk result (segment.start < n → HasEvent (T.seen turns.old) (IsTrimOf (T.who turns.old) segment n) (T.seen turns.new)) }
+    ensures err { IfErr result (λ fault. HasCause (T.who turns.old) (T.seen turns.old) fault (T.seen turns.new)) }
+{
+    if segment.start >= n {
+        return Ok(());
+    }
+    let id = segment.id;
+    let length = length_below(segment, n);
+    let ticket = begin(turns, id, Op::Trim(length))?;
+    match carry_on(turns, chooser, id, ticket)? {
+        Answer::TrimDone => return Ok(()),
+        Answer::NoQuorum { unreached } => return Err(Fault::NoQuorum { id, unreached }),
+        _ => return Err(Fault::Memory),
+    }
+}
+
+/// Lets the loglets of these segments go of what lies below `n`.
+fn trim_segments<T: Turns, C: Chooser>(
+    turns: &mut T,
+    chooser: &mut C,
+    segments: &[Segment],
+    n: u64,
+) -> Result<(), Fault>
+    requires legal { IsLegal T.Law.may T.Law.floor T.Law.shelf (T.seen turns.old) }
+    requires started { (k : ℕ) (s : Segment) → slice_get segments.now k ≡ Some s → (state_of (T.seen turns.old)).starts s.id ≡ Some s.start }
+    requires trim { n ≤ trim_of (state_of (T.seen turns.old)) }
+    ensures later { Later T.Law.may T.Law.floor T.Law.shelf (T.seen turns.old) (T.seen turns.new) }
+    ensures who { T.who turns.new ≡ T.who turns.old }
+    ensures trimmed { OnOk result (AreTrimmed (T.who turns.old) (T.seen turns.old) segments.now n (T.seen turns.new)) }
+    ensures err { IfErr result (λ fault. HasCause (T.who turns.old) (T.seen turns.old) fault (T.seen turns.new)) }
+{
+    'segment: for segment in segments {
+        trim_segment(turns, chooser, *segment, n)?;
+    }
+    Ok(())
+}
+
+/// Raises the trim of the chain to `n`, and lets the loglets go of what lies below it.
+pub fn prefix_trim_on<T: Turns, C: Chooser>(
+    turns: &mut T,
+    chooser: &mut C,
+    alloc: Global,
+    known: &mut Known,
+    n: u64,
+) -> Result<u64, Fault>
+    requires legal { IsLegal T.Law.may T.Law.floor T.Law.shelf (T.seen turns.old) }
+    requires goes_by { GoesBy (state_of (T.seen turns.old)) known.old.version known.old.chain known.old.tail }
+    requires known { n ≤ known.old.tail }
+    requires free { IsFree (state_of (T.seen turns.old)).shown T.Law.floor n }
+    ensures later { Later T.Law.may T.Law.floor T.Law.shelf (T.seen turns.old) (T.seen turns.new) }
+    ensures who { T.who turns.new ≡ T.who turns.old }
+    ensures goes_by { GoesBy (state_of (T.seen turns.new)) known.new.version known.new.chain known.new.tail }
+    ensures known { known.new.tail ≡ known.old.tail }
+    ensures trimmed { IfOk result (λ trim. IsPrefixTrimmed (T.who turns.old) (T.seen turns.old) n trim (T.seen turns.new)) }
+    ensures stands { IfOk result (λ trim. trim ≡ known.new.chain.trim) }
+    ensures err { IfErr result (λ fault. HasCause (T.who turns.old) (T.seen turns.old) fault (T.seen turns.new)) }
+{
+    let (version, chain) = look(turns)?;
+    known.version = version;
+    known.chain = chain;
+    let looked = known.chain.segments.clone()?;
+    let (_, trim) = truncate_on(turns, alloc, known, n)?;
+    trim_segments(turns, chooser, looked.as_slice(), n)?;
+    Ok(trim)
+}
