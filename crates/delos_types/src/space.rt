@@ -12,6 +12,10 @@ pub trait Space {
     /// What the space has, however it is kept.
     ghost contents: { Self → SpaceMap };
 
+    /// What it had when it began to be changed, which no call changes: who lends a space knows by
+    /// this that it gets the same one again.
+    ghost beginning: { Self → SpaceMap };
+
     /// A copy of the value at a key.
     fn get(&self, kind: u8, key: &[u8]) -> Result<Option<Bytes>, AllocError>
         ensures { IfOk result (λ value. value ≡ map.get (contents self.now) (kind, key.now)) };
@@ -25,10 +29,12 @@ pub trait Space {
         requires key_fits { length key.now < 2 ^ 16 }
         requires value_fits { length value.now < 2 ^ 32 }
         ensures ok { OnOk result (contents self.new ≡ map.insert (contents self.old) (kind, key.now) value.now) }
-        ensures err { OnErr result (contents self.new ≡ contents self.old) };
+        ensures err { OnErr result (contents self.new ≡ contents self.old) }
+        ensures beginning { beginning self.new ≡ beginning self.old };
 
     /// Removes a key; a key that isn't there stays away.
     fn del(&mut self, kind: u8, key: &[u8]) -> Result<(), AllocError>
         ensures ok { OnOk result (contents self.new ≡ map.remove (contents self.old) (kind, key.now)) }
-        ensures err { OnErr result (contents self.new ≡ contents self.old) };
+        ensures err { OnErr result (contents self.new ≡ contents self.old) }
+        ensures beginning { beginning self.new ≡ beginning self.old };
 }

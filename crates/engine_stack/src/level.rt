@@ -25,6 +25,7 @@ pub fn level(
     ensures step { IfOk result (λ outs. (more : List Told) × Level (kind_of engine.old) (contents space.old) items.items outs.items more (contents space.new) × (told.new.items ≡ told.old.items ++ more)) }
     ensures kind { kind_of engine.new ≡ kind_of engine.old }
     ensures kept { kept engine.new ≡ kept engine.old }
+    ensures beginning { beginning space.new ≡ beginning space.old }
 {
     let mut items = items;
     let mut outs = VecDeque::new(alloc);
@@ -46,6 +47,7 @@ fn up_one(
     ensures step { OnOk result ((up : Up) × UpStep (kind_of engine.old) (contents space.old) x.place x.item up (contents space.new) × (outs.new.items ≡ outs.old.items ++ passed x up) × (told.new.items ≡ told.old.items ++ answered x up)) }
     ensures kind { kind_of engine.new ≡ kind_of engine.old }
     ensures kept { kept engine.new ≡ kept engine.old }
+    ensures beginning { beginning space.new ≡ beginning space.old }
 {
     match up_at(engine, alloc, space, x.place, &x.item)? {
         Up::Pass(behind) => {
@@ -73,6 +75,7 @@ fn up_at(
     ensures step { IfOk result (λ up. UpStep (kind_of engine.old) (contents space.old) place item.now up (contents space.new)) }
     ensures kind { kind_of engine.new ≡ kind_of engine.old }
     ensures kept { kept engine.new ≡ kept engine.old }
+    ensures beginning { beginning space.new ≡ beginning space.old }
 {
     let up = engine.up(alloc, space, place, item)?;
     Ok(up)
@@ -97,6 +100,7 @@ pub fn hear(
     ensures step { OnOk result (Hears (kind_of engine.old) (contents space.old) told.now (contents space.new)) }
     ensures kind { kind_of engine.new ≡ kind_of engine.old }
     ensures kept { kept engine.new ≡ kept engine.old }
+    ensures beginning { beginning space.new ≡ beginning space.old }
 {
     for t in told {
         back_at(engine, alloc, space, t)?;
@@ -113,6 +117,7 @@ fn back_at(
     ensures step { OnOk result (BackStep (kind_of engine.old) (contents space.old) t.now.place t.now.item t.now.reply (contents space.new)) }
     ensures kind { kind_of engine.new ≡ kind_of engine.old }
     ensures kept { kept engine.new ≡ kept engine.old }
+    ensures beginning { beginning space.new ≡ beginning space.old }
 {
     engine.back(alloc, space, t.place, &t.item, t.reply.as_slice())
 }

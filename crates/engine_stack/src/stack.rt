@@ -100,6 +100,7 @@ impl Stack {
         ensures kinds { map (λ e. kind_of e) self.new.engines.items ≡ map (λ e. kind_of e) self.old.engines.items }
         ensures kept { map (λ e. kept e) self.new.engines.items ≡ map (λ e. kept e) self.old.engines.items }
         ensures origin { self.new.origin ≡ self.old.origin }
+        ensures beginning { beginning txn.new ≡ beginning txn.old }
     {
         let items = open_at(&mut self.engines[0], alloc, entry)?;
         let rising = place_items(alloc, pos, items)?;
@@ -244,6 +245,7 @@ fn rise(
     ensures step { IfOk result (λ told. Rises (drop 1 (map (λ e. kind_of e) engines.old.items)) (contents space.old) items.items told.items (contents space.new)) }
     ensures kinds { map (λ e. kind_of e) engines.new.items ≡ map (λ e. kind_of e) engines.old.items }
     ensures kept { map (λ e. kept e) engines.new.items ≡ map (λ e. kept e) engines.old.items }
+    ensures beginning { beginning space.new ≡ beginning space.old }
 {
     let mut told = Vec::new(alloc);
     let mut items = items;
@@ -263,6 +265,7 @@ fn sink(
     ensures step { OnOk result (Sinks (map (λ e. kind_of e) engines.old.items) (contents space.old) told.now (contents space.new)) }
     ensures kinds { map (λ e. kind_of e) engines.new.items ≡ map (λ e. kind_of e) engines.old.items }
     ensures kept { map (λ e. kept e) engines.new.items ≡ map (λ e. kept e) engines.old.items }
+    ensures beginning { beginning space.new ≡ beginning space.old }
 {
     let mut k = engines.len();
     while k > 0 {

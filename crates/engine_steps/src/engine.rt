@@ -81,6 +81,7 @@ pub trait Engine: Drop {
         item: &Item,
     ) -> Result<Up, AllocError>
         ensures step { IfOk result (λ up. UpStep (kind_of self.old) (contents space.old) place item.now up (contents space.new)) }
+        ensures beginning { beginning space.new ≡ beginning space.old }
         ensures kept { kept self.new ≡ kept self.old }
         ensures kind { kind_of self.new ≡ kind_of self.old };
 
@@ -94,6 +95,7 @@ pub trait Engine: Drop {
         reply: &[u8],
     ) -> Result<(), AllocError>
         ensures step { OnOk result (BackStep (kind_of self.old) (contents space.old) place item.now reply.now (contents space.new)) }
+        ensures beginning { beginning space.new ≡ beginning space.old }
         ensures kept { kept self.new ≡ kept self.old }
         ensures kind { kind_of self.new ≡ kind_of self.old };
 

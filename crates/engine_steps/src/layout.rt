@@ -46,6 +46,7 @@ pub fn set(space: &mut dyn Space, kind: u8, key: &[u8], value: &[u8]) -> Result<
     requires { length key.now < 2 ^ 16 }
     ensures ok { OnOk result (contents space.new ≡ map.insert (contents space.old) (kind, key.now) value.now) }
     ensures err { OnErr result (contents space.new ≡ contents space.old) }
+    ensures beginning { beginning space.new ≡ beginning space.old }
 {
     if value.len() > 0xffff_ffff {
         return Err(AllocError);
@@ -64,6 +65,7 @@ pub fn set_number(
     requires { length key.now < 2 ^ 16 }
     ensures ok { OnOk result (contents space.new ≡ map.insert (contents space.old) (kind, key.now) (u64_bytes number)) }
     ensures err { OnErr result (contents space.new ≡ contents space.old) }
+    ensures beginning { beginning space.new ≡ beginning space.old }
 {
     let mut bytes = Vec::new(alloc);
     put_u64(&mut bytes, number)?;

@@ -80,6 +80,8 @@ impl Txn {
 impl Space for Txn {
     ghost contents = { contents_of };
 
+    ghost beginning = { λ t. t.base };
+
     /// Cost: O(log n) comparisons in a space of n keys and changes, and copies of the key and the value.
     fn get(&self, kind: u8, key: &[u8]) -> Result<Option<Bytes>, AllocError> {
         let key = space_key(self.alloc, kind, key)?;
@@ -103,7 +105,7 @@ impl Space for Txn {
         requires value_fits { length value.now < 2 ^ 32 }
         ensures ok { OnOk result (contents_of self.new ≡ map.insert (contents_of self.old) (kind, key.now) value.now) }
         ensures err { OnErr result (self.new ≡ self.old) }
-        ensures base { self.new.base ≡ self.old.base }
+        ensures beginning { self.new.base ≡ self.old.base }
     {
         let key = space_key(self.alloc, kind, key)?;
         let value = Bytes::from_slice(self.alloc, value)?;
@@ -115,7 +117,7 @@ impl Space for Txn {
     fn del(&mut self, kind: u8, key: &[u8]) -> Result<(), AllocError>
         ensures ok { OnOk result (contents_of self.new ≡ map.remove (contents_of self.old) (kind, key.now)) }
         ensures err { OnErr result (self.new ≡ self.old) }
-        ensures base { self.new.base ≡ self.old.base }
+        ensures beginning { self.new.base ≡ self.old.base }
     {
         let _open = &self.changes;
 

@@ -78,7 +78,8 @@ impl Engine for SessionEngine {
 
 // What becomes of an item.
 fn take(alloc: Global, space: &mut dyn Space, place: Place, item: &Item) -> Result<Up, AllocError>
-    ensures { IfOk result (λ up. SessionUp (contents space.old) place item.now up (contents space.new)) }
+    ensures step { IfOk result (λ up. SessionUp (contents space.old) place item.now up (contents space.new)) }
+    ensures beginning { beginning space.new ≡ beginning space.old }
 {
     note_clean(alloc, space, place)?;
     match session_word(item) {
@@ -97,7 +98,8 @@ fn take(alloc: Global, space: &mut dyn Space, place: Place, item: &Item) -> Resu
 
 // Where the first item of an entry finds no rank waiting, the entries before it are clean.
 fn note_clean(alloc: Global, space: &mut dyn Space, place: Place) -> Result<(), AllocError>
-    ensures { OnOk result (contents space.new ≡ opening (contents space.old) place) }
+    ensures step { OnOk result (contents space.new ≡ opening (contents space.old) place) }
+    ensures beginning { beginning space.new ≡ beginning space.old }
 {
     if place.sub != 0 {
         return Ok(());
@@ -116,7 +118,8 @@ fn at_rank(
     rank: u64,
     payload: &[u8],
 ) -> Result<Up, AllocError>
-    ensures { IfOk result (λ up. RankStep (contents space.old) session rank payload.now up (contents space.new)) }
+    ensures step { IfOk result (λ up. RankStep (contents space.old) session rank payload.now up (contents space.new)) }
+    ensures beginning { beginning space.new ≡ beginning space.old }
 {
     let last = last_rank(alloc, space, session)?;
     if rank <= last {
@@ -137,7 +140,8 @@ fn hold(
     rank: u64,
     payload: &[u8],
 ) -> Result<(), AllocError>
-    ensures { OnOk result (contents space.new ≡ waits (contents space.old) session rank payload.now (held_of (contents space.old) session rank)) }
+    ensures step { OnOk result (contents space.new ≡ waits (contents space.old) session rank payload.now (held_of (contents space.old) session rank)) }
+    ensures beginning { beginning space.new ≡ beginning space.old }
 {
     match held(alloc, space, session, rank)? {
         Some(_) => return Ok(()),
@@ -154,7 +158,8 @@ fn act(
     session: SessionId,
     rank: u64,
 ) -> Result<Up, AllocError>
-    ensures { IfOk result (λ up. Acts (contents space.old) session rank up (contents space.new)) }
+    ensures step { IfOk result (λ up. Acts (contents space.old) session rank up (contents space.new)) }
+    ensures beginning { beginning space.new ≡ beginning space.old }
 {
     let mut freed = ItemList::new(alloc);
     let last = free(alloc, space, session, rank, &mut freed)?;
@@ -171,7 +176,8 @@ fn free(
     rank: u64,
     out: &mut ItemList,
 ) -> Result<u64, AllocError>
-    ensures { IfOk result (λ last. (freed : List Item) × Frees (contents space.old) session (rank + 1) freed (contents space.new) × (out.new ≡ out.old ++ freed) × (last ≡ rank + length freed)) }
+    ensures step { IfOk result (λ last. (freed : List Item) × Frees (contents space.old) session (rank + 1) freed (contents space.new) × (out.new ≡ out.old ++ freed) × (last ≡ rank + length freed)) }
+    ensures beginning { beginning space.new ≡ beginning space.old }
 {
     let mut last = rank;
     while last < u64::MAX {
@@ -198,7 +204,8 @@ fn keep_reply(
     item: &Item,
     reply: &[u8],
 ) -> Result<(), AllocError>
-    ensures { OnOk result (RepliesAt (contents space.old) place (under 2 item.now) reply.now (contents space.new)) }
+    ensures step { OnOk result (RepliesAt (contents space.old) place (under 2 item.now) reply.now (contents space.new)) }
+    ensures beginning { beginning space.new ≡ beginning space.old }
 {
     match session_word(item) {
         None => Ok(()),
@@ -214,7 +221,8 @@ fn put_reply(
     rank: Rank,
     reply: &[u8],
 ) -> Result<(), AllocError>
-    ensures { OnOk result (RepliesAt (contents space.old) place (Some (content.Session session rank None)) reply.now (contents space.new)) }
+    ensures step { OnOk result (RepliesAt (contents space.old) place (Some (content.Session session rank None)) reply.now (contents space.new)) }
+    ensures beginning { beginning space.new ≡ beginning space.old }
 {
     let key = reply_key(alloc, session, rank)?;
     let slot = slot_text(alloc, place, rank, reply)?;

@@ -78,7 +78,8 @@ impl Engine for TableEngine {
 
 // What becomes of an item.
 fn take(alloc: Global, space: &mut dyn Space, item: &Item) -> Result<Up, AllocError>
-    ensures { IfOk result (λ up. TableUp (contents space.old) item.now up (contents space.new)) }
+    ensures step { IfOk result (λ up. TableUp (contents space.old) item.now up (contents space.new)) }
+    ensures beginning { beginning space.new ≡ beginning space.old }
 {
     match session_word(item) {
         None => Ok(Up::Pass(ItemList::new(alloc))),
@@ -88,7 +89,8 @@ fn take(alloc: Global, space: &mut dyn Space, item: &Item) -> Result<Up, AllocEr
 
 // Does the command that a payload spells, and answers its reply; none is spelled, nothing is done.
 fn act(alloc: Global, space: &mut dyn Space, payload: &[u8]) -> Result<Up, AllocError>
-    ensures { IfOk result (λ up. TableDoes (contents space.old) (command_of payload.now) up (contents space.new)) }
+    ensures step { IfOk result (λ up. TableDoes (contents space.old) (command_of payload.now) up (contents space.new)) }
+    ensures beginning { beginning space.new ≡ beginning space.old }
 {
     let Some(command) = read_command(alloc, payload)? else {
         return Ok(Up::Answer(Bytes::new(alloc)));
@@ -104,7 +106,8 @@ fn act(alloc: Global, space: &mut dyn Space, payload: &[u8]) -> Result<Up, Alloc
 // What was decided becomes of the value at a key.
 fn carry_out(space: &mut dyn Space, key: &[u8], change: &Change) -> Result<(), AllocError>
     requires { length key.now < 2 ^ 16 }
-    ensures { OnOk result (contents space.new ≡ with_value (contents space.old) key.now (value_after change.now (value_of (contents space.old) key.now))) }
+    ensures step { OnOk result (contents space.new ≡ with_value (contents space.old) key.now (value_after change.now (value_of (contents space.old) key.now))) }
+    ensures beginning { beginning space.new ≡ beginning space.old }
 {
     match change {
         Change::Keep => Ok(()),

@@ -70,7 +70,8 @@ impl Engine for TrimEngine {
 
 // What becomes of an item.
 fn take(alloc: Global, space: &mut dyn Space, item: &Item) -> Result<Up, AllocError>
-    ensures { IfOk result (λ up. TrimUp (contents space.old) item.now up (contents space.new)) }
+    ensures step { IfOk result (λ up. TrimUp (contents space.old) item.now up (contents space.new)) }
+    ensures beginning { beginning space.new ≡ beginning space.old }
 {
     let said = word(alloc, TRIM, item)?;
     match said {
@@ -80,7 +81,8 @@ fn take(alloc: Global, space: &mut dyn Space, item: &Item) -> Result<Up, AllocEr
 }
 
 fn hear(alloc: Global, space: &mut dyn Space, content: &Content) -> Result<Up, AllocError>
-    ensures { IfOk result (λ up. TrimAt (contents space.old) (Some content.now) up (contents space.new)) }
+    ensures step { IfOk result (λ up. TrimAt (contents space.old) (Some content.now) up (contents space.new)) }
+    ensures beginning { beginning space.new ≡ beginning space.old }
 {
     match content {
         Content::Trim { position } => {
@@ -95,7 +97,8 @@ fn hear(alloc: Global, space: &mut dyn Space, content: &Content) -> Result<Up, A
 
 // The trim point only rises.
 fn raise(alloc: Global, space: &mut dyn Space, position: u64) -> Result<(), AllocError>
-    ensures { OnOk result (contents space.new ≡ raised_trim (contents space.old) position) }
+    ensures step { OnOk result (contents space.new ≡ raised_trim (contents space.old) position) }
+    ensures beginning { beginning space.new ≡ beginning space.old }
 {
     let point = trim_point(space)?;
     if point >= position {

@@ -73,7 +73,8 @@ impl Engine for ViewEngine {
 
 // What becomes of an item.
 fn take(alloc: Global, space: &mut dyn Space, item: &Item) -> Result<Up, AllocError>
-    ensures { IfOk result (λ up. ViewUp (contents space.old) item.now up (contents space.new)) }
+    ensures step { IfOk result (λ up. ViewUp (contents space.old) item.now up (contents space.new)) }
+    ensures beginning { beginning space.new ≡ beginning space.old }
 {
     let said = word(alloc, VIEW, item)?;
     match said {
@@ -83,7 +84,8 @@ fn take(alloc: Global, space: &mut dyn Space, item: &Item) -> Result<Up, AllocEr
 }
 
 fn hear(alloc: Global, space: &mut dyn Space, content: &Content) -> Result<Up, AllocError>
-    ensures { IfOk result (λ up. ViewAt (contents space.old) (Some content.now) up (contents space.new)) }
+    ensures step { IfOk result (λ up. ViewAt (contents space.old) (Some content.now) up (contents space.new)) }
+    ensures beginning { beginning space.new ≡ beginning space.old }
 {
     match content {
         Content::Alive { node, position } => {
@@ -106,7 +108,8 @@ fn report(
     node: NodeId,
     position: u64,
 ) -> Result<(), AllocError>
-    ensures { OnOk result (contents space.new ≡ reports (contents space.old) node position (view_of (contents space.old) node)) }
+    ensures step { OnOk result (contents space.new ≡ reports (contents space.old) node position (view_of (contents space.old) node)) }
+    ensures beginning { beginning space.new ≡ beginning space.old }
 {
     let stored = view_at(space, node)?;
     if is_left(stored.as_ref()) || number_at(stored.as_ref()) >= position {

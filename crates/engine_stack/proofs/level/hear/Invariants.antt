@@ -8,6 +8,8 @@ invariant-loop-t g l =
     let kept = (goal.Engine-dyn g (l.fn.engine.vtable, l.fn.engine.value)).kept l.fn.engine.value in
     let now = (goal.Space-dyn g l.space.now).contents l.space.now.1 in
     let start = (goal.Space-dyn g l.fn.space.now).contents l.fn.space.now.1 in
+    let beginning = (goal.Space-dyn g l.fn.space.now).beginning l.fn.space.now.1 in
     ((goal.Engine-dyn g (l.engine.vtable, l.engine.value)).kind_of l.engine.value ≡ kind)
     × ((goal.Engine-dyn g (l.engine.vtable, l.engine.value)).kept l.engine.value ≡ kept)
     × HeardSoFar kind start l.told (drop l.t-index l.told) now
+    × ((goal.Space-dyn g l.space.now).beginning l.space.now.1 ≡ beginning)

@@ -10,9 +10,11 @@ invariant-loop-x g l =
     let kept = (goal.Engine-dyn g (l.fn.engine.vtable, l.fn.engine.value)).kept l.fn.engine.value in
     let now = (goal.Space-dyn g l.space.now).contents l.space.now.1 in
     let start = (goal.Space-dyn g l.fn.space.now).contents l.fn.space.now.1 in
+    let beginning = (goal.Space-dyn g l.fn.space.now).beginning l.fn.space.now.1 in
     ((goal.Engine-dyn g (l.engine.vtable, l.engine.value)).kind_of l.engine.value ≡ kind)
     × ((goal.Engine-dyn g (l.engine.vtable, l.engine.value)).kept l.engine.value ≡ kept)
     × ((more : List Told) × (l.told.items ≡ l.fn.told.items ++ more) × PassedSoFar kind start l.fn.items.items l.items.items l.outs.items more now)
+    × ((goal.Space-dyn g l.space.now).beginning l.space.now.1 ≡ beginning)
 
 abbrev pub decreases-loop-x : goal.decreases-loop-x
 decreases-loop-x g l = deque_len l.items

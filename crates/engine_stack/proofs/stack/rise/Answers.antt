@@ -21,7 +21,7 @@ loop-k-preserved g c =
     let e = c.in_ok-items.ensures.step in
     let same : length c.loop-k.engines.items ≡ length c.args.engines.now.items = same_length _ _ _ c.loop-k.invariant.0 in
     let lt : c.loop-k.k < length c.loop-k.engines.items = omega (arith, c.len-k-end.ensures, c.args.engines.now.ok.0) in
-    (map_set_same _ _ _ _ _ lt c.index_mut.ensures.value c.in_ok-items.ensures.kind ∙ inv.0, map_set_same _ _ _ _ _ lt c.index_mut.ensures.value c.in_ok-items.ensures.kept ∙ inv.1, rw e.2 (risen_more _ _ _ _ _ _ _ _ _ _ _ _ (next_map _ _ _ _ _ inv.0 lt c.index_mut.ensures.value) inv.2 e.1))
+    (map_set_same _ _ _ _ _ lt c.index_mut.ensures.value c.in_ok-items.ensures.kind ∙ inv.0, map_set_same _ _ _ _ _ lt c.index_mut.ensures.value c.in_ok-items.ensures.kept ∙ inv.1, rw e.2 (risen_more _ _ _ _ _ _ _ _ _ _ _ _ (next_map _ _ _ _ _ inv.0 lt c.index_mut.ensures.value) inv.2 e.1), c.in_ok-items.ensures.beginning ∙ inv.3)
 
 pub returns-clause-step : goal.returns-clause-step
 returns-clause-step g c =

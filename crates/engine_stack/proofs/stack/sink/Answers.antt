@@ -21,4 +21,5 @@ loop-k-preserved g c =
       map_set_same _ _ _ _ _ lt c.index_mut.ensures.value c.in_ok-hear.ensures.kind ∙ inv.1,
       map_set_same _ _ _ _ _ lt c.index_mut.ensures.value c.in_ok-hear.ensures.kept ∙ inv.2,
       sunk_more _ _ _ _ _ _ _ (next_down _ _ _ _ _ inv.1 (omega arith) lt c.index_mut.ensures.value) inv.3 c.in_ok-hear.ensures.step,
+      c.in_ok-hear.ensures.beginning ∙ inv.4,
     )

@@ -7,10 +7,12 @@ invariant-loop-k g l =
     let kinds = map (λ e. (goal.Engine-dyn g (e.vtable, e.value)).kind_of e.value) l.fn.engines.items in
     let now = (goal.Space-dyn g l.space.now).contents l.space.now.1 in
     let start = (goal.Space-dyn g l.fn.space.now).contents l.fn.space.now.1 in
+    let beginning = (goal.Space-dyn g l.fn.space.now).beginning l.fn.space.now.1 in
     (l.k ≤ length l.engines.items)
     × (map (λ e. (goal.Engine-dyn g (e.vtable, e.value)).kind_of e.value) l.engines.items ≡ kinds)
     × (map (λ e. (goal.Engine-dyn g (e.vtable, e.value)).kept e.value) l.engines.items ≡ map (λ e. (goal.Engine-dyn g (e.vtable, e.value)).kept e.value) l.fn.engines.items)
     × Sinks (drop l.k kinds) start l.told now
+    × ((goal.Space-dyn g l.space.now).beginning l.space.now.1 ≡ beginning)
 
 abbrev pub decreases-loop-k : goal.decreases-loop-k
 decreases-loop-k g l = l.k
