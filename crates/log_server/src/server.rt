@@ -109,7 +109,7 @@ impl<D: Disk> LogServer<D> {
         if self.is_sealed() {
             return Ok(Told::Sealed(len));
         }
-        if place != len {
+        if len != place {
             return Ok(place_told(place, len));
         }
         let bytes = stored_record(self.alloc, place, entry)?;

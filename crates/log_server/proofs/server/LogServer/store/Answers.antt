@@ -9,5 +9,5 @@ returns-then-not-is_up-clause-any_crash g c = stays_during c.args.self.now (Stor
 pub returns-then-is_sealed-clause-any_crash : goal.returns-then-is_sealed-clause-any_crash
 returns-then-is_sealed-clause-any_crash g c = stays_during c.args.self.now (Store c.args.place c.args.entry.now) c.args.self.now.disk refl c.is_up.ensures.survives
 
-pub returns-then-place-len-clause-any_crash : goal.returns-then-place-len-clause-any_crash
-returns-then-place-len-clause-any_crash g c = stays_during c.args.self.now (Store c.args.place c.args.entry.now) c.args.self.now.disk refl c.is_up.ensures.survives
+pub returns-then-len-place-clause-any_crash : goal.returns-then-len-place-clause-any_crash
+returns-then-len-place-clause-any_crash g c = stays_during c.args.self.now (Store c.args.place c.args.entry.now) c.args.self.now.disk refl c.is_up.ensures.survives
