@@ -1,0 +1,237 @@
+-- A replica's state, as the log goes on and entries are applied.
+use Rattle.std.proofs.Common.{Bool, true, false, ◌≡◌, ◌⊎◌, inl, inr, ℕ, zero, suc, ◌+◌, ◌<◌, ◌≤◌, List, [], ◌∷◌, ◌++◌, length, Some, None, refl, sym, ap, ◌∙◌, subst, ⊎_elim, arith}
+use Rattle.std.specs.Prelude.{slice_get, max}
+use Rattle.std.proofs.lemmas.List.{append_assoc, length-append}
+use Rattle.std.proofs.Math.Nat.{le-max_left, le-max_right, max-le}
+use Rattle.delos_types.specs.Spaces.{SpaceMap}
+use Rattle.delos_types.specs.declared.entry.Entry.{Entry}
+use Rattle.disk_model.specs.Crash.{AnyCrash}
+use Rattle.disk_model.specs.CrashLaws.{stays, joined, weaker}
+use Rattle.legal_journal.specs.declared.events.Event.{Event}
+use Rattle.legal_journal.specs.Journal.{IsLegal}
+use Rattle.virtual_log.specs.Turning.{Later, FirstTurn, IsAbove}
+use Rattle.virtual_log.proofs.OneTurn.{later_continues}
+use Rattle.base_engine.specs.Reading.{IsTrimmed, Stays, IsFront}
+use Rattle.replica_api.specs.Replica.{Saved, ReplicaView, saved_in, MayFind, SpellsOne, Survives, Advances, Advanced, Failed, MayFindDuring, Recovered}
+use Rattle.base_engine.specs.Following.{IsStateAt, Follows, IsKnown, Reaches, IsAt, IsFound}
+
+push_cases : (log : List Entry) (e x : Entry) (pos : ℕ) → slice_get (log ++ e ∷ []) pos ≡ Some x → (slice_get log pos ≡ Some x) ⊎ ((pos ≡ length log) × (x ≡ e))
+push_cases [] e x zero h = let same : x ≡ e = cc in inr (refl, same)
+push_cases [] e x (suc n) h = absurd (cc)
+push_cases (y ∷ ys) e x zero h = inl h
+push_cases (y ∷ ys) e x (suc n) h = ⊎_elim (λ k. inl k) (λ k. inr (ap suc k.0, k.1)) (push_cases ys e x n h)
+
+front_push : (holds : List Event → ℕ → Entry → Type 0) (seen : List Event) (log : List Entry) (e : Entry) (c : ℕ) → IsFront holds seen log → length log ≡ c → holds seen c e → IsFront holds seen (log ++ e ∷ [])
+front_push holds seen log e c front size here pos x h =
+    ⊎_elim (λ k. front pos x k)
+    (λ (k : (pos ≡ length log) × (x ≡ e)). subst (λ i. holds seen i x) (sym (k.0 ∙ size)) (subst (λ y. holds seen c y) (sym k.1) here))
+    (push_cases log e x pos h)
+
+-- Over one journal
+
+module _ (holds : List Event → ℕ → Entry → Type 0) (state : List Entry → SpaceMap → Type 0) (spells : List ℕ → Saved → Type 0) (seen : List Event) where
+  state_next : (v : ReplicaView) (e : Entry) (next : SpaceMap) (s : Saved) → IsStateAt holds state seen (saved_in v) → holds seen v.cursor e → Advances state v.contents v.cursor e next → s.cursor ≡ v.cursor + 1 → s.contents ≡ next → IsStateAt holds state seen s
+  state_next v e next s h here led at is = record {
+    log = h.log ++ e ∷ [];
+    size = omega (arith, at, h.size, length-append h.log (e ∷ []));
+    front = front_push holds seen h.log e v.cursor h.front h.size here;
+    led = subst (λ m. state (h.log ++ e ∷ []) m) (sym is) (led h.log h.size h.led);
+  }
+
+  pub found_state : (v : ReplicaView) (s : Saved) → Follows holds state spells seen v → MayFind v s → IsFound holds state seen v.cursor s
+  found_state v s h (inl same) = record {
+    at = subst (λ x. IsStateAt holds state seen x) (sym same) h.now;
+    forward = omega (arith, ap (λ (x : Saved). x.cursor) same);
+  }
+  found_state v s h (inr asked) = record { at = (h.asked s asked).at; forward = omega (arith, (h.asked s asked).next) }
+
+  pub follows_done : (old new : ReplicaView) (e : Entry) → Follows holds state spells seen old → holds seen old.cursor e → Advanced state old e new → Survives spells new → Follows holds state spells seen new
+  follows_done old new e h here a survives = record {
+    now = state_next old e new.contents (saved_in new) h.now here a.led a.cursor refl;
+    asked = λ s is. absurd (none s is);
+    survives = survives;
+  }
+    where
+      none : (s : Saved) → new.asked ≡ Some s → ⊥
+      none s is = let no : None ≡ Some s = sym a.none_asked ∙ is in cc
+
+  pub follows_fault : (old new : ReplicaView) (e : Entry) → Follows holds state spells seen old → holds seen old.cursor e → Failed state old e new → Survives spells new → Follows holds state spells seen new
+  follows_fault old new e h here f survives = record {
+    now = subst (λ s. IsStateAt holds state seen s) (sym (ap saved_in f.is)) h.now;
+    asked = λ s is.
+        let both : Some next ≡ Some s = sym (ap (λ (v : ReplicaView). v.asked) f.is) ∙ is in
+        let same : next ≡ s = cc in
+        record {
+          at = state_next old e f.next s h.now here f.led (sym (ap (λ (x : Saved). x.cursor) same)) (sym (ap (λ (x : Saved). x.contents) same));
+          next = sym (ap (λ (x : Saved). x.cursor) same) ∙ ap (λ (v : ReplicaView). v.cursor + 1) (sym f.is);
+        };
+    survives = survives;
+  }
+    where
+      next : Saved
+      next = record { cursor = old.cursor + 1; contents = f.next }
+
+  pub follows_reopened : (old new : ReplicaView) → Follows holds state spells seen old → Recovered old new → Survives spells new → Follows holds state spells seen new
+  follows_reopened old new h r survives = record {
+    now = (found_state old (saved_in new) h r.found).at;
+    asked = λ s is. absurd (none s is);
+    survives = survives;
+  }
+    where
+      none : (s : Saved) → new.asked ≡ Some s → ⊥
+      none s is = let no : None ≡ Some s = sym r.none_asked ∙ is in cc
+
+  -- the disk went on, and nothing else
+  pub follows_same : (old new : ReplicaView) → Follows holds state spells seen old → saved_in new ≡ saved_in old → new.asked ≡ old.asked → Survives spells new → Follows holds state spells seen new
+  follows_same old new h same asked survives = record {
+    now = subst (λ s. IsStateAt holds state seen s) (sym same) h.now;
+    asked = λ s is. let k = h.asked s (sym asked ∙ is) in record { at = k.at; next = k.next ∙ ap (λ (x : Saved). x.cursor + 1) (sym same) };
+    survives = survives;
+  }
+
+  pub found_near : (v : ReplicaView) (s : Saved) → Follows holds state spells seen v → MayFind v s → s.cursor ≤ v.cursor + 1
+  found_near v s h (inl same) = omega (arith, ap (λ (x : Saved). x.cursor) same)
+  found_near v s h (inr asked) = omega (arith, (h.asked s asked).next)
+
+  -- What a crash leaves
+
+  spells_weaker : (P Q : Saved → Type 0) → ((s : Saved) → P s → Q s) → (image : List ℕ) → SpellsOne spells P image → SpellsOne spells Q image
+  spells_weaker P Q w image h = (h.0, h.1, w h.0 h.2)
+
+  pub crash_at_rest : (v : ReplicaView) → Follows holds state spells seen v → AnyCrash v.disk v.disk (SpellsOne spells (IsFound holds state seen v.cursor))
+  crash_at_rest v h =
+      stays v.disk v.disk (SpellsOne spells (IsFound holds state seen v.cursor)) refl
+      (λ image is. spells_weaker (MayFind v) (IsFound holds state seen v.cursor) (λ s. found_state v s h) image (h.survives image is))
+
+  pub crash_in_apply : (old new : ReplicaView) (e : Entry) → Follows holds state spells seen old → holds seen old.cursor e → AnyCrash old.disk new.disk (SpellsOne spells (MayFindDuring state old e)) → AnyCrash old.disk new.disk (SpellsOne spells (IsFound holds state seen old.cursor))
+  crash_in_apply old new e h here = weaker old.disk new.disk _ _ (spells_weaker (MayFindDuring state old e) (IsFound holds state seen old.cursor) one)
+    where
+      one : (s : Saved) → MayFindDuring state old e s → IsFound holds state seen old.cursor s
+      one s (inl k) = found_state old s h k
+      one s (inr k) = record { at = state_next old e s.contents s h.now here k.1 k.0 refl; forward = omega (arith, k.0) }
+
+  pub crash_in_reopen : (old new : ReplicaView) → Follows holds state spells seen old → AnyCrash old.disk new.disk (SpellsOne spells (MayFind old)) → AnyCrash old.disk new.disk (SpellsOne spells (IsFound holds state seen old.cursor))
+  crash_in_reopen old new h = weaker old.disk new.disk _ _ (spells_weaker (MayFind old) (IsFound holds state seen old.cursor) (λ s. found_state old s h))
+
+-- As the journal goes on
+
+module _ (may : ℕ → Entry → Type 0) (floor : List Entry → ℕ) (shelf : List ℕ) (holds : List Event → ℕ → Entry → Type 0) (state : List Entry → SpaceMap → Type 0) (spells : List ℕ → Saved → Type 0) (holding : Stays may floor shelf holds) where
+  state_later : (old new : List Event) (s : Saved) → Later may floor shelf old new → IsStateAt holds state old s → IsStateAt holds state new s
+  state_later old new s later h = record {
+    log = h.log;
+    size = h.size;
+    front = λ pos e at. subst (λ es. holds es pos e) (sym later.seen) (holding old later.more pos e (subst (IsLegal may floor shelf) later.seen later.legal) (h.front pos e at));
+    led = h.led;
+  }
+
+  pub follows_later : (old new : List Event) (v : ReplicaView) → Later may floor shelf old new → Follows holds state spells old v → Follows holds state spells new v
+  follows_later old new v later h = record {
+    now = state_later old new (saved_in v) later h.now;
+    asked = λ s is. record { at = state_later old new s later (h.asked s is).at; next = (h.asked s is).next };
+    survives = h.survives;
+  }
+
+  -- one run after another
+  pub crash_on : (old new : List Event) (a b v : ReplicaView) → Later may floor shelf old new → a.cursor ≤ b.cursor
+      → AnyCrash a.disk b.disk (SpellsOne spells (IsFound holds state old a.cursor))
+      → AnyCrash b.disk v.disk (SpellsOne spells (IsFound holds state new b.cursor))
+      → AnyCrash a.disk v.disk (SpellsOne spells (IsFound holds state new a.cursor))
+  crash_on old new a b v later le front back =
+      joined a.disk b.disk v.disk (SpellsOne spells (IsFound holds state new a.cursor))
+      (weaker a.disk b.disk _ _ (λ image h. (h.0, h.1, record { at = state_later old new h.0 later h.2.at; forward = h.2.forward })) front)
+      (weaker b.disk v.disk _ _ (λ image h. (h.0, h.1, record { at = h.2.at; forward = omega (arith, h.2.forward) })) back)
+
+  -- only what waits changed
+  pub follows_rest : (old new : List Event) (v w : ReplicaView) → Later may floor shelf old new → w ≡ record v { kept = w.kept } → Follows holds state spells old v → Follows holds state spells new w
+  follows_rest old new v w later is h =
+      let k = follows_later old new v later h in
+      subst (λ x. Follows holds state spells new x) (sym is) record { now = k.now; asked = k.asked; survives = k.survives }
+
+  pub crash_rest : (old new : List Event) (a b w : ReplicaView) → Later may floor shelf old new → w ≡ record b { kept = w.kept }
+      → AnyCrash a.disk b.disk (SpellsOne spells (IsFound holds state old a.cursor))
+      → AnyCrash a.disk w.disk (SpellsOne spells (IsFound holds state new a.cursor))
+  crash_rest old new a b w later is h =
+      subst (λ (x : ReplicaView). AnyCrash a.disk x.disk (SpellsOne spells (IsFound holds state new a.cursor))) (sym is)
+      (weaker a.disk b.disk _ _ (λ image k. (k.0, k.1, record { at = state_later old new k.0 later k.2.at; forward = k.2.forward })) h)
+
+  pub trimmed_later : (old new : List Event) (pos : ℕ) → Later may floor shelf old new → IsTrimmed old pos → IsTrimmed new pos
+  trimmed_later old new pos later h = record {
+    version = h.version;
+    chain = h.chain;
+    given = (later_continues may floor shelf old new later).given h.version h.chain h.given;
+    below = h.below;
+  }
+
+-- How far the log is known
+
+pub known_done : (state : List Entry → SpaceMap → Type 0) (known : ℕ) (old new : ReplicaView) (e : Entry) → old.cursor < known → Advanced state old e new → IsKnown known new
+known_done state known old new e low a = record { now = omega (arith, a.cursor); asked = λ s is. absurd (none s is) }
+  where
+    none : (s : Saved) → new.asked ≡ Some s → ⊥
+    none s is = let no : None ≡ Some s = sym a.none_asked ∙ is in cc
+
+pub known_fault : (state : List Entry → SpaceMap → Type 0) (known : ℕ) (old new : ReplicaView) (e : Entry) → old.cursor < known → Failed state old e new → IsKnown known new
+known_fault state known old new e low f = record {
+  now = omega (arith, ap (λ (v : ReplicaView). v.cursor) f.is);
+  asked = λ s is.
+      let both : Some next ≡ Some s = sym (ap (λ (v : ReplicaView). v.asked) f.is) ∙ is in
+      let same : next ≡ s = cc in
+      omega (arith, ap (λ (x : Saved). x.cursor) same);
+}
+  where
+    next : Saved
+    next = record { cursor = old.cursor + 1; contents = f.next }
+
+pub known_same : (known : ℕ) (old new : ReplicaView) → IsKnown known old → saved_in new ≡ saved_in old → new.asked ≡ old.asked → IsKnown known new
+known_same known old new h same asked = record {
+  now = omega (arith, h.now, ap (λ (x : Saved). x.cursor) same);
+  asked = λ s is. h.asked s (sym asked ∙ is);
+}
+
+pub known_reopened : (known : ℕ) (old new : ReplicaView) → IsKnown known old → Recovered old new → IsKnown known new
+known_reopened known old new h r = record { now = found r.found; asked = λ s is. absurd (none s is) }
+  where
+    found : MayFind old (saved_in new) → new.cursor ≤ known
+    found (inl same) = omega (arith, h.now, ap (λ (x : Saved). x.cursor) same)
+    found (inr asked) = h.asked (saved_in new) asked
+
+    none : (s : Saved) → new.asked ≡ Some s → ⊥
+    none s is = let no : None ≡ Some s = sym r.none_asked ∙ is in cc
+
+pub known_rest : (a b : ℕ) (v w : ReplicaView) → a ≤ b → w ≡ record v { kept = w.kept } → IsKnown a v → IsKnown b w
+known_rest a b v w le is h = subst (λ x. IsKnown b x) (sym is) record { now = omega (arith, h.now); asked = λ s at. omega (arith, h.asked s at) }
+
+pub known_more : (a b : ℕ) (v : ReplicaView) → a ≤ b → IsKnown a v → IsKnown b v
+known_more a b v le h = record { now = omega (arith, h.now); asked = λ s is. omega (arith, h.asked s is) }
+
+-- a position that was above stays so
+pub above_later : (may : ℕ → Entry → Type 0) (floor : List Entry → ℕ) (shelf : List ℕ) (who pos : ℕ) (old mid new : List Event) → IsAbove who old pos mid → Later may floor shelf mid new → IsAbove who old pos new
+above_later may floor shelf who pos old mid new h later = record {
+  first = record {
+    others = f.others;
+    apart = f.apart;
+    event = f.event;
+    own = f.own;
+    rest = f.rest ++ later.more;
+    seen = later.seen ∙ ap (λ l. l ++ later.more) f.seen ∙ append_assoc (old ++ f.others) (f.event ∷ f.rest) later.more;
+  };
+  clears = h.clears;
+}
+  where
+    f : FirstTurn who old mid
+    f = h.first
+
+pub max_is : (a b c : ℕ) → a ≤ c → b ≤ c → (c ≡ a) ⊎ (c ≤ b) → c ≡ max a b
+max_is a b c h k cases =
+    let m = max-le h k in
+    let l = le-max_left a b in
+    let r = le-max_right a b in
+    ⊎_elim (λ e. omega (arith, m, l, e)) (λ e. omega (arith, m, r, e)) cases
+
+pub at_tail : (old new : ReplicaView) (tail : ℕ) (seen : List Event) → old.cursor ≤ tail → Reaches tail old new seen → IsAt tail new seen
+at_tail old new tail seen below h =
+    ⊎_elim (λ e. inl (e ∙ sym (max_is old.cursor tail tail below (omega (arith)) (inr (omega (arith)))))) (λ l. inr l) h
+
+abbrev pub turns_left : Bool → ℕ
+turns_left true = 1
+turns_left false = 0

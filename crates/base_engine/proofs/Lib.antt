@@ -1,0 +1,4 @@
+pub mod Following
+pub mod Settling
+pub mod Proposing
+pub mod Whole

@@ -1,0 +1,128 @@
+-- Outstanding entries meet their fates one after another.
+use Rattle.std.proofs.Common.{◌≡◌, ℕ, suc, ◌<◌, List, [], ◌∷◌, ◌++◌, length, drop, Option, Some, None, refl, sym, ap, ◌∙◌, subst, arith}
+use Rattle.std.specs.Prelude.{slice_index_or, remove, All}
+use Rattle.std.proofs.lemmas.List.{append_assoc, append-nil}
+use Rattle.delos_types.specs.declared.entry.Entry.{Entry}
+use Rattle.delos_types.specs.declared.cause.Cause.{Cause}
+use Rattle.legal_journal.specs.declared.events.Event.{Event}
+use Rattle.virtual_log.specs.Turning.{Later}
+use Rattle.base_engine.specs.declared.outbox.Given.{Given}
+use Rattle.base_engine.specs.Settling.{OutboxView, Fate, Landed, Meets, gives, first_of, Carried, Settles, Settled}
+
+-- one more at the end
+pub settles_push : (who : ℕ) (old mid new : List Event) (done : List Entry) (given : List Given) (before now : Option Cause) (e : Entry) (fate : Fate)
+    → Settles who old done mid given before now → Meets who mid e fate new → Settles who old (done ++ e ∷ []) new (given ++ gives e fate) before (first_of now fate)
+settles_push who old mid new [] given before now e fate s m =
+    (new, fate, [], subst (λ l. Meets who l e fate new) s.0 m, ap (λ l. l ++ gives e fate) s.1 ∙ sym (append-nil (gives e fate)), (refl, refl, ap (λ o. first_of o fate) s.2))
+settles_push who old mid new (x ∷ xs) given before now e fate s m =
+    (s.0, s.1, s.2 ++ gives e fate, s.3, ap (λ l. l ++ gives e fate) s.4 ∙ append_assoc (gives x s.1) s.2 (gives e fate), settles_push who s.0 mid new xs s.2 (first_of before s.1) now e fate s.5 m)
+
+-- while the loop runs
+pub record SoFar (who : ℕ) (old : List Event) (was : OutboxView) (new : List Event) (is : OutboxView) : Type 0 where
+  pub done : List Entry
+  pub given : List Given
+  pub all : was.entries ≡ done ++ is.entries
+  pub gained : is.given ≡ was.given ++ given
+  pub fates : Settles who old done new given was.unsettled is.unsettled
+
+pub none_yet : (who : ℕ) (old : List Event) (was : OutboxView) → SoFar who old was old was
+none_yet who old was = record { done = []; given = []; all = refl; gained = sym (append-nil was.given); fates = (refl, refl, refl) }
+
+pub one_more : (who : ℕ) (old mid new : List Event) (was now is : OutboxView) → SoFar who old was mid now → Carried who mid now new is → SoFar who old was new is
+one_more who old mid new was now is h k = record {
+  done = h.done ++ k.entry ∷ [];
+  given = h.given ++ gives k.entry k.fate;
+  all = h.all ∙ ap (λ x. h.done ++ x) k.oldest ∙ sym (append_assoc h.done (k.entry ∷ []) is.entries);
+  gained = k.gained ∙ ap (λ x. x ++ gives k.entry k.fate) h.gained ∙ append_assoc was.given h.given (gives k.entry k.fate);
+  fates = subst (λ o. Settles who old (h.done ++ k.entry ∷ []) new (h.given ++ gives k.entry k.fate) was.unsettled o) (sym k.unsettled)
+      (settles_push who old mid new h.done h.given was.unsettled now.unsettled k.entry k.fate h.fates k.met);
+}
+
+pub settled_then : (who : ℕ) (old mid new : List Event) (was now is : OutboxView) → SoFar who old was mid now → is ≡ now → ((more : List Event) × (new ≡ mid ++ more)) → Settled who old was new is
+settled_then who old mid new was now is h same on =
+    subst (λ v. Settled who old was new v) (sym same) record {
+      done = h.done;
+      given = h.given;
+      all = h.all;
+      gained = h.gained;
+      moment = mid;
+      fates = h.fates;
+      rest = on;
+    }
+
+pub settled_on : (who : ℕ) (old mid new : List Event) (was is : OutboxView) → Settled who old was mid is → ((more : List Event) × (new ≡ mid ++ more)) → Settled who old was new is
+settled_on who old mid new was is h on = record {
+  done = h.done;
+  given = h.given;
+  all = h.all;
+  gained = h.gained;
+  moment = h.moment;
+  fates = h.fates;
+  rest = (h.rest.0 ++ on.0, on.1 ∙ ap (λ l. l ++ on.0) h.rest.1 ∙ append_assoc h.moment h.rest.0 on.0);
+}
+
+pub no_more : (es : List Event) → (more : List Event) × (es ≡ es ++ more)
+no_more es = ([], sym (append-nil es))
+
+pub more_of : (may : ℕ → Entry → Type 0) (floor : List Entry → ℕ) (shelf : List ℕ) (old new : List Event) → Later may floor shelf old new → (more : List Event) × (new ≡ old ++ more)
+more_of may floor shelf old new l = (l.more, l.seen)
+
+-- the head and the rest
+pub head_rest : (es rest : List Entry) (e : Entry) → 0 < length es → e ≡ slice_index_or es 0 e → rest ≡ remove es 0 → es ≡ e ∷ rest
+head_rest [] rest e h k r = absurd (omega (arith, h))
+head_rest (x ∷ xs) rest e h k r = ap (λ y. y ∷ xs) (sym k) ∙ ap (λ y. e ∷ y) (sym r)
+
+pub head_drop : (es rest : List Entry) (e : Entry) → 0 < length es → e ≡ slice_index_or es 0 e → rest ≡ drop 1 es → es ≡ e ∷ rest
+head_drop [] rest e h k r = absurd (omega (arith, h))
+head_drop (x ∷ xs) rest e h k r = ap (λ y. y ∷ xs) (sym k) ∙ ap (λ y. e ∷ y) (sym r)
+
+pub all_tail : (P : Entry → Type 0) (es rest : List Entry) (e : Entry) → es ≡ e ∷ rest → All P es → All P rest
+all_tail P es rest e is h k d l = (subst (λ xs. All P xs) is h) (suc k) d (omega (arith, l))
+
+pub all_tail_by : (P Q : Entry → Type 0) (es rest : List Entry) (e : Entry) → es ≡ e ∷ rest → ((x : Entry) → P x → Q x) → All P es → All Q rest
+all_tail_by P Q es rest e is f h k d l = f (slice_index_or rest k d) (all_tail P es rest e is h k d l)
+
+pub first_landed : (o : Option Cause) (pos : ℕ) → o ≡ first_of o (Landed pos)
+first_landed None pos = refl
+first_landed (Some cause) pos = refl
+
+pub settled_one : (who : ℕ) (old new : List Event) (was is : OutboxView) → Carried who old was new is → Settled who old was new is
+settled_one who old new was is h = settled_then who old new new was is is (one_more who old old new was was is (none_yet who old was) h) refl (no_more new)
+
+pub settled_none : (may : ℕ → Entry → Type 0) (floor : List Entry → ℕ) (shelf : List ℕ) (who : ℕ) (old new : List Event) (was is : OutboxView) → is ≡ was → Later may floor shelf old new → Settled who old was new is
+settled_none may floor shelf who old new was is same l = settled_then who old old new was was is (none_yet who old was) same (more_of may floor shelf old new l)
+
+pub settled_given : (who : ℕ) (old new : List Event) (was is : OutboxView) (given : List Given) → Settled who old was new is → given ≡ is.given → Settled who old was new (record { entries = is.entries; given = given; unsettled = is.unsettled })
+settled_given who old new was is given h same = record {
+  done = h.done;
+  given = h.given;
+  all = h.all;
+  gained = same ∙ h.gained;
+  moment = h.moment;
+  fates = h.fates;
+  rest = h.rest;
+}
+
+abbrev pub outbox_of : List Entry → List Given → Option Cause → OutboxView
+outbox_of es given u = record { entries = es; given = given; unsettled = u }
+
+pub gave_is : (es : List Entry) (given given' : List Given) (u : Option Cause) (sessions : List ℕ) (session : ℕ) (cause : Cause) → es ≡ [] → given' ≡ given ++ record { sessions = sessions; cause = cause } ∷ [] → sessions ≡ session ∷ []
+    → outbox_of es given' u ≡ outbox_of [] (given ++ record { sessions = session ∷ []; cause = cause } ∷ []) u
+gave_is es given given' u sessions session cause h k m =
+    ap (λ (x : List Entry). outbox_of x given' u) h ∙ ap (λ (x : List Given). outbox_of [] x u) (k ∙ ap (λ (s : List ℕ). given ++ record { sessions = s; cause = cause } ∷ []) m)
+
+-- nothing was outstanding
+pub settled_further : (who : ℕ) (a b c : List Event) (was mid is : OutboxView) → Settled who a was b mid → mid.entries ≡ [] → Settled who b mid c is → Settled who a was c is
+settled_further who a b c was mid is h none k = nothing k.done k.given k.all k.gained k.fates
+  where
+    nothing : (done : List Entry) (given : List Given) → mid.entries ≡ done ++ is.entries → is.given ≡ mid.given ++ given → Settles who b done k.moment given mid.unsettled is.unsettled → Settled who a was c is
+    nothing [] given all gained fates = record {
+      done = h.done;
+      given = h.given;
+      all = h.all ∙ ap (λ x. h.done ++ x) all;
+      gained = gained ∙ (ap (λ x. mid.given ++ x) fates.1 ∙ (append-nil mid.given ∙ h.gained));
+      moment = h.moment;
+      fates = subst (λ o. Settles who a h.done h.moment h.given was.unsettled o) (sym fates.2) h.fates;
+      rest = (h.rest.0 ++ k.rest.0, k.rest.1 ∙ ap (λ l. l ++ k.rest.0) (fates.0 ∙ h.rest.1) ∙ append_assoc h.moment h.rest.0 k.rest.0);
+    }
+    nothing (e ∷ es) given all gained fates = let no : [] ≡ e ∷ (es ++ is.entries) = sym none ∙ all in absurd (cc)

@@ -1,0 +1,17 @@
+use Rattle.std.proofs.Common.{refl}
+use Rattle.base_engine.specs.Settling.{view_of}
+use Rattle.base_engine.specs.Node.{NodeView}
+use Rattle.base_engine.proofs.Whole.{ok_same}
+use Rattle.base_engine.proofs.node.Node.recover.Goals as goal
+
+pub invariant_of-self : goal.invariant_of-self
+invariant_of-self g c =
+    let p = g.L.Law.Rules in
+    let t = g.L.SharedLog in
+    let r = g.R.Replica in
+    let x = c.self.inside in
+    let old : NodeView = record { who = t.who x.log; seen = t.seen x.log; known = t.reaches x.log; replica = r.shows x.replica; outbox = view_of x.outbox } in
+    let new : NodeView = record { who = t.who x.log; seen = t.seen x.log; known = t.reaches x.log; replica = r.shows c.restore.new.replica; outbox = view_of x.outbox } in
+    let e = c.restore.ensures in
+    let i = c.self.invariant in
+    ok_same p.may p.floor p.shelf t.holds r.state r.spells old new i i.legal refl e.follows e.bounded refl e.kept e.origin

@@ -1,0 +1,19 @@
+use Rattle.std.proofs.Common.{refl}
+use Rattle.base_engine.specs.Settling.{view_of}
+use Rattle.base_engine.specs.Node.{NodeView}
+use Rattle.base_engine.proofs.Whole.{ok_waiting}
+use Rattle.base_engine.proofs.Following.{follows_later, known_more}
+use Rattle.base_engine.proofs.node.Node.settle_all.Goals as goal
+
+pub invariant_of-self : goal.invariant_of-self
+invariant_of-self g c =
+    let p = g.L.Law.Rules in
+    let t = g.L.SharedLog in
+    let r = g.R.Replica in
+    let x = c.self.inside in
+    let old : NodeView = record { who = t.who x.log; seen = t.seen x.log; known = t.reaches x.log; replica = r.shows x.replica; outbox = view_of x.outbox } in
+    let new : NodeView = record { who = t.who c.settle_all.new.log; seen = t.seen c.settle_all.new.log; known = t.reaches c.settle_all.new.log; replica = r.shows x.replica; outbox = view_of c.settle_all.new.outbox } in
+    let e = c.settle_all.ensures in
+    let i = c.self.invariant in
+    ok_waiting p.may p.floor p.shelf t.holds r.state r.spells old new e.later.legal (follows_later p.may p.floor p.shelf t.holds r.state r.spells g.met.L.SharedLog.stays old.seen new.seen old.replica e.later i.follows) (known_more old.known new.known old.replica e.known i.bounded)
+    e.may e.few e.who refl i.waiting

@@ -1,0 +1,219 @@
+use Rattle.std.proofs.Common.{◌∙◌, ◌<◌, sym, subst, ap, arith}
+use Rattle.std.specs.Prelude.{min}
+use Rattle.base_engine.specs.Reading.{Reads}
+use Rattle.replica_api.specs.Replica.{ReplicaView, saved_in}
+use Rattle.base_engine.specs.Following.{Follows}
+use Rattle.base_engine.proofs.Following.{follows_later, follows_done, follows_fault, follows_same, crash_at_rest, crash_in_apply, known_done, known_fault}
+use Rattle.base_engine.proofs.play.apply_next.Goals as goal
+
+pub returns-in-Err-clause-follows : goal.returns-in-Err-clause-follows
+returns-in-Err-clause-follows g c =
+    let p = g.L.Law.Rules in
+    let holds = g.L.SharedLog.holds in
+    let state = g.R.Replica.state in
+    let spells = g.R.Replica.spells in
+    let v = g.R.Replica.shows c.args.replica.now in
+    let seen = g.L.SharedLog.seen c.read_next.new.self in
+    let on = follows_later p.may p.floor p.shelf holds state spells g.met.L.SharedLog.stays _ seen v c.in-Err.ensures.later c.requires.follows in
+    on
+
+pub returns-in-Err-clause-any_crash : goal.returns-in-Err-clause-any_crash
+returns-in-Err-clause-any_crash g c =
+    let p = g.L.Law.Rules in
+    let holds = g.L.SharedLog.holds in
+    let state = g.R.Replica.state in
+    let spells = g.R.Replica.spells in
+    let v = g.R.Replica.shows c.args.replica.now in
+    let seen = g.L.SharedLog.seen c.read_next.new.self in
+    let on = follows_later p.may p.floor p.shelf holds state spells g.met.L.SharedLog.stays _ seen v c.in-Err.ensures.later c.requires.follows in
+    crash_at_rest holds state spells seen v on
+
+pub returns-in-Trimmed-clause-follows : goal.returns-in-Trimmed-clause-follows
+returns-in-Trimmed-clause-follows g c =
+    let p = g.L.Law.Rules in
+    let holds = g.L.SharedLog.holds in
+    let state = g.R.Replica.state in
+    let spells = g.R.Replica.spells in
+    let v = g.R.Replica.shows c.args.replica.now in
+    let seen = g.L.SharedLog.seen c.read_next.new.self in
+    let on = follows_later p.may p.floor p.shelf holds state spells g.met.L.SharedLog.stays _ seen v c.in-Ok.ensures.later c.requires.follows in
+    on
+
+pub returns-in-Trimmed-clause-any_crash : goal.returns-in-Trimmed-clause-any_crash
+returns-in-Trimmed-clause-any_crash g c =
+    let p = g.L.Law.Rules in
+    let holds = g.L.SharedLog.holds in
+    let state = g.R.Replica.state in
+    let spells = g.R.Replica.spells in
+    let v = g.R.Replica.shows c.args.replica.now in
+    let seen = g.L.SharedLog.seen c.read_next.new.self in
+    let on = follows_later p.may p.floor p.shelf holds state spells g.met.L.SharedLog.stays _ seen v c.in-Ok.ensures.later c.requires.follows in
+    crash_at_rest holds state spells seen v on
+
+pub returns-then-found-position-clause-follows : goal.returns-then-found-position-clause-follows
+returns-then-found-position-clause-follows g c =
+    let p = g.L.Law.Rules in
+    let holds = g.L.SharedLog.holds in
+    let state = g.R.Replica.state in
+    let spells = g.R.Replica.spells in
+    let v = g.R.Replica.shows c.args.replica.now in
+    let seen = g.L.SharedLog.seen c.read_next.new.self in
+    let on = follows_later p.may p.floor p.shelf holds state spells g.met.L.SharedLog.stays _ seen v c.in-Ok.ensures.later c.requires.follows in
+    on
+
+pub returns-then-found-position-clause-any_crash : goal.returns-then-found-position-clause-any_crash
+returns-then-found-position-clause-any_crash g c =
+    let p = g.L.Law.Rules in
+    let holds = g.L.SharedLog.holds in
+    let state = g.R.Replica.state in
+    let spells = g.R.Replica.spells in
+    let v = g.R.Replica.shows c.args.replica.now in
+    let seen = g.L.SharedLog.seen c.read_next.new.self in
+    let on = follows_later p.may p.floor p.shelf holds state spells g.met.L.SharedLog.stays _ seen v c.in-Ok.ensures.later c.requires.follows in
+    crash_at_rest holds state spells seen v on
+
+pub returns-in-Done-clause-follows : goal.returns-in-Done-clause-follows
+returns-in-Done-clause-follows g c =
+    let p = g.L.Law.Rules in
+    let holds = g.L.SharedLog.holds in
+    let state = g.R.Replica.state in
+    let spells = g.R.Replica.spells in
+    let v = g.R.Replica.shows c.args.replica.now in
+    let seen = g.L.SharedLog.seen c.read_next.new.self in
+    let on = follows_later p.may p.floor p.shelf holds state spells g.met.L.SharedLog.stays _ seen v c.in-Ok.ensures.later c.requires.follows in
+    let w = g.R.Replica.shows c.apply.new.self in
+    let m = min c.args.to (g.L.SharedLog.reaches c.args.log.now) in
+    let at = c.in-Found.found in
+    let read = subst (λ n. Reads holds seen c.cursor-position.result m n) c.in-Found.is c.in-Ok.ensures.next in
+    let here = subst (λ i. holds seen i c.in-Found.entry) (c.if-found-position.false ∙ c.cursor-position.ensures.cursor) read.2 in
+    follows_done holds state spells seen v w c.in-Found.entry on here c.in-Done.ensures.takes c.in-Done.ensures.survives
+
+pub returns-in-Done-clause-any_crash : goal.returns-in-Done-clause-any_crash
+returns-in-Done-clause-any_crash g c =
+    let p = g.L.Law.Rules in
+    let holds = g.L.SharedLog.holds in
+    let state = g.R.Replica.state in
+    let spells = g.R.Replica.spells in
+    let v = g.R.Replica.shows c.args.replica.now in
+    let seen = g.L.SharedLog.seen c.read_next.new.self in
+    let on = follows_later p.may p.floor p.shelf holds state spells g.met.L.SharedLog.stays _ seen v c.in-Ok.ensures.later c.requires.follows in
+    let w = g.R.Replica.shows c.apply.new.self in
+    let m = min c.args.to (g.L.SharedLog.reaches c.args.log.now) in
+    let at = c.in-Found.found in
+    let read = subst (λ n. Reads holds seen c.cursor-position.result m n) c.in-Found.is c.in-Ok.ensures.next in
+    let here = subst (λ i. holds seen i c.in-Found.entry) (c.if-found-position.false ∙ c.cursor-position.ensures.cursor) read.2 in
+    crash_in_apply holds state spells seen v w c.in-Found.entry on here c.apply.ensures.any_crash
+
+pub returns-in-DiskFault-clause-follows : goal.returns-in-DiskFault-clause-follows
+returns-in-DiskFault-clause-follows g c =
+    let p = g.L.Law.Rules in
+    let holds = g.L.SharedLog.holds in
+    let state = g.R.Replica.state in
+    let spells = g.R.Replica.spells in
+    let v = g.R.Replica.shows c.args.replica.now in
+    let seen = g.L.SharedLog.seen c.read_next.new.self in
+    let on = follows_later p.may p.floor p.shelf holds state spells g.met.L.SharedLog.stays _ seen v c.in-Ok.ensures.later c.requires.follows in
+    let w = g.R.Replica.shows c.apply.new.self in
+    let m = min c.args.to (g.L.SharedLog.reaches c.args.log.now) in
+    let at = c.in-Found.found in
+    let read = subst (λ n. Reads holds seen c.cursor-position.result m n) c.in-Found.is c.in-Ok.ensures.next in
+    let here = subst (λ i. holds seen i c.in-Found.entry) (c.if-found-position.false ∙ c.cursor-position.ensures.cursor) read.2 in
+    follows_fault holds state spells seen v w c.in-Found.entry on here c.in-DiskFault.ensures.takes c.in-DiskFault.ensures.survives
+
+pub returns-in-DiskFault-clause-any_crash : goal.returns-in-DiskFault-clause-any_crash
+returns-in-DiskFault-clause-any_crash g c =
+    let p = g.L.Law.Rules in
+    let holds = g.L.SharedLog.holds in
+    let state = g.R.Replica.state in
+    let spells = g.R.Replica.spells in
+    let v = g.R.Replica.shows c.args.replica.now in
+    let seen = g.L.SharedLog.seen c.read_next.new.self in
+    let on = follows_later p.may p.floor p.shelf holds state spells g.met.L.SharedLog.stays _ seen v c.in-Ok.ensures.later c.requires.follows in
+    let w = g.R.Replica.shows c.apply.new.self in
+    let m = min c.args.to (g.L.SharedLog.reaches c.args.log.now) in
+    let at = c.in-Found.found in
+    let read = subst (λ n. Reads holds seen c.cursor-position.result m n) c.in-Found.is c.in-Ok.ensures.next in
+    let here = subst (λ i. holds seen i c.in-Found.entry) (c.if-found-position.false ∙ c.cursor-position.ensures.cursor) read.2 in
+    crash_in_apply holds state spells seen v w c.in-Found.entry on here c.apply.ensures.any_crash
+
+pub returns-in-Down-clause-follows : goal.returns-in-Down-clause-follows
+returns-in-Down-clause-follows g c =
+    let p = g.L.Law.Rules in
+    let holds = g.L.SharedLog.holds in
+    let state = g.R.Replica.state in
+    let spells = g.R.Replica.spells in
+    let v = g.R.Replica.shows c.args.replica.now in
+    let seen = g.L.SharedLog.seen c.read_next.new.self in
+    let on = follows_later p.may p.floor p.shelf holds state spells g.met.L.SharedLog.stays _ seen v c.in-Ok.ensures.later c.requires.follows in
+    let w = g.R.Replica.shows c.apply.new.self in
+    let m = min c.args.to (g.L.SharedLog.reaches c.args.log.now) in
+    let at = c.in-Found.found in
+    let read = subst (λ n. Reads holds seen c.cursor-position.result m n) c.in-Found.is c.in-Ok.ensures.next in
+    let here = subst (λ i. holds seen i c.in-Found.entry) (c.if-found-position.false ∙ c.cursor-position.ensures.cursor) read.2 in
+    subst (λ x. Follows holds state spells seen x) (sym c.in-Down.ensures.takes.1) on
+
+pub returns-in-Down-clause-any_crash : goal.returns-in-Down-clause-any_crash
+returns-in-Down-clause-any_crash g c =
+    let p = g.L.Law.Rules in
+    let holds = g.L.SharedLog.holds in
+    let state = g.R.Replica.state in
+    let spells = g.R.Replica.spells in
+    let v = g.R.Replica.shows c.args.replica.now in
+    let seen = g.L.SharedLog.seen c.read_next.new.self in
+    let on = follows_later p.may p.floor p.shelf holds state spells g.met.L.SharedLog.stays _ seen v c.in-Ok.ensures.later c.requires.follows in
+    let w = g.R.Replica.shows c.apply.new.self in
+    let m = min c.args.to (g.L.SharedLog.reaches c.args.log.now) in
+    let at = c.in-Found.found in
+    let read = subst (λ n. Reads holds seen c.cursor-position.result m n) c.in-Found.is c.in-Ok.ensures.next in
+    let here = subst (λ i. holds seen i c.in-Found.entry) (c.if-found-position.false ∙ c.cursor-position.ensures.cursor) read.2 in
+    crash_in_apply holds state spells seen v w c.in-Found.entry on here c.apply.ensures.any_crash
+
+pub returns-in-Memory-clause-follows : goal.returns-in-Memory-clause-follows
+returns-in-Memory-clause-follows g c =
+    let p = g.L.Law.Rules in
+    let holds = g.L.SharedLog.holds in
+    let state = g.R.Replica.state in
+    let spells = g.R.Replica.spells in
+    let v = g.R.Replica.shows c.args.replica.now in
+    let seen = g.L.SharedLog.seen c.read_next.new.self in
+    let on = follows_later p.may p.floor p.shelf holds state spells g.met.L.SharedLog.stays _ seen v c.in-Ok.ensures.later c.requires.follows in
+    let w = g.R.Replica.shows c.apply.new.self in
+    let m = min c.args.to (g.L.SharedLog.reaches c.args.log.now) in
+    let at = c.in-Found.found in
+    let read = subst (λ n. Reads holds seen c.cursor-position.result m n) c.in-Found.is c.in-Ok.ensures.next in
+    let here = subst (λ i. holds seen i c.in-Found.entry) (c.if-found-position.false ∙ c.cursor-position.ensures.cursor) read.2 in
+    follows_same holds state spells seen v w on (ap saved_in c.in-Memory.ensures.takes) (ap (λ (x : ReplicaView). x.asked) c.in-Memory.ensures.takes) c.in-Memory.ensures.survives
+
+pub returns-in-Memory-clause-any_crash : goal.returns-in-Memory-clause-any_crash
+returns-in-Memory-clause-any_crash g c =
+    let p = g.L.Law.Rules in
+    let holds = g.L.SharedLog.holds in
+    let state = g.R.Replica.state in
+    let spells = g.R.Replica.spells in
+    let v = g.R.Replica.shows c.args.replica.now in
+    let seen = g.L.SharedLog.seen c.read_next.new.self in
+    let on = follows_later p.may p.floor p.shelf holds state spells g.met.L.SharedLog.stays _ seen v c.in-Ok.ensures.later c.requires.follows in
+    let w = g.R.Replica.shows c.apply.new.self in
+    let m = min c.args.to (g.L.SharedLog.reaches c.args.log.now) in
+    let at = c.in-Found.found in
+    let read = subst (λ n. Reads holds seen c.cursor-position.result m n) c.in-Found.is c.in-Ok.ensures.next in
+    let here = subst (λ i. holds seen i c.in-Found.entry) (c.if-found-position.false ∙ c.cursor-position.ensures.cursor) read.2 in
+    crash_in_apply holds state spells seen v w c.in-Found.entry on here c.apply.ensures.any_crash
+
+pub returns-in-Done-clause-bounded : goal.returns-in-Done-clause-bounded
+returns-in-Done-clause-bounded g c =
+    let state = g.R.Replica.state in
+    let v = g.R.Replica.shows c.args.replica.now in
+    let w = g.R.Replica.shows c.apply.new.self in
+    let known = g.L.SharedLog.reaches c.read_next.new.self in
+    let low : v.cursor < known = omega (arith, c.requires.below, c.requires.within, c.in-Ok.ensures.known) in
+    known_done state known v w c.in-Found.entry low c.in-Done.ensures.takes
+
+pub returns-in-DiskFault-clause-bounded : goal.returns-in-DiskFault-clause-bounded
+returns-in-DiskFault-clause-bounded g c =
+    let state = g.R.Replica.state in
+    let v = g.R.Replica.shows c.args.replica.now in
+    let w = g.R.Replica.shows c.apply.new.self in
+    let known = g.L.SharedLog.reaches c.read_next.new.self in
+    let low : v.cursor < known = omega (arith, c.requires.below, c.requires.within, c.in-Ok.ensures.known) in
+    known_fault state known v w c.in-Found.entry low c.in-DiskFault.ensures.takes

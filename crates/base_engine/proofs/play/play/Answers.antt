@@ -1,0 +1,165 @@
+use Rattle.std.proofs.Common.{◌≡◌, ◌∙◌, ◌≤◌, inl, inr, subst, refl, ap, arith}
+use Rattle.replica_api.specs.Replica.{ReplicaView, saved_in}
+use Rattle.base_engine.specs.Following.{Plays}
+use Rattle.virtual_log.proofs.OneTurn.{later_refl, later_trans}
+use Rattle.base_engine.proofs.Following.{follows_same, follows_reopened, found_state, found_near, crash_at_rest, crash_on, crash_in_reopen, known_reopened, known_same, turns_left}
+use Rattle.base_engine.proofs.play.play.Goals as goal
+
+pub entry-init : goal.entry-init
+entry-init g c =
+    let p = g.L.Law.Rules in
+    let t = g.L.SharedLog in
+    let r = g.R.Replica in
+    record {
+      later = later_refl p.may p.floor p.shelf (t.seen c.args.log.now) c.requires.legal;
+      who = refl;
+      known = refl;
+      follows = c.requires.follows;
+      bounded = c.requires.bounded;
+      forward = omega (arith);
+      below = inl refl;
+      counts = omega (arith);
+      up = λ h. absurd (cc);
+      kept = refl;
+      origin = refl;
+      any_crash = crash_at_rest t.holds r.state r.spells (t.seen c.args.log.now) (r.shows c.args.replica.now) c.requires.follows;
+    }
+
+pub entry-preserved-in-Ok-Applied : goal.entry-preserved-in-Ok-Applied
+entry-preserved-in-Ok-Applied g c =
+    let p = g.L.Law.Rules in
+    let t = g.L.SharedLog in
+    let r = g.R.Replica in
+    let l = c.entry in
+    let i = l.invariant in
+    let e = c.in-Ok-Applied.ensures in
+    let first = t.seen c.args.log.now in
+    let now = t.seen l.log in
+    let new = t.seen c.apply_next.new.log in
+    let plays = subst (λ x. Plays x (r.shows l.replica) (r.shows c.apply_next.new.replica) new) c.in-Ok-Applied.field-0-is e.plays in
+    record {
+      later = later_trans p.may p.floor p.shelf first now new i.later e.later;
+      who = e.who ∙ i.who;
+      known = e.known ∙ i.known;
+      follows = e.follows;
+      bounded = e.bounded;
+      forward = omega (arith, i.forward, e.forward);
+      below = inr (omega (arith, plays.0, c.cursor.ensures.cursor, c.entry-test.true));
+      counts = omega (arith, i.counts, plays.1);
+      up = λ h. plays.2;
+      kept = e.kept ∙ i.kept;
+      origin = e.origin ∙ i.origin;
+      any_crash = crash_on p.may p.floor p.shelf t.holds r.state r.spells g.met.L.SharedLog.stays now new (r.shows c.args.replica.now) (r.shows l.replica) (r.shows c.apply_next.new.replica) e.later i.forward i.any_crash e.any_crash;
+    }
+
+pub returns-in-Ok-Trimmed-clause-any_crash : goal.returns-in-Ok-Trimmed-clause-any_crash
+returns-in-Ok-Trimmed-clause-any_crash g c =
+    let p = g.L.Law.Rules in
+    let t = g.L.SharedLog in
+    let r = g.R.Replica in
+    let l = c.entry in
+    let i = l.invariant in
+    let e = c.in-Ok-Trimmed.ensures in
+    crash_on p.may p.floor p.shelf t.holds r.state r.spells g.met.L.SharedLog.stays (t.seen l.log) (t.seen c.apply_next.new.log) (r.shows c.args.replica.now) (r.shows l.replica) (r.shows c.apply_next.new.replica) e.later i.forward i.any_crash e.any_crash
+
+pub returns-then-not-spare-clause-any_crash : goal.returns-then-not-spare-clause-any_crash
+returns-then-not-spare-clause-any_crash g c =
+    let p = g.L.Law.Rules in
+    let t = g.L.SharedLog in
+    let r = g.R.Replica in
+    let l = c.entry in
+    let i = l.invariant in
+    let e = c.in-Ok-Broken.ensures in
+    crash_on p.may p.floor p.shelf t.holds r.state r.spells g.met.L.SharedLog.stays (t.seen l.log) (t.seen c.apply_next.new.log) (r.shows c.args.replica.now) (r.shows l.replica) (r.shows c.apply_next.new.replica) e.later i.forward i.any_crash e.any_crash
+
+pub returns-in-Err-clause-any_crash : goal.returns-in-Err-clause-any_crash
+returns-in-Err-clause-any_crash g c =
+    let p = g.L.Law.Rules in
+    let t = g.L.SharedLog in
+    let r = g.R.Replica in
+    let l = c.entry in
+    let i = l.invariant in
+    let e = c.in-Err.ensures in
+    crash_on p.may p.floor p.shelf t.holds r.state r.spells g.met.L.SharedLog.stays (t.seen l.log) (t.seen c.apply_next.new.log) (r.shows c.args.replica.now) (r.shows l.replica) (r.shows c.apply_next.new.replica) e.later i.forward i.any_crash e.any_crash
+
+pub returns-in-Err-recover-clause-follows : goal.returns-in-Err-recover-clause-follows
+returns-in-Err-recover-clause-follows g c =
+    let t = g.L.SharedLog in
+    let r = g.R.Replica in
+    let d = c.in-Err-recover.ensures.down in
+    follows_same t.holds r.state r.spells (t.seen c.apply_next.new.log) (r.shows c.apply_next.new.replica) (r.shows c.recover.new.replica) c.in-Ok-Broken.ensures.follows
+    (ap saved_in d.is) (ap (λ (x : ReplicaView). x.asked) d.is) c.in-Err-recover.ensures.survives
+
+pub returns-in-Err-recover-clause-bounded : goal.returns-in-Err-recover-clause-bounded
+returns-in-Err-recover-clause-bounded g c =
+    let r = g.R.Replica in
+    let d = c.in-Err-recover.ensures.down in
+    known_same (g.L.SharedLog.reaches c.apply_next.new.log) (r.shows c.apply_next.new.replica) (r.shows c.recover.new.replica) c.in-Ok-Broken.ensures.bounded
+    (ap saved_in d.is) (ap (λ (x : ReplicaView). x.asked) d.is)
+
+pub returns-in-Err-recover-clause-any_crash : goal.returns-in-Err-recover-clause-any_crash
+returns-in-Err-recover-clause-any_crash g c =
+    let p = g.L.Law.Rules in
+    let t = g.L.SharedLog in
+    let r = g.R.Replica in
+    let l = c.entry in
+    let i = l.invariant in
+    let e = c.in-Ok-Broken.ensures in
+    let new = t.seen c.apply_next.new.log in
+    let a = r.shows c.args.replica.now in
+    let b = r.shows l.replica in
+    let v = r.shows c.apply_next.new.replica in
+    let w = r.shows c.recover.new.replica in
+    crash_on p.may p.floor p.shelf t.holds r.state r.spells g.met.L.SharedLog.stays new new a v w (later_refl p.may p.floor p.shelf new e.later.legal) (omega (arith, i.forward, e.forward))
+    (crash_on p.may p.floor p.shelf t.holds r.state r.spells g.met.L.SharedLog.stays (t.seen l.log) new a b v e.later i.forward i.any_crash e.any_crash)
+    (crash_in_reopen t.holds r.state r.spells new v w e.follows c.in-Err-recover.ensures.any_crash)
+
+pub entry-smaller : goal.entry-smaller
+entry-smaller g c =
+    let t = g.L.SharedLog in
+    let r = g.R.Replica in
+    let e = c.in-Ok-Broken.ensures in
+    let new = t.seen c.apply_next.new.log in
+    let v = r.shows c.apply_next.new.replica in
+    let w = r.shows c.recover.new.replica in
+    let found = found_state t.holds r.state r.spells new v (saved_in w) e.follows c.in-Ok.ensures.up.found in
+    let up : v.cursor ≤ w.cursor = found.forward in
+    let on : (r.shows c.entry.replica).cursor ≤ v.cursor = e.forward in
+    let turn : turns_left c.entry.spare ≡ 1 = ap turns_left c.if-not-spare.false in
+    grind (arith, up, on, turn, c.entry-test.true, c.cursor.ensures.cursor)
+
+pub entry-preserved : goal.entry-preserved
+entry-preserved g c =
+    let p = g.L.Law.Rules in
+    let t = g.L.SharedLog in
+    let r = g.R.Replica in
+    let l = c.entry in
+    let i = l.invariant in
+    let e = c.in-Ok-Broken.ensures in
+    let up = c.in-Ok.ensures.up in
+    let first = t.seen c.args.log.now in
+    let now = t.seen l.log in
+    let new = t.seen c.apply_next.new.log in
+    let a = r.shows c.args.replica.now in
+    let b = r.shows l.replica in
+    let v = r.shows c.apply_next.new.replica in
+    let w = r.shows c.recover.new.replica in
+    let plays = subst (λ x. Plays x b v new) c.in-Ok-Broken.field-0-is e.plays in
+    let found = found_state t.holds r.state r.spells new v (saved_in w) e.follows up.found in
+    let near = found_near t.holds r.state r.spells new v (saved_in w) e.follows up.found in
+    record {
+      later = later_trans p.may p.floor p.shelf first now new i.later e.later;
+      who = e.who ∙ i.who;
+      known = e.known ∙ i.known;
+      follows = follows_reopened t.holds r.state r.spells new v w e.follows up c.in-Ok.ensures.survives;
+      bounded = known_reopened (t.reaches c.apply_next.new.log) v w e.bounded up;
+      forward = omega (arith, i.forward, e.forward, found.forward);
+      below = inr (omega (arith, near, plays.0, c.cursor.ensures.cursor, c.entry-test.true));
+      counts = omega (arith, i.counts, plays.1, up.counts);
+      up = λ h. up.up;
+      kept = up.kept ∙ (e.kept ∙ i.kept);
+      origin = up.origin ∙ (e.origin ∙ i.origin);
+      any_crash = crash_on p.may p.floor p.shelf t.holds r.state r.spells g.met.L.SharedLog.stays new new a v w (later_refl p.may p.floor p.shelf new e.later.legal) (omega (arith, i.forward, e.forward))
+          (crash_on p.may p.floor p.shelf t.holds r.state r.spells g.met.L.SharedLog.stays now new a b v e.later i.forward i.any_crash e.any_crash)
+          (crash_in_reopen t.holds r.state r.spells new v w e.follows c.in-Ok.ensures.any_crash);
+    }

@@ -1,0 +1,32 @@
+use Rattle.std.proofs.Common.{◌≡◌, ◌⊎◌, false, ◌≤◌, ◌+◌, ◌-◌, ◌*◌}
+use Rattle.disk_model.specs.Crash.{AnyCrash}
+use Rattle.virtual_log.specs.Turning.{Later}
+use Rattle.replica_api.specs.Replica.{SpellsOne}
+use Rattle.base_engine.specs.Following.{Follows, IsKnown, IsFound}
+use Rattle.base_engine.proofs.Following.{turns_left}
+use Rattle.base_engine.proofs.play.play.Given as goal
+
+abbrev pub invariant-entry : goal.invariant-entry
+invariant-entry g l =
+    let p = g.L.Law.Rules in
+    let t = g.L.SharedLog in
+    let r = g.R.Replica in
+    let v = r.shows l.replica in
+    let w = r.shows l.fn.replica in
+    record {
+      later : Later p.may p.floor p.shelf (t.seen l.fn.log) (t.seen l.log);
+      who : t.who l.log ≡ t.who l.fn.log;
+      known : t.reaches l.log ≡ t.reaches l.fn.log;
+      follows : Follows t.holds r.state r.spells (t.seen l.log) v;
+      bounded : IsKnown (t.reaches l.log) v;
+      forward : w.cursor ≤ v.cursor;
+      below : (v.cursor ≡ w.cursor) ⊎ (v.cursor ≤ l.to);
+      counts : w.faults ≤ v.faults;
+      up : l.spare ≡ false → v.down ≡ false;
+      kept : v.kept ≡ w.kept;
+      origin : v.origin ≡ w.origin;
+      any_crash : AnyCrash w.disk v.disk (SpellsOne r.spells (IsFound t.holds r.state (t.seen l.log) w.cursor));
+    }
+
+abbrev pub decreases-entry : goal.decreases-entry
+decreases-entry g l = 2 * (l.to - (g.R.Replica.shows l.replica).cursor) + turns_left l.spare

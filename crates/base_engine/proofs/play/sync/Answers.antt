@@ -1,0 +1,39 @@
+use Rattle.std.proofs.Common.{◌≤◌, arith}
+use Rattle.base_engine.proofs.Following.{follows_later, crash_at_rest, above_later, at_tail}
+use Rattle.base_engine.proofs.play.sync.Goals as goal
+
+pub returns-in-Err-clause-follows : goal.returns-in-Err-clause-follows
+returns-in-Err-clause-follows g c =
+    let p = g.L.Law.Rules in
+    let t = g.L.SharedLog in
+    let r = g.R.Replica in
+    follows_later p.may p.floor p.shelf t.holds r.state r.spells g.met.L.SharedLog.stays _ (t.seen c.check_tail.new.self) (r.shows c.args.replica.now) c.in-Err.ensures.later c.requires.follows
+
+pub returns-in-Err-clause-any_crash : goal.returns-in-Err-clause-any_crash
+returns-in-Err-clause-any_crash g c =
+    let p = g.L.Law.Rules in
+    let t = g.L.SharedLog in
+    let r = g.R.Replica in
+    let new = t.seen c.check_tail.new.self in
+    let v = r.shows c.args.replica.now in
+    crash_at_rest t.holds r.state r.spells new v (follows_later p.may p.floor p.shelf t.holds r.state r.spells g.met.L.SharedLog.stays _ new v c.in-Err.ensures.later c.requires.follows)
+
+pub play-requires-clause-follows : goal.play-requires-clause-follows
+play-requires-clause-follows g c =
+    let p = g.L.Law.Rules in
+    let t = g.L.SharedLog in
+    let r = g.R.Replica in
+    follows_later p.may p.floor p.shelf t.holds r.state r.spells g.met.L.SharedLog.stays _ (t.seen c.check_tail.new.self) (r.shows c.args.replica.now) c.in-Ok.ensures.later c.requires.follows
+
+pub returns-in-Ok-play-clause-synced : goal.returns-in-Ok-play-clause-synced
+returns-in-Ok-play-clause-synced g c =
+    let p = g.L.Law.Rules in
+    let t = g.L.SharedLog in
+    above_later p.may p.floor p.shelf (t.who c.args.log.now) c.in-Ok.tail (t.seen c.args.log.now) (t.seen c.check_tail.new.self) (t.seen c.play.new.log) c.in-Ok.ensures.above c.play.ensures.later
+
+pub returns-in-Ok-play-clause-cursor : goal.returns-in-Ok-play-clause-cursor
+returns-in-Ok-play-clause-cursor g c =
+    let t = g.L.SharedLog in
+    let r = g.R.Replica in
+    let below : (r.shows c.args.replica.now).cursor ≤ c.in-Ok.tail = omega (arith, c.requires.bounded.now, c.in-Ok.ensures.forward) in
+    at_tail (r.shows c.args.replica.now) (r.shows c.play.new.replica) c.in-Ok.tail (t.seen c.play.new.log) below c.in-Ok-play.ensures.reaches

@@ -1,0 +1,21 @@
+use Rattle.std.proofs.Common.{◌≡◌, ◌≤◌, length}
+use Rattle.std.specs.Prelude.{All}
+use Rattle.virtual_log.specs.Turning.{Later}
+use Rattle.base_engine.specs.Settling.{view_of, MaySend}
+use Rattle.base_engine.proofs.Settling.{SoFar}
+use Rattle.base_engine.proofs.settle.carry_all.Given as goal
+
+abbrev pub invariant-entry : goal.invariant-entry
+invariant-entry g l =
+    let p = g.L.Law.Rules in
+    let t = g.L.SharedLog in
+    record {
+      later : Later p.may p.floor p.shelf (t.seen l.fn.log) (t.seen l.log);
+      who : t.who l.log ≡ t.who l.fn.log;
+      known : t.reaches l.fn.log ≤ t.reaches l.log;
+      may : All (λ e. MaySend p.may (t.who l.log) e) l.outbox.entries.items;
+      sofar : SoFar (t.who l.fn.log) (t.seen l.fn.log) (view_of l.fn.outbox) (t.seen l.log) (view_of l.outbox);
+    }
+
+abbrev pub decreases-entry : goal.decreases-entry
+decreases-entry g l = length l.outbox.entries.items

@@ -1,0 +1,34 @@
+use Rattle.std.proofs.Common.{◌∙◌, sym, subst}
+use Rattle.std.proofs.lemmas.List.{append-nil}
+use Rattle.virtual_log.proofs.OneTurn.{later_refl}
+use Rattle.delos_types.specs.declared.entry.Entry.{Entry}
+use Rattle.base_engine.specs.Settling.{Landed, MaySend}
+use Rattle.base_engine.proofs.Settling.{head_rest, head_drop, all_tail_by, first_landed}
+use Rattle.base_engine.proofs.settle.carry_oldest.Goals as goal
+
+pub returns-in_err-sessions-clause-later : goal.returns-in_err-sessions-clause-later
+returns-in_err-sessions-clause-later g c =
+    let p = g.L.Law.Rules in later_refl p.may p.floor p.shelf (g.L.SharedLog.seen c.args.log.now) c.requires.legal
+
+pub returns-in_err-reserve-clause-later : goal.returns-in_err-reserve-clause-later
+returns-in_err-reserve-clause-later g c =
+    let p = g.L.Law.Rules in later_refl p.may p.floor p.shelf (g.L.SharedLog.seen c.args.log.now) c.requires.legal
+
+pub returns-in-Ok-clause-carried : goal.returns-in-Ok-clause-carried
+returns-in-Ok-clause-carried g c =
+    record {
+      entry = c.index-2.result.now;
+      fate = Landed c.in-Ok.field-0;
+      oldest = head_rest c.args.outbox.now.entries.items c.remove-landed.new.self.items c.index-2.result.now c.requires.some c.index-2.ensures c.remove-landed.ensures.items;
+      met = (c.in-Ok.ensures.stands, c.in-Ok.ensures.above);
+      gained = c.reserve.ensures.items ∙ sym (append-nil c.args.outbox.now.given.items);
+      unsettled = first_landed c.args.outbox.now.unsettled c.in-Ok.field-0;
+    }
+
+pub returns-in-Because-clause-may : goal.returns-in-Because-clause-may
+returns-in-Because-clause-may g c =
+    let may = g.L.Law.Rules.may in
+    let t = g.L.SharedLog in
+    all_tail_by (MaySend may (t.who c.args.log.now)) (MaySend may (t.who c.append.new.self)) c.args.outbox.now.entries.items c.lose.new.outbox.entries.items c.index-2.result.now
+    (head_drop c.args.outbox.now.entries.items c.lose.new.outbox.entries.items c.index-2.result.now c.requires.some c.index-2.ensures c.lose.ensures.entries)
+    (λ (x : Entry) h. subst (λ w. MaySend may w x) (sym c.append.ensures.who) h) c.requires.may

@@ -1,0 +1,52 @@
+-- A replica follows its log.
+use Rattle.std.specs.Prelude.{◌≡◌, ℕ, ◌+◌, ◌≤◌, ◌⊎◌, true, false, List, length, Some, max}
+use Rattle.delos_types.specs.Spaces.{SpaceMap}
+use Rattle.delos_types.specs.declared.entry.Entry.{Entry}
+use Rattle.disk_model.specs.Disk.{Rose}
+use Rattle.legal_journal.specs.declared.events.Event.{Event}
+use Rattle.base_engine.specs.declared.play.Played.{Played}
+use Rattle.base_engine.specs.declared.play.Played.TheVariants as played
+use Rattle.base_engine.specs.Reading.{IsTrimmed, IsFront}
+use Rattle.replica_api.specs.Replica.{Saved, ReplicaView, saved_in, Survives}
+
+-- the space is what the log's first entries lead to, so many as the cursor says
+pub record IsStateAt (holds : List Event → ℕ → Entry → Type 0) (state : List Entry → SpaceMap → Type 0) (seen : List Event) (s : Saved) : Type 0 where
+  pub log : List Entry
+  pub size : length log ≡ s.cursor
+  pub front : IsFront holds seen log
+  pub led : state log s.contents
+
+-- so is what the disk failed to keep, which is one entry further
+pub record IsAsked (holds : List Event → ℕ → Entry → Type 0) (state : List Entry → SpaceMap → Type 0) (seen : List Event) (cursor : ℕ) (s : Saved) : Type 0 where
+  pub at : IsStateAt holds state seen s
+  pub next : s.cursor ≡ cursor + 1
+
+-- a crash may leave this: the state of some of the log's first entries, and of no fewer than so many
+pub record IsFound (holds : List Event → ℕ → Entry → Type 0) (state : List Entry → SpaceMap → Type 0) (seen : List Event) (cursor : ℕ) (s : Saved) : Type 0 where
+  pub at : IsStateAt holds state seen s
+  pub forward : cursor ≤ s.cursor
+
+-- The replica has the state of the log's first `cursor` entries, now and after any crash.
+pub record Follows (holds : List Event → ℕ → Entry → Type 0) (state : List Entry → SpaceMap → Type 0) (spells : List ℕ → Saved → Type 0) (seen : List Event) (v : ReplicaView) : Type 0 where
+  pub now : IsStateAt holds state seen (saved_in v)
+  pub asked : (s : Saved) → v.asked ≡ Some s → IsAsked holds state seen v.cursor s
+  pub survives : Survives spells v
+
+-- the log is known up to the cursor, and up to that of what the disk failed to keep
+pub record IsKnown (known : ℕ) (v : ReplicaView) : Type 0 where
+  pub now : v.cursor ≤ known
+  pub asked : (s : Saved) → v.asked ≡ Some s → s.cursor ≤ known
+
+-- one entry was applied; or its position is trimmed; or the disk failed, or had failed before
+abbrev pub Plays : Played → ReplicaView → ReplicaView → List Event → Type 0
+Plays played.Applied old new seen = (new.cursor ≡ old.cursor + 1) × (new.faults ≡ old.faults) × (new.down ≡ false)
+Plays played.Trimmed old new seen = (new ≡ old) × IsTrimmed seen old.cursor
+Plays played.Broken old new seen = (new.cursor ≡ old.cursor) × (old.faults ≤ new.faults) × ((old.down ≡ true) ⊎ Rose old.faults new.faults)
+
+-- The cursor is the greater of what it was and `to`, or stands below the trim.
+abbrev pub Reaches : ℕ → ReplicaView → ReplicaView → List Event → Type 0
+Reaches to old new seen = (new.cursor ≡ max old.cursor to) ⊎ IsTrimmed seen new.cursor
+
+-- the cursor is that tail, or stands below the trim
+abbrev pub IsAt : ℕ → ReplicaView → List Event → Type 0
+IsAt tail v seen = (v.cursor ≡ tail) ⊎ IsTrimmed seen v.cursor

@@ -1,0 +1,35 @@
+-- A node, as its callers see it.
+use Rattle.std.specs.Prelude.{◌≡◌, ◌≢◌, ℕ, ◌≤◌, List, [], length, All}
+use Rattle.delos_types.specs.Spaces.{SpaceMap}
+use Rattle.delos_types.specs.declared.entry.Entry.{Entry}
+use Rattle.engine_api.specs.Packing.{packed}
+use Rattle.legal_journal.specs.declared.events.Event.{Event}
+use Rattle.legal_journal.specs.Journal.{IsLegal}
+use Rattle.virtual_log.specs.Turning.{Later}
+use Rattle.replica_api.specs.Replica.{Saved, ReplicaView}
+use Rattle.base_engine.specs.Following.{Follows, IsKnown}
+use Rattle.base_engine.specs.Settling.{OutboxView, MaySend}
+
+-- by whom its events are, the journal as far as it was seen, how much of the log it knows, its replica, and what it has
+-- sent down and not settled
+pub record NodeView : Type 0 where
+  pub who : ℕ
+  pub seen : List Event
+  pub known : ℕ
+  pub replica : ReplicaView
+  pub outbox : OutboxView
+
+pub record NodeOk (may : ℕ → Entry → Type 0) (floor : List Entry → ℕ) (shelf : List ℕ) (holds : List Event → ℕ → Entry → Type 0) (state : List Entry → SpaceMap → Type 0) (spells : List ℕ → Saved → Type 0) (n : NodeView) : Type 0 where
+  pub legal : IsLegal may floor shelf n.seen
+  pub follows : Follows holds state spells n.seen n.replica
+  pub bounded : IsKnown n.known n.replica
+  pub own : All (λ e. MaySend may n.who e) n.outbox.entries
+  pub few : length n.outbox.entries ≤ 4
+  pub waiting : n.replica.kept ≢ [] → may n.who (packed n.replica.origin n.replica.kept)
+
+-- What each call keeps: who it is, what was seen, and that the cursor never falls.
+pub record Keeps (may : ℕ → Entry → Type 0) (floor : List Entry → ℕ) (shelf : List ℕ) (old new : NodeView) : Type 0 where
+  pub who : new.who ≡ old.who
+  pub origin : new.replica.origin ≡ old.replica.origin
+  pub later : Later may floor shelf old.seen new.seen
+  pub forward : old.replica.cursor ≤ new.replica.cursor

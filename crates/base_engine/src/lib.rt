@@ -1,0 +1,11 @@
+//! A node of the replicated table (SOSP 2021): its log, its stack of engines and its store as one replica.
+#![tactic(auto)]
+
+pub mod fault;
+pub mod node;
+pub mod outbox;
+pub mod play;
+pub mod propose;
+mod sessions;
+pub mod settle;
+pub mod shared_log;

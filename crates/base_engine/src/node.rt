@@ -1,0 +1,251 @@
+//! A node.
+ghost use Rattle.std.specs.Prelude.{◌≡◌, ◌≢◌, ◌≤◌, ◌+◌, ℕ, List, None, Some, [], ◌∷◌, ◌++◌, false, IfOk, OnOk, OnErr, IfErr};
+ghost use Rattle.disk_model.specs.Crash.{AnyCrash};
+ghost use Rattle.engine_api.specs.Packing.{IsProposable, packed};
+ghost use Rattle.engine_steps.specs.Layout as layout;
+ghost use Rattle.legal_journal.specs.Journal.{IsLegal};
+ghost use Rattle.virtual_log.specs.Turning.{Later, IsAbove};
+ghost use Rattle.base_engine.specs.Causes.{Blames};
+ghost use Rattle.base_engine.specs.Following.{Follows, IsFound, Reaches, IsAt};
+ghost use Rattle.replica_api.specs.Replica.{SpellsOne, Survives, Flushes};
+ghost use Rattle.base_engine.specs.Settling.{view_of, Settled, Answers, Failing, cause_in};
+ghost use Rattle.base_engine.specs.Proposing.{Sent, Proposed, Refused};
+ghost use Rattle.base_engine.specs.Node.{NodeView, Keeps};
+
+use crate::fault::Fault;
+use crate::outbox::{Outbox, cause_of};
+use crate::play::{play, restore, sync};
+use crate::propose::{flush, propose};
+use crate::settle::settle_all;
+use crate::shared_log::SharedLog;
+use delos_types::bytes::Bytes;
+use delos_types::cause::Cause;
+use delos_types::item::Item;
+use delos_types::numbers::{Rank, SessionId};
+use engine_steps::layout::Kept;
+use replica_api::replica::Replica;
+use std::alloc::{AllocError, Global};
+use std::marker::Model;
+
+/// A node: the log that it shares with others, its replica, and what it has sent down and not settled.
+///
+/// Its replica has the state of the log's first `cursor` entries, after any crash too. At most 4 entries are outstanding.
+pub struct Node<L: SharedLog, R: Replica> {
+    alloc: Global,
+    log: L,
+    replica: R,
+    outbox: Outbox,
+}
+
+impl<L: SharedLog, R: Replica> Model for Node<L, R> {
+    ghost use Rattle.base_engine.specs.Settling.{view_of};
+    ghost use Rattle.base_engine.specs.Node.{NodeView, NodeOk};
+    ghost use Rattle.std.specs.Coded.{codes};
+    ghost use Rattle.base_engine.specs.Codes.{space_code};
+
+    ghost Value = { NodeView };
+
+    ghost coded = { Prim.hlevel (codes, space_code) };
+
+    ghost view = { λ n. record { who = L.who n.log; seen = L.seen n.log; known = L.reaches n.log; replica = R.shows n.replica; outbox = view_of n.outbox } };
+
+    ghost invariant = { λ n. NodeOk L.Law.may L.Law.floor L.Law.shelf L.holds R.state R.spells (record { who = L.who n.log; seen = L.seen n.log; known = L.reaches n.log; replica = R.shows n.replica; outbox = view_of n.outbox }) };
+}
+
+impl<L: SharedLog, R: Replica> Node<L, R> {
+    /// A node whose replica has applied nothing. Makes no event, and takes no memory.
+    pub fn new(alloc: Global, log: L, replica: R) -> Self
+        requires legal { IsLegal L.Law.may L.Law.floor L.Law.shelf (L.seen log) }
+        requires empty { R.state [] (R.shows replica).contents }
+        requires start { (R.shows replica).cursor ≡ 0 }
+        requires none_asked { (R.shows replica).asked ≡ None }
+        requires nothing_waits { (R.shows replica).kept ≡ [] }
+        requires survives { Survives R.spells (R.shows replica) }
+        ensures fresh { result ≡ record { who = L.who log; seen = L.seen log; known = L.reaches log; replica = R.shows replica; outbox = record { entries = []; given = []; unsettled = None } } }
+    {
+        Node {
+            alloc,
+            log,
+            replica,
+            outbox: Outbox {
+                entries: Vec::new(alloc),
+                given: Vec::new(alloc),
+                unsettled: None,
+            },
+        }
+    }
+
+    /// The parts again. Takes no memory.
+    pub fn into_parts(self) -> (L, R)
+        ensures who { L.who result.0 ≡ self.who }
+        ensures seen { L.seen result.0 ≡ self.seen }
+        ensures replica { R.shows result.1 ≡ self.replica }
+        ensures follows { Follows L.holds R.state R.spells self.seen self.replica }
+    {
+        let Node {
+            alloc: _,
+            log,
+            replica,
+            outbox: _,
+        } = self;
+        (log, replica)
+    }
+
+    /// How much of the log it knows: the greatest position + 1 or tail that it was answered.
+    pub fn known(&self) -> u64
+        ensures { result ≡ self.now.known }
+    {
+        self.log.known()
+    }
+
+    /// How many entries of the log its state has.
+    pub fn cursor(&self) -> u64
+        ensures cursor { result ≡ self.now.replica.cursor }
+        ensures follows { Follows L.holds R.state R.spells self.now.seen self.now.replica }
+    {
+        self.replica.cursor()
+    }
+
+    /// Whether its store is down.
+    pub fn is_down(&self) -> bool
+        ensures { result ≡ self.now.replica.down }
+    {
+        self.replica.is_down()
+    }
+
+    /// The value at a key of the table, in the state of the log's first `cursor` entries.
+    pub fn value(&self, key: &[u8]) -> Result<Option<Bytes>, AllocError>
+        ensures value { IfOk result (λ value. value ≡ layout.value_of self.now.replica.contents key.now) }
+        ensures follows { Follows L.holds R.state R.spells self.now.seen self.now.replica }
+    {
+        self.replica.value(key)
+    }
+
+    /// Where a rank acted and what it was answered, in the state of the log's first `cursor` entries.
+    pub fn reply_of(&self, session: SessionId, rank: Rank) -> Result<Option<Kept>, AllocError>
+        ensures reply { IfOk result (λ kept. kept ≡ layout.reply_of self.now.replica.contents session rank) }
+        ensures follows { Follows L.holds R.state R.spells self.now.seen self.now.replica }
+    {
+        self.replica.reply_of(session, rank)
+    }
+
+    /// How many first entries are clean.
+    pub fn clean(&self) -> Result<u64, AllocError>
+        ensures clean { IfOk result (λ clean. clean ≡ layout.clean_of self.now.replica.contents self.now.replica.cursor) }
+        ensures follows { Follows L.holds R.state R.spells self.now.seen self.now.replica }
+    {
+        self.replica.clean()
+    }
+
+    /// Finds a tail of the log, plays up to it, and answers it.
+    pub fn sync(&mut self) -> Result<u64, Fault>
+        ensures keeps { Keeps L.Law.may L.Law.floor L.Law.shelf self.old self.new }
+        ensures follows { Follows L.holds R.state R.spells self.new.seen self.new.replica }
+        ensures synced { IfOk result (λ tail. IsAbove self.old.who self.old.seen tail self.new.seen) }
+        ensures cursor { IfOk result (λ tail. IsAt tail self.new.replica self.new.seen) }
+        ensures blames { IfErr result (λ f. Blames self.old.who self.old.seen self.old.replica.faults f self.new.seen self.new.replica.faults) }
+        ensures any_crash { AnyCrash self.old.replica.disk self.new.replica.disk (SpellsOne R.spells (IsFound L.holds R.state self.new.seen self.old.replica.cursor)) }
+        ensures kept { self.new.replica.kept ≡ self.old.replica.kept }
+        ensures outbox { self.new.outbox ≡ self.old.outbox }
+    {
+        sync(&mut self.log, &mut self.replica)
+    }
+
+    /// Applies entries until the cursor is at `to`, which is known. A store that fails, or is down, is opened again once,
+    /// with word 0, where there is an entry to apply.
+    pub fn play(&mut self, to: u64) -> Result<(), Fault>
+        requires { to ≤ self.old.known }
+        ensures keeps { Keeps L.Law.may L.Law.floor L.Law.shelf self.old self.new }
+        ensures follows { Follows L.holds R.state R.spells self.new.seen self.new.replica }
+        ensures reaches { OnOk result (Reaches to self.old.replica self.new.replica self.new.seen) }
+        ensures blames { IfErr result (λ f. Blames self.old.who self.old.seen self.old.replica.faults f self.new.seen self.new.replica.faults) }
+        ensures any_crash { AnyCrash self.old.replica.disk self.new.replica.disk (SpellsOne R.spells (IsFound L.holds R.state self.new.seen self.old.replica.cursor)) }
+        ensures kept { self.new.replica.kept ≡ self.old.replica.kept }
+        ensures outbox { self.new.outbox ≡ self.old.outbox }
+    {
+        play(&mut self.log, &mut self.replica, to)
+    }
+
+    /// Proposes an item.
+    pub fn propose(&mut self, item: Item) -> Result<(), Fault>
+        requires item { IsProposable item }
+        requires own { L.Law.may self.old.who (packed self.old.replica.origin (self.old.replica.kept ++ item ∷ [])) }
+        ensures keeps { Keeps L.Law.may L.Law.floor L.Law.shelf self.old self.new }
+        ensures follows { Follows L.holds R.state R.spells self.new.seen self.new.replica }
+        ensures proposed { OnOk result (Proposed self.old.who self.old.seen self.old.outbox self.old.replica item self.new.seen self.new.outbox self.new.replica) }
+        ensures refused { IfErr result (λ f. Refused self.old.who self.old.seen self.old.outbox item f self.new.seen self.new.outbox) }
+        ensures same { OnErr result (self.new.replica.kept ≡ self.old.replica.kept) }
+        ensures blames { IfErr result (λ f. Blames self.old.who self.old.seen self.old.replica.faults f self.new.seen self.new.replica.faults) }
+        ensures any_crash { AnyCrash self.old.replica.disk self.new.replica.disk (SpellsOne R.spells (IsFound L.holds R.state self.new.seen self.old.replica.cursor)) }
+    {
+        propose(
+            self.alloc,
+            &mut self.log,
+            &mut self.replica,
+            &mut self.outbox,
+            item,
+        )
+    }
+
+    /// What waits is packed, and is outstanding then.
+    pub fn flush(&mut self) -> Result<(), AllocError>
+        ensures keeps { Keeps L.Law.may L.Law.floor L.Law.shelf self.old self.new }
+        ensures sent { OnOk result (Sent self.old.who self.old.seen self.old.outbox (λ packed. Flushes self.old.replica.origin self.old.replica.kept packed self.new.replica.kept) self.new.seen self.new.outbox) }
+        ensures rest { self.new.replica ≡ record self.old.replica { kept = self.new.replica.kept } }
+        ensures unsent { OnErr result (Settled self.old.who self.old.seen self.old.outbox self.new.seen self.new.outbox) }
+        ensures same { OnErr result (self.new.replica ≡ self.old.replica) }
+    {
+        flush(
+            self.alloc,
+            &mut self.log,
+            &mut self.replica,
+            &mut self.outbox,
+        )
+    }
+
+    /// Carries all outstanding entries to their end, one after another, and answers the first cause since the last
+    /// settling.
+    pub fn settle_all(&mut self) -> Result<(), Fault>
+        ensures keeps { Keeps L.Law.may L.Law.floor L.Law.shelf self.old self.new }
+        ensures replica { self.new.replica ≡ self.old.replica }
+        ensures calm { OnOk result (Answers self.old.who self.old.seen self.old.outbox None self.new.seen self.new.outbox) }
+        ensures failing { IfErr result (λ f. Failing self.old.who self.old.seen self.old.outbox f self.new.seen self.new.outbox) }
+    {
+        settle_all(self.alloc, &mut self.log, &mut self.outbox)
+    }
+
+    /// The first cause that a session was given since the last `next_phase`.
+    pub fn cause_of(&self, session: SessionId) -> Option<Cause>
+        ensures { result ≡ cause_in session self.now.outbox.given }
+    {
+        cause_of(&self.outbox.given, session)
+    }
+
+    /// Forgets all causes that were given.
+    pub fn next_phase(&mut self)
+        ensures { self.new ≡ record self.old { outbox = record self.old.outbox { given = [] } } }
+    {
+        self.outbox.given.clear();
+    }
+
+    /// Opens the store again, where it is down. The word chooses what a stopped commit left.
+    pub fn recover(&mut self, word: u64) -> Result<(), Fault>
+        ensures keeps { Keeps L.Law.may L.Law.floor L.Law.shelf self.old self.new }
+        ensures follows { Follows L.holds R.state R.spells self.new.seen self.new.replica }
+        ensures near { self.new.replica.cursor ≤ self.old.replica.cursor + 1 }
+        ensures up { OnOk result (self.new.replica.down ≡ false) }
+        ensures outbox { self.new.outbox ≡ self.old.outbox }
+        ensures seen { self.new.seen ≡ self.old.seen }
+        ensures blames { IfErr result (λ f. Blames self.old.who self.old.seen self.old.replica.faults f self.new.seen self.new.replica.faults) }
+        ensures any_crash { AnyCrash self.old.replica.disk self.new.replica.disk (SpellsOne R.spells (IsFound L.holds R.state self.new.seen self.old.replica.cursor)) }
+    {
+        restore(&self.log, &mut self.replica, word)
+    }
+
+    /// Arms the disk: its write number `after` from now on stops inside itself, as in a crash; 0 takes that back.
+    pub fn stop(&mut self, after: u64)
+        ensures { self.new ≡ self.old }
+    {
+        self.replica.stop(after);
+    }
+}
