@@ -238,7 +238,7 @@ module _ (c : Cell) (t i : ℕ) (p b : Pending) (e : Errand) (told : Told) (law 
           subst (λ k. slice_get c.entries k ≡ Some x) same (h.got z.0 x z.3 (so.reply.told_is ∙ is_got told x g))
 
 -- the steps: the answer comes, and then it may be decided
-pub hears : (c : Cell) (t i : ℕ) (p new : Pending) (e : Errand) (told : Told) → QuorumLaw c → IsPartOf c t p → p.outcome ≡ None → i < length c.servers → (get_or p.members.items i no_member).message ≡ Some (Answered e told) → Hears c.cut i e told p new → GoesBy c t new
+pub hears : (c : Cell) (t i : ℕ) (p new : Pending) (e : Errand) (told : Told) → QuorumLaw c → IsPartOf c t p → p.outcome ≡ None → i < length c.servers → (get_or p.members.items i no_member).message ≡ Some (Answered e told) → Hears c.cut i e told p new → GoesBy c t c.faults new
 hears c t i p new e told law part waiting here message h =
     let b : Pending = h.between in
     let so_reply : ToldSo c (operation c t) t i (aims_of c.cut p) (get_or p.members.items i no_member) e told = so c t i p b e told law part waiting here message h.notes in
@@ -246,10 +246,12 @@ hears c t i p new e told law part waiting here message h =
     let is : cell_step c (ReplyComes so_reply.reply.number) ≡ put_operation c t (with_reply (operation c t) r) = comes_is c t so_reply.reply.number r so_reply.reply.is so_reply.reply.ticket part.shows.is_open (part.outcome ∙ waiting) in
     let kept : QuorumLaw (put_operation c t (with_reply (operation c t) r)) = subst QuorumLaw is (step_keeps c (ReplyComes so_reply.reply.number) law) in
     let then_noted : Noted (put_operation c t (with_reply (operation c t) r)) t b = subst (Noted (put_operation c t (with_reply (operation c t) r)) t) (sym h.notes.rest) (noted c t i p b e told law part waiting here message h.notes) in
-    let s : GoesBy (put_operation c t (with_reply (operation c t) r)) t new = settled (put_operation c t (with_reply (operation c t) r)) t b new kept then_noted h.settles in
+    let s : GoesBy (put_operation c t (with_reply (operation c t) r)) t c.faults new = settled (put_operation c t (with_reply (operation c t) r)) t b new kept then_noted h.settles in
     record {
       steps = ReplyComes so_reply.reply.number ∷ s.steps;
       strays = (tt, s.strays);
       part = subst (λ (x : Cell). IsPartOf (run_cell s.steps x) t new) (sym is) s.part;
       others = λ q n. ap (λ (x : Cell). operation (run_cell s.steps x) q) is ∙ s.others q n ∙ put_other c t q (with_reply (operation c t) r) n;
+      servers = ap (λ (x : Cell). (run_cell s.steps x).servers) is ∙ s.servers;
+      faults_are = ap (λ (x : Cell). (run_cell s.steps x).faults) is ∙ s.faults_are;
     }

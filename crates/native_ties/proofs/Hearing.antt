@@ -147,7 +147,7 @@ either_more true b d h e = refl
 either_more false b d h e = h e
 
 -- the server that a Read asks is the one from which it hears
-turned_heard : (ms : List Member) (j i want cut : ℕ) (m now : Member) → is_done (Reading j) want i m ≡ false → HaveTurned ms j → HaveTurned (set ms i now) j
+pub turned_heard : (ms : List Member) (j i want cut : ℕ) (m now : Member) → is_done (Reading j) want i m ≡ false → HaveTurned ms j → HaveTurned (set ms i now) j
 turned_heard ms j i want cut m now d h = record {
   here = rw (length-set ms i now) h.here;
   after = λ q l. rw (get_or-set_other ms i q now no_member (λ e. (let z = same in omega (arith, z, l, e)))) (h.after q l);

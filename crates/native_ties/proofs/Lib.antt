@@ -5,3 +5,7 @@ pub mod Settling
 pub mod Hearers
 pub mod Sending
 pub mod Answering
+pub mod Asking
+pub mod Losing
+pub mod Losers
+pub mod Beginning

@@ -87,7 +87,7 @@ shows_put d t b a known h =
     let there = put_there d t (record (operation d t) { decided = Some a }) known in
     record { is_open = rw there h.is_open; task = rw there h.task; size = rw there h.size; reach = rw there h.reach; firm = rw there h.firm; shut = rw there h.shut; faults = rw there h.faults; down = rw there h.down }
 
-done_part : (d : Cell) (t : ℕ) (b new : Pending) (a : Outcome) → Noted d t b → may_decide (length d.servers) d.cut (operation d t) (operation d t).aim a ≡ true → (a ≡ Found → is_some b.got ≡ true) → new ≡ record b { outcome = Some a } → GoesBy d t new
+done_part : (d : Cell) (t : ℕ) (b new : Pending) (a : Outcome) → Noted d t b → may_decide (length d.servers) d.cut (operation d t) (operation d t).aim a ≡ true → (a ≡ Found → is_some b.got ≡ true) → new ≡ record b { outcome = Some a } → GoesBy d t d.faults new
 done_part d t b new a h may found same =
     let known : t < length d.operations = open_known d t h.shows.is_open in
     let is : decide d t a ≡ put_operation d t (record (operation d t) { decided = Some a }) = decided_is d t a h.shows.is_open h.undecided may in
@@ -104,6 +104,8 @@ done_part d t b new a h may found same =
       strays = (tt, tt);
       part = subst (λ (c : Cell). IsPartOf c t new) (sym is) (subst (λ (p : Pending). IsPartOf (put_operation d t (record (operation d t) { decided = Some a })) t p) (sym same) part);
       others = λ q n. ap (λ (c : Cell). operation c q) is ∙ put_other d t q (record (operation d t) { decided = Some a }) n;
+      servers = ap (λ (c : Cell). c.servers) is;
+      faults_are = ap (λ (c : Cell). c.faults) is;
     }
 
 -- it goes on
@@ -137,7 +139,7 @@ go_goes d t b q ph h verdict g r = record {
         by (inl l) = absurd (let same : rank_of ph ≡ rank_of b.phase = eqb-true (rank_of ph) (rank_of b.phase) e in omega (arith, l, same))
         by (inr s) = s
 
-go_part : (d : Cell) (t : ℕ) (b new : Pending) (ph : Phase) → Noted d t b → verdict_of d.cut b ≡ Go ph → GoesOn d (operation d t) (aims_of d.cut b) b.members.items ph → (new ≡ record b { phase = ph; members = new.members }) × Resends ph d.cut b.want (place_of b.task) (rank_of ph == rank_of b.phase) b.members.items new.members.items → GoesBy d t new
+go_part : (d : Cell) (t : ℕ) (b new : Pending) (ph : Phase) → Noted d t b → verdict_of d.cut b ≡ Go ph → GoesOn d (operation d t) (aims_of d.cut b) b.members.items ph → (new ≡ record b { phase = ph; members = new.members }) × Resends ph d.cut b.want (place_of b.task) (rank_of ph == rank_of b.phase) b.members.items new.members.items → GoesBy d t d.faults new
 go_part d t b new ph h verdict g s =
     let part : IsPartOf d t (record b { phase = ph; members = new.members }) = record {
       shows = record { is_open = h.shows.is_open; task = h.shows.task; size = h.shows.size; reach = h.shows.reach; firm = h.shows.firm; shut = h.shows.shut; faults = h.shows.faults; down = h.shows.down };
@@ -145,12 +147,12 @@ go_part d t b new ph h verdict g s =
       goes = λ z. go_goes d t b new ph h verdict g s.1;
       found = λ z. absurd (none-some _ (sym h.waits ∙ z));
     } in
-    record { steps = []; strays = tt; part = subst (IsPartOf d t) (sym s.0) part; others = λ q n. refl }
+    record { steps = []; strays = tt; part = subst (IsPartOf d t) (sym s.0) part; others = λ q n. refl; servers = refl; faults_are = refl }
 
 -- whatever it comes to
-pub settled : (d : Cell) (t : ℕ) (b new : Pending) → QuorumLaw d → Noted d t b → Settles d.cut b (verdict_of d.cut b) new → GoesBy d t new
+pub settled : (d : Cell) (t : ℕ) (b new : Pending) → QuorumLaw d → Noted d t b → Settles d.cut b (verdict_of d.cut b) new → GoesBy d t d.faults new
 settled d t b new law h s = by (verdict_of d.cut b) refl (verdict_allowed d (operation d t) (aims_of d.cut b) b.members.items (is_some b.got) law h.course h.told) s
   where
-    by : (v : Verdict) → verdict_of d.cut b ≡ v → IsAllowed d (operation d t) (aims_of d.cut b) b.members.items (is_some b.got) v → Settles d.cut b v new → GoesBy d t new
+    by : (v : Verdict) → verdict_of d.cut b ≡ v → IsAllowed d (operation d t) (aims_of d.cut b) b.members.items (is_some b.got) v → Settles d.cut b v new → GoesBy d t d.faults new
     by (Done a) e allowed z = done_part d t b new a h allowed.0 allowed.1 z
     by (Go ph) e allowed z = go_part d t b new ph h e allowed z

@@ -1,24 +1,28 @@
 -- An open operation as a part of its quorum cell.
-use Rattle.std.specs.Prelude.{◌≡◌, ℕ, ◌<◌, ◌≤◌, ◌⊎◌, true, false, not, List, length, get_or, set, slice_get, Option, Some, None, All, [], ◌∷◌, ⊤}
+use Rattle.std.specs.Prelude.{◌≡◌, ℕ, ◌<◌, ◌≤◌, ◌⊎◌, true, false, not, List, length, get_or, set, slice_get, Option, Some, None, All, [], ◌∷◌, ⊤, option_map}
 use Rattle.delos_types.specs.declared.entry.Entry.{Entry}
 use Rattle.loglet_api.specs.Step.{task_of}
+use Rattle.majority_rule.specs.declared.message.Ask.{Ask}
+use Rattle.majority_rule.specs.declared.message.Ask.TheVariants as ask
 use Rattle.majority_rule.specs.declared.message.Request.{Request}
 use Rattle.majority_rule.specs.declared.message.Reply.{Reply}
 use Rattle.majority_rule.specs.declared.message.Told.{Told}
 use Rattle.majority_rule.specs.declared.message.Told.TheVariants.{Trimmed}
 use Rattle.majority_rule.specs.declared.operation.Loss.{Loss}
+use Rattle.majority_rule.specs.declared.operation.Aim.{Aim}
 use Rattle.majority_rule.specs.declared.operation.Aim.TheVariants.{Read as AimRead}
 use Rattle.majority_rule.specs.declared.operation.Outcome.TheVariants.{Found}
 use Rattle.majority_rule.specs.declared.operation.CellStep.{CellStep}
-use Rattle.majority_rule.specs.Steps.{run_cell}
+use Rattle.majority_rule.specs.Steps.{run_cell, ask_for, wanted}
 use Rattle.cell_views.specs.Views.{IsStray}
 use Rattle.majority_rule.specs.Majority.{is_majority, votes_below}
 use Rattle.majority_rule.specs.Servers.{Server, length_of, is_sealed}
-use Rattle.majority_rule.specs.Cells.{Cell, Operation, operation, server, server_before}
+use Rattle.majority_rule.specs.Cells.{Cell, Operation, operation, server, server_before, is_shut, down}
 use Rattle.majority_rule.specs.Tallies.{tries_lost}
 use Rattle.cell_views.specs.Views.{counted, op_of}
 use Rattle.native_plan.specs.declared.member.Member.{Member}
 use Rattle.native_plan.specs.declared.pending.Pending.{Pending}
+use Rattle.native_plan.specs.declared.pending.Start.{Start}
 use Rattle.majority_rule.specs.declared.operation.Wish.{Wish}
 use Rattle.majority_rule.specs.declared.operation.Wish.TheVariants as wish
 use Rattle.native_plan.specs.declared.message.Errand.{Errand}
@@ -27,7 +31,7 @@ use Rattle.native_plan.specs.declared.message.Message.{Message}
 use Rattle.native_plan.specs.declared.message.Message.TheVariants.{Asked, Told as Answered}
 use Rattle.native_plan.specs.declared.message.Phase.TheVariants.{Trimming}
 use Rattle.native_plan.specs.declared.aims.Aims.{Aims}
-use Rattle.native_plan.specs.Members.{no_member}
+use Rattle.native_plan.specs.Members.{no_member, new_member}
 use Rattle.native_plan.specs.Plans.{is_done}
 use Rattle.native_plan.specs.Pendings.{aims_of}
 use Rattle.native_plan.specs.Course.{IsOnCourse, IsPlanned, IsAskOf, ToldWell}
@@ -111,6 +115,21 @@ pub record IsPartOf (c : Cell) (t : ℕ) (p : Pending) : Type 0 where
   pub goes : p.outcome ≡ None → Goes c t p
   pub found : p.outcome ≡ Some Found → HasFound c t p
 
+-- what is noted as an operation begins is what holds of its cell
+pub record StartsIn (c : Cell) (aim : Aim) (start : Start) : Type 0 where
+  pub size : start.size ≡ length c.entries
+  pub reach : start.reach ≡ c.reach
+  pub firm : start.firm ≡ c.firm
+  pub shut : start.shut ≡ is_shut c
+  pub faults : start.faults ≡ counted (length c.faults)
+  pub down : start.down ≡ down c
+  pub want : start.want ≡ wanted c aim
+
+-- of each server nothing is known but a length that it has
+pub record AreKnown (c : Cell) (known : List Member) : Type 0 where
+  pub all : length known ≡ length c.servers
+  pub each : (i : ℕ) → i < length c.servers → (at : ℕ) × (get_or known i no_member ≡ new_member at) × (at ≤ length_of (server c i))
+
 -- every message ever sent is there still
 pub record Extends (c d : Cell) : Type 0 where
   pub requests : (k : ℕ) (q : Request) → slice_get c.requests k ≡ Some q → slice_get d.requests k ≡ Some q
@@ -125,17 +144,34 @@ wish_of (Repair p) = wish.Repair p
 wish_of (Read p) = wish.Read
 wish_of Trim = wish.Trim
 
+-- what a server is asked for an errand, in a cell that has these entries and this cut
+abbrev pub asked_by : List Entry → ℕ → Errand → Option Ask
+asked_by entries cut (Store p) = option_map (λ e. ask.Store p e) (slice_get entries p)
+asked_by entries cut Seal = Some ask.Seal
+asked_by entries cut Tail = Some ask.Tail
+asked_by entries cut (Repair p) = option_map (λ e. ask.Repair p e) (slice_get entries p)
+asked_by entries cut (Read p) = Some (ask.Read p)
+asked_by entries cut Trim = Some (ask.Trim cut)
+
+-- the operation may send what its errand says
+pub record IsAllowed (c : Cell) (t : ℕ) (e : Errand) : Type 0 where
+  pub ask : Ask
+  pub is : asked_by c.entries c.cut e ≡ Some ask
+  pub allowed : ask_for c (operation c t) (wish_of e) ≡ Some ask
+
 -- steps that are nobody's call
 abbrev pub AreStrays : List CellStep → Type 0
 AreStrays [] = ⊤
 AreStrays (step ∷ steps) = IsStray step × AreStrays steps
 
--- an operation goes on by steps of its cell, which leave the other operations alone
-pub record GoesBy (c : Cell) (t : ℕ) (p : Pending) : Type 0 where
+-- an operation goes on by steps of its cell, which leave the other operations and the servers alone; the faults are these then
+pub record GoesBy (c : Cell) (t : ℕ) (faults : List ℕ) (p : Pending) : Type 0 where
   pub steps : List CellStep
   pub strays : AreStrays steps
   pub part : IsPartOf (run_cell steps c) t p
   pub others : (q : ℕ) → (q ≡ t → ⊥) → operation (run_cell steps c) q ≡ operation c q
+  pub servers : (run_cell steps c).servers ≡ c.servers
+  pub faults_are : (run_cell steps c).faults ≡ faults
 
 -- server i answered the operation by steps of the cell, and is this now; the faults are these
 pub record AnswersBy (c : Cell) (t i : ℕ) (s : Server) (faults : List ℕ) (p : Pending) : Type 0 where

@@ -1,18 +1,22 @@
 //! What ties open operations to their cell. Each function does nothing: its contract is the law.
-ghost use Rattle.std.specs.Prelude.{◌≡◌, ℕ, ◌<◌, ◌&&◌, ◌++◌, ◌∷◌, [], true, false, if◌then◌else◌, length, get_or, Some, None};
+ghost use Rattle.std.specs.Prelude.{◌≡◌, ℕ, ◌<◌, ◌≤◌, ◌+◌, ◌*◌, List, ◌&&◌, ◌++◌, ◌∷◌, [], true, false, if◌then◌else◌, length, get_or, Some, None};
 ghost use Rattle.majority_rule.specs.declared.message.Ask.{Ask};
 ghost use Rattle.majority_rule.specs.declared.message.Told.TheVariants.{DiskFault};
 ghost use Rattle.majority_rule.specs.Servers.{told, writes, written};
-ghost use Rattle.majority_rule.specs.Steps.{ask_for};
+ghost use Rattle.majority_rule.specs.Steps.{ask_for, admit, cut_after};
 ghost use Rattle.majority_rule.specs.declared.message.Told.{Told};
 ghost use Rattle.majority_rule.specs.Cells.{Cell, operation, server};
 ghost use Rattle.majority_rule.specs.Law.{QuorumLaw, Later};
+ghost use Rattle.majority_rule.specs.declared.operation.Aim as aims;
+ghost use Rattle.cell_views.specs.Views.{op_of};
+ghost use Rattle.native_plan.specs.declared.member.Member as members;
 ghost use Rattle.native_plan.specs.declared.pending.Pending as pending;
+ghost use Rattle.native_plan.specs.declared.pending.Start as starts;
 ghost use Rattle.native_plan.specs.declared.message.Errand as errands;
 ghost use Rattle.native_plan.specs.declared.message.Message.TheVariants.{Asked, Told as Answered};
-ghost use Rattle.native_plan.specs.Members.{no_member};
-ghost use Rattle.native_plan.specs.Pendings.{Answers, Hears};
-ghost use Rattle.native_ties.specs.Parts.{Extends, IsPartOf, GoesBy, AnswersBy, wish_of};
+ghost use Rattle.native_plan.specs.Members.{no_member, is_out};
+ghost use Rattle.native_plan.specs.Pendings.{Begins, Answers, Hears, Loses};
+ghost use Rattle.native_ties.specs.Parts.{StartsIn, AreKnown, Extends, IsPartOf, IsAllowed, GoesBy, AnswersBy, wish_of};
 
 /// What an open operation is in its cell it is in each later one that leaves it alone.
 pub fn parts_stay()
@@ -20,12 +24,20 @@ pub fn parts_stay()
         → IsPartOf cell t p → IsPartOf later t p }
 {}
 
+/// An operation that begins is a part of the cell that admits it, where it notes what holds of the
+/// cell, and knows of each server no more than a length that it has. The servers are 1, 3, 5 or 7.
+pub fn operations_begin()
+    ensures { (cell : Cell) (aim : aims.Aim) (start : starts.Start) (known : List members.Member) (p : pending.Pending) → QuorumLaw cell
+        → (k : ℕ) → length cell.servers ≡ 2 * k + 1 → length cell.servers ≤ 7 → StartsIn cell aim start → AreKnown cell known
+        → Begins (op_of aim) start (cut_after cell aim) known p → IsPartOf (admit cell aim) (length cell.operations) p }
+{}
+
 /// An operation that hears an answer, and then is decided or sends on, takes steps of its cell: the
 /// answer comes, and where the operation is decided the cell decides so. So whatever cell it was a
 /// part of, it is a part of one that steps lead to.
 pub fn answers_come()
     ensures { (cell : Cell) (t i : ℕ) (p new : pending.Pending) (errand : errands.Errand) (told : Told) → QuorumLaw cell → IsPartOf cell t p → p.outcome ≡ None → i < length cell.servers
-        → (get_or p.members.items i no_member).message ≡ Some (Answered errand told) → Hears cell.cut i errand told p new → GoesBy cell t new }
+        → (get_or p.members.items i no_member).message ≡ Some (Answered errand told) → Hears cell.cut i errand told p new → GoesBy cell t cell.faults new }
 {}
 
 /// A request of an operation that comes to its server takes steps of the cell: it is sent, and comes.
@@ -41,4 +53,18 @@ pub fn requests_come()
         → (get_or p.members.items i no_member).message ≡ Some (Asked errand) → ask_for cell (operation cell t) (wish_of errand) ≡ Some ask
         → ((server cell i).up && writes (server cell i) ask) ≡ true → Answers i errand DiskFault p new
         → AnswersBy cell t i (record (server cell i) { up = false; torn = Some ask }) (cell.faults ++ i ∷ []) new }
+{}
+
+/// A request of an operation may be sent: its cell lets the operation ask just what the errand says.
+pub fn requests_are_allowed()
+    ensures { (cell : Cell) (t i : ℕ) (p : pending.Pending) (errand : errands.Errand) → IsPartOf cell t p → p.outcome ≡ None → i < length cell.servers
+        → (get_or p.members.items i no_member).message ≡ Some (Asked errand) → IsAllowed cell t errand }
+{}
+
+/// A message of an operation that is lost takes steps of the cell: it is sent, where it wasn't yet,
+/// and a try of it, or of its answer, is lost, which is a fault of its server. Then the operation is
+/// decided, or sends on.
+pub fn messages_are_lost()
+    ensures { (cell : Cell) (t i : ℕ) (p new : pending.Pending) → QuorumLaw cell → IsPartOf cell t p → p.outcome ≡ None → i < length cell.servers
+        → is_out (get_or p.members.items i no_member) ≡ true → Loses cell.cut i p new → GoesBy cell t (cell.faults ++ i ∷ []) new }
 {}
