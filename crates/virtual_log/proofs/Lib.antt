@@ -7,3 +7,4 @@ pub mod Closing
 pub mod Raising
 pub mod Trimming
 pub mod Reading
+pub mod Holding
