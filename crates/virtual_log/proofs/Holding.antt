@@ -37,14 +37,14 @@ last_in es i a (s ∷ []) j = inl refl
 last_in es i a (s ∷ r ∷ rs) j = inr (last_in es (i + 1) (a + j.2.0) (r ∷ rs) j.2.3)
 
 -- the segment that has an entry
-record Found (r : ℕ → ℕ) (es : ℕ → List Entry) (ss : List Segment) (pos : ℕ) (e : Entry) : Type 0 where
+pub record Found (r : ℕ → ℕ) (es : ℕ → List Entry) (ss : List Segment) (pos : ℕ) (e : Entry) : Type 0 where
   pub segment : Segment
   pub inside : IsIn segment ss
   pub above : segment.start ≤ pos
   pub below : pos < end_of r segment
   pub entry : slice_get (es segment.id) (pos - segment.start) ≡ Some e
 
-found_in : (r : ℕ → ℕ) (es : ℕ → List Entry) (ss : List Segment) (pos : ℕ) (e : Entry) → entry_in r es ss pos ≡ Some e → Found r es ss pos e
+pub found_in : (r : ℕ → ℕ) (es : ℕ → List Entry) (ss : List Segment) (pos : ℕ) (e : Entry) → entry_in r es ss pos ≡ Some e → Found r es ss pos e
 found_in r es [] pos e h = absurd (cc)
 found_in r es (s ∷ ss) pos e h =
     ⊎_elim

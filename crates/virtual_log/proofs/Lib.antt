@@ -8,3 +8,4 @@ pub mod Raising
 pub mod Trimming
 pub mod Reading
 pub mod Holding
+pub mod Agreeing
