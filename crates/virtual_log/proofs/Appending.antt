@@ -1,5 +1,5 @@
 -- An operation on a loglet of the chain.
-use Rattle.std.proofs.Common.{◌≡◌, ◌≢◌, ℕ, ◌+◌, ◌<◌, ◌≤◌, ◌^◌, List, ◌∷◌, ◌++◌, length, Some, Bool, true, false, refl, sym, ap, ◌∙◌, subst, arith, append_assoc}
+use Rattle.std.proofs.Common.{◌≡◌, ◌≢◌, ℕ, ◌+◌, ◌-◌, ◌<◌, ◌≤◌, ◌^◌, List, ◌∷◌, ◌++◌, length, Some, Bool, true, false, refl, sym, ap, ◌∙◌, subst, arith, append_assoc}
 use Rattle.std.specs.Prelude.{Contains, slice_get, ◌==◌}
 use Rattle.std.proofs.lemmas.Bool.Decides.{nat_tests}
 use Rattle.std.proofs.lemmas.List.Elements.{Contains-push}
@@ -109,6 +109,7 @@ module _ (may : ℕ → Entry → Type 0) (floor : List Entry → ℕ) (shelf : 
   pub record Placing (who : ℕ) (old new : List Event) (i s : ℕ) (e : Entry) (pos : ℕ) : Type 0 where
     pub stands : Stands (state_of new) pos e
     pub above : IsAbove who old pos new
+    pub there : slice_get ((state_of new).cells i).entries (pos - s) ≡ Some e
     pub reached : pos + 1 ≤ s + ((state_of new).cells i).told.reach
     pub fits : pos < 2 ^ 64
 
@@ -130,6 +131,7 @@ module _ (may : ℕ → Entry → Type 0) (floor : List Entry → ℕ) (shelf : 
       let new_cell = m.new_ok.cell i in
       record {
         stands = reached_stands (length shelf) (state_of new) i s p e m.new_ok m.at_new (omega (arith, reach_is)) there;
+        there = let at : s + p - s ≡ p = omega arith in ap (slice_get (entries (state_of new).cells i)) at ∙ there;
         above = above_begin who old mid new i t (s + p) (Append e) legal first second o (omega (arith, tail, x.may.0, begin_cell.size, begin_cell.reach, begin_cell.firm));
         reached = omega (arith, reach_is);
         fits = omega (arith, m.new_ok.rooms i s m.at_new, m.new_ok.ids i s m.at_new, m.new_ok.shelf, m.few, new_cell.reach, new_cell.firm, new_cell.room, reach_is);

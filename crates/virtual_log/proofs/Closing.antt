@@ -1,26 +1,25 @@
 -- The writes that close the last segment of a chain.
-use Rattle.std.proofs.Common.{◌≡◌, ℕ, ◌+◌, ◌<◌, ◌≤◌, ◌^◌, max, List, [], ◌∷◌, ◌++◌, length, Option, Some, None, refl, sym, ap, ◌∙◌, subst, arith}
+use Rattle.std.proofs.Common.{◌≡◌, ℕ, ◌+◌, ◌<◌, ◌≤◌, max, List, [], ◌++◌, length, Some, refl, sym, ap, ◌∙◌, subst, arith}
 use Rattle.std.specs.Prelude.{Contains}
 use Rattle.delos_types.specs.declared.entry.Entry.{Entry}
 use Rattle.delos_types.specs.declared.chain.Segment.{Segment}
 use Rattle.delos_types.specs.declared.chain.Chain.{Chain}
 use Rattle.chain_map.specs.Chain.{last_of_segments, last_segment}
-use Rattle.chain_map.specs.Step.{extended, extended_segments}
+use Rattle.chain_map.specs.Step.{extended}
 use Rattle.legal_journal.specs.declared.events.Event.{Event}
 use Rattle.legal_journal.specs.declared.events.FabricCall.TheVariants.{WriteChain}
 use Rattle.legal_journal.specs.declared.events.FabricAnswer.TheVariants.{Written, Conflict}
 use Rattle.legal_journal.specs.Journal.{State, state_of, IsLegal, ends}
 use Rattle.legal_journal.specs.Turns.{IsTurn, MayTurn}
 use Rattle.legal_journal.proofs.Log.{next, last_open, last_of_segments-extended_segments}
-use Rattle.legal_journal.proofs.Sound.{StateOk, reach_le_end}
+use Rattle.legal_journal.proofs.Sound.{StateOk}
 use Rattle.legal_journal.proofs.Legal.{sound}
-use Rattle.virtual_log.specs.Turning.{Later, HasEvent}
 use Rattle.virtual_log.specs.Log.{GoesBy}
 use Rattle.virtual_log.specs.declared.extend.Extension.{Extension}
 use Rattle.virtual_log.specs.declared.extend.Extension.TheVariants.{Extended, Moved, NoSpare}
 use Rattle.virtual_log.specs.Extending.{IsWritten, IsPassed, IsClosed, Follows}
-use Rattle.virtual_log.proofs.OneTurn.{later_trans, turn_later, event_since, later_continues}
-use Rattle.virtual_log.proofs.Replacing.{Fits, fits, last_started, may_write, written_ok, written_given, Conflicted, conflict_ok}
+use Rattle.virtual_log.proofs.OneTurn.{turn_later, event_since}
+use Rattle.virtual_log.proofs.Replacing.{Fits, fits, last_started, may_write, written_given, Conflicted, conflict_ok}
 use Rattle.virtual_log.proofs.Going.{goes_later, goes_onto, goes_behind, goes_further}
 
 segment_is : (a b : Segment) → a.id ≡ b.id → a.start ≡ b.start → a.end ≡ b.end → a ≡ b

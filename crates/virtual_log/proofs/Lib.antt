@@ -7,3 +7,5 @@ pub mod Closing
 pub mod Raising
 pub mod Trimming
 pub mod Reading
+pub mod Holding
+pub mod Agreeing

@@ -1,5 +1,5 @@
 -- The writes that raise the trim of a chain.
-use Rattle.std.proofs.Common.{◌≡◌, inl, inr, ℕ, zero, suc, ◌+◌, ◌*◌, ◌<◌, ◌≤◌, ◌^◌, List, [], ◌∷◌, ◌++◌, length, Option, Some, refl, sym, ap, ◌∙◌, subst, ⊎_elim, arith}
+use Rattle.std.proofs.Common.{◌≡◌, inl, inr, ℕ, zero, suc, ◌+◌, ◌<◌, ◌≤◌, ◌^◌, List, [], ◌∷◌, ◌++◌, length, Some, refl, sym, ap, ◌∙◌, subst, ⊎_elim, arith}
 use Rattle.std.specs.Prelude.{slice_get}
 use Rattle.delos_types.specs.declared.entry.Entry.{Entry}
 use Rattle.delos_types.specs.declared.chain.Segment.{Segment}
@@ -15,10 +15,10 @@ use Rattle.legal_journal.specs.Turns.{IsTurn, MayTurn}
 use Rattle.legal_journal.proofs.Log.{rest_of}
 use Rattle.legal_journal.proofs.Legal.{sound, goes_on}
 use Rattle.legal_journal.proofs.Chains.{chain_ok}
-use Rattle.virtual_log.specs.Turning.{Later, Looked, HasEvent}
+use Rattle.virtual_log.specs.Turning.{Looked, HasEvent}
 use Rattle.virtual_log.specs.Log.{GoesBy}
 use Rattle.virtual_log.specs.Truncating.{IsRaised, IsTold, IsHigh, IsTruncated}
-use Rattle.virtual_log.proofs.OneTurn.{turn_later, later_continues, event_since, event_until}
+use Rattle.virtual_log.proofs.OneTurn.{turn_later, event_since, event_until}
 use Rattle.virtual_log.proofs.Replacing.{last_started, written_given, lost_ok}
 use Rattle.virtual_log.proofs.Going.{goes_onto}
 

@@ -54,7 +54,7 @@ get_drop [] (suc n) k = refl
 get_drop (x ∷ xs) (suc n) k = let z : suc n + k ≡ suc (n + k) = omega arith in get_drop xs n k ∙ sym (ap (slice_get (x ∷ xs)) z)
 
 -- an entry that isn't cut is the cell's
-entry_of_cell : (log es : List Entry) (cut p : ℕ) (e : Entry) → log ≡ drop cut es → cut ≤ p → slice_get log (p - cut) ≡ Some e → slice_get es p ≡ Some e
+pub entry_of_cell : (log es : List Entry) (cut p : ℕ) (e : Entry) → log ≡ drop cut es → cut ≤ p → slice_get log (p - cut) ≡ Some e → slice_get es p ≡ Some e
 entry_of_cell log es cut p e is low h =
     let at : cut + (p - cut) ≡ p = omega arith in
     sym (ap (slice_get es) at) ∙ (sym (get_drop es cut (p - cut)) ∙ (ap (λ l. slice_get l (p - cut)) (sym is) ∙ h))
@@ -64,19 +64,24 @@ get_back [] ys k l = absurd (omega arith)
 get_back (x ∷ xs) ys zero l = refl
 get_back (x ∷ xs) ys (suc k) l = get_back xs ys k (omega arith)
 
-below_end : (pos n : ℕ) (o : Option ℕ) → o ≡ Some n → IfSome o (λ end. pos < end) → pos < n
+pub below_end : (pos n : ℕ) (o : Option ℕ) → o ≡ Some n → IfSome o (λ end. pos < end) → pos < n
 below_end pos n o e h = subst (λ x. IfSome x (λ end. pos < end)) e h
 
--- what a cell holds at the place of a known position stands in the log
-there : (cells : ℕ) (w : State) (v known pos id index : ℕ) (c : Chain) (e : Entry) → StateOk cells w → GoesBy w v c known → pos < known → Place w c pos id index → (index < length (entries w.cells id) → slice_get (entries w.cells id) index ≡ Some e) → Stands w pos e
-there cells w v known pos id index c e ok g low p h =
-    ⊎_elim
-    (λ (y : x ≡ last_of_segments c.segments).
+-- a known position is one that the answers of the last loglet reach
+pub reached_by : (w : State) (v known pos id index : ℕ) (c : Chain) → GoesBy w v c known → pos < known → (p : Place w c pos id index) → p.segment ≡ last_of_segments c.segments → index < reach w.cells id
+reached_by w v known pos id index c g low p y =
     let start_is = ap (λ (s : Segment). s.start) y in
     let id_now : (last_segment c).id ≡ id = sym (ap (λ (s : Segment). s.id) y) ∙ p.id_is in
-    let far : index < reach w.cells id = omega (arith, g.reached, start_is, p.at, ap (reach w.cells) id_now) in
+    omega (arith, g.reached, start_is, p.at, ap (reach w.cells) id_now)
+
+-- what a cell holds at the place of a position of a chain that was given stands in the log
+pub there : (cells : ℕ) (w : State) (v pos id index : ℕ) (c : Chain) (e : Entry) → StateOk cells w → w.register.given v ≡ Some c → (p : Place w c pos id index) → (p.segment ≡ last_of_segments c.segments → index < reach w.cells id) → (index < length (entries w.cells id) → slice_get (entries w.cells id) index ≡ Some e) → Stands w pos e
+there cells w v pos id index c e ok was p far h =
+    ⊎_elim
+    (λ (y : x ≡ last_of_segments c.segments).
     let cell = ok.cell id in
-    subst (λ n. Stands w n e) p.at (reached_stands cells w id x.start index e ok p.started far (h (omega (arith, cell.reach, cell.firm)))))
+    let low = far y in
+    subst (λ n. Stands w n e) p.at (reached_stands cells w id x.start index e ok p.started low (h (omega (arith, cell.reach, cell.firm)))))
     (λ (y : (t : ℕ) × (x.end ≡ Some (x.start + t)) × Contains (ends w.cells x.id) t). closed y)
     (closed_or_last (ends w.cells) given.id given.from c.segments x given.joined p.in_chain)
   where
@@ -84,7 +89,7 @@ there cells w v known pos id index c e ok g low p h =
     x = p.segment
 
     given : Given (ends w.cells) w.starts w.register.chain c
-    given = ok.olds v c g.given
+    given = ok.olds v c was
 
     closed : (t : ℕ) × (p.segment.end ≡ Some (p.segment.start + t)) × Contains (ends w.cells p.segment.id) t → Stands w pos e
     closed y = by_test (nat_lt pos (trim_of w)) refl
@@ -105,7 +110,7 @@ there cells w v known pos id index c e ok g low p h =
             (entry_in-inside (reach w.cells) (entries w.cells) (ends w.cells) ok.id ok.from w.register.chain.segments p.segment pos ok.joined z p.holds.above (omega (arith, end, ends_at))
             ∙ (ap (λ n. slice_get (entries w.cells p.segment.id) n) place ∙ (ap (λ k. slice_get (entries w.cells k) index) p.id_is ∙ h short)))))
             (λ (z : p.segment.start + y.0 ≤ trim_of w). absurd (omega (arith, end, up)))
-            ((ok.olds v c g.given).closed p.segment (p.segment.start + y.0) p.in_chain y.1)
+            (given.closed p.segment (p.segment.start + y.0) p.in_chain y.1)
 
 module _ (may : ℕ → Entry → Type 0) (floor : List Entry → ℕ) (shelf : List ℕ) where
   pub got_ok : (who : ℕ) (old mid new : List Event) (v known pos id index t : ℕ) (c : Chain) (e : Entry) → IsLegal may floor shelf old → GoesBy (state_of old) v c known → pos < known → Place (state_of old) c pos id index → (first : Later may floor shelf old mid) → Later may floor shelf mid new → (o : Opened who old id (Read index) t mid) → Answered who mid id t (started ((state_of (old ++ o.first.others)).cells id).told (Read index)) (Got e) new → Stands (state_of old) pos e
@@ -115,7 +120,7 @@ module _ (may : ℕ → Entry → Type 0) (floor : List Entry → ℕ) (shelf : 
       let cell = m.answer_ok.cell id in
       let got = entry_of_cell ((state_of x.moment).cells id).told.log (entries (state_of x.moment).cells id) ((state_of x.moment).cells id).told.cut index e cell.log x.may.0 x.may.2 in
       let more = (on.cell id).longer in
-      there (length shelf) (state_of old) v known pos id index c e (sound may floor shelf old legal) g low p
+      there (length shelf) (state_of old) v pos id index c e (sound may floor shelf old legal) g.given p (reached_by (state_of old) v known pos id index c g low p)
       (λ short. sym (get_back (entries (state_of old).cells id) more.0 index short) ∙ (ap (λ l. slice_get l index) (sym more.1) ∙ got))
 
   pub cut_ok : (who : ℕ) (old mid new : List Event) (pos id index t n : ℕ) (c : Chain) → IsLegal may floor shelf old → Place (state_of old) c pos id index → (first : Later may floor shelf old mid) → Later may floor shelf mid new → (o : Opened who old id (Read index) t mid) → Answered who mid id t (started ((state_of (old ++ o.first.others)).cells id).told (Read index)) (CutAt n) new → pos < trim_of (state_of new)

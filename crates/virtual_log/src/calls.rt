@@ -8,6 +8,7 @@ ghost use Rattle.virtual_log.specs.Turning.{Later, IsAbove};
 ghost use Rattle.virtual_log.specs.Causes.{HasCause};
 ghost use Rattle.virtual_log.specs.Log.{GoesBy};
 ghost use Rattle.virtual_log.specs.Next.{IsNext};
+ghost use Rattle.virtual_log.specs.Holding.{Holds, Reads};
 
 use crate::fault::Fault;
 use crate::operation::{FoundTail, append_to, find_tail};
@@ -48,6 +49,7 @@ pub fn append_on<T: Turns, C: Chooser>(
     ensures who { T.who turns.new ≡ T.who turns.old }
     ensures goes_by { GoesBy (state_of (T.seen turns.new)) known.new.version known.new.chain known.new.tail }
     ensures stands { IfOk result (λ pos. Stands (state_of (T.seen turns.new)) pos entry.now) }
+    ensures held { IfOk result (λ pos. Holds (T.seen turns.new) pos entry.now) }
     ensures above { IfOk result (λ pos. IsAbove (T.who turns.old) (T.seen turns.old) pos (T.seen turns.new)) }
     ensures known { IfOk result (λ pos. known.new.tail ≡ max known.old.tail (pos + 1)) }
     ensures unknown { OnErr result (known.new.tail ≡ known.old.tail) }
@@ -80,6 +82,7 @@ pub fn tail_on<T: Turns, C: Chooser>(
     ensures goes_by { GoesBy (state_of (T.seen turns.new)) known.new.version known.new.chain known.new.tail }
     ensures within { IfOk result (λ tail. tail ≤ tail_of (state_of (T.seen turns.new))) }
     ensures above { IfOk result (λ tail. IsAbove (T.who turns.old) (T.seen turns.old) tail (T.seen turns.new)) }
+    ensures forward { IfOk result (λ tail. known.old.tail ≤ tail) }
     ensures known { IfOk result (λ tail. known.new.tail ≡ max known.old.tail tail) }
     ensures unknown { OnErr result (known.new.tail ≡ known.old.tail) }
     ensures err { IfErr result (λ fault. HasCause (T.who turns.old) (T.seen turns.old) fault (T.seen turns.new)) }
@@ -121,6 +124,7 @@ fn read_at<T: Turns, C: Chooser>(
     ensures later { Later T.Law.may T.Law.floor T.Law.shelf (T.seen turns.old) (T.seen turns.new) }
     ensures who { T.who turns.new ≡ T.who turns.old }
     ensures found { IfOk result (λ o. IfSome o (λ e. Stands (state_of (T.seen turns.old)) pos e)) }
+    ensures held { IfOk result (λ o. IfSome o (λ e. Holds (T.seen turns.new) pos e)) }
     ensures cut { IfOk result (λ o. IfNone o (pos < trim_of (state_of (T.seen turns.new)))) }
     ensures err { IfErr result (λ fault. HasCause (T.who turns.old) (T.seen turns.old) fault (T.seen turns.new)) }
 {
@@ -153,6 +157,7 @@ pub fn read_from<T: Turns, C: Chooser>(
     ensures goes_by { GoesBy (state_of (T.seen turns.new)) known.new.version known.new.chain known.new.tail }
     ensures known { known.new.tail ≡ known.old.tail }
     ensures next { IfOk result (IsNext (T.seen turns.old) (T.seen turns.new) min m known.new.chain.trim) }
+    ensures reads { IfOk result (Reads Holds (T.seen turns.new) min m) }
     ensures err { IfErr result (λ fault. HasCause (T.who turns.old) (T.seen turns.old) fault (T.seen turns.new)) }
 {
     'trim: loop {

@@ -4,6 +4,7 @@
 //! - `log`: the virtual log.
 //! - `calls`: its calls, each over as many turns as it takes.
 //! - `rest`: a virtual log between two times at which it has turns.
+//! - `held`: what a log holds, for good.
 //! - `fault`: why a call failed.
 //! - `turn`: single turns.
 //! - `operation`: one operation on one loglet of the chain, from its begin to its answer.
@@ -12,12 +13,13 @@
 //! - `truncate`: the trim is raised, and the loglets let go of what lies below it.
 //!
 //! The definitions stand in `specs/`: `Turning` (what turns bring), `Causes` (the cause of each fault), `Log` (what a
-//! virtual log shows, and what its answers say).
+//! virtual log shows), `Next` and `Holding` (what its reads say), `Extending` and `Truncating`.
 #![tactic(auto)]
 
 pub mod calls;
 pub mod extend;
 pub mod fault;
+pub mod held;
 pub mod log;
 mod operation;
 mod replace;

@@ -7,6 +7,7 @@ ghost use Rattle.legal_journal.specs.Laws.{Stands};
 ghost use Rattle.virtual_log.specs.Turning.{Later, IsAbove};
 ghost use Rattle.virtual_log.specs.Causes.{HasCause};
 ghost use Rattle.virtual_log.specs.Next.{IsNext};
+ghost use Rattle.virtual_log.specs.Holding.{Holds, Reads};
 ghost use Rattle.virtual_log.specs.Log.{LogView, GoesBy};
 ghost use Rattle.virtual_log.specs.Extending.{IsExtension};
 ghost use Rattle.virtual_log.specs.Truncating.{IsTruncated, IsPrefixTrimmed};
@@ -138,6 +139,9 @@ impl<T: Turns, C: Chooser> VirtualLog<T, C> {
         // it is trimmed there.
         ensures stands { IfOk result (λ pos. Stands (state_of self.new.seen) pos entry.now) }
 
+        // A loglet holds it there, for good, whether the log shows it or was trimmed before.
+        ensures held { IfOk result (λ pos. Holds self.new.seen pos entry.now) }
+
         // The position is above each one, and not below any tail, that was answered before the first
         // event of this call.
         ensures above { IfOk result (λ pos. IsAbove self.old.who self.old.seen pos self.new.seen) }
@@ -168,6 +172,9 @@ impl<T: Turns, C: Chooser> VirtualLog<T, C> {
         // of this call.
         ensures above { IfOk result (λ tail. IsAbove self.old.who self.old.seen tail self.new.seen) }
         ensures known { IfOk result (λ tail. self.new.known ≡ max self.old.known tail) }
+
+        // It isn't below what this value was answered before.
+        ensures forward { IfOk result (λ tail. self.old.known ≤ tail) }
         ensures err { IfErr result (λ fault. HasCause self.old.who self.old.seen fault self.new.seen) }
         ensures unknown { OnErr result (self.new.known ≡ self.old.known) }
     {
@@ -263,6 +270,10 @@ impl<T: Turns, C: Chooser> VirtualLog<T, C> {
 
         // The trim is that of the chain that this value goes by now.
         ensures next { IfOk result (IsNext self.old.seen self.new.seen least (min most self.old.known) self.new.chain.trim) }
+
+        // An entry that is answered is held for good, also where the log was trimmed before it showed it.
+        // `Trimmed`, and an entry further on, come only where `least` is trimmed.
+        ensures reads { IfOk result (Reads Holds self.new.seen least (min most self.old.known)) }
         ensures err { IfErr result (λ fault. HasCause self.old.who self.old.seen fault self.new.seen) }
     {
         let end = most.min(self.known.tail);

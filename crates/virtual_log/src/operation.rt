@@ -1,5 +1,5 @@
 //! One operation on one loglet of the chain, from its begin to its answer.
-ghost use Rattle.std.specs.Prelude.{◌≡◌, ◌<◌, ◌≤◌, ℕ, ◌+◌, length, IfOk, OnOk, IfErr, IfSome, IfNone, Some, Contains, true};
+ghost use Rattle.std.specs.Prelude.{◌≡◌, ◌<◌, ◌≤◌, ℕ, ◌+◌, ◌-◌, length, slice_get, IfOk, OnOk, IfErr, IfSome, IfNone, Some, Contains, true};
 ghost use Rattle.delos_types.specs.Spelling.{IsSpellable};
 ghost use Rattle.legal_journal.specs.Journal.{state_of, IsLegal, tail_of};
 ghost use Rattle.legal_journal.specs.Laws.{Stands};
@@ -33,6 +33,8 @@ pub fn append_to<T: Turns, C: Chooser>(
     ensures retry { IfOk result (λ o. IfNone o (FirstTurn (T.who turns.old) (T.seen turns.old) (T.seen turns.new))) }
     ensures stands { IfOk result (λ o. IfSome o (λ pos. Stands (state_of (T.seen turns.new)) pos entry.now)) }
     ensures above { IfOk result (λ o. IfSome o (λ pos. IsAbove (T.who turns.old) (T.seen turns.old) pos (T.seen turns.new))) }
+    ensures start { IfOk result (λ o. IfSome o (λ pos. segment.start ≤ pos)) }
+    ensures placed { IfOk result (λ o. IfSome o (λ pos. slice_get ((state_of (T.seen turns.new)).cells segment.id).entries (pos - segment.start) ≡ Some entry.now)) }
     ensures reached { IfOk result (λ o. IfSome o (λ pos. pos + 1 ≤ segment.start + ((state_of (T.seen turns.new)).cells segment.id).told.reach)) }
     ensures err { IfErr result (λ fault. HasCause (T.who turns.old) (T.seen turns.old) fault (T.seen turns.new)) }
 {

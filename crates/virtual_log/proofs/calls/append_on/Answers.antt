@@ -1,4 +1,5 @@
-use Rattle.std.proofs.Common.{◌∙◌, ◌+◌, ◌≤◌, IfSome, IfNone, ap, subst, arith}
+use Rattle.std.proofs.Common.{◌≡◌, ◌∙◌, ◌+◌, ◌-◌, ◌≤◌, Some, IfSome, IfNone, ap, subst, arith}
+use Rattle.std.specs.Prelude.{slice_get}
 use Rattle.std.proofs.lemmas.Result.{err_from_is_err_and}
 use Rattle.delos_types.specs.declared.chain.Segment.{Segment}
 use Rattle.legal_journal.specs.Journal.{state_of}
@@ -7,6 +8,7 @@ use Rattle.virtual_log.specs.Causes.{HasCause}
 use Rattle.virtual_log.proofs.OneTurn.{later_trans, cause_since}
 use Rattle.virtual_log.proofs.Appending.{above_since}
 use Rattle.virtual_log.proofs.Going.{last_there, there_later, goes_later, goes_further, reach_fits, goes_behind, fewer}
+use Rattle.virtual_log.proofs.Holding.{placed_held}
 use Rattle.virtual_log.proofs.calls.append_on.Goals as goal
 
 pub append_to-requires-clause-started : goal.append_to-requires-clause-started
@@ -78,6 +80,24 @@ returns-in-Some-clause-above g c =
     let to_mid = c.in_ok-position.ensures.later in
     let up = subst (λ o. IfSome o (λ pos. IsAbove (t.who l.turns) now pos mid)) c.in-Some.is c.in_ok-position.ensures.above in
     i.above c.in-Some.position mid to_mid (subst (λ w. IsAbove w now c.in-Some.position mid) i.who up)
+
+pub returns-in-Some-clause-held : goal.returns-in-Some-clause-held
+returns-in-Some-clause-held g c =
+    let p = g.T.Law.Rules in
+    let t = g.T.Turns in
+    let l = c.segment in
+    let i = l.invariant in
+    let k = l.known in
+    let now = t.seen l.turns in
+    let last = c.last_of-last.result in
+    let there = last_there p.may p.floor p.shelf now k.version k.tail k.chain last i.later.legal i.goes_by c.last_of-last.ensures in
+    let mid = t.seen c.append_to.new.turns in
+    let to_mid = c.in_ok-position.ensures.later in
+    let made = c.in_ok-position.ensures in
+    let low = subst (λ o. IfSome o (λ pos. pos + 1 ≤ last.start + ((state_of mid).cells last.id).told.reach)) c.in-Some.is made.reached in
+    let up = subst (λ o. IfSome o (λ pos. last.start ≤ pos)) c.in-Some.is made.start in
+    let placed = subst (λ o. IfSome o (λ pos. slice_get ((state_of mid).cells last.id).entries (pos - last.start) ≡ Some c.args.entry.now)) c.in-Some.is made.placed in
+    placed_held p.may p.floor p.shelf mid k.version k.tail c.in-Some.position k.chain last c.args.entry.now to_mid.legal (goes_later p.may p.floor p.shelf now mid k.version k.tail k.chain to_mid i.goes_by) c.last_of-last.ensures up low placed
 
 pub chain_behind-requires-clause-started : goal.chain_behind-requires-clause-started
 chain_behind-requires-clause-started g c =

@@ -10,6 +10,7 @@ use Rattle.virtual_log.specs.declared.fault.Fault.TheVariants as fault
 use Rattle.virtual_log.proofs.OneTurn.{own_by, lack_cause, cause_since}
 use Rattle.virtual_log.proofs.Appending.{may_read, started_within}
 use Rattle.virtual_log.proofs.Reading.{place_of, got_ok, cut_ok}
+use Rattle.virtual_log.proofs.Holding.{got_held}
 use Rattle.virtual_log.proofs.calls.read_at.Goals as goal
 
 pub locate-requires : goal.locate-requires
@@ -63,6 +64,25 @@ returns-in-Got-clause-found g c =
     let x = subst (λ (a : Answer). Answered who mid id c.in_ok-ticket.ticket r a new) c.in-Got.is
     (subst (λ w. Answered w mid id c.in_ok-ticket.ticket r c.in_ok-entry.field-0 new) c.in_ok-ticket.ensures.who (c.in_ok-entry.ensures.ok r (own_by _ _ _ _ _ c.in_ok-ticket.ensures.who o.own))) in
     got_ok p.may p.floor p.shelf who old mid new k.version k.tail c.args.pos id index c.in_ok-ticket.ticket k.chain c.in-Got.entry c.requires.legal c.requires.goes_by c.requires.tail place c.in_ok-ticket.ensures.later c.in_ok-entry.ensures.later o x
+
+pub returns-in-Got-clause-held : goal.returns-in-Got-clause-held
+returns-in-Got-clause-held g c =
+    let p = g.T.Law.Rules in
+    let t = g.T.Turns in
+    let k = c.args.known.now in
+    let old = t.seen c.args.turns.now in
+    let ok = sound p.may p.floor p.shelf old c.requires.legal in
+    let id = c.in-Inside.id in
+    let index = c.in-Inside.index in
+    let place = place_of (length p.shelf) (state_of old) k.version c.args.pos id index k.chain ok c.requires.goes_by.given c.in-Inside.ensures in
+    let who = t.who c.args.turns.now in
+    let mid = t.seen c.begin.new.turns in
+    let new = t.seen c.carry_on.new.turns in
+    let o = c.in_ok-ticket.ensures.ok in
+    let r = started ((state_of (old ++ o.first.others)).cells id).told (Read index) in
+    let x = subst (λ (a : Answer). Answered who mid id c.in_ok-ticket.ticket r a new) c.in-Got.is
+    (subst (λ w. Answered w mid id c.in_ok-ticket.ticket r c.in_ok-entry.field-0 new) c.in_ok-ticket.ensures.who (c.in_ok-entry.ensures.ok r (own_by _ _ _ _ _ c.in_ok-ticket.ensures.who o.own))) in
+    got_held p.may p.floor p.shelf who old mid new k.version k.tail c.args.pos id index c.in_ok-ticket.ticket k.chain c.in-Got.entry c.requires.legal c.requires.goes_by c.requires.tail place c.in_ok-ticket.ensures.later c.in_ok-entry.ensures.later o x
 
 pub returns-in-CutAt-clause-cut : goal.returns-in-CutAt-clause-cut
 returns-in-CutAt-clause-cut g c =

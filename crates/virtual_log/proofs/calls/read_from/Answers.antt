@@ -1,7 +1,9 @@
-use Rattle.std.proofs.Common.{◌∙◌, ◌<◌, subst, IfNone, arith}
+use Rattle.std.proofs.Common.{◌∙◌, ◌<◌, subst, IfNone, IfSome, arith}
 use Rattle.legal_journal.specs.Journal.{state_of, trim_of}
 use Rattle.virtual_log.proofs.OneTurn.{later_trans, later_continues}
 use Rattle.virtual_log.proofs.Going.{goes_later, goes_now, trim_now}
+use Rattle.virtual_log.specs.Holding.{Holds}
+use Rattle.virtual_log.proofs.Holding.{reads_found}
 use Rattle.virtual_log.proofs.calls.read_from.Goals as goal
 
 pub returns-in_err-entry-clause-goes_by : goal.returns-in_err-entry-clause-goes_by
@@ -25,6 +27,19 @@ returns-in-Some-clause-goes_by g c =
     let now = t.seen l.turns in
     let mid = t.seen c.read_at.new.turns in
     goes_later p.may p.floor p.shelf now mid k.version k.tail k.chain c.in_ok-entry.ensures.later i.goes_by
+
+pub returns-in-Some-clause-reads : goal.returns-in-Some-clause-reads
+returns-in-Some-clause-reads g c =
+    let p = g.T.Law.Rules in
+    let t = g.T.Turns in
+    let l = c.trim in
+    let i = l.invariant in
+    let k = l.known in
+    let now = t.seen l.turns in
+    let mid = t.seen c.read_at.new.turns in
+    let goes = goes_later p.may p.floor p.shelf now mid k.version k.tail k.chain c.in_ok-entry.ensures.later i.goes_by in
+    let held = subst (λ o. IfSome o (λ e. Holds mid c.max-pos.result e)) c.in-Some.is c.in_ok-entry.ensures.held in
+    (c.requires.some, reads_found p.may p.floor p.shelf mid k.version k.tail c.args.min c.max-pos.result k.chain goes c.max-pos.ensures, held)
 
 pub returns-in_err-version-clause-goes_by : goal.returns-in_err-version-clause-goes_by
 returns-in_err-version-clause-goes_by g c =

@@ -7,6 +7,7 @@ use Rattle.virtual_log.specs.Tails.{IsFound}
 use Rattle.virtual_log.proofs.OneTurn.{later_trans, cause_since}
 use Rattle.virtual_log.proofs.Appending.{above_since}
 use Rattle.virtual_log.proofs.Going.{last_there, there_later, goes_later, goes_further, goes_behind, fewer}
+use Rattle.virtual_log.proofs.Holding.{above_known}
 use Rattle.virtual_log.proofs.calls.tail_on.Goals as goal
 
 pub find_tail-requires-clause-started : goal.find_tail-requires-clause-started
@@ -63,6 +64,22 @@ returns-in-Open-clause-above g c =
     let to_mid = c.in_ok-tail.ensures.later in
     let found = subst (IsFound (t.who l.turns) now last mid) c.in-Open.is c.in_ok-tail.ensures.found in
     i.above c.in-Open.tail mid to_mid (subst (λ w. IsAbove w now c.in-Open.tail mid) i.who found.1)
+
+pub returns-in-Open-clause-forward : goal.returns-in-Open-clause-forward
+returns-in-Open-clause-forward g c =
+    let p = g.T.Law.Rules in
+    let t = g.T.Turns in
+    let l = c.segment in
+    let i = l.invariant in
+    let k = l.known in
+    let now = t.seen l.turns in
+    let last = c.last_of-last.result in
+    let there = last_there p.may p.floor p.shelf now k.version k.tail k.chain last i.later.legal i.goes_by c.last_of-last.ensures in
+    let mid = t.seen c.find_tail.new.turns in
+    let to_mid = c.in_ok-tail.ensures.later in
+    let found = subst (IsFound (t.who l.turns) now last mid) c.in-Open.is c.in_ok-tail.ensures.found in
+    above_known p.may p.floor p.shelf (t.who c.args.turns.now) (t.seen c.args.turns.now) mid c.args.known.now.version c.args.known.now.tail c.in-Open.tail c.args.known.now.chain c.requires.legal to_mid.legal c.requires.goes_by
+    (i.above c.in-Open.tail mid to_mid (subst (λ w. IsAbove w now c.in-Open.tail mid) i.who found.1))
 
 pub chain_behind-requires-clause-started : goal.chain_behind-requires-clause-started
 chain_behind-requires-clause-started g c =

@@ -1,11 +1,11 @@
-use Rattle.std.proofs.Common.{◌≡◌, ◌+◌, ◌<◌, ◌∙◌, [], length, refl, sym, ap, subst, arith}
+use Rattle.std.proofs.Common.{◌≡◌, ◌+◌, ◌<◌, ◌∙◌, [], length, refl, ap, subst, arith}
 use Rattle.std.proofs.lemmas.Result.{err_from_is_err_and}
 use Rattle.delos_types.specs.declared.chain.Segment.{Segment}
 use Rattle.chain_map.specs.Chain.{last_segment}
 use Rattle.virtual_log.specs.Causes.{HasCause}
 use Rattle.virtual_log.specs.Extending.{IsClosed}
 use Rattle.virtual_log.proofs.OneTurn.{nil, later_trans, cause_since}
-use Rattle.virtual_log.proofs.Going.{last_there, there_later, goes_later, goes_now, last_within}
+use Rattle.virtual_log.proofs.Going.{last_there, goes_later, goes_now, last_within}
 use Rattle.virtual_log.proofs.Closing.{closed_since, follows_closed}
 use Rattle.virtual_log.proofs.extend.extend_on.Goals as goal
 

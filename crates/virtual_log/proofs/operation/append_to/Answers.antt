@@ -1,4 +1,5 @@
-use Rattle.std.proofs.Common.{◌+◌, ◌++◌, sym, subst, arith}
+use Rattle.std.proofs.Common.{◌≡◌, ◌+◌, ◌-◌, ◌++◌, Some, sym, subst, arith}
+use Rattle.std.specs.Prelude.{slice_get}
 use Rattle.delos_types.specs.declared.entry.Entry.{Entry}
 use Rattle.delos_types.specs.Spelling.{IsSpellable}
 use Rattle.loglet_api.specs.declared.call.Op.TheVariants.{Append}
@@ -83,6 +84,21 @@ returns-in-Placed-clause-reached g c =
     (subst (λ k. Answered k mid c.args.segment.id c.in_ok-ticket.ticket r c.in_ok-place.field-0 new) c.in_ok-ticket.ensures.who (c.in_ok-place.ensures.ok r (own_by _ _ _ _ _ c.in_ok-ticket.ensures.who o.own))) in
     (placed_ok p.may p.floor p.shelf who (t.seen c.args.turns.now) mid new c.args.segment.id c.args.segment.start c.in_ok-ticket.ticket c.in-Placed.place c.in_ok-copy.copy
     c.requires.legal c.requires.started c.in_ok-ticket.ensures.later c.in_ok-place.ensures.later o x).reached
+
+pub returns-in-Placed-clause-placed : goal.returns-in-Placed-clause-placed
+returns-in-Placed-clause-placed g c =
+    let p = g.T.Law.Rules in
+    let t = g.T.Turns in
+    let who = t.who c.args.turns.now in
+    let mid = t.seen c.begin.new.turns in
+    let new = t.seen c.carry_on.new.turns in
+    let o = c.in_ok-ticket.ensures.ok in
+    let r = started ((state_of (t.seen c.args.turns.now ++ o.first.others)).cells c.args.segment.id).told (Append c.in_ok-copy.copy) in
+    let x = subst (λ (a : Answer). Answered who mid c.args.segment.id c.in_ok-ticket.ticket r a new) c.in-Placed.is
+    (subst (λ k. Answered k mid c.args.segment.id c.in_ok-ticket.ticket r c.in_ok-place.field-0 new) c.in_ok-ticket.ensures.who (c.in_ok-place.ensures.ok r (own_by _ _ _ _ _ c.in_ok-ticket.ensures.who o.own))) in
+    let k = placed_ok p.may p.floor p.shelf who (t.seen c.args.turns.now) mid new c.args.segment.id c.args.segment.start c.in_ok-ticket.ticket c.in-Placed.place c.in_ok-copy.copy
+    c.requires.legal c.requires.started c.in_ok-ticket.ensures.later c.in_ok-place.ensures.later o x in
+    subst (λ (e : Entry). slice_get ((state_of new).cells c.args.segment.id).entries (c.args.segment.start + c.in-Placed.place - c.args.segment.start) ≡ Some e) c.in_ok-copy.ensures.cases k.there
 
 pub returns-in-Sealed-clause-sealed : goal.returns-in-Sealed-clause-sealed
 returns-in-Sealed-clause-sealed g c =

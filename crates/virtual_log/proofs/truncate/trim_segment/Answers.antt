@@ -1,9 +1,9 @@
-use Rattle.std.proofs.Common.{◌≡◌, ◌++◌, ◌<◌, ap, subst, arith}
+use Rattle.std.proofs.Common.{◌++◌, subst, arith}
 use Rattle.loglet_api.specs.declared.call.Op.TheVariants.{Trim}
 use Rattle.loglet_api.specs.declared.call.Answer.{Answer}
 use Rattle.legal_journal.specs.Told.{started}
 use Rattle.legal_journal.specs.Journal.{state_of}
-use Rattle.virtual_log.specs.Turning.{Answered, HasEvent}
+use Rattle.virtual_log.specs.Turning.{Answered}
 use Rattle.virtual_log.specs.Truncating.{IsTrimOf}
 use Rattle.virtual_log.specs.declared.fault.Fault.TheVariants as fault
 use Rattle.virtual_log.proofs.OneTurn.{own_by, lack_cause, cause_since, event_until}
