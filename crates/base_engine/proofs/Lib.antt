@@ -2,4 +2,3 @@ pub mod Following
 pub mod Settling
 pub mod Proposing
 pub mod Whole
-pub mod Landing

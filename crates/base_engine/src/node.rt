@@ -1,7 +1,7 @@
 //! A node.
-ghost use Rattle.std.specs.Prelude.{◌≡◌, ◌≢◌, ◌<◌, ◌^◌, ◌≤◌, ◌+◌, ℕ, List, None, Some, [], ◌∷◌, ◌++◌, false, IfOk, OnOk, OnErr, IfErr, length};
+ghost use Rattle.std.specs.Prelude.{◌≡◌, ◌≢◌, ◌≤◌, ◌+◌, ℕ, List, None, Some, [], ◌∷◌, ◌++◌, false, IfOk, OnOk, OnErr, IfErr, length};
 ghost use Rattle.disk_model.specs.Crash.{AnyCrash};
-ghost use Rattle.engine_api.specs.Packing.{IsProposable, packed, trim_item};
+ghost use Rattle.engine_api.specs.Packing.{IsProposable, packed};
 ghost use Rattle.engine_steps.specs.Layout as layout;
 ghost use Rattle.legal_journal.specs.Journal.{IsLegal};
 ghost use Rattle.virtual_log.specs.Turning.{Later, IsAbove};
@@ -12,7 +12,7 @@ ghost use Rattle.base_engine.specs.Settling.{view_of, Settled, Answers, Failing,
 ghost use Rattle.base_engine.specs.Proposing.{Sent, Proposed, Refused};
 ghost use Rattle.base_engine.specs.Node.{NodeView, NodeOk, Keeps};
 ghost use Rattle.base_engine.specs.Reading.{IsExtendedBy};
-ghost use Rattle.base_engine.specs.Trimming.{least_of, IsFloor, ShowsAll, Trims};
+ghost use Rattle.base_engine.specs.Trimming.{least_of, IsFloor};
 
 use crate::fault::Fault;
 use crate::outbox::{Outbox, cause_of};

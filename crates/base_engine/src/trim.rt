@@ -1,29 +1,16 @@
-//! The log goes on in its next loglet, and is trimmed up to where no member needs it.
-ghost use Rattle.std.specs.Prelude.{◌≡◌, ◌≢◌, ◌<◌, ◌≤◌, ◌^◌, ℕ, [], ◌∷◌, ◌++◌, None, All, length, min, unwrap_or, IfOk, IfErr, OnOk};
+//! The log goes on in its next loglet, and how far it may be trimmed.
+ghost use Rattle.std.specs.Prelude.{◌≡◌, ◌≤◌, ℕ, length, min, unwrap_or, IfOk, IfErr};
 ghost use Rattle.std.specs.Option.{option_map};
-ghost use Rattle.disk_model.specs.Crash.{AnyCrash};
-ghost use Rattle.engine_api.specs.Packing.{IsProposable, packed, trim_item};
-ghost use Rattle.engine_steps.specs.Words.{under};
-ghost use Rattle.legal_journal.specs.Journal.{IsLegal};
 ghost use Rattle.virtual_log.specs.Turning.{Later};
-ghost use Rattle.replica_api.specs.Replica.{SpellsOne};
 ghost use Rattle.base_engine.specs.Causes.{Blames};
 ghost use Rattle.base_engine.specs.Reading.{IsExtendedBy};
-ghost use Rattle.base_engine.specs.Following.{Follows, IsKnown, IsFound};
-ghost use Rattle.base_engine.specs.Settling.{view_of, MaySend};
-ghost use Rattle.base_engine.specs.Trimming.{least_of, IsFloor, ShowsAll, IsLeastAtTail, HasLanded, TrimsBelow, Trims};
+ghost use Rattle.base_engine.specs.Trimming.{least_of};
 
 use crate::fault::{Fault, told};
-use crate::outbox::Outbox;
-use crate::play::{play, sync};
-use crate::propose::{flush, propose};
-use crate::settle::settle_all;
 use crate::shared_log::SharedLog;
-use delos_types::item::Item;
 use delos_types::numbers::NodeId;
-use engine_api::pack::trim_item;
 use replica_api::replica::Replica;
-use std::alloc::{AllocError, Global};
+use std::alloc::AllocError;
 use virtual_log::extend::Extension;
 
 /// The least of the positions that the members among the nodes 1 to `nodes` reported, 0 where none is a member.
