@@ -8,18 +8,31 @@ use Rattle.legal_journal.specs.Journal.{IsLegal}
 use Rattle.virtual_log.specs.Turning.{Later}
 use Rattle.replica_api.specs.Replica.{Saved, ReplicaView}
 use Rattle.base_engine.specs.Following.{Follows, IsKnown}
+use Rattle.base_engine.specs.Trimming.{IsFloor}
 use Rattle.base_engine.specs.Settling.{OutboxView, MaySend}
 
--- by whom its events are, the journal as far as it was seen, how much of the log it knows, its replica, and what it has
--- sent down and not settled
+-- by whom its events are, how many nodes there are, the journal as far as it was seen, how much of the log it knows, its
+-- replica, and what it has sent down and not settled
 pub record NodeView : Type 0 where
   pub who : ℕ
+  pub nodes : ℕ
   pub seen : List Event
   pub known : ℕ
   pub replica : ReplicaView
   pub outbox : OutboxView
 
+-- what is left of it without its log
+pub record RestedView : Type 0 where
+  pub nodes : ℕ
+  pub replica : ReplicaView
+  pub outbox : OutboxView
+
+abbrev pub awake : RestedView → ℕ → List Event → ℕ → NodeView
+awake r who seen known = record { who = who; nodes = r.nodes; seen = seen; known = known; replica = r.replica; outbox = r.outbox }
+
 pub record NodeOk (may : ℕ → Entry → Type 0) (floor : List Entry → ℕ) (shelf : List ℕ) (holds : List Event → ℕ → Entry → Type 0) (state : List Entry → SpaceMap → Type 0) (spells : List ℕ → Saved → Type 0) (n : NodeView) : Type 0 where
+  pub eight : n.nodes ≤ 8
+  pub floor_is : IsFloor state floor n.nodes
   pub legal : IsLegal may floor shelf n.seen
   pub follows : Follows holds state spells n.seen n.replica
   pub bounded : IsKnown n.known n.replica
@@ -30,6 +43,7 @@ pub record NodeOk (may : ℕ → Entry → Type 0) (floor : List Entry → ℕ) 
 -- What each call keeps: who it is, what was seen, and that the cursor never falls.
 pub record Keeps (may : ℕ → Entry → Type 0) (floor : List Entry → ℕ) (shelf : List ℕ) (old new : NodeView) : Type 0 where
   pub who : new.who ≡ old.who
+  pub nodes : new.nodes ≡ old.nodes
   pub origin : new.replica.origin ≡ old.replica.origin
   pub later : Later may floor shelf old.seen new.seen
   pub forward : old.replica.cursor ≤ new.replica.cursor

@@ -6,6 +6,8 @@ pub mod node;
 pub mod outbox;
 pub mod play;
 pub mod propose;
+pub mod rest;
 mod sessions;
 pub mod settle;
 pub mod shared_log;
+pub mod trim;

@@ -1,5 +1,5 @@
 //! A node.
-ghost use Rattle.std.specs.Prelude.{◌≡◌, ◌≢◌, ◌≤◌, ◌+◌, ℕ, List, None, Some, [], ◌∷◌, ◌++◌, false, IfOk, OnOk, OnErr, IfErr};
+ghost use Rattle.std.specs.Prelude.{◌≡◌, ◌≢◌, ◌≤◌, ◌+◌, ℕ, List, None, Some, [], ◌∷◌, ◌++◌, false, IfOk, OnOk, OnErr, IfErr, length};
 ghost use Rattle.disk_model.specs.Crash.{AnyCrash};
 ghost use Rattle.engine_api.specs.Packing.{IsProposable, packed};
 ghost use Rattle.engine_steps.specs.Layout as layout;
@@ -10,14 +10,18 @@ ghost use Rattle.base_engine.specs.Following.{Follows, IsFound, Reaches, IsAt};
 ghost use Rattle.replica_api.specs.Replica.{SpellsOne, Survives, Flushes};
 ghost use Rattle.base_engine.specs.Settling.{view_of, Settled, Answers, Failing, cause_in};
 ghost use Rattle.base_engine.specs.Proposing.{Sent, Proposed, Refused};
-ghost use Rattle.base_engine.specs.Node.{NodeView, Keeps};
+ghost use Rattle.base_engine.specs.Node.{NodeView, NodeOk, Keeps};
+ghost use Rattle.base_engine.specs.Reading.{IsExtendedBy};
+ghost use Rattle.base_engine.specs.Trimming.{least_of, IsFloor};
 
 use crate::fault::Fault;
 use crate::outbox::{Outbox, cause_of};
 use crate::play::{play, restore, sync};
 use crate::propose::{flush, propose};
+use crate::rest::Rested;
 use crate::settle::settle_all;
 use crate::shared_log::SharedLog;
+use crate::trim::{extend, least};
 use delos_types::bytes::Bytes;
 use delos_types::cause::Cause;
 use delos_types::item::Item;
@@ -26,15 +30,17 @@ use engine_steps::layout::Kept;
 use replica_api::replica::Replica;
 use std::alloc::{AllocError, Global};
 use std::marker::Model;
+use virtual_log::extend::Extension;
 
 /// A node: the log that it shares with others, its replica, and what it has sent down and not settled.
 ///
 /// Its replica has the state of the log's first `cursor` entries, after any crash too. At most 4 entries are outstanding.
 pub struct Node<L: SharedLog, R: Replica> {
-    alloc: Global,
-    log: L,
-    replica: R,
-    outbox: Outbox,
+    pub(crate) alloc: Global,
+    pub(crate) log: L,
+    pub(crate) replica: R,
+    pub(crate) outbox: Outbox,
+    pub(crate) nodes: u8,
 }
 
 impl<L: SharedLog, R: Replica> Model for Node<L, R> {
@@ -47,21 +53,25 @@ impl<L: SharedLog, R: Replica> Model for Node<L, R> {
 
     ghost coded = { Prim.hlevel (codes, space_code) };
 
-    ghost view = { λ n. record { who = L.who n.log; seen = L.seen n.log; known = L.reaches n.log; replica = R.shows n.replica; outbox = view_of n.outbox } };
+    ghost view = { λ n. record { who = L.who n.log; nodes = n.nodes; seen = L.seen n.log; known = L.reaches n.log; replica = R.shows n.replica; outbox = view_of n.outbox } };
 
-    ghost invariant = { λ n. NodeOk L.Law.may L.Law.floor L.Law.shelf L.holds R.state R.spells (record { who = L.who n.log; seen = L.seen n.log; known = L.reaches n.log; replica = R.shows n.replica; outbox = view_of n.outbox }) };
+    ghost invariant = { λ n. NodeOk L.Law.may L.Law.floor L.Law.shelf L.holds R.state R.spells (record { who = L.who n.log; nodes = n.nodes; seen = L.seen n.log; known = L.reaches n.log; replica = R.shows n.replica; outbox = view_of n.outbox }) };
 }
 
 impl<L: SharedLog, R: Replica> Node<L, R> {
-    /// A node whose replica has applied nothing. Makes no event, and takes no memory.
-    pub fn new(alloc: Global, log: L, replica: R) -> Self
+    /// One of so many nodes, whose replica has applied nothing. Makes no event, and takes no memory.
+    pub fn new(alloc: Global, nodes: u8, log: L, replica: R) -> Self
+        requires nodes { nodes ≤ 8 }
+
+        // The log's rules allow a trim up to the least position of a member.
+        requires floor { IsFloor R.state L.Law.floor nodes }
         requires legal { IsLegal L.Law.may L.Law.floor L.Law.shelf (L.seen log) }
         requires empty { R.state [] (R.shows replica).contents }
         requires start { (R.shows replica).cursor ≡ 0 }
         requires none_asked { (R.shows replica).asked ≡ None }
         requires nothing_waits { (R.shows replica).kept ≡ [] }
         requires survives { Survives R.spells (R.shows replica) }
-        ensures fresh { result ≡ record { who = L.who log; seen = L.seen log; known = L.reaches log; replica = R.shows replica; outbox = record { entries = []; given = []; unsettled = None } } }
+        ensures fresh { result ≡ record { who = L.who log; nodes = nodes; seen = L.seen log; known = L.reaches log; replica = R.shows replica; outbox = record { entries = []; given = []; unsettled = None } } }
     {
         Node {
             alloc,
@@ -72,6 +82,7 @@ impl<L: SharedLog, R: Replica> Node<L, R> {
                 given: Vec::new(alloc),
                 unsettled: None,
             },
+            nodes,
         }
     }
 
@@ -87,6 +98,7 @@ impl<L: SharedLog, R: Replica> Node<L, R> {
             log,
             replica,
             outbox: _,
+            nodes: _,
         } = self;
         (log, replica)
     }
@@ -135,6 +147,15 @@ impl<L: SharedLog, R: Replica> Node<L, R> {
         ensures follows { Follows L.holds R.state R.spells self.now.seen self.now.replica }
     {
         self.replica.clean()
+    }
+
+    /// The least of the positions that members reported, in the state of the log's first `cursor` entries; 0 where no node
+    /// is a member.
+    pub fn least(&self) -> Result<u64, AllocError>
+        ensures least { IfOk result (λ least. least ≡ least_of self.now.nodes self.now.replica.contents) }
+        ensures follows { Follows L.holds R.state R.spells self.now.seen self.now.replica }
+    {
+        least(&self.replica, self.nodes)
     }
 
     /// Finds a tail of the log, plays up to it, and answers it.
@@ -247,5 +268,42 @@ impl<L: SharedLog, R: Replica> Node<L, R> {
         ensures { self.new ≡ self.old }
     {
         self.replica.stop(after);
+    }
+
+    /// Lets the log go on in its next loglet. Where another does so first, answers `Moved`; where there is no next loglet,
+    /// `NoSpare`, and nothing is sealed.
+    pub fn extend(&mut self) -> Result<Extension, Fault>
+        ensures keeps { Keeps L.Law.may L.Law.floor L.Law.shelf self.old self.new }
+        ensures follows { Follows L.holds R.state R.spells self.new.seen self.new.replica }
+        ensures extension { IfOk result (IsExtendedBy (length L.Law.shelf) self.old.who self.old.seen self.old.known self.new.known self.new.seen) }
+        ensures blames { IfErr result (λ f. Blames self.old.who self.old.seen self.old.replica.faults f self.new.seen self.new.replica.faults) }
+        ensures replica { self.new.replica ≡ self.old.replica }
+        ensures outbox { self.new.outbox ≡ self.old.outbox }
+    {
+        extend(&mut self.log)
+    }
+
+    /// Gives the log out, until `Rested::wake`. Makes no event, and takes no memory.
+    pub fn rest(self) -> (Rested<R>, L)
+        ensures rested { result.0 ≡ record { nodes = self.nodes; replica = self.replica; outbox = self.outbox } }
+        ensures who { L.who result.1 ≡ self.who }
+        ensures seen { L.seen result.1 ≡ self.seen }
+        ensures known { L.reaches result.1 ≡ self.known }
+        ensures ok { NodeOk L.Law.may L.Law.floor L.Law.shelf L.holds R.state R.spells self }
+    {
+        let Node {
+            alloc,
+            log,
+            replica,
+            outbox,
+            nodes,
+        } = self;
+        let rested = Rested {
+            alloc,
+            replica,
+            outbox,
+            nodes,
+        };
+        (rested, log)
     }
 }

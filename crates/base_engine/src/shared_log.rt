@@ -3,13 +3,12 @@ ghost use Rattle.std.specs.Prelude.{◌≡◌, ℕ, ◌+◌, ◌≤◌, min, max
 ghost use Rattle.delos_types.specs.Spelling.{IsSpellable};
 ghost use Rattle.delos_types.specs.declared.entry.Entry.{Entry};
 ghost use Rattle.legal_journal.specs.declared.events.Event.{Event};
-ghost use Rattle.legal_journal.specs.Journal.{state_of, tail_of, IsLegal};
+ghost use Rattle.legal_journal.specs.Journal.{state_of, tail_of, IsFree};
 ghost use Rattle.legal_journal.specs.Laws.{Stands};
 ghost use Rattle.virtual_log.specs.Turning.{Later, IsAbove};
 ghost use Rattle.virtual_log.specs.Causes.{HasCause};
 ghost use Rattle.virtual_log.specs.Truncating.{IsPrefixTrimmed};
-ghost use Rattle.base_engine.specs.Reading.{Reads, Stays};
-ghost use Rattle.base_engine.specs.Trimming.{IsExtendedBy, IsFreeTo};
+ghost use Rattle.base_engine.specs.Reading.{Reads, Stays, IsExtendedBy};
 
 use delos_types::entry::Entry;
 use legal_journal::rules::Rules;
@@ -83,7 +82,7 @@ pub trait SharedLog {
     /// the trim.
     fn prefix_trim(&mut self, n: u64) -> Result<u64, Fault>
         requires known { n ≤ reaches self.old }
-        requires free { IsFreeTo holds Self.Law.floor (seen self.old) n }
+        requires free { IsFree (state_of (seen self.old)).shown Self.Law.floor n }
         ensures later { Later Self.Law.may Self.Law.floor Self.Law.shelf (seen self.old) (seen self.new) }
         ensures who { who self.new ≡ who self.old }
         ensures known { reaches self.new ≡ reaches self.old }

@@ -12,9 +12,9 @@ invariant_of-self g c =
     let t = g.L.SharedLog in
     let r = g.R.Replica in
     let x = c.self.inside in
-    let old : NodeView = record { who = t.who x.log; seen = t.seen x.log; known = t.reaches x.log; replica = r.shows x.replica; outbox = view_of x.outbox } in
-    let new : NodeView = record { who = t.who c.flush.new.log; seen = t.seen c.flush.new.log; known = t.reaches c.flush.new.log; replica = r.shows c.flush.new.replica; outbox = view_of c.flush.new.outbox } in
+    let old : NodeView = record { who = t.who x.log; nodes = x.nodes; seen = t.seen x.log; known = t.reaches x.log; replica = r.shows x.replica; outbox = view_of x.outbox } in
+    let new : NodeView = record { who = t.who c.flush.new.log; nodes = x.nodes; seen = t.seen c.flush.new.log; known = t.reaches c.flush.new.log; replica = r.shows c.flush.new.replica; outbox = view_of c.flush.new.outbox } in
     let e = c.flush.ensures in
     let i = c.self.invariant in
-    ok_waiting p.may p.floor p.shelf t.holds r.state r.spells old new e.later.legal (follows_rest p.may p.floor p.shelf t.holds r.state r.spells g.met.L.SharedLog.stays old.seen new.seen old.replica new.replica e.later e.rest i.follows)
+    ok_waiting p.may p.floor p.shelf t.holds r.state r.spells old new i.eight i.floor_is e.later.legal (follows_rest p.may p.floor p.shelf t.holds r.state r.spells g.met.L.SharedLog.stays old.seen new.seen old.replica new.replica e.later e.rest i.follows)
     (known_rest old.known new.known old.replica new.replica e.known e.rest i.bounded) e.may e.few e.who (ap (λ (v : ReplicaView). v.origin) e.rest) e.waiting

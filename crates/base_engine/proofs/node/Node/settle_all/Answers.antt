@@ -11,9 +11,9 @@ invariant_of-self g c =
     let t = g.L.SharedLog in
     let r = g.R.Replica in
     let x = c.self.inside in
-    let old : NodeView = record { who = t.who x.log; seen = t.seen x.log; known = t.reaches x.log; replica = r.shows x.replica; outbox = view_of x.outbox } in
-    let new : NodeView = record { who = t.who c.settle_all.new.log; seen = t.seen c.settle_all.new.log; known = t.reaches c.settle_all.new.log; replica = r.shows x.replica; outbox = view_of c.settle_all.new.outbox } in
+    let old : NodeView = record { who = t.who x.log; nodes = x.nodes; seen = t.seen x.log; known = t.reaches x.log; replica = r.shows x.replica; outbox = view_of x.outbox } in
+    let new : NodeView = record { who = t.who c.settle_all.new.log; nodes = x.nodes; seen = t.seen c.settle_all.new.log; known = t.reaches c.settle_all.new.log; replica = r.shows x.replica; outbox = view_of c.settle_all.new.outbox } in
     let e = c.settle_all.ensures in
     let i = c.self.invariant in
-    ok_waiting p.may p.floor p.shelf t.holds r.state r.spells old new e.later.legal (follows_later p.may p.floor p.shelf t.holds r.state r.spells g.met.L.SharedLog.stays old.seen new.seen old.replica e.later i.follows) (known_more old.known new.known old.replica e.known i.bounded)
+    ok_waiting p.may p.floor p.shelf t.holds r.state r.spells old new i.eight i.floor_is e.later.legal (follows_later p.may p.floor p.shelf t.holds r.state r.spells g.met.L.SharedLog.stays old.seen new.seen old.replica e.later i.follows) (known_more old.known new.known old.replica e.known i.bounded)
     e.may e.few e.who refl i.waiting
