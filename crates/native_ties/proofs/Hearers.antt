@@ -43,7 +43,7 @@ use Rattle.native_ties.proofs.Hearing.{put_there, put_other, comes_is, heard_cou
 use Rattle.native_ties.proofs.Settling.{Noted, settled}
 
 -- a member that heard has no message
-silent : (want : ℕ) (e : Errand) (told : Told) (m : Member) → is_out (heard_by want e told m) ≡ false
+pub silent : (want : ℕ) (e : Errand) (told : Told) (m : Member) → is_out (heard_by want e told m) ≡ false
 silent want e Down m = refl
 silent want e DiskFault m = refl
 silent want e (Sealed n) m = refl
@@ -98,7 +98,7 @@ read_ask p ask.Tail h = absurd h
 read_ask p (ask.Repair q x) h = absurd h
 read_ask p (ask.Trim q) h = absurd h
 
-place_is : (place : ℕ) (aim : Aim) (ph : Phase) (p : ℕ) → AimsAt place aim ph → aim ≡ AimRead p → p ≡ place
+pub place_is : (place : ℕ) (aim : Aim) (ph : Phase) (p : ℕ) → AimsAt place aim ph → aim ≡ AimRead p → p ≡ place
 place_is place aim Filling p a e = absurd (subst Fills e a)
 place_is place aim Asking p a e = (let x : AimTail ≡ AimRead p = sym a ∙ e in absurd (cc))
 place_is place aim (Opening t) p a e = (let x : AimTail ≡ AimRead p = sym a ∙ e in absurd (cc))
@@ -117,7 +117,7 @@ read_done cut firm place j ms next = by (nat_le firm place) (nat_lt place cut)
     by false true h = cc
     by false false h = cc
 
-read_ends : (ph : Phase) (want cut firm place p : ℕ) (aim : Aim) (ms : List Member) (next : Phase) → AimsAt place aim ph → aim ≡ AimRead p → judged ph want cut firm place true ms ≡ Go next → ⊥
+pub read_ends : (ph : Phase) (want cut firm place p : ℕ) (aim : Aim) (ms : List Member) (next : Phase) → AimsAt place aim ph → aim ≡ AimRead p → judged ph want cut firm place true ms ≡ Go next → ⊥
 read_ends (Reading j) want cut firm place p aim ms next a e h = read_done cut firm place j ms next h
 read_ends Filling want cut firm place p aim ms next a e h = subst Fills e a
 read_ends Asking want cut firm place p aim ms next a e h = (let x : AimTail ≡ AimRead p = sym a ∙ e in cc)
@@ -236,6 +236,14 @@ module _ (c : Cell) (t i : ℕ) (p b : Pending) (e : Errand) (told : Told) (law 
           let same : z.0 ≡ q = cc in
           let h : ReplyHolds c so.reply.reply = All-contains (ReplyHolds c) c.replies so.reply.reply law.replies (contained c.replies so.reply.number so.reply.reply so.reply.is) in
           subst (λ k. slice_get c.entries k ≡ Some x) same (h.got z.0 x z.3 (so.reply.told_is ∙ is_got told x g))
+
+-- what it is once the answer came, before it comes to anything
+pub hears_noted : (c : Cell) (t i : ℕ) (p b : Pending) (e : Errand) (told : Told) → QuorumLaw c → IsPartOf c t p → p.outcome ≡ None → i < length c.servers → (get_or p.members.items i no_member).message ≡ Some (Answered e told) → Notes i e told p b → (d : Cell) × QuorumLaw d × Noted d t b × (d.cut ≡ c.cut)
+hears_noted c t i p b e told law part waiting here message notes =
+    let so_reply : ToldSo c (operation c t) t i (aims_of c.cut p) (get_or p.members.items i no_member) e told = so c t i p b e told law part waiting here message notes in
+    let r : Reply = so_reply.reply.reply in
+    let is : cell_step c (ReplyComes so_reply.reply.number) ≡ put_operation c t (with_reply (operation c t) r) = comes_is c t so_reply.reply.number r so_reply.reply.is so_reply.reply.ticket part.shows.is_open (part.outcome ∙ waiting) in
+    (put_operation c t (with_reply (operation c t) r), subst QuorumLaw is (step_keeps c (ReplyComes so_reply.reply.number) law), subst (Noted (put_operation c t (with_reply (operation c t) r)) t) (sym notes.rest) (noted c t i p b e told law part waiting here message notes), refl)
 
 -- the steps: the answer comes, and then it may be decided
 pub hears : (c : Cell) (t i : ℕ) (p new : Pending) (e : Errand) (told : Told) → QuorumLaw c → IsPartOf c t p → p.outcome ≡ None → i < length c.servers → (get_or p.members.items i no_member).message ≡ Some (Answered e told) → Hears c.cut i e told p new → GoesBy c t c.faults new

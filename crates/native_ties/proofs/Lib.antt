@@ -9,3 +9,5 @@ pub mod Asking
 pub mod Losing
 pub mod Losers
 pub mod Beginning
+pub mod Lessening
+pub mod Bounds

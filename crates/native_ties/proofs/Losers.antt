@@ -136,7 +136,7 @@ lost_fits c d k i o ms Trimming want m now s x done h = tt
 not_done : (ph : Phase) (want i : ℕ) (m : Member) → is_done ph want i m ≡ false → m.unreached ≡ false
 not_done ph want i m h = (or_parts m.unreached _ h).0
 
-way_of : (c : Cell) (o : Operation) (t i : ℕ) (aims : Aims) (m : Member) (x : Option Message) → m.message ≡ x → is_some x ≡ true → IsCarried c o t i aims m x → (e : Errand) × OnItsWay c o t i aims m e
+pub way_of : (c : Cell) (o : Operation) (t i : ℕ) (aims : Aims) (m : Member) (x : Option Message) → m.message ≡ x → is_some x ≡ true → IsCarried c o t i aims m x → (e : Errand) × OnItsWay c o t i aims m e
 way_of c o t i aims m None is out h = absurd (false≢true out)
 way_of c o t i aims m (Some (Asked e)) is out h = (e, h)
 way_of c o t i aims m (Some (Answered e told)) is out h = (e, h.way)
@@ -359,3 +359,36 @@ loses c t i p new law part waiting here out h = by way.1.pooled
     by : IsPooled c (operation c t) t i (get_or p.members.items i no_member).losses → GoesBy c t (c.faults ++ i ∷ []) new
     by (inl none) = lost_first c t i p new law part waiting here none way.0 way.1 h
     by (inr l) = lost_known c t i p new law part waiting here l way.0 way.1 h
+
+---- what it is once the message was lost, before it comes to anything
+
+known_noted : (c : Cell) (t i : ℕ) (p b : Pending) → QuorumLaw c → IsPartOf c t p → p.outcome ≡ None → i < length c.servers → LostSo c (operation c t) t i (get_or p.members.items i no_member).losses → (e : Errand) → OnItsWay c (operation c t) t i (aims_of c.cut p) (get_or p.members.items i no_member) e → NotesLoss i p b → (d : Cell) × QuorumLaw d × Noted d t b × (d.cut ≡ c.cut)
+known_noted c t i p b law part waiting here l e way notes =
+    let is : cell_step c (Lose l.message) ≡ put_operation (with_fault c i) t (with_loss (operation c t) l.message i) = is_lost c t i p b law part waiting here l e way notes in
+    (put_operation (with_fault c i) t (with_loss (operation c t) l.message i), subst QuorumLaw is (step_keeps c (Lose l.message) law), subst (Noted (put_operation (with_fault c i) t (with_loss (operation c t) l.message i)) t) (sym notes.rest) (noted c t i p b law part waiting here l e way notes), refl)
+
+pub loses_noted : (c : Cell) (t i : ℕ) (p b : Pending) → QuorumLaw c → IsPartOf c t p → p.outcome ≡ None → i < length c.servers → is_out (get_or p.members.items i no_member) ≡ true → NotesLoss i p b → (d : Cell) × QuorumLaw d × Noted d t b × (d.cut ≡ c.cut)
+loses_noted c t i p b law part waiting here out notes = by way.1.pooled
+  where
+    way : (e : Errand) × OnItsWay c (operation c t) t i (aims_of c.cut p) (get_or p.members.items i no_member) e
+    way = way_of c (operation c t) t i (aims_of c.cut p) (get_or p.members.items i no_member) (get_or p.members.items i no_member).message refl out ((part.goes waiting).carried i here)
+
+    by : IsPooled c (operation c t) t i (get_or p.members.items i no_member).losses → (d : Cell) × QuorumLaw d × Noted d t b × (d.cut ≡ c.cut)
+    by (inr l) = known_noted c t i p b law part waiting here l way.0 way.1 notes
+    by (inl none) =
+        let goes : Goes c t p = part.goes waiting in
+        let a : (a : Ask) × (asked_by c.entries c.cut way.0 ≡ Some a) × (ask_for c (operation c t) (wish_of way.0) ≡ Some a) = can_ask c (operation c t) (aims_of c.cut p) p.members.items (get_or p.members.items i no_member) way.0 goes.course way.1.planned in
+        let is : cell_step c (Send t i (wish_of way.0)) ≡ record c { requests = c.requests ++ record { ticket = t; server = i; ask = a.0 } ∷ [] } = sent_is c t i (wish_of way.0) a.0 part.shows.is_open here a.2 in
+        let later : Later c (record c { requests = c.requests ++ record { ticket = t; server = i; ask = a.0 } ∷ [] }) = subst (Later c) is (step_later c (Send t i (wish_of way.0))) in
+        let kept : QuorumLaw (record c { requests = c.requests ++ record { ticket = t; server = i; ask = a.0 } ∷ [] }) = subst QuorumLaw is (step_keeps c (Send t i (wish_of way.0)) law) in
+        let stays : IsPartOf (record c { requests = c.requests ++ record { ticket = t; server = i; ask = a.0 } ∷ [] }) t p = part_later c _ t p later (record { requests = λ k q x. slice_get_more c.requests _ k q x; replies = λ k r x. x }) refl part in
+        let tried_none : tries_lost (operation c t) (length c.requests) ≡ 0 = none_named c (operation c t).lost goes.losses in
+        let l : LostSo (record c { requests = c.requests ++ record { ticket = t; server = i; ask = a.0 } ∷ [] }) (operation c t) t i (get_or p.members.items i no_member).losses = record {
+          message = length c.requests;
+          request = record { ticket = t; server = i; ask = a.0 };
+          is = slice_get_push_new c.requests (record { ticket = t; server = i; ask = a.0 }) (length c.requests) refl;
+          ticket = refl;
+          to_server = refl;
+          tries = tried_none ∙ sym none;
+        } in
+        known_noted (record c { requests = c.requests ++ record { ticket = t; server = i; ask = a.0 } ∷ [] }) t i p b kept stays waiting here l way.0 (record { planned = way.1.planned; unmet = way.1.unmet; few = way.1.few; pooled = inl none }) notes

@@ -1,5 +1,5 @@
 -- An open operation as a part of its quorum cell.
-use Rattle.std.specs.Prelude.{◌≡◌, ℕ, ◌<◌, ◌≤◌, ◌⊎◌, true, false, not, List, length, get_or, set, slice_get, Option, Some, None, All, [], ◌∷◌, ⊤, option_map}
+use Rattle.std.specs.Prelude.{◌≡◌, ℕ, ◌<◌, ◌≤◌, ◌*◌, ◌^◌, ◌⊎◌, true, false, not, List, length, get_or, set, slice_get, Option, Some, None, All, [], ◌∷◌, ⊤, option_map}
 use Rattle.delos_types.specs.declared.entry.Entry.{Entry}
 use Rattle.loglet_api.specs.Step.{task_of}
 use Rattle.majority_rule.specs.declared.message.Ask.{Ask}
@@ -32,8 +32,8 @@ use Rattle.native_plan.specs.declared.message.Message.TheVariants.{Asked, Told a
 use Rattle.native_plan.specs.declared.message.Phase.TheVariants.{Trimming}
 use Rattle.native_plan.specs.declared.aims.Aims.{Aims}
 use Rattle.native_plan.specs.Members.{no_member, new_member}
-use Rattle.native_plan.specs.Plans.{is_done}
-use Rattle.native_plan.specs.Pendings.{aims_of}
+use Rattle.native_plan.specs.Plans.{is_done, goal_of}
+use Rattle.native_plan.specs.Pendings.{aims_of, plan_left}
 use Rattle.native_plan.specs.Course.{IsOnCourse, IsPlanned, IsAskOf, ToldWell}
 
 -- a message of operation t to server i, of which so many tries were lost
@@ -158,6 +158,13 @@ pub record IsAllowed (c : Cell) (t : ℕ) (e : Errand) : Type 0 where
   pub ask : Ask
   pub is : asked_by c.entries c.cut e ≡ Some ask
   pub allowed : ask_for c (operation c t) (wish_of e) ≡ Some ask
+
+-- something is left to do of an operation on n servers that goes on, and not too much
+pub record IsBounded (n : ℕ) (p : Pending) : Type 0 where
+  pub goal : goal_of p.phase p.want ≤ 2 ^ 32
+  pub some : 0 < (plan_left p).1
+  pub first : (plan_left p).0 ≤ 7
+  pub second : (plan_left p).1 < 2 ^ 53 * n
 
 -- steps that are nobody's call
 abbrev pub AreStrays : List CellStep → Type 0

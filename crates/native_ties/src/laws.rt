@@ -1,5 +1,5 @@
 //! What ties open operations to their cell. Each function does nothing: its contract is the law.
-ghost use Rattle.std.specs.Prelude.{◌≡◌, ℕ, ◌<◌, ◌≤◌, ◌+◌, ◌*◌, List, ◌&&◌, ◌++◌, ◌∷◌, [], true, false, if◌then◌else◌, length, get_or, Some, None};
+ghost use Rattle.std.specs.Prelude.{◌≡◌, ℕ, ◌<◌, ◌≤◌, ◌+◌, ◌*◌, ◌^◌, List, ◌&&◌, ◌++◌, ◌∷◌, [], true, false, if◌then◌else◌, length, get_or, Some, None};
 ghost use Rattle.majority_rule.specs.declared.message.Ask.{Ask};
 ghost use Rattle.majority_rule.specs.declared.message.Told.TheVariants.{DiskFault};
 ghost use Rattle.majority_rule.specs.Servers.{told, writes, written};
@@ -8,6 +8,7 @@ ghost use Rattle.majority_rule.specs.declared.message.Told.{Told};
 ghost use Rattle.majority_rule.specs.Cells.{Cell, operation, server};
 ghost use Rattle.majority_rule.specs.Law.{QuorumLaw, Later};
 ghost use Rattle.majority_rule.specs.declared.operation.Aim as aims;
+ghost use Rattle.loglet_api.specs.Step.{IsBelow};
 ghost use Rattle.cell_views.specs.Views.{op_of};
 ghost use Rattle.native_plan.specs.declared.member.Member as members;
 ghost use Rattle.native_plan.specs.declared.pending.Pending as pending;
@@ -15,8 +16,8 @@ ghost use Rattle.native_plan.specs.declared.pending.Start as starts;
 ghost use Rattle.native_plan.specs.declared.message.Errand as errands;
 ghost use Rattle.native_plan.specs.declared.message.Message.TheVariants.{Asked, Told as Answered};
 ghost use Rattle.native_plan.specs.Members.{no_member, is_out};
-ghost use Rattle.native_plan.specs.Pendings.{Begins, Answers, Hears, Loses};
-ghost use Rattle.native_ties.specs.Parts.{StartsIn, AreKnown, Extends, IsPartOf, IsAllowed, GoesBy, AnswersBy, wish_of};
+ghost use Rattle.native_plan.specs.Pendings.{left_now, Begins, Answers, Hears, Loses};
+ghost use Rattle.native_ties.specs.Parts.{StartsIn, AreKnown, Extends, IsPartOf, IsAllowed, IsBounded, GoesBy, AnswersBy, wish_of};
 
 /// What an open operation is in its cell it is in each later one that leaves it alone.
 pub fn parts_stay()
@@ -67,4 +68,16 @@ pub fn requests_are_allowed()
 pub fn messages_are_lost()
     ensures { (cell : Cell) (t i : ℕ) (p new : pending.Pending) → QuorumLaw cell → IsPartOf cell t p → p.outcome ≡ None → i < length cell.servers
         → is_out (get_or p.members.items i no_member) ≡ true → Loses cell.cut i p new → GoesBy cell t (cell.faults ++ i ∷ []) new }
+{}
+
+/// With each message that moves less is left to do of an operation, the first number counting first.
+/// While it is undecided something is left, within the bounds of every loglet.
+pub fn less_is_left()
+    ensures answered { (cell : Cell) (t i : ℕ) (p new : pending.Pending) (errand : errands.Errand) (told : Told) → IsPartOf cell t p → p.outcome ≡ None → i < length cell.servers
+        → (get_or p.members.items i no_member).message ≡ Some (Asked errand) → Answers i errand told p new → IsBelow (left_now new) (left_now p) }
+    ensures heard { (cell : Cell) (t i : ℕ) (p new : pending.Pending) (errand : errands.Errand) (told : Told) → QuorumLaw cell → IsPartOf cell t p → p.outcome ≡ None → i < length cell.servers
+        → (get_or p.members.items i no_member).message ≡ Some (Answered errand told) → Hears cell.cut i errand told p new → IsBelow (left_now new) (left_now p) }
+    ensures lost { (cell : Cell) (t i : ℕ) (p new : pending.Pending) → QuorumLaw cell → IsPartOf cell t p → p.outcome ≡ None → i < length cell.servers
+        → is_out (get_or p.members.items i no_member) ≡ true → Loses cell.cut i p new → IsBelow (left_now new) (left_now p) }
+    ensures bounded { (cell : Cell) (t : ℕ) (p : pending.Pending) → IsPartOf cell t p → p.outcome ≡ None → length cell.entries ≤ 2 ^ 32 → IsBounded (length cell.servers) p }
 {}
