@@ -11,7 +11,8 @@ use Rattle.legal_journal.specs.declared.events.Event.{Event}
 use Rattle.legal_journal.specs.Journal.{IsLegal}
 use Rattle.virtual_log.specs.Turning.{Later, FirstTurn, IsAbove}
 use Rattle.virtual_log.proofs.OneTurn.{later_continues}
-use Rattle.base_engine.specs.Reading.{IsTrimmed, Stays, IsFront}
+use Rattle.virtual_log.specs.Holding.{IsTrimmed, Stays}
+use Rattle.base_engine.specs.Reading.{IsFront}
 use Rattle.replica_api.specs.Replica.{Saved, ReplicaView, saved_in, MayFind, SpellsOne, Survives, Advances, Advanced, Failed, MayFindDuring, Recovered}
 use Rattle.base_engine.specs.Following.{IsStateAt, Follows, IsKnown, Reaches, IsAt, IsFound}
 

@@ -2,3 +2,4 @@ pub mod Following
 pub mod Settling
 pub mod Proposing
 pub mod Whole
+pub mod Extending

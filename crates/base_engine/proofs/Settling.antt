@@ -10,37 +10,37 @@ use Rattle.base_engine.specs.declared.outbox.Given.{Given}
 use Rattle.base_engine.specs.Settling.{OutboxView, Fate, Landed, Meets, gives, first_of, Carried, Settles, Settled}
 
 -- one more at the end
-pub settles_push : (who : ℕ) (old mid new : List Event) (done : List Entry) (given : List Given) (before now : Option Cause) (e : Entry) (fate : Fate)
-    → Settles who old done mid given before now → Meets who mid e fate new → Settles who old (done ++ e ∷ []) new (given ++ gives e fate) before (first_of now fate)
-settles_push who old mid new [] given before now e fate s m =
-    (new, fate, [], subst (λ l. Meets who l e fate new) s.0 m, ap (λ l. l ++ gives e fate) s.1 ∙ sym (append-nil (gives e fate)), (refl, refl, ap (λ o. first_of o fate) s.2))
-settles_push who old mid new (x ∷ xs) given before now e fate s m =
-    (s.0, s.1, s.2 ++ gives e fate, s.3, ap (λ l. l ++ gives e fate) s.4 ∙ append_assoc (gives x s.1) s.2 (gives e fate), settles_push who s.0 mid new xs s.2 (first_of before s.1) now e fate s.5 m)
+pub settles_push : (holds : List Event → ℕ → Entry → Type 0) (who : ℕ) (old mid new : List Event) (done : List Entry) (given : List Given) (before now : Option Cause) (e : Entry) (fate : Fate)
+    → Settles holds who old done mid given before now → Meets holds who mid e fate new → Settles holds who old (done ++ e ∷ []) new (given ++ gives e fate) before (first_of now fate)
+settles_push holds who old mid new [] given before now e fate s m =
+    (new, fate, [], subst (λ l. Meets holds who l e fate new) s.0 m, ap (λ l. l ++ gives e fate) s.1 ∙ sym (append-nil (gives e fate)), (refl, refl, ap (λ o. first_of o fate) s.2))
+settles_push holds who old mid new (x ∷ xs) given before now e fate s m =
+    (s.0, s.1, s.2 ++ gives e fate, s.3, ap (λ l. l ++ gives e fate) s.4 ∙ append_assoc (gives x s.1) s.2 (gives e fate), settles_push holds who s.0 mid new xs s.2 (first_of before s.1) now e fate s.5 m)
 
 -- while the loop runs
-pub record SoFar (who : ℕ) (old : List Event) (was : OutboxView) (new : List Event) (is : OutboxView) : Type 0 where
+pub record SoFar (holds : List Event → ℕ → Entry → Type 0) (who : ℕ) (old : List Event) (was : OutboxView) (new : List Event) (is : OutboxView) : Type 0 where
   pub done : List Entry
   pub given : List Given
   pub all : was.entries ≡ done ++ is.entries
   pub gained : is.given ≡ was.given ++ given
-  pub fates : Settles who old done new given was.unsettled is.unsettled
+  pub fates : Settles holds who old done new given was.unsettled is.unsettled
 
-pub none_yet : (who : ℕ) (old : List Event) (was : OutboxView) → SoFar who old was old was
-none_yet who old was = record { done = []; given = []; all = refl; gained = sym (append-nil was.given); fates = (refl, refl, refl) }
+pub none_yet : (holds : List Event → ℕ → Entry → Type 0) (who : ℕ) (old : List Event) (was : OutboxView) → SoFar holds who old was old was
+none_yet holds who old was = record { done = []; given = []; all = refl; gained = sym (append-nil was.given); fates = (refl, refl, refl) }
 
-pub one_more : (who : ℕ) (old mid new : List Event) (was now is : OutboxView) → SoFar who old was mid now → Carried who mid now new is → SoFar who old was new is
-one_more who old mid new was now is h k = record {
+pub one_more : (holds : List Event → ℕ → Entry → Type 0) (who : ℕ) (old mid new : List Event) (was now is : OutboxView) → SoFar holds who old was mid now → Carried holds who mid now new is → SoFar holds who old was new is
+one_more holds who old mid new was now is h k = record {
   done = h.done ++ k.entry ∷ [];
   given = h.given ++ gives k.entry k.fate;
   all = h.all ∙ ap (λ x. h.done ++ x) k.oldest ∙ sym (append_assoc h.done (k.entry ∷ []) is.entries);
   gained = k.gained ∙ ap (λ x. x ++ gives k.entry k.fate) h.gained ∙ append_assoc was.given h.given (gives k.entry k.fate);
-  fates = subst (λ o. Settles who old (h.done ++ k.entry ∷ []) new (h.given ++ gives k.entry k.fate) was.unsettled o) (sym k.unsettled)
-      (settles_push who old mid new h.done h.given was.unsettled now.unsettled k.entry k.fate h.fates k.met);
+  fates = subst (λ o. Settles holds who old (h.done ++ k.entry ∷ []) new (h.given ++ gives k.entry k.fate) was.unsettled o) (sym k.unsettled)
+      (settles_push holds who old mid new h.done h.given was.unsettled now.unsettled k.entry k.fate h.fates k.met);
 }
 
-pub settled_then : (who : ℕ) (old mid new : List Event) (was now is : OutboxView) → SoFar who old was mid now → is ≡ now → ((more : List Event) × (new ≡ mid ++ more)) → Settled who old was new is
-settled_then who old mid new was now is h same on =
-    subst (λ v. Settled who old was new v) (sym same) record {
+pub settled_then : (holds : List Event → ℕ → Entry → Type 0) (who : ℕ) (old mid new : List Event) (was now is : OutboxView) → SoFar holds who old was mid now → is ≡ now → ((more : List Event) × (new ≡ mid ++ more)) → Settled holds who old was new is
+settled_then holds who old mid new was now is h same on =
+    subst (λ v. Settled holds who old was new v) (sym same) record {
       done = h.done;
       given = h.given;
       all = h.all;
@@ -50,8 +50,8 @@ settled_then who old mid new was now is h same on =
       rest = on;
     }
 
-pub settled_on : (who : ℕ) (old mid new : List Event) (was is : OutboxView) → Settled who old was mid is → ((more : List Event) × (new ≡ mid ++ more)) → Settled who old was new is
-settled_on who old mid new was is h on = record {
+pub settled_on : (holds : List Event → ℕ → Entry → Type 0) (who : ℕ) (old mid new : List Event) (was is : OutboxView) → Settled holds who old was mid is → ((more : List Event) × (new ≡ mid ++ more)) → Settled holds who old was new is
+settled_on holds who old mid new was is h on = record {
   done = h.done;
   given = h.given;
   all = h.all;
@@ -86,14 +86,14 @@ pub first_landed : (o : Option Cause) (pos : ℕ) → o ≡ first_of o (Landed p
 first_landed None pos = refl
 first_landed (Some cause) pos = refl
 
-pub settled_one : (who : ℕ) (old new : List Event) (was is : OutboxView) → Carried who old was new is → Settled who old was new is
-settled_one who old new was is h = settled_then who old new new was is is (one_more who old old new was was is (none_yet who old was) h) refl (no_more new)
+pub settled_one : (holds : List Event → ℕ → Entry → Type 0) (who : ℕ) (old new : List Event) (was is : OutboxView) → Carried holds who old was new is → Settled holds who old was new is
+settled_one holds who old new was is h = settled_then holds who old new new was is is (one_more holds who old old new was was is (none_yet holds who old was) h) refl (no_more new)
 
-pub settled_none : (may : ℕ → Entry → Type 0) (floor : List Entry → ℕ) (shelf : List ℕ) (who : ℕ) (old new : List Event) (was is : OutboxView) → is ≡ was → Later may floor shelf old new → Settled who old was new is
-settled_none may floor shelf who old new was is same l = settled_then who old old new was was is (none_yet who old was) same (more_of may floor shelf old new l)
+pub settled_none : (holds : List Event → ℕ → Entry → Type 0) (may : ℕ → Entry → Type 0) (floor : List Entry → ℕ) (shelf : List ℕ) (who : ℕ) (old new : List Event) (was is : OutboxView) → is ≡ was → Later may floor shelf old new → Settled holds who old was new is
+settled_none holds may floor shelf who old new was is same l = settled_then holds who old old new was was is (none_yet holds who old was) same (more_of may floor shelf old new l)
 
-pub settled_given : (who : ℕ) (old new : List Event) (was is : OutboxView) (given : List Given) → Settled who old was new is → given ≡ is.given → Settled who old was new (record { entries = is.entries; given = given; unsettled = is.unsettled })
-settled_given who old new was is given h same = record {
+pub settled_given : (holds : List Event → ℕ → Entry → Type 0) (who : ℕ) (old new : List Event) (was is : OutboxView) (given : List Given) → Settled holds who old was new is → given ≡ is.given → Settled holds who old was new (record { entries = is.entries; given = given; unsettled = is.unsettled })
+settled_given holds who old new was is given h same = record {
   done = h.done;
   given = h.given;
   all = h.all;
@@ -112,17 +112,17 @@ gave_is es given given' u sessions session cause h k m =
     ap (λ (x : List Entry). outbox_of x given' u) h ∙ ap (λ (x : List Given). outbox_of [] x u) (k ∙ ap (λ (s : List ℕ). given ++ record { sessions = s; cause = cause } ∷ []) m)
 
 -- nothing was outstanding
-pub settled_further : (who : ℕ) (a b c : List Event) (was mid is : OutboxView) → Settled who a was b mid → mid.entries ≡ [] → Settled who b mid c is → Settled who a was c is
-settled_further who a b c was mid is h none k = nothing k.done k.given k.all k.gained k.fates
+pub settled_further : (holds : List Event → ℕ → Entry → Type 0) (who : ℕ) (a b c : List Event) (was mid is : OutboxView) → Settled holds who a was b mid → mid.entries ≡ [] → Settled holds who b mid c is → Settled holds who a was c is
+settled_further holds who a b c was mid is h none k = nothing k.done k.given k.all k.gained k.fates
   where
-    nothing : (done : List Entry) (given : List Given) → mid.entries ≡ done ++ is.entries → is.given ≡ mid.given ++ given → Settles who b done k.moment given mid.unsettled is.unsettled → Settled who a was c is
+    nothing : (done : List Entry) (given : List Given) → mid.entries ≡ done ++ is.entries → is.given ≡ mid.given ++ given → Settles holds who b done k.moment given mid.unsettled is.unsettled → Settled holds who a was c is
     nothing [] given all gained fates = record {
       done = h.done;
       given = h.given;
       all = h.all ∙ ap (λ x. h.done ++ x) all;
       gained = gained ∙ (ap (λ x. mid.given ++ x) fates.1 ∙ (append-nil mid.given ∙ h.gained));
       moment = h.moment;
-      fates = subst (λ o. Settles who a h.done h.moment h.given was.unsettled o) (sym fates.2) h.fates;
+      fates = subst (λ o. Settles holds who a h.done h.moment h.given was.unsettled o) (sym fates.2) h.fates;
       rest = (h.rest.0 ++ k.rest.0, k.rest.1 ∙ ap (λ l. l ++ k.rest.0) (fates.0 ∙ h.rest.1) ∙ append_assoc h.moment h.rest.0 k.rest.0);
     }
     nothing (e ∷ es) given all gained fates = let no : [] ≡ e ∷ (es ++ is.entries) = sym none ∙ all in absurd (cc)

@@ -6,7 +6,8 @@ use Rattle.disk_model.specs.Disk.{Rose}
 use Rattle.legal_journal.specs.declared.events.Event.{Event}
 use Rattle.base_engine.specs.declared.play.Played.{Played}
 use Rattle.base_engine.specs.declared.play.Played.TheVariants as played
-use Rattle.base_engine.specs.Reading.{IsTrimmed, IsFront}
+use Rattle.virtual_log.specs.Holding.{IsTrimmed}
+use Rattle.base_engine.specs.Reading.{IsFront}
 use Rattle.replica_api.specs.Replica.{Saved, ReplicaView, saved_in, Survives}
 
 -- the space is what the log's first entries lead to, so many as the cursor says

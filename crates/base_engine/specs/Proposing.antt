@@ -22,9 +22,9 @@ with_entry o None = o
 with_entry o (Some e) = record { entries = o.entries ++ e ∷ []; given = o.given; unsettled = o.unsettled }
 
 -- The oldest entry is carried to its end where there is no room for one more; what comes out then is outstanding.
-pub record Sent (who : ℕ) (old : List Event) (was : OutboxView) (queued : Option Entry → Type 0) (new : List Event) (is : OutboxView) : Type 0 where
+pub record Sent (holds : List Event → ℕ → Entry → Type 0) (who : ℕ) (old : List Event) (was : OutboxView) (queued : Option Entry → Type 0) (new : List Event) (is : OutboxView) : Type 0 where
   pub mid : OutboxView
-  pub settled : Settled who old was new mid
+  pub settled : Settled holds who old was new mid
   pub room : length mid.entries ≤ 3
   pub packed : Option Entry
   pub out : queued packed
@@ -51,8 +51,8 @@ abbrev pub IsFar : SpaceMap → Item → Type 0
 IsFar m item = IsFarAt m (under 2 item)
 
 -- All was carried to its end, and the replica then has the state at a tail.
-pub record CaughtUp (who : ℕ) (old : List Event) (was : OutboxView) (new : List Event) (is : OutboxView) (v : ReplicaView) : Type 0 where
-  pub settled : Settled who old was new is
+pub record CaughtUp (holds : List Event → ℕ → Entry → Type 0) (who : ℕ) (old : List Event) (was : OutboxView) (new : List Event) (is : OutboxView) (v : ReplicaView) : Type 0 where
+  pub settled : Settled holds who old was new is
   pub none : is.entries ≡ []
   pub mid : List Event
   pub since : (more : List Event) × (mid ≡ old ++ more)
@@ -62,32 +62,32 @@ pub record CaughtUp (who : ℕ) (old : List Event) (was : OutboxView) (new : Lis
 
 -- The item may go down: its rank isn't too high, or isn't any more once all was carried to its end and played. It may
 -- not where its rank is too high still.
-abbrev pub Readied : ℕ → List Event → OutboxView → Item → Bool → List Event → OutboxView → ReplicaView → Type 0
-Readied who old was item true new is v' = (((new ≡ old) × (is ≡ was)) ⊎ CaughtUp who old was new is v') × IsNear v'.contents item
-Readied who old was item false new is v' = CaughtUp who old was new is v' × IsFar v'.contents item
+abbrev pub Readied : (List Event → ℕ → Entry → Type 0) → ℕ → List Event → OutboxView → Item → Bool → List Event → OutboxView → ReplicaView → Type 0
+Readied holds who old was item true new is v' = (((new ≡ old) × (is ≡ was)) ⊎ CaughtUp holds who old was new is v') × IsNear v'.contents item
+Readied holds who old was item false new is v' = CaughtUp holds who old was new is v' × IsFar v'.contents item
 
 -- The item went down; or it was left out, since its rank was too high still once all was carried to its end and played.
-abbrev pub Proposed : ℕ → List Event → OutboxView → ReplicaView → Item → List Event → OutboxView → ReplicaView → Type 0
-Proposed who old was v item new is v' =
-    (Sent who old was (λ packed. Queues v.origin v.kept item packed v'.kept) new is × IsNear v'.contents item)
-    ⊎ (CaughtUp who old was new is v' × IsFar v'.contents item × (v'.kept ≡ v.kept))
+abbrev pub Proposed : (List Event → ℕ → Entry → Type 0) → ℕ → List Event → OutboxView → ReplicaView → Item → List Event → OutboxView → ReplicaView → Type 0
+Proposed holds who old was v item new is v' =
+    (Sent holds who old was (λ packed. Queues v.origin v.kept item packed v'.kept) new is × IsNear v'.contents item)
+    ⊎ (CaughtUp holds who old was new is v' × IsFar v'.contents item × (v'.kept ≡ v.kept))
 
 -- A session was given the fault of the sync, once all was carried to its end.
-pub record SyncFailed (who : ℕ) (old : List Event) (was : OutboxView) (session : ℕ) (cause : Cause) (new : List Event) (is : OutboxView) : Type 0 where
+pub record SyncFailed (holds : List Event → ℕ → Entry → Type 0) (who : ℕ) (old : List Event) (was : OutboxView) (session : ℕ) (cause : Cause) (new : List Event) (is : OutboxView) : Type 0 where
   pub mid : OutboxView
-  pub settled : Settled who old was new mid
+  pub settled : Settled holds who old was new mid
   pub none : mid.entries ≡ []
   pub gave : is ≡ record { entries = []; given = mid.given ++ record { sessions = session ∷ []; cause = cause } ∷ []; unsettled = mid.unsettled }
 
-abbrev pub GaveUp : ℕ → List Event → OutboxView → ℕ → Fault → List Event → OutboxView → Type 0
-GaveUp who old was session Memory new is = Settled who old was new is
-GaveUp who old was session (Because cause) new is = SyncFailed who old was session cause new is
+abbrev pub GaveUp : (List Event → ℕ → Entry → Type 0) → ℕ → List Event → OutboxView → ℕ → Fault → List Event → OutboxView → Type 0
+GaveUp holds who old was session Memory new is = Settled holds who old was new is
+GaveUp holds who old was session (Because cause) new is = SyncFailed holds who old was session cause new is
 
-abbrev pub GaveUpAt : ℕ → List Event → OutboxView → Option Content → Fault → List Event → OutboxView → Type 0
-GaveUpAt who old was (Some (content.Session s r command)) f new is = GaveUp who old was s f new is
-GaveUpAt who old was word Memory new is = Settled who old was new is
-GaveUpAt who old was word (Because cause) new is = ⊥
+abbrev pub GaveUpAt : (List Event → ℕ → Entry → Type 0) → ℕ → List Event → OutboxView → Option Content → Fault → List Event → OutboxView → Type 0
+GaveUpAt holds who old was (Some (content.Session s r command)) f new is = GaveUp holds who old was s f new is
+GaveUpAt holds who old was word Memory new is = Settled holds who old was new is
+GaveUpAt holds who old was word (Because cause) new is = ⊥
 
 -- The item didn't go down, for want of memory, or since the sync failed: then its session was given that cause.
-abbrev pub Refused : ℕ → List Event → OutboxView → Item → Fault → List Event → OutboxView → Type 0
-Refused who old was item f new is = GaveUpAt who old was (under 2 item) f new is
+abbrev pub Refused : (List Event → ℕ → Entry → Type 0) → ℕ → List Event → OutboxView → Item → Fault → List Event → OutboxView → Type 0
+Refused holds who old was item f new is = GaveUpAt holds who old was (under 2 item) f new is

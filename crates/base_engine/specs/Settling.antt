@@ -31,11 +31,11 @@ pub data Fate : Type 0 where
   Landed : ℕ → Fate
   Lost : Cause → Fate
 
--- It stands at its position, which is above each one, and not below any tail, that was answered before; or an own event
--- since then answered so.
-abbrev pub Meets : ℕ → List Event → Entry → Fate → List Event → Type 0
-Meets who old e (Landed pos) new = Stands (state_of new) pos e × IsAbove who old pos new
-Meets who old e (Lost cause) new = HasEventOf who old cause new
+-- It stands at its position and is held there, which is above each one, and not below any tail, that was answered before;
+-- or an own event since then answered so.
+abbrev pub Meets : (List Event → ℕ → Entry → Type 0) → ℕ → List Event → Entry → Fate → List Event → Type 0
+Meets holds who old e (Landed pos) new = Stands (state_of new) pos e × holds new pos e × IsAbove who old pos new
+Meets holds who old e (Lost cause) new = HasEventOf who old cause new
 
 abbrev pub session_of : Content → Option ℕ
 session_of (content.Session session rank command) = Some session
@@ -62,20 +62,20 @@ first_of None (Landed pos) = None
 first_of None (Lost cause) = Some cause
 
 -- the oldest entry meets its fate, and gives its cause
-pub record Carried (who : ℕ) (old : List Event) (was : OutboxView) (new : List Event) (is : OutboxView) : Type 0 where
+pub record Carried (holds : List Event → ℕ → Entry → Type 0) (who : ℕ) (old : List Event) (was : OutboxView) (new : List Event) (is : OutboxView) : Type 0 where
   pub entry : Entry
   pub fate : Fate
   pub oldest : was.entries ≡ entry ∷ is.entries
-  pub met : Meets who old entry fate new
+  pub met : Meets holds who old entry fate new
   pub gained : is.given ≡ was.given ++ gives entry fate
   pub unsettled : is.unsettled ≡ first_of was.unsettled fate
 
 -- Each entry in turn meets its fate, from moment to moment, and gives its cause.
-abbrev pub Settles : ℕ → List Event → List Entry → List Event → List Given → Option Cause → Option Cause → Type 0
-Settles who old [] new given before after = (new ≡ old) × (given ≡ []) × (after ≡ before)
-Settles who old (e ∷ es) new given before after =
+abbrev pub Settles : (List Event → ℕ → Entry → Type 0) → ℕ → List Event → List Entry → List Event → List Given → Option Cause → Option Cause → Type 0
+Settles holds who old [] new given before after = (new ≡ old) × (given ≡ []) × (after ≡ before)
+Settles holds who old (e ∷ es) new given before after =
     (mid : List Event) × (fate : Fate) × (rest : List Given)
-    × Meets who old e fate mid × (given ≡ gives e fate ++ rest) × Settles who mid es new rest (first_of before fate) after
+    × Meets holds who old e fate mid × (given ≡ gives e fate ++ rest) × Settles holds who mid es new rest (first_of before fate) after
 
 -- who may append this entry
 pub record MaySend (may : ℕ → Entry → Type 0) (who : ℕ) (e : Entry) : Type 0 where
@@ -83,24 +83,24 @@ pub record MaySend (may : ℕ → Entry → Type 0) (who : ℕ) (e : Entry) : Ty
   pub spelled : IsSpellable e
 
 -- the first of the entries are settled, the others wait on
-pub record Settled (who : ℕ) (old : List Event) (was : OutboxView) (new : List Event) (is : OutboxView) : Type 0 where
+pub record Settled (holds : List Event → ℕ → Entry → Type 0) (who : ℕ) (old : List Event) (was : OutboxView) (new : List Event) (is : OutboxView) : Type 0 where
   pub done : List Entry
   pub given : List Given
   pub all : was.entries ≡ done ++ is.entries
   pub gained : is.given ≡ was.given ++ given
   pub moment : List Event
-  pub fates : Settles who old done moment given was.unsettled is.unsettled
+  pub fates : Settles holds who old done moment given was.unsettled is.unsettled
   pub rest : (more : List Event) × (new ≡ moment ++ more)
 
 -- a settling is answered by the first cause since the last one
-pub record Answers (who : ℕ) (old : List Event) (was : OutboxView) (cause : Option Cause) (new : List Event) (is : OutboxView) : Type 0 where
-  pub settled : Settled who old was new (record { entries = is.entries; given = is.given; unsettled = cause })
+pub record Answers (holds : List Event → ℕ → Entry → Type 0) (who : ℕ) (old : List Event) (was : OutboxView) (cause : Option Cause) (new : List Event) (is : OutboxView) : Type 0 where
+  pub settled : Settled holds who old was new (record { entries = is.entries; given = is.given; unsettled = cause })
   pub none : is.entries ≡ []
   pub answered : is.unsettled ≡ None
 
-abbrev pub Failing : ℕ → List Event → OutboxView → Fault → List Event → OutboxView → Type 0
-Failing who old was Memory new is = Settled who old was new is
-Failing who old was (Because cause) new is = Answers who old was (Some cause) new is
+abbrev pub Failing : (List Event → ℕ → Entry → Type 0) → ℕ → List Event → OutboxView → Fault → List Event → OutboxView → Type 0
+Failing holds who old was Memory new is = Settled holds who old was new is
+Failing holds who old was (Because cause) new is = Answers holds who old was (Some cause) new is
 
 -- the session is among these
 abbrev pub has_session : ℕ → List ℕ → Bool

@@ -4,6 +4,7 @@
 pub mod fault;
 pub mod node;
 pub mod outbox;
+pub mod over_virtual_log;
 pub mod play;
 pub mod propose;
 pub mod rest;

@@ -193,8 +193,8 @@ impl<L: SharedLog, R: Replica> Node<L, R> {
         requires own { L.Law.may self.old.who (packed self.old.replica.origin (self.old.replica.kept ++ item ∷ [])) }
         ensures keeps { Keeps L.Law.may L.Law.floor L.Law.shelf self.old self.new }
         ensures follows { Follows L.holds R.state R.spells self.new.seen self.new.replica }
-        ensures proposed { OnOk result (Proposed self.old.who self.old.seen self.old.outbox self.old.replica item self.new.seen self.new.outbox self.new.replica) }
-        ensures refused { IfErr result (λ f. Refused self.old.who self.old.seen self.old.outbox item f self.new.seen self.new.outbox) }
+        ensures proposed { OnOk result (Proposed L.holds self.old.who self.old.seen self.old.outbox self.old.replica item self.new.seen self.new.outbox self.new.replica) }
+        ensures refused { IfErr result (λ f. Refused L.holds self.old.who self.old.seen self.old.outbox item f self.new.seen self.new.outbox) }
         ensures same { OnErr result (self.new.replica.kept ≡ self.old.replica.kept) }
         ensures blames { IfErr result (λ f. Blames self.old.who self.old.seen self.old.replica.faults f self.new.seen self.new.replica.faults) }
         ensures any_crash { AnyCrash self.old.replica.disk self.new.replica.disk (SpellsOne R.spells (IsFound L.holds R.state self.new.seen self.old.replica.cursor)) }
@@ -211,9 +211,9 @@ impl<L: SharedLog, R: Replica> Node<L, R> {
     /// What waits is packed, and is outstanding then.
     pub fn flush(&mut self) -> Result<(), AllocError>
         ensures keeps { Keeps L.Law.may L.Law.floor L.Law.shelf self.old self.new }
-        ensures sent { OnOk result (Sent self.old.who self.old.seen self.old.outbox (λ packed. Flushes self.old.replica.origin self.old.replica.kept packed self.new.replica.kept) self.new.seen self.new.outbox) }
+        ensures sent { OnOk result (Sent L.holds self.old.who self.old.seen self.old.outbox (λ packed. Flushes self.old.replica.origin self.old.replica.kept packed self.new.replica.kept) self.new.seen self.new.outbox) }
         ensures rest { self.new.replica ≡ record self.old.replica { kept = self.new.replica.kept } }
-        ensures unsent { OnErr result (Settled self.old.who self.old.seen self.old.outbox self.new.seen self.new.outbox) }
+        ensures unsent { OnErr result (Settled L.holds self.old.who self.old.seen self.old.outbox self.new.seen self.new.outbox) }
         ensures same { OnErr result (self.new.replica ≡ self.old.replica) }
     {
         flush(
@@ -229,8 +229,8 @@ impl<L: SharedLog, R: Replica> Node<L, R> {
     pub fn settle_all(&mut self) -> Result<(), Fault>
         ensures keeps { Keeps L.Law.may L.Law.floor L.Law.shelf self.old self.new }
         ensures replica { self.new.replica ≡ self.old.replica }
-        ensures calm { OnOk result (Answers self.old.who self.old.seen self.old.outbox None self.new.seen self.new.outbox) }
-        ensures failing { IfErr result (λ f. Failing self.old.who self.old.seen self.old.outbox f self.new.seen self.new.outbox) }
+        ensures calm { OnOk result (Answers L.holds self.old.who self.old.seen self.old.outbox None self.new.seen self.new.outbox) }
+        ensures failing { IfErr result (λ f. Failing L.holds self.old.who self.old.seen self.old.outbox f self.new.seen self.new.outbox) }
     {
         settle_all(self.alloc, &mut self.log, &mut self.outbox)
     }

@@ -37,7 +37,7 @@ fn leave_three<L: SharedLog>(
     ensures later { Later L.Law.may L.Law.floor L.Law.shelf (L.seen log.old) (L.seen log.new) }
     ensures who { L.who log.new ≡ L.who log.old }
     ensures known { L.reaches log.old ≤ L.reaches log.new }
-    ensures settled { Settled (L.who log.old) (L.seen log.old) (view_of outbox.old) (L.seen log.new) (view_of outbox.new) }
+    ensures settled { Settled L.holds (L.who log.old) (L.seen log.old) (view_of outbox.old) (L.seen log.new) (view_of outbox.new) }
     ensures may { All (λ e. MaySend L.Law.may (L.who log.new) e) outbox.new.entries.items }
     ensures few { length outbox.new.entries.items ≤ 4 }
     ensures room { OnOk result (length outbox.new.entries.items ≤ 3) }
@@ -63,7 +63,7 @@ fn make_room<L: SharedLog>(
     ensures later { Later L.Law.may L.Law.floor L.Law.shelf (L.seen log.old) (L.seen log.new) }
     ensures who { L.who log.new ≡ L.who log.old }
     ensures known { L.reaches log.old ≤ L.reaches log.new }
-    ensures settled { Settled (L.who log.old) (L.seen log.old) (view_of outbox.old) (L.seen log.new) (view_of outbox.new) }
+    ensures settled { Settled L.holds (L.who log.old) (L.seen log.old) (view_of outbox.old) (L.seen log.new) (view_of outbox.new) }
     ensures may { All (λ e. MaySend L.Law.may (L.who log.new) e) outbox.new.entries.items }
     ensures few { length outbox.new.entries.items ≤ 4 }
     ensures room { OnOk result (length outbox.new.entries.items ≤ 3) }
@@ -92,9 +92,9 @@ fn send<L: SharedLog, R: Replica>(
     ensures later { Later L.Law.may L.Law.floor L.Law.shelf (L.seen log.old) (L.seen log.new) }
     ensures who { L.who log.new ≡ L.who log.old }
     ensures known { L.reaches log.old ≤ L.reaches log.new }
-    ensures sent { OnOk result (Sent (L.who log.old) (L.seen log.old) (view_of outbox.old) (λ packed. Queues (R.shows replica.old).origin (R.shows replica.old).kept item packed (R.shows replica.new).kept) (L.seen log.new) (view_of outbox.new)) }
+    ensures sent { OnOk result (Sent L.holds (L.who log.old) (L.seen log.old) (view_of outbox.old) (λ packed. Queues (R.shows replica.old).origin (R.shows replica.old).kept item packed (R.shows replica.new).kept) (L.seen log.new) (view_of outbox.new)) }
     ensures rest { R.shows replica.new ≡ record (R.shows replica.old) { kept = (R.shows replica.new).kept } }
-    ensures unsent { OnErr result (Settled (L.who log.old) (L.seen log.old) (view_of outbox.old) (L.seen log.new) (view_of outbox.new)) }
+    ensures unsent { OnErr result (Settled L.holds (L.who log.old) (L.seen log.old) (view_of outbox.old) (L.seen log.new) (view_of outbox.new)) }
     ensures same { OnErr result (R.shows replica.new ≡ R.shows replica.old) }
     ensures may { All (λ e. MaySend L.Law.may (L.who log.new) e) outbox.new.entries.items }
     ensures few { length outbox.new.entries.items ≤ 4 }
@@ -123,9 +123,9 @@ pub fn flush<L: SharedLog, R: Replica>(
     ensures later { Later L.Law.may L.Law.floor L.Law.shelf (L.seen log.old) (L.seen log.new) }
     ensures who { L.who log.new ≡ L.who log.old }
     ensures known { L.reaches log.old ≤ L.reaches log.new }
-    ensures sent { OnOk result (Sent (L.who log.old) (L.seen log.old) (view_of outbox.old) (λ packed. Flushes (R.shows replica.old).origin (R.shows replica.old).kept packed (R.shows replica.new).kept) (L.seen log.new) (view_of outbox.new)) }
+    ensures sent { OnOk result (Sent L.holds (L.who log.old) (L.seen log.old) (view_of outbox.old) (λ packed. Flushes (R.shows replica.old).origin (R.shows replica.old).kept packed (R.shows replica.new).kept) (L.seen log.new) (view_of outbox.new)) }
     ensures rest { R.shows replica.new ≡ record (R.shows replica.old) { kept = (R.shows replica.new).kept } }
-    ensures unsent { OnErr result (Settled (L.who log.old) (L.seen log.old) (view_of outbox.old) (L.seen log.new) (view_of outbox.new)) }
+    ensures unsent { OnErr result (Settled L.holds (L.who log.old) (L.seen log.old) (view_of outbox.old) (L.seen log.new) (view_of outbox.new)) }
     ensures waiting { (R.shows replica.new).kept ≢ [] → L.Law.may (L.who log.old) (packed (R.shows replica.old).origin (R.shows replica.new).kept) }
     ensures same { OnErr result (R.shows replica.new ≡ R.shows replica.old) }
     ensures may { All (λ e. MaySend L.Law.may (L.who log.new) e) outbox.new.entries.items }
@@ -189,8 +189,8 @@ fn catch_up<L: SharedLog, R: Replica>(
     ensures origin { (R.shows replica.new).origin ≡ (R.shows replica.old).origin }
     ensures any_crash { AnyCrash (R.shows replica.old).disk (R.shows replica.new).disk (SpellsOne R.spells (IsFound L.holds R.state (L.seen log.new) (R.shows replica.old).cursor)) }
     ensures blames { IfErr result (λ f. Blames (L.who log.old) (L.seen log.old) (R.shows replica.old).faults f (L.seen log.new) (R.shows replica.new).faults) }
-    ensures caught { OnOk result (CaughtUp (L.who log.old) (L.seen log.old) (view_of outbox.old) (L.seen log.new) (view_of outbox.new) (R.shows replica.new)) }
-    ensures gave_up { IfErr result (λ f. GaveUp (L.who log.old) (L.seen log.old) (view_of outbox.old) session f (L.seen log.new) (view_of outbox.new)) }
+    ensures caught { OnOk result (CaughtUp L.holds (L.who log.old) (L.seen log.old) (view_of outbox.old) (L.seen log.new) (view_of outbox.new) (R.shows replica.new)) }
+    ensures gave_up { IfErr result (λ f. GaveUp L.holds (L.who log.old) (L.seen log.old) (view_of outbox.old) session f (L.seen log.new) (view_of outbox.new)) }
     ensures kept { (R.shows replica.new).kept ≡ (R.shows replica.old).kept }
 {
     carry_all(alloc, log, outbox)?;
@@ -235,8 +235,8 @@ fn is_ready<L: SharedLog, R: Replica>(
     ensures origin { (R.shows replica.new).origin ≡ (R.shows replica.old).origin }
     ensures any_crash { AnyCrash (R.shows replica.old).disk (R.shows replica.new).disk (SpellsOne R.spells (IsFound L.holds R.state (L.seen log.new) (R.shows replica.old).cursor)) }
     ensures blames { IfErr result (λ f. Blames (L.who log.old) (L.seen log.old) (R.shows replica.old).faults f (L.seen log.new) (R.shows replica.new).faults) }
-    ensures ready { IfOk result (λ ready. Readied (L.who log.old) (L.seen log.old) (view_of outbox.old) item.now ready (L.seen log.new) (view_of outbox.new) (R.shows replica.new)) }
-    ensures refused { IfErr result (λ f. Refused (L.who log.old) (L.seen log.old) (view_of outbox.old) item.now f (L.seen log.new) (view_of outbox.new)) }
+    ensures ready { IfOk result (λ ready. Readied L.holds (L.who log.old) (L.seen log.old) (view_of outbox.old) item.now ready (L.seen log.new) (view_of outbox.new) (R.shows replica.new)) }
+    ensures refused { IfErr result (λ f. Refused L.holds (L.who log.old) (L.seen log.old) (view_of outbox.old) item.now f (L.seen log.new) (view_of outbox.new)) }
     ensures kept { (R.shows replica.new).kept ≡ (R.shows replica.old).kept }
 {
     let Some(word) = session_word(item) else {
@@ -290,8 +290,8 @@ pub fn propose<L: SharedLog, R: Replica>(
     ensures origin { (R.shows replica.new).origin ≡ (R.shows replica.old).origin }
     ensures any_crash { AnyCrash (R.shows replica.old).disk (R.shows replica.new).disk (SpellsOne R.spells (IsFound L.holds R.state (L.seen log.new) (R.shows replica.old).cursor)) }
     ensures blames { IfErr result (λ f. Blames (L.who log.old) (L.seen log.old) (R.shows replica.old).faults f (L.seen log.new) (R.shows replica.new).faults) }
-    ensures proposed { OnOk result (Proposed (L.who log.old) (L.seen log.old) (view_of outbox.old) (R.shows replica.old) item (L.seen log.new) (view_of outbox.new) (R.shows replica.new)) }
-    ensures refused { IfErr result (λ f. Refused (L.who log.old) (L.seen log.old) (view_of outbox.old) item f (L.seen log.new) (view_of outbox.new)) }
+    ensures proposed { OnOk result (Proposed L.holds (L.who log.old) (L.seen log.old) (view_of outbox.old) (R.shows replica.old) item (L.seen log.new) (view_of outbox.new) (R.shows replica.new)) }
+    ensures refused { IfErr result (λ f. Refused L.holds (L.who log.old) (L.seen log.old) (view_of outbox.old) item f (L.seen log.new) (view_of outbox.new)) }
     ensures waiting { (R.shows replica.new).kept ≢ [] → L.Law.may (L.who log.old) (packed (R.shows replica.old).origin (R.shows replica.new).kept) }
     ensures same { OnErr result ((R.shows replica.new).kept ≡ (R.shows replica.old).kept) }
 {

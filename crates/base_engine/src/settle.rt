@@ -24,7 +24,7 @@ pub fn carry_oldest<L: SharedLog>(
     ensures later { Later L.Law.may L.Law.floor L.Law.shelf (L.seen log.old) (L.seen log.new) }
     ensures who { L.who log.new ≡ L.who log.old }
     ensures known { L.reaches log.old ≤ L.reaches log.new }
-    ensures carried { OnOk result (Carried (L.who log.old) (L.seen log.old) (view_of outbox.old) (L.seen log.new) (view_of outbox.new)) }
+    ensures carried { OnOk result (Carried L.holds (L.who log.old) (L.seen log.old) (view_of outbox.old) (L.seen log.new) (view_of outbox.new)) }
     ensures same { OnErr result (view_of outbox.new ≡ view_of outbox.old) }
     ensures may { All (λ e. MaySend L.Law.may (L.who log.new) e) outbox.new.entries.items }
 {
@@ -73,7 +73,7 @@ pub fn carry_all<L: SharedLog>(
     ensures later { Later L.Law.may L.Law.floor L.Law.shelf (L.seen log.old) (L.seen log.new) }
     ensures who { L.who log.new ≡ L.who log.old }
     ensures known { L.reaches log.old ≤ L.reaches log.new }
-    ensures settled { Settled (L.who log.old) (L.seen log.old) (view_of outbox.old) (L.seen log.new) (view_of outbox.new) }
+    ensures settled { Settled L.holds (L.who log.old) (L.seen log.old) (view_of outbox.old) (L.seen log.new) (view_of outbox.new) }
     ensures none { OnOk result (outbox.new.entries.items ≡ []) }
     ensures may { All (λ e. MaySend L.Law.may (L.who log.new) e) outbox.new.entries.items }
 {
@@ -95,8 +95,8 @@ pub fn settle_all<L: SharedLog>(
     ensures later { Later L.Law.may L.Law.floor L.Law.shelf (L.seen log.old) (L.seen log.new) }
     ensures who { L.who log.new ≡ L.who log.old }
     ensures known { L.reaches log.old ≤ L.reaches log.new }
-    ensures calm { OnOk result (Answers (L.who log.old) (L.seen log.old) (view_of outbox.old) None (L.seen log.new) (view_of outbox.new)) }
-    ensures failing { IfErr result (λ f. Failing (L.who log.old) (L.seen log.old) (view_of outbox.old) f (L.seen log.new) (view_of outbox.new)) }
+    ensures calm { OnOk result (Answers L.holds (L.who log.old) (L.seen log.old) (view_of outbox.old) None (L.seen log.new) (view_of outbox.new)) }
+    ensures failing { IfErr result (λ f. Failing L.holds (L.who log.old) (L.seen log.old) (view_of outbox.old) f (L.seen log.new) (view_of outbox.new)) }
     ensures may { All (λ e. MaySend L.Law.may (L.who log.new) e) outbox.new.entries.items }
     ensures few { length outbox.new.entries.items ≤ 4 }
 {

@@ -8,7 +8,8 @@ ghost use Rattle.legal_journal.specs.Laws.{Stands};
 ghost use Rattle.virtual_log.specs.Turning.{Later, IsAbove};
 ghost use Rattle.virtual_log.specs.Causes.{HasCause};
 ghost use Rattle.virtual_log.specs.Truncating.{IsPrefixTrimmed};
-ghost use Rattle.base_engine.specs.Reading.{Reads, Stays, IsExtendedBy};
+ghost use Rattle.virtual_log.specs.Holding.{Reads, Stays};
+ghost use Rattle.base_engine.specs.Reading.{IsExtendedBy};
 
 use delos_types::entry::Entry;
 use legal_journal::rules::Rules;
@@ -43,6 +44,7 @@ pub trait SharedLog {
         ensures later { Later Self.Law.may Self.Law.floor Self.Law.shelf (seen self.old) (seen self.new) }
         ensures who { who self.new ≡ who self.old }
         ensures stands { IfOk result (λ pos. Stands (state_of (seen self.new)) pos entry.now) }
+        ensures held { IfOk result (λ pos. holds (seen self.new) pos entry.now) }
         ensures above { IfOk result (λ pos. IsAbove (who self.old) (seen self.old) pos (seen self.new)) }
         ensures known { IfOk result (λ pos. reaches self.new ≡ max (reaches self.old) (pos + 1)) }
         ensures err { IfErr result (λ fault. HasCause (who self.old) (seen self.old) fault (seen self.new)) }

@@ -1,6 +1,6 @@
 use Rattle.std.proofs.Common.{◌∙◌, ◌<◌, sym, subst, ap, arith}
 use Rattle.std.specs.Prelude.{min}
-use Rattle.base_engine.specs.Reading.{Reads}
+use Rattle.virtual_log.specs.Holding.{Reads}
 use Rattle.replica_api.specs.Replica.{ReplicaView, saved_in}
 use Rattle.base_engine.specs.Following.{Follows}
 use Rattle.base_engine.proofs.Following.{follows_later, follows_done, follows_fault, follows_same, crash_at_rest, crash_in_apply, known_done, known_fault}

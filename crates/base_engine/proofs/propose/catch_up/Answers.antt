@@ -74,9 +74,9 @@ returns-in-Ok-clause-caught g c =
     let new = t.seen c.sync.new.log in
     let was = view_of c.args.outbox.now in
     let is = view_of c.carry_all.new.outbox in
-    let settled = settled_on w old mid new was is c.carry_all.ensures.settled (more_of p.may p.floor p.shelf mid new c.sync.ensures.later) in
+    let settled = settled_on t.holds w old mid new was is c.carry_all.ensures.settled (more_of p.may p.floor p.shelf mid new c.sync.ensures.later) in
     record {
-      settled = settled_given w old new was is c.reserve.new.self.items settled c.reserve.ensures.items;
+      settled = settled_given t.holds w old new was is c.reserve.new.self.items settled c.reserve.ensures.items;
       none = c.in_ok-carry_all.ensures.none;
       mid = mid;
       since = more_of p.may p.floor p.shelf old mid c.carry_all.ensures.later;
@@ -97,8 +97,8 @@ returns-in-Memory-clause-gave_up g c =
     let new = t.seen c.sync.new.log in
     let was = view_of c.args.outbox.now in
     let is = view_of c.carry_all.new.outbox in
-    let settled = settled_on w old mid new was is c.carry_all.ensures.settled (more_of p.may p.floor p.shelf mid new c.sync.ensures.later) in
-    settled_given w old new was is c.reserve.new.self.items settled c.reserve.ensures.items
+    let settled = settled_on t.holds w old mid new was is c.carry_all.ensures.settled (more_of p.may p.floor p.shelf mid new c.sync.ensures.later) in
+    settled_given t.holds w old new was is c.reserve.new.self.items settled c.reserve.ensures.items
 
 pub returns-in-Because-clause-gave_up : goal.returns-in-Because-clause-gave_up
 returns-in-Because-clause-gave_up g c =
@@ -112,7 +112,7 @@ returns-in-Because-clause-gave_up g c =
     let new = t.seen c.sync.new.log in
     let was = view_of c.args.outbox.now in
     let is = view_of c.carry_all.new.outbox in
-    let settled = settled_on w old mid new was is c.carry_all.ensures.settled (more_of p.may p.floor p.shelf mid new c.sync.ensures.later) in
+    let settled = settled_on t.holds w old mid new was is c.carry_all.ensures.settled (more_of p.may p.floor p.shelf mid new c.sync.ensures.later) in
     let none = c.in_ok-carry_all.ensures.none in
     record {
       mid = is;

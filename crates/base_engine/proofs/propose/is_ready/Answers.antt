@@ -35,7 +35,7 @@ returns-in-Err-clause-refused g c =
     let old = t.seen c.args.log.now in
     let was = view_of c.args.outbox.now in
     let v = r.shows c.args.replica.now in
-    refused_memory w old was (under 2 c.args.item.now) old was (settled_none p.may p.floor p.shelf w old old was was refl (later_refl p.may p.floor p.shelf old c.requires.legal))
+    refused_memory t.holds w old was (under 2 c.args.item.now) old was (settled_none t.holds p.may p.floor p.shelf w old old was was refl (later_refl p.may p.floor p.shelf old c.requires.legal))
 
 pub returns-then-near-clause-ready : goal.returns-then-near-clause-ready
 returns-then-near-clause-ready g c =
@@ -46,7 +46,7 @@ returns-then-near-clause-ready g c =
     let old = t.seen c.args.log.now in
     let was = view_of c.args.outbox.now in
     let v = r.shows c.args.replica.now in
-    readied_at_once w old was c.args.item.now c.in-Some.word.0 c.in-Some.word.1 _ v c.in-Some.ensures (subst (λ b. IsNearBy v.contents c.in-Some.word.0 c.in-Some.word.1 b) c.if-near.true c.in-Ok.ensures)
+    readied_at_once t.holds w old was c.args.item.now c.in-Some.word.0 c.in-Some.word.1 _ v c.in-Some.ensures (subst (λ b. IsNearBy v.contents c.in-Some.word.0 c.in-Some.word.1 b) c.if-near.true c.in-Ok.ensures)
 
 pub returns-in-Err-catch_up-clause-refused : goal.returns-in-Err-catch_up-clause-refused
 returns-in-Err-catch_up-clause-refused g c =
@@ -60,4 +60,4 @@ returns-in-Err-catch_up-clause-refused g c =
     let new = t.seen c.catch_up.new.log in
     let is = view_of c.catch_up.new.outbox in
     let u = r.shows c.catch_up.new.replica in
-    refused_by w old was c.args.item.now c.in-Some.word.0 c.in-Some.word.1 _ _ new is c.in-Some.ensures c.in-Err-catch_up.ensures.gave_up
+    refused_by t.holds w old was c.args.item.now c.in-Some.word.0 c.in-Some.word.1 _ _ new is c.in-Some.ensures c.in-Err-catch_up.ensures.gave_up

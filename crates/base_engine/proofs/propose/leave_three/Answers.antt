@@ -13,15 +13,15 @@ returns-then-len-lt-MOST-clause-settled g c =
     let p = g.L.Law.Rules in
     let t = g.L.SharedLog in
     let v = view_of c.args.outbox.now in
-    settled_none p.may p.floor p.shelf (t.who c.args.log.now) (t.seen c.args.log.now) (t.seen c.args.log.now) v v refl (later_refl p.may p.floor p.shelf (t.seen c.args.log.now) c.requires.legal)
+    settled_none t.holds p.may p.floor p.shelf (t.who c.args.log.now) (t.seen c.args.log.now) (t.seen c.args.log.now) v v refl (later_refl p.may p.floor p.shelf (t.seen c.args.log.now) c.requires.legal)
 
 pub returns-in-Ok-clause-settled : goal.returns-in-Ok-clause-settled
 returns-in-Ok-clause-settled g c =
     let t = g.L.SharedLog in
-    settled_one (t.who c.args.log.now) (t.seen c.args.log.now) (t.seen c.carry_oldest.new.log) (view_of c.args.outbox.now) (view_of c.carry_oldest.new.outbox) c.in-Ok.ensures.carried
+    settled_one t.holds (t.who c.args.log.now) (t.seen c.args.log.now) (t.seen c.carry_oldest.new.log) (view_of c.args.outbox.now) (view_of c.carry_oldest.new.outbox) c.in-Ok.ensures.carried
 
 pub returns-in-Err-clause-settled : goal.returns-in-Err-clause-settled
 returns-in-Err-clause-settled g c =
     let p = g.L.Law.Rules in
     let t = g.L.SharedLog in
-    settled_none p.may p.floor p.shelf (t.who c.args.log.now) (t.seen c.args.log.now) (t.seen c.carry_oldest.new.log) (view_of c.args.outbox.now) (view_of c.carry_oldest.new.outbox) c.in-Err.ensures.same c.in-Err.ensures.later
+    settled_none t.holds p.may p.floor p.shelf (t.who c.args.log.now) (t.seen c.args.log.now) (t.seen c.carry_oldest.new.log) (view_of c.args.outbox.now) (view_of c.carry_oldest.new.outbox) c.in-Err.ensures.same c.in-Err.ensures.later

@@ -22,7 +22,7 @@ returns-then-not-ready-clause-proposed g c =
     let a = r.shows c.args.replica.now in
     let v = r.shows c.is_ready.new.replica in
     let e = c.in-Ok.ensures in
-    let far = subst (λ b. Readied w old was c.args.item b mid now v) c.if-not-ready.true e.ready in
+    let far = subst (λ b. Readied t.holds w old was c.args.item b mid now v) c.if-not-ready.true e.ready in
     inr (far.0, far.1, e.kept)
 
 pub send-requires-clause-own : goal.send-requires-clause-own
@@ -147,11 +147,11 @@ returns-in-Ok-send-clause-proposed g c =
     let new = t.seen c.send.new.log in
     let is = view_of c.send.new.outbox in
     let u = r.shows c.send.new.replica in
-    let ready = subst (λ b. Readied w old was c.args.item b mid now v) c.if-not-ready.false e.ready in
-    let sent = subst (λ x. Sent x mid now (λ packed. Queues v.origin v.kept c.args.item packed u.kept) new is) e.who c.in-Ok-send.ensures.sent in
-    let from = subst (λ k. Sent w mid now (λ packed. Queues v.origin k c.args.item packed u.kept) new is) e.kept sent in
-    let by = subst (λ o. Sent w mid now (λ packed. Queues o a.kept c.args.item packed u.kept) new is) e.origin from in
-    inl (sent_after w old mid new was now is v u c.args.item (λ packed. Queues a.origin a.kept c.args.item packed u.kept) ready by (ap (λ (x : ReplicaView). x.contents) c.send.ensures.rest))
+    let ready = subst (λ b. Readied t.holds w old was c.args.item b mid now v) c.if-not-ready.false e.ready in
+    let sent = subst (λ x. Sent t.holds x mid now (λ packed. Queues v.origin v.kept c.args.item packed u.kept) new is) e.who c.in-Ok-send.ensures.sent in
+    let from = subst (λ k. Sent t.holds w mid now (λ packed. Queues v.origin k c.args.item packed u.kept) new is) e.kept sent in
+    let by = subst (λ o. Sent t.holds w mid now (λ packed. Queues o a.kept c.args.item packed u.kept) new is) e.origin from in
+    inl (sent_after t.holds w old mid new was now is v u c.args.item (λ packed. Queues a.origin a.kept c.args.item packed u.kept) ready by (ap (λ (x : ReplicaView). x.contents) c.send.ensures.rest))
 
 pub returns-in-Err-send-clause-refused : goal.returns-in-Err-send-clause-refused
 returns-in-Err-send-clause-refused g c =
@@ -169,8 +169,8 @@ returns-in-Err-send-clause-refused g c =
     let new = t.seen c.send.new.log in
     let is = view_of c.send.new.outbox in
     let u = r.shows c.send.new.replica in
-    let ready = subst (λ b. Readied w old was c.args.item b mid now v) c.if-not-ready.false e.ready in
-    refused_memory w old was (under 2 c.args.item) new is (settled_after w old mid new was now is v c.args.item ready (subst (λ x. Settled x mid now new is) e.who c.in-Err-send.ensures.unsent))
+    let ready = subst (λ b. Readied t.holds w old was c.args.item b mid now v) c.if-not-ready.false e.ready in
+    refused_memory t.holds w old was (under 2 c.args.item) new is (settled_after t.holds w old mid new was now is v c.args.item ready (subst (λ x. Settled t.holds x mid now new is) e.who c.in-Err-send.ensures.unsent))
 
 pub returns-in-Err-clause-waiting : goal.returns-in-Err-clause-waiting
 returns-in-Err-clause-waiting g c =

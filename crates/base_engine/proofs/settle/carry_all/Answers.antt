@@ -18,6 +18,6 @@ entry-preserved g c =
       who = e.who ∙ i.who;
       known = omega (arith, i.known, e.known);
       may = e.may;
-      sofar = one_more (t.who c.args.log.now) (t.seen c.args.log.now) now new (view_of c.args.outbox.now) (view_of l.outbox) (view_of c.carry_oldest.new.outbox) i.sofar
-          (subst (λ w. Carried w now (view_of l.outbox) new (view_of c.carry_oldest.new.outbox)) i.who e.carried);
+      sofar = one_more t.holds (t.who c.args.log.now) (t.seen c.args.log.now) now new (view_of c.args.outbox.now) (view_of l.outbox) (view_of c.carry_oldest.new.outbox) i.sofar
+          (subst (λ w. Carried t.holds w now (view_of l.outbox) new (view_of c.carry_oldest.new.outbox)) i.who e.carried);
     }

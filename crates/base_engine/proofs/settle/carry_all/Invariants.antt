@@ -14,7 +14,7 @@ invariant-entry g l =
       who : t.who l.log ≡ t.who l.fn.log;
       known : t.reaches l.fn.log ≤ t.reaches l.log;
       may : All (λ e. MaySend p.may (t.who l.log) e) l.outbox.entries.items;
-      sofar : SoFar (t.who l.fn.log) (t.seen l.fn.log) (view_of l.fn.outbox) (t.seen l.log) (view_of l.outbox);
+      sofar : SoFar t.holds (t.who l.fn.log) (t.seen l.fn.log) (view_of l.fn.outbox) (t.seen l.log) (view_of l.outbox);
     }
 
 abbrev pub decreases-entry : goal.decreases-entry

@@ -20,7 +20,7 @@ returns-in-Ok-clause-carried g c =
       entry = c.index-2.result.now;
       fate = Landed c.in-Ok.field-0;
       oldest = head_rest c.args.outbox.now.entries.items c.remove-landed.new.self.items c.index-2.result.now c.requires.some c.index-2.ensures c.remove-landed.ensures.items;
-      met = (c.in-Ok.ensures.stands, c.in-Ok.ensures.above);
+      met = (c.in-Ok.ensures.stands, c.in-Ok.ensures.held, c.in-Ok.ensures.above);
       gained = c.reserve.ensures.items ∙ sym (append-nil c.args.outbox.now.given.items);
       unsettled = first_landed c.args.outbox.now.unsettled c.in-Ok.field-0;
     }

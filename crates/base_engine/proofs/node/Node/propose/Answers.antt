@@ -21,5 +21,5 @@ returns-clause-proposed g c =
     let t = g.L.SharedLog in
     let r = g.R.Replica in
     subst
-    (λ (n : NodeView). OnOk c.propose.result (Proposed n.who n.seen n.outbox n.replica c.args.item (t.seen c.propose.new.log) (view_of c.propose.new.outbox) (r.shows c.propose.new.replica)))
+    (λ (n : NodeView). OnOk c.propose.result (Proposed t.holds n.who n.seen n.outbox n.replica c.args.item (t.seen c.propose.new.log) (view_of c.propose.new.outbox) (r.shows c.propose.new.replica)))
     c.self.view_is c.propose.ensures.proposed
