@@ -10,7 +10,6 @@ use Rattle.loglet_api.specs.Sound.{IsSound}
 use Rattle.legal_journal.specs.Journal.{fresh_cell}
 use Rattle.register_api.specs.View.{RegisterView}
 use Rattle.register_api.specs.View as register_view
-use Rattle.fabric_core.proofs.Ran.{still_refl}
 use Rattle.fabric_core.specs.Fabric.{FabricOk, IsAsTold, MatchesOperation}
 
 at_all : {A : Type 0} (P : LogletView → Type 0) (view : A → LogletView) (xs : List A) (i : ℕ) (v : LogletView) → All (λ x. P (view x)) xs → slice_get (map view xs) i ≡ Some v → P v
@@ -62,5 +61,5 @@ opened may floor shelf view items cells marks register least most shelf_is fresh
         current = inl (r.version, r.chain);
         torn = λ c e. let none = r.asked in absurd (cc);
       };
-      register_ran = record { opening = register; fresh = r; run = still_refl register };
+      register_ran = record { opening = register; fresh = r; run = refl };
     }

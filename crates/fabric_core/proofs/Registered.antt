@@ -1,26 +1,25 @@
 -- A fabric goes on after an event of its register.
-use Rattle.std.proofs.Common.{◌≡◌, inl, inr, ℕ, ◌+◌, ◌<◌, ◌^◌, List, [], ◌∷◌, ◌++◌, length, Bool, true, false, refl, sym, ap, ◌∙◌, subst, ⊎_elim, arith}
+use Rattle.std.proofs.Common.{◌≡◌, ℕ, ◌+◌, ◌<◌, ◌^◌, List, [], ◌∷◌, ◌++◌, length, Bool, true, false, refl, sym, ap, ◌∙◌, subst, ⊎_elim, arith}
 use Rattle.std.proofs.lemmas.List.{length-append}
 use Rattle.delos_types.specs.declared.entry.Entry.{Entry}
 use Rattle.delos_types.specs.declared.chain.Chain.{Chain}
 use Rattle.chain_map.specs.Chain.{is_chain}
 use Rattle.register_api.specs.View.{RegisterView}
-use Rattle.register_api.specs.Calls.{IsStill}
 use Rattle.legal_journal.specs.declared.events.Event.{Event}
 use Rattle.legal_journal.specs.declared.events.FabricCall.{FabricCall}
 use Rattle.legal_journal.specs.declared.events.FabricCall.TheVariants.{ReadChain, WriteChain, StopMeta, MendMeta}
 use Rattle.legal_journal.specs.declared.events.FabricAnswer.{FabricAnswer}
 use Rattle.legal_journal.specs.declared.events.FabricAnswer.TheVariants.{At, Down, Written, Conflict, MetaFault, Set, Memory}
 use Rattle.legal_journal.specs.Moves.{move, move_of}
-use Rattle.legal_journal.specs.Journal.{CellState, State, state_of, after, MayHappen, MayFollow, IsLegal}
+use Rattle.legal_journal.specs.Journal.{CellState, State, state_of, after, MayHappen, MayFollow}
 use Rattle.legal_journal.specs.Turns.{MayCall, OwnEvents}
 use Rattle.legal_journal.proofs.Sound.{StateOk}
 use Rattle.legal_journal.proofs.Legal.{sound}
 use Rattle.fabric_core.specs.Runs.{RegisterDoes, is_on, is_on_register}
-use Rattle.fabric_core.specs.RegisterEvent.{RegisterActs, RegisterApplies, ReadApplies}
-use Rattle.fabric_core.specs.Fabric.{FabricView, FabricOk, IsAsTold, AreMarked, IsRegisterAsTold, Stays, Keeps}
-use Rattle.fabric_core.proofs.Ran.{still_refl, register_more, register_still}
-use Rattle.fabric_core.proofs.Registers.{counted, current_is, given_told, written_told, failed_told, mended_told, missed_told, may_stand, IsExpected, expected, small_version}
+use Rattle.fabric_core.specs.RegisterEvent.{RegisterActs, RegisterApplies}
+use Rattle.fabric_core.specs.Fabric.{FabricView, FabricOk, IsAsTold, AreMarked, IsRegisterAsTold, Keeps}
+use Rattle.fabric_core.proofs.Ran.{register_more}
+use Rattle.fabric_core.proofs.Registers.{counted, current_is, given_told, written_told, failed_told, mended_told, missed_told, may_stand, expected, small_version}
 use Rattle.fabric_core.proofs.Kept.{legal_more, state_more, has_run_same}
 use Rattle.fabric_core.proofs.Shelf.{adds_none}
 
@@ -65,29 +64,17 @@ module _ (may : ℕ → Entry → Type 0) (floor : List Entry → ℕ) (shelf : 
       }
 
   -- no event
-  unheard : (who : ℕ) (call : FabricCall) (answer : FabricAnswer) (r : RegisterView) (journal : List Event) → Stays call f (record { cells = f.cells; register = r; journal = f.journal }) → answer ≡ Memory → IsStill f.register r → journal ≡ f.journal → Goes who call answer r journal
-  unheard who call answer r journal stays memory still is =
-      let now : FabricOk may floor shelf (record { cells = f.cells; register = r; journal = f.journal }) marks = record {
-        legal = ok.legal;
-        shelf_is = ok.shelf_is;
-        cells = ok.cells;
-        register = counted (state_of f.journal).register f.register ok.register r r.faults still.same;
-        register_ran = register_still f.register r f.journal ok.register_ran still;
-      } in
-      let all = subst (λ j. FabricOk may floor shelf (record { cells = f.cells; register = r; journal = j }) marks) (sym is) now in record {
+  unheard : (who : ℕ) (call : FabricCall) (answer : FabricAnswer) (r : RegisterView) (journal : List Event) → answer ≡ Memory → r ≡ f.register → journal ≡ f.journal → Goes who call answer r journal
+  unheard who call answer r journal memory same is =
+      let unchanged : ◌≡◌ {A = FabricView} (record { cells = f.cells; register = r; journal = journal }) f = ap (λ x. record { cells = f.cells; register = x; journal = journal }) same ∙ ap (λ x. record { cells = f.cells; register = f.register; journal = x }) is in
+      let all = subst (λ (x : FabricView). FabricOk may floor shelf x marks) (sym unchanged) ok in record {
         now = all;
         keeps = record {
           adds = adds_none who call f.journal journal answer memory is;
           legal = all.legal;
-          same = λ _. subst (λ j. Stays call f (record { cells = f.cells; register = r; journal = j })) (sym is) stays;
+          same = λ _. unchanged;
         };
       }
-
-  same_register : (r : RegisterView) → r ≡ f.register → ◌≡◌ {A = FabricView} (record { cells = f.cells; register = r; journal = f.journal }) f
-  same_register r h = ap (λ x. record { cells = f.cells; register = x; journal = f.journal }) h
-
-  as_still : (r : RegisterView) → r ≡ f.register → IsStill f.register r
-  as_still r h = subst (IsStill f.register) (sym h) (still_refl f.register)
 
   up : f.register.down ≡ false → (state_of f.journal).register.down ≡ false
   up h = sym ok.register.down ∙ h
@@ -103,10 +90,10 @@ module _ (may : ℕ → Entry → Type 0) (floor : List Entry → ℕ) (shelf : 
       (λ j. refl) (λ j. refl) refl refl h (counted (state_of f.journal).register f.register ok.register r _ h.does.counted)
   read_acts who answer r journal h = absurd h.does
 
-  pub read_goes : (who : ℕ) (answer : FabricAnswer) (r : RegisterView) (journal : List Event) → ReadApplies f.register f.journal who ReadChain answer r journal → Goes who ReadChain answer r journal
+  pub read_goes : (who : ℕ) (answer : FabricAnswer) (r : RegisterView) (journal : List Event) → RegisterApplies f.register f.journal who ReadChain answer r journal → Goes who ReadChain answer r journal
   read_goes who answer r journal h = ⊎_elim
       (λ (x : RegisterActs f.register f.journal who ReadChain answer r journal). read_acts who answer r journal x)
-      (λ (x : (answer ≡ Memory) × (r ≡ f.register) × (journal ≡ f.journal)). unheard who ReadChain answer r journal (same_register r x.1) x.0 (as_still r x.1) x.2)
+      (λ (x : (answer ≡ Memory) × (r ≡ f.register) × (journal ≡ f.journal)). unheard who ReadChain answer r journal x.0 x.1 x.2)
       h
 
   pub may_write : (who x : ℕ) (c : Chain) → MayCall (state_of f.journal) may floor shelf who (WriteChain x c) → is_chain c ≡ true
@@ -141,7 +128,7 @@ module _ (may : ℕ → Entry → Type 0) (floor : List Entry → ℕ) (shelf : 
   pub write_goes : (who x : ℕ) (c : Chain) (answer : FabricAnswer) (r : RegisterView) (journal : List Event) → MayCall (state_of f.journal) may floor shelf who (WriteChain x c) → RegisterApplies f.register f.journal who (WriteChain x c) answer r journal → Goes who (WriteChain x c) answer r journal
   write_goes who x c answer r journal can h = ⊎_elim
       (λ (y : RegisterActs f.register f.journal who (WriteChain x c) answer r journal). write_acts who x c answer r journal can y)
-      (λ (y : (answer ≡ Memory) × IsStill f.register r × (journal ≡ f.journal)). unheard who (WriteChain x c) answer r journal (r, y.1, refl) y.0 y.1 y.2)
+      (λ (y : (answer ≡ Memory) × (r ≡ f.register) × (journal ≡ f.journal)). unheard who (WriteChain x c) answer r journal y.0 y.1 y.2)
       h
 
   arm_acts : (who n : ℕ) (answer : FabricAnswer) (r : RegisterView) (journal : List Event) → RegisterActs f.register f.journal who (StopMeta n) answer r journal → Goes who (StopMeta n) answer r journal
@@ -150,10 +137,10 @@ module _ (may : ℕ → Entry → Type 0) (floor : List Entry → ℕ) (shelf : 
       (subst (IsRegisterAsTold (state_of f.journal).register) (sym h.does) ok.register)
   arm_acts who n answer r journal h = absurd h.does
 
-  pub arm_goes : (who n : ℕ) (answer : FabricAnswer) (r : RegisterView) (journal : List Event) → ReadApplies f.register f.journal who (StopMeta n) answer r journal → Goes who (StopMeta n) answer r journal
+  pub arm_goes : (who n : ℕ) (answer : FabricAnswer) (r : RegisterView) (journal : List Event) → RegisterApplies f.register f.journal who (StopMeta n) answer r journal → Goes who (StopMeta n) answer r journal
   arm_goes who n answer r journal h = ⊎_elim
       (λ (x : RegisterActs f.register f.journal who (StopMeta n) answer r journal). arm_acts who n answer r journal x)
-      (λ (x : (answer ≡ Memory) × (r ≡ f.register) × (journal ≡ f.journal)). unheard who (StopMeta n) answer r journal (same_register r x.1) x.0 (as_still r x.1) x.2)
+      (λ (x : (answer ≡ Memory) × (r ≡ f.register) × (journal ≡ f.journal)). unheard who (StopMeta n) answer r journal x.0 x.1 x.2)
       h
 
   reopen_acts : (who word : ℕ) (answer : FabricAnswer) (r : RegisterView) (journal : List Event) → RegisterActs f.register f.journal who (MendMeta word) answer r journal → Goes who (MendMeta word) answer r journal
@@ -168,5 +155,5 @@ module _ (may : ℕ → Entry → Type 0) (floor : List Entry → ℕ) (shelf : 
   pub reopen_goes : (who word : ℕ) (answer : FabricAnswer) (r : RegisterView) (journal : List Event) → RegisterApplies f.register f.journal who (MendMeta word) answer r journal → Goes who (MendMeta word) answer r journal
   reopen_goes who word answer r journal h = ⊎_elim
       (λ (x : RegisterActs f.register f.journal who (MendMeta word) answer r journal). reopen_acts who word answer r journal x)
-      (λ (x : (answer ≡ Memory) × IsStill f.register r × (journal ≡ f.journal)). unheard who (MendMeta word) answer r journal (r, x.1, refl) x.0 x.1 x.2)
+      (λ (x : (answer ≡ Memory) × (r ≡ f.register) × (journal ≡ f.journal)). unheard who (MendMeta word) answer r journal x.0 x.1 x.2)
       h

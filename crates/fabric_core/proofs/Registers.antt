@@ -1,5 +1,5 @@
 -- A register that does what it is called for goes on as the journal tells.
-use Rattle.std.proofs.Common.{◌≡◌, inl, inr, ℕ, ◌+◌, ◌<◌, ◌≤◌, ◌^◌, List, [], ◌∷◌, Option, Some, None, Bool, true, false, refl, sym, ap, ◌∙◌, subst, ⊎_elim, arith}
+use Rattle.std.proofs.Common.{◌≡◌, inl, inr, ℕ, ◌+◌, ◌<◌, ◌≤◌, ◌^◌, List, Option, Some, None, Bool, true, false, refl, sym, ap, ◌∙◌, subst, ⊎_elim, arith}
 use Rattle.std.specs.Prelude.{nat_lt}
 use Rattle.std.proofs.lemmas.Bool.Decides.{nat_tests}
 use Rattle.delos_types.specs.declared.entry.Entry.{Entry}
@@ -7,7 +7,7 @@ use Rattle.delos_types.specs.declared.chain.Chain.{Chain}
 use Rattle.chain_map.specs.Chain.{is_chain}
 use Rattle.chain_map.proofs.Changes.{is_chain-extended, is_chain-dropped}
 use Rattle.register_api.specs.View.{RegisterView, IsSound}
-use Rattle.register_api.specs.Calls.{GivesNow, Replaces, Fails, IsStill, reopened}
+use Rattle.register_api.specs.Calls.{GivesNow, Replaces, Fails, reopened}
 use Rattle.legal_journal.specs.Moves as moves
 use Rattle.legal_journal.specs.Journal.{RegisterState, State, ends, known, register_after, IsCurrent, Extends, Raises, IsFree, MayFollow}
 use Rattle.legal_journal.proofs.Sound.{StateOk}

@@ -17,7 +17,7 @@ use Rattle.legal_journal.specs.Turns.{MayCall, OwnEvents}
 use Rattle.register_api.specs.View.{RegisterView}
 use Rattle.fabric_core.specs.Runs.{LogletSteps, StepsOf}
 use Rattle.fabric_core.specs.CellEvent.{CellView, Happens, Applies, Serves, ServerApplies}
-use Rattle.fabric_core.specs.Fabric.{FabricView, FabricOk, IsMarked, MatchesOperation, Adds, Stays, Keeps}
+use Rattle.fabric_core.specs.Fabric.{FabricView, FabricOk, IsMarked, MatchesOperation, Adds, Keeps}
 use Rattle.fabric_core.proofs.Kept.{IsAfter, begin_kept, carry_kept, forget_kept, stop_kept, mend_kept, stray_kept}
 
 pub map_get : {A C : Type 0} (g : A → C) (xs : List A) (i : ℕ) (x : A) → slice_get xs i ≡ Some x → slice_get (map g xs) i ≡ Some (g x)
@@ -134,8 +134,8 @@ module _ (may : ℕ → Entry → Type 0) (floor : List Entry → ℕ) (shelf : 
         };
       }
 
-  unchanged : (who : ℕ) (call : FabricCall) (answer : FabricAnswer) → (new ≡ old → Stays call old new) → (answer ≡ Memory) × (cell_new ≡ cell_old) → Goes who call answer
-  unchanged who call answer stays h =
+  unchanged : (who : ℕ) (call : FabricCall) (answer : FabricAnswer) → (answer ≡ Memory) × (cell_new ≡ cell_old) → Goes who call answer
+  unchanged who call answer h =
       let cell : view a' ≡ view a = ap (λ (x : CellView). x.loglet) h.1 in
       let cells_are : map view (set cells i a') ≡ map view cells = map_set view cells i a' ∙ (ap (set (map view cells) i) cell ∙ set_back (map view cells) i (view a) (map_get view cells i a at)) in
       let mark : items b' ≡ items b = ap (λ (x : CellView). x.marks) h.1 in
@@ -144,7 +144,7 @@ module _ (may : ℕ → Entry → Type 0) (floor : List Entry → ℕ) (shelf : 
       let same : new ≡ old = ap (λ cs. record { cells = cs; register = register; journal = journal' }) cells_are ∙ ap (λ j. record { cells = map view cells; register = register; journal = j }) journal_is in
       let now : FabricOk may floor shelf new (map items (set marks i b')) = subst (λ (f : FabricView). FabricOk may floor shelf f (map items (set marks i b'))) (sym same) (subst (FabricOk may floor shelf old) (sym marks_are) ok) in record {
         now = now;
-        keeps = record { adds = adds_none who call journal journal' answer h.0 journal_is; legal = now.legal; same = λ _. stays same };
+        keeps = record { adds = adds_none who call journal journal' answer h.0 journal_is; legal = now.legal; same = λ _. same };
       }
 
   pub begun : (who : ℕ) (op : Op) (answer : FabricAnswer) → MayCall (state_of journal) may floor shelf who (Begin i op) → Applies cell_old who (Begin i op) answer cell_new → Goes who (Begin i op) answer
@@ -152,7 +152,7 @@ module _ (may : ℕ → Entry → Type 0) (floor : List Entry → ℕ) (shelf : 
       ⊎_elim
       (λ (x : Happens cell_old who (Begin i op) answer cell_new). happened who (Begin i op) answer (own_begin who i op answer) x
       (begin_kept may floor shelf old (map items marks) ok i (view a) (items b) (map_get view cells i a at) (map_get items marks i b marked) who op answer cell_new can x))
-      (λ (x : (answer ≡ Memory) × (cell_new ≡ cell_old)). unchanged who (Begin i op) answer (λ e. e) x)
+      (λ (x : (answer ≡ Memory) × (cell_new ≡ cell_old)). unchanged who (Begin i op) answer x)
       h
 
   pub carried : (who t word : ℕ) (answer : FabricAnswer) → MayCall (state_of journal) may floor shelf who (Carry i t word) → Applies cell_old who (Carry i t word) answer cell_new → Goes who (Carry i t word) answer
@@ -160,7 +160,7 @@ module _ (may : ℕ → Entry → Type 0) (floor : List Entry → ℕ) (shelf : 
       ⊎_elim
       (λ (x : Happens cell_old who (Carry i t word) answer cell_new). happened who (Carry i t word) answer (own_carry who i t word answer) x
       (carry_kept may floor shelf old (map items marks) ok i (view a) (items b) (map_get view cells i a at) (map_get items marks i b marked) who t word answer cell_new can x))
-      (λ (x : (answer ≡ Memory) × (cell_new ≡ cell_old)). unchanged who (Carry i t word) answer (λ e. e) x)
+      (λ (x : (answer ≡ Memory) × (cell_new ≡ cell_old)). unchanged who (Carry i t word) answer x)
       h
 
   pub forgotten : (who t : ℕ) (answer : FabricAnswer) → MayCall (state_of journal) may floor shelf who (Forget i t) → Applies cell_old who (Forget i t) answer cell_new → Goes who (Forget i t) answer
@@ -168,7 +168,7 @@ module _ (may : ℕ → Entry → Type 0) (floor : List Entry → ℕ) (shelf : 
       ⊎_elim
       (λ (x : Happens cell_old who (Forget i t) answer cell_new). happened who (Forget i t) answer (own_forget who i t answer) x
       (forget_kept may floor shelf old (map items marks) ok i (view a) (items b) (map_get view cells i a at) (map_get items marks i b marked) who t answer cell_new can x))
-      (λ (x : (answer ≡ Memory) × (cell_new ≡ cell_old)). unchanged who (Forget i t) answer (λ e. e) x)
+      (λ (x : (answer ≡ Memory) × (cell_new ≡ cell_old)). unchanged who (Forget i t) answer x)
       h
 
 own_stop : (who i server n : ℕ) (a : FabricAnswer) (steps : LogletSteps) → StepsOf (Stop i server n) a steps → OwnEvents who (Stop i server n) a (record { who = who; call = Stop i server n; answer = a } ∷ [])
@@ -198,8 +198,8 @@ module _ (may : ℕ → Entry → Type 0) (floor : List Entry → ℕ) (shelf : 
     pub now : FabricOk may floor shelf served_cells (map items marks)
     pub keeps : Keeps may floor shelf before who call answer served_cells
 
-  serves : (who : ℕ) (call : FabricCall) (answer : FabricAnswer) → ((steps : LogletSteps) → StepsOf call answer steps → OwnEvents who call answer (record { who = who; call = call; answer = answer } ∷ [])) → (served_cells ≡ before → Stays call before served_cells) → (Serves (view a) journal who call answer (view a') journal' → IsAfter may floor shelf before (map items marks) ok i (view a) (items mark.0) (map_get view cells i a at) (map_get items marks i mark.0 mark.1) (record { loglet = view a'; marks = items mark.0; journal = journal' })) → ServerApplies (view a) journal who call answer (view a') journal' → Served who call answer
-  serves who call answer own stays after h = ⊎_elim happened unchanged h
+  serves : (who : ℕ) (call : FabricCall) (answer : FabricAnswer) → ((steps : LogletSteps) → StepsOf call answer steps → OwnEvents who call answer (record { who = who; call = call; answer = answer } ∷ [])) → (Serves (view a) journal who call answer (view a') journal' → IsAfter may floor shelf before (map items marks) ok i (view a) (items mark.0) (map_get view cells i a at) (map_get items marks i mark.0 mark.1) (record { loglet = view a'; marks = items mark.0; journal = journal' })) → ServerApplies (view a) journal who call answer (view a') journal' → Served who call answer
+  serves who call answer own after h = ⊎_elim happened unchanged h
     where
       happened : Serves (view a) journal who call answer (view a') journal' → Served who call answer
       happened x =
@@ -223,22 +223,22 @@ module _ (may : ℕ → Entry → Type 0) (floor : List Entry → ℕ) (shelf : 
           let same : served_cells ≡ before = ap (λ cs. record { cells = cs; register = register; journal = journal' }) cells_are ∙ ap (λ j. record { cells = map view cells; register = register; journal = j }) x.2 in
           let now : FabricOk may floor shelf served_cells (map items marks) = subst (λ (f : FabricView). FabricOk may floor shelf f (map items marks)) (sym same) ok in record {
             now = now;
-            keeps = record { adds = adds_none who call journal journal' answer x.0 x.2; legal = now.legal; same = λ _. stays same };
+            keeps = record { adds = adds_none who call journal journal' answer x.0 x.2; legal = now.legal; same = λ _. same };
           }
 
   pub stopped : (who server n : ℕ) (answer : FabricAnswer) → MayCall (state_of journal) may floor shelf who (Stop i server n) → ServerApplies (view a) journal who (Stop i server n) answer (view a') journal' → Served who (Stop i server n) answer
   stopped who server n answer can h =
-      serves who (Stop i server n) answer (own_stop who i server n answer) (λ e. e)
+      serves who (Stop i server n) answer (own_stop who i server n answer)
       (stop_kept may floor shelf before (map items marks) ok i (view a) (items mark.0) (map_get view cells i a at) (map_get items marks i mark.0 mark.1) who server n answer (view a') journal' can) h
 
   pub mended : (who server word : ℕ) (answer : FabricAnswer) → MayCall (state_of journal) may floor shelf who (Mend i server word) → ServerApplies (view a) journal who (Mend i server word) answer (view a') journal' → Served who (Mend i server word) answer
   mended who server word answer can h =
-      serves who (Mend i server word) answer (own_mend who i server word answer) (λ e. e)
+      serves who (Mend i server word) answer (own_mend who i server word answer)
       (mend_kept may floor shelf before (map items marks) ok i (view a) (items mark.0) (map_get view cells i a at) (map_get items marks i mark.0 mark.1) who server word answer (view a') journal' can) h
 
   pub strayed : (who word : ℕ) (answer : FabricAnswer) → MayCall (state_of journal) may floor shelf who (Stray i word) → ServerApplies (view a) journal who (Stray i word) answer (view a') journal' → Served who (Stray i word) answer
   strayed who word answer can h =
-      serves who (Stray i word) answer (own_stray who i word answer) (λ e. e)
+      serves who (Stray i word) answer (own_stray who i word answer)
       (stray_kept may floor shelf before (map items marks) ok i (view a) (items mark.0) (map_get view cells i a at) (map_get items marks i mark.0 mark.1) who word answer (view a') journal' can) h
 
   -- the cell has this server

@@ -1,5 +1,5 @@
 -- What a fabric shows, and what holds of it.
-use Rattle.std.specs.Prelude.{◌≡◌, ◌≢◌, ℕ, ◌+◌, ◌≤◌, Bool, true, false, List, [], ◌∷◌, ◌++◌, length, map, slice_get, Option, Some, None}
+use Rattle.std.specs.Prelude.{◌≡◌, ◌≢◌, ℕ, ◌+◌, ◌≤◌, Bool, true, List, ◌++◌, length, map, slice_get, Option, Some, None}
 use Rattle.delos_types.specs.declared.entry.Entry.{Entry}
 use Rattle.delos_types.specs.declared.chain.Chain.{Chain}
 use Rattle.loglet_api.specs.View.{LogletView, Operation, operation_at}
@@ -7,14 +7,12 @@ use Rattle.loglet_api.specs.Sound.{IsSound}
 use Rattle.loglet_api.specs.Step.{task_of}
 use Rattle.loglet_api.specs.Keeps.{work_of}
 use Rattle.legal_journal.specs.declared.events.FabricCall.{FabricCall}
-use Rattle.legal_journal.specs.declared.events.FabricCall.TheVariants.{WriteChain, MendMeta}
 use Rattle.legal_journal.specs.declared.events.FabricAnswer.{FabricAnswer}
 use Rattle.legal_journal.specs.declared.events.Event.{Event}
 use Rattle.legal_journal.specs.Told.{Running}
 use Rattle.legal_journal.specs.Journal.{CellState, RegisterState, State, state_of, IsLegal, IsCurrent, patience}
 use Rattle.legal_journal.specs.Turns.{OwnEvents}
 use Rattle.register_api.specs.View.{RegisterView}
-use Rattle.register_api.specs.Calls.{IsStill}
 use Rattle.fabric_core.specs.Runs.{HasRun, HasRegisterRun}
 
 -- the loglets of the shelf, the register, and the journal of all events
@@ -87,15 +85,8 @@ pub record Adds (old : List Event) (who : ℕ) (call : FabricCall) (answer : Fab
   pub event : OwnEvents who call answer own
   pub added : new ≡ old ++ own
 
--- What a call that adds no event leaves: all as it was, but that a write or a reopening of the register may have counted
--- a fault.
-abbrev pub Stays : FabricCall → FabricView → FabricView → Type 0
-Stays (WriteChain x c) old new = (r : RegisterView) × IsStill old.register r × (new ≡ record old { register = r })
-Stays (MendMeta word) old new = (r : RegisterView) × IsStill old.register r × (new ≡ record old { register = r })
-Stays call old new = new ≡ old
-
 -- A call adds its event, and the journal stays legal; with Memory nothing changes, but as a Carry's event tells.
 pub record Keeps (may : ℕ → Entry → Type 0) (floor : List Entry → ℕ) (shelf : List ℕ) (old : FabricView) (who : ℕ) (call : FabricCall) (answer : FabricAnswer) (new : FabricView) : Type 0 where
   pub adds : Adds old.journal who call answer new.journal
   pub legal : IsLegal may floor shelf new.journal
-  pub same : new.journal ≡ old.journal → Stays call old new
+  pub same : new.journal ≡ old.journal → new ≡ old

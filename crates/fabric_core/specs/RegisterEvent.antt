@@ -1,7 +1,6 @@
 -- One event of the register.
 use Rattle.std.specs.Prelude.{◌≡◌, ◌⊎◌, ℕ, List, [], ◌∷◌, ◌++◌}
 use Rattle.register_api.specs.View.{RegisterView, IsSound}
-use Rattle.register_api.specs.Calls.{IsStill}
 use Rattle.legal_journal.specs.declared.events.FabricCall.{FabricCall}
 use Rattle.legal_journal.specs.declared.events.FabricAnswer.{FabricAnswer}
 use Rattle.legal_journal.specs.declared.events.FabricAnswer.TheVariants.{Memory}
@@ -14,12 +13,7 @@ pub record RegisterActs (old : RegisterView) (before : List Event) (who : ℕ) (
   pub does : RegisterDoes old call answer new
   pub recorded : now ≡ before ++ record { who = who; call = call; answer = answer } ∷ []
 
--- an event, or want of memory, after which a fault may have been counted and nothing else
+-- an event, or want of memory that left all as it was
 abbrev pub RegisterApplies : RegisterView → List Event → ℕ → FabricCall → FabricAnswer → RegisterView → List Event → Type 0
 RegisterApplies old before who call answer new now =
-    RegisterActs old before who call answer new now ⊎ ((answer ≡ Memory) × IsStill old new × (now ≡ before))
-
--- an event, or want of memory that left all as it was
-abbrev pub ReadApplies : RegisterView → List Event → ℕ → FabricCall → FabricAnswer → RegisterView → List Event → Type 0
-ReadApplies old before who call answer new now =
     RegisterActs old before who call answer new now ⊎ ((answer ≡ Memory) × (new ≡ old) × (now ≡ before))

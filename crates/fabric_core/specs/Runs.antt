@@ -7,12 +7,11 @@ use Rattle.loglet_api.specs.declared.call.LogletAnswer.{LogletAnswer}
 use Rattle.loglet_api.specs.declared.call.LogletAnswer.TheVariants as answer
 use Rattle.loglet_api.specs.View.{LogletView, IsFresh}
 use Rattle.loglet_api.specs.Run.{LogletRun}
-use Rattle.delos_types.specs.declared.chain.Chain.{Chain}
 use Rattle.register_api.specs.declared.answer.ReadAnswer.TheVariants as read
 use Rattle.register_api.specs.declared.answer.WriteAnswer.TheVariants as write
 use Rattle.register_api.specs.View as register
 use Rattle.register_api.specs.View.{RegisterView}
-use Rattle.register_api.specs.Calls.{Reads, Writes, Reopens, IsStill}
+use Rattle.register_api.specs.Calls.{Reads, Writes, Reopens}
 use Rattle.legal_journal.specs.declared.events.FabricCall.{FabricCall}
 use Rattle.legal_journal.specs.declared.events.FabricCall.TheVariants.{Begin, Carry, Forget, ReadChain, WriteChain, Stop, Mend, Stray, StopMeta, MendMeta}
 use Rattle.legal_journal.specs.declared.events.FabricAnswer.{FabricAnswer}
@@ -100,11 +99,11 @@ is_on_register (Stray j word) = false
 abbrev pub RegisterStep : RegisterView → Event → RegisterView → Type 0
 RegisterStep old e new = MatchBool (is_on_register e.call) (RegisterDoes old e.call e.answer new) (new ≡ old)
 
--- The events are a run of the register. A write or a reopening that had no memory is no event, and may count a fault.
+-- The events are a run of the register.
 abbrev pub RegisterRun : RegisterView → List Event → RegisterView → Type 0
-RegisterRun old [] new = IsStill old new
+RegisterRun old [] new = new ≡ old
 RegisterRun old (e ∷ es) new =
-    (before : RegisterView) × IsStill old before × ((mid : RegisterView) × RegisterStep before e mid × RegisterRun mid es new)
+    (mid : RegisterView) × RegisterStep old e mid × RegisterRun mid es new
 
 -- the events are a run of the register from a fresh one to this one
 pub record HasRegisterRun (events : List Event) (now : RegisterView) : Type 0 where

@@ -2,7 +2,7 @@
 //! the register is called, so that nothing is told which isn't recorded.
 ghost use Rattle.std.specs.Prelude.{◌≡◌, ◌+◌, ◌≤◌, ◌<◌, ◌^◌, [], IfOk, vec_len, vec_capacity};
 ghost use Rattle.chain_map.specs.Chain.{IsChain};
-ghost use Rattle.fabric_core.specs.RegisterEvent.{RegisterApplies, ReadApplies};
+ghost use Rattle.fabric_core.specs.RegisterEvent.{RegisterApplies};
 
 use delos_types::chain::{Chain, Segment, Segments};
 use legal_journal::events::{Event, FabricAnswer, FabricCall};
@@ -44,7 +44,7 @@ pub fn read_in<R: Register>(
     journal: &mut Vec<Event>,
     who: u32,
 ) -> FabricAnswer
-    ensures { ReadApplies (R.view register.old) journal.old.items who FabricCall.ReadChain result (R.view register.new) journal.new.items }
+    ensures { RegisterApplies (R.view register.old) journal.old.items who FabricCall.ReadChain result (R.view register.new) journal.new.items }
 {
     let _given = register.version();
     let Ok(room) = chain_room(alloc) else {
@@ -128,7 +128,7 @@ pub fn arm_in<R: Register>(
     who: u32,
     after: u64,
 ) -> FabricAnswer
-    ensures { ReadApplies (R.view register.old) journal.old.items who (FabricCall.StopMeta after) result (R.view register.new) journal.new.items }
+    ensures { RegisterApplies (R.view register.old) journal.old.items who (FabricCall.StopMeta after) result (R.view register.new) journal.new.items }
 {
     let _given = register.version();
     if journal.reserve(1).is_err() {

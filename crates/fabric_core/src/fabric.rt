@@ -230,8 +230,7 @@ impl<L: Loglet, R: Register, P: Rules> Fabric<L, R, P> {
         reopen_in(&mut self.register, &mut self.journal, who, word)
     }
 
-    /// Makes one event. With `Memory` nothing changes, but for a `Carry` whose event has that answer,
-    /// and for the register's faults, of which a write and a reopening may count one all the same.
+    /// Makes one event. With `Memory` nothing changes, but for a `Carry` whose event has that answer.
     ///
     /// Cost: that of the loglet's or the register's calls, and O(1) beside them, amortized. A chain
     /// that the register gives is copied, of 64 segments at most.

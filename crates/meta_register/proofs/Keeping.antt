@@ -1,5 +1,5 @@
 -- What stands and what the records spell stay together, and what a crash leaves of them.
-use Rattle.std.proofs.Common.{◌≡◌, ℕ, ◌+◌, ◌-◌, ◌^◌, ◌<◌, ◌≤◌, ◌⊎◌, inl, inr, Bool, true, false, cond, eqb, ltb, List, [], ◌∷◌, ◌++◌, length, take, drop, slice_index_or, Option, Some, None, Result, Ok, Err, refl, sym, ap, subst, ◌∙◌, arith}
+use Rattle.std.proofs.Common.{◌≡◌, ℕ, ◌+◌, ◌^◌, ◌<◌, ◌≤◌, ◌⊎◌, inl, inr, Bool, true, false, cond, eqb, ltb, List, [], ◌∷◌, ◌++◌, length, take, drop, slice_index_or, Option, Some, None, Result, Ok, refl, sym, ap, subst, ◌∙◌, arith}
 use Rattle.std.specs.Prelude.{option_map}
 use Rattle.std.specs.Option.{ForSome}
 use Rattle.std.specs.Result.{result_ok}
@@ -8,16 +8,15 @@ use Rattle.std.proofs.lemmas.Bool.Decides.{nat_tests}
 use Rattle.std.proofs.lemmas.List.{length-append}
 use Rattle.std.proofs.lemmas.List.Sums.{fold-append}
 use Rattle.std.proofs.Math.Seq.{take-append_seam, drop-append_seam}
-use Rattle.delos_types.specs.Numbers.{IsBytes, u64_bytes, u64_of}
+use Rattle.delos_types.specs.Numbers.{u64_bytes, u64_of}
 use Rattle.delos_types.proofs.NumberLaws.{length-u64_bytes, u64_of-u64_bytes}
 use Rattle.delos_types.specs.declared.chain.Chain.{Chain}
 use Rattle.chain_map.specs.declared.fault.BadChain.{BadChain}
 use Rattle.chain_map.specs.Chain.{IsChain}
-use Rattle.chain_map.specs.Format.{SpellsChain}
 use Rattle.chain_map.specs.Reading.{chain_read}
 use Rattle.chain_map.proofs.Spellings.{chain_again}
 use Rattle.disk_model.specs.Disk.{DiskView}
-use Rattle.disk_model.specs.Crash.{AnyCrash, Leaves}
+use Rattle.disk_model.specs.Crash.{AnyCrash}
 use Rattle.disk_model.specs.CrashLaws.{stays, weaker}
 use Rattle.journal_core.specs.Records.{records_of}
 use Rattle.journal_core.specs.Journal as journal
@@ -25,7 +24,7 @@ use Rattle.register_api.specs.View.{IsSound}
 use Rattle.meta_register.specs.declared.standing.Standing.{Standing}
 use Rattle.meta_register.specs.Records.{SpellsStanding, standing_in, standing_next, standing_after, standing_of, first_standing, IsFirstBad}
 use Rattle.meta_register.specs.View.{View, MayFind, MayFindDuring, Survives}
-use Rattle.meta_register.specs.Keeping.{given_of, view_of, advanced, IsTornWrite, AreTorn, IsOlder, IsKept, settled, older_settled}
+use Rattle.meta_register.specs.Keeping.{given_of, view_of, advanced, AreTorn, IsOlder, IsKept, settled, older_settled}
 
 -- the first so many records spell what stands
 pub record StandsAfter (records : List (List ℕ)) (count : ℕ) (s : Standing) : Type 0 where

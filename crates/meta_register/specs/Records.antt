@@ -3,7 +3,6 @@
 use Rattle.std.specs.Prelude.{◌≡◌, ℕ, ◌+◌, ◌<◌, ◌^◌, ◌==◌, nat_lt, if◌then◌else◌, List, [], ◌++◌, length, take, drop, fold, slice_index_or, Option, Some, None, option_map}
 use Rattle.std.specs.Result.{result_ok}
 use Rattle.delos_types.specs.Numbers.{u64_bytes, u64_of}
-use Rattle.delos_types.specs.declared.chain.Chain.{Chain}
 use Rattle.chain_map.specs.Chain.{first_chain}
 use Rattle.chain_map.specs.Format.{SpellsChain}
 use Rattle.chain_map.specs.Reading.{chain_read}

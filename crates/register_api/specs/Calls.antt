@@ -16,11 +16,6 @@ Rose before now = (before < now) ⊎ ((before ≡ 2 ^ 64 - 1) × (now ≡ before
 abbrev pub gives : RegisterView → RegisterView
 gives v = record v { given = v.version; given_chain = v.chain }
 
--- nothing but the count of faults may have moved
-pub record IsStill (old new : RegisterView) : Type 0 where
-  pub same : new ≡ record old { faults = new.faults }
-  pub rises : old.faults ≤ new.faults
-
 -- it was down, and that is one fault more
 pub record IsDown (old new : RegisterView) : Type 0 where
   pub was : old.down ≡ true
@@ -60,7 +55,7 @@ Writes old expected chain (Ok (write.Written version)) new = Replaces old expect
 Writes old expected chain (Ok (write.Conflict version standing)) new = GivesNow old version standing new × (expected ≢ old.version)
 Writes old expected chain (Ok write.MetaFault) new = Fails old expected chain new
 Writes old expected chain (Ok write.Down) new = IsDown old new
-Writes old expected chain (Err e) new = IsStill old new
+Writes old expected chain (Err e) new = new ≡ old
 
 -- it is up again, with the write in which it failed or without
 abbrev pub reopened : RegisterView → Bool → Option Chain → RegisterView
@@ -72,4 +67,4 @@ reopened v kept (Some chain) =
 abbrev pub Reopens : RegisterView → Result Bool AllocError → RegisterView → Type 0
 Reopens old (Ok true) new = (old.faults ≤ new.faults) × (old.down ≡ false → new ≡ old) × ((kept : Bool) × (new ≡ record (reopened old kept old.asked) { faults = new.faults }))
 Reopens old (Ok false) new = (old.down ≡ true) × Rose old.faults new.faults × (new ≡ record old { faults = new.faults; misses = bumped old.misses })
-Reopens old (Err e) new = IsStill old new
+Reopens old (Err e) new = new ≡ old

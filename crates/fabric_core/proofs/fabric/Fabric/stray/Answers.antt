@@ -1,5 +1,5 @@
 use Rattle.std.proofs.Common.{map, set, refl, sym, subst, arith}
-use Rattle.std.proofs.lemmas.Option.{slice_get_read, slice_get_within}
+use Rattle.std.proofs.lemmas.Option.{slice_get_read}
 use Rattle.legal_journal.specs.declared.events.FabricCall.TheVariants.{Stray}
 use Rattle.legal_journal.specs.Journal.{state_of}
 use Rattle.legal_journal.specs.Turns.{MayCall}

@@ -1,4 +1,4 @@
-use Rattle.std.proofs.Common.{map, subst, sym, ◌≡◌}
+use Rattle.std.proofs.Common.{map, subst, sym}
 use Rattle.legal_journal.specs.declared.events.FabricCall.TheVariants.{WriteChain}
 use Rattle.legal_journal.specs.Journal.{state_of}
 use Rattle.legal_journal.specs.Turns.{MayCall}

@@ -1,13 +1,12 @@
 use Rattle.std.proofs.Common.{◌≡◌, ◌⊎◌, ◌+◌, ◌^◌, ◌<◌, ℕ, true, false, List, [], ◌∷◌, ◌++◌, Some, None, Err, refl, sym, ap, subst, ◌∙◌}
 use Rattle.delos_types.specs.declared.chain.Chain.{Chain}
 use Rattle.disk_model.specs.Crash.{AnyCrash}
-use Rattle.chain_map.specs.Chain.{IsChain}
 use Rattle.journal_core.specs.Records.{records_of}
 use Rattle.journal_core.specs.Journal as journal
 use Rattle.meta_register.specs.declared.standing.Standing.{Standing}
 use Rattle.meta_register.specs.Records.{SpellsStanding}
-use Rattle.meta_register.specs.View.{View, MayFindDuring, Survives}
-use Rattle.meta_register.specs.Keeping.{view_of, advanced, IsKept}
+use Rattle.meta_register.specs.View.{View}
+use Rattle.meta_register.specs.Keeping.{advanced, IsKept}
 use Rattle.meta_register.proofs.Keeping.{seen_survives, kept_survives, stays_during, during, kept_written, kept_torn}
 use Rattle.meta_register.proofs.meta.MetaRegister.replace.Goals as goal
 
