@@ -82,6 +82,15 @@ impl Stack {
         load_all(&mut self.engines, space)
     }
 
+    /// What acted at a place is stored: each engine is told, the lowest first. It takes no memory.
+    pub fn post_place(&mut self, place: Place)
+        ensures kinds { map (λ e. kind_of e) self.new.engines.items ≡ map (λ e. kind_of e) self.old.engines.items }
+        ensures kept { map (λ e. kept e) self.new.engines.items ≡ map (λ e. kept e) self.old.engines.items }
+        ensures origin { self.new.origin ≡ self.old.origin }
+    {
+        post_all(&mut self.engines, place);
+    }
+
     /// The entry at a position comes up: what acts there, in order, with its replies. An entry that is
     /// malformed, or of which an item is, does nothing. It takes time that grows with the entry's length,
     /// and for each item, and each rank that it frees, some look-ups and changes of the space.
@@ -203,6 +212,22 @@ fn load_at(engine: &mut Box<dyn Engine + Send>, space: &dyn Space) -> Result<(),
     ensures kept { kept engine.new ≡ kept engine.old }
 {
     engine.load(space)
+}
+
+fn post_all(engines: &mut Vec<Box<dyn Engine + Send>>, place: Place)
+    ensures kinds { map (λ e. kind_of e) engines.new.items ≡ map (λ e. kind_of e) engines.old.items }
+    ensures kept { map (λ e. kept e) engines.new.items ≡ map (λ e. kept e) engines.old.items }
+{
+    for k in 0..engines.len() {
+        post_at(&mut engines[k], place);
+    }
+}
+
+fn post_at(engine: &mut Box<dyn Engine + Send>, place: Place)
+    ensures kind { kind_of engine.new ≡ kind_of engine.old }
+    ensures kept { kept engine.new ≡ kept engine.old }
+{
+    engine.post(place);
 }
 
 fn open_at(

@@ -135,6 +135,7 @@ impl<D: Disk> Store<D> {
         ensures survives { Survives self.new }
         ensures faults { self.old.disk.faults ≤ self.new.disk.faults }
         ensures no_fault { IsErrOf result CommitFault.Memory → self.new.disk.faults ≡ self.old.disk.faults }
+        ensures ok_faults { OnOk result (self.new.disk.faults ≡ self.old.disk.faults) }
     {
         if self.journal.is_shut() {
             return Err(CommitFault::Down);
