@@ -1,7 +1,6 @@
 -- What a virtual log tells a node.
 use Rattle.std.specs.Prelude.{ℕ, List, ◌++◌}
 use Rattle.delos_types.specs.declared.entry.Entry.{Entry}
-use Rattle.legal_journal.specs.declared.events.Event.{Event}
 use Rattle.legal_journal.proofs.Legal.{legal_front, goes_on}
 use Rattle.virtual_log.specs.Holding.{Holds, Stays}
 use Rattle.virtual_log.proofs.Holding.{holds_later}

@@ -1,10 +1,19 @@
--- The least position of a member, and what it lets a log be trimmed to.
-use Rattle.std.specs.Prelude.{ℕ, ◌≤◌, Bool, not, List, length, map, filter, min}
+-- Up to where a node trims its log.
+use Rattle.std.specs.Prelude.{◌≡◌, ℕ, ◌≤◌, Bool, not, List, ◌++◌, length, Contains, map, filter, min, Some}
 use Rattle.delos_types.specs.Spaces.{SpaceMap}
 use Rattle.delos_types.specs.declared.entry.Entry.{Entry}
+use Rattle.delos_types.specs.declared.item.Item.{Item}
 use Rattle.engine_api.specs.Members.{least}
 use Rattle.engine_api.specs.Order.{numbers}
+use Rattle.engine_api.specs.Packing.{packed, trim_item}
 use Rattle.engine_steps.specs.Layout as layout
+use Rattle.legal_journal.specs.declared.events.Event.{Event}
+use Rattle.legal_journal.specs.Journal.{state_of, IsLegal}
+use Rattle.virtual_log.specs.Truncating.{IsPrefixTrimmed}
+use Rattle.virtual_log.specs.Turning.{IsAbove}
+use Rattle.replica_api.specs.Replica.{ReplicaView, saved_in}
+use Rattle.base_engine.specs.Following.{IsStateAt, IsAt}
+use Rattle.base_engine.specs.Settling.{Landed, Meets}
 
 -- a node is a member where it hasn't left
 abbrev pub is_member_in : SpaceMap → ℕ → Bool
@@ -17,3 +26,55 @@ least_of nodes m = least (map (layout.reported_of m) (filter (is_member_in m) (n
 -- entries that led to a space may be trimmed up to the least position in it, as far as they go
 abbrev pub IsFloor : (List Entry → SpaceMap → Type 0) → (List Entry → ℕ) → ℕ → Type 0
 IsFloor state floor nodes = (log : List Entry) (m : SpaceMap) → state log m → min (length log) (least_of nodes m) ≤ floor log
+
+-- by each legal journal, the log shows what it holds, or did before it was trimmed
+abbrev pub ShowsAll : (ℕ → Entry → Type 0) → (List Entry → ℕ) → List ℕ → (List Event → ℕ → Entry → Type 0) → Type 0
+ShowsAll may floor shelf holds =
+    (seen : List Event) (pos : ℕ) (e : Entry) → IsLegal may floor shelf seen → holds seen pos e → (state_of seen).shown pos ≡ Some e
+
+-- up to where the log is trimmed: the lesser of the trim point and the least position of a member, and no further than
+-- the entries that were applied
+abbrev pub trim_to : ℕ → ReplicaView → ℕ
+trim_to nodes v = min v.cursor (min (layout.trim_of v.contents) (least_of nodes v.contents))
+
+-- a tail was found, the replica has the state that the log's entries below it lead to, and this is the least position of
+-- a member in it
+pub record IsLeastAtTail (holds : List Event → ℕ → Entry → Type 0) (state : List Entry → SpaceMap → Type 0) (nodes who : ℕ) (old new : List Event) (v : ReplicaView) (n : ℕ) : Type 0 where
+  pub tail : ℕ
+  pub above : IsAbove who old tail new
+  pub at : IsAt tail v new
+  pub led : IsStateAt holds state new (saved_in v)
+  pub is : n ≡ least_of nodes v.contents
+
+-- the entry was appended at a moment since old: it stands at its position and is held there, above each one that was answered before
+pub record IsAppended (holds : List Event → ℕ → Entry → Type 0) (who : ℕ) (old : List Event) (e : Entry) (new : List Event) : Type 0 where
+  pub before : List Event
+  pub since : (more : List Event) × (before ≡ old ++ more)
+  pub position : ℕ
+  pub after : List Event
+  pub met : Meets holds who before e (Landed position) after
+  pub rest : (more : List Event) × (new ≡ after ++ more)
+
+-- an entry with the item was appended
+pub record HasLanded (holds : List Event → ℕ → Entry → Type 0) (who origin : ℕ) (old : List Event) (item : Item) (new : List Event) : Type 0 where
+  pub items : List Item
+  pub among : Contains items item
+  pub appended : IsAppended holds who old (packed origin items) new
+
+-- the log was played to its end, as far as it is known, and trimmed
+pub record TrimsBelow (nodes who : ℕ) (old new : List Event) (v : ReplicaView) (known trim : ℕ) : Type 0 where
+  pub played : List Event
+  pub since : (more : List Event) × (played ≡ old ++ more)
+  pub at : IsAt known v played
+  pub trimmed : IsPrefixTrimmed who played (trim_to nodes v) trim new
+
+-- The least position of a member, in the state at a tail, was asked for: an entry with that trim was appended. Then the
+-- log was played and trimmed.
+pub record Trims (holds : List Event → ℕ → Entry → Type 0) (state : List Entry → SpaceMap → Type 0) (nodes who origin : ℕ) (old new : List Event) (v : ReplicaView) (known trim : ℕ) : Type 0 where
+  pub there : ReplicaView
+  pub synced : List Event
+  pub position : ℕ
+  pub found : IsLeastAtTail holds state nodes who old synced there position
+  pub asked : List Event
+  pub landed : HasLanded holds who origin synced (trim_item position) asked
+  pub below : TrimsBelow nodes who asked new v known trim

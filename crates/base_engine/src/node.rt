@@ -1,7 +1,7 @@
 //! A node.
-ghost use Rattle.std.specs.Prelude.{◌≡◌, ◌≢◌, ◌≤◌, ◌+◌, ℕ, List, None, Some, [], ◌∷◌, ◌++◌, false, IfOk, OnOk, OnErr, IfErr, length};
+ghost use Rattle.std.specs.Prelude.{◌≡◌, ◌≢◌, ◌<◌, ◌^◌, ◌≤◌, ◌+◌, ℕ, List, None, Some, [], ◌∷◌, ◌++◌, false, IfOk, OnOk, OnErr, IfErr, length};
 ghost use Rattle.disk_model.specs.Crash.{AnyCrash};
-ghost use Rattle.engine_api.specs.Packing.{IsProposable, packed};
+ghost use Rattle.engine_api.specs.Packing.{IsProposable, packed, trim_item};
 ghost use Rattle.engine_steps.specs.Layout as layout;
 ghost use Rattle.legal_journal.specs.Journal.{IsLegal};
 ghost use Rattle.virtual_log.specs.Turning.{Later, IsAbove};
@@ -12,7 +12,7 @@ ghost use Rattle.base_engine.specs.Settling.{view_of, Settled, Answers, Failing,
 ghost use Rattle.base_engine.specs.Proposing.{Sent, Proposed, Refused};
 ghost use Rattle.base_engine.specs.Node.{NodeView, NodeOk, Keeps};
 ghost use Rattle.base_engine.specs.Reading.{IsExtendedBy};
-ghost use Rattle.base_engine.specs.Trimming.{least_of, IsFloor};
+ghost use Rattle.base_engine.specs.Trimming.{least_of, IsFloor, ShowsAll, Trims};
 
 use crate::fault::Fault;
 use crate::outbox::{Outbox, cause_of};
@@ -21,7 +21,7 @@ use crate::propose::{flush, propose};
 use crate::rest::Rested;
 use crate::settle::settle_all;
 use crate::shared_log::SharedLog;
-use crate::trim::{extend, least};
+use crate::trim::{extend, least, trim_now};
 use delos_types::bytes::Bytes;
 use delos_types::cause::Cause;
 use delos_types::item::Item;
@@ -281,6 +281,31 @@ impl<L: SharedLog, R: Replica> Node<L, R> {
         ensures outbox { self.new.outbox ≡ self.old.outbox }
     {
         extend(&mut self.log)
+    }
+
+    /// Finds a tail and plays up to it; asks for a trim to the least position of a member then, by an entry that is appended
+    /// with all that is outstanding; plays the log as far as it is known, and trims it up to its trim point, but not past a
+    /// member's position, nor past what was applied. Answers the trim.
+    pub fn trim_now(&mut self) -> Result<u64, Fault>
+        requires own { (position : ℕ) → position < 2 ^ 64 → L.Law.may self.old.who (packed self.old.replica.origin (self.old.replica.kept ++ trim_item position ∷ [])) }
+
+        // By the log's rules it shows what it holds, or did before it was trimmed.
+        requires shown { ShowsAll L.Law.may L.Law.floor L.Law.shelf L.holds }
+        ensures keeps { Keeps L.Law.may L.Law.floor L.Law.shelf self.old self.new }
+        ensures follows { Follows L.holds R.state R.spells self.new.seen self.new.replica }
+        ensures trims { IfOk result (Trims L.holds R.state self.old.nodes self.old.who self.old.replica.origin self.old.seen self.new.seen self.new.replica self.new.known) }
+
+        // Where no earlier cause waits for a settling.
+        ensures blames { self.old.outbox.unsettled ≡ None → IfErr result (λ f. Blames self.old.who self.old.seen self.old.replica.faults f self.new.seen self.new.replica.faults) }
+        ensures any_crash { AnyCrash self.old.replica.disk self.new.replica.disk (SpellsOne R.spells (IsFound L.holds R.state self.new.seen self.old.replica.cursor)) }
+    {
+        trim_now(
+            self.alloc,
+            &mut self.log,
+            &mut self.replica,
+            &mut self.outbox,
+            self.nodes,
+        )
     }
 
     /// Gives the log out, until `Rested::wake`. Makes no event, and takes no memory.

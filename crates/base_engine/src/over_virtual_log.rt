@@ -1,10 +1,14 @@
 //! The virtual log as the log that nodes share, over whatever turns.
+ghost use Rattle.std.specs.Prelude.{◌≤◌, List, length};
+ghost use Rattle.delos_types.specs.declared.entry.Entry.{Entry};
 ghost use Rattle.virtual_log.specs.Holding.{Holds};
 ghost use Rattle.base_engine.specs.Holding.{held_stays};
+ghost use Rattle.base_engine.specs.Trimming.{ShowsAll};
 
 use crate::shared_log::SharedLog;
 use delos_types::entry::Entry;
 use fate_words::chooser::Chooser;
+use legal_journal::rules::Rules;
 use legal_journal::turns::Turns;
 use virtual_log::calls::Next;
 use virtual_log::extend::Extension;
@@ -48,3 +52,9 @@ impl<T: Turns, C: Chooser> SharedLog for VirtualLog<T, C> {
 
     ghost stays = { held_stays T.Law.may T.Law.floor T.Law.shelf };
 }
+
+/// Where the rules allow no trim past the entries that they are asked of, a virtual log shows what it holds, or did before
+/// it was trimmed. Does nothing: its contract is the law.
+pub fn what_is_held_is_shown<P: Rules>()
+    ensures { ((log : List Entry) → P.floor log ≤ length log) → ShowsAll P.may P.floor P.shelf Holds }
+{}

@@ -1,16 +1,29 @@
-//! The log goes on in its next loglet, and how far it may be trimmed.
-ghost use Rattle.std.specs.Prelude.{◌≡◌, ◌≤◌, ℕ, length, min, unwrap_or, IfOk, IfErr};
+//! The log goes on in its next loglet, and is trimmed up to where no member needs it.
+ghost use Rattle.std.specs.Prelude.{◌≡◌, ◌≢◌, ◌<◌, ◌≤◌, ◌^◌, ℕ, [], ◌∷◌, ◌++◌, None, All, length, min, unwrap_or, IfOk, IfErr, OnOk};
 ghost use Rattle.std.specs.Option.{option_map};
+ghost use Rattle.disk_model.specs.Crash.{AnyCrash};
+ghost use Rattle.engine_api.specs.Packing.{IsProposable, packed, trim_item};
+ghost use Rattle.engine_steps.specs.Words.{under};
+ghost use Rattle.legal_journal.specs.Journal.{IsLegal};
 ghost use Rattle.virtual_log.specs.Turning.{Later};
+ghost use Rattle.replica_api.specs.Replica.{SpellsOne};
 ghost use Rattle.base_engine.specs.Causes.{Blames};
 ghost use Rattle.base_engine.specs.Reading.{IsExtendedBy};
-ghost use Rattle.base_engine.specs.Trimming.{least_of};
+ghost use Rattle.base_engine.specs.Following.{Follows, IsKnown, IsFound};
+ghost use Rattle.base_engine.specs.Settling.{view_of, MaySend};
+ghost use Rattle.base_engine.specs.Trimming.{least_of, trim_to, IsFloor, ShowsAll, IsLeastAtTail, HasLanded, TrimsBelow, Trims};
 
 use crate::fault::{Fault, told};
+use crate::outbox::Outbox;
+use crate::play::{play, sync};
+use crate::propose::{flush, propose};
+use crate::settle::settle_all;
 use crate::shared_log::SharedLog;
+use delos_types::item::Item;
 use delos_types::numbers::NodeId;
+use engine_api::pack::trim_item;
 use replica_api::replica::Replica;
-use std::alloc::AllocError;
+use std::alloc::{AllocError, Global};
 use virtual_log::extend::Extension;
 
 /// The least of the positions that the members among the nodes 1 to `nodes` reported, 0 where none is a member.
@@ -40,6 +53,190 @@ fn lesser(least: Option<u64>, position: u64) -> u64
     match least {
         None => position,
         Some(least) => least.min(position),
+    }
+}
+
+/// Finds a tail, plays up to it, and answers the least position of a member then.
+fn find_least<L: SharedLog, R: Replica>(
+    log: &mut L,
+    replica: &mut R,
+    nodes: u8,
+) -> Result<u64, Fault>
+    requires nodes { nodes ≤ 8 }
+    requires legal { IsLegal L.Law.may L.Law.floor L.Law.shelf (L.seen log.old) }
+    requires follows { Follows L.holds R.state R.spells (L.seen log.old) (R.shows replica.old) }
+    requires bounded { IsKnown (L.reaches log.old) (R.shows replica.old) }
+    ensures later { Later L.Law.may L.Law.floor L.Law.shelf (L.seen log.old) (L.seen log.new) }
+    ensures who { L.who log.new ≡ L.who log.old }
+    ensures known { L.reaches log.old ≤ L.reaches log.new }
+    ensures follows { Follows L.holds R.state R.spells (L.seen log.new) (R.shows replica.new) }
+    ensures bounded { IsKnown (L.reaches log.new) (R.shows replica.new) }
+    ensures forward { (R.shows replica.old).cursor ≤ (R.shows replica.new).cursor }
+    ensures counts { (R.shows replica.old).faults ≤ (R.shows replica.new).faults }
+    ensures kept { (R.shows replica.new).kept ≡ (R.shows replica.old).kept }
+    ensures origin { (R.shows replica.new).origin ≡ (R.shows replica.old).origin }
+    ensures any_crash { AnyCrash (R.shows replica.old).disk (R.shows replica.new).disk (SpellsOne R.spells (IsFound L.holds R.state (L.seen log.new) (R.shows replica.old).cursor)) }
+    ensures blames { IfErr result (λ f. Blames (L.who log.old) (L.seen log.old) (R.shows replica.old).faults f (L.seen log.new) (R.shows replica.new).faults) }
+    ensures found { IfOk result (IsLeastAtTail L.holds R.state nodes (L.who log.old) (L.seen log.old) (L.seen log.new) (R.shows replica.new)) }
+{
+    match sync(log, replica) {
+        Ok(_) => {}
+        Err(fault) => return Err(fault),
+    }
+    match least(replica, nodes) {
+        Ok(position) => return Ok(position),
+        Err(_) => return Err(Fault::Memory),
+    }
+}
+
+/// An item goes down that isn't a session's; what waits is packed, and all that is outstanding is carried to its end.
+fn push_through<L: SharedLog, R: Replica>(
+    alloc: Global,
+    log: &mut L,
+    replica: &mut R,
+    outbox: &mut Outbox,
+    item: Item,
+) -> Result<(), Fault>
+    requires legal { IsLegal L.Law.may L.Law.floor L.Law.shelf (L.seen log.old) }
+    requires may { All (λ e. MaySend L.Law.may (L.who log.old) e) outbox.old.entries.items }
+    requires few { length outbox.old.entries.items ≤ 4 }
+    requires follows { Follows L.holds R.state R.spells (L.seen log.old) (R.shows replica.old) }
+    requires bounded { IsKnown (L.reaches log.old) (R.shows replica.old) }
+    requires item { IsProposable item }
+    requires plain { under 2 item ≡ None }
+    requires own { L.Law.may (L.who log.old) (packed (R.shows replica.old).origin ((R.shows replica.old).kept ++ item ∷ [])) }
+    requires waits { (R.shows replica.old).kept ≢ [] → L.Law.may (L.who log.old) (packed (R.shows replica.old).origin (R.shows replica.old).kept) }
+    ensures later { Later L.Law.may L.Law.floor L.Law.shelf (L.seen log.old) (L.seen log.new) }
+    ensures who { L.who log.new ≡ L.who log.old }
+    ensures known { L.reaches log.old ≤ L.reaches log.new }
+    ensures may { All (λ e. MaySend L.Law.may (L.who log.new) e) outbox.new.entries.items }
+    ensures few { length outbox.new.entries.items ≤ 4 }
+    ensures follows { Follows L.holds R.state R.spells (L.seen log.new) (R.shows replica.new) }
+    ensures bounded { IsKnown (L.reaches log.new) (R.shows replica.new) }
+    ensures forward { (R.shows replica.old).cursor ≤ (R.shows replica.new).cursor }
+    ensures counts { (R.shows replica.old).faults ≤ (R.shows replica.new).faults }
+    ensures origin { (R.shows replica.new).origin ≡ (R.shows replica.old).origin }
+    ensures waiting { (R.shows replica.new).kept ≢ [] → L.Law.may (L.who log.old) (packed (R.shows replica.old).origin (R.shows replica.new).kept) }
+    ensures any_crash { AnyCrash (R.shows replica.old).disk (R.shows replica.new).disk (SpellsOne R.spells (IsFound L.holds R.state (L.seen log.new) (R.shows replica.old).cursor)) }
+    ensures landed { OnOk result (HasLanded L.holds (L.who log.old) (R.shows replica.old).origin (L.seen log.old) item (L.seen log.new)) }
+    ensures blames { (view_of outbox.old).unsettled ≡ None → IfErr result (λ f. Blames (L.who log.old) (L.seen log.old) (R.shows replica.old).faults f (L.seen log.new) (R.shows replica.new).faults) }
+{
+    match propose(alloc, log, replica, outbox, item) {
+        Ok(()) => {}
+        Err(fault) => return Err(fault),
+    }
+    match flush(alloc, log, replica, outbox) {
+        Ok(()) => {}
+        Err(_) => return Err(Fault::Memory),
+    }
+    match settle_all(alloc, log, outbox) {
+        Ok(()) => return Ok(()),
+        Err(fault) => return Err(fault),
+    }
+}
+
+/// Up to where the log may be trimmed: to its trim point, but not past a member's position, nor past what was applied.
+fn lowest<R: Replica>(replica: &R, nodes: u8) -> Result<u64, AllocError>
+    requires { nodes ≤ 8 }
+    ensures { IfOk result (λ position. position ≡ trim_to nodes (R.shows replica.now)) }
+{
+    let position = least(replica, nodes)?;
+    let point = replica.trim_point()?;
+    Ok(replica.cursor().min(point.min(position)))
+}
+
+/// Plays the log as far as it is known, and trims it up to its trim point, but not past a member's position, nor past what
+/// was applied.
+fn trim_below<L: SharedLog, R: Replica>(
+    log: &mut L,
+    replica: &mut R,
+    nodes: u8,
+) -> Result<u64, Fault>
+    requires nodes { nodes ≤ 8 }
+    requires floor { IsFloor R.state L.Law.floor nodes }
+    requires shown { ShowsAll L.Law.may L.Law.floor L.Law.shelf L.holds }
+    requires legal { IsLegal L.Law.may L.Law.floor L.Law.shelf (L.seen log.old) }
+    requires follows { Follows L.holds R.state R.spells (L.seen log.old) (R.shows replica.old) }
+    requires bounded { IsKnown (L.reaches log.old) (R.shows replica.old) }
+    ensures later { Later L.Law.may L.Law.floor L.Law.shelf (L.seen log.old) (L.seen log.new) }
+    ensures who { L.who log.new ≡ L.who log.old }
+    ensures known { L.reaches log.new ≡ L.reaches log.old }
+    ensures follows { Follows L.holds R.state R.spells (L.seen log.new) (R.shows replica.new) }
+    ensures bounded { IsKnown (L.reaches log.new) (R.shows replica.new) }
+    ensures forward { (R.shows replica.old).cursor ≤ (R.shows replica.new).cursor }
+    ensures counts { (R.shows replica.old).faults ≤ (R.shows replica.new).faults }
+    ensures kept { (R.shows replica.new).kept ≡ (R.shows replica.old).kept }
+    ensures origin { (R.shows replica.new).origin ≡ (R.shows replica.old).origin }
+    ensures any_crash { AnyCrash (R.shows replica.old).disk (R.shows replica.new).disk (SpellsOne R.spells (IsFound L.holds R.state (L.seen log.new) (R.shows replica.old).cursor)) }
+    ensures blames { IfErr result (λ f. Blames (L.who log.old) (L.seen log.old) (R.shows replica.old).faults f (L.seen log.new) (R.shows replica.new).faults) }
+    ensures trims { IfOk result (TrimsBelow nodes (L.who log.old) (L.seen log.old) (L.seen log.new) (R.shows replica.new) (L.reaches log.new)) }
+{
+    let end = log.known();
+    match play(log, replica, end) {
+        Ok(()) => {}
+        Err(fault) => return Err(fault),
+    }
+    let position = match lowest(replica, nodes) {
+        Ok(position) => position,
+        Err(_) => return Err(Fault::Memory),
+    };
+    match log.prefix_trim(position) {
+        Ok(trim) => return Ok(trim),
+        Err(fault) => return Err(told(fault)),
+    }
+}
+
+/// Finds a tail and plays up to it; asks for a trim to the least position of a member then, by an entry that is appended
+/// with all that is outstanding; plays the log as far as it is known, and trims it up to its trim point, but not past a
+/// member's position, nor past what was applied. Answers the trim.
+///
+/// Cost: that of a `sync`, an append for each outstanding entry and one more, and a trim of each loglet.
+pub fn trim_now<L: SharedLog, R: Replica>(
+    alloc: Global,
+    log: &mut L,
+    replica: &mut R,
+    outbox: &mut Outbox,
+    nodes: u8,
+) -> Result<u64, Fault>
+    requires nodes { nodes ≤ 8 }
+    requires floor { IsFloor R.state L.Law.floor nodes }
+    requires shown { ShowsAll L.Law.may L.Law.floor L.Law.shelf L.holds }
+    requires legal { IsLegal L.Law.may L.Law.floor L.Law.shelf (L.seen log.old) }
+    requires may { All (λ e. MaySend L.Law.may (L.who log.old) e) outbox.old.entries.items }
+    requires few { length outbox.old.entries.items ≤ 4 }
+    requires follows { Follows L.holds R.state R.spells (L.seen log.old) (R.shows replica.old) }
+    requires bounded { IsKnown (L.reaches log.old) (R.shows replica.old) }
+    requires own { (position : ℕ) → position < 2 ^ 64 → L.Law.may (L.who log.old) (packed (R.shows replica.old).origin ((R.shows replica.old).kept ++ trim_item position ∷ [])) }
+    requires waits { (R.shows replica.old).kept ≢ [] → L.Law.may (L.who log.old) (packed (R.shows replica.old).origin (R.shows replica.old).kept) }
+    ensures later { Later L.Law.may L.Law.floor L.Law.shelf (L.seen log.old) (L.seen log.new) }
+    ensures who { L.who log.new ≡ L.who log.old }
+    ensures known { L.reaches log.old ≤ L.reaches log.new }
+    ensures may { All (λ e. MaySend L.Law.may (L.who log.new) e) outbox.new.entries.items }
+    ensures few { length outbox.new.entries.items ≤ 4 }
+    ensures follows { Follows L.holds R.state R.spells (L.seen log.new) (R.shows replica.new) }
+    ensures bounded { IsKnown (L.reaches log.new) (R.shows replica.new) }
+    ensures forward { (R.shows replica.old).cursor ≤ (R.shows replica.new).cursor }
+    ensures origin { (R.shows replica.new).origin ≡ (R.shows replica.old).origin }
+    ensures waiting { (R.shows replica.new).kept ≢ [] → L.Law.may (L.who log.old) (packed (R.shows replica.old).origin (R.shows replica.new).kept) }
+    ensures any_crash { AnyCrash (R.shows replica.old).disk (R.shows replica.new).disk (SpellsOne R.spells (IsFound L.holds R.state (L.seen log.new) (R.shows replica.old).cursor)) }
+    ensures trims { IfOk result (Trims L.holds R.state nodes (L.who log.old) (R.shows replica.old).origin (L.seen log.old) (L.seen log.new) (R.shows replica.new) (L.reaches log.new)) }
+    ensures blames { (view_of outbox.old).unsettled ≡ None → IfErr result (λ f. Blames (L.who log.old) (L.seen log.old) (R.shows replica.old).faults f (L.seen log.new) (R.shows replica.new).faults) }
+{
+    let position = match find_least(log, replica, nodes) {
+        Ok(position) => position,
+        Err(fault) => return Err(fault),
+    };
+    let item = match trim_item(alloc, position) {
+        Ok(item) => item,
+        Err(_) => return Err(Fault::Memory),
+    };
+    match push_through(alloc, log, replica, outbox, item) {
+        Ok(()) => {}
+        Err(fault) => return Err(fault),
+    }
+    match trim_below(log, replica, nodes) {
+        Ok(trim) => return Ok(trim),
+        Err(fault) => return Err(fault),
     }
 }
 

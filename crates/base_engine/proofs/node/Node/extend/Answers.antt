@@ -1,5 +1,5 @@
-use Rattle.std.proofs.Common.{◌≡◌, refl, sym, ap, subst}
-use Rattle.base_engine.specs.Settling.{view_of, MaySend}
+use Rattle.std.proofs.Common.{refl}
+use Rattle.base_engine.specs.Settling.{view_of}
 use Rattle.base_engine.specs.Node.{NodeView}
 use Rattle.base_engine.proofs.Whole.{ok_same}
 use Rattle.base_engine.proofs.Following.{follows_later, known_more}
