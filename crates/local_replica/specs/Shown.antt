@@ -1,0 +1,30 @@
+-- A store, and what waits in the engines over it, as one replica.
+use Rattle.std.specs.Prelude.{◌≡◌, ℕ, List, Some}
+use Rattle.std.specs.Option.{option_map}
+use Rattle.delos_types.specs.declared.item.Item.{Item}
+use Rattle.journal_core.specs.Records.{records_of}
+use Rattle.store_records.specs.Spelled.{committed, saved_of}
+use Rattle.store_records.specs.Spelled as spelled
+use Rattle.local_store.specs.View as store
+use Rattle.replica_api.specs.Replica.{Saved, ReplicaView}
+
+-- what a store keeps
+abbrev pub pair_of : spelled.Saved → Saved
+pair_of s = record { cursor = s.cursor; contents = s.contents }
+
+-- The store of a node, and what waits in its lowest engine. What the disk failed to keep is what the transaction led to.
+abbrev pub shown : store.View → ℕ → List Item → ReplicaView
+shown v origin waiting = record {
+  cursor = v.cursor;
+  contents = v.contents;
+  asked = option_map (λ c. pair_of (committed (store.saved_in v) c)) v.asked;
+  down = v.down;
+  disk = v.disk.timeline;
+  faults = v.disk.faults;
+  origin = origin;
+  kept = waiting;
+}
+
+-- the records of a disk with these bytes spell this cursor and this space
+abbrev pub Spells : List ℕ → Saved → Type 0
+Spells image s = saved_of (records_of image) ≡ Some (record { cursor = s.cursor; contents = s.contents })

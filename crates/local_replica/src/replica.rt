@@ -1,0 +1,137 @@
+//! A store and the engines over it, as one replica.
+ghost use Rattle.std.specs.Prelude.{◌≡◌, ◌+◌, ◌<◌, ◌^◌, [], ◌∷◌};
+ghost use Rattle.engine_laws.specs.State.{IsStateOf};
+ghost use Rattle.replica_api.specs.Replica.{Survives};
+ghost use Rattle.local_replica.specs.Shown.{shown, Spells};
+
+use crate::applying::{apply, reopen};
+use crate::layers::Layers;
+use crate::reading;
+use delos_types::bytes::Bytes;
+use delos_types::entry::Entry;
+use delos_types::item::Item;
+use delos_types::numbers::{NodeId, Rank, SessionId};
+use disk_model::Disk;
+use engine_steps::layout::Kept;
+use local_store::Store;
+use replica_api::replica::{Applied, Reopened, Replica};
+use std::alloc::{AllocError, Global};
+
+/// The state machine of a node: its engines, and the store in which they keep their state beside the cursor.
+#[derive(Drop)]
+pub struct LocalReplica<E: Layers, D: Disk> {
+    alloc: Global,
+    // The node, of which the entries are that go down.
+    origin: NodeId,
+    engines: E,
+    // Whether the engines go on from what the store shows.
+    loaded: bool,
+    store: Store<D>,
+    ghost kinds: { E.kinds engines ≡ 1 ∷ 2 ∷ 3 ∷ 4 ∷ 5 ∷ [] },
+}
+
+impl<E: Layers, D: Disk> LocalReplica<E, D> {
+    /// The engines of node `origin`, over a store. It takes no memory.
+    pub fn new(alloc: Global, origin: NodeId, engines: E, store: Store<D>) -> Self
+        requires kinds { E.kinds engines ≡ 1 ∷ 2 ∷ 3 ∷ 4 ∷ 5 ∷ [] }
+        ensures store { result.store ≡ store }
+        ensures engines { result.engines ≡ engines }
+        ensures origin { result.origin ≡ origin }
+    {
+        LocalReplica {
+            alloc,
+            origin,
+            engines,
+            loaded: false,
+            store,
+        }
+    }
+
+    /// The engines and the store again. It takes no memory.
+    pub fn into_parts(self) -> (E, Store<D>)
+        ensures store { result.1 ≡ self.store }
+        ensures engines { result.0 ≡ self.engines }
+        ensures kinds { E.kinds result.0 ≡ 1 ∷ 2 ∷ 3 ∷ 4 ∷ 5 ∷ [] }
+    {
+        let LocalReplica {
+            alloc: _,
+            origin: _,
+            engines,
+            loaded: _,
+            store,
+        } = self;
+        (engines, store)
+    }
+}
+
+impl<E: Layers, D: Disk> Replica for LocalReplica<E, D> {
+    ghost shows = { λ r. shown r.store r.origin (E.waiting r.engines) };
+
+    ghost spells = { Spells };
+
+    ghost state = { IsStateOf };
+
+    fn cursor(&self) -> u64 {
+        self.store.cursor()
+    }
+
+    fn is_down(&self) -> bool {
+        self.store.is_down()
+    }
+
+    fn apply(&mut self, entry: &Entry) -> Applied {
+        apply(
+            self.alloc,
+            self.origin,
+            &mut self.engines,
+            &mut self.loaded,
+            &mut self.store,
+            entry,
+        )
+    }
+
+    fn reopen(&mut self, word: u64) -> Reopened {
+        self.loaded = false;
+        reopen(&mut self.store, word)
+    }
+
+    fn send(&mut self, item: Item) -> Result<Option<Entry>, AllocError> {
+        self.engines.propose(self.alloc, self.origin, item)
+    }
+
+    fn flush(&mut self) -> Result<Option<Entry>, AllocError> {
+        self.engines.flush(self.alloc, self.origin)
+    }
+
+    fn stop(&mut self, after: u64) {
+        self.store.stop(after);
+    }
+
+    fn last_rank(&self, session: SessionId) -> Result<u64, AllocError> {
+        reading::last_rank(self.alloc, &self.store, session)
+    }
+
+    fn reply_of(&self, session: SessionId, rank: Rank) -> Result<Option<Kept>, AllocError> {
+        reading::reply_of(self.alloc, &self.store, session, rank)
+    }
+
+    fn clean(&self) -> Result<u64, AllocError> {
+        reading::clean(&self.store)
+    }
+
+    fn value(&self, key: &[u8]) -> Result<Option<Bytes>, AllocError> {
+        reading::value(&self.store, key)
+    }
+
+    fn has_left(&self, node: NodeId) -> Result<bool, AllocError> {
+        reading::has_left(&self.store, node)
+    }
+
+    fn reported(&self, node: NodeId) -> Result<u64, AllocError> {
+        reading::reported(&self.store, node)
+    }
+
+    fn trim_point(&self) -> Result<u64, AllocError> {
+        reading::trim_point(&self.store)
+    }
+}
