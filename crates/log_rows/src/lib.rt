@@ -1,4 +1,4 @@
-//! A virtual log over a shelf of one loglet, taken through its calls.
+//! Virtual logs over shelves of file loglets, taken through their calls.
 #![tactic(auto)]
 
 #[cfg(test)]
