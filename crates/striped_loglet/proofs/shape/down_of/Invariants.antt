@@ -1,0 +1,6 @@
+use Rattle.std.proofs.Common.{◌≡◌, ◌+◌, map, drop}
+use Rattle.striped_loglet.specs.Views.{total}
+use Rattle.striped_loglet.proofs.shape.down_of.Given as goal
+
+abbrev pub invariant-loop-stripe : goal.invariant-loop-stripe
+invariant-loop-stripe g l = l.down + total (λ v. v.down) (drop l.stripe-index (map g.L.Loglet.view l.stripes)) ≡ total (λ v. v.down) (map g.L.Loglet.view l.stripes)

@@ -1,0 +1,21 @@
+use Rattle.std.proofs.Common.{◌≡◌, ◌+◌, map, drop, arith}
+use Rattle.striped_loglet.specs.Views.{total}
+use Rattle.striped_loglet.proofs.Places.{total_drop}
+use Rattle.striped_loglet.proofs.shape.servers_of.Goals as goal
+
+pub overflow_add-servers : goal.overflow_add-servers
+overflow_add-servers g c =
+    let next : total (λ v. v.servers) (drop c.loop-stripe.stripe-index (map g.L.Loglet.view c.args.stripes.now)) ≡ (g.L.Loglet.view c.stripe-item.result).servers + total (λ v. v.servers) (drop (c.loop-stripe.stripe-index + 1) (map g.L.Loglet.view c.args.stripes.now)) =
+    total_drop (λ v. v.servers) g.L.Loglet.view c.args.stripes.now c.loop-stripe.stripe-index c.stripe-item.result c.loop-stripe-test.true c.stripe-item.is in
+    let so_far = c.loop-stripe.invariant in
+    let most = c.requires in
+    let here = c.servers-servers.ensures.value in
+    omega (arith, next, so_far, most, here)
+
+pub loop-stripe-preserved : goal.loop-stripe-preserved
+loop-stripe-preserved g c =
+    let next : total (λ v. v.servers) (drop c.loop-stripe.stripe-index (map g.L.Loglet.view c.args.stripes.now)) ≡ (g.L.Loglet.view c.stripe-item.result).servers + total (λ v. v.servers) (drop (c.loop-stripe.stripe-index + 1) (map g.L.Loglet.view c.args.stripes.now)) =
+    total_drop (λ v. v.servers) g.L.Loglet.view c.args.stripes.now c.loop-stripe.stripe-index c.stripe-item.result c.loop-stripe-test.true c.stripe-item.is in
+    let so_far = c.loop-stripe.invariant in
+    let here = c.servers-servers.ensures.value in
+    omega (arith, next, so_far, here)

@@ -1,0 +1,50 @@
+use Rattle.std.proofs.Common.{◌<◌, length, arith}
+use Rattle.striped_loglet.proofs.Places.{got_at, view_at}
+use Rattle.striped_loglet.proofs.Bridge.{open_there, step_whole}
+use Rattle.striped_loglet.proofs.Wholes.{inner_open, forgotten_none, forgotten_some}
+use Rattle.striped_loglet.proofs.striped.StripedLogletLoglet.forget.Goals as goal
+
+pub index-requires : goal.index-requires
+index-requires g c =
+    let i = c.self.inside in
+    rw c.number-number.ensures (open_there g.L.Loglet.view i.shape i.stripes.items i.marks i.pending _ c.args.ticket c.self.view_is c.self.invariant c.requires)
+
+pub index_mut-requires : goal.index_mut-requires
+index_mut-requires g c =
+    let i = c.self.inside in
+    let l : c.in-Some.inner.stripe < length i.stripes.items = (inner_open g.L.Loglet.view i.shape i.stripes.items i.marks i.pending c.number-number.result c.index.result.now c.in-Some.inner c.self.invariant c.index.ensures c.in-Some.is).0 in
+    omega (arith, l)
+
+pub forget-requires : goal.forget-requires
+forget-requires g c =
+    let i = c.self.inside in
+    let at = inner_open g.L.Loglet.view i.shape i.stripes.items i.marks i.pending c.number-number.result c.index.result.now c.in-Some.inner c.self.invariant c.index.ensures c.in-Some.is in
+    at.1 (g.L.Loglet.view c.index_mut.result.now) (view_at g.L.Loglet.view i.stripes.items c.in-Some.inner.stripe c.index_mut.result.now at.0 c.index_mut.ensures.value)
+
+pub invariant_of-self : goal.invariant_of-self
+invariant_of-self g c =
+    let i = c.self.inside in
+    let at = inner_open g.L.Loglet.view i.shape i.stripes.items i.marks i.pending c.number-number.result c.index.result.now c.in-Some.inner c.self.invariant c.index.ensures c.in-Some.is in
+    (forgotten_some g.L.Loglet.view i.shape i.stripes.items i.marks i.pending c.remove.new.self c.number-number.result c.index.result.now c.in-Some.inner c.index_mut.result.now c.forget.new.self c.self.invariant c.index.ensures c.in-Some.is
+    (got_at i.stripes.items c.in-Some.inner.stripe c.index_mut.result.now at.0 c.index_mut.ensures.value) c.forget.ensures c.remove.ensures.updates).0
+
+pub returns-in-Some : goal.returns-in-Some
+returns-in-Some g c =
+    let i = c.self.inside in
+    let at = inner_open g.L.Loglet.view i.shape i.stripes.items i.marks i.pending c.number-number.result c.index.result.now c.in-Some.inner c.self.invariant c.index.ensures c.in-Some.is in
+    step_whole g.L.Loglet.view i.shape i.stripes.items _ i.marks i.marks i.pending c.remove.new.self _ _ _ c.self.view_is c.self.invariant (invariant_of-self g c) c.requires
+    (rw c.number-number.ensures at
+    (forgotten_some g.L.Loglet.view i.shape i.stripes.items i.marks i.pending c.remove.new.self c.number-number.result c.index.result.now c.in-Some.inner c.index_mut.result.now c.forget.new.self c.self.invariant c.index.ensures c.in-Some.is
+    (got_at i.stripes.items c.in-Some.inner.stripe c.index_mut.result.now at.0 c.index_mut.ensures.value) c.forget.ensures c.remove.ensures.updates).1)
+
+pub invariant_of-self-2 : goal.invariant_of-self-2
+invariant_of-self-2 g c =
+    let i = c.self.inside in
+    (forgotten_none g.L.Loglet.view i.shape i.stripes.items i.marks i.pending c.remove-2.new.self c.number-number.result c.index.result.now c.self.invariant c.index.ensures c.remove-2.ensures.updates).0
+
+pub returns : goal.returns
+returns g c =
+    let i = c.self.inside in
+    step_whole g.L.Loglet.view i.shape i.stripes.items i.stripes.items i.marks i.marks i.pending c.remove-2.new.self _ _ _ c.self.view_is c.self.invariant (invariant_of-self-2 g c) c.requires
+    (rw c.number-number.ensures at
+    (forgotten_none g.L.Loglet.view i.shape i.stripes.items i.marks i.pending c.remove-2.new.self c.number-number.result c.index.result.now c.self.invariant c.index.ensures c.remove-2.ensures.updates).1)

@@ -1,0 +1,78 @@
+//! One call of a stripe, with what is noted of it.
+ghost use Rattle.std.specs.Prelude.{◌≡◌};
+ghost use Rattle.loglet_api.specs.View.{IsOpen};
+ghost use Rattle.loglet_api.specs.Step.{CanCall};
+ghost use Rattle.striped_loglet.specs.Calls.{BegunOn, CarriedOn, TakenOn};
+
+use delos_types::numbers::Ticket;
+use loglet_api::call::{Answer, LogletCall, Op, Refused};
+use loglet_api::loglet::Loglet;
+
+/// An operation of a stripe that is under way.
+#[derive(Clone, Copy)]
+pub struct Inner {
+    pub stripe: u64,
+    pub ticket: Ticket,
+    /// What was left of it when it was last looked at.
+    pub rounds: u32,
+    pub steps: u64,
+}
+
+/// What carrying an operation of a stripe came to.
+#[derive(Drop)]
+pub enum Outcome {
+    Going(Inner),
+    Answered(Answer),
+}
+
+/// Begins an operation on the stripe of this number.
+pub fn begin_on<L: Loglet>(stripe: &mut L, number: u64, op: Op) -> Result<Inner, Refused>
+    requires { CanCall (L.view stripe.old) (LogletCall.Begin op) }
+    ensures { BegunOn (L.view stripe.old) number op result (L.view stripe.new) }
+{
+    let ticket = match stripe.begin(op) {
+        Ok(ticket) => ticket,
+        Err(refused) => return Err(refused),
+    };
+    let (rounds, steps) = stripe.left(ticket);
+    Ok(Inner {
+        stripe: number,
+        ticket,
+        rounds,
+        steps,
+    })
+}
+
+/// Carries an operation of a stripe once, where it is undecided, and takes its answer, where it is
+/// decided then.
+pub fn carry_on<L: Loglet>(stripe: &mut L, inner: Inner, word: u64) -> Result<Outcome, Refused>
+    requires { IsOpen (L.view stripe.old) inner.ticket }
+    ensures { CarriedOn (L.view stripe.old) inner word result (L.view stripe.new) }
+{
+    let (rounds, steps) = stripe.left(inner.ticket);
+    if rounds == 0 && steps == 0 {
+        return Ok(taken(stripe, inner));
+    }
+    match stripe.carry(inner.ticket, word) {
+        Ok(()) => Ok(taken(stripe, inner)),
+        Err(refused) => Err(refused),
+    }
+}
+
+/// Takes the answer of an operation of a stripe, or looks at what is left of it.
+fn taken<L: Loglet>(stripe: &mut L, inner: Inner) -> Outcome
+    requires { IsOpen (L.view stripe.old) inner.ticket }
+    ensures { TakenOn (L.view stripe.old) inner result (L.view stripe.new) }
+{
+    match stripe.take(inner.ticket) {
+        Some(answer) => Outcome::Answered(answer),
+        None => {
+            let (rounds, steps) = stripe.left(inner.ticket);
+            Outcome::Going(Inner {
+                rounds,
+                steps,
+                ..inner
+            })
+        }
+    }
+}
