@@ -6,3 +6,4 @@ pub mod Extending
 pub mod Landing
 pub mod Freeing
 pub mod Showing
+pub mod Scanning

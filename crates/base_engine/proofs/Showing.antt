@@ -1,17 +1,18 @@
 -- What a log holds it shows, or did before it was trimmed, where no trim goes past what it has shown.
 use Rattle.std.proofs.Common.{◌≡◌, ◌⊎◌, inl, inr, ℕ, ◌<◌, ◌≤◌, List, [], ◌∷◌, length, Option, Some, None, Bool, true, false, cond, refl, ap, ◌∙◌, subst, ⊎_elim, arith}
-use Rattle.std.specs.Prelude.{nat_lt}
+use Rattle.std.specs.Prelude.{nat_lt, IsSome}
+use Rattle.std.proofs.lemmas.Bool.Decides.{nat_tests}
 use Rattle.delos_types.specs.declared.entry.Entry.{Entry}
 use Rattle.delos_types.specs.declared.chain.Chain.{Chain}
 use Rattle.chain_map.specs.Chain.{no_segment, first_chain}
 use Rattle.legal_journal.specs.declared.events.Event.{Event}
 use Rattle.legal_journal.specs.Moves.{Move, RegisterMove, OnCell, OnRegister, Nothing, Never, Gives, Conflicts, Writes, Faults, Fails, Mends, move}
 use Rattle.legal_journal.specs.Shown.{entry_in, end_of, is_within}
-use Rattle.legal_journal.specs.Journal.{State, log_at, trim_of, reach, entries, ends, now_or_before, register_after, after, after_all, state_of, start, IsCurrent, MayFollow, IsAllowed, RegisterAllowed, IsLegalFrom}
+use Rattle.legal_journal.specs.Journal.{State, IsLegal, log_at, trim_of, tail_of, reach, entries, ends, now_or_before, register_after, after, after_all, state_of, start, IsCurrent, MayFollow, IsAllowed, RegisterAllowed, IsLegalFrom}
 use Rattle.legal_journal.specs.Laws.{Continues}
 use Rattle.legal_journal.proofs.Log.{entry_in-grows}
 use Rattle.legal_journal.proofs.Sound.{StateOk, step_ok, log_from}
-use Rattle.legal_journal.proofs.Legal.{start_ok}
+use Rattle.legal_journal.proofs.Legal.{start_ok, sound, whole}
 use Rattle.virtual_log.specs.Holding.{Holds}
 use Rattle.virtual_log.proofs.Holding.{holds_stands}
 use Rattle.virtual_log.proofs.Agreeing.{holds_agree}
@@ -142,3 +143,24 @@ shows_all may floor shelf low = λ seen pos e legal h.
     let held : Holds seen pos x.0 = record { version = k.version; chain = k.chain; given = k.given; entry = k.entry } in
     x.1 ∙ ap (λ y. Some y) (holds_agree may floor shelf seen pos x.0 e legal held h) in
     ⊎_elim before (λ at. f.now pos e at) (holds_stands may floor shelf seen pos e legal h)
+
+-- each position below the tail is held
+pub held_below : (may : ℕ → Entry → Type 0) (floor : List Entry → ℕ) (shelf : List ℕ) → ((log : List Entry) → floor log ≤ length log) → (seen : List Event) (pos : ℕ) → IsLegal may floor shelf seen → pos < tail_of (state_of seen) → (e : Entry) × Holds seen pos e
+held_below may floor shelf low seen pos legal below = by_test (nat_lt pos (trim_of w)) refl
+  where
+    w : State
+    w = state_of seen
+
+    f : Filled w
+    f = filled_on may floor shelf low start seen (start_ok (length shelf) legal.least legal.most) start_filled legal.steps
+
+    here : (e : Entry) → w.shown pos ≡ Some e → (x : Entry) × Holds seen pos x
+    here e h = let k = f.held pos e h in (e, record { version = k.version; chain = k.chain; given = k.given; entry = k.entry })
+
+    some : (o : Option Entry) → log_at w pos ≡ o → IsSome o → (x : Entry) × Holds seen pos x
+    some None h is = absurd (cc)
+    some (Some e) h is = here e (f.now pos e h)
+
+    by_test : (b : Bool) → nat_lt pos (trim_of w) ≡ b → (x : Entry) × Holds seen pos x
+    by_test true t = let x = f.low pos (grind (arith, nat_tests)) in here x.0 x.1
+    by_test false t = some (log_at w pos) refl (whole (length shelf) w pos (sound may floor shelf seen legal) (grind (arith, nat_tests)) below)

@@ -1,4 +1,5 @@
 pub mod Reading
+pub mod Querying
 pub mod Holding
 pub mod Causes
 pub mod Following

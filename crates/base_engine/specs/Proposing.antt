@@ -50,12 +50,12 @@ IsNear m item = IsNearAt m (under 2 item)
 abbrev pub IsFar : SpaceMap → Item → Type 0
 IsFar m item = IsFarAt m (under 2 item)
 
--- All was carried to its end, and the replica then has the state at a tail.
+-- All was carried to its end, and the replica then has the state at a tail that was found after that.
 pub record CaughtUp (holds : List Event → ℕ → Entry → Type 0) (who : ℕ) (old : List Event) (was : OutboxView) (new : List Event) (is : OutboxView) (v : ReplicaView) : Type 0 where
   pub settled : Settled holds who old was new is
   pub none : is.entries ≡ []
   pub mid : List Event
-  pub since : (more : List Event) × (mid ≡ old ++ more)
+  pub since : (more : List Event) × (mid ≡ settled.moment ++ more)
   pub tail : ℕ
   pub above : IsAbove who mid tail new
   pub at : IsAt tail v new

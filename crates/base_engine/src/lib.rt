@@ -7,6 +7,7 @@ pub mod outbox;
 pub mod over_virtual_log;
 pub mod play;
 pub mod propose;
+pub mod read;
 pub mod rest;
 mod sessions;
 pub mod settle;

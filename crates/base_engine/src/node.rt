@@ -11,6 +11,7 @@ ghost use Rattle.replica_api.specs.Replica.{SpellsOne, Survives, Flushes};
 ghost use Rattle.base_engine.specs.Settling.{view_of, Settled, Answers, Failing, cause_in};
 ghost use Rattle.base_engine.specs.Proposing.{Sent, Proposed, Refused};
 ghost use Rattle.base_engine.specs.Node.{NodeView, NodeOk, Keeps};
+ghost use Rattle.base_engine.specs.Querying.{found_in};
 ghost use Rattle.base_engine.specs.Reading.{IsExtendedBy};
 ghost use Rattle.base_engine.specs.Trimming.{least_of, IsFloor, ShowsAll, Trims};
 
@@ -18,6 +19,7 @@ use crate::fault::Fault;
 use crate::outbox::{Outbox, cause_of};
 use crate::play::{play, restore, sync};
 use crate::propose::{flush, propose};
+use crate::read::read;
 use crate::rest::Rested;
 use crate::settle::settle_all;
 use crate::shared_log::SharedLog;
@@ -30,11 +32,13 @@ use engine_steps::layout::Kept;
 use replica_api::replica::Replica;
 use std::alloc::{AllocError, Global};
 use std::marker::Model;
+use table_core::command::{Found, Query};
 use virtual_log::extend::Extension;
 
 /// A node: the log that it shares with others, its replica, and what it has sent down and not settled.
 ///
 /// Its replica has the state of the log's first `cursor` entries, after any crash too. At most 4 entries are outstanding.
+#[derive(Drop)]
 pub struct Node<L: SharedLog, R: Replica> {
     pub(crate) alloc: Global,
     pub(crate) log: L,
@@ -131,6 +135,14 @@ impl<L: SharedLog, R: Replica> Node<L, R> {
         ensures follows { Follows L.holds R.state R.spells self.now.seen self.now.replica }
     {
         self.replica.value(key)
+    }
+
+    /// What the table answers to a read, in the state of the log's first `cursor` entries.
+    pub fn read(&self, query: &Query) -> Result<Found, AllocError>
+        ensures found { IfOk result (λ found. found ≡ found_in self.now.replica.contents query.now) }
+        ensures follows { Follows L.holds R.state R.spells self.now.seen self.now.replica }
+    {
+        read(self.alloc, &self.replica, query)
     }
 
     /// Where a rank acted and what it was answered, in the state of the log's first `cursor` entries.

@@ -12,6 +12,7 @@ use std::alloc::Global;
 use std::marker::Model;
 
 /// A node that gave its log out: its replica, and what it has sent down and not settled.
+#[derive(Drop)]
 pub struct Rested<R: Replica> {
     pub(crate) alloc: Global,
     pub(crate) replica: R,

@@ -1,9 +1,11 @@
 //! What the engines keep in the space of a store.
 ghost use Rattle.std.specs.Prelude.{◌≡◌, IfOk};
+ghost use Rattle.delos_types.specs.Spaces.{least_key_from};
 ghost use Rattle.engine_steps.specs.Layout as layout;
 
 use delos_types::bytes::Bytes;
 use delos_types::numbers::{NodeId, Rank, SessionId};
+use delos_types::space::Space;
 use disk_model::Disk;
 use engine_steps::layout;
 use engine_steps::layout::Kept;
@@ -53,6 +55,15 @@ pub(crate) fn value<D: Disk>(store: &Store<D>, key: &[u8]) -> Result<Option<Byte
     let txn = store.begin()?;
     let value = layout::value(&txn, key)?;
     Ok(value)
+}
+
+/// The least key of the table that is at or above this one.
+pub(crate) fn key_from<D: Disk>(store: &Store<D>, key: &[u8]) -> Result<Option<Bytes>, AllocError>
+    ensures { IfOk result (λ found. found ≡ least_key_from store.now.contents 5 key.now) }
+{
+    let txn = store.begin()?;
+    let found = txn.seek(layout::TABLE, key)?;
+    Ok(found)
 }
 
 /// Whether a node has left.

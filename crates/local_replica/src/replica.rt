@@ -123,6 +123,10 @@ impl<E: Layers, D: Disk> Replica for LocalReplica<E, D> {
         reading::value(&self.store, key)
     }
 
+    fn key_from(&self, key: &[u8]) -> Result<Option<Bytes>, AllocError> {
+        reading::key_from(&self.store, key)
+    }
+
     fn has_left(&self, node: NodeId) -> Result<bool, AllocError> {
         reading::has_left(&self.store, node)
     }

@@ -1,6 +1,6 @@
 //! The state machine of a node: the stack of engines over its store.
 ghost use Rattle.std.specs.Prelude.{◌≡◌, ℕ, ◌+◌, ◌<◌, ◌^◌, List, true, IfOk, OnErr};
-ghost use Rattle.delos_types.specs.Spaces.{SpaceMap};
+ghost use Rattle.delos_types.specs.Spaces.{SpaceMap, least_key_from};
 ghost use Rattle.delos_types.specs.declared.entry.Entry.{Entry};
 ghost use Rattle.disk_model.specs.Crash.{AnyCrash};
 ghost use Rattle.replica_api.specs.Replica.{Saved, ReplicaView, SpellsOne, Survives, Takes, MayFind, MayFindDuring, Reopens, Queues, Flushes};
@@ -107,4 +107,8 @@ pub trait Replica {
     /// The value at a key of the table.
     fn value(&self, key: &[u8]) -> Result<Option<Bytes>, AllocError>
         ensures { IfOk result (λ value. value ≡ layout.value_of (shows self.now).contents key.now) };
+
+    /// The least key of the table that is at or above this one; None where there is none.
+    fn key_from(&self, key: &[u8]) -> Result<Option<Bytes>, AllocError>
+        ensures { IfOk result (λ found. found ≡ least_key_from (shows self.now).contents 5 key.now) };
 }

@@ -1,4 +1,4 @@
-use Rattle.std.proofs.Common.{◌∙◌, ◌++◌, ◌∷◌, [], List, subst, ap}
+use Rattle.std.proofs.Common.{◌∙◌, ◌++◌, ◌∷◌, [], List, subst, ap, append_assoc}
 use Rattle.base_engine.specs.declared.outbox.Given.{Given}
 use Rattle.virtual_log.specs.Turning.{IsAbove}
 use Rattle.base_engine.specs.Settling.{view_of}
@@ -72,14 +72,21 @@ returns-in-Ok-clause-caught g c =
     let old = t.seen c.args.log.now in
     let mid = t.seen c.carry_all.new.log in
     let new = t.seen c.sync.new.log in
-    let was = view_of c.args.outbox.now in
-    let is = view_of c.carry_all.new.outbox in
-    let settled = settled_on t.holds w old mid new was is c.carry_all.ensures.settled (more_of p.may p.floor p.shelf mid new c.sync.ensures.later) in
+    let s = c.carry_all.ensures.settled in
+    let on = more_of p.may p.floor p.shelf mid new c.sync.ensures.later in
     record {
-      settled = settled_given t.holds w old new was is c.reserve.new.self.items settled c.reserve.ensures.items;
+      settled = record {
+        done = s.done;
+        given = s.given;
+        all = s.all;
+        gained = c.reserve.ensures.items ∙ s.gained;
+        moment = s.moment;
+        fates = s.fates;
+        rest = (s.rest.0 ++ on.0, on.1 ∙ ap (λ l. l ++ on.0) s.rest.1 ∙ append_assoc s.moment s.rest.0 on.0);
+      };
       none = c.in_ok-carry_all.ensures.none;
       mid = mid;
-      since = more_of p.may p.floor p.shelf old mid c.carry_all.ensures.later;
+      since = s.rest;
       tail = c.in-Ok.field-0;
       above = subst (λ x. IsAbove x mid c.in-Ok.field-0 new) c.carry_all.ensures.who c.in-Ok.ensures.synced;
       at = c.in-Ok.ensures.cursor;
