@@ -1,0 +1,136 @@
+-- Rules that allow more, and what stays legal by rules that allow less.
+use Rattle.std.proofs.Common.{◌≡◌, ◌⊎◌, inl, inr, ℕ, List, [], ◌∷◌, ◌++◌, true, refl, sym, ap, ◌∙◌, subst, append_assoc}
+use Rattle.delos_types.specs.declared.entry.Entry.{Entry}
+use Rattle.loglet_api.specs.declared.call.Op.{Op}
+use Rattle.loglet_api.specs.declared.call.Op.TheVariants.{Append, Settle, Tail, Seal, Read, Trim}
+use Rattle.legal_journal.specs.declared.events.FabricCall.{FabricCall}
+use Rattle.legal_journal.specs.declared.events.FabricCall.TheVariants.{Begin, Carry, Forget, ReadChain, WriteChain, Stop, Mend, Stray, StopMeta, MendMeta}
+use Rattle.legal_journal.specs.declared.events.FabricAnswer.{FabricAnswer}
+use Rattle.legal_journal.specs.declared.events.FabricAnswer.TheVariants.{Begun, Full, Done, Going, NoTicket, Gone, At, Down, Written, Conflict, MetaFault, Set, Memory}
+use Rattle.legal_journal.specs.declared.events.Event.{Event}
+use Rattle.legal_journal.specs.Moves.{CellMove, Begins, Carries, Answers, Drops, Misses, Move, OnCell, OnRegister, Nothing, Never, move_of, move}
+use Rattle.legal_journal.specs.Journal.{State, state_of, start, after, MayBegin, CellAllowed, IsAllowed, IsLegalFrom, IsLegal}
+use Rattle.legal_journal.specs.Turns.{MayAsk, MayCall, OwnEvents}
+use Rattle.legal_journal.proofs.Legal.{IsLegalFrom-split, IsLegalFrom-join}
+use Rattle.one_thread.specs.Alone.{AreOwn, Since}
+
+-- whatever a allows, b does
+module _ (a b : ℕ → Entry → Type 0) (floor : List Entry → ℕ) (shelf : List ℕ) (wider : (who : ℕ) (e : Entry) → a who e → b who e) where
+  begin_wider : (w : State) (cells who i : ℕ) (op : Op) → MayBegin w a cells who i op → MayBegin w b cells who i op
+  begin_wider w cells who i (Append e) h = (h.0, wider who e h.1)
+  begin_wider w cells who i (Settle n) h = h
+  begin_wider w cells who i Tail h = h
+  begin_wider w cells who i Seal h = h
+  begin_wider w cells who i (Read p) h = h
+  begin_wider w cells who i (Trim n) h = h
+
+  cell_wider : (w : State) (cells who i : ℕ) (m : CellMove) → CellAllowed w a cells who i m → CellAllowed w b cells who i m
+  cell_wider w cells who i (Begins op t) h = (begin_wider w cells who i op h.0, h.1, h.2)
+  cell_wider w cells who i (Carries t) h = h
+  cell_wider w cells who i (Answers t x) h = h
+  cell_wider w cells who i (Drops t) h = h
+  cell_wider w cells who i (Misses t) h = h
+
+  allowed_wider : (w : State) (cells who : ℕ) (m : Move) → IsAllowed w a floor cells who m → IsAllowed w b floor cells who m
+  allowed_wider w cells who (OnCell i m) h = cell_wider w cells who i m h
+  allowed_wider w cells who (OnRegister m) h = h
+  allowed_wider w cells who Nothing h = h
+  allowed_wider w cells who Never h = h
+
+  from_wider : (w : State) (es : List Event) → IsLegalFrom w a floor shelf es → IsLegalFrom w b floor shelf es
+  from_wider w [] h = h
+  from_wider w (e ∷ es) h = (record { there = h.0.there; allowed = allowed_wider w _ e.who (move e) h.0.allowed }, from_wider (after w e.who (move e)) es h.1)
+
+  -- a journal stays legal
+  pub legal_wider : (es : List Event) → IsLegal a floor shelf es → IsLegal b floor shelf es
+  legal_wider es h = record { least = h.least; most = h.most; steps = from_wider start es h.steps }
+
+  ask_wider : (w : State) (cells who : ℕ) (call : FabricCall) → MayAsk w a floor cells who call → MayAsk w b floor cells who call
+  ask_wider w cells who (Begin i op) h = begin_wider w cells who i op h
+  ask_wider w cells who (Carry i t x) h = h
+  ask_wider w cells who (Forget i t) h = h
+  ask_wider w cells who ReadChain h = h
+  ask_wider w cells who (WriteChain x c) h = h
+  ask_wider w cells who (Stop i s n) h = h
+  ask_wider w cells who (Mend i s x) h = h
+  ask_wider w cells who (Stray i x) h = h
+  ask_wider w cells who (StopMeta n) h = h
+  ask_wider w cells who (MendMeta x) h = h
+
+  -- what may be called may be called
+  pub call_wider : (w : State) (who : ℕ) (call : FabricCall) → MayCall w a floor shelf who call → MayCall w b floor shelf who call
+  call_wider w who call h = record { there = h.there; asks = ask_wider w _ who call h.asks }
+
+  -- an event that b allows, by a call that a allows
+  allowed_within : (w : State) (cells who : ℕ) (call : FabricCall) (answer : FabricAnswer) → MayAsk w a floor cells who call → IsAllowed w b floor cells who (move_of call answer) → IsAllowed w a floor cells who (move_of call answer)
+  allowed_within w cells who (Begin i op) (Begun t) ask h = (ask, h.1, h.2)
+  allowed_within w cells who (Begin i op) Full ask h = h
+  allowed_within w cells who (Carry i t x) Going ask h = h
+  allowed_within w cells who (Carry i t x) (Done y) ask h = h
+  allowed_within w cells who (Carry i t x) Memory ask h = h
+  allowed_within w cells who (Carry i t x) NoTicket ask h = h
+  allowed_within w cells who (Forget i t) Gone ask h = h
+  allowed_within w cells who (Forget i t) NoTicket ask h = h
+  allowed_within w cells who ReadChain (At v c) ask h = h
+  allowed_within w cells who ReadChain Down ask h = h
+  allowed_within w cells who (WriteChain x c) (Written v) ask h = h
+  allowed_within w cells who (WriteChain x c) (Conflict v d) ask h = h
+  allowed_within w cells who (WriteChain x c) MetaFault ask h = h
+  allowed_within w cells who (WriteChain x c) Down ask h = h
+  allowed_within w cells who (MendMeta x) (Set y) ask h = h
+  allowed_within w cells who (Stop i s n) (Set true) ask h = h
+  allowed_within w cells who (Mend i s x) (Set y) ask h = h
+  allowed_within w cells who (Stray i x) (Set true) ask h = h
+  allowed_within w cells who (StopMeta n) (Set true) ask h = h
+  allowed_within w cells who call answer ask h = absurd h
+
+  -- the events of a call
+  pub own_cases : (who : ℕ) (call : FabricCall) (answer : FabricAnswer) (own : List Event) → OwnEvents who call answer own → (own ≡ []) ⊎ (own ≡ record { who = who; call = call; answer = answer } ∷ [])
+  own_cases who (Carry i t x) Memory own h = h
+  own_cases who call Memory own h = inl h
+  own_cases who call answer own h = inr h
+
+  nil : (xs : List Event) → xs ++ [] ≡ xs
+  nil [] = refl
+  nil (x ∷ xs) = ap (λ l. x ∷ l) (nil xs)
+
+  -- A call that a allows, of a journal that is legal by a: what comes of it is.
+  pub legal_within : (who : ℕ) (call : FabricCall) (answer : FabricAnswer) (old own new : List Event) → IsLegal a floor shelf old → MayCall (state_of old) a floor shelf who call → OwnEvents who call answer own → new ≡ old ++ own → IsLegal b floor shelf new → IsLegal a floor shelf new
+  legal_within who call answer old own new was may event is now = by_own (own_cases who call answer own event)
+    where
+      by_own : (own ≡ []) ⊎ (own ≡ record { who = who; call = call; answer = answer } ∷ []) → IsLegal a floor shelf new
+      by_own (inl none) = subst (IsLegal a floor shelf) (sym (is ∙ (ap (λ l. old ++ l) none ∙ nil old))) was
+      by_own (inr one) =
+          let e : Event = record { who = who; call = call; answer = answer } in
+          let whole : IsLegal b floor shelf (old ++ e ∷ []) = subst (IsLegal b floor shelf) (is ∙ ap (λ l. old ++ l) one) now in
+          let parts = IsLegalFrom-split b floor shelf start old (e ∷ []) whole.steps in
+          let step = allowed_within (state_of old) _ who call answer may.asks parts.1.0.allowed in
+          subst (IsLegal a floor shelf) (sym (is ∙ ap (λ l. old ++ l) one)) (record {
+            least = was.least;
+            most = was.most;
+            steps = IsLegalFrom-join a floor shelf start old (e ∷ []) was.steps (record { there = parts.1.0.there; allowed = step }, tt);
+          })
+
+own-append : (who : ℕ) (xs ys : List Event) → AreOwn who xs → AreOwn who ys → AreOwn who (xs ++ ys)
+own-append who [] ys h k = k
+own-append who (x ∷ xs) ys h k = (h.0, own-append who xs ys h.1 k)
+
+are_own : (who : ℕ) (call : FabricCall) (answer : FabricAnswer) (own : List Event) → (own ≡ []) ⊎ (own ≡ record { who = who; call = call; answer = answer } ∷ []) → AreOwn who own
+are_own who call answer own (inl none) = subst (AreOwn who) (sym none) tt
+are_own who call answer own (inr one) = subst (AreOwn who) (sym one) (refl, tt)
+
+-- own events and then those of an own call
+pub since_more : (who : ℕ) (call : FabricCall) (answer : FabricAnswer) (old mid own new : List Event) → Since who old mid → (own ≡ []) ⊎ (own ≡ record { who = who; call = call; answer = answer } ∷ []) → new ≡ mid ++ own → Since who old new
+since_more who call answer old mid own new h event is = record {
+  more = h.more ++ own;
+  seen = is ∙ (ap (λ l. l ++ own) h.seen ∙ append_assoc old h.more own);
+  own = own-append who h.more own h.own (are_own who call answer own event);
+}
+
+-- nothing has come since the beginning
+pub since_none : (who : ℕ) (es : List Event) → Since who es es
+since_none who es = record { more = []; seen = sym (nil es); own = tt }
+  where
+    nil : (xs : List Event) → xs ++ [] ≡ xs
+    nil [] = refl
+    nil (x ∷ xs) = ap (λ l. x ∷ l) (nil xs)

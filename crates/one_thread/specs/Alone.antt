@@ -1,0 +1,31 @@
+-- A fabric in the hands of one user.
+use Rattle.std.specs.Prelude.{◌≡◌, ℕ, List, [], ◌∷◌, ◌++◌}
+use Rattle.delos_types.specs.declared.entry.Entry.{Entry}
+use Rattle.loglet_api.specs.View.{LogletView}
+use Rattle.register_api.specs.View.{RegisterView}
+use Rattle.legal_journal.specs.declared.events.Event.{Event}
+use Rattle.legal_journal.specs.Journal.{IsLegal}
+
+-- whose the events are, and the fabric
+pub record AloneView : Type 0 where
+  pub who : ℕ
+  pub cells : List LogletView
+  pub register : RegisterView
+  pub journal : List Event
+
+-- each event is who's
+abbrev pub AreOwn : ℕ → List Event → Type 0
+AreOwn who [] = Unit {0}
+AreOwn who (e ∷ es) = (e.who ≡ who) × AreOwn who es
+
+-- each event since old is who's
+pub record Since (who : ℕ) (old new : List Event) : Type 0 where
+  pub more : List Event
+  pub seen : new ≡ old ++ more
+  pub own : AreOwn who more
+
+-- The journal is legal by what the scope has, which the terms allow; and each event since the scope began is who's.
+pub record IsAlone (may sends : ℕ → Entry → Type 0) (floor : List Entry → ℕ) (shelf : List ℕ) (since : List Event) (who : ℕ) (journal : List Event) : Type 0 where
+  pub legal : IsLegal sends floor shelf journal
+  pub narrower : (user : ℕ) (e : Entry) → sends user e → may user e
+  pub own : Since who since journal

@@ -1,0 +1,28 @@
+-- A node that waits for the fabric.
+use Rattle.std.specs.Prelude.{◌≡◌, ℕ, List, length}
+use Rattle.delos_types.specs.Spaces.{SpaceMap}
+use Rattle.delos_types.specs.declared.entry.Entry.{Entry}
+use Rattle.legal_journal.specs.declared.events.Event.{Event}
+use Rattle.legal_journal.specs.Journal.{state_of}
+use Rattle.virtual_log.specs.Log as log
+use Rattle.virtual_log.specs.Log.{GoesBy}
+use Rattle.virtual_log.specs.Holding.{Holds}
+use Rattle.replica_api.specs.Replica.{Saved}
+use Rattle.base_engine.specs.Node as node
+use Rattle.base_engine.specs.Node.{NodeView, NodeOk, awake}
+
+-- by whom its events are, and what is left of its log and of it
+pub record SeatView : Type 0 where
+  pub who : ℕ
+  pub log : log.RestedView
+  pub node : node.RestedView
+
+-- the node that it is, once it has the fabric with this journal
+abbrev pub node_of : SeatView → List Event → NodeView
+node_of s journal = awake s.node s.who journal s.log.known
+
+-- it can take the fabric with this journal
+pub record SeatOk (may : ℕ → Entry → Type 0) (floor : List Entry → ℕ) (shelf : List ℕ) (state : List Entry → SpaceMap → Type 0) (spells : List ℕ → Saved → Type 0) (journal : List Event) (s : SeatView) : Type 0 where
+  pub shelf_is : s.log.shelf_len ≡ length shelf
+  pub goes_by : GoesBy (state_of journal) s.log.version s.log.chain s.log.known
+  pub node : NodeOk may floor shelf Holds state spells (node_of s journal)

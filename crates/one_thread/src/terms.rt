@@ -1,0 +1,72 @@
+//! Rules whose meanings are known only as a run, or a part of it, begins. Each call of a function over such a type
+//! picks them.
+ghost use Rattle.std.specs.Prelude.{List, ℕ, []};
+ghost use Rattle.delos_types.specs.declared.entry.Entry.{Entry};
+ghost use Rattle.legal_journal.specs.declared.events.Event.{Event};
+
+use legal_journal::rules::Rules;
+use std::marker::{Brand, PhantomData};
+
+/// What all users keep to, as long as there is a fabric.
+pub trait Terms {
+    /// Who may append what.
+    ghost may: { ℕ → Entry → Type 0 };
+
+    /// Up to where the log may be trimmed, where it shows these entries from position 0 on.
+    ghost floor: { List Entry → ℕ };
+
+    /// The numbers of servers of the cells.
+    ghost shelf: { List ℕ };
+}
+
+impl Terms for Brand {
+    ghost may = { λ _ _. ⊥ };
+
+    ghost floor = { λ _. 0 };
+
+    ghost shelf = { [] };
+}
+
+/// The rules by these terms.
+#[derive(Drop)]
+pub struct By<K: Terms> {
+    terms: PhantomData<K>,
+}
+
+impl<K: Terms> Rules for By<K> {
+    ghost may = { K.may };
+
+    ghost floor = { K.floor };
+
+    ghost shelf = { K.shelf };
+}
+
+/// What one user keeps to for a while.
+pub trait Scope {
+    /// Who has appended what, up to its end.
+    ghost sends: { ℕ → Entry → Type 0 };
+
+    /// The journal as it begins.
+    ghost since: { List Event };
+}
+
+impl Scope for Brand {
+    ghost sends = { λ _ _. ⊥ };
+
+    ghost since = { [] };
+}
+
+/// The rules by these terms within this scope.
+#[derive(Drop)]
+pub struct Within<K: Terms, Q: Scope> {
+    terms: PhantomData<K>,
+    scope: PhantomData<Q>,
+}
+
+impl<K: Terms, Q: Scope> Rules for Within<K, Q> {
+    ghost may = { Q.sends };
+
+    ghost floor = { K.floor };
+
+    ghost shelf = { K.shelf };
+}
