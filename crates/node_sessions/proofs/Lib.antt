@@ -1,0 +1,5 @@
+pub mod Catching
+pub mod Collecting
+pub mod Queueing
+pub mod Ranks
+pub mod Settling

@@ -1,0 +1,67 @@
+//! Laws of a session's commands, on their way through its node and the log. Each function does nothing: its contract is
+//! the law.
+ghost use Rattle.std.specs.Prelude.{◌≡◌, ◌<◌, ◌≤◌, ◌+◌, ℕ, List, [], ◌++◌, None, Some, length, All};
+ghost use Rattle.delos_types.specs.declared.entry.Entry.{Entry};
+ghost use Rattle.delos_types.specs.declared.item.Item.{Item};
+ghost use Rattle.legal_journal.specs.declared.events.Event.{Event};
+ghost use Rattle.legal_journal.specs.Journal.{IsLegal, state_of, tail_of};
+ghost use Rattle.virtual_log.specs.Holding.{Holds};
+ghost use Rattle.engine_api.specs.Acted.{asked_in};
+ghost use Rattle.engine_api.specs.Items.{content_of};
+ghost use Rattle.engine_api.specs.Order.{gap_from};
+ghost use Rattle.engine_api.specs.Packing.{IsProposable};
+ghost use Rattle.replica_api.specs.Replica.{Queues, Flushes};
+ghost use Rattle.base_engine.specs.Proposing.{Sent};
+ghost use Rattle.base_engine.specs.Reading.{IsFront};
+ghost use Rattle.base_engine.specs.Settling.{OutboxView, Settled, cause_in};
+ghost use Rattle.node_sessions.specs.UnderWay.{IsGiven, IsUnderWay, HasLanded, HasRank, rank_under};
+
+use legal_journal::rules::Rules;
+
+/// Where entries were settled, and the session was given no cause, its commands are under way still.
+pub fn what_is_given_stays_given<P: Rules>()
+    ensures { ((log : List Entry) → P.floor log ≤ length log) → (who s sent : ℕ) (old new : List Event) (was is : OutboxView) (kept : List Item)
+        → IsLegal P.may P.floor P.shelf new → cause_in s is.given ≡ None → Settled Holds who old was new is
+        → IsGiven old was.entries kept s sent → IsGiven new is.entries kept s sent }
+{}
+
+/// Where all entries were settled, and the session was given no cause, what was under way has landed.
+pub fn what_is_settled_has_landed<P: Rules>()
+    ensures { ((log : List Entry) → P.floor log ≤ length log) → (who s r : ℕ) (old new : List Event) (was is : OutboxView)
+        → IsLegal P.may P.floor P.shelf new → cause_in s is.given ≡ None → is.entries ≡ [] → Settled Holds who old was new is
+        → IsUnderWay old was.entries s r → HasLanded new s r }
+{}
+
+/// The session's next command went down: all of its commands so far are given. An item that is none of its commands
+/// changes nothing of that.
+pub fn what_goes_down_is_given<P: Rules>()
+    ensures own { ((log : List Entry) → P.floor log ≤ length log) → (who origin s sent : ℕ) (old new : List Event) (was is : OutboxView) (kept kept' : List Item) (item : Item)
+        → IsLegal P.may P.floor P.shelf new → cause_in s is.given ≡ None → All IsProposable kept → IsProposable item → rank_under s (content_of item) ≡ Some (sent + 1)
+        → Sent Holds who old was (λ packed. Queues origin kept item packed kept') new is
+        → IsGiven old was.entries kept s sent → IsGiven new is.entries kept' s (sent + 1) }
+    ensures other { ((log : List Entry) → P.floor log ≤ length log) → (who origin s sent : ℕ) (old new : List Event) (was is : OutboxView) (kept kept' : List Item) (item : Item)
+        → IsLegal P.may P.floor P.shelf new → cause_in s is.given ≡ None → All IsProposable kept → IsProposable item → rank_under s (content_of item) ≡ None
+        → Sent Holds who old was (λ packed. Queues origin kept item packed kept') new is
+        → IsGiven old was.entries kept s sent → IsGiven new is.entries kept' s sent }
+{}
+
+/// What waited was packed: the session's commands are under way.
+pub fn what_is_flushed_is_given<P: Rules>()
+    ensures { ((log : List Entry) → P.floor log ≤ length log) → (who origin s sent : ℕ) (old new : List Event) (was is : OutboxView) (kept kept' : List Item)
+        → IsLegal P.may P.floor P.shelf new → cause_in s is.given ≡ None → All IsProposable kept → length kept ≤ 15
+        → Sent Holds who old was (λ packed. Flushes origin kept packed kept') new is
+        → IsGiven old was.entries kept s sent → IsGiven new is.entries kept' s sent }
+{}
+
+/// The first ranks of a session that had landed at a moment have acted in each front of the log that reaches that
+/// moment's tail.
+pub fn what_has_landed_has_acted<P: Rules>()
+    ensures { (early late : List Event) (log : List Entry) (s n : ℕ) → IsLegal P.may P.floor P.shelf (early ++ late) → tail_of (state_of early) ≤ length log
+        → IsFront Holds (early ++ late) log → ((r : ℕ) → 1 ≤ r → r ≤ n → HasLanded early s r) → n < gap_from (asked_in 0 log) s 1 }
+{}
+
+/// No rank has acted in a front of the log that wasn't somebody's to append.
+pub fn what_has_acted_was_sent<P: Rules>()
+    ensures { (seen : List Event) (log : List Entry) (s n : ℕ) → IsLegal P.may P.floor P.shelf seen → IsFront Holds seen log
+        → ((who : ℕ) (e : Entry) (r : ℕ) → P.may who e → HasRank s r e → r ≤ n) → gap_from (asked_in 0 log) s 1 ≤ n + 1 }
+{}
