@@ -1,0 +1,12 @@
+pub mod Viewing
+pub mod Stirring
+pub mod Extending
+pub mod Stepping
+pub mod Alike
+pub mod Restarting
+pub mod Messages
+pub mod Taking
+pub mod Beginning
+pub mod Starting
+pub mod Rules
+pub mod Wholes

@@ -1,0 +1,115 @@
+-- A new loglet is a new cell's.
+use Rattle.std.proofs.Common.{◌≡◌, ℕ, suc, ◌+◌, ◌*◌, ◌^◌, ◌≤◌, Bool, true, false, cond, refl, sym, ◌∙◌, ap, subst, arith, List, [], ◌∷◌, map, length, get_or, replicate, None, inl, inr}
+use Rattle.std.specs.Prelude.{◌/◌, All, not, nat_le, nat_eq, count_by}
+use Rattle.std.specs.Map.{lookup}
+use Rattle.std.proofs.lemmas.List.Sums.{sum_by-cons}
+use Rattle.std.proofs.lemmas.Bool.{leb-true}
+use Rattle.std.proofs.lemmas.Option.{none-some}
+use Rattle.std.proofs.lemmas.List.Elements.{All-head, All-tail}
+use Rattle.delos_types.specs.declared.entry.Entry.{Entry}
+use Rattle.loglet_api.specs.View.{IsFresh}
+use Rattle.majority_rule.specs.Majority.{majority}
+use Rattle.majority_rule.specs.Servers.{Server, is_sealed}
+use Rattle.majority_rule.specs.Cells.{no_server, no_operation, start}
+use Rattle.majority_rule.proofs.Lawful.{start_lawful}
+use Rattle.log_server.specs.View.{View}
+use Rattle.native_loglet.specs.declared.marks.Marks.{Marks}
+use Rattle.native_loglet.specs.Natives.{PendingMap, IsCount, IsNative, native_of, server_in, down_in, shut_in, look_in, loglet_of, IsOpenAs, IsTied}
+
+abbrev pub new_server : Server
+new_server = record no_server { up = true }
+
+abbrev pub new_marks : Marks
+new_marks = record { cut = 0; reach = 0; firm = 0; cap = None; begun = 0; seals = 0; lacks = 0; faults = 0 }
+
+new_servers : (vs : List View) → All (λ (v : View). v.server ≡ new_server) vs → replicate (length vs) new_server ≡ map server_in vs
+new_servers [] h = refl
+new_servers (v ∷ vs) h = ap (λ (s : Server). s ∷ replicate (length vs) new_server) (sym (All-head (λ (w : View). w.server ≡ new_server) v vs h)) ∙ ap (λ (ss : List Server). v.server ∷ ss) (new_servers vs (All-tail (λ (w : View). w.server ≡ new_server) v vs h))
+
+odd_count : (n : ℕ) → IsCount n → (k : ℕ) × (n ≡ 2 * k + 1)
+odd_count n (inl e) = (0, e)
+odd_count n (inr (inl e)) = (1, e)
+odd_count n (inr (inr (inl e))) = (2, e)
+odd_count n (inr (inr (inr e))) = (3, e)
+
+few_count : (n : ℕ) → IsCount n → (1 ≤ n) × (n ≤ 7)
+few_count n (inl e) = (omega (arith, e), omega (arith, e))
+few_count n (inr (inl e)) = (omega (arith, e), omega (arith, e))
+few_count n (inr (inr (inl e))) = (omega (arith, e), omega (arith, e))
+few_count n (inr (inr (inr e))) = (omega (arith, e), omega (arith, e))
+
+long_count : (vs : List View) → length (replicate (length vs) new_server) ≡ length vs
+long_count [] = refl
+long_count (v ∷ vs) = ap suc (long_count vs)
+
+pub new_tied : (room : ℕ) (vs : List View) (m : PendingMap) → IsCount (length vs) → All (λ (v : View). v.server ≡ new_server) vs → 1 ≤ room → room ≤ 2 ^ 32 → m.entries ≡ [] → IsTied (native_of room [] vs new_marks m) (start (length vs) room (2 ^ 62))
+new_tied room vs m count fresh least most empty = record {
+  lawful = start_lawful (length vs) room (2 ^ 62) (few_count (length vs) count).0 (omega (arith, (few_count (length vs) count).1)) least most (omega arith);
+  spelled = λ i e h. absurd (none-some e h);
+  odd = ((odd_count (length vs) count).0, long_count vs ∙ (odd_count (length vs) count).1);
+  few = omega (arith, long_count vs, (few_count (length vs) count).1);
+  room = refl;
+  limit = refl;
+  entries = refl;
+  servers = new_servers vs fresh;
+  cut = refl;
+  reach = refl;
+  firm = refl;
+  cap = refl;
+  faults = refl;
+  begun = refl;
+  seals_are = refl;
+  lacks_are = refl;
+  operations = λ t. subst (IsOpenAs (start (length vs) room (2 ^ 62)) t) (sym (nothing t)) (none_there t);
+}
+  where
+    nothing : (t : ℕ) → look_in m t ≡ None
+    nothing t = ap (lookup (nat_eq t)) empty
+
+    none_there : (t : ℕ) → (get_or [] t no_operation).closed ≡ true
+    none_there t = refl
+
+pub new_fresh : (room : ℕ) (vs : List View) (m : PendingMap) → IsCount (length vs) → All (λ (v : View). v.server ≡ new_server) vs → 1 ≤ room → room ≤ 2 ^ 32 → m.entries ≡ [] → IsFresh (loglet_of (native_of room [] vs new_marks m))
+new_fresh room vs m count fresh least most empty = record {
+  cut = refl;
+  log = refl;
+  reach = refl;
+  cap = refl;
+  firm = refl;
+  shut = shut_none vs fresh;
+  operations = refl;
+  faults = refl;
+  down = none_down vs fresh;
+  begun = refl;
+  seals = refl;
+  lacks = refl;
+}
+  where
+    none_down : (ws : List View) → All (λ (v : View). v.server ≡ new_server) ws → down_in ws ≡ 0
+    none_down [] h = refl
+    none_down (w ∷ ws) h =
+        let here : not w.server.up ≡ false = ap (λ (s : Server). not s.up) (All-head (λ (v : View). v.server ≡ new_server) w ws h) in
+        let one : cond (not w.server.up) 1 0 ≡ 0 = ap {B = ℕ} (λ b. cond b 1 0) here in
+        omega (arith, sum_by-cons (λ (v : View). cond (not v.server.up) 1 0) w ws, one, none_down ws (All-tail (λ (v : View). v.server ≡ new_server) w ws h))
+
+    none_sealed : (ws : List View) → All (λ (v : View). v.server ≡ new_server) ws → count_by (λ (v : View). is_sealed v.server) ws ≡ 0
+    none_sealed [] h = refl
+    none_sealed (w ∷ ws) h =
+        let here : is_sealed w.server ≡ false = ap is_sealed (All-head (λ (v : View). v.server ≡ new_server) w ws h) in
+        let one : cond (is_sealed w.server) 1 0 ≡ 0 = ap {B = ℕ} (λ b. cond b 1 0) here in
+        omega (arith, sum_by-cons (λ (v : View). cond (is_sealed v.server) 1 0) w ws, one, none_sealed ws (All-tail (λ (v : View). v.server ≡ new_server) w ws h))
+
+    below_one : (k : ℕ) (b : Bool) → nat_le (k + 1) 0 ≡ b → b ≡ false
+    below_one k true e = (let none : k + 1 ≤ 0 = leb-true (k + 1) 0 e in absurd (omega (arith, none)))
+    below_one k false e = refl
+
+    shut_none : (ws : List View) → All (λ (v : View). v.server ≡ new_server) ws → shut_in ws ≡ false
+    shut_none ws h = ap (nat_le (majority (length ws))) (none_sealed ws h) ∙ below_one (length ws / 2) (nat_le (length ws / 2 + 1) 0) refl
+
+pub new_owned : (room : ℕ) (es : List Entry) (vs : List View) (marks : Marks) (m : PendingMap) → IsCount (length vs) → All (λ (v : View). v.server ≡ new_server) vs → (1 ≤ room) × (room ≤ 2 ^ 32) → es ≡ [] → marks ≡ new_marks → m.entries ≡ [] → IsNative room es vs marks m
+new_owned room es vs marks m count fresh rooms none same empty =
+    subst (λ (xs : List Entry). IsNative room xs vs marks m) (sym none) (subst (λ (x : Marks). IsNative room [] vs x m) (sym same) (start (length vs) room (2 ^ 62), new_tied room vs m count fresh rooms.0 rooms.1 empty))
+
+pub new_shows : (room : ℕ) (es : List Entry) (vs : List View) (marks : Marks) (m : PendingMap) → IsCount (length vs) → All (λ (v : View). v.server ≡ new_server) vs → (1 ≤ room) × (room ≤ 2 ^ 32) → es ≡ [] → marks ≡ new_marks → m.entries ≡ [] → IsFresh (loglet_of (native_of room es vs marks m))
+new_shows room es vs marks m count fresh rooms none same empty =
+    subst (λ (xs : List Entry). IsFresh (loglet_of (native_of room xs vs marks m))) (sym none) (subst (λ (x : Marks). IsFresh (loglet_of (native_of room [] vs x m))) (sym same) (new_fresh room vs m count fresh rooms.0 rooms.1 empty))

@@ -1,0 +1,63 @@
+use Rattle.std.proofs.Common.{◌≡◌, ◌<◌, ◌∙◌, ap, sym, arith, length, get_or}
+use Rattle.log_server.specs.View.{View}
+use Rattle.native_plan.specs.declared.member.Member.{Member}
+use Rattle.native_plan.specs.Members.{no_member, turn_of}
+use Rattle.native_plan.proofs.Counts.{same_default}
+use Rattle.native_loglet.proofs.Rules.{nth_is_out, asks_of, rests_of, moved_by_loss, moved_by_answer, moved_by_request, if_ok, on_err}
+use Rattle.native_loglet.proofs.Alike.{set_same}
+use Rattle.native_loglet.proofs.carrying.carry_one.Goals as goal
+
+pub pick-requires : goal.pick-requires
+pick-requires g c = omega (arith, c.requires.can.some, c.outstanding.ensures)
+
+pub pick-server-requires : goal.pick-server-requires
+pick-server-requires g c = omega (arith, c.pick.ensures.one, c.outstanding.ensures)
+
+pub lose-requires-clause-losses : goal.lose-requires-clause-losses
+lose-requires-clause-losses g c = c.requires.can.losses c.pick-server.result (rw c.pick-server.ensures.value (nth_is_out c.pick.result c.args.p.now.members.items (omega (arith, c.pick.ensures.one, c.outstanding.ensures))))
+
+pub lose-requires-clause-members : goal.lose-requires-clause-members
+lose-requires-clause-members g c = omega (arith, c.requires.can.members, c.requires.can.few)
+
+pub lose-requires-clause-server : goal.lose-requires-clause-server
+lose-requires-clause-server g c = c.requires.can.turns
+
+pub hear-requires-clause-members : goal.hear-requires-clause-members
+hear-requires-clause-members g c = omega (arith, c.requires.can.members, c.requires.can.few)
+
+pub hear-requires-clause-server : goal.hear-requires-clause-server
+hear-requires-clause-server g c = c.requires.can.turns
+
+pub bounds-replicas-server : goal.bounds-replicas-server
+bounds-replicas-server g c = omega (arith, c.pick-server.ensures.here, c.requires.can.members)
+
+pub returns-then-eq-clause-moves : goal.returns-then-eq-clause-moves
+returns-then-eq-clause-moves g c = moved_by_loss _ _ c.pick-server.result _ _ _ c.pick-server.ensures.here (rw c.pick-server.ensures.value (nth_is_out c.pick.result c.args.p.now.members.items (omega (arith, c.pick.ensures.one, c.outstanding.ensures)))) c.lose.ensures
+
+pub ask-requires-clause-there : goal.ask-requires-clause-there
+ask-requires-clause-there g c =
+    let member : c.index.result.now ≡ get_or c.args.p.now.members.items c.pick-server.result no_member = c.index.ensures ∙ same_default _ _ _ _ c.pick-server.ensures.here in
+    c.requires.can.asks c.pick-server.result c.in-Asks.errand (asks_of _ c.in-Asks.errand (ap (λ (m : Member). turn_of m.message) (sym member) ∙ sym c.turn.ensures ∙ c.in-Asks.is))
+
+pub returns-in-Asks-clause-moves : goal.returns-in-Asks-clause-moves
+returns-in-Asks-clause-moves g c =
+    let member : c.index.result.now ≡ get_or c.args.p.now.members.items c.pick-server.result no_member = c.index.ensures ∙ same_default _ _ _ _ c.pick-server.ensures.here in
+    let here : c.pick-server.result < length c.args.replicas.now = omega (arith, c.pick-server.ensures.here, c.requires.can.members) in
+    if_ok c.ask.result _ _
+    (λ failed a. moved_by_request _ _ c.pick-server.result c.in-Asks.errand _ _ _ (get_or c.args.replicas.now c.pick-server.result c.index-replicas-server.result) c.ask.new.replica failed c.pick-server.ensures.here here (ap (λ (m : Member). turn_of m.message) (sym member) ∙ sym c.turn.ensures ∙ c.in-Asks.is) (ap (λ (v : View). get_or c.args.replicas.now c.pick-server.result v) c.index-replicas-server.is) a)
+    c.ask.ensures.answers
+
+pub returns-in-Asks-clause-memory : goal.returns-in-Asks-clause-memory
+returns-in-Asks-clause-memory g c =
+    let here : c.pick-server.result < length c.args.replicas.now = omega (arith, c.pick-server.ensures.here, c.requires.can.members) in
+    on_err c.ask.result _ _ (λ same. set_same c.args.replicas.now c.pick-server.result c.index-replicas-server.result c.ask.new.replica here same) c.ask.ensures.memory
+
+pub returns-in-Tells-clause-moves : goal.returns-in-Tells-clause-moves
+returns-in-Tells-clause-moves g c =
+    let member : c.index.result.now ≡ get_or c.args.p.now.members.items c.pick-server.result no_member = c.index.ensures ∙ same_default _ _ _ _ c.pick-server.ensures.here in
+    moved_by_answer _ _ c.pick-server.result _ _ _ c.pick-server.ensures.here (ap (λ (m : Member). turn_of m.message) (sym member) ∙ sym c.turn.ensures ∙ c.in-Tells.is) c.hear.ensures
+
+pub returns-in-Rests-clause-moves : goal.returns-in-Rests-clause-moves
+returns-in-Rests-clause-moves g c =
+    let member : c.index.result.now ≡ get_or c.args.p.now.members.items c.pick-server.result no_member = c.index.ensures ∙ same_default _ _ _ _ c.pick-server.ensures.here in
+    absurd (rests_of _ (ap (λ (m : Member). turn_of m.message) (sym member) ∙ sym c.turn.ensures ∙ c.in-Rests.is) (rw c.pick-server.ensures.value (nth_is_out c.pick.result c.args.p.now.members.items (omega (arith, c.pick.ensures.one, c.outstanding.ensures)))))

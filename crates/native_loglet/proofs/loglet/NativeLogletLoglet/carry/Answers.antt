@@ -1,0 +1,75 @@
+use Rattle.std.proofs.Common.{◌≡◌, ℕ, refl, sym, ap, subst, ◌∙◌, List, ◌++◌, length, map, take, drop}
+use Rattle.std.proofs.Math.Seq.{take-append_seam}
+use Rattle.loglet_api.specs.declared.call.Refused.TheVariants.{Memory}
+use Rattle.loglet_api.specs.declared.call.LogletCall.TheVariants.{Carry}
+use Rattle.loglet_api.specs.declared.call.LogletAnswer.TheVariants.{Carried, Refusal}
+use Rattle.loglet_api.specs.Step.{LogletStep}
+use Rattle.log_server.specs.View.{View}
+use Rattle.native_loglet.specs.Natives.{Native, native_of, server_in, loglet_of}
+use Rattle.native_loglet.proofs.Alike.{IsOwned, Alike, shows, alike_owned, step_alike, entries_spelled, entries_small, cut_small}
+use Rattle.native_loglet.proofs.Messages.{can_carry}
+use Rattle.native_loglet.proofs.Wholes.{carries_whole}
+use Rattle.native_loglet.proofs.loglet.NativeLogletLoglet.carry.Goals as goal
+
+-- the servers that were lent come back
+lent_back : (count : ℕ) (vs ws : List View) → count ≡ length vs → length ws ≡ length vs → take count (ws ++ drop (length ws) vs) ≡ ws
+lent_back count vs ws many same = ap (λ n. take n (ws ++ drop (length ws) vs)) (many ∙ sym same) ∙ take-append_seam ws (drop (length ws) vs)
+
+pub carry_at-requires-clause-can : goal.carry_at-requires-clause-can
+carry_at-requires-clause-can g c =
+    let i = c.self.inside in
+    let a : Native = native_of i.room i.entries.items i.replicas.items i.marks i.pending in
+    rw (c.number.ensures, c.deref.ensures.value, c.deref_mut.ensures.value) (can_carry a _ c.args.ticket c.args.word (shows a _ c.self.view_is) c.self.invariant c.requires)
+
+pub carry_at-requires-clause-spelled : goal.carry_at-requires-clause-spelled
+carry_at-requires-clause-spelled g c =
+    let i = c.self.inside in
+    let a : Native = native_of i.room i.entries.items i.replicas.items i.marks i.pending in
+    rw c.deref.ensures.value (entries_spelled a c.self.invariant)
+
+pub carry_at-requires-clause-small : goal.carry_at-requires-clause-small
+carry_at-requires-clause-small g c =
+    let i = c.self.inside in
+    let a : Native = native_of i.room i.entries.items i.replicas.items i.marks i.pending in
+    rw c.deref.ensures.value (entries_small a c.self.invariant)
+
+pub carry_at-requires-clause-cut : goal.carry_at-requires-clause-cut
+carry_at-requires-clause-cut g c =
+    let i = c.self.inside in
+    let a : Native = native_of i.room i.entries.items i.replicas.items i.marks i.pending in
+    cut_small a c.self.invariant
+
+pub invariant_of-self : goal.invariant_of-self
+invariant_of-self g c =
+    let i = c.self.inside in
+    let a : Native = native_of i.room i.entries.items i.replicas.items i.marks i.pending in
+    let b : Native = native_of i.room i.entries.items c.carry_at.new.replicas i.marks c.carry_at.new.pending in
+    let same : Alike a b = record { room = refl; entries = refl; servers = c.in_default.ensures.memory ∙ ap (map server_in) c.deref_mut.ensures.value; marks = refl; pending = c.in_default.ensures.pending } in
+    let back = lent_back i.replicas.len i.replicas.items c.carry_at.new.replicas i.replicas.ok.0 (c.carry_at.auto.replicas ∙ ap (λ (vs : List View). length vs) c.deref_mut.ensures.value) in
+    subst (λ (vs : List View). IsOwned (native_of i.room i.entries.items vs i.marks c.carry_at.new.pending)) (sym back) (alike_owned a b same c.self.invariant)
+
+pub returns-in_default : goal.returns-in_default
+returns-in_default g c =
+    let i = c.self.inside in
+    let a : Native = native_of i.room i.entries.items i.replicas.items i.marks i.pending in
+    let b : Native = native_of i.room i.entries.items c.carry_at.new.replicas i.marks c.carry_at.new.pending in
+    let same : Alike a b = record { room = refl; entries = refl; servers = c.in_default.ensures.memory ∙ ap (map server_in) c.deref_mut.ensures.value; marks = refl; pending = c.in_default.ensures.pending } in
+    let back = lent_back i.replicas.len i.replicas.items c.carry_at.new.replicas i.replicas.ok.0 (c.carry_at.auto.replicas ∙ ap (λ (vs : List View). length vs) c.deref_mut.ensures.value) in
+    subst (λ (vs : List View). LogletStep c.args.self.now.loglet (Carry c.args.ticket c.args.word) (Refusal Memory) (loglet_of (native_of i.room i.entries.items vs i.marks c.carry_at.new.pending))) (sym back)
+    (step_alike a b _ _ _ (shows a _ c.self.view_is) c.self.invariant same c.requires refl)
+
+pub invariant_of-self-2 : goal.invariant_of-self-2
+invariant_of-self-2 g c =
+    let i = c.self.inside in
+    let a : Native = native_of i.room i.entries.items i.replicas.items i.marks i.pending in
+    let back = lent_back i.replicas.len i.replicas.items c.carry_at.new.replicas i.replicas.ok.0 (c.carry_at.auto.replicas ∙ ap (λ (vs : List View). length vs) c.deref_mut.ensures.value) in
+    subst (λ (vs : List View). IsOwned (native_of i.room i.entries.items vs c.after-self-inside.result c.carry_at.new.pending)) (sym back)
+    (carries_whole a c.carry_at.new.replicas c.carry_at.new.pending c.after-self-inside.result _ c.args.ticket c.args.word c.in-Ok.failed (shows a _ c.self.view_is) c.self.invariant c.requires (rw (c.number.ensures, c.deref.ensures.value, c.deref_mut.ensures.value) at c.in-Ok.ensures.carries) c.after-self-inside.ensures).0
+
+pub returns : goal.returns
+returns g c =
+    let i = c.self.inside in
+    let a : Native = native_of i.room i.entries.items i.replicas.items i.marks i.pending in
+    let back = lent_back i.replicas.len i.replicas.items c.carry_at.new.replicas i.replicas.ok.0 (c.carry_at.auto.replicas ∙ ap (λ (vs : List View). length vs) c.deref_mut.ensures.value) in
+    subst (λ (vs : List View). LogletStep c.args.self.now.loglet (Carry c.args.ticket c.args.word) Carried (loglet_of (native_of i.room i.entries.items vs c.after-self-inside.result c.carry_at.new.pending))) (sym back)
+    (carries_whole a c.carry_at.new.replicas c.carry_at.new.pending c.after-self-inside.result _ c.args.ticket c.args.word c.in-Ok.failed (shows a _ c.self.view_is) c.self.invariant c.requires (rw (c.number.ensures, c.deref.ensures.value, c.deref_mut.ensures.value) at c.in-Ok.ensures.carries) c.after-self-inside.ensures).1

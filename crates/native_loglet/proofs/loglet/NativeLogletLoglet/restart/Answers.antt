@@ -1,0 +1,41 @@
+use Rattle.std.proofs.Common.{set, ap, refl, false, arith}
+use Rattle.std.specs.Prelude.{Ok}
+use Rattle.native_loglet.specs.Natives.{Native, native_of}
+use Rattle.native_loglet.proofs.Alike.{shows, alike_owned, step_alike, put_alike, within_servers}
+use Rattle.native_loglet.proofs.Rules.{value_or}
+use Rattle.native_loglet.proofs.Wholes.{restarts_whole}
+use Rattle.native_loglet.proofs.loglet.NativeLogletLoglet.restart.Goals as goal
+
+pub index_mut-requires : goal.index_mut-requires
+index_mut-requires g c =
+    let i = c.self.inside in
+    let a : Native = native_of i.room i.entries.items i.replicas.items i.marks i.pending in
+    omega (arith, within_servers a _ c.args.server (shows a _ c.self.view_is) c.requires, i.replicas.ok.0)
+
+pub invariant_of-self : goal.invariant_of-self
+invariant_of-self g c =
+    let i = c.self.inside in
+    let a : Native = native_of i.room i.entries.items i.replicas.items i.marks i.pending in
+    let b : Native = native_of i.room i.entries.items (set i.replicas.items c.args.server c.restart.new.self) i.marks i.pending in
+    alike_owned a b (put_alike i.room i.entries.items i.replicas.items i.marks i.pending c.args.server c.index_mut.result.now c.restart.new.self (within_servers a _ c.args.server (shows a _ c.self.view_is) c.requires) c.index_mut.ensures.value c.in_default.ensures.memory) c.self.invariant
+
+pub returns-in_default : goal.returns-in_default
+returns-in_default g c =
+    let i = c.self.inside in
+    let a : Native = native_of i.room i.entries.items i.replicas.items i.marks i.pending in
+    let b : Native = native_of i.room i.entries.items (set i.replicas.items c.args.server c.restart.new.self) i.marks i.pending in
+    step_alike a b _ _ _ (shows a _ c.self.view_is) c.self.invariant (put_alike i.room i.entries.items i.replicas.items i.marks i.pending c.args.server c.index_mut.result.now c.restart.new.self (within_servers a _ c.args.server (shows a _ c.self.view_is) c.requires) c.index_mut.ensures.value c.in_default.ensures.memory) c.requires refl
+
+pub invariant_of-self-2 : goal.invariant_of-self-2
+invariant_of-self-2 g c =
+    let i = c.self.inside in
+    let a : Native = native_of i.room i.entries.items i.replicas.items i.marks i.pending in
+    (restarts_whole a c.after-self-inside.result _ c.args.server c.args.word c.index_mut.result.now c.restart.new.self c.in-Ok.up (shows a _ c.self.view_is) c.self.invariant (within_servers a _ c.args.server (shows a _ c.self.view_is) c.requires) c.index_mut.ensures.value
+    (λ u. (let y = c.in-Ok.ensures.up u in (ap (value_or false) y.0, y.1))) (λ u. c.in-Ok.ensures.restarted (ap (λ x. Ok x) u)) (λ u. c.in-Ok.ensures.failed (ap (λ x. Ok x) u)) c.after-self-inside.ensures).0
+
+pub returns : goal.returns
+returns g c =
+    let i = c.self.inside in
+    let a : Native = native_of i.room i.entries.items i.replicas.items i.marks i.pending in
+    (restarts_whole a c.after-self-inside.result _ c.args.server c.args.word c.index_mut.result.now c.restart.new.self c.in-Ok.up (shows a _ c.self.view_is) c.self.invariant (within_servers a _ c.args.server (shows a _ c.self.view_is) c.requires) c.index_mut.ensures.value
+    (λ u. (let y = c.in-Ok.ensures.up u in (ap (value_or false) y.0, y.1))) (λ u. c.in-Ok.ensures.restarted (ap (λ x. Ok x) u)) (λ u. c.in-Ok.ensures.failed (ap (λ x. Ok x) u)) c.after-self-inside.ensures).1

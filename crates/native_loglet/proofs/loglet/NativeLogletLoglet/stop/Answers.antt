@@ -1,0 +1,24 @@
+use Rattle.std.proofs.Common.{refl, set, arith}
+use Rattle.native_loglet.specs.Natives.{Native, native_of}
+use Rattle.native_loglet.proofs.Alike.{shows, alike_owned, step_alike, put_alike, within_servers}
+use Rattle.native_loglet.proofs.loglet.NativeLogletLoglet.stop.Goals as goal
+
+pub index_mut-requires : goal.index_mut-requires
+index_mut-requires g c =
+    let i = c.self.inside in
+    let a : Native = native_of i.room i.entries.items i.replicas.items i.marks i.pending in
+    omega (arith, within_servers a _ c.args.server (shows a _ c.self.view_is) c.requires, i.replicas.ok.0)
+
+pub invariant_of-self : goal.invariant_of-self
+invariant_of-self g c =
+    let i = c.self.inside in
+    let a : Native = native_of i.room i.entries.items i.replicas.items i.marks i.pending in
+    let b : Native = native_of i.room i.entries.items (set i.replicas.items c.args.server c.stop.new.self) i.marks i.pending in
+    alike_owned a b (put_alike i.room i.entries.items i.replicas.items i.marks i.pending c.args.server c.index_mut.result.now c.stop.new.self (within_servers a _ c.args.server (shows a _ c.self.view_is) c.requires) c.index_mut.ensures.value c.stop.ensures) c.self.invariant
+
+pub returns : goal.returns
+returns g c =
+    let i = c.self.inside in
+    let a : Native = native_of i.room i.entries.items i.replicas.items i.marks i.pending in
+    let b : Native = native_of i.room i.entries.items (set i.replicas.items c.args.server c.stop.new.self) i.marks i.pending in
+    step_alike a b _ _ _ (shows a _ c.self.view_is) c.self.invariant (put_alike i.room i.entries.items i.replicas.items i.marks i.pending c.args.server c.index_mut.result.now c.stop.new.self (within_servers a _ c.args.server (shows a _ c.self.view_is) c.requires) c.index_mut.ensures.value c.stop.ensures) c.requires refl

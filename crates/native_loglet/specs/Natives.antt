@@ -1,0 +1,139 @@
+-- What a native loglet shows, and what ties it to the quorum cell that it is.
+use Rattle.std.specs.Prelude.{◌≡◌, ◌⊎◌, ℕ, zero, suc, ◌+◌, ◌*◌, ◌^◌, ◌≤◌, nat_eq, nat_le, not, Bool, true, List, [], ◌∷◌, map, drop, length, count_by, Option, None, Some}
+use Rattle.std.specs.HashMap.{HashMap, get}
+use Rattle.std.specs.declared.hash.FoldHasher.{FoldHasher}
+use Rattle.std.specs.declared.hash.BuildHasherDefault.{BuildHasherDefault}
+use Rattle.delos_types.specs.declared.entry.Entry.{Entry}
+use Rattle.loglet_api.specs.declared.call.Kind.TheVariants.{Native as NativeKind}
+use Rattle.loglet_api.specs.View.{LogletView, Operation as OpenOperation}
+use Rattle.majority_rule.specs.declared.operation.Outcome.{Outcome}
+use Rattle.majority_rule.specs.Majority.{majority}
+use Rattle.majority_rule.specs.Servers.{Server, is_sealed}
+use Rattle.majority_rule.specs.Cells.{Cell, operation, seals, lacks}
+use Rattle.majority_rule.specs.Law.{IsLawful}
+use Rattle.cell_views.specs.Views.{Manner, IsSpelled, counted}
+use Rattle.log_server.specs.View.{View}
+use Rattle.native_plan.specs.declared.pending.Pending.{Pending}
+use Rattle.native_plan.specs.Pendings.{plan_left, left_now}
+use Rattle.native_ties.specs.Parts.{IsPartOf}
+use Rattle.native_loglet.specs.declared.marks.Marks.{Marks}
+
+-- how many servers there may be
+abbrev pub IsCount : ℕ → Type 0
+IsCount n = (n ≡ 1) ⊎ ((n ≡ 3) ⊎ ((n ≡ 5) ⊎ (n ≡ 7)))
+
+-- the open operations, by ticket
+abbrev pub PendingMap : Type 0
+PendingMap = HashMap ℕ Pending (BuildHasherDefault FoldHasher)
+
+-- the parts of a native loglet, as plain values
+pub record Native : Type 0 where
+  pub room : ℕ
+  pub entries : List Entry
+  pub replicas : List View
+  pub marks : Marks
+  pub pending : PendingMap
+
+abbrev pub native_of : ℕ → List Entry → List View → Marks → PendingMap → Native
+native_of room entries replicas marks pending = record { room = room; entries = entries; replicas = replicas; marks = marks; pending = pending }
+
+abbrev pub server_in : View → Server
+server_in v = v.server
+
+-- how many servers are down, and whether more than half are sealed
+abbrev pub down_in : List View → ℕ
+down_in vs = count_by (λ (v : View). not v.server.up) vs
+
+abbrev pub shut_in : List View → Bool
+shut_in vs = nat_le (majority (length vs)) (count_by (λ (v : View). is_sealed v.server) vs)
+
+---- the open operations as they are shown
+
+abbrev pub shown : Pending → OpenOperation
+shown p = record { task = p.task; size = p.size; reach = p.reach; firm = p.firm; shut = p.shut; faults = p.faults; down = p.down; left = left_now p }
+
+abbrev pub shown_by : ℕ → Option Pending → List (ℕ × OpenOperation) → List (ℕ × OpenOperation)
+shown_by t None rest = rest
+shown_by t (Some p) rest = (t, shown p) ∷ rest
+
+-- those of so many tickets from t on
+abbrev pub shown_from : (ℕ → Option Pending) → ℕ → ℕ → List (ℕ × OpenOperation)
+shown_from look t zero = []
+shown_from look t (suc n) = shown_by t (look t) (shown_from look (suc t) n)
+
+abbrev pub look_in : PendingMap → ℕ → Option Pending
+look_in pending t = get nat_eq pending t
+
+---- what it shows
+
+abbrev pub loglet_of : Native → LogletView
+loglet_of a = record {
+  kind = NativeKind (length a.replicas);
+  servers = length a.replicas;
+  quorum = majority (length a.replicas);
+  room = a.room;
+  rounds = 7;
+  limit = 2 ^ 62;
+  cut = a.marks.cut;
+  log = drop a.marks.cut a.entries;
+  reach = a.marks.reach;
+  cap = a.marks.cap;
+  firm = a.marks.firm;
+  shut = shut_in a.replicas;
+  operations = shown_from (look_in a.pending) 0 a.marks.begun;
+  faults = a.marks.faults;
+  down = down_in a.replicas;
+  begun = a.marks.begun;
+  seals = a.marks.seals;
+  lacks = a.marks.lacks;
+}
+
+-- a native loglet: what every loglet shows, and its servers with their disks
+pub record NativeView : Type 0 where
+  pub loglet : LogletView
+  pub replicas : List View
+
+abbrev pub native_view : ℕ → List Entry → List View → Marks → PendingMap → NativeView
+native_view room entries replicas marks pending = record { loglet = loglet_of (native_of room entries replicas marks pending); replicas = replicas }
+
+---- the cell that it is
+
+-- what is left to do of an undecided operation
+abbrev pub left_for : Option Outcome → ℕ × ℕ → ℕ × ℕ
+left_for None left = left
+left_for (Some a) left = (0, 1)
+
+abbrev pub left_in : Option Pending → ℕ × ℕ
+left_in None = (0, 1)
+left_in (Some p) = left_for p.outcome (plan_left p)
+
+abbrev pub manner_of : Native → Manner
+manner_of a = record { kind = NativeKind (length a.replicas); rounds = 7; left = λ t. left_in (look_in a.pending t) }
+
+-- the operation of a ticket is open as this one is, or closed
+abbrev pub IsOpenAs : Cell → ℕ → Option Pending → Type 0
+IsOpenAs c t None = (operation c t).closed ≡ true
+IsOpenAs c t (Some p) = IsPartOf c t p
+
+pub record IsTied (a : Native) (c : Cell) : Type 0 where
+  pub lawful : IsLawful c
+  pub spelled : IsSpelled c
+  pub odd : (k : ℕ) × (length c.servers ≡ 2 * k + 1)
+  pub few : length c.servers ≤ 7
+  pub room : c.room ≡ a.room
+  pub limit : c.limit ≡ 2 ^ 62
+  pub entries : c.entries ≡ a.entries
+  pub servers : c.servers ≡ map server_in a.replicas
+  pub cut : c.cut ≡ a.marks.cut
+  pub reach : c.reach ≡ a.marks.reach
+  pub firm : c.firm ≡ a.marks.firm
+  pub cap : c.cap ≡ a.marks.cap
+  pub faults : counted (length c.faults) ≡ a.marks.faults
+  pub begun : length c.operations ≡ a.marks.begun
+  pub seals_are : seals c ≡ a.marks.seals
+  pub lacks_are : lacks c ≡ a.marks.lacks
+  pub operations : (t : ℕ) → IsOpenAs c t (look_in a.pending t)
+
+-- there is a cell of which it is the code
+abbrev pub IsNative : ℕ → List Entry → List View → Marks → PendingMap → Type 0
+IsNative room entries replicas marks pending = (c : Cell) × IsTied (native_of room entries replicas marks pending) c

@@ -1,0 +1,87 @@
+//! How an open operation goes on by one message.
+ghost use Rattle.std.specs.Prelude.{◌≡◌, ℕ, ◌^◌, ◌≤◌, ◌<◌, true, Some, IfOk, OnErr, List, length, get_or, slice_get, map};
+ghost use Rattle.delos_types.specs.Spelling.{IsSpellable};
+ghost use Rattle.delos_types.specs.declared.entry.Entry as entries_of;
+ghost use Rattle.majority_rule.specs.declared.message.Ask as asks;
+ghost use Rattle.majority_rule.specs.declared.message.Told as tolds;
+ghost use Rattle.log_server.specs.Answers.{Answers as ServerAnswers};
+ghost use Rattle.native_plan.specs.Pendings.{Answers};
+ghost use Rattle.native_ties.specs.Parts.{asked_by};
+ghost use Rattle.native_loglet.specs.Natives.{server_in};
+ghost use Rattle.native_loglet.specs.Moving.{CanMove, Moves, FailsAs, AnswersFor};
+
+use crate::replica::Replica;
+use delos_types::entry::Entry;
+use disk_model::Disk;
+use fate_words::fates::Fate;
+use fate_words::words::{fate, pick};
+use majority_rule::message::Told;
+use native_plan::message::{Errand, Turn};
+use native_plan::pending::Pending;
+use std::alloc::AllocError;
+
+/// Moves the message of an undecided operation that the word picks: it is lost, or its request comes
+/// to its server, or the answer to the operation. True where a fault came: the message was lost, or
+/// the server's disk failed. Want of memory changes nothing.
+///
+/// Cost: that of one call of a log server, and O(servers).
+pub fn carry_one<D: Disk>(
+    p: &mut Pending,
+    replicas: &mut [Replica<D>],
+    entries: &[Entry],
+    cut: u64,
+    word: u64,
+) -> Result<bool, AllocError>
+    requires can { CanMove entries.now cut (length replicas.old) p.old }
+    requires spelled { (i : ℕ) (e : entries_of.Entry) → slice_get entries.now i ≡ Some e → IsSpellable e }
+    requires small { length entries.now ≤ 2 ^ 32 }
+    requires cut { cut ≤ 2 ^ 32 }
+    ensures moves { IfOk result (Moves entries.now cut p.old p.new replicas.old replicas.new) }
+    ensures p { OnErr result (p.new ≡ p.old) }
+    ensures memory { OnErr result (map server_in replicas.new ≡ map server_in replicas.old) }
+{
+    let server = p.pick(pick(word, p.outstanding() as u64));
+    if fate(word) == Fate::Lose {
+        p.lose(server, cut);
+        return Ok(true);
+    }
+    match p.members[server].turn() {
+        Turn::Asks(errand) => ask(p, &mut replicas[server], server, errand, entries, cut),
+        Turn::Tells => {
+            p.hear(server, cut);
+            Ok(false)
+        }
+        Turn::Rests => Ok(false),
+    }
+}
+
+/// A request comes to its server, and the answer is on its way. True where the server's disk failed.
+fn ask<D: Disk>(
+    p: &mut Pending,
+    replica: &mut Replica<D>,
+    server: usize,
+    errand: Errand,
+    entries: &[Entry],
+    cut: u64,
+) -> Result<bool, AllocError>
+    requires here { server < length p.old.members.items }
+    requires there { (ask : asks.Ask) × (asked_by entries.now cut errand ≡ Some ask) }
+    requires spelled { (i : ℕ) (e : entries_of.Entry) → slice_get entries.now i ≡ Some e → IsSpellable e }
+    requires small { length entries.now ≤ 2 ^ 32 }
+    requires cut { cut ≤ 2 ^ 32 }
+    ensures answers { IfOk result (AnswersFor entries.now cut server errand p.old p.new replica.old replica.new) }
+    ensures p { OnErr result (p.new ≡ p.old) }
+    ensures memory { OnErr result (replica.new.server ≡ replica.old.server) }
+{
+    let told = replica.ask(errand, entries, cut)?;
+    let failed = is_fault(&told);
+    p.answer(server, errand, told);
+    Ok(failed)
+}
+
+/// Whether it tells that the server's disk failed.
+fn is_fault(told: &Told) -> bool
+    ensures { FailsAs told.now result }
+{
+    matches!(told, Told::DiskFault)
+}

@@ -1,0 +1,20 @@
+//! A loglet over 1, 3, 5 or 7 log servers, of which a majority decides (OSDI 2020, NativeLoglet).
+//!
+//! - `loglet`: the loglet: the sequencer and its servers.
+//! - `replica`: one of its servers.
+//! - `carrying`: how an open operation goes on by one message.
+//! - `opening`: how an operation begins.
+//! - `closing`: how an operation is taken, and what it is answered.
+//! - `marks`: what the loglet has told and counted.
+//! - `memory`: a loglet on disks in memory.
+#![tactic(auto)]
+
+pub mod carrying;
+pub mod closing;
+pub mod loglet;
+pub mod marks;
+pub mod memory;
+pub mod opening;
+pub mod replica;
+#[cfg(test)]
+mod tests;

@@ -1,0 +1,223 @@
+//! A loglet of several servers.
+ghost use Rattle.std.specs.Prelude.{◌≡◌, ℕ, ◌<◌, ◌≤◌, ◌^◌, ◌⊎◌, ◌↔◌, IsTrue, true, All, Some, length, slice_get, nat_eq, map, IfOk, OnErr};
+ghost use Rattle.std.specs.HashMap.{IsUnchanged};
+ghost use Rattle.delos_types.specs.Spelling.{IsSpellable};
+ghost use Rattle.delos_types.specs.declared.entry.Entry as entries_of;
+ghost use Rattle.loglet_api.specs.Step.{IsAppend};
+ghost use Rattle.loglet_api.specs.View.{IsFresh};
+ghost use Rattle.majority_rule.specs.Cells.{no_server};
+ghost use Rattle.native_plan.specs.declared.pending.Pending as pendings;
+ghost use Rattle.native_loglet.specs.Natives.{IsCount, look_in, server_in};
+ghost use Rattle.native_loglet.specs.Moving.{CanMove, CarriesAt};
+
+use crate::carrying::carry_one;
+use crate::closing::{answer, take_decided};
+use crate::marks::Marks;
+use crate::opening::{add, begin_on, down};
+use crate::replica::Replica;
+use delos_types::entry::Entry;
+use delos_types::numbers::Ticket;
+use disk_model::Disk;
+use loglet_api::call::{Answer, Kind, Op, Refused};
+use loglet_api::loglet::Loglet;
+use native_plan::pending::Pending;
+use std::alloc::{AllocError, Global};
+use std::collections::HashMap;
+use std::marker::Model;
+
+/// How many operations may be begun: 2^62.
+const LIMIT: u64 = 0x4000_0000_0000_0000;
+
+/// The greatest first number of what is left of an operation: a Read of the first of seven servers.
+const ROUNDS: u32 = 7;
+
+/// A loglet of 1, 3, 5 or 7 log servers. A majority of them decides what each operation comes to.
+///
+/// A `carry` moves one message of its operation. The word says which of those on their way, and
+/// whether it comes or is lost: of eight words in a row one loses it. A message that was lost eight
+/// times, a server that is down and one whose disk failed leave that server out for the operation.
+/// Faults are lost messages, failures of a server's disk, and `Full` answers.
+///
+/// Memory: the entries from position 0 on, trimmed ones too, beside what the servers keep; for each
+/// open operation some 100 bytes for each server.
+#[derive(Drop)]
+pub struct NativeLoglet<D: Disk> {
+    alloc: Global,
+    room: u64,
+    /// All entries from position 0 on.
+    entries: Vec<Entry>,
+    replicas: Vec<Replica<D>>,
+    marks: Marks,
+    /// The open operations, by ticket.
+    pending: HashMap<u64, Pending>,
+}
+
+impl<D: Disk> Model for NativeLoglet<D> {
+    ghost use Rattle.native_loglet.specs.Natives.{NativeView, native_view, IsNative};
+
+    ghost Value = { NativeView };
+
+    ghost view = { λ a. native_view a.room a.entries.items a.replicas.items a.marks a.pending };
+
+    ghost invariant = { λ a. IsNative a.room a.entries.items a.replicas.items a.marks a.pending };
+}
+
+impl<D: Disk> NativeLoglet<D> {
+    ghost use Rattle.loglet_api.specs.declared.call.Kind.TheVariants.{Native};
+
+    /// An empty loglet that takes at most `room` entries, from 1 to 2^32, over 1, 3, 5 or 7 servers
+    /// that are up and hold nothing.
+    pub fn new(alloc: Global, replicas: Vec<Replica<D>>, room: u64) -> NativeLoglet<D>
+        requires count { IsCount (length replicas.items) }
+        requires fresh { All (λ v. v.server ≡ record no_server { up = true }) replicas.items }
+        requires room { (1 ≤ room) × (room ≤ 2 ^ 32) }
+        ensures fresh { IsFresh result.loglet }
+        ensures room { result.loglet.room ≡ room }
+        ensures kind { result.loglet.kind ≡ Native (length replicas.items) }
+        ensures limit { result.loglet.limit ≡ 2 ^ 62 }
+        ensures replicas { result.replicas ≡ replicas.items }
+    {
+        NativeLoglet {
+            alloc,
+            room,
+            entries: Vec::new(alloc),
+            replicas,
+            marks: Marks::new(),
+            pending: HashMap::new(alloc),
+        }
+    }
+}
+
+impl<D: Disk> Loglet for NativeLoglet<D> {
+    ghost view = { λ v. v.loglet };
+
+    fn kind(&self) -> Kind {
+        Kind::Native(self.replicas.len() as u8)
+    }
+
+    fn servers(&self) -> u32 {
+        self.replicas.len() as u32
+    }
+
+    fn room(&self) -> u64 {
+        self.room
+    }
+
+    fn rounds(&self) -> u32 {
+        let _open = &self.room;
+        ROUNDS
+    }
+
+    fn limit(&self) -> u64 {
+        let _open = &self.room;
+        LIMIT
+    }
+
+    fn faults(&self) -> u64 {
+        self.marks.faults
+    }
+
+    fn down(&self) -> u32 {
+        down(&self.replicas)
+    }
+
+    fn begin(&mut self, op: Op) -> Result<Ticket, Refused> {
+        let size = self.entries.len() as u64;
+        if is_full(&op, size, self.room, self.marks.begun) {
+            self.marks = self.marks.after(true);
+            return Err(Refused::Full);
+        }
+        let number = self.marks.begun;
+        let marks = self.marks.begun(&op);
+        let Ok(p) = begin_on(self.alloc, &self.replicas, self.marks, size, marks.cut, &op) else {
+            return Err(Refused::Memory);
+        };
+        let Ok(()) = add(&mut self.entries, &mut self.pending, op, number, p) else {
+            return Err(Refused::Memory);
+        };
+        self.marks = marks;
+        Ok(Ticket::new(number))
+    }
+
+    fn carry(&mut self, ticket: Ticket, word: u64) -> Result<(), Refused> {
+        let Ok(failed) = carry_at(
+            &mut self.pending,
+            &mut self.replicas,
+            &self.entries,
+            self.marks.cut,
+            ticket.number(),
+            word,
+        ) else {
+            return Err(Refused::Memory);
+        };
+        self.marks = self.marks.after(failed);
+        Ok(())
+    }
+
+    fn take(&mut self, ticket: Ticket) -> Option<Answer> {
+        let decided = take_decided(&mut self.pending, ticket.number())?;
+        let length = decided.task.wanted(decided.size);
+        let answer = answer(decided, self.marks.cut);
+        self.marks = self.marks.told(&answer, length);
+        Some(answer)
+    }
+
+    fn forget(&mut self, ticket: Ticket) {
+        let _ = self.pending.remove(&ticket.number());
+    }
+
+    fn left(&self, ticket: Ticket) -> (u32, u64) {
+        let p = &self.pending[&ticket.number()];
+        if p.outcome.is_some() {
+            return (0, 0);
+        }
+        p.left()
+    }
+
+    fn stray(&mut self, _word: u64) -> Result<(), Refused> {
+        let _open = &self.room;
+        Ok(())
+    }
+
+    fn stop(&mut self, server: u32, after: u64) {
+        self.replicas[server as usize].stop(after);
+    }
+
+    fn restart(&mut self, server: u32, word: u64) -> Result<bool, Refused> {
+        let Ok(up) = self.replicas[server as usize].restart(word) else {
+            return Err(Refused::Memory);
+        };
+        self.marks = self.marks.after(!up);
+        Ok(up)
+    }
+}
+
+/// Whether no more operations of this kind can be begun.
+fn is_full(op: &Op, size: u64, room: u64, begun: u64) -> bool
+    ensures { IsTrue result ↔ ((IsAppend op.now × (size ≡ room)) ⊎ (begun ≡ LIMIT)) }
+{
+    begun == LIMIT || (size == room && op.is_append())
+}
+
+/// Moves one message of the operation of a ticket. True where a fault came.
+fn carry_at<D: Disk>(
+    pending: &mut HashMap<u64, Pending>,
+    replicas: &mut [Replica<D>],
+    entries: &[Entry],
+    cut: u64,
+    number: u64,
+    word: u64,
+) -> Result<bool, AllocError>
+    requires can { (p : pendings.Pending) → look_in pending.old number ≡ Some p → CanMove entries.now cut (length replicas.old) p }
+    requires spelled { (i : ℕ) (e : entries_of.Entry) → slice_get entries.now i ≡ Some e → IsSpellable e }
+    requires small { length entries.now ≤ 2 ^ 32 }
+    requires cut { cut ≤ 2 ^ 32 }
+    ensures carries { (p : pendings.Pending) → look_in pending.old number ≡ Some p → IfOk result (CarriesAt entries.now cut number p pending.old pending.new replicas.old replicas.new) }
+    ensures pending { OnErr result ((t : ℕ) → look_in pending.new t ≡ look_in pending.old t) }
+    ensures memory { OnErr result (map server_in replicas.new ≡ map server_in replicas.old) }
+{
+    match pending.get_mut(&number) {
+        Some(p) => carry_one(p, replicas, entries, cut, word),
+        None => Ok(false),
+    }
+}

@@ -1,0 +1,51 @@
+//! A native loglet on disks in memory.
+ghost use Rattle.std.specs.Prelude.{◌≡◌, ◌≤◌, ◌^◌, true, length, All, IfOk};
+ghost use Rattle.loglet_api.specs.declared.call.Kind.TheVariants.{Native};
+ghost use Rattle.loglet_api.specs.View.{IsFresh};
+ghost use Rattle.majority_rule.specs.Cells.{no_server};
+ghost use Rattle.native_loglet.specs.Natives.{IsCount};
+
+use crate::loglet::NativeLoglet;
+use crate::replica::Replica;
+use disk_model::MemDisk;
+use log_server::LogServer;
+use std::alloc::{AllocError, Global};
+
+/// An empty loglet over 1, 3, 5 or 7 log servers on fresh disks in memory, which takes at most `room` entries, from 1 to
+/// 2^32. No call of such a disk fails before one is armed, so want of memory is why there is none.
+pub fn in_memory(
+    alloc: Global,
+    servers: usize,
+    room: u64,
+) -> Result<NativeLoglet<MemDisk>, AllocError>
+    requires servers { IsCount servers }
+    requires room { (1 ≤ room) × (room ≤ 2 ^ 32) }
+    ensures fresh { IfOk result (λ made. IsFresh made.loglet) }
+    ensures room { IfOk result (λ made. made.loglet.room ≡ room) }
+    ensures kind { IfOk result (λ made. made.loglet.kind ≡ Native servers) }
+{
+    let replicas = replicas(alloc, servers)?;
+    Ok(NativeLoglet::new(alloc, replicas, room))
+}
+
+/// Servers on fresh disks.
+fn replicas(alloc: Global, count: usize) -> Result<Vec<Replica<MemDisk>>, AllocError>
+    ensures count { IfOk result (λ replicas. length replicas.items ≡ count) }
+    ensures fresh { IfOk result (λ replicas. All (λ v. v.server ≡ record no_server { up = true }) replicas.items) }
+{
+    let mut replicas = Vec::with_capacity(alloc, count)?;
+    for _index in 0..count {
+        replicas.push(replica(alloc)?)?;
+    }
+    Ok(replicas)
+}
+
+/// A server on a fresh disk.
+fn replica(alloc: Global) -> Result<Replica<MemDisk>, AllocError>
+    ensures { IfOk result (λ v. v.server ≡ record no_server { up = true }) }
+{
+    match LogServer::open_on(alloc, MemDisk::new(alloc)) {
+        Ok(server) => Ok(Replica::new(server)),
+        Err(_) => Err(AllocError),
+    }
+}
