@@ -1,5 +1,5 @@
 //! The tests of which a fitting run is made: on the rows of runs, and on rows that no run gives.
-use crate::shelves::run_files;
+use crate::shelves::run_on_shelf;
 use delos_types::cause::Cause;
 use delos_types::numbers::{Rank, SessionId};
 use delos_types::place::Place;
@@ -274,7 +274,7 @@ fn played(rt: &impl Abort, alloc: Global, script: &[u8]) -> Result<(Vec<Answered
     }
     let mut source = MemSource::new(Vec::from_slice(alloc, script)?, 64, Vec::new(alloc));
     let mut sink = MemSink::new(alloc, 4096, 64, Vec::new(alloc))?;
-    let ran = run_files(rt, alloc, words.as_slice(), ROOM, &mut source, &mut sink)?;
+    let ran = run_on_shelf(rt, alloc, words.as_slice(), ROOM, &mut source, &mut sink)?;
     let told = ran.told.ok_or("told nothing")?;
     let end = told.end;
     let rows = told.rows.into_vec();

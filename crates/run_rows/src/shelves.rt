@@ -1,9 +1,11 @@
-//! Runs over shelves of file loglets, each of the room that a test asks for.
-ghost use Rattle.std.specs.Prelude.{◌≡◌, ◌≤◌, ◌^◌, IfOk, Some, map, string_bytes};
+//! Runs over the shelves that the words name, each loglet of the room that a test asks for.
+ghost use Rattle.std.specs.Prelude.{◌≡◌, ◌≤◌, ◌+◌, ◌^◌, IfOk, Some, length, map, string_bytes};
+ghost use Rattle.script_runner.specs.Fresh.{AreFresh};
 ghost use Rattle.script_words.specs.Plans.{plan_of};
 ghost use Rattle.script_words.specs.declared.plan.Plan.{Plan};
 
-use file_loglet::memory::in_memory;
+use file_loglet::memory as file;
+use native_loglet::memory as native;
 use outside_ends::sink::Sink;
 use outside_ends::source::Source;
 use script_runner::ended::{Status, Told};
@@ -31,8 +33,24 @@ fn kinds_of(alloc: Global, words: &[String]) -> Result<Vec<Kind>, AllocError>
     }
 }
 
+// The yard with one more fresh loglet, of this kind and room.
+fn with_loglet(alloc: Global, yard: Yard, kind: Kind, room: u64) -> Result<Yard, AllocError>
+    requires room { (1 ≤ room) × (room ≤ 2 ^ 32) }
+    requires fresh { AreFresh (map (λ b. view b) yard.shelf.items) }
+    ensures fresh { IfOk result (λ y. AreFresh (map (λ b. view b) y.shelf.items)) }
+    ensures len { IfOk result (λ y. length (map (λ b. view b) y.shelf.items) ≡ length (map (λ b. view b) yard.shelf.items) + 1) }
+{
+    match kind {
+        Kind::File => yard.with(Box::new(alloc, file::in_memory(alloc, room)?)?),
+        Kind::Native1 => yard.with(Box::new(alloc, native::in_memory(alloc, 1, room)?)?),
+        Kind::Native3 => yard.with(Box::new(alloc, native::in_memory(alloc, 3, room)?)?),
+        Kind::Native5 => yard.with(Box::new(alloc, native::in_memory(alloc, 5, room)?)?),
+        Kind::Native7 => yard.with(Box::new(alloc, native::in_memory(alloc, 7, room)?)?),
+    }
+}
+
 /// Runs the script over the shelf that the words name, of loglets with this room.
-pub fn run_files<R, S: Source, K: Sink>(
+pub fn run_on_shelf<R, S: Source, K: Sink>(
     rt: &R,
     alloc: Global,
     words: &[String],
@@ -45,10 +63,7 @@ pub fn run_files<R, S: Source, K: Sink>(
     let kinds = kinds_of(alloc, words)?;
     let mut yard = Yard::new(alloc);
     for kind in &kinds {
-        let loglet = match kind {
-            Kind::File => in_memory(alloc, room)?,
-        };
-        yard = yard.with(Box::new(alloc, loglet)?)?;
+        yard = with_loglet(alloc, yard, *kind, room)?;
     }
     let ended = run(rt, alloc, words, source, sink, yard);
     Ok(Ran {

@@ -1,6 +1,6 @@
 ghost use Rattle.std.specs.Prelude.{◌≤◌, ◌^◌};
 
-use crate::shelves::run_files;
+use crate::shelves::run_on_shelf;
 use outside_ends::memory::{MemSink, MemSource};
 use std::alloc::Global;
 use std::process::Abort;
@@ -52,7 +52,7 @@ fn ends_with(
     let mut source = MemSource::new(Vec::from_slice(alloc, script)?, ends.piece, failing);
     let failing = Vec::from_slice(alloc, ends.sink_fails)?;
     let mut sink = MemSink::new(alloc, 4096, ends.piece, failing)?;
-    let ran = run_files(
+    let ran = run_on_shelf(
         rt,
         alloc,
         owned.as_slice(),
@@ -227,6 +227,33 @@ fn a_full_loglet(rt: HostRuntime) -> Result<(), Fail> {
     ];
     for (script, text) in rows {
         ends_with(&rt, alloc, FILE_RUN, script, &small, 1, text)?;
+    }
+    Ok(())
+}
+
+#[test]
+fn shelves_of_native_loglets(rt: HostRuntime) -> Result<(), Fail> {
+    let alloc = rt.alloc();
+    // The shelf, and how the text of one put and one get ends.
+    let rows: [(&str, &[u8]); 5] = [
+        ("native1", b"seg 0 native1 0 open\n"),
+        ("native3", b"seg 0 native3 0 open\n"),
+        ("native5", b"seg 0 native5 0 open\n"),
+        ("native7", b"seg 0 native7 0 open\n"),
+        ("native3,file,native7", b"seg 0 native3 0 open\n"),
+    ];
+    for (shelf, last) in rows {
+        let mut text = Vec::from_slice(alloc, b"1 a @0.0 ok\n2 a >1 = 1\nend 1\nchain v=1 trim=0\n")?;
+        text.extend_from_slice(last)?;
+        ends_with(
+            &rt,
+            alloc,
+            &["run", "--shelf", shelf],
+            PUT_AND_GET,
+            &CALM,
+            0,
+            text.as_slice(),
+        )?;
     }
     Ok(())
 }

@@ -1,15 +1,24 @@
 -- The kinds of loglet, and the text of a shelf.
 use Rattle.std.specs.Prelude.{◌==◌, ℕ, List, [], ◌∷◌, Option, Some, None, length, nat_lt, codes, if◌then◌else◌, option_and_then, option_map}
-use Rattle.std.specs.List.{slice_split}
+use Rattle.std.specs.List.{slice_split, find}
 use Rattle.std.specs.Str.{bytes_eq}
 use Rattle.script_words.specs.declared.shelf.Kind.{Kind}
-use Rattle.script_words.specs.declared.shelf.Kind.TheVariants.{File}
+use Rattle.script_words.specs.declared.shelf.Kind.TheVariants.{File, Native1, Native3, Native5, Native7}
 
 abbrev pub kind_name : Kind → List ℕ
 kind_name File = codes "file"
+kind_name Native1 = codes "native1"
+kind_name Native3 = codes "native3"
+kind_name Native5 = codes "native5"
+kind_name Native7 = codes "native7"
 
+-- all that there are
+abbrev pub kinds : List Kind
+kinds = File ∷ Native1 ∷ Native3 ∷ Native5 ∷ Native7 ∷ []
+
+-- the kind of this name
 abbrev pub kind_of : List ℕ → Option Kind
-kind_of word = if bytes_eq word (codes "file") then Some File else None
+kind_of word = find (λ kind. bytes_eq word (kind_name kind)) kinds
 
 -- the kinds of these words, where each is known
 abbrev pub all_kinds : List (List ℕ) → Option (List Kind)

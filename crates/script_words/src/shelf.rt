@@ -11,6 +11,14 @@ use std::marker::Model;
 pub enum Kind {
     /// One server, whose log is one file.
     File,
+    /// A sequencer over one log server.
+    Native1,
+    /// A sequencer over three log servers, of which two decide.
+    Native3,
+    /// A sequencer over five log servers, of which three decide.
+    Native5,
+    /// A sequencer over seven log servers, of which four decide.
+    Native7,
 }
 
 impl Kind {
@@ -20,6 +28,10 @@ impl Kind {
     {
         match self {
             Kind::File => "file",
+            Kind::Native1 => "native1",
+            Kind::Native3 => "native3",
+            Kind::Native5 => "native5",
+            Kind::Native7 => "native7",
         }
     }
 }
@@ -70,10 +82,13 @@ fn names_of(alloc: Global, kinds: &[Kind]) -> Result<Vec<&'static str>, AllocErr
 fn kind_of(word: &str) -> Option<Kind>
     ensures { result ≡ kind_of word.now }
 {
-    if word == "file" {
-        Some(Kind::File)
-    } else {
-        None
+    match word {
+        "file" => Some(Kind::File),
+        "native1" => Some(Kind::Native1),
+        "native3" => Some(Kind::Native3),
+        "native5" => Some(Kind::Native5),
+        "native7" => Some(Kind::Native7),
+        _ => None,
     }
 }
 

@@ -61,7 +61,10 @@ fn bad_words(rt: HostRuntime) -> Result<(), Fail> {
         &["run", "--shelf", "file,"],
         &["run", "--shelf", ",file"],
         &["run", "--shelf", "file, file"],
-        &["run", "--shelf", "native3"],
+        &["run", "--shelf", "native"],
+        &["run", "--shelf", "native2"],
+        &["run", "--shelf", "native9"],
+        &["run", "--shelf", "striped2"],
         &["run", "--shelf", "file", "--shelf", "file"],
         &["run", "--she", "file"],
         &["run", "--nodes", "0"],
@@ -84,6 +87,29 @@ fn bad_words(rt: HostRuntime) -> Result<(), Fail> {
         assert!(rt; matches!(read(alloc, words)?, Err(WordsError::BadWords)));
     }
     assert_eq!(rt; bad_words_text(), b"bad words\n".as_slice());
+    Ok(())
+}
+
+#[test]
+fn kinds_of_a_shelf(rt: HostRuntime) -> Result<(), Fail> {
+    let alloc = rt.alloc();
+    let text = "native7,file,native1,native3,native5,native3";
+    let kinds = [
+        Kind::Native7,
+        Kind::File,
+        Kind::Native1,
+        Kind::Native3,
+        Kind::Native5,
+        Kind::Native3,
+    ];
+    match read(alloc, &["run", "--shelf", text])? {
+        Ok(plan) => {
+            assert_eq!(rt; plan.shelf.as_slice(), &kinds[..]);
+            let names = plan.shelf.names(alloc)?;
+            assert_eq!(rt; names.join(alloc, ",")?.as_str(), text);
+        }
+        Err(_) => panic!(rt; "refused"),
+    }
     Ok(())
 }
 
