@@ -1,5 +1,6 @@
 pub mod Catching
 pub mod Collecting
+pub mod Proposed
 pub mod Queueing
 pub mod Ranks
 pub mod Settling

@@ -109,7 +109,7 @@ module _ (may : ℕ → Entry → Type 0) (floor : List Entry → ℕ) (shelf : 
   pub landed_later : (old new : List Event) (s r : ℕ) → IsLegal may floor shelf new → Extends old new → HasLanded old s r → HasLanded new s r
   landed_later old new s r legal on h = record { entry = h.entry; held = held_later old new h.entry legal on h.held; rank = h.rank }
 
-  front_of : (old new : List Event) → IsLegal may floor shelf new → Extends old new → IsLegal may floor shelf old
+  pub front_of : (old new : List Event) → IsLegal may floor shelf new → Extends old new → IsLegal may floor shelf old
   front_of old new legal on = legal_front may floor shelf old on.0 (subst (IsLegal may floor shelf) on.1 legal)
 
   -- an entry that gave a session of its no cause landed

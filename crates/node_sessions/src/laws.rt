@@ -1,17 +1,22 @@
 //! Laws of a session's commands, on their way through its node and the log. Each function does nothing: its contract is
 //! the law.
-ghost use Rattle.std.specs.Prelude.{◌≡◌, ◌<◌, ◌≤◌, ◌+◌, ℕ, List, [], ◌++◌, None, Some, length, All};
+ghost use Rattle.std.specs.Prelude.{◌≡◌, ◌<◌, ◌≤◌, ◌+◌, ℕ, List, [], ◌++◌, Option, None, Some, length, All};
 ghost use Rattle.delos_types.specs.declared.entry.Entry.{Entry};
 ghost use Rattle.delos_types.specs.declared.item.Item.{Item};
 ghost use Rattle.legal_journal.specs.declared.events.Event.{Event};
 ghost use Rattle.legal_journal.specs.Journal.{IsLegal, state_of, tail_of};
-ghost use Rattle.virtual_log.specs.Holding.{Holds};
+ghost use Rattle.virtual_log.specs.Holding.{Holds, IsTrimmed};
+ghost use Rattle.virtual_log.specs.Turning.{IsAbove};
+ghost use Rattle.table_core.specs.declared.command.Command.{Command};
+ghost use Rattle.engine_api.specs.declared.content.Content.TheVariants as Content;
 ghost use Rattle.engine_api.specs.Acted.{asked_in};
+ghost use Rattle.engine_steps.specs.Words.{under};
+ghost use Rattle.engine_laws.specs.State.{IsStateOf};
 ghost use Rattle.engine_api.specs.Items.{content_of};
 ghost use Rattle.engine_api.specs.Order.{gap_from};
 ghost use Rattle.engine_api.specs.Packing.{IsProposable};
-ghost use Rattle.replica_api.specs.Replica.{Queues, Flushes};
-ghost use Rattle.base_engine.specs.Proposing.{Sent};
+ghost use Rattle.replica_api.specs.Replica.{ReplicaView, Queues, Flushes};
+ghost use Rattle.base_engine.specs.Proposing.{Sent, Proposed};
 ghost use Rattle.base_engine.specs.Reading.{IsFront};
 ghost use Rattle.base_engine.specs.Settling.{OutboxView, Settled, cause_in};
 ghost use Rattle.node_sessions.specs.UnderWay.{IsGiven, IsUnderWay, HasLanded, HasRank, rank_under};
@@ -64,4 +69,20 @@ pub fn what_has_landed_has_acted<P: Rules>()
 pub fn what_has_acted_was_sent<P: Rules>()
     ensures { (seen : List Event) (log : List Entry) (s n : ℕ) → IsLegal P.may P.floor P.shelf seen → IsFront Holds seen log
         → ((who : ℕ) (e : Entry) (r : ℕ) → P.may who e → HasRank s r e → r ≤ n) → gap_from (asked_in 0 log) s 1 ≤ n + 1 }
+{}
+
+/// A session's next command was proposed, and the session was given no cause: it isn't left out, so all of its commands so
+/// far are given. The node's state is that of a front of the log, which isn't trimmed behind it.
+pub fn what_is_proposed_is_given<P: Rules>()
+    ensures { ((log : List Entry) → P.floor log ≤ length log) → (who s sent : ℕ) (old new : List Event) (was is : OutboxView) (v v' : ReplicaView) (item : Item) (log : List Entry) (c : Option Command)
+        → IsLegal P.may P.floor P.shelf new → cause_in s is.given ≡ None → s ≤ 63 → All IsProposable v.kept → length v.kept ≤ 15
+        → IsProposable item → under 2 item ≡ Some (Content.Session s (sent + 1) c) → rank_under s (content_of item) ≡ Some (sent + 1)
+        → length log ≡ v'.cursor → IsFront Holds new log → IsStateOf log v'.contents → (IsTrimmed new v'.cursor → ⊥)
+        → Proposed Holds who old was v item new is v' → IsGiven old was.entries v.kept s sent → IsGiven new is.entries v'.kept s (sent + 1) }
+{}
+
+/// The first ranks of a session that had landed at a moment have acted in the state at a tail that was found later.
+pub fn what_has_landed_is_found<P: Rules>()
+    ensures { (who s n tail : ℕ) (early seen : List Event) (log : List Entry) → IsLegal P.may P.floor P.shelf seen → IsAbove who early tail seen
+        → length log ≡ tail → IsFront Holds seen log → ((r : ℕ) → 1 ≤ r → r ≤ n → HasLanded early s r) → n < gap_from (asked_in 0 log) s 1 }
 {}
