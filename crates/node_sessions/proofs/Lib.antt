@@ -1,5 +1,6 @@
 pub mod Catching
 pub mod Collecting
+pub mod Looking
 pub mod Proposed
 pub mod Queueing
 pub mod Ranks

@@ -1,19 +1,17 @@
 -- A command that a node is given isn't left out, and a tail that is found after all has landed has all of it below it.
-use Rattle.std.proofs.Common.{◌≡◌, refl, sym, ap, ◌∙◌, subst, ◌⊎◌, inl, inr, ⊎_elim, ℕ, zero, suc, ◌+◌, ◌-◌, ◌<◌, ◌≤◌, Bool, true, false, cond, List, [], ◌∷◌, ◌++◌, Option, Some, None, length, arith}
-use Rattle.std.specs.Prelude.{All, filter_map}
+use Rattle.std.proofs.Common.{◌≡◌, refl, ap, ◌∙◌, subst, inl, inr, ⊎_elim, ℕ, zero, suc, ◌+◌, ◌-◌, ◌<◌, ◌≤◌, List, [], ◌∷◌, ◌++◌, Option, Some, None, length, arith}
+use Rattle.std.specs.Prelude.{All}
 use Rattle.std.specs.List.{cons_option}
-use Rattle.delos_types.specs.Spaces.{SpaceMap}
 use Rattle.delos_types.specs.declared.entry.Entry.{Entry}
 use Rattle.delos_types.specs.declared.item.Item.{Item}
 use Rattle.table_core.specs.declared.command.Command.{Command}
 use Rattle.legal_journal.specs.declared.events.Event.{Event}
-use Rattle.legal_journal.specs.Journal.{State, last_segment, reach, state_of, tail_of, IsLegal}
+use Rattle.legal_journal.specs.Journal.{State, last_segment, state_of, tail_of, IsLegal}
 use Rattle.legal_journal.specs.Laws.{Clears}
 use Rattle.legal_journal.proofs.Sound.{StateOk, open_tail}
 use Rattle.legal_journal.proofs.Legal.{sound, legal_front, goes_on}
 use Rattle.virtual_log.specs.Holding.{Holds, IsTrimmed}
 use Rattle.virtual_log.specs.Turning.{IsAbove}
-use Rattle.engine_api.specs.declared.content.Content.{Content}
 use Rattle.engine_api.specs.declared.content.Content.TheVariants.{Session}
 use Rattle.engine_api.specs.Items.{content_of}
 use Rattle.engine_api.specs.Acted.{asked_in}
@@ -22,13 +20,12 @@ use Rattle.engine_api.specs.Packing.{IsProposable}
 use Rattle.engine_steps.specs.Layout.{last_of}
 use Rattle.engine_steps.specs.Words.{under}
 use Rattle.engine_laws.specs.State.{IsStateOf}
-use Rattle.replica_api.specs.Replica.{ReplicaView, Queues}
-use Rattle.base_engine.specs.Following.{IsAt}
+use Rattle.replica_api.specs.Replica.{ReplicaView}
 use Rattle.base_engine.specs.Reading.{IsFront}
-use Rattle.base_engine.specs.Settling.{OutboxView, Settled, cause_in}
-use Rattle.base_engine.specs.Proposing.{Sent, CaughtUp, Proposed, IsFar, IsFarAt}
+use Rattle.base_engine.specs.Settling.{OutboxView, cause_in}
+use Rattle.base_engine.specs.Proposing.{CaughtUp, Proposed, IsFar, IsFarAt}
 use Rattle.node_sessions.specs.UnderWay.{HasLanded, rank_under, ranks_in, IsGiven}
-use Rattle.node_sessions.proofs.Settling.{Extends, extends-trans, settled_landed, landed_later, front_of}
+use Rattle.node_sessions.proofs.Settling.{Extends, settled_landed, landed_later, front_of}
 use Rattle.node_sessions.proofs.Queueing.{sent_given}
 use Rattle.node_sessions.proofs.Catching.{landed_acted}
 
@@ -61,7 +58,7 @@ module _ (may : ℕ → Entry → Type 0) (floor : List Entry → ℕ) (shelf : 
       let on = goes_on may floor shelf old f.others before in
       omega (arith, clear, on.tail)
 
-  above_extends : (who pos : ℕ) (old new : List Event) → IsAbove who old pos new → Extends old new
+  pub above_extends : (who pos : ℕ) (old new : List Event) → IsAbove who old pos new → Extends old new
   above_extends who pos old new h = let f = h.first in (f.others ++ f.event ∷ f.rest, f.seen ∙ more old f.others (f.event ∷ f.rest))
     where
       more : (a b c : List Event) → (a ++ b) ++ c ≡ a ++ (b ++ c)

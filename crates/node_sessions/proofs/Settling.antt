@@ -53,7 +53,7 @@ session-in : (s r : ℕ) (e : Entry) → HasRank s r e → has_session s (sessio
 session-in s r e h = session-among s r (unpack 0 e) h
 
 -- a session was given no cause, so none in a front nor in the rest
-none-front : (s : ℕ) (xs ys : List Given) → cause_in s (xs ++ ys) ≡ None → cause_in s xs ≡ None
+pub none-front : (s : ℕ) (xs ys : List Given) → cause_in s (xs ++ ys) ≡ None → cause_in s xs ≡ None
 none-front s [] ys h = refl
 none-front s (x ∷ xs) ys h = by (has_session s x.sessions) (none-front s xs ys) h
   where
@@ -61,7 +61,7 @@ none-front s (x ∷ xs) ys h = by (has_session s x.sessions) (none-front s xs ys
     by true rest k = absurd (cc)
     by false rest k = rest k
 
-none-rest : (s : ℕ) (xs ys : List Given) → cause_in s (xs ++ ys) ≡ None → cause_in s ys ≡ None
+pub none-rest : (s : ℕ) (xs ys : List Given) → cause_in s (xs ++ ys) ≡ None → cause_in s ys ≡ None
 none-rest s [] ys h = h
 none-rest s (x ∷ xs) ys h = by (has_session s x.sessions) (none-rest s xs ys) h
   where

@@ -3,6 +3,7 @@
 ghost use Rattle.std.specs.Prelude.{◌≡◌, ◌<◌, ◌≤◌, ◌+◌, ℕ, List, [], ◌++◌, Option, None, Some, length, All};
 ghost use Rattle.delos_types.specs.declared.entry.Entry.{Entry};
 ghost use Rattle.delos_types.specs.declared.item.Item.{Item};
+ghost use Rattle.delos_types.specs.declared.cause.Cause.{Cause};
 ghost use Rattle.legal_journal.specs.declared.events.Event.{Event};
 ghost use Rattle.legal_journal.specs.Journal.{IsLegal, state_of, tail_of};
 ghost use Rattle.virtual_log.specs.Holding.{Holds, IsTrimmed};
@@ -18,7 +19,7 @@ ghost use Rattle.engine_api.specs.Packing.{IsProposable};
 ghost use Rattle.replica_api.specs.Replica.{ReplicaView, Queues, Flushes};
 ghost use Rattle.base_engine.specs.Proposing.{Sent, Proposed};
 ghost use Rattle.base_engine.specs.Reading.{IsFront};
-ghost use Rattle.base_engine.specs.Settling.{OutboxView, Settled, cause_in};
+ghost use Rattle.base_engine.specs.Settling.{OutboxView, Settled, Answers, cause_in};
 ghost use Rattle.node_sessions.specs.UnderWay.{IsGiven, IsUnderWay, HasLanded, HasRank, rank_under};
 
 use legal_journal::rules::Rules;
@@ -85,4 +86,14 @@ pub fn what_is_proposed_is_given<P: Rules>()
 pub fn what_has_landed_is_found<P: Rules>()
     ensures { (who s n tail : ℕ) (early seen : List Event) (log : List Entry) → IsLegal P.may P.floor P.shelf seen → IsAbove who early tail seen
         → length log ≡ tail → IsFront Holds seen log → ((r : ℕ) → 1 ≤ r → r ≤ n → HasLanded early s r) → n < gap_from (asked_in 0 log) s 1 }
+{}
+
+/// All that a session asked was flushed and settled, and it was given no cause: in the state at a tail that was found then
+/// just that has acted. So a read that looks there sees each earlier command of its session, and none of a later line.
+pub fn a_read_sees_its_session<P: Rules>()
+    ensures { ((log : List Entry) → P.floor log ≤ length log) → (who origin s sent tail : ℕ) (old flushed settled seen : List Event) (o was is : OutboxView) (cause : Option Cause) (kept kept' : List Item) (log : List Entry)
+        → IsLegal P.may P.floor P.shelf seen → All IsProposable kept → length kept ≤ 15 → IsGiven old o.entries kept s sent
+        → Sent Holds who old o (λ packed. Flushes origin kept packed kept') flushed was → Answers Holds who flushed was cause settled is → cause_in s is.given ≡ None
+        → IsAbove who settled tail seen → length log ≡ tail → IsFront Holds seen log → ((user : ℕ) (e : Entry) (r : ℕ) → P.may user e → HasRank s r e → r ≤ sent)
+        → gap_from (asked_in 0 log) s 1 ≡ sent + 1 }
 {}
