@@ -168,10 +168,13 @@ module _ (m : SpaceMap) (from : Text) where
       let there = kept_in e.0 e.1 (ap (find space_cmp e.0) is ∙ own) in
       let kind : e.0.0 ≡ 5 = eqb-true _ _ (left_true (eqb e.0.0 5) (not (is_lt (text_cmp e.0.1 from))) there.0) in
       let up : is_lt (text_cmp e.0.1 from) ≡ false = not_true (is_lt (text_cmp e.0.1 from)) (right_true (eqb e.0.0 5) (not (is_lt (text_cmp e.0.1 from))) there.0) in
-      let value : value_of m e.0.1 ≡ Some e.1 = subst (λ (n : ℕ). get m (n, e.0.1) ≡ Some e.1) kind there.1 in
-      (up, (e.1, value), λ q high less.
-      let before : space_cmp (5, q) e.0 ≡ Less = ap (λ (n : ℕ). ordering_then (nat_cmp 5 n) (text_cmp q e.0.1)) kind ∙ less in
-      sym (kept_at q high) ∙ (ap (find space_cmp (5, q)) is ∙ find_before (5, q) e es sorted before))
+      let value : value_of m e.0.1 ≡ Some e.1 = subst (λ (n : ℕ). get m (n, e.0.1) ≡ Some e.1) kind there.1 in (
+        up,
+        (e.1, value),
+        λ q high less.
+            let before : space_cmp (5, q) e.0 ≡ Less = ap (λ (n : ℕ). ordering_then (nat_cmp 5 n) (text_cmp q e.0.1)) kind ∙ less in
+            sym (kept_at q high) ∙ (ap (find space_cmp (5, q)) is ∙ find_before (5, q) e es sorted before),
+      )
 
 pub least_from : (m : SpaceMap) (from : Text) (r : Option Text) → r ≡ least_key_from m 5 from → IsLeastFrom m from r
 least_from m from r is =

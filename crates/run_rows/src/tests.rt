@@ -243,7 +243,10 @@ fn shelves_of_native_loglets(rt: HostRuntime) -> Result<(), Fail> {
         ("native3,file,native7", b"seg 0 native3 0 open\n"),
     ];
     for (shelf, last) in rows {
-        let mut text = Vec::from_slice(alloc, b"1 a @0.0 ok\n2 a >1 = 1\nend 1\nchain v=1 trim=0\n")?;
+        let mut text = Vec::from_slice(
+            alloc,
+            b"1 a @0.0 ok\n2 a >1 = 1\nend 1\nchain v=1 trim=0\n",
+        )?;
         text.extend_from_slice(last)?;
         ends_with(
             &rt,
