@@ -36,6 +36,8 @@ macro_rules! engines {
     }};
 }
 
+mod replica;
+
 // A rank of a session with the bytes of its command.
 type Ranked<'a> = (u16, u64, &'a [u8]);
 

@@ -1,7 +1,9 @@
-//! The calls of a virtual log over one loglet, with ample memory.
+//! The calls of a virtual log, with ample memory, by one user and by two.
 ghost use Rattle.std.specs.Prelude.{IfOk};
 ghost use Rattle.delos_types.specs.Spelling.{IsSpellable};
 
+use crate::first::First;
+use crate::second::{Act, Second};
 use crate::shelf::{
     Answers, Read, Replaced, Trimmed, Write, calls_on, fresh_fabric, fresh_log, log_on,
     raise_first, replace_and_append, trim_and_read,
@@ -16,6 +18,7 @@ use file_loglet::memory::in_memory;
 use std::alloc::Global;
 use std::test::Fail;
 use virtual_log::extend::Extension;
+use virtual_log::log::VirtualLog;
 
 fn entry(alloc: Global) -> Result<Entry, Fail>
     ensures { IfOk result IsSpellable }
@@ -29,14 +32,9 @@ fn entry(alloc: Global) -> Result<Entry, Fail>
     })
 }
 
-#[test]
-fn appends_finds_and_reads(rt: HostRuntime) -> Result<(), Fail> {
-    let alloc = rt.alloc();
-    let loglet = in_memory(alloc, 10)?;
-    let entry = entry(alloc)?;
-    let mut log = log_on(alloc, loglet).ok_or("memory")?;
-    let answers = calls_on(&mut log, &entry);
-    let wanted = Answers {
+/// What `calls_on` answers.
+fn two_appends() -> Answers {
+    Answers {
         first: Ok(0),
         second: Ok(1),
         tail: Ok(2),
@@ -44,8 +42,17 @@ fn appends_finds_and_reads(rt: HostRuntime) -> Result<(), Fail> {
         zero: Read::Found(0),
         one: Read::Found(1),
         two: Read::Nothing,
-    };
-    assert_eq!(rt; answers, wanted);
+    }
+}
+
+#[test]
+fn appends_finds_and_reads(rt: HostRuntime) -> Result<(), Fail> {
+    let alloc = rt.alloc();
+    let loglet = in_memory(alloc, 10)?;
+    let entry = entry(alloc)?;
+    let mut log = log_on(alloc, loglet).ok_or("memory")?;
+    let answers = calls_on(&mut log, &entry);
+    assert_eq!(rt; answers, two_appends());
     Ok(())
 }
 
@@ -119,5 +126,73 @@ fn second_write_finds_the_first(rt: HostRuntime) -> Result<(), Fail> {
             trim: 1
         }
     );
+    Ok(())
+}
+
+/// A log whose user isn't alone: before its event of this number another acts, once.
+fn shared_log(alloc: Global, act: Act, before: u32) -> Option<VirtualLog<First, Calm>> {
+    let fabric = fresh_fabric(alloc)?;
+    let first = First {
+        second: Second::new(alloc, fabric),
+        act: Some(act),
+        before,
+    };
+    first.see();
+    let Ok(log) = VirtualLog::new(alloc, first, Calm, 3) else {
+        return None;
+    };
+    Some(log)
+}
+
+#[test]
+fn moves_to_the_chain_of_another(rt: HostRuntime) -> Result<(), Fail> {
+    let alloc = rt.alloc();
+    // Event 0 is the first look, event 5 the write.
+    for before in 1..6 {
+        let mut log = shared_log(alloc, Act::Extend, before).ok_or("memory")?;
+        assert_eq!(rt;
+            log.extend(),
+            Ok(Extension::Moved { version: 2 }),
+            "before {before}"
+        );
+    }
+    Ok(())
+}
+
+#[test]
+fn extends_over_the_trim_of_another(rt: HostRuntime) -> Result<(), Fail> {
+    let alloc = rt.alloc();
+    let entry = entry(alloc)?;
+    // Events 0 and 1 append, event 2 is the first look, and event 4 seals.
+    for before in 3..5 {
+        let mut log = shared_log(alloc, Act::Trim, before).ok_or("memory")?;
+        assert_eq!(rt; log.append(&entry), Ok(0), "before {before}");
+        let wanted = Extension::Extended {
+            version: 3,
+            start: 1,
+        };
+        assert_eq!(rt; log.extend(), Ok(wanted), "before {before}");
+    }
+    Ok(())
+}
+
+#[test]
+fn goes_on_in_the_chain_of_another(rt: HostRuntime) -> Result<(), Fail> {
+    let alloc = rt.alloc();
+    let entry = entry(alloc)?;
+    // Two events for each call that `calls_on` makes of a loglet, where nobody else acts.
+    for before in 0..10 {
+        let mut log = shared_log(alloc, Act::Extend, before).ok_or("memory")?;
+        assert_eq!(rt;
+            calls_on(&mut log, &entry),
+            two_appends(),
+            "before {before}"
+        );
+        let wanted = Extension::Extended {
+            version: 3,
+            start: 2,
+        };
+        assert_eq!(rt; log.extend(), Ok(wanted), "before {before}");
+    }
     Ok(())
 }
