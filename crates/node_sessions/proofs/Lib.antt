@@ -4,4 +4,5 @@ pub mod Looking
 pub mod Proposed
 pub mod Queueing
 pub mod Ranks
+pub mod Reading
 pub mod Settling

@@ -1,6 +1,8 @@
 //! Laws of a session's commands, on their way through its node and the log. Each function does nothing: its contract is
 //! the law.
 ghost use Rattle.std.specs.Prelude.{◌≡◌, ◌<◌, ◌≤◌, ◌+◌, ℕ, List, [], ◌++◌, Option, None, Some, length, All};
+ghost use Rattle.std.specs.FinMap as map;
+ghost use Rattle.delos_types.specs.Spaces.{SpaceMap};
 ghost use Rattle.delos_types.specs.declared.entry.Entry.{Entry};
 ghost use Rattle.delos_types.specs.declared.item.Item.{Item};
 ghost use Rattle.delos_types.specs.declared.cause.Cause.{Cause};
@@ -8,16 +10,19 @@ ghost use Rattle.legal_journal.specs.declared.events.Event.{Event};
 ghost use Rattle.legal_journal.specs.Journal.{IsLegal, state_of, tail_of};
 ghost use Rattle.virtual_log.specs.Holding.{Holds, IsTrimmed};
 ghost use Rattle.virtual_log.specs.Turning.{IsAbove};
+ghost use Rattle.table_core.specs.Find.{find_in};
 ghost use Rattle.table_core.specs.declared.command.Command.{Command};
+ghost use Rattle.table_core.specs.declared.command.Query.{Query};
 ghost use Rattle.engine_api.specs.declared.content.Content.TheVariants as Content;
-ghost use Rattle.engine_api.specs.Acted.{asked_in};
+ghost use Rattle.engine_api.specs.Acted.{asked_in, table_after};
 ghost use Rattle.engine_steps.specs.Words.{under};
-ghost use Rattle.engine_laws.specs.State.{IsStateOf};
+ghost use Rattle.engine_laws.specs.State.{IsStateOf, acts_in};
 ghost use Rattle.engine_api.specs.Items.{content_of};
 ghost use Rattle.engine_api.specs.Order.{gap_from};
 ghost use Rattle.engine_api.specs.Packing.{IsProposable};
 ghost use Rattle.replica_api.specs.Replica.{ReplicaView, Queues, Flushes};
 ghost use Rattle.base_engine.specs.Proposing.{Sent, Proposed};
+ghost use Rattle.base_engine.specs.Querying.{found_in};
 ghost use Rattle.base_engine.specs.Reading.{IsFront};
 ghost use Rattle.base_engine.specs.Settling.{OutboxView, Settled, Answers, cause_in};
 ghost use Rattle.node_sessions.specs.UnderWay.{IsGiven, IsUnderWay, HasLanded, HasRank, rank_under};
@@ -96,4 +101,10 @@ pub fn a_read_sees_its_session<P: Rules>()
         → Sent Holds who old o (λ packed. Flushes origin kept packed kept') flushed was → Answers Holds who flushed was cause settled is → cause_in s is.given ≡ None
         → IsAbove who settled tail seen → length log ≡ tail → IsFront Holds seen log → ((user : ℕ) (e : Entry) (r : ℕ) → P.may user e → HasRank s r e → r ≤ sent)
         → gap_from (asked_in 0 log) s 1 ≡ sent + 1 }
+{}
+
+/// What a node's table answers to a read is what the table answers after all that acts in the front of the log that the node
+/// has applied.
+pub fn a_read_shows_the_table()
+    ensures { (log : List Entry) (m : SpaceMap) (query : Query) → IsStateOf log m → found_in m query ≡ find_in (table_after map.empty (acts_in log)) query }
 {}
