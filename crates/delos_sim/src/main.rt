@@ -2,8 +2,7 @@
 //! and prints one row for each command, and the chain of loglets at the end.
 #![tactic(auto)]
 
-ghost use Rattle.std.specs.Prelude.{◌≡◌, ◌+◌, IfOk, Some, length, map, string_bytes};
-ghost use Rattle.script_runner.specs.Fresh.{AreFresh};
+ghost use Rattle.std.specs.Prelude.{◌≡◌, IfOk, Some, map, string_bytes};
 ghost use Rattle.script_words.specs.Plans.{plan_of};
 ghost use Rattle.script_words.specs.declared.plan.Plan.{Plan};
 
@@ -48,21 +47,6 @@ fn kinds_of(alloc: Global, words: &[String]) -> Result<Vec<Kind>, AllocError>
     }
 }
 
-/// The yard with one more fresh loglet, of this kind.
-fn with_loglet(alloc: Global, yard: Yard, kind: Kind) -> Result<Yard, AllocError>
-    requires { AreFresh (map (λ b. view b) yard.shelf.items) }
-    ensures fresh { IfOk result (λ y. AreFresh (map (λ b. view b) y.shelf.items)) }
-    ensures len { IfOk result (λ y. length (map (λ b. view b) y.shelf.items) ≡ length (map (λ b. view b) yard.shelf.items) + 1) }
-{
-    match kind {
-        Kind::File => yard.with(Box::new(alloc, file::in_memory(alloc, ROOM)?)?),
-        Kind::Native1 => yard.with(Box::new(alloc, native::in_memory(alloc, 1, ROOM)?)?),
-        Kind::Native3 => yard.with(Box::new(alloc, native::in_memory(alloc, 3, ROOM)?)?),
-        Kind::Native5 => yard.with(Box::new(alloc, native::in_memory(alloc, 5, ROOM)?)?),
-        Kind::Native7 => yard.with(Box::new(alloc, native::in_memory(alloc, 7, ROOM)?)?),
-    }
-}
-
 /// Runs the script over a shelf of the loglets that the words name, on which nothing was begun.
 fn run_script(rt: &HostRuntime) -> Result<Status, AllocError> {
     let alloc = rt.alloc();
@@ -70,7 +54,13 @@ fn run_script(rt: &HostRuntime) -> Result<Status, AllocError> {
     let kinds = kinds_of(alloc, words.as_slice())?;
     let mut yard = Yard::new(alloc);
     for kind in &kinds {
-        yard = with_loglet(alloc, yard, *kind)?;
+        yard = match kind {
+            Kind::File => yard.with(Box::new(alloc, file::in_memory(alloc, ROOM)?)?)?,
+            Kind::Native1 => yard.with(Box::new(alloc, native::in_memory(alloc, 1, ROOM)?)?)?,
+            Kind::Native3 => yard.with(Box::new(alloc, native::in_memory(alloc, 3, ROOM)?)?)?,
+            Kind::Native5 => yard.with(Box::new(alloc, native::in_memory(alloc, 5, ROOM)?)?)?,
+            Kind::Native7 => yard.with(Box::new(alloc, native::in_memory(alloc, 7, ROOM)?)?)?,
+        };
     }
     let mut source = StdSource::new(rt.stdin());
     let mut sink = StdSink::new(rt.stdout());

@@ -1,6 +1,5 @@
 //! Runs over the shelves that the words name, each loglet of the room that a test asks for.
-ghost use Rattle.std.specs.Prelude.{◌≡◌, ◌≤◌, ◌+◌, ◌^◌, IfOk, Some, length, map, string_bytes};
-ghost use Rattle.script_runner.specs.Fresh.{AreFresh};
+ghost use Rattle.std.specs.Prelude.{◌≡◌, ◌≤◌, ◌^◌, IfOk, Some, map, string_bytes};
 ghost use Rattle.script_words.specs.Plans.{plan_of};
 ghost use Rattle.script_words.specs.declared.plan.Plan.{Plan};
 
@@ -33,22 +32,6 @@ fn kinds_of(alloc: Global, words: &[String]) -> Result<Vec<Kind>, AllocError>
     }
 }
 
-// The yard with one more fresh loglet, of this kind and room.
-fn with_loglet(alloc: Global, yard: Yard, kind: Kind, room: u64) -> Result<Yard, AllocError>
-    requires room { (1 ≤ room) × (room ≤ 2 ^ 32) }
-    requires fresh { AreFresh (map (λ b. view b) yard.shelf.items) }
-    ensures fresh { IfOk result (λ y. AreFresh (map (λ b. view b) y.shelf.items)) }
-    ensures len { IfOk result (λ y. length (map (λ b. view b) y.shelf.items) ≡ length (map (λ b. view b) yard.shelf.items) + 1) }
-{
-    match kind {
-        Kind::File => yard.with(Box::new(alloc, file::in_memory(alloc, room)?)?),
-        Kind::Native1 => yard.with(Box::new(alloc, native::in_memory(alloc, 1, room)?)?),
-        Kind::Native3 => yard.with(Box::new(alloc, native::in_memory(alloc, 3, room)?)?),
-        Kind::Native5 => yard.with(Box::new(alloc, native::in_memory(alloc, 5, room)?)?),
-        Kind::Native7 => yard.with(Box::new(alloc, native::in_memory(alloc, 7, room)?)?),
-    }
-}
-
 /// Runs the script over the shelf that the words name, of loglets with this room.
 pub fn run_on_shelf<R, S: Source, K: Sink>(
     rt: &R,
@@ -63,7 +46,13 @@ pub fn run_on_shelf<R, S: Source, K: Sink>(
     let kinds = kinds_of(alloc, words)?;
     let mut yard = Yard::new(alloc);
     for kind in &kinds {
-        yard = with_loglet(alloc, yard, *kind, room)?;
+        yard = match kind {
+            Kind::File => yard.with(Box::new(alloc, file::in_memory(alloc, room)?)?)?,
+            Kind::Native1 => yard.with(Box::new(alloc, native::in_memory(alloc, 1, room)?)?)?,
+            Kind::Native3 => yard.with(Box::new(alloc, native::in_memory(alloc, 3, room)?)?)?,
+            Kind::Native5 => yard.with(Box::new(alloc, native::in_memory(alloc, 5, room)?)?)?,
+            Kind::Native7 => yard.with(Box::new(alloc, native::in_memory(alloc, 7, room)?)?)?,
+        };
     }
     let ended = run(rt, alloc, words, source, sink, yard);
     Ok(Ran {

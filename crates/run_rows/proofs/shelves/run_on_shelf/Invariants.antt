@@ -1,7 +1,7 @@
 use Rattle.std.proofs.Common.{◌≡◌, length, map}
 use Rattle.script_runner.specs.Fresh.{AreFresh}
-use Rattle.run_rows.proofs.shelves.run_files.OwnLists.{own-1}
-use Rattle.run_rows.proofs.shelves.run_files.Given as goal
+use Rattle.run_rows.proofs.shelves.run_on_shelf.OwnLists.{own-1}
+use Rattle.run_rows.proofs.shelves.run_on_shelf.Given as goal
 
 abbrev pub invariant-loop-kind : goal.invariant-loop-kind
 invariant-loop-kind g l = record {
