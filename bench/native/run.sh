@@ -4,42 +4,22 @@
 # usage: bench/native/run.sh PROGRAM [RUNS]
 #
 # PROGRAM is the built `native_bench`. RUNS is how often each row is measured (7).
-# A time is that of a whole process: the best of the runs less the best of as many runs with no appends, and the median less the median.
 set -eu
 
 program=$1
 runs=${2:-7}
 work=$(mktemp -d)
 trap 'rm -rf "$work"' EXIT
+. "$(dirname "$0")/../rates.sh"
 
-# nanoseconds SERVERS APPENDS BYTES: how long it ran
-nanoseconds() {
-    begin=$(date +%s%N)
-    "$program" "$1" "$2" "$3" >"$work/out"
-    end=$(date +%s%N)
-    [ "$(cat "$work/out")" = "$2" ] || { echo "$1 $2 $3 wrote $(cat "$work/out")" >&2; exit 1; }
-    echo $((end - begin))
-}
-
-# at PLACE FILE: the number at that place of the sorted file
-at() {
-    sort -n "$2" | sed -n "$1p"
+# append APPENDS SERVERS BYTES: one run
+append() {
+    "$program" "$2" "$1" "$3"
 }
 
 # measure SERVERS APPENDS BYTES: one row
 measure() {
-    : >"$work/none"
-    : >"$work/all"
-    i=0
-    while [ $i -lt "$runs" ]; do
-        nanoseconds "$1" 0 "$3" >>"$work/none"
-        nanoseconds "$1" "$2" "$3" >>"$work/all"
-        i=$((i + 1))
-    done
-    middle=$(((runs + 1) / 2))
-    best=$(($(at 1 "$work/all") - $(at 1 "$work/none")))
-    median=$(($(at $middle "$work/all") - $(at $middle "$work/none")))
-    echo "| $1 | $2 | $3 | $(($2 * 1000000 / (best / 1000))) | $(($2 * 1000000 / (median / 1000))) |"
+    echo "| $1 | $2 | $3 | $(rates "$2" append "$2" "$1" "$3") |"
 }
 
 echo "| servers | appends | bytes each | appends a second, best | median |"
