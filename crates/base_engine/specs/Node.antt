@@ -40,10 +40,11 @@ pub record NodeOk (may : ℕ → Entry → Type 0) (floor : List Entry → ℕ) 
   pub few : length n.outbox.entries ≤ 4
   pub waiting : n.replica.kept ≢ [] → may n.who (packed n.replica.origin n.replica.kept)
 
--- What each call keeps: who it is, what was seen, and that the cursor never falls.
+-- What each call keeps: who it is, what was seen, and that neither the cursor nor the count of faults falls.
 pub record Keeps (may : ℕ → Entry → Type 0) (floor : List Entry → ℕ) (shelf : List ℕ) (old new : NodeView) : Type 0 where
   pub who : new.who ≡ old.who
   pub nodes : new.nodes ≡ old.nodes
   pub origin : new.replica.origin ≡ old.replica.origin
   pub later : Later may floor shelf old.seen new.seen
   pub forward : old.replica.cursor ≤ new.replica.cursor
+  pub counts : old.replica.faults ≤ new.replica.faults

@@ -7,9 +7,9 @@ ghost use Rattle.legal_journal.specs.Journal.{IsLegal};
 ghost use Rattle.virtual_log.specs.Turning.{Later, IsAbove};
 ghost use Rattle.base_engine.specs.Causes.{Blames};
 ghost use Rattle.base_engine.specs.Following.{Follows, IsFound, Reaches, IsAt};
-ghost use Rattle.replica_api.specs.Replica.{SpellsOne, Survives, Flushes};
+ghost use Rattle.replica_api.specs.Replica.{SpellsOne, Survives, Flushes, Queues};
 ghost use Rattle.base_engine.specs.Settling.{view_of, Settled, Answers, Failing, cause_in};
-ghost use Rattle.base_engine.specs.Proposing.{Sent, Proposed, Refused};
+ghost use Rattle.base_engine.specs.Proposing.{Sent, Proposed, Refused, IsNear};
 ghost use Rattle.base_engine.specs.Node.{NodeView, NodeOk, Keeps};
 ghost use Rattle.base_engine.specs.Querying.{found_in};
 ghost use Rattle.base_engine.specs.Reading.{IsExtendedBy};
@@ -208,6 +208,9 @@ impl<L: SharedLog, R: Replica> Node<L, R> {
         ensures proposed { OnOk result (Proposed L.holds self.old.who self.old.seen self.old.outbox self.old.replica item self.new.seen self.new.outbox self.new.replica) }
         ensures refused { IfErr result (λ f. Refused L.holds self.old.who self.old.seen self.old.outbox item f self.new.seen self.new.outbox) }
         ensures same { OnErr result (self.new.replica.kept ≡ self.old.replica.kept) }
+
+        // An item that is near as it is proposed goes down, and nothing is played.
+        ensures near { IsNear self.old.replica.contents item → OnOk result (Sent L.holds self.old.who self.old.seen self.old.outbox (λ packed. Queues self.old.replica.origin self.old.replica.kept item packed self.new.replica.kept) self.new.seen self.new.outbox) × IfErr result (λ f. f ≡ Fault.Memory) × (self.new.replica ≡ record self.old.replica { kept = self.new.replica.kept }) }
         ensures blames { IfErr result (λ f. Blames self.old.who self.old.seen self.old.replica.faults f self.new.seen self.new.replica.faults) }
         ensures any_crash { AnyCrash self.old.replica.disk self.new.replica.disk (SpellsOne R.spells (IsFound L.holds R.state self.new.seen self.old.replica.cursor)) }
     {

@@ -9,7 +9,7 @@ ghost use Rattle.base_engine.specs.Causes.{Blames};
 ghost use Rattle.base_engine.specs.Following.{Follows, IsKnown, IsFound};
 ghost use Rattle.replica_api.specs.Replica.{SpellsOne, Queues, Flushes};
 ghost use Rattle.base_engine.specs.Settling.{view_of, Settled, MaySend};
-ghost use Rattle.base_engine.specs.Proposing.{Sent, Proposed, Refused, CaughtUp, GaveUp, Readied, IsNearBy};
+ghost use Rattle.base_engine.specs.Proposing.{Sent, Proposed, Refused, CaughtUp, GaveUp, Readied, IsNearBy, IsNear};
 
 use crate::fault::Fault;
 use crate::outbox::{Given, Outbox, SessionList};
@@ -235,6 +235,7 @@ fn is_ready<L: SharedLog, R: Replica>(
     ensures origin { (R.shows replica.new).origin ≡ (R.shows replica.old).origin }
     ensures any_crash { AnyCrash (R.shows replica.old).disk (R.shows replica.new).disk (SpellsOne R.spells (IsFound L.holds R.state (L.seen log.new) (R.shows replica.old).cursor)) }
     ensures blames { IfErr result (λ f. Blames (L.who log.old) (L.seen log.old) (R.shows replica.old).faults f (L.seen log.new) (R.shows replica.new).faults) }
+    ensures near { IsNear (R.shows replica.old).contents item.now → IfOk result (λ ready. ready ≡ true) × IfErr result (λ f. f ≡ Fault.Memory) × (L.seen log.new ≡ L.seen log.old) × (view_of outbox.new ≡ view_of outbox.old) × (R.shows replica.new ≡ R.shows replica.old) }
     ensures ready { IfOk result (λ ready. Readied L.holds (L.who log.old) (L.seen log.old) (view_of outbox.old) item.now ready (L.seen log.new) (view_of outbox.new) (R.shows replica.new)) }
     ensures refused { IfErr result (λ f. Refused L.holds (L.who log.old) (L.seen log.old) (view_of outbox.old) item.now f (L.seen log.new) (view_of outbox.new)) }
     ensures kept { (R.shows replica.new).kept ≡ (R.shows replica.old).kept }
@@ -292,6 +293,9 @@ pub fn propose<L: SharedLog, R: Replica>(
     ensures blames { IfErr result (λ f. Blames (L.who log.old) (L.seen log.old) (R.shows replica.old).faults f (L.seen log.new) (R.shows replica.new).faults) }
     ensures proposed { OnOk result (Proposed L.holds (L.who log.old) (L.seen log.old) (view_of outbox.old) (R.shows replica.old) item (L.seen log.new) (view_of outbox.new) (R.shows replica.new)) }
     ensures refused { IfErr result (λ f. Refused L.holds (L.who log.old) (L.seen log.old) (view_of outbox.old) item f (L.seen log.new) (view_of outbox.new)) }
+
+    // An item that is near as it is proposed goes down, and nothing is played.
+    ensures near { IsNear (R.shows replica.old).contents item → OnOk result (Sent L.holds (L.who log.old) (L.seen log.old) (view_of outbox.old) (λ packed. Queues (R.shows replica.old).origin (R.shows replica.old).kept item packed (R.shows replica.new).kept) (L.seen log.new) (view_of outbox.new)) × IfErr result (λ f. f ≡ Fault.Memory) × (R.shows replica.new ≡ record (R.shows replica.old) { kept = (R.shows replica.new).kept }) }
     ensures waiting { (R.shows replica.new).kept ≢ [] → L.Law.may (L.who log.old) (packed (R.shows replica.old).origin (R.shows replica.new).kept) }
     ensures same { OnErr result ((R.shows replica.new).kept ≡ (R.shows replica.old).kept) }
 {

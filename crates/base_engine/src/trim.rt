@@ -216,6 +216,7 @@ pub fn trim_now<L: SharedLog, R: Replica>(
     ensures follows { Follows L.holds R.state R.spells (L.seen log.new) (R.shows replica.new) }
     ensures bounded { IsKnown (L.reaches log.new) (R.shows replica.new) }
     ensures forward { (R.shows replica.old).cursor ≤ (R.shows replica.new).cursor }
+    ensures counts { (R.shows replica.old).faults ≤ (R.shows replica.new).faults }
     ensures origin { (R.shows replica.new).origin ≡ (R.shows replica.old).origin }
     ensures waiting { (R.shows replica.new).kept ≢ [] → L.Law.may (L.who log.old) (packed (R.shows replica.old).origin (R.shows replica.new).kept) }
     ensures any_crash { AnyCrash (R.shows replica.old).disk (R.shows replica.new).disk (SpellsOne R.spells (IsFound L.holds R.state (L.seen log.new) (R.shows replica.old).cursor)) }

@@ -30,6 +30,8 @@ pub struct Desk {
     pub answers: Vec<Kept>,
     /// Why its lines aren't tried any more.
     pub stopped: Option<Cause>,
+    /// Where it was stopped, how many of its commands were answered by the end of that phase.
+    pub answered: Option<u64>,
 }
 
 /// Takes the answers of the session's commands that have acted in what its node has applied. The node keeps the last 64 of
