@@ -14,3 +14,4 @@ pub mod Plays
 pub mod Fresh
 pub mod Ends
 pub mod Composed
+pub mod Codes

@@ -1,4 +1,7 @@
 //! What a run ends with.
+ghost use Rattle.std.specs.Prelude.{◌≡◌};
+ghost use Rattle.script_runner.specs.Codes.{code_of};
+
 use crate::yard::Yard;
 use delos_types::chain::Chain;
 use row_text::row::Rows;
@@ -24,7 +27,9 @@ pub enum Status {
 
 impl Status {
     /// The exit status of the program, 0 to 6.
-    pub fn code(self) -> u8 {
+    pub fn code(self) -> u8
+        ensures { result ≡ code_of self }
+    {
         match self {
             Status::Done => 0,
             Status::Open => 1,

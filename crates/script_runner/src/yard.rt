@@ -1,5 +1,5 @@
 //! What a run works on.
-ghost use Rattle.std.specs.Prelude.{◌≡◌, ◌+◌, IfOk, length, map};
+ghost use Rattle.std.specs.Prelude.{◌≡◌, ◌+◌, ◌++◌, ◌∷◌, [], IfOk, length, map};
 ghost use Rattle.loglet_api.specs.View.{IsFresh};
 ghost use Rattle.script_runner.specs.Fresh.{AreFresh};
 
@@ -30,6 +30,7 @@ impl Yard {
         requires loglet { IsFresh (view loglet) }
         ensures fresh { IfOk result (λ y. AreFresh (map (λ b. view b) y.shelf.items)) }
         ensures len { IfOk result (λ y. length (map (λ b. view b) y.shelf.items) ≡ length (map (λ b. view b) self.shelf.items) + 1) }
+        ensures shelf { IfOk result (λ y. map (λ b. view b) y.shelf.items ≡ map (λ b. view b) self.shelf.items ++ (view loglet ∷ [])) }
     {
         let Yard { shelf } = self;
         let mut shelf = shelf;
