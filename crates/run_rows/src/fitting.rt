@@ -4,13 +4,13 @@ use delos_types::cause::Cause;
 use delos_types::numbers::{Rank, SessionId};
 use delos_types::place::Place;
 use engine_api::act::Act;
-use outside_ends::memory::{MemSink, MemSource};
-use row_text::row::{Outcome, Row, Who};
-use script_runner::answered::Answered;
-use script_runner::fitting::{
+use fitting_run::answered::Answered;
+use fitting_run::fitting::{
     are_rows_of, has_first_ranks, keeps_barriers, places_dont_fall, reads_are_within,
     reads_keep_order, stand_apart, stays_stopped,
 };
+use outside_ends::memory::{MemSink, MemSource};
+use row_text::row::{Outcome, Row, Who};
 use script_text::asks::{Asks, NamedLine, named_lines};
 use script_text::script::parse;
 use std::alloc::{AllocError, Global};

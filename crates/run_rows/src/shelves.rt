@@ -4,10 +4,11 @@ ghost use Rattle.script_words.specs.Plans.{plan_of};
 ghost use Rattle.script_words.specs.declared.plan.Plan.{Plan};
 
 use file_loglet::memory as file;
+use fitting_run::told::Told;
 use native_loglet::memory as native;
 use outside_ends::sink::Sink;
 use outside_ends::source::Source;
-use script_runner::ended::{Status, Told};
+use script_runner::ended::Status;
 use script_runner::run::run;
 use script_runner::yard::Yard;
 use script_words::plan::{WordsError, read_words};

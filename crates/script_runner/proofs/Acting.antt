@@ -10,7 +10,7 @@ use Rattle.engine_api.specs.declared.act.Act.{Act}
 use Rattle.engine_api.specs.Order.{count_of}
 use Rattle.engine_api.specs.Acted.{Asked, act_on, replied, table_after}
 use Rattle.engine_api.proofs.Appends.{replied-append}
-use Rattle.script_runner.specs.Acts.{asked, acts_below, number_of}
+use Rattle.fitting_run.specs.Acts.{asked, acts_below, number_of}
 use Rattle.script_runner.proofs.Lists.{never}
 use Rattle.script_runner.proofs.Placed.{HasActed, ActsNext, acted-none, acted-more, count_of-asked, kept_below, below-more, stand_below}
 use Rattle.script_runner.proofs.Trace.{IsNth}

@@ -22,7 +22,7 @@ use Rattle.script_runner.specs.declared.came.Sent.{Sent}
 use Rattle.script_runner.specs.declared.came.Standing.{Standing}
 use Rattle.script_runner.specs.OneLoglet.{IsLog, HasFilled, Grows}
 use Rattle.script_runner.specs.Faults.{lacks_quorum, finds_full}
-use Rattle.script_runner.specs.Lines.{logs_for}
+use Rattle.fitting_run.specs.Lines.{logs_for}
 use Rattle.script_runner.proofs.Lists.{EachPair, AllAfter, some_of, is_some_of, none_some, none_or_some, all-imply, all-more, pairs-more, pairs-change, after-more, after-change, any-more, any-weaker, all-any, Any}
 use Rattle.script_runner.proofs.Trace.{Turn, Event, World, at_session, session, logged, sent_at, read_at, opens, sends_of, Stands, has_event, EventsOf, FineSent, StopsWhere, FineTold, FineCame, Fine, OffTime, Ordered, beside, first_look, is_missed, stopped_by, PaysFor, PaysOutcome, PaysCame, Pays, logs_now, broke, broke_before, GivenBy, StoppedBy, FineSession, counted, IsNth, IsAt}
 

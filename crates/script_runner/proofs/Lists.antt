@@ -4,7 +4,7 @@ use Rattle.std.specs.Prelude.{count_by, cond}
 use Rattle.std.specs.List.{list_all, list_any, AllByRecursion}
 use Rattle.std.proofs.lemmas.Bool.{and_from}
 use Rattle.std.proofs.lemmas.List.Sums.{sum_by-append}
-use Rattle.script_runner.specs.Tests.{each_pair}
+use Rattle.fitting_run.specs.Tests.{each_pair}
 use Rattle.script_runner.specs.Faults.{picked}
 use Rattle.script_runner.proofs.Tests.{and_both}
 

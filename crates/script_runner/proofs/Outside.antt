@@ -11,7 +11,7 @@ use Rattle.script_text.specs.Refusal.{refusal_text}
 use Rattle.script_text.specs.Script.{script_of}
 use Rattle.script_text.specs.Spelling.{IsScript}
 use Rattle.script_words.specs.declared.plan.Plan.{Plan}
-use Rattle.script_runner.specs.declared.ended.Told.{Told}
+use Rattle.fitting_run.specs.declared.told.Told.{Told}
 use Rattle.script_runner.specs.declared.ended.Status.TheVariants as status
 use Rattle.script_runner.specs.declared.run.Composed.{Composed}
 use Rattle.script_runner.specs.Composed.{ComposesRun, IsComposedScript}
@@ -24,7 +24,7 @@ use Rattle.row_text.specs.declared.row.Outcome.TheVariants as out
 use Rattle.script_text.specs.declared.asks.NamedLine.{NamedLine}
 use Rattle.script_runner.specs.declared.ended.Status.{Status}
 use Rattle.script_runner.specs.declared.play.Played.{Played}
-use Rattle.script_runner.specs.Answered.{is_open}
+use Rattle.fitting_run.specs.Answered.{is_open}
 use Rattle.script_runner.specs.Plays.{Plays, is_answered, all_answered}
 use Rattle.script_runner.proofs.Tests.{and_both}
 use Rattle.script_runner.proofs.Counting.{sum-head}

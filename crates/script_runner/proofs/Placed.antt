@@ -15,8 +15,8 @@ use Rattle.engine_api.specs.declared.act.Act.{Act}
 use Rattle.engine_api.specs.Order.{count_of, in_turn, in_turn_after}
 use Rattle.engine_api.specs.Acted.{Asked, act_on, replied, table_after}
 use Rattle.engine_api.proofs.Appends.{replied-append}
-use Rattle.script_runner.specs.Tests.{◌⇒◌, each_pair}
-use Rattle.script_runner.specs.Acts.{act_order, in_order, asked, acts_below, acts_from, number_of, next_rank, has_first_ranks, stand_apart}
+use Rattle.fitting_run.specs.Tests.{◌⇒◌, each_pair}
+use Rattle.fitting_run.specs.Acts.{act_order, in_order, asked, acts_below, acts_from, number_of, next_rank, has_first_ranks, stand_apart}
 use Rattle.script_runner.proofs.Tests.{list_all-more, list_all-weaker, each_pair-more, implied, and_both}
 
 -- The order of acts

@@ -33,7 +33,7 @@ use Rattle.script_runner.specs.Replicas.{HasApplied, IsReplica, Catches, Syncs}
 use Rattle.script_runner.specs.Fits.{Fits}
 use Rattle.script_runner.specs.Plays.{Plays, is_answered, all_answered, told_by}
 use Rattle.script_runner.specs.Faults.{lacks_quorum, finds_full}
-use Rattle.script_runner.specs.Lines.{logs_for, has_rank, are_ranked, are_in_phase, CanLog, ArePlayable}
+use Rattle.fitting_run.specs.Lines.{logs_for, has_rank, are_ranked, are_in_phase, CanLog, ArePlayable}
 use Rattle.script_runner.specs.Turns.{fresh, standing_of, session_asked, first_phase, row_of, CanTell, EndsPhase, TurnsPhase, Steps}
 use Rattle.script_runner.proofs.Tests.{and_both}
 use Rattle.script_runner.proofs.Lists.{all-imply, all-tests, count_by-most}

@@ -30,10 +30,10 @@ use Rattle.script_runner.specs.declared.came.Came.TheVariants as came
 use Rattle.script_runner.specs.declared.came.Sent.{Sent}
 use Rattle.script_runner.specs.declared.came.Standing.{Standing}
 use Rattle.script_runner.specs.OneLoglet.{IsLog, HasFilled, Grows, Costs}
-use Rattle.script_runner.specs.Answered.{logs, looked_at, is_open, session_asking}
-use Rattle.script_runner.specs.Outcomes.{is_row_of, names, answers}
+use Rattle.fitting_run.specs.Answered.{logs, looked_at, is_open, session_asking}
+use Rattle.fitting_run.specs.Outcomes.{is_row_of, names, answers}
 use Rattle.script_runner.specs.Faults.{lacks_quorum, finds_full}
-use Rattle.script_runner.specs.Lines.{logs_for, is_of}
+use Rattle.fitting_run.specs.Lines.{logs_for, is_of}
 use Rattle.script_runner.specs.Turns.{standing_of, session_asked, Holds}
 use Rattle.script_runner.proofs.Tests.{and_both}
 use Rattle.script_runner.proofs.Lists.{never, some_of, is_some_of, none_some, none_or_some, true_or_false, all-imply, any-more, any-last, any-weaker, count_by-more}

@@ -21,7 +21,7 @@ use Rattle.script_text.specs.Script.{RawLine, lines_in}
 use Rattle.script_text.specs.Spelling.{IsScript, SpellsFrom, CommandFits, is_print}
 use Rattle.script_runner.proofs.Tests.{and_both}
 use Rattle.script_text.specs.Lines.{lines_of, lines_after, named_after, asks_after, is_logged_by, is_barrier}
-use Rattle.script_runner.specs.Lines.{logs_for, has_rank, are_ranked, are_in_phase, CanLog, ArePlayable}
+use Rattle.fitting_run.specs.Lines.{logs_for, has_rank, are_ranked, are_in_phase, CanLog, ArePlayable}
 
 -- the line, where it names a node
 abbrev named : List Line → Line → List NamedLine

@@ -32,10 +32,10 @@ use Rattle.script_runner.specs.declared.line.Step.{Step}
 use Rattle.script_runner.specs.declared.replica.Replica.{Replica}
 use Rattle.script_runner.specs.OneLoglet.{IsLog, HasFilled, Grows, Costs, Lacks, Refuses, Appends}
 use Rattle.script_runner.specs.Replicas.{IsReplica, HasApplied}
-use Rattle.script_runner.specs.Answered.{logs, looked_at, is_open, session_asking}
-use Rattle.script_runner.specs.Outcomes.{is_row_of, names, answers}
+use Rattle.fitting_run.specs.Answered.{logs, looked_at, is_open, session_asking}
+use Rattle.fitting_run.specs.Outcomes.{is_row_of, names, answers}
 use Rattle.script_runner.specs.Faults.{lacks_quorum, finds_full}
-use Rattle.script_runner.specs.Lines.{logs_for, is_of}
+use Rattle.fitting_run.specs.Lines.{logs_for, is_of}
 use Rattle.script_runner.specs.Turns.{standing_of, session_asked, Holds, Proposes, LacksToPropose, SendsOn, SendsOff, SendsNot, Sends, Looks, KeepsAsked, Keeps, Tries, StepsBy, Steps}
 use Rattle.script_runner.proofs.Tests.{and_both}
 use Rattle.script_runner.proofs.Lists.{never, some_of, is_some_of, none_some, none_or_some, true_or_false, all-imply, any-more, any-last, any-weaker, count_by-more}

@@ -30,11 +30,12 @@ use Rattle.script_runner.specs.declared.came.Came.TheVariants as came
 use Rattle.script_runner.specs.declared.came.Sent.{Sent}
 use Rattle.script_runner.specs.declared.came.Standing.{Standing}
 use Rattle.script_runner.specs.OneLoglet.{IsLog, Grows}
-use Rattle.script_runner.specs.Tests.{◌⇒◌, where_some, some_is, each_pair}
-use Rattle.script_runner.specs.Answered.{Answered, logs, has_row, session_asking, same_session, before_barrier, is_logged, is_placed_on_time, is_open, on_time, on_read, place_on_time, looked_at, place_le, answered_lines}
-use Rattle.script_runner.specs.Outcomes.{OneRowEach, KeepsSessionOrder, is_row_of, names, answers, rises, is_stopped_by, is_above, is_not_below, is_passed, keeps_barrier, keeps_barriers}
-use Rattle.script_runner.specs.Acts.{ActsOnce, act_of, asked, acts_below, acts_from, placed_acts, next_rank}
-use Rattle.script_runner.specs.Reads.{ReadsAreCurrent, Shows, looks_in_order}
+use Rattle.fitting_run.specs.Tests.{◌⇒◌, where_some, some_is, each_pair}
+use Rattle.fitting_run.specs.declared.answered.Answered.{Answered}
+use Rattle.fitting_run.specs.Answered.{logs, has_row, session_asking, same_session, before_barrier, is_logged, is_placed_on_time, is_open, on_time, on_read, place_on_time, looked_at, place_le, answered_lines}
+use Rattle.fitting_run.specs.Outcomes.{OneRowEach, KeepsSessionOrder, is_row_of, names, answers, rises, is_stopped_by, is_above, is_not_below, is_passed, keeps_barrier, keeps_barriers}
+use Rattle.fitting_run.specs.Acts.{ActsOnce, act_of, asked, acts_below, acts_from, placed_acts, next_rank}
+use Rattle.fitting_run.specs.Reads.{ReadsAreCurrent, Shows, looks_in_order}
 use Rattle.script_runner.specs.Turns.{standing_of, session_asked, sent_outcome, sent_row, row_of, IsAnswerable, CanTell}
 use Rattle.script_runner.proofs.Lists.{never, some_of, is_some_of, none_some, none_or_some, all-imply, all-tests, pairs-test}
 use Rattle.script_runner.proofs.Placed.{HasActed, in_order-twins, none_below, all_from}

@@ -20,10 +20,10 @@ use Rattle.script_runner.specs.declared.came.Came.TheVariants as came
 use Rattle.script_runner.specs.declared.came.Sent.{Sent}
 use Rattle.script_runner.specs.declared.came.Standing.{Standing}
 use Rattle.script_runner.specs.OneLoglet.{IsLog, HasFilled}
-use Rattle.script_runner.specs.Answered.{logs, looked_at, is_open}
-use Rattle.script_runner.specs.Outcomes.{is_row_of}
+use Rattle.fitting_run.specs.Answered.{logs, looked_at, is_open}
+use Rattle.fitting_run.specs.Outcomes.{is_row_of}
 use Rattle.script_runner.specs.Faults.{lacks_quorum, finds_full}
-use Rattle.script_runner.specs.Lines.{logs_for}
+use Rattle.fitting_run.specs.Lines.{logs_for}
 use Rattle.script_runner.specs.Turns.{standing_of, session_asked}
 use Rattle.script_runner.proofs.Lists.{EachPair, AllAfter}
 

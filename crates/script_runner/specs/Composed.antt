@@ -4,7 +4,7 @@ use Rattle.loglet_api.specs.View.{LogletView}
 use Rattle.script_text.specs.declared.line.Line.{Line}
 use Rattle.script_text.specs.Lines.{lines_of}
 use Rattle.script_words.specs.declared.plan.Plan.{Plan}
-use Rattle.script_runner.specs.declared.ended.Told.{Told}
+use Rattle.fitting_run.specs.declared.told.Told.{Told}
 use Rattle.script_runner.specs.declared.ended.Status.{Status}
 use Rattle.script_runner.specs.declared.ended.Status.TheVariants as status
 use Rattle.script_runner.specs.declared.run.Composed.{Composed}

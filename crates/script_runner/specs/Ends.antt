@@ -20,10 +20,10 @@ use Rattle.script_words.specs.declared.plan.Plan.{Plan}
 pub use Rattle.script_words.specs.Plans.{IsPlan}
 use Rattle.script_words.specs.Plans.{plan_of, bad_words_text}
 use Rattle.script_words.specs.Shelf.{kind_name}
-use Rattle.script_runner.specs.declared.ended.Told.{Told}
+use Rattle.fitting_run.specs.declared.told.Told.{Told}
 use Rattle.script_runner.specs.declared.ended.Status.{Status}
 use Rattle.script_runner.specs.declared.ended.Status.TheVariants as status
-use Rattle.script_runner.specs.Answered.{is_open}
+use Rattle.fitting_run.specs.Answered.{is_open}
 use Rattle.script_runner.specs.Fits.{Fits}
 use Rattle.script_runner.specs.Plays.{all_answered}
 

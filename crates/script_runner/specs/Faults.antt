@@ -4,8 +4,9 @@ use Rattle.std.specs.List.{list_all, list_any}
 use Rattle.delos_types.specs.declared.cause.Cause.{Cause}
 use Rattle.delos_types.specs.declared.cause.Cause.TheVariants as cause
 use Rattle.loglet_api.specs.View.{LogletView, size_of}
-use Rattle.script_runner.specs.Tests.{where_some, some_is}
-use Rattle.script_runner.specs.Answered.{Answered, same_session, before_barrier, session_of, is_logged, is_open, cause_of, is_late}
+use Rattle.fitting_run.specs.Tests.{where_some, some_is}
+use Rattle.fitting_run.specs.declared.answered.Answered.{Answered}
+use Rattle.fitting_run.specs.Answered.{same_session, before_barrier, session_of, is_logged, is_open, cause_of, is_late}
 
 -- Causes stand in the yard
 

@@ -1,12 +1,13 @@
--- When what a run tells fits the script and the yard that it gave back.
+-- When what a run over a shelf of one loglet tells fits the script and the yard that it gave back. What is asked of rows alone is `fitting_run`'s.
 use Rattle.std.specs.Prelude.{◌≡◌, ℕ, Bool, true, false, List, [], ◌∷◌, None}
 use Rattle.loglet_api.specs.View.{LogletView}
 use Rattle.script_text.specs.declared.asks.NamedLine.{NamedLine}
-use Rattle.script_runner.specs.declared.ended.Told.{Told}
-use Rattle.script_runner.specs.Answered.{Answered, answered_lines}
-use Rattle.script_runner.specs.Acts.{ActsOnce}
-use Rattle.script_runner.specs.Outcomes.{OneRowEach, KeepsSessionOrder, keeps_barriers}
-use Rattle.script_runner.specs.Reads.{ReadsAreCurrent}
+use Rattle.fitting_run.specs.declared.told.Told.{Told}
+use Rattle.fitting_run.specs.declared.answered.Answered.{Answered}
+use Rattle.fitting_run.specs.Answered.{answered_lines}
+use Rattle.fitting_run.specs.Acts.{ActsOnce}
+use Rattle.fitting_run.specs.Outcomes.{OneRowEach, KeepsSessionOrder, keeps_barriers}
+use Rattle.fitting_run.specs.Reads.{ReadsAreCurrent}
 use Rattle.script_runner.specs.Faults.{FaultsAreCounted}
 
 -- what is read of a yard once a run has ended: the loglets of its shelf

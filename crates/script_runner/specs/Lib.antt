@@ -1,13 +1,7 @@
-pub mod Tests
-pub mod Answered
-pub mod Outcomes
-pub mod Acts
-pub mod Reads
 pub mod Faults
 pub mod Fits
 pub mod OneLoglet
 pub mod Asking
-pub mod Lines
 pub mod Replicas
 pub mod Turns
 pub mod Plays

@@ -8,7 +8,7 @@ use Rattle.row_text.specs.declared.row.Row.{Row}
 use Rattle.row_text.specs.declared.row.Outcome.{Outcome}
 use Rattle.row_text.specs.declared.row.Outcome.TheVariants as out
 use Rattle.script_text.specs.declared.asks.NamedLine.{NamedLine}
-use Rattle.script_runner.specs.declared.ended.Told.{Told}
+use Rattle.fitting_run.specs.declared.told.Told.{Told}
 use Rattle.script_runner.specs.declared.play.Played.{Played}
 use Rattle.script_runner.specs.Fits.{Fits}
 

@@ -3,8 +3,7 @@ ghost use Rattle.std.specs.Prelude.{◌≡◌};
 ghost use Rattle.script_runner.specs.Codes.{code_of};
 
 use crate::yard::Yard;
-use delos_types::chain::Chain;
-use row_text::row::Rows;
+use fitting_run::told::Told;
 
 /// How a run ended.
 #[derive(Clone, Copy, PartialEq, Eq, Debug)]
@@ -40,18 +39,6 @@ impl Status {
             Status::Memory => 6,
         }
     }
-}
-
-/// What was run: the answer to each line, the end of the log as the run saw it, and the chain of
-/// loglets as the register gave it last, with its version.
-#[derive(Drop)]
-pub struct Told {
-    pub rows: Rows,
-    pub end: u64,
-    pub version: u64,
-    pub chain: Chain,
-    /// The register is down.
-    pub down: bool,
 }
 
 /// How a run ended, with the yard that it was given, and what was run, if a script was.

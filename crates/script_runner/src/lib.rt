@@ -2,10 +2,8 @@
 //! The run theorem is the contract of [`run::run`].
 #![tactic(auto)]
 
-pub mod answered;
 mod came;
 pub mod ended;
-pub mod fitting;
 mod line;
 mod log;
 mod phase;

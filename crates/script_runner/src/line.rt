@@ -1,6 +1,6 @@
 //! What comes of one line.
 ghost use Rattle.std.specs.Prelude.{◌≡◌, ◌+◌, ◌<◌, ◌≤◌, ◌^◌, IfOk, IfErr, None, length};
-ghost use Rattle.script_runner.specs.Lines.{CanLog};
+ghost use Rattle.fitting_run.specs.Lines.{CanLog};
 ghost use Rattle.script_runner.specs.OneLoglet.{IsLog, Fails};
 ghost use Rattle.script_runner.specs.Replicas.{IsReplica};
 ghost use Rattle.script_runner.specs.Turns.{CanPropose, Proposes, FailsToPropose, IsTold, IsSent, Sends, Looks, Keeps, Tries, Steps};

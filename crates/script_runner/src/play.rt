@@ -1,7 +1,7 @@
 //! Plays the lines of a script on one node, phase by phase.
 ghost use Rattle.std.specs.Prelude.{◌≡◌, ℕ, IfOk, All, map};
 ghost use Rattle.loglet_api.specs.View.{IsFresh};
-ghost use Rattle.script_runner.specs.Lines.{ArePlayable};
+ghost use Rattle.fitting_run.specs.Lines.{ArePlayable};
 ghost use Rattle.script_runner.specs.Turns.{IsAnswerable, CanTell, sent_row, row_of, session_asked, first_phase, fresh, standing_of};
 ghost use Rattle.script_runner.specs.Plays.{Plays};
 

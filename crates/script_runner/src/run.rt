@@ -8,14 +8,15 @@ ghost use Rattle.script_words.specs.Plans.{plan_of, bad_words_text};
 ghost use Rattle.script_runner.specs.Composed.{ComposesRun, IsComposed, IsComposedScript, status_of};
 ghost use Rattle.script_runner.specs.Ends.{Tells, IsPlan, IsCalm, PutsWhole, PutsFront, CanRun, text_of, any_open, IsRun};
 ghost use Rattle.script_runner.specs.Fresh.{AreFresh, IsFreshFor, IsFreshShelf};
-ghost use Rattle.script_runner.specs.Lines.{ArePlayable};
+ghost use Rattle.fitting_run.specs.Lines.{ArePlayable};
 
-use crate::ended::{Ended, Status, Told};
-use crate::fitting::is_open;
+use crate::ended::{Ended, Status};
 use crate::play::{Played, play};
 use crate::yard::Yard;
 use delos_types::bytes::Bytes;
 use delos_types::chain::{Chain, Segment, Segments};
+use fitting_run::fitting::is_open;
+use fitting_run::told::Told;
 use loglet_api::loglet::Loglet;
 use outside_ends::sink::Sink;
 use outside_ends::source::Source;

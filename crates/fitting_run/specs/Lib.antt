@@ -1,0 +1,10 @@
+pub mod Tests
+pub mod Answered
+pub mod Outcomes
+pub mod Acts
+pub mod Reads
+pub mod Yard
+pub mod Faults
+pub mod Fits
+pub mod Calm
+pub mod Lines

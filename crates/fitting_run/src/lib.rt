@@ -1,0 +1,11 @@
+//! When what a run tells fits its script and the yard that it gave back: the definitions, and plain programs of the tests
+//! of which they are made.
+//!
+//! - `answered`: lines with their rows.
+//! - `told`: what a run tells.
+//! - `fitting`: the tests, as programs.
+#![tactic(auto)]
+
+pub mod answered;
+pub mod fitting;
+pub mod told;

@@ -1,0 +1,197 @@
+-- One row for each line, and the order of sessions and barriers.
+use Rattle.std.proofs.Common.{◌≡◌, sym, ap, ◌∙◌, subst, inl, inr, ℕ, zero, suc, ◌+◌, ◌<◌, ◌≤◌, true, false, not, Some, List, [], ◌∷◌, ◌++◌, length, map, nat_lt, nat_le, ◌==◌, ◌&&◌, arith, le-leb, lt-ltb, ltb-true, eq-eqb}
+use Rattle.std.specs.List.{AllByRecursion, list_all}
+use Rattle.std.proofs.lemmas.Bool.{and_from, and_parts, cases_lt, not-true, or_left, or_right}
+use Rattle.std.proofs.lemmas.List.{length-map}
+use Rattle.delos_types.specs.declared.entry.Entry.{Entry}
+use Rattle.delos_types.specs.declared.place.Place.{Place}
+use Rattle.engine_api.specs.declared.act.Act.{Act}
+use Rattle.engine_laws.specs.State.{acts_in}
+use Rattle.fitting_run.specs.declared.told.Told.{Told}
+use Rattle.fitting_run.specs.Answered.{before_barrier, is_logged, is_open, is_placed_on_time, looked_at, on_read, on_time, place_le, place_on_time, same_session}
+use Rattle.fitting_run.specs.Faults.{is_broken}
+use Rattle.fitting_run.specs.Fits.{told_of}
+use Rattle.fitting_run.specs.Outcomes.{KeepsSessionOrder, OneRowEach, is_above, is_not_below, is_passed, is_row_of, is_stopped_by, keeps_barrier, keeps_barriers, rises}
+use Rattle.fitting_run.specs.Yard.{Shown}
+use Rattle.log_acts.specs.Order.{ActsBefore}
+use Rattle.log_acts.proofs.Acting.{in_order}
+use Rattle.run_laws.specs.Ended.{AllAfter, Played, RunEnded, session_in}
+use Rattle.run_laws.proofs.Answering.{IsLook, IsOnTime, IsRanked, all_ranked, its-act, logged_by, logged-own, looked, not-on_time, on-time, one-session}
+use Rattle.run_laws.proofs.Behind.{after-both, after-each, pairs-behind}
+use Rattle.run_laws.proofs.Causes.{Ended}
+use Rattle.run_laws.proofs.Members.{Among, all-at, all-test}
+use Rattle.run_laws.proofs.Occasions.{all_ended}
+use Rattle.run_laws.proofs.Pairs.{pair-at, pairs-any, pairs-both}
+use Rattle.run_laws.proofs.Ranks.{RanksRise, ranks-rise}
+use Rattle.run_laws.proofs.Stopped.{IsStopped, broken-stopped}
+use Rattle.run_laws.proofs.Telling.{all_have_rows, tell, told-is}
+use Rattle.run_laws.proofs.Tests.{each_pair-from, implies-from, where_some-from}
+
+-- Places
+
+before-place_le : (a b : Act) → ActsBefore a b → place_le a.place b.place ≡ true
+before-place_le a b h =
+    let below = nat_lt a.place.pos b.place.pos in
+    let beside = (a.place.pos == b.place.pos) && nat_le a.place.sub b.place.sub in
+    elim h [
+      | inl earlier ↦ elim earlier [
+        | inl low ↦ or_left below beside (lt-ltb a.place.pos b.place.pos low)
+        | inr here ↦ or_right below beside (and_from (a.place.pos == b.place.pos) (nat_le a.place.sub b.place.sub) (eq-eqb a.place.pos b.place.pos here.0)
+            (le-leb a.place.sub b.place.sub (let low = here.1 in omega (arith, low))))
+      ]
+      | inr same ↦
+          let sub : a.place.sub ≡ b.place.sub = ap (λ (p : Place). p.sub) same.0 in
+          or_right below beside (and_from (a.place.pos == b.place.pos) (nat_le a.place.sub b.place.sub) (eq-eqb a.place.pos b.place.pos (ap (λ (p : Place). p.pos) same.0))
+          (le-leb a.place.sub b.place.sub (omega (arith, sub))))
+    ]
+
+-- of a session the act of a higher rank isn't placed below
+higher-place_le : (log : List Entry) (a b : Act) → Among (acts_in log) a → Among (acts_in log) b → a.session ≡ b.session → a.rank < b.rank → place_le a.place b.place ≡ true
+higher-place_le log a b m n session rank =
+    elim (pair-at (λ a b. ActsBefore a b × RanksRise a b) (acts_in log) a b (pairs-both ActsBefore RanksRise (acts_in log) (in_order log) (ranks-rise log)) m n) [
+      | inl same ↦ absurd (let rank_is : a.rank ≡ b.rank = ap (λ (c : Act). c.rank) same in omega (arith, rank, rank_is))
+      | inr apart ↦ elim apart [
+        | inl ahead ↦ before-place_le a b ahead.0
+        | inr behind ↦ absurd (let less = behind.1 (sym session) in omega (arith, rank, less))
+      ]
+    ]
+
+-- Tails
+
+tails-rise : (tails : ℕ → ℕ) → ((phase : ℕ) → tails phase ≤ tails (phase + 1)) → (n m : ℕ) → n ≤ m → tails n ≤ tails m
+tails-rise tails rise n zero low = let is : n ≡ 0 = omega (arith, low) in subst (λ k. tails n ≤ tails k) is (omega arith)
+tails-rise tails rise n (suc m) low =
+    elim (cases_lt m n) [
+      | inl same ↦ let is : n ≡ suc m = omega (arith, low, same) in subst (λ k. tails n ≤ tails k) is (omega arith)
+      | inr under ↦
+          let far = tails-rise tails rise n m under in
+          let near = rise m in
+          let next : m + 1 ≡ suc m = omega arith in
+          subst (λ k. tails n ≤ tails k) next (omega (arith, far, near))
+    ]
+
+module _ (played : List Played) (o : Told) (yard : Shown) (e : RunEnded played o yard) where
+  -- a line that ended, of the next rank of its session where it logs
+  abbrev pub Turn : List Played → Played → Type 0
+  Turn before t = Ended played o yard e before t × IsRanked before t
+
+  pub all_turns : AllAfter Turn [] played
+  all_turns = after-both (Ended played o yard e) IsRanked Turn [] played (λ b t ended ranked. (ended, ranked)) (all_ended played o yard e) (all_ranked [] played e.ranked)
+
+  abbrev pub OnTime : Played → Place → Type 0
+  OnTime t p = IsOnTime e.log e.tails t.line.phase t.line.asks p
+
+  abbrev pub Looked : List Played → Played → ℕ → Type 0
+  Looked before t after = IsLook e.log e.tails before t.line.phase t.line.asks after
+
+  pub turn-on_time : (before : List Played) (t : Played) → Turn before t → (p : Place) → place_on_time t.row.outcome ≡ Some p → OnTime t p
+  turn-on_time before t h p is = on-time e.log e.tails e.faults e.ends before t t.line.asks t.row.outcome p h.0.1.came is
+
+  pub turn-looked : (before : List Played) (t : Played) → Turn before t → (after : ℕ) → looked_at t.row.outcome ≡ Some after → Looked before t after
+  turn-looked before t h after is = looked e.log e.tails e.faults e.ends before t t.line.asks t.row.outcome after h.0.1.came is
+
+  -- The order of a session
+
+  places-rise : (b : List Played) (t : Played) (mid : List Played) (u : Played) → Turn b t → Turn (b ++ t ∷ mid) u → session_in t.line.asks ≡ session_in u.line.asks → (p q : Place) → OnTime t p → OnTime u q → place_le p q ≡ true
+  places-rise b t mid u h k session p q first second =
+      let x : Act = first.act in
+      let y : Act = second.act in
+      let one = its-act e.log t.line.asks x first.found in
+      let other = its-act e.log u.line.asks y second.found in
+      let low : x.rank ≡ logged_by (session_in t.line.asks) b + 1 = one.rank ∙ h.1 first.logged in
+      let high : y.rank ≡ logged_by (session_in u.line.asks) (b ++ t ∷ mid) + 1 = other.rank ∙ k.1 second.logged in
+      let more = logged-own (session_in u.line.asks) b t mid session first.logged in
+      subst (λ v. place_le v q ≡ true) (sym first.place_is) (subst (λ v. place_le x.place v ≡ true) (sym second.place_is)
+      (higher-place_le e.log x y one.among other.among (one.session ∙ session ∙ sym other.session) (omega (arith, low, high, more))))
+
+  turns-rise : (b : List Played) (t : Played) (mid : List Played) (u : Played) → Turn b t → Turn (b ++ t ∷ mid) u → rises (tell t) (tell u) ≡ true
+  turns-rise b t mid u h k =
+      implies-from (same_session (tell t) (tell u)) (on_time t.row.outcome (λ p. on_time u.row.outcome (λ q. place_le p q)))
+      (λ same. where_some-from (place_on_time t.row.outcome) (λ p. on_time u.row.outcome (λ q. place_le p q))
+      (λ p is. where_some-from (place_on_time u.row.outcome) (λ q. place_le p q)
+      (λ q it. places-rise b t mid u h k (one-session t.line.asks u.line.asks same) p q (turn-on_time b t h p is) (turn-on_time (b ++ t ∷ mid) u k q it))))
+
+  -- a line that logs is open or late where it isn't placed in its phase
+  all_broken : AllByRecursion (λ t. is_logged (tell t) ≡ true → is_placed_on_time (tell t) ≡ false → is_broken (tell t) ≡ true) played
+  all_broken =
+      after-each Turn (λ t. is_logged (tell t) ≡ true → is_placed_on_time (tell t) ≡ false → is_broken (tell t) ≡ true) [] played
+      (λ b t h logged missed. not-on_time e.log e.tails e.faults e.ends b t t.line.asks t.row.outcome h.0.1.came logged missed) all_turns
+
+  -- nothing is tried after the phase in which its session was stopped
+  all_opened : AllByRecursion (λ t. (phase : ℕ) → IsStopped (e.ends (session_in t.line.asks)) phase → phase < t.line.phase → is_open t.row.outcome ≡ true) played
+  all_opened =
+      after-each Turn (λ t. (phase : ℕ) → IsStopped (e.ends (session_in t.line.asks)) phase → phase < t.line.phase → is_open t.row.outcome ≡ true) [] played
+      (λ b t h phase stopped early. h.0.1.stopped stopped.0 (let upto = stopped.1 in omega (arith, upto, early))) all_turns
+
+  stays-stopped : (t u : Played) → Among played t → Among played u → is_stopped_by (tell t) (tell u) ≡ true
+  stays-stopped t u m n =
+      let session = same_session (tell t) (tell u) in
+      let early = before_barrier (tell t) (tell u) in
+      implies-from (session && early && is_logged (tell t) && not (is_placed_on_time (tell t))) (is_open u.row.outcome) (λ stops.
+      let all = and_parts (session && early && is_logged (tell t)) (not (is_placed_on_time (tell t))) stops in
+      let three = and_parts (session && early) (is_logged (tell t)) all.0 in
+      let two = and_parts session early three.0 in
+      let broken = all-at (λ (v : Played). is_logged (tell v) ≡ true → is_placed_on_time (tell v) ≡ false → is_broken (tell v) ≡ true) played t all_broken m three.1 (not-true _ all.1) in
+      let stopped = broken-stopped played o yard e t m three.1 broken in
+      all-at (λ (v : Played). (phase : ℕ) → IsStopped (e.ends (session_in v.line.asks)) phase → phase < v.line.phase → is_open v.row.outcome ≡ true) played u all_opened n t.line.phase
+      (subst (λ s. IsStopped (e.ends s) t.line.phase) (one-session t.line.asks u.line.asks two.0) stopped) (ltb-true t.line.phase u.line.phase two.1))
+
+  told-session_order : KeepsSessionOrder (map tell played)
+  told-session_order = record {
+    places = each_pair-from tell rises played (pairs-behind Turn (λ t u. rises (tell t) (tell u) ≡ true) [] played turns-rise all_turns);
+    stopped = each_pair-from tell is_stopped_by played (pairs-any (λ t u. is_stopped_by (tell t) (tell u) ≡ true) played stays-stopped);
+  }
+
+  -- The order of phases
+
+  -- what a row tells of stands in its phase
+  record StandsInPhase (t : Played) : Type 0 where
+    pub placed : (p : Place) → place_on_time t.row.outcome ≡ Some p → (e.tails t.line.phase ≤ p.pos) × (p.pos < e.tails (t.line.phase + 1))
+    pub read : (after : ℕ) → looked_at t.row.outcome ≡ Some after → (e.tails t.line.phase ≤ after) × (after ≤ e.tails (t.line.phase + 1))
+
+  all_stand : AllByRecursion StandsInPhase played
+  all_stand =
+      after-each Turn StandsInPhase [] played (λ b t h. record {
+        placed = λ p is. let x = turn-on_time b t h p is in (x.from, x.upto);
+        read = λ after is. let x = turn-looked b t h after is in (x.from, x.upto);
+      }) all_turns
+
+  passes : (t u : Played) → StandsInPhase t → StandsInPhase u → t.line.phase < u.line.phase → is_passed (tell t) (tell u) ≡ true
+  passes t u h k early =
+      let rise : e.tails (t.line.phase + 1) ≤ e.tails u.line.phase = tails-rise e.tails e.rise (t.line.phase + 1) u.line.phase (omega (arith, early)) in
+      and_from (on_time t.row.outcome (λ p. is_above p u.row.outcome)) (on_read t.row.outcome (λ after. is_not_below after u.row.outcome))
+      (where_some-from (place_on_time t.row.outcome) (λ p. is_above p u.row.outcome) (λ p is.
+      let x = (h.placed p is).1 in
+      and_from (on_time u.row.outcome (λ q. nat_lt p.pos q.pos)) (on_read u.row.outcome (λ after. nat_lt p.pos after))
+      (where_some-from (place_on_time u.row.outcome) (λ q. nat_lt p.pos q.pos) (λ q it. lt-ltb p.pos q.pos (let y = (k.placed q it).0 in omega (arith, x, y, rise))))
+      (where_some-from (looked_at u.row.outcome) (λ after. nat_lt p.pos after) (λ after it. lt-ltb p.pos after (let y = (k.read after it).0 in omega (arith, x, y, rise))))))
+      (where_some-from (looked_at t.row.outcome) (λ after. is_not_below after u.row.outcome) (λ after is.
+      let x = (h.read after is).1 in
+      and_from (on_time u.row.outcome (λ q. nat_le after q.pos)) (on_read u.row.outcome (λ later. nat_le after later))
+      (where_some-from (place_on_time u.row.outcome) (λ q. nat_le after q.pos) (λ q it. le-leb after q.pos (let y = (k.placed q it).0 in omega (arith, x, y, rise))))
+      (where_some-from (looked_at u.row.outcome) (λ later. nat_le after later) (λ later it. le-leb after later (let y = (k.read later it).0 in omega (arith, x, y, rise))))))
+
+  told-barriers : keeps_barriers (map tell played) ≡ true
+  told-barriers =
+      each_pair-from tell keeps_barrier played (pairs-any (λ t u. keeps_barrier (tell t) (tell u) ≡ true) played
+      (λ t u m n. implies-from (before_barrier (tell t) (tell u)) (is_passed (tell t) (tell u))
+      (λ early. passes t u (all-at StandsInPhase played t all_stand m) (all-at StandsInPhase played u all_stand n) (ltb-true t.line.phase u.line.phase early))))
+
+  -- One row for each line
+
+  all_rows : AllByRecursion (λ t. is_row_of (tell t) ≡ true) played
+  all_rows = after-each Turn (λ t. is_row_of (tell t) ≡ true) [] played (λ b t h. h.0.1.row) all_turns
+
+  pub one-row-each : OneRowEach (map (λ t. t.line) played) o.rows
+  one-row-each = record {
+    as_many =
+        ap length e.rows ∙ length-map played (λ (t : Played). t.row) ∙ sym (length-map played (λ (t : Played). t.line))
+        ∙ ap length (sym (all_have_rows (map (λ (t : Played). t.line) played)));
+    each = ap (list_all is_row_of) (told-is played o e.rows) ∙ all-test tell is_row_of played all_rows;
+  }
+
+  pub session-order : KeepsSessionOrder (told_of (map (λ t. t.line) played) o)
+  session-order = subst KeepsSessionOrder (sym (told-is played o e.rows)) told-session_order
+
+  pub barriers-kept : keeps_barriers (told_of (map (λ t. t.line) played) o) ≡ true
+  barriers-kept = ap keeps_barriers (told-is played o e.rows) ∙ told-barriers

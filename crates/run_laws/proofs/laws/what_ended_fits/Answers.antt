@@ -1,0 +1,16 @@
+use Rattle.run_laws.proofs.Acting.{acts-once}
+use Rattle.run_laws.proofs.Counts.{faults-counted}
+use Rattle.run_laws.proofs.Looks.{reads-current}
+use Rattle.run_laws.proofs.Orders.{barriers-kept, one-row-each, session-order}
+use Rattle.run_laws.proofs.laws.what_ended_fits.Goals as goal
+
+pub returns : goal.returns
+returns c = λ played o yard e. record {
+  one_row_each = one-row-each played o yard e;
+  acts_once = acts-once played o yard e;
+  session_order = session-order played o yard e;
+  reads_are_current = reads-current played o yard e;
+  barriers = barriers-kept played o yard e;
+  faults_are_counted = faults-counted played o yard e;
+  chain_is_registered = e.registered;
+}

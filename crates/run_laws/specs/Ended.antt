@@ -1,0 +1,224 @@
+-- What is known of a run over nodes once it has ended: of the log, of each session, of each line, and of the faults.
+use Rattle.std.specs.Prelude.{◌≡◌, ℕ, ◌+◌, ◌<◌, ◌≤◌, ◌⊎◌, nat_lt, Bool, true, false, ◌&&◌, ◌==◌, List, [], ◌∷◌, ◌++◌, length, map, find, take, drop, count_by, min, Option, Some, None, IsSome, Contains, slice_get}
+use Rattle.std.specs.List.{AllByRecursion, list_any}
+use Rattle.std.specs.FinMap as finmap
+use Rattle.delos_types.specs.declared.entry.Entry.{Entry}
+use Rattle.delos_types.specs.declared.place.Place.{Place}
+use Rattle.delos_types.specs.declared.cause.Cause.{Cause}
+use Rattle.delos_types.specs.declared.chain.Chain.{Chain}
+use Rattle.table_core.specs.declared.command.Query.{Query}
+use Rattle.table_core.specs.declared.command.Found.{Found}
+use Rattle.table_core.specs.declared.command.Reply.{Reply}
+use Rattle.table_core.specs.Find.{find_in}
+use Rattle.loglet_api.specs.View.{LogletView}
+use Rattle.engine_api.specs.declared.act.Act.{Act}
+use Rattle.engine_api.specs.Acted.{Asked, asked_in, table_after}
+use Rattle.engine_api.specs.Order.{gap_from, is_clean}
+use Rattle.engine_laws.specs.State.{acts_in}
+use Rattle.log_acts.specs.Order.{acts_below}
+use Rattle.fabric_core.specs.Log.{virtual_tail, virtual_log, has_no_gap}
+use Rattle.script_text.specs.declared.asks.NamedLine.{NamedLine}
+use Rattle.script_text.specs.declared.asks.Asks.{Asks}
+use Rattle.script_text.specs.declared.asks.Asks.TheVariants as asks
+use Rattle.row_text.specs.declared.row.Row.{Row}
+use Rattle.row_text.specs.declared.row.Outcome.{Outcome}
+use Rattle.row_text.specs.declared.row.Outcome.TheVariants as out
+use Rattle.fitting_run.specs.declared.told.Told.{Told}
+use Rattle.fitting_run.specs.Answered.{is_open}
+use Rattle.fitting_run.specs.Outcomes.{is_row_of}
+use Rattle.fitting_run.specs.Lines.{logs_for, are_ranked, are_in_phase}
+use Rattle.fitting_run.specs.Yard.{Shown}
+use Rattle.fitting_run.specs.Faults.{stands, lacks_of, faults_of, disk_faults, lacks_quorum, finds_full, lacks_register, lacks_store}
+use Rattle.fitting_run.specs.Fits.{ChainIsRegistered}
+
+-- A line with its row; where its own look at the table failed, the cause of that.
+pub record Played : Type 0 where
+  pub line : NamedLine
+  pub row : Row
+  pub paid : Option Cause
+
+-- A fault that came to a node in a phase, and wasn't that of a line's own look.
+pub record Fault : Type 0 where
+  pub cause : Cause
+  pub node : ℕ
+  pub phase : ℕ
+
+-- What became of a session. Where it was stopped, by a cause and in a phase, its ranks above `answered` weren't answered by the
+-- end of that phase.
+pub record SessionEnd : Type 0 where
+  pub stopped : Option Cause
+  pub when : ℕ
+  pub answered : ℕ
+
+-- The log
+
+-- the act of rank r of session s
+abbrev pub act_of_rank : List Entry → ℕ → ℕ → Option Act
+act_of_rank log s r = find (λ a. (a.session == s) && (a.rank == r)) (acts_in log)
+
+-- what is asked is to log this command
+abbrev pub LogsThis : Asks → Asked → Type 0
+LogsThis (asks.Logged s r c) x = (x.session ≡ s.id) × (x.rank ≡ r) × (x.command ≡ Some c)
+LogsThis (asks.Look s q) x = ⊥
+
+pub record IsOfLine (played : List Played) (x : Asked) : Type 0 where
+  pub at : ℕ
+  pub turn : Played
+  pub is : slice_get played at ≡ Some turn
+  pub logs : LogsThis turn.line.asks x
+
+-- The log as far as it was played: the loglets have all of it that isn't trimmed, and what was trimmed was clean.
+pub record LogStands (log : List Entry) (chain : Chain) (cells : List LogletView) : Type 0 where
+  pub whole : has_no_gap chain cells ≡ true
+  pub within : length log ≤ virtual_tail chain cells
+  pub below : chain.trim ≤ length log
+  pub entries : virtual_log chain cells chain.trim (length log) ≡ drop chain.trim log
+  pub clean : is_clean (λ s. 1) (asked_in 0 (take chain.trim log)) ≡ true
+
+-- Each line; `tails` are the tails at which phases begin
+
+-- the command acted, at a position that isn't below its phase's first tail; late where it is above the answered ranks
+pub record IsPlaced (log : List Entry) (tails : ℕ → ℕ) (e : SessionEnd) (phase s r : ℕ) (place : Place) (reply : Option Reply) (late : Bool) : Type 0 where
+  pub act : Act
+  pub found : act_of_rank log s r ≡ Some act
+  pub place_is : place ≡ act.place
+  pub reply_is : reply ≡ act.reply
+  pub late_is : late ≡ nat_lt e.answered r
+  pub from : tails phase ≤ act.place.pos
+  pub upto : r ≤ e.answered → act.place.pos < tails (phase + 1)
+
+-- the command didn't act, and its session was stopped
+pub record IsLeft (log : List Entry) (e : SessionEnd) (s r : ℕ) (cause : Cause) : Type 0 where
+  pub none : act_of_rank log s r ≡ None
+  pub stopped : e.stopped ≡ Some cause
+  pub above : e.answered < r
+
+-- a read looked at the table after just the commands of its session so far
+pub record HasLooked (log : List Entry) (tails : ℕ → ℕ) (before : List Played) (phase s : ℕ) (query : Query) (after : ℕ) (found : Found) : Type 0 where
+  pub within : after ≤ length log
+  pub shows : found ≡ find_in (table_after finmap.empty (acts_below after (acts_in log))) query
+  pub sees : gap_from (asked_in 0 (take after log)) s 1 ≡ count_by (λ t. logs_for s t.line) before + 1
+  pub from : tails phase ≤ after
+  pub upto : after ≤ tails (phase + 1)
+
+-- a fault of this cause came to the node in the phase
+pub record CameTo (faults : List Fault) (cause : Cause) (node phase : ℕ) : Type 0 where
+  pub fault : Fault
+  pub among : Contains faults fault
+  pub cause_is : fault.cause ≡ cause
+  pub node_is : fault.node ≡ node
+  pub phase_is : fault.phase ≡ phase
+
+-- some line of the session before it, in its phase, is logged
+abbrev pub LogsBefore : List Played → ℕ → ℕ → Type 0
+LogsBefore before s phase = list_any (λ t. logs_for s t.line && (t.line.phase == phase)) before ≡ true
+
+-- a read is open: its own look failed, its session was stopped in an earlier phase, or it was given a cause in this one
+abbrev pub IsUnread : List Fault → SessionEnd → List Played → Played → ℕ → Cause → Type 0
+IsUnread faults e before t s cause =
+    (t.paid ≡ Some cause)
+    ⊎ (((e.stopped ≡ Some cause) × (e.when < t.line.phase))
+    ⊎ (LogsBefore before s t.line.phase × CameTo faults cause t.line.node t.line.phase))
+
+abbrev pub CameOf : List Entry → (ℕ → ℕ) → List Fault → (ℕ → SessionEnd) → List Played → Played → Asks → Outcome → Type 0
+CameOf log tails faults ends before t (asks.Logged s r c) (out.Placed place reply late) = IsPlaced log tails (ends s.id) t.line.phase s.id r place reply late
+CameOf log tails faults ends before t (asks.Logged s r c) (out.Open cause) = IsLeft log (ends s.id) s.id r cause
+CameOf log tails faults ends before t (asks.Look s q) (out.Read after found) = HasLooked log tails before t.line.phase s.id q after found
+CameOf log tails faults ends before t (asks.Look s q) (out.Open cause) = IsUnread faults (ends s.id) before t s.id cause
+CameOf log tails faults ends before t asked answered = ⊥
+
+abbrev pub session_in : Asks → ℕ
+session_in (asks.Logged s r c) = s.id
+session_in (asks.Look s q) = s.id
+
+-- the rank that the line logs was answered by its phase's end, or its session was stopped then or before
+abbrev pub IsStoppedBy : SessionEnd → ℕ → Asks → Type 0
+IsStoppedBy e phase (asks.Logged s r c) = e.answered < r → IsSome e.stopped × (e.when ≤ phase)
+IsStoppedBy e phase (asks.Look s q) = Unit {0}
+
+pub record LineEnded (log : List Entry) (tails : ℕ → ℕ) (faults : List Fault) (ends : ℕ → SessionEnd) (before : List Played) (t : Played) : Type 0 where
+  pub row : is_row_of (record { line = t.line; row = t.row }) ≡ true
+  pub came : CameOf log tails faults ends before t t.line.asks t.row.outcome
+  pub missed : IsStoppedBy (ends (session_in t.line.asks)) t.line.phase t.line.asks
+  -- nothing is tried after the phase in which its session was stopped
+  pub stopped : IsSome (ends (session_in t.line.asks)).stopped → (ends (session_in t.line.asks)).when < t.line.phase → is_open t.row.outcome ≡ true
+
+-- each element, behind those before it
+abbrev pub AllAfter : {A : Type 0} → (List A → A → Type 0) → List A → List A → Type 0
+AllAfter P before [] = Unit {0}
+AllAfter P before (x ∷ xs) = P before x × AllAfter P (before ++ x ∷ []) xs
+
+-- Each session
+
+abbrev pub rank_in : Asks → ℕ
+rank_in (asks.Logged s r c) = r
+rank_in (asks.Look s q) = 0
+
+-- the line that logs this rank, in that phase or before
+pub record LogsRank (played : List Played) (s r phase : ℕ) : Type 0 where
+  pub at : ℕ
+  pub turn : Played
+  pub is : slice_get played at ≡ Some turn
+  pub logs : logs_for s turn.line ≡ true
+  pub rank : rank_in turn.line.asks ≡ r
+  pub early : turn.line.phase ≤ phase
+
+pub record SessionEnded (played : List Played) (faults : List Fault) (home : ℕ → ℕ) (s : ℕ) (e : SessionEnd) : Type 0 where
+  -- it was stopped since a rank wasn't answered, by a fault that came to its node then
+  pub unanswered : IsSome e.stopped → LogsRank played s (e.answered + 1) e.when
+  pub fault : (cause : Cause) → e.stopped ≡ Some cause → CameTo faults cause (home s) e.when
+
+-- Faults
+
+abbrev pub pays : (Cause → Bool) → Option Cause → Bool
+pays by None = false
+pays by (Some c) = by c
+
+abbrev pub paid_by : (ℕ → Cause → Bool) → Played → Bool
+paid_by by t = pays (by t.line.node) t.paid
+
+-- how many faults came by such causes
+abbrev pub counted : (ℕ → Cause → Bool) → List Played → List Fault → ℕ
+counted by played faults = count_by (paid_by by) played + count_by (λ f. by f.node f.cause) faults
+
+abbrev pub PaidStands : Shown → Played → Type 0
+PaidStands yard t = (cause : Cause) → t.paid ≡ Some cause → stands yard t.line.node cause ≡ true
+
+-- a count of faults goes no further than its type's end
+abbrev pub most_faults : ℕ
+most_faults = 18446744073709551615
+
+-- each stands in the yard, and as often as they came they were counted
+pub record FaultsCame (played : List Played) (faults : List Fault) (yard : Shown) : Type 0 where
+  pub stand : AllByRecursion (λ f. stands yard f.node f.cause ≡ true) faults
+  pub paid : AllByRecursion (PaidStands yard) played
+  -- the nodes are those of the disks
+  pub nodes : AllByRecursion (λ f. (1 ≤ f.node) × (f.node ≤ length yard.disks)) faults
+  pub lacks : (cell : ℕ) → counted (lacks_quorum cell) played faults ≤ lacks_of (slice_get yard.cells cell)
+  pub refusals : (cell : ℕ) → min (counted (finds_full cell) played faults) most_faults ≤ faults_of (slice_get yard.cells cell)
+  pub register : min (counted lacks_register played faults) most_faults ≤ yard.register.faults
+  pub stores : (node : ℕ) → min (counted (lacks_store node) played faults) most_faults ≤ disk_faults yard.disks node
+
+-- All of it
+
+pub record RunEnded (played : List Played) (o : Told) (yard : Shown) : Type 0 where
+  pub log : List Entry
+  pub tails : ℕ → ℕ
+  pub faults : List Fault
+  pub ends : ℕ → SessionEnd
+  -- at which node each session's lines are
+  pub home : ℕ → ℕ
+  pub few : length played ≤ 20000
+  pub rows : o.rows ≡ map (λ t. t.row) played
+  pub end : o.end ≡ length log
+  pub ranked : are_ranked [] (map (λ t. t.line) played) ≡ true
+  pub phases : are_in_phase 0 (map (λ t. t.line) played) ≡ true
+  pub at_home : AllByRecursion (λ t. t.line.node ≡ home (session_in t.line.asks)) played
+  pub rise : (phase : ℕ) → tails phase ≤ tails (phase + 1)
+  pub stands : LogStands log o.chain yard.cells
+  -- each command in the log is a line's
+  pub sent : (x : Asked) → Contains (asked_in 0 log) x → IsOfLine played x
+  pub lines : AllAfter (LineEnded log tails faults ends) [] played
+  pub sessions : (s : ℕ) → SessionEnded played faults home s (ends s)
+  pub came : FaultsCame played faults yard
+  pub registered : ChainIsRegistered o yard.register

@@ -1,0 +1,17 @@
+//! Laws of a run that has ended. Each function does nothing: its contract is the law.
+ghost use Rattle.std.specs.Prelude.{◌≡◌, List, map, true};
+ghost use Rattle.fitting_run.specs.declared.told.Told.{Told};
+ghost use Rattle.fitting_run.specs.Yard.{Shown};
+ghost use Rattle.fitting_run.specs.Fits.{Fits};
+ghost use Rattle.fitting_run.specs.Calm.{IsCalm, all_answered};
+ghost use Rattle.run_laws.specs.Ended.{Played, RunEnded};
+
+/// What a run tells fits its script and the yard that it gave back.
+pub fn what_ended_fits()
+    ensures { (played : List Played) (o : Told) (yard : Shown) → RunEnded played o yard → Fits (map (λ t. t.line) played) o yard }
+{}
+
+/// Where no fault was counted, each line has its own answer.
+pub fn a_calm_run_answers_all()
+    ensures { (played : List Played) (o : Told) (yard : Shown) → RunEnded played o yard → IsCalm yard → all_answered o.rows ≡ true }
+{}

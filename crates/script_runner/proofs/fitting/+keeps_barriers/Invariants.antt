@@ -1,5 +1,0 @@
-use Rattle.std.proofs.Common.{length}
-use Rattle.script_runner.proofs.fitting.+keeps_barriers.Given as goal
-
-abbrev pub decreases-keeps_barriers : goal.decreases-keeps_barriers
-decreases-keeps_barriers l = length l.told.now

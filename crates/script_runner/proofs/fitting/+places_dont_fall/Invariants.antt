@@ -1,5 +1,0 @@
-use Rattle.std.proofs.Common.{length}
-use Rattle.script_runner.proofs.fitting.+places_dont_fall.Given as goal
-
-abbrev pub decreases-places_dont_fall : goal.decreases-places_dont_fall
-decreases-places_dont_fall l = length l.told.now
