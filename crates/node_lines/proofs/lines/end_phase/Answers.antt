@@ -1,0 +1,55 @@
+use Rattle.std.proofs.Common.{◌≡◌, refl, sym, ap, ◌∙◌, subst, List, [], ◌∷◌, Some, None}
+use Rattle.delos_types.specs.declared.entry.Entry.{Entry}
+use Rattle.base_engine.specs.Settling.{OutboxView}
+use Rattle.base_engine.specs.Node.{NodeView}
+use Rattle.replica_api.specs.Replica.{ReplicaView}
+use Rattle.node_lines.specs.Moving.{Moves, failure_of}
+use Rattle.node_lines.proofs.Moving.{moves-both}
+use Rattle.node_lines.proofs.Ending.{Ended, ends_at}
+use Rattle.node_lines.proofs.lines.end_phase.Goals as goal
+
+pub returns-in-At : goal.returns-in-At
+returns-in-At g c =
+    let p = g.T.Law.Rules in
+    let old = c.args.node.now in
+    let first = c.pack.new.node in
+    let then' = c.settle.new.node in
+    let new = c.sync.new.node in
+    let found = c.in_ok-sync.ensures.tail c.in-At.field-0 c.in-At.is in
+    let kept = ap (λ (r : ReplicaView). r.kept) c.in_ok-settle.ensures.replica ∙ c.in_ok-pack.ensures.kept in
+    let e : Ended p.may p.floor p.shelf old first then' new c.in-At.field-0 = record {
+      first = c.in_ok-pack.ensures.moves;
+      next = c.in_ok-settle.ensures.moves;
+      none = c.in_ok-settle.ensures.none;
+      kept = kept;
+      last = subst (λ s. Moves p.may p.floor p.shelf then' new (failure_of s)) c.in-At.is c.in_ok-sync.ensures.moves;
+      above = found.0;
+      at = found.1;
+      keeps = c.requires.keeps;
+    } in
+    record {
+      ends = ends_at p.may p.floor p.shelf c.requires.floor old first then' new c.in-At.field-0 e
+          (ap (λ (o : OutboxView). o.entries) c.in_ok-sync.ensures.outbox ∙ c.in_ok-settle.ensures.none)
+          (c.in_ok-sync.ensures.kept ∙ kept);
+      follows = c.in_ok-sync.ensures.follows;
+    }
+
+pub returns-in-Failed : goal.returns-in-Failed
+returns-in-Failed g c =
+    let p = g.T.Law.Rules in
+    let old = c.args.node.now in
+    let first = c.pack.new.node in
+    let then' = c.settle.new.node in
+    let new = c.sync.new.node in
+    let kept = ap (λ (r : ReplicaView). r.kept) c.in_ok-settle.ensures.replica ∙ c.in_ok-pack.ensures.kept in
+    let last : Moves p.may p.floor p.shelf then' new (c.in-Failed.cause ∷ []) = subst (λ s. Moves p.may p.floor p.shelf then' new (failure_of s)) c.in-Failed.is c.in_ok-sync.ensures.moves in
+    record {
+      ends = record {
+        moves = moves-both p.may p.floor p.shelf c.requires.floor old then' new [] (c.in-Failed.cause ∷ [])
+            (moves-both p.may p.floor p.shelf c.requires.floor old first then' [] [] c.in_ok-pack.ensures.moves c.in_ok-settle.ensures.moves) last;
+        none = ap (λ (o : OutboxView). o.entries) c.in_ok-sync.ensures.outbox ∙ c.in_ok-settle.ensures.none;
+        kept = c.in_ok-sync.ensures.kept ∙ kept;
+        acted = λ f. absurd (cc);
+      };
+      follows = c.in_ok-sync.ensures.follows;
+    }

@@ -1,0 +1,4 @@
+pub mod Moving
+pub mod Desks
+pub mod Lines
+pub mod Turns

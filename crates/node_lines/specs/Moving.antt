@@ -1,0 +1,77 @@
+-- What a call of a node keeps of all its sessions, and which faults it came across.
+use Rattle.std.specs.Prelude.{◌≡◌, ℕ, ◌+◌, ◌^◌, ◌-◌, ◌≤◌, min, Bool, true, false, ◌==◌, List, [], ◌∷◌, ◌++◌, length, map, filter_map, count_by, All, Option, Some, None}
+use Rattle.delos_types.specs.declared.entry.Entry.{Entry}
+use Rattle.delos_types.specs.declared.item.Item.{Item}
+use Rattle.delos_types.specs.declared.cause.Cause.{Cause}
+use Rattle.delos_types.specs.declared.cause.Cause.TheVariants as cause
+use Rattle.legal_journal.specs.declared.events.Event.{Event}
+use Rattle.journal_faults.specs.Faults.{faults_in}
+use Rattle.engine_api.specs.Packing.{IsProposable}
+use Rattle.base_engine.specs.declared.outbox.Given.{Given}
+use Rattle.base_engine.specs.Settling.{cause_in}
+use Rattle.base_engine.specs.Node.{NodeView, Keeps}
+use Rattle.node_sessions.specs.UnderWay.{IsGiven}
+use Rattle.node_lines.specs.declared.steps.Synced.{Synced}
+use Rattle.node_lines.specs.declared.steps.Synced.TheVariants as synced
+
+-- Faults
+
+abbrev pub is_store : Cause → Bool
+is_store cause.Store = true
+is_store other = false
+
+-- a count that rose so often, up to its type's end
+abbrev pub Rises : ℕ → ℕ → ℕ → Type 0
+Rises n before after = min (before + n) (2 ^ 64 - 1) ≤ min after (2 ^ 64 - 1)
+
+-- Each of these causes came of its own: those of the log by as many events since old, those of the disk by as many of its faults.
+pub record Spends (old new : List Event) (before after : ℕ) (causes : List Cause) : Type 0 where
+  pub more : List Event
+  pub seen : new ≡ old ++ more
+  pub events : (P : Cause → Bool) → P cause.Store ≡ false → count_by P causes ≤ count_by P (faults_in more)
+  pub disk : Rises (count_by is_store causes) before after
+
+-- A node's calls
+
+-- what waits can be packed
+pub record CanPack (kept : List Item) : Type 0 where
+  pub each : All IsProposable kept
+  pub few : length kept ≤ 15
+
+-- the causes that were given since, and others that these calls came across
+abbrev pub causes_of : List Given → List Cause → List Cause
+causes_of given others = map (λ g. g.cause) given ++ others
+
+-- the cause of a sync that failed
+abbrev pub failure_of : Synced → List Cause
+failure_of (synced.At tail) = []
+failure_of (synced.Failed c) = c ∷ []
+
+-- what a node's call keeps, whatever it does: each cause that it gives, or answers, came of its own
+pub record Goes (may : ℕ → Entry → Type 0) (floor : List Entry → ℕ) (shelf : List ℕ) (old new : NodeView) (others : List Cause) : Type 0 where
+  pub keeps : Keeps may floor shelf old new
+  pub given : List Given
+  pub gained : new.outbox.given ≡ old.outbox.given ++ given
+  pub spends : Spends old.seen new.seen old.replica.faults new.replica.faults (causes_of given others)
+  pub packs : CanPack old.replica.kept → CanPack new.replica.kept
+
+-- the commands of session s that were given are so still, where it has no cause
+abbrev pub StaysGiven : NodeView → NodeView → ℕ → Type 0
+StaysGiven old new s =
+    (sent : ℕ) → cause_in s new.outbox.given ≡ None → IsGiven old.seen old.outbox.entries old.replica.kept s sent → IsGiven new.seen new.outbox.entries new.replica.kept s sent
+
+-- .. and one more
+abbrev pub GainsNext : NodeView → NodeView → ℕ → ℕ → Type 0
+GainsNext old new s sent =
+    cause_in s new.outbox.given ≡ None → IsGiven old.seen old.outbox.entries old.replica.kept s sent → IsGiven new.seen new.outbox.entries new.replica.kept s (sent + 1)
+
+-- of no session a command goes down
+pub record Moves (may : ℕ → Entry → Type 0) (floor : List Entry → ℕ) (shelf : List ℕ) (old new : NodeView) (others : List Cause) : Type 0 where
+  pub goes : Goes may floor shelf old new others
+  pub stays : (s : ℕ) → StaysGiven old new s
+
+-- of session s the next command after so many goes down
+pub record HandsIn (may : ℕ → Entry → Type 0) (floor : List Entry → ℕ) (shelf : List ℕ) (old new : NodeView) (s sent : ℕ) : Type 0 where
+  pub goes : Goes may floor shelf old new []
+  pub own : GainsNext old new s sent
+  pub stays : (t : ℕ) → (s == t) ≡ false → StaysGiven old new t

@@ -1,0 +1,93 @@
+//! A phase ends at a node: what its sessions were answered, and which of them are stopped.
+ghost use Rattle.std.specs.Prelude.{◌≡◌, ◌<◌, ◌≤◌, ◌+◌, ℕ, List, length, Some, None, IfOk, OnOk, slice_get};
+ghost use Rattle.delos_types.specs.Spaces.{SpaceMap};
+ghost use Rattle.delos_types.specs.declared.entry.Entry.{Entry};
+ghost use Rattle.legal_journal.specs.Journal.{IsLegal};
+ghost use Rattle.virtual_log.specs.Holding.{Holds};
+ghost use Rattle.engine_laws.specs.State.{IsStateOf};
+ghost use Rattle.base_engine.specs.Following.{Follows};
+ghost use Rattle.node_sessions.specs.Desks.{InFront};
+ghost use Rattle.node_sessions.specs.declared.desk.Desk.{Desk};
+ghost use Rattle.node_lines.specs.Moving.{CanPack};
+ghost use Rattle.node_lines.specs.Desks.{DeskOk, DesksOk, IsBound, AreBound, KeepsFrom};
+ghost use Rattle.node_lines.specs.Lines.{IsFree, HasActedTo};
+ghost use Rattle.node_lines.specs.Turns.{ClosesIt, ClosesAll, EndsTurn};
+
+use crate::lines::{close, end_phase};
+use base_engine::node::Node;
+use delos_types::cause::Cause;
+use fate_words::chooser::Chooser;
+use legal_journal::rules::Rules;
+use legal_journal::turns::Turns;
+use node_sessions::desk::Desk;
+use replica_api::replica::Replica;
+use std::alloc::AllocError;
+use virtual_log::log::VirtualLog;
+
+/// Closes the desk of a session that asked something.
+fn close_it<T: Turns, C: Chooser, R: Replica>(
+    node: &Node<VirtualLog<T, C>, R>,
+    desk: &mut Desk,
+    failed: Option<Cause>,
+) -> Result<(), AllocError>
+    requires floor { (log : List Entry) → T.Law.floor log ≤ length log }
+    requires state { (log : List Entry) (m : SpaceMap) → R.state log m → IsStateOf log m }
+    requires legal { IsLegal T.Law.may T.Law.floor T.Law.shelf node.now.seen }
+    requires follows { Follows Holds R.state R.spells node.now.seen node.now.replica }
+    requires desk { DeskOk node.now desk.old.session desk.old }
+    requires bound { 0 < desk.old.asked → IsBound T.Law.may desk.old.session desk.old.sent }
+    requires found { failed ≡ None → IsFree node.now desk.old → InFront node.now.seen node.now.replica.cursor (HasActedTo desk.old.session desk.old.sent) }
+    ensures desk { OnOk result (DeskOk node.now desk.old.session desk.new) }
+    ensures closes { OnOk result (ClosesIt node.now failed desk.old desk.new) }
+{
+    if desk.asked == 0 {
+        return Ok(());
+    }
+    match close(node, desk, failed) {
+        Ok(()) => return Ok(()),
+        Err(fault) => return Err(fault),
+    }
+}
+
+/// Closes all desks.
+fn close_all<T: Turns, C: Chooser, R: Replica>(
+    node: &Node<VirtualLog<T, C>, R>,
+    desks: &mut [Desk],
+    failed: Option<Cause>,
+) -> Result<(), AllocError>
+    requires floor { (log : List Entry) → T.Law.floor log ≤ length log }
+    requires state { (log : List Entry) (m : SpaceMap) → R.state log m → IsStateOf log m }
+    requires legal { IsLegal T.Law.may T.Law.floor T.Law.shelf node.now.seen }
+    requires follows { Follows Holds R.state R.spells node.now.seen node.now.replica }
+    requires desks { DesksOk node.now desks.old }
+    requires bound { AreBound T.Law.may desks.old }
+    requires found { failed ≡ None → (s : ℕ) (d : Desk) → slice_get desks.old s ≡ Some d → IsFree node.now d → InFront node.now.seen node.now.replica.cursor (HasActedTo s d.sent) }
+    ensures desks { OnOk result (DesksOk node.now desks.new) }
+    ensures closes { OnOk result (ClosesAll node.now failed desks.old desks.new) }
+{
+    for desk in desks.iter_mut() {
+        close_it(node, desk, failed)?;
+    }
+    Ok(())
+}
+
+/// Ends a phase at a node, whose sessions' desks are numbered from 0. All is packed, carried to its end and played; the
+/// answers of each session are taken, and those that lack one are stopped. Answers why no tail was found, if none was.
+pub fn end_turn<T: Turns, C: Chooser, R: Replica>(
+    node: &mut Node<VirtualLog<T, C>, R>,
+    desks: &mut [Desk],
+) -> Result<Option<Cause>, AllocError>
+    requires floor { (log : List Entry) → T.Law.floor log ≤ length log }
+    requires state { (log : List Entry) (m : SpaceMap) → R.state log m → IsStateOf log m }
+    requires legal { IsLegal T.Law.may T.Law.floor T.Law.shelf node.old.seen }
+    requires kept { CanPack node.old.replica.kept }
+    requires keeps { KeepsFrom T.Law.may T.Law.floor T.Law.shelf node.old.replica.cursor }
+    requires desks { DesksOk node.old desks.old }
+    requires bound { AreBound T.Law.may desks.old }
+    ensures ends { IfOk result (EndsTurn T.Law.may T.Law.floor T.Law.shelf node.old node.new desks.old desks.new) }
+{
+    let failed = end_phase(node)?;
+    close_all(node, desks, failed)?;
+    node.next_phase();
+    Ok(failed)
+}
