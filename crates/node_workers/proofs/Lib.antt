@@ -1,0 +1,4 @@
+pub mod Joining
+pub mod Widening
+pub mod Working
+pub mod Logging

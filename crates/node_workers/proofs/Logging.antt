@@ -1,0 +1,138 @@
+-- A command is asked at a session's desk.
+use Rattle.std.proofs.Common.{◌≡◌, ◌≢◌, refl, sym, ap, ◌∙◌, subst, ◌⊎◌, inl, inr, ⊎_elim, ℕ, ◌+◌, ◌<◌, ◌≤◌, Bool, true, false, List, [], ◌∷◌, ◌++◌, Option, Some, None, length, arith, append_assoc}
+use Rattle.std.specs.Prelude.{slice_get, slice_set, ◌==◌}
+use Rattle.std.proofs.lemmas.Bool.Decides.{nat_tests}
+use Rattle.std.proofs.lemmas.List.{length-set}
+use Rattle.delos_types.specs.Spaces.{SpaceMap}
+use Rattle.delos_types.specs.declared.entry.Entry.{Entry}
+use Rattle.delos_types.specs.declared.cause.Cause.{Cause}
+use Rattle.legal_journal.specs.declared.events.Event.{Event}
+use Rattle.replica_api.specs.Replica.{Saved}
+use Rattle.fabric_core.proofs.Marks.{set_other, set_same}
+use Rattle.base_engine.specs.Settling.{cause_in}
+use Rattle.base_engine.specs.Node.{NodeView}
+use Rattle.node_sessions.specs.declared.desk.Desk.{Desk}
+use Rattle.one_thread.specs.Alone.{AreOwn, Since}
+use Rattle.one_thread.specs.Seats.{SeatView, SeatOk, node_of}
+use Rattle.node_lines.specs.Moving.{Goes, StaysGiven, Moves, HandsIn}
+use Rattle.node_lines.specs.Desks.{DeskOk, DesksOk}
+use Rattle.node_lines.specs.Lines.{IsFree, Readies}
+use Rattle.node_lines.proofs.Moving.{goes-both, stays-both, none-before}
+use Rattle.node_lines.proofs.Desks.{desk_goes}
+use Rattle.node_lines.proofs.Turning.{same_at}
+use Rattle.node_workers.specs.Workers.{Within, WorkerOk, MayRun, LogsIt, Logs, sent_of}
+use Rattle.node_workers.proofs.Widening.{within-more, goes_wider}
+
+own-append : (who : ℕ) (xs ys : List Event) → AreOwn who xs → AreOwn who ys → AreOwn who (xs ++ ys)
+own-append who [] ys h k = k
+own-append who (x ∷ xs) ys h k = (h.0, own-append who xs ys h.1 k)
+
+-- one scope after another
+pub since-both : (who : ℕ) (a b c : List Event) → Since who a b → Since who b c → Since who a c
+since-both who a b c h k = record {
+  more = h.more ++ k.more;
+  seen = k.seen ∙ ap (λ l. l ++ k.more) h.seen ∙ append_assoc a h.more k.more;
+  own = own-append who h.more k.more h.own k.own;
+}
+
+-- counts that differ in one session alone
+pub record OneMore (counts counts' : List ℕ) (s : ℕ) : Type 0 where
+  pub own : sent_of counts' s ≡ sent_of counts s + 1
+  pub others : (t : ℕ) → (s == t) ≡ false → sent_of counts' t ≡ sent_of counts t
+
+pub counts-rise : (counts counts' : List ℕ) (s : ℕ) → OneMore counts counts' s → (t : ℕ) → sent_of counts t ≤ sent_of counts' t
+counts-rise counts counts' s h t = by (s == t) refl
+  where
+    here : (s t : ℕ) → (s == t) ≡ true → s ≡ t
+    here s t e = grind (arith, nat_tests, e)
+
+    by : (b : Bool) → (s == t) ≡ b → sent_of counts t ≤ sent_of counts' t
+    by true e = let same = here s t e in subst (λ k. sent_of counts k ≤ sent_of counts' k) same (omega (arith, h.own))
+    by false e = omega (arith, h.others t e)
+
+module _ (may : ℕ → Entry → Type 0) (floor : List Entry → ℕ) (shelf : List ℕ) (low : (log : List Entry) → floor log ≤ length log) where
+  still : (was d : Desk) (others : List Cause) → d ≡ record was { answers = d.answers; stopped = d.stopped } → ((others ≡ []) × (d.stopped ≡ was.stopped)) ⊎ ((c : Cause) × (others ≡ c ∷ []) × (was.stopped ≡ None) × (d.stopped ≡ Some c)) → (c : Cause) → was.stopped ≡ Some c → d.stopped ≡ Some c
+  still was d others is (inl k) c e = k.1 ∙ e
+  still was d others is (inr k) c e = absurd (let t : Some c ≡ None = sym e ∙ k.2 in cc)
+
+  -- a command that isn't handed in
+  pub kept_desk : (n : NodeView) (s : ℕ) (d : Desk) → DeskOk n s d → (IsFree n d → ⊥) → DeskOk n s (record d { asked = d.asked + 1 })
+  kept_desk n s d ok held = record {
+    session = ok.session;
+    known = ok.known;
+    few = omega (arith, ok.few);
+    near = ok.near;
+    acted = ok.acted;
+    ended = ok.ended;
+    given = λ free none. absurd (held (free, subst (λ q. cause_in q n.outbox.given ≡ None) (sym ok.session) none));
+  }
+
+  pub kept_logs : (counts : List ℕ) (old new : NodeView) (s : ℕ) (was d : Desk) → Readies (Within may counts) floor shelf old new was d false → was.sent ≡ sent_of counts s
+      → LogsIt may floor shelf counts counts old new s was (record d { asked = d.asked + 1 })
+  kept_logs counts old new s was d r sent = record {
+    others = r.others;
+    goes = r.moves.goes;
+    stays = λ t apart. r.moves.stays t;
+    asked = ap (λ (x : Desk). x.asked + 1) r.desk;
+    sent = ap (λ (x : Desk). x.sent) r.desk ∙ sent;
+    session = ap (λ (x : Desk). x.session) r.desk;
+    answered = ap (λ (x : Desk). x.answered) r.desk;
+    stopped = still was d r.others r.desk r.stops;
+    counted = λ t apart. refl;
+    more = omega arith;
+    most = omega arith;
+  }
+
+  -- a command that is handed in
+  pub handed_logs : (counts counts' : List ℕ) (old mid new : NodeView) (s : ℕ) (was d is : Desk) → OneMore counts counts' s → Readies (Within may counts) floor shelf old mid was d true → HandsIn (Within may counts') floor shelf mid new s d.sent
+      → was.sent ≡ sent_of counts s → is ≡ record d { asked = d.asked + 1; sent = d.sent + 1; answers = is.answers } → LogsIt may floor shelf counts counts' old new s was is
+  handed_logs counts counts' old mid new s was d is one r h sent is_it =
+      let first = goes_wider (Within may counts) (Within may counts') floor shelf (λ who e. within-more may counts counts' (counts-rise counts counts' s one) who e) old mid r.others r.moves.goes in
+      let own : d.sent ≡ was.sent = ap (λ (x : Desk). x.sent) r.desk in
+      let next : is.sent ≡ d.sent + 1 = ap (λ (x : Desk). x.sent) is_it in
+      record {
+        others = r.others ++ [];
+        goes = goes-both (Within may counts') floor shelf low old mid new r.others [] first h.goes;
+        stays = λ t apart. stays-both (Within may counts') floor shelf low old mid new [] t h.goes (r.moves.stays t) (h.stays t apart);
+        asked = ap (λ (x : Desk). x.asked) is_it ∙ ap (λ (x : Desk). x.asked + 1) r.desk;
+        sent = omega (arith, next, own, sent, one.own);
+        session = ap (λ (x : Desk). x.session) is_it ∙ ap (λ (x : Desk). x.session) r.desk;
+        answered = ap (λ (x : Desk). x.answered) is_it ∙ ap (λ (x : Desk). x.answered) r.desk;
+        stopped = λ c e. ap (λ (x : Desk). x.stopped) is_it ∙ still was d r.others r.desk r.stops c e;
+        counted = one.others;
+        more = omega (arith, one.own);
+        most = omega (arith, one.own);
+      }
+
+  -- the worker then
+  pub worker_logs : (state : List Entry → SpaceMap → Type 0) (spells : List ℕ → Saved → Type 0) (who : ℕ) (counts counts' : List ℕ) (old new : List Event) (a b : SeatView) (desks : List Desk) (s : ℕ) (was is : Desk)
+      → WorkerOk may floor shelf state spells who counts old a desks → SeatOk (Within may counts') floor shelf state spells new b → slice_get desks s ≡ Some was → DeskOk (node_of b new) s is
+      → LogsIt may floor shelf counts counts' (node_of a old) (node_of b new) s was is → WorkerOk may floor shelf state spells who counts' new b (slice_set desks s is)
+  worker_logs state spells who counts counts' old new a b desks s was is h ok at fine l = record {
+    who_is = l.goes.keeps.who ∙ h.who_is;
+    origin = l.goes.keeps.origin ∙ h.origin;
+    ok = ok;
+    packs = l.goes.packs h.packs;
+    size = length-set desks s is ∙ h.size;
+    each = λ t d g. each_is t d g (s == t) refl;
+    counted = λ t d g some. counted_is t d g some (s == t) refl;
+  }
+    where
+      here : (s t : ℕ) → (s == t) ≡ true → t ≡ s
+      here s t e = grind (arith, nat_tests, e)
+
+      apart : (s t : ℕ) → (s == t) ≡ false → t ≢ s
+      apart s t e = grind (arith, nat_tests, e)
+
+      is_here : (t : ℕ) (d : Desk) → slice_get (slice_set desks s is) t ≡ Some d → (s == t) ≡ true → is ≡ d
+      is_here t d g e = same_at (slice_set desks s is) t is d (ap (slice_get (slice_set desks s is)) (here s t e) ∙ set_same desks s is was at) g
+
+      each_is : (t : ℕ) (d : Desk) → slice_get (slice_set desks s is) t ≡ Some d → (q : Bool) → (s == t) ≡ q → DeskOk (node_of b new) t d
+      each_is t d g true e = subst (λ k. DeskOk (node_of b new) k d) (sym (here s t e)) (subst (DeskOk (node_of b new) s) (is_here t d g e) fine)
+      each_is t d g false e =
+          let old_at = sym (set_other desks s t is (apart s t e)) ∙ g in
+          desk_goes (Within may counts') floor shelf low (node_of a old) (node_of b new) l.others t d l.goes (l.stays t e) (h.each t d old_at)
+
+      counted_is : (t : ℕ) (d : Desk) → slice_get (slice_set desks s is) t ≡ Some d → 0 < d.asked → (q : Bool) → (s == t) ≡ q → d.sent ≡ sent_of counts' t
+      counted_is t d g some true e = ap (λ (x : Desk). x.sent) (sym (is_here t d g e)) ∙ l.sent ∙ ap (sent_of counts') (sym (here s t e))
+      counted_is t d g some false e = h.counted t d (sym (set_other desks s t is (apart s t e)) ∙ g) some ∙ sym (l.counted t e)

@@ -1,0 +1,7 @@
+use Rattle.std.proofs.Common.{sym, subst}
+use Rattle.base_engine.specs.Node.{NodeView}
+use Rattle.node_lines.specs.Desks.{DesksOk, KeepsFrom}
+use Rattle.node_workers.proofs.within.look_within.Goals as goal
+
+pub look-answer-requires-clause-keeps : goal.look-answer-requires-clause-keeps
+look-answer-requires-clause-keeps g c = subst (λ (n : NodeView). KeepsFrom g.Q.Scope.sends g.K.Terms.floor g.K.Terms.shelf n.replica.cursor) (sym c.wake-node.ensures) c.requires.keeps

@@ -1,0 +1,64 @@
+-- What holds of a node with its sessions between two of its turns.
+use Rattle.std.specs.Prelude.{◌≡◌, ℕ, ◌+◌, ◌<◌, ◌≤◌, ◌==◌, false, List, [], ◌∷◌, ◌++◌, length, get_or, Option, Some, None, slice_get, slice_set}
+use Rattle.delos_types.specs.Spaces.{SpaceMap}
+use Rattle.delos_types.specs.declared.entry.Entry.{Entry}
+use Rattle.delos_types.specs.declared.cause.Cause.{Cause}
+use Rattle.table_core.specs.declared.command.Command.{Command}
+use Rattle.legal_journal.specs.declared.events.Event.{Event}
+use Rattle.legal_journal.specs.Journal.{IsLegal}
+use Rattle.engine_api.specs.Packing.{packed, session_item}
+use Rattle.replica_api.specs.Replica.{Saved}
+use Rattle.base_engine.specs.Node.{NodeView}
+use Rattle.node_sessions.specs.declared.desk.Desk.{Desk}
+use Rattle.node_sessions.specs.UnderWay.{HasRank}
+use Rattle.one_thread.specs.Alone.{Since}
+use Rattle.one_thread.specs.Seats.{SeatView, SeatOk, node_of}
+use Rattle.node_lines.specs.Moving.{CanPack, Goes, StaysGiven}
+use Rattle.node_lines.specs.Desks.{DesksOk, MayJoin, KeepsFrom}
+
+-- how many commands of a session were sent, by this list of counts
+abbrev pub sent_of : List ℕ → ℕ → ℕ
+sent_of counts s = get_or counts s 0
+
+-- who may append what, of which no rank is above those that were sent
+abbrev pub Within : (ℕ → Entry → Type 0) → List ℕ → ℕ → Entry → Type 0
+Within may counts who e = may who e × ((s r : ℕ) → HasRank s r e → r ≤ sent_of counts s)
+
+-- A node and its sessions, by whom its events are. Of the sessions that asked something here the counts have what was sent.
+pub record WorkerOk (may : ℕ → Entry → Type 0) (floor : List Entry → ℕ) (shelf : List ℕ) (state : List Entry → SpaceMap → Type 0) (spells : List ℕ → Saved → Type 0) (who : ℕ) (counts : List ℕ) (journal : List Event) (seat : SeatView) (desks : List Desk) : Type 0 where
+  pub who_is : seat.who ≡ who
+  pub origin : seat.node.replica.origin ≡ who
+  pub ok : SeatOk (Within may counts) floor shelf state spells journal seat
+  pub packs : CanPack seat.node.replica.kept
+  pub size : length desks ≡ 64
+  pub each : DesksOk (node_of seat journal) desks
+  pub counted : (s : ℕ) (d : Desk) → slice_get desks s ≡ Some d → 0 < d.asked → d.sent ≡ sent_of counts s
+
+-- what the rules of a run allow: items may be packed together, and nothing is trimmed that a node hasn't applied
+pub record MayRun (may : ℕ → Entry → Type 0) (floor : List Entry → ℕ) (shelf : List ℕ) : Type 0 where
+  pub low : (log : List Entry) → floor log ≤ length log
+  pub join : (who : ℕ) → MayJoin may who who
+  pub keeps : KeepsFrom may floor shelf 0
+
+-- The session's command was asked, and sent where the counts say so. Of no other session a command is lost; each fault that the
+-- node came across came of its own.
+pub record LogsIt (may : ℕ → Entry → Type 0) (floor : List Entry → ℕ) (shelf : List ℕ) (counts counts' : List ℕ) (old new : NodeView) (s : ℕ) (was is : Desk) : Type 0 where
+  pub others : List Cause
+  pub goes : Goes (Within may counts') floor shelf old new others
+  pub stays : (t : ℕ) → (s == t) ≡ false → StaysGiven old new t
+  pub asked : is.asked ≡ was.asked + 1
+  pub sent : is.sent ≡ sent_of counts' s
+  pub session : is.session ≡ was.session
+  pub answered : is.answered ≡ was.answered
+  pub stopped : (c : Cause) → was.stopped ≡ Some c → is.stopped ≡ Some c
+  pub counted : (t : ℕ) → (s == t) ≡ false → sent_of counts' t ≡ sent_of counts t
+  pub more : sent_of counts s ≤ sent_of counts' s
+  pub most : sent_of counts' s ≤ sent_of counts s + 1
+
+-- so it is of a worker
+pub record Logs (may : ℕ → Entry → Type 0) (floor : List Entry → ℕ) (shelf : List ℕ) (counts counts' : List ℕ) (old new : NodeView) (s : ℕ) (was is : List Desk) : Type 0 where
+  pub before : Desk
+  pub was_at : slice_get was s ≡ Some before
+  pub after : Desk
+  pub is_at : is ≡ slice_set was s after
+  pub logs : LogsIt may floor shelf counts counts' old new s before after

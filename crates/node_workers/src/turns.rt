@@ -1,0 +1,256 @@
+//! What a worker does by the rules of a run. Each call has scopes of its own, within which no rank is appended above those
+//! that were sent.
+ghost use Rattle.std.specs.Prelude.{◌≡◌, ◌<◌, ◌≤◌, ◌+◌, ◌^◌, ℕ, List, [], ◌∷◌, length, Some, None, IfOk, OnOk, slice_get, ◌==◌, false};
+ghost use Rattle.delos_types.specs.Spaces.{SpaceMap};
+ghost use Rattle.delos_types.specs.declared.entry.Entry.{Entry};
+ghost use Rattle.table_core.specs.Spelling.{IsSpellable, command_length};
+ghost use Rattle.engine_api.specs.Packing.{packed, session_item};
+ghost use Rattle.engine_laws.specs.State.{IsStateOf};
+ghost use Rattle.node_sessions.specs.declared.desk.Desk.{Desk};
+ghost use Rattle.one_thread.specs.Alone.{Since};
+ghost use Rattle.one_thread.specs.Seats.{SeatOk, node_of};
+ghost use Rattle.node_lines.specs.Moving.{CanPack};
+ghost use Rattle.node_lines.specs.Desks.{DeskOk};
+ghost use Rattle.node_lines.specs.Lines.{Looks};
+ghost use Rattle.node_lines.specs.Turns.{EndsTurn};
+ghost use Rattle.node_workers.specs.Workers.{WorkerOk, MayRun, LogsIt, Logs, Within, sent_of};
+
+use crate::within::{Back, end_within, log_within, look_within, ready_within};
+use crate::worker::Worker;
+use delos_types::cause::Cause;
+use delos_types::numbers::SessionId;
+use fabric_core::fabric::Fabric;
+use fate_words::chooser::Chooser;
+use loglet_api::loglet::Loglet;
+use node_lines::lines::Looked;
+use node_sessions::desk::Desk;
+use one_thread::seat::Seat;
+use one_thread::terms::{By, Terms};
+use register_api::Register;
+use replica_api::replica::Replica;
+use std::alloc::{AllocError, Global};
+use std::marker::Brand;
+use table_core::command::{Command, Query};
+
+/// What a worker's turn gives back, with whatever it came to.
+pub struct Returned<L: Loglet, R: Register, K: Terms, S: Replica, C: Chooser, A> {
+    pub worker: Worker<S, C>,
+    pub fabric: Fabric<L, R, By<K>>,
+    pub answer: Result<A, AllocError>,
+}
+
+/// A command was asked for that isn't handed in.
+fn keep(desk: &mut Desk)
+    requires { desk.old.asked < 20000 }
+    ensures { desk.new ≡ record desk.old { asked = desk.old.asked + 1 } }
+{
+    desk.asked += 1;
+}
+
+/// One more command of a session is sent.
+fn count(counts: &mut [u64; 64], session: SessionId)
+    requires { sent_of counts.old session < 20000 }
+    ensures own { sent_of counts.new session ≡ sent_of counts.old session + 1 }
+    ensures others { (t : ℕ) → (session == t) ≡ false → sent_of counts.new t ≡ sent_of counts.old t }
+{
+    counts[usize::from(session.number())] += 1;
+}
+
+/// The session's command is asked, at its desk. Where the session has no cause, the command is handed in.
+fn log_at<L: Loglet, R: Register, K: Terms, S: Replica, C: Chooser>(
+    alloc: Global,
+    fabric: Fabric<L, R, By<K>>,
+    seat: Seat<S, C>,
+    desk: &mut Desk,
+    counts: &mut [u64; 64],
+    session: SessionId,
+    command: &Command,
+) -> Back<L, R, K, S, C, ()>
+    requires run { MayRun K.may K.floor K.shelf }
+    requires state { (log : List Entry) (m : SpaceMap) → S.state log m → IsStateOf log m }
+    requires seat { SeatOk (Within K.may counts.old) K.floor K.shelf S.state S.spells fabric.journal seat }
+    requires origin { seat.node.replica.origin ≡ seat.who }
+    requires kept { CanPack seat.node.replica.kept }
+    requires desk { DeskOk (node_of seat fabric.journal) session desk.old }
+    requires sent { desk.old.sent ≡ sent_of counts.old session }
+    requires few { desk.old.asked < 20000 }
+    requires spelled { IsSpellable command.now }
+    requires short { command_length command.now ≤ 984 }
+    requires own { K.may seat.who (packed seat.who (session_item session (desk.old.asked + 1) command.now ∷ [])) }
+    ensures since { OnOk result.answer (Since seat.who fabric.journal result.fabric.journal) }
+    ensures seat { OnOk result.answer (SeatOk (Within K.may counts.new) K.floor K.shelf S.state S.spells result.fabric.journal result.seat) }
+    ensures desk { OnOk result.answer (DeskOk (node_of result.seat result.fabric.journal) session desk.new) }
+    ensures logs { OnOk result.answer (LogsIt K.may K.floor K.shelf counts.old counts.new (node_of seat fabric.journal) (node_of result.seat result.fabric.journal) session desk.old desk.new) }
+{
+    let Back {
+        seat,
+        fabric,
+        answer,
+    } = ready_within::<L, R, K, Brand, S, C>(fabric, seat, desk, counts);
+    let ready = match answer {
+        Ok(ready) => ready,
+        Err(fault) => {
+            return Back {
+                seat,
+                fabric,
+                answer: Err(fault),
+            };
+        }
+    };
+    if !ready {
+        keep(desk);
+        return Back {
+            seat,
+            fabric,
+            answer: Ok(()),
+        };
+    }
+    count(counts, session);
+    let Back {
+        seat,
+        fabric,
+        answer,
+    } = log_within::<L, R, K, Brand, S, C>(alloc, fabric, seat, desk, command, counts);
+    match answer {
+        Ok(()) => {
+            return Back {
+                seat,
+                fabric,
+                answer: Ok(()),
+            };
+        }
+        Err(fault) => {
+            return Back {
+                seat,
+                fabric,
+                answer: Err(fault),
+            };
+        }
+    }
+}
+
+/// A line of a session that logs a command. Where the session has no cause, the command is handed in.
+pub fn log_line<L: Loglet, R: Register, K: Terms, S: Replica, C: Chooser>(
+    alloc: Global,
+    fabric: Fabric<L, R, By<K>>,
+    worker: Worker<S, C>,
+    counts: &mut [u64; 64],
+    session: SessionId,
+    command: &Command,
+) -> Returned<L, R, K, S, C, ()>
+    requires run { MayRun K.may K.floor K.shelf }
+    requires state { (log : List Entry) (m : SpaceMap) → S.state log m → IsStateOf log m }
+    requires worker { WorkerOk K.may K.floor K.shelf S.state S.spells worker.seat.who counts.old fabric.journal worker.seat worker.desks.items }
+    requires here { (d : Desk) → slice_get worker.desks.items session ≡ Some d → (d.sent ≡ sent_of counts.old session) × (d.asked < 20000) }
+    requires spelled { IsSpellable command.now }
+    requires short { command_length command.now ≤ 984 }
+    requires own { (d : Desk) → slice_get worker.desks.items session ≡ Some d → K.may worker.seat.who (packed worker.seat.who (session_item session (d.asked + 1) command.now ∷ [])) }
+    ensures since { OnOk result.answer (Since worker.seat.who fabric.journal result.fabric.journal) }
+    ensures worker { OnOk result.answer (WorkerOk K.may K.floor K.shelf S.state S.spells worker.seat.who counts.new result.fabric.journal result.worker.seat result.worker.desks.items) }
+    ensures logs { OnOk result.answer (Logs K.may K.floor K.shelf counts.old counts.new (node_of worker.seat fabric.journal) (node_of result.worker.seat result.fabric.journal) session worker.desks.items result.worker.desks.items) }
+{
+    let i = usize::from(session.number());
+    let Worker { seat, desks } = worker;
+    let mut desks = desks;
+    let Back {
+        seat,
+        fabric,
+        answer,
+    } = log_at(alloc, fabric, seat, &mut desks[i], counts, session, command);
+    match answer {
+        Ok(()) => {
+            return Returned {
+                worker: Worker { seat, desks },
+                fabric,
+                answer: Ok(()),
+            };
+        }
+        Err(fault) => {
+            return Returned {
+                worker: Worker { seat, desks },
+                fabric,
+                answer: Err(fault),
+            };
+        }
+    }
+}
+
+/// A line of a session that reads the table.
+pub fn look_line<L: Loglet, R: Register, K: Terms, S: Replica, C: Chooser>(
+    fabric: Fabric<L, R, By<K>>,
+    worker: Worker<S, C>,
+    counts: &[u64; 64],
+    session: SessionId,
+    query: &Query,
+) -> Returned<L, R, K, S, C, Looked>
+    requires run { MayRun K.may K.floor K.shelf }
+    requires state { (log : List Entry) (m : SpaceMap) → S.state log m → IsStateOf log m }
+    requires worker { WorkerOk K.may K.floor K.shelf S.state S.spells worker.seat.who counts.now fabric.journal worker.seat worker.desks.items }
+    requires here { (d : Desk) → slice_get worker.desks.items session ≡ Some d → d.sent ≡ sent_of counts.now session }
+    ensures desks { result.worker.desks ≡ worker.desks }
+    ensures since { IfOk result.answer (λ l. Since worker.seat.who fabric.journal result.fabric.journal) }
+    ensures worker { IfOk result.answer (λ l. WorkerOk K.may K.floor K.shelf S.state S.spells worker.seat.who counts.now result.fabric.journal result.worker.seat result.worker.desks.items) }
+    ensures looks { IfOk result.answer (λ l. (d : Desk) → slice_get worker.desks.items session ≡ Some d → Looks (Within K.may counts.now) K.floor K.shelf (node_of worker.seat fabric.journal) (node_of result.worker.seat result.fabric.journal) d query.now l) }
+{
+    let i = usize::from(session.number());
+    let Worker { seat, desks } = worker;
+    let Back {
+        seat,
+        fabric,
+        answer,
+    } = look_within::<L, R, K, Brand, S, C>(fabric, seat, &desks[i], query, counts);
+    match answer {
+        Ok(looked) => {
+            return Returned {
+                worker: Worker { seat, desks },
+                fabric,
+                answer: Ok(looked),
+            };
+        }
+        Err(fault) => {
+            return Returned {
+                worker: Worker { seat, desks },
+                fabric,
+                answer: Err(fault),
+            };
+        }
+    }
+}
+
+/// A phase ends at the worker's node. Answers why no tail was found, if none was.
+pub fn end_phase<L: Loglet, R: Register, K: Terms, S: Replica, C: Chooser>(
+    fabric: Fabric<L, R, By<K>>,
+    worker: Worker<S, C>,
+    counts: &[u64; 64],
+) -> Returned<L, R, K, S, C, Option<Cause>>
+    requires run { MayRun K.may K.floor K.shelf }
+    requires state { (log : List Entry) (m : SpaceMap) → S.state log m → IsStateOf log m }
+    requires worker { WorkerOk K.may K.floor K.shelf S.state S.spells worker.seat.who counts.now fabric.journal worker.seat worker.desks.items }
+    ensures since { IfOk result.answer (λ f. Since worker.seat.who fabric.journal result.fabric.journal) }
+    ensures worker { IfOk result.answer (λ f. WorkerOk K.may K.floor K.shelf S.state S.spells worker.seat.who counts.now result.fabric.journal result.worker.seat result.worker.desks.items) }
+    ensures ends { IfOk result.answer (EndsTurn (Within K.may counts.now) K.floor K.shelf (node_of worker.seat fabric.journal) (node_of result.worker.seat result.fabric.journal) worker.desks.items result.worker.desks.items) }
+{
+    let Worker { seat, desks } = worker;
+    let mut desks = desks;
+    let Back {
+        seat,
+        fabric,
+        answer,
+    } = end_within::<L, R, K, Brand, S, C>(fabric, seat, &mut desks, counts);
+    match answer {
+        Ok(failed) => {
+            return Returned {
+                worker: Worker { seat, desks },
+                fabric,
+                answer: Ok(failed),
+            };
+        }
+        Err(fault) => {
+            return Returned {
+                worker: Worker { seat, desks },
+                fabric,
+                answer: Err(fault),
+            };
+        }
+    }
+}
