@@ -109,7 +109,7 @@ module _ (may : ℕ → Entry → Type 0) (floor : List Entry → ℕ) (shelf : 
       rank-in_log s r 0 at.0 log h.entry at.1 h.rank)
 
   -- each rank that appears in a log is one of an entry of it
-  appears_in : (s r pos : ℕ) (es : List Entry) → is_some (first_of (asked_in pos es) s r) ≡ true → (p : ℕ) × (e : Entry) × (slice_get es p ≡ Some e) × HasRank s r e
+  pub appears_in : (s r pos : ℕ) (es : List Entry) → is_some (first_of (asked_in pos es) s r) ≡ true → (p : ℕ) × (e : Entry) × (slice_get es p ≡ Some e) × HasRank s r e
   appears_in s r pos [] h = true_not_false (sym h)
   appears_in s r pos (x ∷ xs) h =
       let parts = sym (is_some-or (first_of (appearances (unpack pos x)) s r) (first_of (asked_in (pos + 1) xs) s r)) ∙ (sym (ap is_some (find-append _ (appearances (unpack pos x)) (asked_in (pos + 1) xs))) ∙ (sym (ap (λ l. is_some (first_of l s r)) (appearances-append (unpack pos x) (unpack_all (pos + 1) xs))) ∙ h)) in
