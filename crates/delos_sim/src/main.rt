@@ -6,20 +6,22 @@ ghost use Rattle.std.specs.Prelude.{◌≡◌, IfOk, Some, map, string_bytes};
 ghost use Rattle.script_words.specs.Plans.{plan_of};
 ghost use Rattle.script_words.specs.declared.plan.Plan.{Plan};
 
-use file_loglet::memory as file;
-use native_loglet::memory as native;
 use outside_ends::standard::{StdSink, StdSource};
 use script_runner::ended::{Ended, Status};
 use script_runner::run::run;
 use script_runner::yard::Yard;
 use script_words::plan::{WordsError, read_words};
 use script_words::shelf::Kind;
+use shelf_loglets::shelf::{Rooms, loglet_of};
 use std::alloc::{AllocError, Global};
 use std::env;
 use std::process::ExitCode;
 
-/// How many entries a loglet of the shelf takes: 2^32.
-const ROOM: u64 = 0x1_0000_0000;
+/// How many entries a loglet of the shelf takes: 2^32, and each native loglet of a striped one 2^28.
+const ROOMS: Rooms = Rooms {
+    single: 0x1_0000_0000,
+    inner: 0x1000_0000,
+};
 
 /// The words of the command line, without the program's name. Where one of them is no text, an
 /// empty word stands for them all, which no command takes.
@@ -54,13 +56,8 @@ fn run_script(rt: &HostRuntime) -> Result<Status, AllocError> {
     let kinds = kinds_of(alloc, words.as_slice())?;
     let mut yard = Yard::new(alloc);
     for kind in &kinds {
-        yard = match kind {
-            Kind::File => yard.with(Box::new(alloc, file::in_memory(alloc, ROOM)?)?)?,
-            Kind::Native1 => yard.with(Box::new(alloc, native::in_memory(alloc, 1, ROOM)?)?)?,
-            Kind::Native3 => yard.with(Box::new(alloc, native::in_memory(alloc, 3, ROOM)?)?)?,
-            Kind::Native5 => yard.with(Box::new(alloc, native::in_memory(alloc, 5, ROOM)?)?)?,
-            Kind::Native7 => yard.with(Box::new(alloc, native::in_memory(alloc, 7, ROOM)?)?)?,
-        };
+        let loglet = loglet_of(alloc, *kind, ROOMS)?;
+        yard = yard.with(Box::new(alloc, loglet)?)?;
     }
     let mut source = StdSource::new(rt.stdin());
     let mut sink = StdSink::new(rt.stdout());

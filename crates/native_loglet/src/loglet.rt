@@ -74,6 +74,8 @@ impl<D: Disk> NativeLoglet<D> {
         ensures fresh { IsFresh result.loglet }
         ensures room { result.loglet.room ≡ room }
         ensures kind { result.loglet.kind ≡ Native (length replicas.items) }
+        ensures servers { result.loglet.servers ≡ length replicas.items }
+        ensures rounds { result.loglet.rounds ≡ 7 }
         ensures limit { result.loglet.limit ≡ 2 ^ 62 }
         ensures replicas { result.replicas ≡ replicas.items }
     {

@@ -23,6 +23,8 @@ pub fn in_memory(
     ensures fresh { IfOk result (λ made. IsFresh made.loglet) }
     ensures room { IfOk result (λ made. made.loglet.room ≡ room) }
     ensures kind { IfOk result (λ made. made.loglet.kind ≡ Native servers) }
+    ensures servers { IfOk result (λ made. made.loglet.servers ≡ servers) }
+    ensures rounds { IfOk result (λ made. made.loglet.rounds ≡ 7) }
 {
     let replicas = replicas(alloc, servers)?;
     Ok(NativeLoglet::new(alloc, replicas, room))

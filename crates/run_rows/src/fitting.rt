@@ -13,6 +13,7 @@ use outside_ends::memory::{MemSink, MemSource};
 use row_text::row::{Outcome, Row, Who};
 use script_text::asks::{Asks, NamedLine, named_lines};
 use script_text::script::parse;
+use shelf_loglets::shelf::Rooms;
 use std::alloc::{AllocError, Global};
 use std::process::Abort;
 use std::test::Fail;
@@ -26,7 +27,10 @@ const READ_FIRST: &[u8] = b"on n1 a get x\non n1 a put x 1\n";
 
 const TWO_SESSIONS: &[u8] = b"on n1 a put x 1\n\non n1 b put x 2\non n1 a get x\n";
 
-const ROOM: u64 = 0x1_0000_0000;
+const ROOMS: Rooms = Rooms {
+    single: 0x1_0000_0000,
+    inner: 0x1000_0000,
+};
 
 /// What a line is answered.
 #[derive(Clone, Copy)]
@@ -274,7 +278,7 @@ fn played(rt: &impl Abort, alloc: Global, script: &[u8]) -> Result<(Vec<Answered
     }
     let mut source = MemSource::new(Vec::from_slice(alloc, script)?, 64, Vec::new(alloc));
     let mut sink = MemSink::new(alloc, 4096, 64, Vec::new(alloc))?;
-    let ran = run_on_shelf(rt, alloc, words.as_slice(), ROOM, &mut source, &mut sink)?;
+    let ran = run_on_shelf(rt, alloc, words.as_slice(), ROOMS, &mut source, &mut sink)?;
     let told = ran.told.ok_or("told nothing")?;
     let end = told.end;
     let rows = told.rows.into_vec();

@@ -1,11 +1,10 @@
 //! Runs over the shelves that the words name, each loglet of the room that a test asks for.
-ghost use Rattle.std.specs.Prelude.{◌≡◌, ◌≤◌, ◌^◌, IfOk, Some, map, string_bytes};
+ghost use Rattle.std.specs.Prelude.{◌≡◌, IfOk, Some, map, string_bytes};
 ghost use Rattle.script_words.specs.Plans.{plan_of};
 ghost use Rattle.script_words.specs.declared.plan.Plan.{Plan};
+ghost use Rattle.shelf_loglets.specs.Shelf.{AreRooms};
 
-use file_loglet::memory as file;
 use fitting_run::told::Told;
-use native_loglet::memory as native;
 use outside_ends::sink::Sink;
 use outside_ends::source::Source;
 use script_runner::ended::Status;
@@ -13,6 +12,7 @@ use script_runner::run::run;
 use script_runner::yard::Yard;
 use script_words::plan::{WordsError, read_words};
 use script_words::shelf::Kind;
+use shelf_loglets::shelf::{Rooms, loglet_of};
 use std::alloc::{AllocError, Global};
 
 /// How a run ended, without its yard.
@@ -33,27 +33,22 @@ fn kinds_of(alloc: Global, words: &[String]) -> Result<Vec<Kind>, AllocError>
     }
 }
 
-/// Runs the script over the shelf that the words name, of loglets with this room.
+/// Runs the script over the shelf that the words name, of loglets with these rooms.
 pub fn run_on_shelf<R, S: Source, K: Sink>(
     rt: &R,
     alloc: Global,
     words: &[String],
-    room: u64,
+    rooms: Rooms,
     source: &mut S,
     sink: &mut K,
 ) -> Result<Ran, AllocError>
-    requires { (1 ≤ room) × (room ≤ 2 ^ 32) }
+    requires { AreRooms rooms }
 {
     let kinds = kinds_of(alloc, words)?;
     let mut yard = Yard::new(alloc);
     for kind in &kinds {
-        yard = match kind {
-            Kind::File => yard.with(Box::new(alloc, file::in_memory(alloc, room)?)?)?,
-            Kind::Native1 => yard.with(Box::new(alloc, native::in_memory(alloc, 1, room)?)?)?,
-            Kind::Native3 => yard.with(Box::new(alloc, native::in_memory(alloc, 3, room)?)?)?,
-            Kind::Native5 => yard.with(Box::new(alloc, native::in_memory(alloc, 5, room)?)?)?,
-            Kind::Native7 => yard.with(Box::new(alloc, native::in_memory(alloc, 7, room)?)?)?,
-        };
+        let loglet = loglet_of(alloc, *kind, rooms)?;
+        yard = yard.with(Box::new(alloc, loglet)?)?;
     }
     let ended = run(rt, alloc, words, source, sink, yard);
     Ok(Ran {

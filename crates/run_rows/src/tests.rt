@@ -1,12 +1,17 @@
-ghost use Rattle.std.specs.Prelude.{◌≤◌, ◌^◌};
+ghost use Rattle.std.specs.Prelude.{◌≤◌};
+ghost use Rattle.shelf_loglets.specs.Shelf.{AreRooms};
 
 use crate::shelves::run_on_shelf;
 use outside_ends::memory::{MemSink, MemSource};
+use shelf_loglets::shelf::Rooms;
 use std::alloc::Global;
 use std::process::Abort;
 use std::test::Fail;
 
-const ROOM: u64 = 0x1_0000_0000;
+const ROOMS: Rooms = Rooms {
+    single: 0x1_0000_0000,
+    inner: 0x1000_0000,
+};
 
 const PUT_AND_GET: &[u8] = b"on n1 a put x 1\non n1 a get x\n";
 
@@ -15,17 +20,28 @@ const PUT_AND_GET_TEXT: &[u8] =
 
 const FILE_RUN: &[&str] = &["run", "--shelf", "file"];
 
-/// Which calls of the ends fail, how many bytes each moves, and the room of each loglet.
+/// Which calls of the ends fail, how many bytes each moves, and the rooms of the loglets.
 #[derive(Clone, Copy)]
 struct Ends<'a> {
-    room: u64,
+    rooms: Rooms,
     piece: usize,
     source_fails: &'a [u64],
     sink_fails: &'a [u64],
 }
 
 const CALM: Ends<'static> = Ends {
-    room: ROOM,
+    rooms: ROOMS,
+    piece: 64,
+    source_fails: &[],
+    sink_fails: &[],
+};
+
+/// File loglets and native ones, those of striped loglets too, take one entry.
+const SMALL: Ends<'static> = Ends {
+    rooms: Rooms {
+        single: 1,
+        inner: 1,
+    },
     piece: 64,
     source_fails: &[],
     sink_fails: &[],
@@ -42,7 +58,7 @@ fn ends_with(
     text: &[u8],
 ) -> Result<(), Fail>
     requires piece { 1 ≤ ends.now.piece }
-    requires room { (1 ≤ ends.now.room) × (ends.now.room ≤ 2 ^ 32) }
+    requires rooms { AreRooms ends.now.rooms }
 {
     let mut owned = Vec::new(alloc);
     for word in words {
@@ -56,7 +72,7 @@ fn ends_with(
         rt,
         alloc,
         owned.as_slice(),
-        ends.room,
+        ends.rooms,
         &mut source,
         &mut sink,
     )?;
@@ -189,14 +205,14 @@ fn a_line_of_512_bytes_runs(rt: HostRuntime) -> Result<(), Fail> {
 fn failing_ends(rt: HostRuntime) -> Result<(), Fail> {
     let alloc = rt.alloc();
     let sink = Ends {
-        room: ROOM,
+        rooms: ROOMS,
         piece: 8,
         source_fails: &[],
         sink_fails: &[2],
     };
     ends_with(&rt, alloc, FILE_RUN, PUT_AND_GET, &sink, 5, b"1 a @0.0")?;
     let source = Ends {
-        room: ROOM,
+        rooms: ROOMS,
         piece: 64,
         source_fails: &[1],
         sink_fails: &[],
@@ -208,12 +224,6 @@ fn failing_ends(rt: HostRuntime) -> Result<(), Fail> {
 #[test]
 fn a_full_loglet(rt: HostRuntime) -> Result<(), Fail> {
     let alloc = rt.alloc();
-    let small = Ends {
-        room: 1,
-        piece: 64,
-        source_fails: &[],
-        sink_fails: &[],
-    };
     let rows = [
         (
             &b"on n1 a put x 1\non n1 a get x\non n1 a put y 2\non n1 b get x\n"[..],
@@ -226,37 +236,75 @@ fn a_full_loglet(rt: HostRuntime) -> Result<(), Fail> {
         ),
     ];
     for (script, text) in rows {
-        ends_with(&rt, alloc, FILE_RUN, script, &small, 1, text)?;
+        ends_with(&rt, alloc, FILE_RUN, script, &SMALL, 1, text)?;
+    }
+    Ok(())
+}
+
+// A striped loglet takes as many entries as its stripes together.
+#[test]
+fn a_full_striped_loglet(rt: HostRuntime) -> Result<(), Fail> {
+    let alloc = rt.alloc();
+    for (kind, room) in [("striped2", 2u64), ("striped8", 8), ("nested", 4)] {
+        let mut script = Vec::new(alloc);
+        let mut text = String::new(alloc);
+        for number in 0..room {
+            script.extend_from_slice(b"on n1 a put x 1\n")?;
+            text.push_str(format!(in alloc; "{} a @{number}.0 ok\n", number + 1)?.as_str())?;
+        }
+        script.extend_from_slice(b"on n1 a put x 1\n")?;
+        let last = format!(in alloc;
+            "{} a open full 0\nend {room}\nchain v=1 trim=0\nseg 0 {kind} 0 open\n",
+            room + 1
+        )?;
+        text.push_str(last.as_str())?;
+        ends_with(
+            &rt,
+            alloc,
+            &["run", "--shelf", kind],
+            script.as_slice(),
+            &SMALL,
+            1,
+            text.as_bytes(),
+        )?;
+    }
+    Ok(())
+}
+
+/// A put and a get over the shelf that these words ask for, whose first loglet is of this kind.
+fn runs_over(rt: &impl Abort, alloc: Global, words: &[&str], kind: &str) -> Result<(), Fail> {
+    let text = format!(in alloc;
+        "1 a @0.0 ok\n2 a >1 = 1\nend 1\nchain v=1 trim=0\nseg 0 {kind} 0 open\n"
+    )?;
+    ends_with(rt, alloc, words, PUT_AND_GET, &CALM, 0, text.as_bytes())
+}
+
+#[test]
+fn shelves_of_each_kind(rt: HostRuntime) -> Result<(), Fail> {
+    let alloc = rt.alloc();
+    for kind in [
+        "file", "native1", "native3", "native5", "native7", "striped2", "striped3", "striped4",
+        "striped5", "striped6", "striped7", "striped8", "nested",
+    ] {
+        runs_over(&rt, alloc, &["run", "--shelf", kind], kind)?;
     }
     Ok(())
 }
 
 #[test]
-fn shelves_of_native_loglets(rt: HostRuntime) -> Result<(), Fail> {
+fn shelves_of_several_kinds(rt: HostRuntime) -> Result<(), Fail> {
     let alloc = rt.alloc();
-    // The shelf, and how the text of one put and one get ends.
-    let rows: [(&str, &[u8]); 5] = [
-        ("native1", b"seg 0 native1 0 open\n"),
-        ("native3", b"seg 0 native3 0 open\n"),
-        ("native5", b"seg 0 native5 0 open\n"),
-        ("native7", b"seg 0 native7 0 open\n"),
-        ("native3,file,native7", b"seg 0 native3 0 open\n"),
-    ];
-    for (shelf, last) in rows {
-        let mut text = Vec::from_slice(
-            alloc,
-            b"1 a @0.0 ok\n2 a >1 = 1\nend 1\nchain v=1 trim=0\n",
-        )?;
-        text.extend_from_slice(last)?;
-        ends_with(
-            &rt,
-            alloc,
-            &["run", "--shelf", shelf],
-            PUT_AND_GET,
-            &CALM,
-            0,
-            text.as_slice(),
-        )?;
-    }
-    Ok(())
+    runs_over(&rt, alloc, &[], "file")?;
+    runs_over(
+        &rt,
+        alloc,
+        &["run", "--shelf", "native3,file,native7"],
+        "native3",
+    )?;
+    runs_over(
+        &rt,
+        alloc,
+        &["run", "--shelf", "nested,file,striped8,nested"],
+        "nested",
+    )
 }

@@ -21,7 +21,7 @@ seed_rule = record (new_rule (codes "seed")) {
 abbrev pub shelf_rule : Rule
 shelf_rule = record (new_rule (codes "shelf")) {
   long = Some (codes "shelf");
-  defaults = codes "file" ∷ [];
+  defaults = codes "file,native3,striped2,native5" ∷ [];
 }
 
 abbrev pub run_app : App

@@ -32,7 +32,9 @@ fn shelf_arg<'a>(alloc: Global) -> Arg<'a>
     ensures rule { rule_of result ≡ shelf_rule }
     ensures local { result.global ≡ false }
 {
-    Arg::new(alloc, "shelf").long("shelf").default_value("file")
+    Arg::new(alloc, "shelf")
+        .long("shelf")
+        .default_value("file,native3,striped2,native5")
 }
 
 fn run_command<'a>(alloc: Global) -> Result<Command<'a>, AllocError>
@@ -46,7 +48,7 @@ fn run_command<'a>(alloc: Global) -> Result<Command<'a>, AllocError>
 }
 
 /// The command line of the program: `delos_sim run` with `--nodes` (1, the default), `--seed` (0 to
-/// 4294967295, default 0) and `--shelf` (default `file`).
+/// 4294967295, default 0) and `--shelf` (default `file,native3,striped2,native5`).
 pub fn the_command<'a>(alloc: Global) -> Result<Command<'a>, AllocError>
     ensures { IfOk result (λ c. app_of c ≡ the_app) }
 {

@@ -19,6 +19,22 @@ pub enum Kind {
     Native5,
     /// A sequencer over seven log servers, of which four decide.
     Native7,
+    /// Two loglets of the kind `Native3`, which hold the positions in turn.
+    Striped2,
+    /// Three loglets of the kind `Native3`, which hold the positions in turn.
+    Striped3,
+    /// Four loglets of the kind `Native3`, which hold the positions in turn.
+    Striped4,
+    /// Five loglets of the kind `Native3`, which hold the positions in turn.
+    Striped5,
+    /// Six loglets of the kind `Native3`, which hold the positions in turn.
+    Striped6,
+    /// Seven loglets of the kind `Native3`, which hold the positions in turn.
+    Striped7,
+    /// Eight loglets of the kind `Native3`, which hold the positions in turn.
+    Striped8,
+    /// Two loglets of the kind `Striped2`, which hold the positions in turn.
+    Nested,
 }
 
 impl Kind {
@@ -32,6 +48,14 @@ impl Kind {
             Kind::Native3 => "native3",
             Kind::Native5 => "native5",
             Kind::Native7 => "native7",
+            Kind::Striped2 => "striped2",
+            Kind::Striped3 => "striped3",
+            Kind::Striped4 => "striped4",
+            Kind::Striped5 => "striped5",
+            Kind::Striped6 => "striped6",
+            Kind::Striped7 => "striped7",
+            Kind::Striped8 => "striped8",
+            Kind::Nested => "nested",
         }
     }
 }
@@ -88,6 +112,14 @@ fn kind_of(word: &str) -> Option<Kind>
         "native3" => Some(Kind::Native3),
         "native5" => Some(Kind::Native5),
         "native7" => Some(Kind::Native7),
+        "striped2" => Some(Kind::Striped2),
+        "striped3" => Some(Kind::Striped3),
+        "striped4" => Some(Kind::Striped4),
+        "striped5" => Some(Kind::Striped5),
+        "striped6" => Some(Kind::Striped6),
+        "striped7" => Some(Kind::Striped7),
+        "striped8" => Some(Kind::Striped8),
+        "nested" => Some(Kind::Nested),
         _ => None,
     }
 }

@@ -1,6 +1,7 @@
 use crate::plan::{Plan, WordsError, bad_words_text, read_words};
 use crate::shelf::Kind;
 use std::alloc::{AllocError, Global};
+use std::process::Abort;
 use std::test::Fail;
 
 fn read(alloc: Global, words: &[&str]) -> Result<Result<Plan, WordsError>, AllocError> {
@@ -11,37 +12,46 @@ fn read(alloc: Global, words: &[&str]) -> Result<Result<Plan, WordsError>, Alloc
     Ok(read_words(alloc, owned.as_slice()))
 }
 
+/// The words have a plan of this seed, whose shelf has these names.
+fn has_plan(
+    rt: &impl Abort,
+    alloc: Global,
+    words: &[&str],
+    seed: u32,
+    shelf: &str,
+) -> Result<(), Fail> {
+    match read(alloc, words)? {
+        Ok(plan) => {
+            assert_eq!(rt; (plan.nodes, plan.seed), (1, seed));
+            let names = plan.shelf.names(alloc)?;
+            assert_eq!(rt; names.join(alloc, ",")?.as_str(), shelf);
+        }
+        Err(_) => panic!(rt; "refused"),
+    }
+    Ok(())
+}
+
 #[test]
 fn words_that_have_a_plan(rt: HostRuntime) -> Result<(), Fail> {
     let alloc = rt.alloc();
-    // The words, the seed, and how many file loglets the shelf has.
+    let usual = "file,native3,striped2,native5";
+    // The words, the seed, and the shelf.
     let rows = [
-        (&[][..], 0, 1),
-        (&["run"], 0, 1),
-        (&["run", "--shelf", "file"], 0, 1),
-        (&["run", "--shelf=file"], 0, 1),
-        (&["run", "--shelf", "file,file,file"], 0, 3),
-        (&["run", "--nodes", "1", "--seed", "7"], 7, 1),
-        (&["run", "--seed", "4294967295"], 4294967295, 1),
-        (&["run", "--shelf", "file", "--seed=0"], 0, 1),
+        (&[][..], 0, usual),
+        (&["run"], 0, usual),
+        (&["run", "--shelf", "file"], 0, "file"),
+        (&["run", "--shelf=file"], 0, "file"),
+        (&["run", "--shelf", "file,file,file"], 0, "file,file,file"),
+        (&["run", "--nodes", "1", "--seed", "7"], 7, usual),
+        (&["run", "--seed", "4294967295"], 4294967295, usual),
+        (&["run", "--shelf", "file", "--seed=0"], 0, "file"),
         // Numbers are what the library's parser takes.
-        (&["run", "--seed", "03"], 3, 1),
-        (&["run", "--seed", "+3"], 3, 1),
-        (&["run", "--seed=-0"], 0, 1),
+        (&["run", "--seed", "03"], 3, usual),
+        (&["run", "--seed", "+3"], 3, usual),
+        (&["run", "--seed=-0"], 0, usual),
     ];
-    for (words, seed, count) in rows {
-        match read(alloc, words)? {
-            Ok(plan) => {
-                assert_eq!(rt; plan.nodes, 1);
-                assert_eq!(rt; plan.seed, seed);
-                let kinds = plan.shelf.as_slice();
-                assert_eq!(rt; kinds.len(), count);
-                assert!(rt; kinds.iter().all(|kind| *kind == Kind::File));
-                let names = plan.shelf.names(alloc)?;
-                assert!(rt; names.iter().all(|name| *name == "file"));
-            }
-            Err(_) => panic!(rt; "refused"),
-        }
+    for (words, seed, shelf) in rows {
+        has_plan(&rt, alloc, words, seed, shelf)?;
     }
     Ok(())
 }
@@ -64,7 +74,10 @@ fn bad_words(rt: HostRuntime) -> Result<(), Fail> {
         &["run", "--shelf", "native"],
         &["run", "--shelf", "native2"],
         &["run", "--shelf", "native9"],
-        &["run", "--shelf", "striped2"],
+        &["run", "--shelf", "striped"],
+        &["run", "--shelf", "striped1"],
+        &["run", "--shelf", "striped9"],
+        &["run", "--shelf", "nested2"],
         &["run", "--shelf", "file", "--shelf", "file"],
         &["run", "--she", "file"],
         &["run", "--nodes", "0"],
@@ -93,14 +106,23 @@ fn bad_words(rt: HostRuntime) -> Result<(), Fail> {
 #[test]
 fn kinds_of_a_shelf(rt: HostRuntime) -> Result<(), Fail> {
     let alloc = rt.alloc();
-    let text = "native7,file,native1,native3,native5,native3";
+    let text =
+        "native7,file,native1,native3,native5,nested,striped8,striped7,striped6,striped5,striped4,striped3,striped2,file";
     let kinds = [
         Kind::Native7,
         Kind::File,
         Kind::Native1,
         Kind::Native3,
         Kind::Native5,
-        Kind::Native3,
+        Kind::Nested,
+        Kind::Striped8,
+        Kind::Striped7,
+        Kind::Striped6,
+        Kind::Striped5,
+        Kind::Striped4,
+        Kind::Striped3,
+        Kind::Striped2,
+        Kind::File,
     ];
     match read(alloc, &["run", "--shelf", text])? {
         Ok(plan) => {
