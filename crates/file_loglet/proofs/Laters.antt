@@ -117,3 +117,11 @@ trim_later entries cut sealing old new done within above gone =
       | inl lt ↦ wrote_trim entries cut sealing old new done lt within (above lt)
       | inr ge ↦ subst (λ (w : Held). IsLater entries cut sealing old.server w.server) (sym (gone ge).1) (later_same entries cut sealing old.server)
     ]
+
+-- a trim that was written, or had nothing to write, lets go of all below the cut
+pub trim_reaches : {U : Type 0} (cut : ℕ) (old new : Held) (u : U) → (old.server.base < cut → Writes old (Trim cut) (Ok u) new) → (cut ≤ old.server.base → new ≡ old) → cut ≤ new.server.base
+trim_reaches cut old new u above gone =
+    elim (cases_lt old.server.base cut) [
+      | inl lt ↦ omega (arith, ap (λ (s : Server). s.base) (above lt).0)
+      | inr ge ↦ omega (arith, ge, ap (λ (w : Held). w.server.base) (gone ge))
+    ]

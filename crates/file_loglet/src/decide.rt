@@ -41,6 +41,7 @@ pub fn decide<D: Disk>(
     ensures later { IsLater entries.now cut (is_sealing p.now.task) server.old.server server.new.server }
     ensures may_fail { MayFail server.old server.new }
     ensures fits { IfOk result (Fits entries.now (length_of server.new.server) (is_sealed server.new.server) (server.new.server.up ≡ false) p.now p.now.task) }
+    ensures trimmed { (n : ℕ) → p.now.task ≡ Task.Trimming n → IfOk result (λ answer. answer ≡ Answer.TrimDone → cut ≤ server.new.server.base) }
     ensures memory { OnErr result ((server.new.server.up ≡ server.old.server.up) × (server.new.disk.faults ≡ server.old.disk.faults) × (is_sealed server.new.server ≡ is_sealed server.old.server)) }
 {
     if p.is_unspoken() {
@@ -77,6 +78,7 @@ fn ask<D: Disk>(
     ensures later { IsLater entries.now cut (is_sealing p.now.task) server.old.server server.new.server }
     ensures goes_on { GoesOn server.old result server.new }
     ensures fits { IfOk result (Fits entries.now (length_of server.new.server) (is_sealed server.new.server) ⊥ p.now p.now.task) }
+    ensures trimmed { (n : ℕ) → p.now.task ≡ Task.Trimming n → IfOk result (λ answer. answer ≡ Answer.TrimDone → cut ≤ server.new.server.base) }
 {
     match p.task {
         Task::Placing => store(server, entries, p.size + 1, Answer::Placed(p.size)),

@@ -1,6 +1,6 @@
 use Rattle.std.proofs.Common.{◌<◌, Bool, Some, length, ap, sym, ◌∙◌, subst, arith}
 use Rattle.file_loglet.specs.Later.{IsLater, is_sealing}
-use Rattle.file_loglet.proofs.Laters.{got_at, trim_later}
+use Rattle.file_loglet.proofs.Laters.{got_at, trim_later, trim_reaches}
 use Rattle.file_loglet.proofs.decide.ask.Goals as goal
 
 pub returns-in-Placing-clause-later : goal.returns-in-Placing-clause-later
@@ -23,3 +23,8 @@ returns-in_ok-clone-in-Reading-clause-fits g c =
 pub returns-in_ok-trim-in-Trimming-clause-later : goal.returns-in_ok-trim-in-Trimming-clause-later
 returns-in_ok-trim-in-Trimming-clause-later g c =
     trim_later c.args.entries.now c.args.cut (is_sealing c.args.p.now.task) c.args.server.now c.trim.new.self c.trim.result c.requires.cut c.trim.ensures.above c.trim.ensures.gone
+
+pub returns-in_ok-trim-in-Trimming-clause-trimmed : goal.returns-in_ok-trim-in-Trimming-clause-trimmed
+returns-in_ok-trim-in-Trimming-clause-trimmed g c n is told =
+    let done = c.in_ok-trim-in-Trimming.ensures in
+    trim_reaches c.args.cut c.args.server.now c.trim.new.self c.in_ok-trim-in-Trimming.field-0 done.above (λ le. (done.gone le).1)
