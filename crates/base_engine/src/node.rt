@@ -270,6 +270,7 @@ impl<L: SharedLog, R: Replica> Node<L, R> {
         ensures follows { Follows L.holds R.state R.spells self.new.seen self.new.replica }
         ensures near { self.new.replica.cursor ≤ self.old.replica.cursor + 1 }
         ensures up { OnOk result (self.new.replica.down ≡ false) }
+        ensures kept { self.new.replica.kept ≡ self.old.replica.kept }
         ensures outbox { self.new.outbox ≡ self.old.outbox }
         ensures seen { self.new.seen ≡ self.old.seen }
         ensures blames { IfErr result (λ f. Blames self.old.who self.old.seen self.old.replica.faults f self.new.seen self.new.replica.faults) }

@@ -1,0 +1,7 @@
+mod Telling
+mod Running
+mod Lacks
+mod Calm
+mod Refusals
+mod Register
+mod Named

@@ -1,5 +1,5 @@
 -- The faults that a journal tells.
-use Rattle.std.specs.Prelude.{◌≡◌, ◌==◌, ◌≤◌, ◌-◌, ◌^◌, ℕ, Bool, true, false, List, Option, Some, None, filter_map, count_by, min}
+use Rattle.std.specs.Prelude.{◌==◌, ℕ, Bool, true, false, List, Option, Some, None, filter_map}
 use Rattle.delos_types.specs.declared.cause.Cause.{Cause}
 use Rattle.delos_types.specs.declared.cause.Cause.TheVariants as cause
 use Rattle.loglet_api.specs.declared.call.Answer.TheVariants as answers
@@ -31,7 +31,7 @@ abbrev pub is_full_of : ℕ → Cause → Bool
 is_full_of cell (cause.Full id) = id == cell
 is_full_of cell other = false
 
--- the register failed
+-- the register failed, or was down
 abbrev pub is_meta : Cause → Bool
 is_meta cause.Meta = true
 is_meta other = false

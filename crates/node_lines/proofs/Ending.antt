@@ -1,10 +1,8 @@
 -- What has acted once all was carried to its end and played.
-use Rattle.std.proofs.Common.{◌≡◌, refl, sym, ap, ◌∙◌, subst, inl, inr, ⊎_elim, ◌⊎◌, ℕ, zero, suc, ◌+◌, ◌-◌, ◌<◌, ◌≤◌, List, [], ◌∷◌, ◌++◌, Option, Some, None, length, arith}
-use Rattle.std.specs.FinMap as finmap
+use Rattle.std.proofs.Common.{◌≡◌, refl, sym, ap, ◌∙◌, subst, ⊎_elim, ℕ, zero, suc, ◌+◌, ◌-◌, ◌<◌, ◌≤◌, List, [], ◌∷◌, Option, Some, None, length, arith}
 use Rattle.delos_types.specs.Spaces.{SpaceMap}
 use Rattle.delos_types.specs.declared.entry.Entry.{Entry}
 use Rattle.delos_types.specs.declared.item.Item.{Item}
-use Rattle.delos_types.specs.declared.cause.Cause.{Cause}
 use Rattle.table_core.specs.Find.{find_in}
 use Rattle.table_core.specs.declared.command.Query.{Query}
 use Rattle.table_core.specs.declared.command.Found.{Found}
@@ -27,16 +25,15 @@ use Rattle.engine_steps.specs.declared.layout.Kept.{Kept}
 use Rattle.engine_api.specs.Items.{content_of}
 use Rattle.node_sessions.specs.Desks.{InFront, AreAllAnswers}
 use Rattle.node_sessions.specs.UnderWay.{IsGiven, HasLanded, ranks_in, rank_under}
-use Rattle.node_sessions.proofs.Settling.{Extends}
 use Rattle.node_sessions.proofs.Proposed.{found_acted, above_tail}
 use Rattle.node_sessions.proofs.Catching.{acted_sent}
 use Rattle.node_sessions.proofs.Reading.{state_table}
 use Rattle.node_lines.specs.declared.lines.Looked.TheVariants as looked
 use Rattle.node_lines.specs.declared.steps.Synced.{Synced}
 use Rattle.node_lines.specs.declared.steps.Synced.TheVariants as synced'
-use Rattle.node_lines.specs.Moving.{Goes, Moves, StaysGiven, failure_of}
+use Rattle.node_lines.specs.Moving.{Moves, failure_of}
 use Rattle.node_lines.specs.Desks.{DeskOk, IsBound, KeepsFrom}
-use Rattle.node_lines.specs.Lines.{IsFree, Shows, LooksSo, Looks, HasActedTo, EndsPhase, failure_in, stopped_by}
+use Rattle.node_lines.specs.Lines.{LooksSo, Looks, HasActedTo, EndsPhase, stopped_by}
 use Rattle.node_lines.proofs.Moving.{moves-both, none-before}
 
 none_queued : (a n : ℕ) → [] ≡ numbers a n → n ≡ 0

@@ -8,7 +8,6 @@ use Rattle.std.proofs.lemmas.List.Folds.{find-append}
 use Rattle.delos_types.specs.declared.entry.Entry.{Entry}
 use Rattle.legal_journal.specs.declared.events.Event.{Event}
 use Rattle.legal_journal.specs.Journal.{IsLegal}
-use Rattle.virtual_log.specs.Holding.{Holds}
 use Rattle.virtual_log.proofs.Agreeing.{holds_agree}
 use Rattle.engine_api.specs.declared.act.Act.{Act}
 use Rattle.engine_api.specs.Acted.{asked_in, replied, table_after}
@@ -18,7 +17,6 @@ use Rattle.engine_api.proofs.Gaps.{gap-low}
 use Rattle.engine_laws.specs.State.{acts_in}
 use Rattle.engine_laws.proofs.Replies.{InTurn, log_turn}
 use Rattle.engine_steps.specs.declared.layout.Kept.{Kept}
-use Rattle.base_engine.specs.Reading.{IsFront}
 use Rattle.node_sessions.specs.Desks.{ActedSo, AreAnswers, InFront}
 use Rattle.node_lines.specs.Desks.{HasAnswers}
 

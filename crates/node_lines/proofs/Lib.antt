@@ -1,4 +1,5 @@
 pub mod Spending
+pub mod Quiet
 pub mod Moving
 pub mod Desks
 pub mod Fronts

@@ -1,5 +1,5 @@
 -- What a node's calls keep of its sessions.
-use Rattle.std.proofs.Common.{◌≡◌, refl, sym, ap, ◌∙◌, subst, ◌⊎◌, inl, inr, ⊎_elim, ℕ, suc, ◌+◌, ◌≤◌, cond, Bool, true, false, List, [], ◌∷◌, ◌++◌, Option, Some, None, map, length, arith, append_assoc, append-nil, length-append}
+use Rattle.std.proofs.Common.{◌≡◌, refl, sym, ap, ◌∙◌, subst, ℕ, ◌+◌, ◌≤◌, cond, Bool, true, false, List, [], ◌∷◌, ◌++◌, Option, Some, None, map, length, arith, append_assoc, append-nil}
 use Rattle.std.specs.Prelude.{◌==◌, All}
 use Rattle.std.proofs.lemmas.Bool.Decides.{nat_tests}
 use Rattle.std.proofs.lemmas.List.{map-append}
@@ -7,23 +7,22 @@ use Rattle.std.proofs.lemmas.List.Elements.{All-nil, All-cons, All-append}
 use Rattle.delos_types.specs.declared.entry.Entry.{Entry}
 use Rattle.delos_types.specs.declared.item.Item.{Item}
 use Rattle.delos_types.specs.declared.cause.Cause.{Cause}
-use Rattle.legal_journal.specs.declared.events.Event.{Event}
 use Rattle.legal_journal.specs.Journal.{IsLegal}
-use Rattle.virtual_log.specs.Turning.{Later}
 use Rattle.virtual_log.specs.Holding.{Holds}
 use Rattle.engine_api.specs.declared.content.Content.{Content}
 use Rattle.engine_api.specs.declared.content.Content.TheVariants as content
 use Rattle.engine_api.specs.Items.{content_of}
 use Rattle.engine_api.specs.Packing.{IsProposable}
-use Rattle.replica_api.specs.Replica.{Queues, Flushes}
+use Rattle.replica_api.specs.Replica.{ReplicaView, Queues, Flushes}
 use Rattle.base_engine.specs.declared.outbox.Given.{Given}
 use Rattle.base_engine.specs.Settling.{OutboxView, Settled, cause_in}
 use Rattle.base_engine.specs.Proposing.{Sent, with_entry}
 use Rattle.base_engine.specs.Node.{NodeView, Keeps}
-use Rattle.node_sessions.specs.UnderWay.{IsGiven, rank_under}
+use Rattle.node_sessions.specs.UnderWay.{IsGiven, rank_under, ranks_in}
 use Rattle.node_sessions.proofs.Settling.{Extends, settled_given, none-front}
 use Rattle.node_sessions.proofs.Queueing.{flushed_given, sent_given, sent_other}
-use Rattle.node_lines.specs.Moving.{Spends, CanPack, causes_of, Goes, StaysGiven, Moves, HandsIn}
+use Rattle.node_lines.specs.Moving.{Spends, CanPack, causes_of, Goes, StaysGiven, HasNoneOf, IsQuiet, Moves, HandsIn}
+use Rattle.node_lines.proofs.Quiet.{IsStill, settled_still, flushed_still, sent_still}
 use Rattle.node_lines.proofs.Spending.{spends-none, spends-both, spends-settled, spends-permuted, shuffled}
 
 given_of : (mid : OutboxView) (p : Option Entry) → (with_entry mid p).given ≡ mid.given
@@ -33,6 +32,12 @@ given_of mid (Some e) = refl
 packs-flushed : (origin : ℕ) (kept kept' : List Item) (p : Option Entry) → Flushes origin kept p kept' → CanPack kept → CanPack kept'
 packs-flushed origin kept kept' None h c = subst CanPack (h.0 ∙ sym h.1) c
 packs-flushed origin kept kept' (Some e) h c = subst CanPack (sym h.2) (record { each = All-nil IsProposable; few = omega arith })
+
+still_in : (n : NodeView) (s : ℕ) → IsQuiet n s → IsStill n.outbox n.replica.kept s
+still_in n s q = record { outstanding = q.outstanding; waiting = q.waiting; free = q.free }
+
+quiet_in : (n : NodeView) (s : ℕ) → IsStill n.outbox n.replica.kept s → IsQuiet n s
+quiet_in n s q = record { outstanding = q.outstanding; waiting = q.waiting; free = q.free }
 
 -- An item that is a command of one session is none of another.
 pub rank_elsewhere : (s t r : ℕ) (o : Option Content) → rank_under s o ≡ Some r → (s == t) ≡ false → rank_under t o ≡ None
@@ -72,6 +77,7 @@ module _ (may : ℕ → Entry → Type 0) (floor : List Entry → ℕ) (shelf : 
   moves-pack old new can k h = record {
     goes = goes-settled old new h.mid k h.settled (ap (λ (o : OutboxView). o.given) h.is_with ∙ given_of h.mid h.packed) (packs-flushed old.replica.origin old.replica.kept new.replica.kept h.packed h.out);
     stays = λ s sent none g. flushed_given may floor shelf low old.who old.replica.origin s sent old.seen new.seen old.outbox new.outbox old.replica.kept new.replica.kept k.later.legal none can.each can.few h g;
+    quiet = λ s q. quiet_in new s (flushed_still old.who old.replica.origin s old.seen new.seen old.outbox new.outbox old.replica.kept new.replica.kept can.each can.few h (still_in old s q));
   }
 
   pub moves-settle : (old new : NodeView) (cause : Option Cause) → Keeps may floor shelf old new → new.replica ≡ old.replica
@@ -80,6 +86,9 @@ module _ (may : ℕ → Entry → Type 0) (floor : List Entry → ℕ) (shelf : 
     goes = goes-settled old new (record { entries = new.outbox.entries; given = new.outbox.given; unsettled = cause }) k h refl (λ c. subst (λ r. CanPack r.kept) (sym same) c);
     stays = λ s sent none g. subst (λ r. IsGiven new.seen new.outbox.entries r.kept s sent) (sym same)
         (settled_given may floor shelf low old.who s sent old.seen new.seen old.outbox (record { entries = new.outbox.entries; given = new.outbox.given; unsettled = cause }) old.replica.kept k.later.legal none h g);
+    quiet = λ s q.
+        let then' = settled_still old.who s old.seen new.seen old.outbox (record { entries = new.outbox.entries; given = new.outbox.given; unsettled = cause }) old.replica.kept h (still_in old s q) in
+        record { outstanding = then'.outstanding; waiting = ap (λ (r : ReplicaView). ranks_in s r.kept) same ∙ then'.waiting; free = then'.free };
   }
 
   -- nothing was settled
@@ -107,6 +116,11 @@ module _ (may : ℕ → Entry → Type 0) (floor : List Entry → ℕ) (shelf : 
     stays = λ s sent none g. subst (λ (x : List Item). IsGiven new.seen new.outbox.entries x s sent) (sym kept)
         (subst (λ (o : OutboxView). IsGiven new.seen o.entries old.replica.kept s sent) (sym same)
         (settled_given may floor shelf low old.who s sent old.seen new.seen old.outbox old.outbox old.replica.kept k.later.legal (subst (λ (o : OutboxView). cause_in s o.given ≡ None) same none) (nothing old new k) g));
+    quiet = λ s q. record {
+      outstanding = subst (λ (o : OutboxView). All (HasNoneOf s) o.entries) (sym same) q.outstanding;
+      waiting = ap (ranks_in s) kept ∙ q.waiting;
+      free = ap (λ (o : OutboxView). cause_in s o.given) same ∙ q.free;
+    };
   }
 
   all-more : (xs : List Item) (x : Item) → All IsProposable xs → IsProposable x → All IsProposable (xs ++ x ∷ [])
@@ -123,6 +137,8 @@ module _ (may : ℕ → Entry → Type 0) (floor : List Entry → ℕ) (shelf : 
     own = λ none g. sent_given may floor shelf low old.who old.replica.origin s sent old.seen new.seen old.outbox new.outbox old.replica.kept new.replica.kept item k.later.legal none can.each fine own h g;
     stays = λ t other n none g. sent_other may floor shelf low old.who old.replica.origin t n old.seen new.seen old.outbox new.outbox old.replica.kept new.replica.kept item k.later.legal none can.each fine
         (rank_elsewhere s t (sent + 1) (content_of item) own other) h g;
+    quiet = λ t other q. quiet_in new t (sent_still old.who old.replica.origin t old.seen new.seen old.outbox new.outbox old.replica.kept new.replica.kept item can.each fine
+        (rank_elsewhere s t (sent + 1) (content_of item) own other) h (still_in old t q));
   }
 
   -- One call after another
@@ -162,6 +178,7 @@ module _ (may : ℕ → Entry → Type 0) (floor : List Entry → ℕ) (shelf : 
   moves-both old mid new others more h k = record {
     goes = goes-both old mid new others more h.goes k.goes;
     stays = λ s. stays-both old mid new more s k.goes (h.stays s) (k.stays s);
+    quiet = λ s q. k.quiet s (h.quiet s q);
   }
 
   -- nothing was done

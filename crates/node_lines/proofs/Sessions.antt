@@ -1,20 +1,19 @@
 -- What comes of a session's desk.
-use Rattle.std.proofs.Common.{◌≡◌, refl, sym, ap, ◌∙◌, subst, inl, inr, ⊎_elim, ◌⊎◌, ℕ, zero, suc, ◌+◌, ◌-◌, ◌^◌, ◌<◌, ◌≤◌, List, [], ◌∷◌, ◌++◌, Option, Some, None, length, arith}
-use Rattle.std.specs.Prelude.{slice_get, is_none, ◌==◌, nat_lt, ◌&&◌, Bool, true, false}
+use Rattle.std.proofs.Common.{◌≡◌, refl, sym, ap, ◌∙◌, subst, inl, inr, ℕ, ◌+◌, ◌<◌, ◌≤◌, List, [], ◌∷◌, ◌++◌, Option, Some, None, length, arith}
+use Rattle.std.specs.Prelude.{is_none, ◌==◌, nat_lt, Bool, true, false}
 use Rattle.std.specs.Option.{option_or}
 use Rattle.std.proofs.lemmas.Bool.Decides.{nat_tests}
-use Rattle.delos_types.specs.Spaces.{SpaceMap, Text}
+use Rattle.delos_types.specs.Spaces.{SpaceMap}
 use Rattle.delos_types.specs.declared.entry.Entry.{Entry}
 use Rattle.delos_types.specs.declared.item.Item.{Item}
 use Rattle.delos_types.specs.declared.cause.Cause.{Cause}
 use Rattle.table_core.specs.declared.command.Command.{Command}
-use Rattle.legal_journal.specs.declared.events.Event.{Event}
 use Rattle.legal_journal.specs.Journal.{IsLegal}
 use Rattle.virtual_log.specs.Holding.{Holds}
 use Rattle.engine_api.specs.declared.content.Content.{Content}
 use Rattle.engine_api.specs.declared.content.Content.TheVariants as content
 use Rattle.engine_api.specs.Acted.{asked_in}
-use Rattle.engine_api.specs.Order.{gap_from, numbers}
+use Rattle.engine_api.specs.Order.{gap_from}
 use Rattle.engine_api.specs.Packing.{packed, IsProposable}
 use Rattle.engine_steps.specs.declared.layout.Kept.{Kept}
 use Rattle.engine_steps.specs.Layout.{last_of}
@@ -23,15 +22,14 @@ use Rattle.engine_laws.specs.State.{IsStateOf}
 use Rattle.replica_api.specs.Replica.{saved_in}
 use Rattle.base_engine.specs.Following.{IsStateAt}
 use Rattle.base_engine.specs.Proposing.{IsNear, IsNearAt}
-use Rattle.base_engine.specs.Reading.{IsFront}
 use Rattle.base_engine.specs.Settling.{cause_in}
 use Rattle.base_engine.specs.Node.{NodeView}
 use Rattle.node_sessions.specs.declared.desk.Desk.{Desk}
 use Rattle.node_sessions.specs.Desks.{AreAnswers, AreAllAnswers, InFront}
-use Rattle.node_sessions.specs.UnderWay.{IsGiven, ranks_in, rank_under}
-use Rattle.node_lines.specs.Moving.{Goes, StaysGiven, Moves, HandsIn, CanPack}
+use Rattle.node_sessions.specs.UnderWay.{IsGiven, rank_under}
+use Rattle.node_lines.specs.Moving.{HandsIn, CanPack}
 use Rattle.node_lines.specs.Desks.{HasAnswers, DeskOk, MayJoin}
-use Rattle.node_lines.specs.Lines.{IsFree, HasActedTo, stopped_unanswered, Stopped, Closes}
+use Rattle.node_lines.specs.Lines.{IsFree, HasActedTo, stopped_unanswered, Closes}
 use Rattle.node_lines.proofs.Fronts.{answers_at}
 use Rattle.node_lines.proofs.Desks.{answers_later}
 

@@ -1,6 +1,6 @@
 -- Faults came each of its own.
-use Rattle.std.proofs.Common.{◌≡◌, refl, sym, ap, ◌∙◌, subst, ◌⊎◌, inl, inr, ⊎_elim, ℕ, zero, suc, ◌+◌, ◌-◌, ◌^◌, ◌≤◌, ◌<◌, min, cond, Bool, true, false, List, [], ◌∷◌, ◌++◌, Option, Some, None, map, arith, append_assoc, append-nil}
-use Rattle.std.specs.Prelude.{count_by, filter_map}
+use Rattle.std.proofs.Common.{◌≡◌, refl, sym, ap, ◌∙◌, subst, inl, inr, ℕ, ◌+◌, ◌≤◌, cond, Bool, false, List, [], ◌∷◌, ◌++◌, Option, Some, map, arith, append_assoc, append-nil}
+use Rattle.std.specs.Prelude.{count_by}
 use Rattle.std.proofs.lemmas.List.{map-append}
 use Rattle.std.proofs.lemmas.List.Sums.{sum_by-append}
 use Rattle.std.proofs.lemmas.List.Elements.{filter_map-append}
@@ -11,10 +11,9 @@ use Rattle.loglet_api.specs.declared.call.Answer.TheVariants as answers
 use Rattle.disk_model.specs.Disk.{Rose}
 use Rattle.legal_journal.specs.declared.events.Event.{Event}
 use Rattle.legal_journal.specs.declared.events.FabricCall.{FabricCall}
-use Rattle.legal_journal.specs.declared.events.FabricCall.TheVariants.{Begin, Carry, Forget, ReadChain, WriteChain, Stop, Mend, Stray, StopMeta, MendMeta}
+use Rattle.legal_journal.specs.declared.events.FabricCall.TheVariants.{Begin, Carry}
 use Rattle.legal_journal.specs.declared.events.FabricAnswer.{FabricAnswer}
 use Rattle.legal_journal.specs.declared.events.FabricAnswer.TheVariants as fabric
-use Rattle.virtual_log.specs.declared.fault.Fault.TheVariants as log_fault
 use Rattle.virtual_log.specs.Causes.{IsLack, IsFullOf, IsMetaFault}
 use Rattle.virtual_log.specs.Holding.{Holds}
 use Rattle.base_engine.specs.declared.fault.Fault.TheVariants.{Because}

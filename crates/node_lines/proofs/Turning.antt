@@ -1,27 +1,28 @@
 -- A desk once a phase has ended.
-use Rattle.std.proofs.Common.{◌≡◌, refl, sym, ap, ◌∙◌, subst, inl, inr, ⊎_elim, ◌⊎◌, ℕ, zero, suc, ◌+◌, ◌-◌, ◌<◌, ◌≤◌, List, [], ◌∷◌, ◌++◌, Option, Some, None, is_some, length, arith}
-use Rattle.std.specs.Prelude.{slice_get}
+use Rattle.std.proofs.Common.{◌≡◌, refl, sym, ap, ◌∙◌, subst, inl, inr, ◌⊎◌, ℕ, zero, suc, ◌+◌, ◌<◌, ◌≤◌, List, [], ◌∷◌, Option, Some, None, length, arith}
+use Rattle.std.specs.Prelude.{slice_get, All}
 use Rattle.std.proofs.lemmas.Bool.{cases_lt}
-use Rattle.delos_types.specs.Spaces.{SpaceMap}
+use Rattle.std.proofs.lemmas.List.Elements.{All-nil}
 use Rattle.delos_types.specs.declared.entry.Entry.{Entry}
 use Rattle.delos_types.specs.declared.item.Item.{Item}
 use Rattle.delos_types.specs.declared.cause.Cause.{Cause}
 use Rattle.legal_journal.specs.declared.events.Event.{Event}
-use Rattle.legal_journal.specs.Journal.{IsLegal, state_of, tail_of}
+use Rattle.legal_journal.specs.Journal.{IsLegal}
 use Rattle.virtual_log.specs.Holding.{Holds}
 use Rattle.virtual_log.proofs.Holding.{holds_stands}
 use Rattle.one_thread.proofs.Bounds.{stands_below}
-use Rattle.engine_api.specs.Acted.{Asked, asked_in}
-use Rattle.engine_api.specs.Order.{first_of, gap_from, top_rank}
+use Rattle.engine_api.specs.Acted.{asked_in}
+use Rattle.engine_api.specs.Order.{gap_from, top_rank}
 use Rattle.engine_api.proofs.Gaps.{gap-run}
 use Rattle.base_engine.specs.Reading.{IsFront}
 use Rattle.base_engine.specs.Node.{NodeView}
 use Rattle.node_sessions.specs.declared.desk.Desk.{Desk}
-use Rattle.node_sessions.specs.UnderWay.{IsHeld, HasRank, HasLanded, IsGiven, ranks_in}
+use Rattle.node_sessions.specs.UnderWay.{HasLanded, IsGiven, ranks_in}
 use Rattle.node_sessions.proofs.Catching.{appears_in, acted_sent}
+use Rattle.node_lines.specs.Moving.{HasNoneOf, IsQuiet}
 use Rattle.node_lines.specs.Desks.{DeskOk, IsBound}
-use Rattle.node_lines.specs.Lines.{Stopped, Closes}
-use Rattle.node_lines.specs.Turns.{ClosesIt}
+use Rattle.node_lines.specs.Lines.{Stopped}
+use Rattle.node_lines.specs.Turns.{ClosesIt, EndsTurn}
 
 module _ (may : ℕ → Entry → Type 0) (floor : List Entry → ℕ) (shelf : List ℕ) (low : (log : List Entry) → floor log ≤ length log) where
   -- what has acted in a front of the log has landed
@@ -82,6 +83,14 @@ module _ (may : ℕ → Entry → Type 0) (floor : List Entry → ℕ) (shelf : 
           unstopped : d.stopped ≡ None → Stopped mid failed old d ⊎ ((d.stopped ≡ old.stopped) × (d.answered ≡ old.answered) × (old.answered ≡ None → old.asked ≤ length d.answers.items)) → old.asked ≤ length d.answers.items
           unstopped f (inl x) = absurd (let t : Some x.cause ≡ None = sym x.stopped ∙ f in cc)
           unstopped f (inr x) = x.2 (was.ended (sym x.0 ∙ f))
+
+-- once a phase has ended nothing of any session is on its way
+pub ends_quiet : (may : ℕ → Entry → Type 0) (floor : List Entry → ℕ) (shelf : List ℕ) (old new : NodeView) (was is : List Desk) (failed : Option Cause) → EndsTurn may floor shelf old new was is failed → (s : ℕ) → IsQuiet new s
+ends_quiet may floor shelf old new was is failed h s = subst (λ (n : NodeView). IsQuiet n s) (sym h.forgets) (record {
+  outstanding = subst (All (HasNoneOf s)) (sym h.ends.none) (All-nil (HasNoneOf s));
+  waiting = ap (ranks_in s) h.ends.kept;
+  free = refl;
+})
 
 -- where a list of the same length has an element, so has this one
 pub was_at : (old new : List Desk) (s : ℕ) (d : Desk) → length new ≡ length old → slice_get new s ≡ Some d → (x : Desk) × (slice_get old s ≡ Some x)

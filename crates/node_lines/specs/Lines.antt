@@ -1,5 +1,5 @@
 -- What comes of a line of a session, and of the end of a phase.
-use Rattle.std.specs.Prelude.{◌≡◌, ℕ, ◌+◌, ◌<◌, ◌≤◌, ◌⊎◌, List, [], ◌∷◌, length, Option, Some, None, slice_get, is_none, nat_lt, ◌&&◌, Bool, true, false, if◌then◌else◌}
+use Rattle.std.specs.Prelude.{◌≡◌, ℕ, ◌+◌, ◌<◌, ◌≤◌, ◌⊎◌, List, [], ◌∷◌, length, Option, Some, None, is_none, nat_lt, ◌&&◌, Bool, true, false, if◌then◌else◌}
 use Rattle.std.specs.FinMap as finmap
 use Rattle.std.specs.Option.{option_or}
 use Rattle.delos_types.specs.declared.entry.Entry.{Entry}
@@ -12,7 +12,6 @@ use Rattle.legal_journal.specs.Journal.{state_of, tail_of}
 use Rattle.virtual_log.specs.Holding.{Holds}
 use Rattle.engine_api.specs.Acted.{asked_in, table_after}
 use Rattle.engine_api.specs.Order.{gap_from}
-use Rattle.engine_steps.specs.declared.layout.Kept.{Kept}
 use Rattle.engine_laws.specs.State.{acts_in}
 use Rattle.base_engine.specs.Reading.{IsFront}
 use Rattle.base_engine.specs.Settling.{cause_in}

@@ -1,5 +1,5 @@
 -- What a call of a node keeps of all its sessions, and which faults it came across.
-use Rattle.std.specs.Prelude.{◌≡◌, ℕ, ◌+◌, ◌^◌, ◌-◌, ◌≤◌, min, Bool, true, false, ◌==◌, List, [], ◌∷◌, ◌++◌, length, map, filter_map, count_by, All, Option, Some, None}
+use Rattle.std.specs.Prelude.{◌≡◌, ℕ, ◌+◌, ◌^◌, ◌-◌, ◌≤◌, min, Bool, true, false, ◌==◌, List, [], ◌∷◌, ◌++◌, length, map, count_by, All, None}
 use Rattle.delos_types.specs.declared.entry.Entry.{Entry}
 use Rattle.delos_types.specs.declared.item.Item.{Item}
 use Rattle.delos_types.specs.declared.cause.Cause.{Cause}
@@ -8,9 +8,9 @@ use Rattle.legal_journal.specs.declared.events.Event.{Event}
 use Rattle.journal_faults.specs.Faults.{faults_in}
 use Rattle.engine_api.specs.Packing.{IsProposable}
 use Rattle.base_engine.specs.declared.outbox.Given.{Given}
-use Rattle.base_engine.specs.Settling.{cause_in}
+use Rattle.base_engine.specs.Settling.{sessions_in, has_session, cause_in}
 use Rattle.base_engine.specs.Node.{NodeView, Keeps}
-use Rattle.node_sessions.specs.UnderWay.{IsGiven}
+use Rattle.node_sessions.specs.UnderWay.{IsGiven, ranks_in}
 use Rattle.node_lines.specs.declared.steps.Synced.{Synced}
 use Rattle.node_lines.specs.declared.steps.Synced.TheVariants as synced
 
@@ -65,13 +65,29 @@ abbrev pub GainsNext : NodeView → NodeView → ℕ → ℕ → Type 0
 GainsNext old new s sent =
     cause_in s new.outbox.given ≡ None → IsGiven old.seen old.outbox.entries old.replica.kept s sent → IsGiven new.seen new.outbox.entries new.replica.kept s (sent + 1)
 
+-- no item of the entry is of session s
+abbrev pub HasNoneOf : ℕ → Entry → Type 0
+HasNoneOf s e = has_session s (sessions_in e) ≡ false
+
+-- nothing of session s is on its way: no item of it is outstanding, none waits to be packed, and it has no cause
+pub record IsQuiet (n : NodeView) (s : ℕ) : Type 0 where
+  pub outstanding : All (HasNoneOf s) n.outbox.entries
+  pub waiting : ranks_in s n.replica.kept ≡ []
+  pub free : cause_in s n.outbox.given ≡ None
+
+-- a session of which nothing was on its way was given no cause, and nothing of it went down
+abbrev pub StaysQuiet : NodeView → NodeView → ℕ → Type 0
+StaysQuiet old new s = IsQuiet old s → IsQuiet new s
+
 -- of no session a command goes down
 pub record Moves (may : ℕ → Entry → Type 0) (floor : List Entry → ℕ) (shelf : List ℕ) (old new : NodeView) (others : List Cause) : Type 0 where
   pub goes : Goes may floor shelf old new others
   pub stays : (s : ℕ) → StaysGiven old new s
+  pub quiet : (s : ℕ) → StaysQuiet old new s
 
 -- of session s the next command after so many goes down
 pub record HandsIn (may : ℕ → Entry → Type 0) (floor : List Entry → ℕ) (shelf : List ℕ) (old new : NodeView) (s sent : ℕ) : Type 0 where
   pub goes : Goes may floor shelf old new []
   pub own : GainsNext old new s sent
   pub stays : (t : ℕ) → (s == t) ≡ false → StaysGiven old new t
+  pub quiet : (t : ℕ) → (s == t) ≡ false → StaysQuiet old new t

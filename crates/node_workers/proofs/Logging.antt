@@ -1,8 +1,9 @@
 -- A command is asked at a session's desk.
 use Rattle.std.proofs.Common.{◌≡◌, ◌≢◌, refl, sym, ap, ◌∙◌, subst, ◌⊎◌, inl, inr, ⊎_elim, ℕ, ◌+◌, ◌<◌, ◌≤◌, Bool, true, false, List, [], ◌∷◌, ◌++◌, Option, Some, None, length, arith, append_assoc}
-use Rattle.std.specs.Prelude.{slice_get, slice_set, ◌==◌}
+use Rattle.std.specs.Prelude.{slice_get, slice_set, ◌==◌, Contains}
 use Rattle.std.proofs.lemmas.Bool.Decides.{nat_tests}
 use Rattle.std.proofs.lemmas.List.{length-set}
+use Rattle.std.proofs.lemmas.List.Elements.{Contains-push}
 use Rattle.delos_types.specs.Spaces.{SpaceMap}
 use Rattle.delos_types.specs.declared.entry.Entry.{Entry}
 use Rattle.delos_types.specs.declared.cause.Cause.{Cause}
@@ -55,6 +56,14 @@ module _ (may : ℕ → Entry → Type 0) (floor : List Entry → ℕ) (shelf : 
   still was d others is (inl k) c e = k.1 ∙ e
   still was d others is (inr k) c e = absurd (let t : Some c ≡ None = sym e ∙ k.2 in cc)
 
+  -- it is stopped by another cause where it wasn't before
+  newly : (was d : Desk) (others : List Cause) → ((others ≡ []) × (d.stopped ≡ was.stopped)) ⊎ ((c : Cause) × (others ≡ c ∷ []) × (was.stopped ≡ None) × (d.stopped ≡ Some c)) → (c : Cause) → d.stopped ≡ Some c → (was.stopped ≡ Some c) ⊎ Contains others c
+  newly was d others (inl k) c e = inl (sym k.1 ∙ e)
+  newly was d others (inr k) c e = inr (subst (λ cs. Contains cs c) (sym (k.1 ∙ ap (λ x. x ∷ []) (same k.0 c (sym k.3 ∙ e)))) (Contains-push [] c))
+    where
+      same : (x y : Cause) → Some x ≡ Some y → x ≡ y
+      same x y h = cc
+
   -- a command that isn't handed in
   pub kept_desk : (n : NodeView) (s : ℕ) (d : Desk) → DeskOk n s d → (IsFree n d → ⊥) → DeskOk n s (record d { asked = d.asked + 1 })
   kept_desk n s d ok held = record {
@@ -73,11 +82,14 @@ module _ (may : ℕ → Entry → Type 0) (floor : List Entry → ℕ) (shelf : 
     others = r.others;
     goes = r.moves.goes;
     stays = λ t apart. r.moves.stays t;
+    quiet = λ t apart. r.moves.quiet t;
     asked = ap (λ (x : Desk). x.asked + 1) r.desk;
     sent = ap (λ (x : Desk). x.sent) r.desk ∙ sent;
     session = ap (λ (x : Desk). x.session) r.desk;
     answered = ap (λ (x : Desk). x.answered) r.desk;
     stopped = still was d r.others r.desk r.stops;
+    stops = newly was d r.others r.stops;
+    held = λ c e. ap (λ (x : Desk). x.sent) r.desk;
     counted = λ t apart. refl;
     more = omega arith;
     most = omega arith;
@@ -90,15 +102,19 @@ module _ (may : ℕ → Entry → Type 0) (floor : List Entry → ℕ) (shelf : 
       let first = goes_wider (Within may counts) (Within may counts') floor shelf (λ who e. within-more may counts counts' (counts-rise counts counts' s one) who e) old mid r.others r.moves.goes in
       let own : d.sent ≡ was.sent = ap (λ (x : Desk). x.sent) r.desk in
       let next : is.sent ≡ d.sent + 1 = ap (λ (x : Desk). x.sent) is_it in
+      let free : is.stopped ≡ None = ap (λ (x : Desk). x.stopped) is_it ∙ ((r.free refl).0).0 in
       record {
         others = r.others ++ [];
         goes = goes-both (Within may counts') floor shelf low old mid new r.others [] first h.goes;
         stays = λ t apart. stays-both (Within may counts') floor shelf low old mid new [] t h.goes (r.moves.stays t) (h.stays t apart);
+        quiet = λ t apart q. h.quiet t apart (r.moves.quiet t q);
         asked = ap (λ (x : Desk). x.asked) is_it ∙ ap (λ (x : Desk). x.asked + 1) r.desk;
         sent = omega (arith, next, own, sent, one.own);
         session = ap (λ (x : Desk). x.session) is_it ∙ ap (λ (x : Desk). x.session) r.desk;
         answered = ap (λ (x : Desk). x.answered) is_it ∙ ap (λ (x : Desk). x.answered) r.desk;
         stopped = λ c e. ap (λ (x : Desk). x.stopped) is_it ∙ still was d r.others r.desk r.stops c e;
+        stops = λ c e. absurd (let t : None ≡ Some c = sym free ∙ e in cc);
+        held = λ c e. absurd (let t : None ≡ Some c = sym free ∙ e in cc);
         counted = one.others;
         more = omega (arith, one.own);
         most = omega (arith, one.own);

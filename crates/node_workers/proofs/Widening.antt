@@ -1,19 +1,19 @@
 -- Within more counts more is allowed, and all that was so stays so.
-use Rattle.std.proofs.Common.{◌≡◌, refl, sym, ap, ◌∙◌, subst, ℕ, ◌+◌, ◌≤◌, List, [], ◌∷◌, arith}
+use Rattle.std.proofs.Common.{◌∙◌, ap, ℕ, ◌≤◌, List, ◌++◌, append_assoc, arith}
 use Rattle.std.specs.Prelude.{All}
 use Rattle.std.proofs.lemmas.List.Elements.{All-weaker}
 use Rattle.delos_types.specs.Spaces.{SpaceMap}
 use Rattle.delos_types.specs.declared.entry.Entry.{Entry}
 use Rattle.delos_types.specs.declared.cause.Cause.{Cause}
 use Rattle.legal_journal.specs.declared.events.Event.{Event}
-use Rattle.virtual_log.specs.Holding.{Holds}
 use Rattle.replica_api.specs.Replica.{Saved}
 use Rattle.base_engine.specs.Settling.{MaySend}
-use Rattle.base_engine.specs.Node.{NodeView, NodeOk, Keeps}
-use Rattle.one_thread.specs.Seats.{SeatView, SeatOk, node_of}
+use Rattle.base_engine.specs.Node.{NodeView}
+use Rattle.one_thread.specs.Alone.{Since}
+use Rattle.one_thread.specs.Seats.{SeatView, SeatOk}
 use Rattle.one_thread.proofs.Widening.{legal_wider}
 use Rattle.node_lines.specs.Moving.{Goes}
-use Rattle.node_workers.specs.Workers.{Within, sent_of}
+use Rattle.node_workers.specs.Workers.{Within, Grows, sent_of}
 
 -- what was within the counts is within greater ones
 pub within-more : (may : ℕ → Entry → Type 0) (a b : List ℕ) → ((s : ℕ) → sent_of a s ≤ sent_of b s) → (who : ℕ) (e : Entry) → Within may a who e → Within may b who e
@@ -54,3 +54,16 @@ module _ (a b : ℕ → Entry → Type 0) (floor : List Entry → ℕ) (shelf : 
     spends = h.spends;
     packs = h.packs;
   }
+
+-- what a seat has within some counts it has
+pub seat_allowed : (may : ℕ → Entry → Type 0) (counts : List ℕ) (floor : List Entry → ℕ) (shelf : List ℕ) (state : List Entry → SpaceMap → Type 0) (spells : List ℕ → Saved → Type 0) (journal : List Event) (s : SeatView)
+    → SeatOk (Within may counts) floor shelf state spells journal s → SeatOk may floor shelf state spells journal s
+seat_allowed may counts floor shelf state spells journal s h = seat_wider (Within may counts) may floor shelf (λ who e w. w.0) state spells journal s h
+
+-- A journal that grows.
+
+pub grows-since : (who : ℕ) (old new : List Event) → Since who old new → Grows old new
+grows-since who old new h = (h.more, h.seen)
+
+pub grows-both : (old mid new : List Event) → Grows old mid → Grows mid new → Grows old new
+grows-both old mid new g h = (g.0 ++ h.0, h.1 ∙ (ap (λ l. l ++ h.0) g.1 ∙ append_assoc old g.0 h.0))

@@ -1,5 +1,5 @@
 -- A worker at a later moment.
-use Rattle.std.proofs.Common.{◌≡◌, refl, sym, ap, ◌∙◌, subst, ◌⊎◌, inl, inr, ℕ, ◌+◌, ◌<◌, ◌≤◌, List, [], ◌∷◌, Option, Some, None, length, arith}
+use Rattle.std.proofs.Common.{◌≡◌, sym, ap, ◌∙◌, subst, ◌⊎◌, inl, inr, ℕ, ◌<◌, ◌≤◌, List, Option, Some, arith}
 use Rattle.std.specs.Prelude.{slice_get}
 use Rattle.std.proofs.lemmas.Bool.{cases_lt}
 use Rattle.base_engine.specs.Node.{NodeView}
@@ -7,15 +7,13 @@ use Rattle.delos_types.specs.Spaces.{SpaceMap}
 use Rattle.delos_types.specs.declared.entry.Entry.{Entry}
 use Rattle.delos_types.specs.declared.cause.Cause.{Cause}
 use Rattle.legal_journal.specs.declared.events.Event.{Event}
-use Rattle.legal_journal.specs.Journal.{IsLegal}
 use Rattle.replica_api.specs.Replica.{Saved}
 use Rattle.node_sessions.specs.declared.desk.Desk.{Desk}
 use Rattle.one_thread.specs.Seats.{SeatView, SeatOk, node_of}
 use Rattle.one_thread.proofs.Widening.{legal_wider}
-use Rattle.node_lines.specs.Moving.{Goes, Moves, CanPack}
-use Rattle.node_lines.specs.Desks.{DeskOk, DesksOk, IsBound, AreBound, KeepsFrom}
-use Rattle.node_lines.specs.Lines.{Closes}
-use Rattle.node_lines.specs.Turns.{ClosesIt, ClosesOne, ClosesAll, EndsTurn}
+use Rattle.node_lines.specs.Moving.{Moves, CanPack}
+use Rattle.node_lines.specs.Desks.{AreBound, KeepsFrom}
+use Rattle.node_lines.specs.Turns.{ClosesIt, EndsTurn}
 use Rattle.node_lines.proofs.Desks.{desk_moves}
 use Rattle.node_lines.proofs.Turning.{was_at, same_at}
 use Rattle.node_workers.specs.Workers.{Within, WorkerOk, MayRun, sent_of}

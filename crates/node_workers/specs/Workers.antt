@@ -1,19 +1,15 @@
 -- What holds of a node with its sessions between two of its turns.
-use Rattle.std.specs.Prelude.{◌≡◌, ℕ, ◌+◌, ◌<◌, ◌≤◌, ◌==◌, false, List, [], ◌∷◌, ◌++◌, length, get_or, Option, Some, None, slice_get, slice_set}
+use Rattle.std.specs.Prelude.{◌≡◌, ℕ, ◌+◌, ◌<◌, ◌≤◌, ◌⊎◌, ◌==◌, false, List, ◌++◌, length, get_or, Contains, Some, slice_get, slice_set}
 use Rattle.delos_types.specs.Spaces.{SpaceMap}
 use Rattle.delos_types.specs.declared.entry.Entry.{Entry}
 use Rattle.delos_types.specs.declared.cause.Cause.{Cause}
-use Rattle.table_core.specs.declared.command.Command.{Command}
 use Rattle.legal_journal.specs.declared.events.Event.{Event}
-use Rattle.legal_journal.specs.Journal.{IsLegal}
-use Rattle.engine_api.specs.Packing.{packed, session_item}
 use Rattle.replica_api.specs.Replica.{Saved}
 use Rattle.base_engine.specs.Node.{NodeView}
 use Rattle.node_sessions.specs.declared.desk.Desk.{Desk}
 use Rattle.node_sessions.specs.UnderWay.{HasRank}
-use Rattle.one_thread.specs.Alone.{Since}
 use Rattle.one_thread.specs.Seats.{SeatView, SeatOk, node_of}
-use Rattle.node_lines.specs.Moving.{CanPack, Goes, StaysGiven}
+use Rattle.node_lines.specs.Moving.{CanPack, Goes, StaysGiven, StaysQuiet}
 use Rattle.node_lines.specs.Desks.{DesksOk, MayJoin, KeepsFrom}
 
 -- how many commands of a session were sent, by this list of counts
@@ -23,6 +19,10 @@ sent_of counts s = get_or counts s 0
 -- who may append what, of which no rank is above those that were sent
 abbrev pub Within : (ℕ → Entry → Type 0) → List ℕ → ℕ → Entry → Type 0
 Within may counts who e = may who e × ((s r : ℕ) → HasRank s r e → r ≤ sent_of counts s)
+
+-- all events of before are there still
+abbrev pub Grows : List Event → List Event → Type 0
+Grows old new = (more : List Event) × (new ≡ old ++ more)
 
 -- A node and its sessions, by whom its events are. Of the sessions that asked something here the counts have what was sent.
 pub record WorkerOk (may : ℕ → Entry → Type 0) (floor : List Entry → ℕ) (shelf : List ℕ) (state : List Entry → SpaceMap → Type 0) (spells : List ℕ → Saved → Type 0) (who : ℕ) (counts : List ℕ) (journal : List Event) (seat : SeatView) (desks : List Desk) : Type 0 where
@@ -40,17 +40,21 @@ pub record MayRun (may : ℕ → Entry → Type 0) (floor : List Entry → ℕ) 
   pub join : (who : ℕ) → MayJoin may who who
   pub keeps : KeepsFrom may floor shelf 0
 
--- The session's command was asked, and sent where the counts say so. Of no other session a command is lost; each fault that the
--- node came across came of its own.
+-- The session's command was asked, and sent where the counts say so. Of no other session a command is lost, and one of which
+-- nothing was on its way is given no cause; each fault that the node came across came of its own. Where the session is stopped
+-- then, it was before, or is by one of the other causes; and then the command wasn't sent.
 pub record LogsIt (may : ℕ → Entry → Type 0) (floor : List Entry → ℕ) (shelf : List ℕ) (counts counts' : List ℕ) (old new : NodeView) (s : ℕ) (was is : Desk) : Type 0 where
   pub others : List Cause
   pub goes : Goes (Within may counts') floor shelf old new others
   pub stays : (t : ℕ) → (s == t) ≡ false → StaysGiven old new t
+  pub quiet : (t : ℕ) → (s == t) ≡ false → StaysQuiet old new t
   pub asked : is.asked ≡ was.asked + 1
   pub sent : is.sent ≡ sent_of counts' s
   pub session : is.session ≡ was.session
   pub answered : is.answered ≡ was.answered
   pub stopped : (c : Cause) → was.stopped ≡ Some c → is.stopped ≡ Some c
+  pub stops : (c : Cause) → is.stopped ≡ Some c → (was.stopped ≡ Some c) ⊎ Contains others c
+  pub held : (c : Cause) → is.stopped ≡ Some c → is.sent ≡ was.sent
   pub counted : (t : ℕ) → (s == t) ≡ false → sent_of counts' t ≡ sent_of counts t
   pub more : sent_of counts s ≤ sent_of counts' s
   pub most : sent_of counts' s ≤ sent_of counts s + 1

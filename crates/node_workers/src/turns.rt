@@ -13,7 +13,7 @@ ghost use Rattle.node_lines.specs.Moving.{CanPack};
 ghost use Rattle.node_lines.specs.Desks.{DeskOk};
 ghost use Rattle.node_lines.specs.Lines.{Looks};
 ghost use Rattle.node_lines.specs.Turns.{EndsTurn};
-ghost use Rattle.node_workers.specs.Workers.{WorkerOk, MayRun, LogsIt, Logs, Within, sent_of};
+ghost use Rattle.node_workers.specs.Workers.{WorkerOk, MayRun, LogsIt, Logs, Within, Grows, sent_of};
 
 use crate::within::{Back, end_within, log_within, look_within, ready_within};
 use crate::worker::Worker;
@@ -77,6 +77,8 @@ fn log_at<L: Loglet, R: Register, K: Terms, S: Replica, C: Chooser>(
     requires spelled { IsSpellable command.now }
     requires short { command_length command.now ≤ 984 }
     requires own { K.may seat.who (packed seat.who (session_item session (desk.old.asked + 1) command.now ∷ [])) }
+    ensures stands { SeatOk K.may K.floor K.shelf S.state S.spells result.fabric.journal result.seat }
+    ensures grows { Grows fabric.journal result.fabric.journal }
     ensures since { OnOk result.answer (Since seat.who fabric.journal result.fabric.journal) }
     ensures seat { OnOk result.answer (SeatOk (Within K.may counts.new) K.floor K.shelf S.state S.spells result.fabric.journal result.seat) }
     ensures desk { OnOk result.answer (DeskOk (node_of result.seat result.fabric.journal) session desk.new) }
@@ -145,6 +147,8 @@ pub fn log_line<L: Loglet, R: Register, K: Terms, S: Replica, C: Chooser>(
     requires spelled { IsSpellable command.now }
     requires short { command_length command.now ≤ 984 }
     requires own { (d : Desk) → slice_get worker.desks.items session ≡ Some d → K.may worker.seat.who (packed worker.seat.who (session_item session (d.asked + 1) command.now ∷ [])) }
+    ensures stands { SeatOk K.may K.floor K.shelf S.state S.spells result.fabric.journal result.worker.seat }
+    ensures grows { Grows fabric.journal result.fabric.journal }
     ensures since { OnOk result.answer (Since worker.seat.who fabric.journal result.fabric.journal) }
     ensures worker { OnOk result.answer (WorkerOk K.may K.floor K.shelf S.state S.spells worker.seat.who counts.new result.fabric.journal result.worker.seat result.worker.desks.items) }
     ensures logs { OnOk result.answer (Logs K.may K.floor K.shelf counts.old counts.new (node_of worker.seat fabric.journal) (node_of result.worker.seat result.fabric.journal) session worker.desks.items result.worker.desks.items) }
@@ -188,6 +192,8 @@ pub fn look_line<L: Loglet, R: Register, K: Terms, S: Replica, C: Chooser>(
     requires worker { WorkerOk K.may K.floor K.shelf S.state S.spells worker.seat.who counts.now fabric.journal worker.seat worker.desks.items }
     requires here { (d : Desk) → slice_get worker.desks.items session ≡ Some d → d.sent ≡ sent_of counts.now session }
     ensures desks { result.worker.desks ≡ worker.desks }
+    ensures stands { SeatOk K.may K.floor K.shelf S.state S.spells result.fabric.journal result.worker.seat }
+    ensures grows { Grows fabric.journal result.fabric.journal }
     ensures since { IfOk result.answer (λ l. Since worker.seat.who fabric.journal result.fabric.journal) }
     ensures worker { IfOk result.answer (λ l. WorkerOk K.may K.floor K.shelf S.state S.spells worker.seat.who counts.now result.fabric.journal result.worker.seat result.worker.desks.items) }
     ensures looks { IfOk result.answer (λ l. (d : Desk) → slice_get worker.desks.items session ≡ Some d → Looks (Within K.may counts.now) K.floor K.shelf (node_of worker.seat fabric.journal) (node_of result.worker.seat result.fabric.journal) d query.now l) }
@@ -226,6 +232,8 @@ pub fn end_phase<L: Loglet, R: Register, K: Terms, S: Replica, C: Chooser>(
     requires run { MayRun K.may K.floor K.shelf }
     requires state { (log : List Entry) (m : SpaceMap) → S.state log m → IsStateOf log m }
     requires worker { WorkerOk K.may K.floor K.shelf S.state S.spells worker.seat.who counts.now fabric.journal worker.seat worker.desks.items }
+    ensures stands { SeatOk K.may K.floor K.shelf S.state S.spells result.fabric.journal result.worker.seat }
+    ensures grows { Grows fabric.journal result.fabric.journal }
     ensures since { IfOk result.answer (λ f. Since worker.seat.who fabric.journal result.fabric.journal) }
     ensures worker { IfOk result.answer (λ f. WorkerOk K.may K.floor K.shelf S.state S.spells worker.seat.who counts.now result.fabric.journal result.worker.seat result.worker.desks.items) }
     ensures ends { IfOk result.answer (EndsTurn (Within K.may counts.now) K.floor K.shelf (node_of worker.seat fabric.journal) (node_of result.worker.seat result.fabric.journal) worker.desks.items result.worker.desks.items) }

@@ -1,10 +1,9 @@
-use Rattle.std.proofs.Common.{◌≡◌, refl, sym, ap, ◌∙◌, subst, List, [], Some, None, arith}
-use Rattle.engine_steps.specs.declared.layout.Kept.{Kept}
+use Rattle.std.proofs.Common.{◌≡◌, refl, sym, ap, ◌∙◌, subst, [], None, arith}
 use Rattle.node_sessions.specs.declared.desk.Desk.{Desk}
 use Rattle.replica_api.specs.Replica.{ReplicaView}
 use Rattle.base_engine.specs.Settling.{cause_in}
 use Rattle.node_sessions.specs.Desks.{AreAnswers, AreAllAnswers, InFront}
-use Rattle.node_lines.specs.Moving.{Moves, CanPack, failure_of}
+use Rattle.node_lines.specs.Moving.{CanPack, failure_of}
 use Rattle.node_lines.specs.Lines.{stopped_by}
 use Rattle.node_lines.proofs.Moving.{moves-both, none-before}
 use Rattle.node_lines.proofs.Ending.{caught_near}

@@ -1,7 +1,5 @@
-use Rattle.std.proofs.Common.{◌≡◌, refl, sym, ap, ◌∙◌, subst, List, [], ◌∷◌, Some, None}
-use Rattle.delos_types.specs.declared.entry.Entry.{Entry}
+use Rattle.std.proofs.Common.{ap, ◌∙◌, subst, [], ◌∷◌}
 use Rattle.base_engine.specs.Settling.{OutboxView}
-use Rattle.base_engine.specs.Node.{NodeView}
 use Rattle.replica_api.specs.Replica.{ReplicaView}
 use Rattle.node_lines.specs.Moving.{Moves, failure_of}
 use Rattle.node_lines.proofs.Moving.{moves-both}

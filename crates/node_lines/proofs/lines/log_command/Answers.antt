@@ -1,8 +1,7 @@
-use Rattle.std.proofs.Common.{◌≡◌, refl, sym, ap, ◌∙◌, subst, ◌+◌, ◌∷◌, [], Some, None, arith}
+use Rattle.std.proofs.Common.{refl, sym, ap, ◌∙◌, subst, ◌+◌, ◌∷◌, [], Some, arith}
 use Rattle.table_core.specs.Spelling.{command_text}
 use Rattle.table_core.specs.Reading.{command_of}
 use Rattle.delos_types.specs.declared.item.Item.{Item}
-use Rattle.engine_api.specs.Items.{content_of}
 use Rattle.engine_api.specs.Packing.{packed, session_item}
 use Rattle.engine_steps.specs.Words.{under}
 use Rattle.engine_api.specs.declared.content.Content.TheVariants as content

@@ -1,4 +1,4 @@
-use Rattle.std.proofs.Common.{[], ◌∷◌, subst, sym}
+use Rattle.std.proofs.Common.{[], ◌∷◌, subst}
 use Rattle.base_engine.specs.Causes.{Blames}
 use Rattle.node_lines.proofs.Moving.{moves-sync}
 use Rattle.node_lines.proofs.Spending.{spends-none, spends-blames}

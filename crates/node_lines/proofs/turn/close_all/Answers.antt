@@ -1,14 +1,9 @@
-use Rattle.std.proofs.Common.{◌≡◌, ◌≢◌, refl, sym, ap, ◌∙◌, subst, ℕ, ◌+◌, ◌<◌, ◌≤◌, ◌⊎◌, inl, inr, ⊎_elim, Bool, true, false, List, length, Some, None, arith}
-use Rattle.std.specs.Prelude.{slice_get, slice_set, slice_index_or, ◌==◌}
-use Rattle.std.proofs.lemmas.Bool.Decides.{nat_tests}
+use Rattle.std.proofs.Common.{◌≡◌, sym, ◌∙◌, subst, ◌<◌, length, Some, arith}
+use Rattle.std.specs.Prelude.{slice_get, slice_index_or}
 use Rattle.std.proofs.lemmas.List.{length-set}
 use Rattle.std.proofs.lemmas.Option.{slice_get-get_or, slice_get_within}
-use Rattle.fabric_core.proofs.Marks.{set_other, set_same}
-use Rattle.node_sessions.specs.declared.desk.Desk.{Desk}
-use Rattle.node_lines.specs.Desks.{DeskOk, DesksOk, IsBound}
+use Rattle.node_lines.specs.Desks.{DeskOk, IsBound}
 use Rattle.node_lines.specs.Lines.{HasActedTo}
-use Rattle.node_lines.specs.Turns.{ClosesIt, ClosesOne, ClosesAll}
-use Rattle.node_lines.proofs.Turning.{same_at}
 use Rattle.node_lines.proofs.Closing.{closed_more}
 use Rattle.node_lines.proofs.turn.close_all.Goals as goal
 

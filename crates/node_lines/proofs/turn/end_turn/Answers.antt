@@ -1,6 +1,5 @@
-use Rattle.std.proofs.Common.{◌≡◌, refl, sym, ap, ◌∙◌, subst, Some, None, ◌<◌, length, arith}
+use Rattle.std.proofs.Common.{◌≡◌, subst, None}
 use Rattle.base_engine.specs.Settling.{cause_in}
-use Rattle.node_lines.specs.Desks.{DeskOk}
 use Rattle.node_lines.specs.Lines.{failure_in}
 use Rattle.node_lines.specs.Turns.{ClosesIt}
 use Rattle.node_lines.proofs.Moving.{none-before}

@@ -1,8 +1,8 @@
-use Rattle.std.proofs.Common.{sym, subst}
+use Rattle.std.proofs.Common.{subst}
 use Rattle.std.specs.Prelude.{IfOk}
-use Rattle.one_thread.specs.Seats.{SeatOk, node_of}
+use Rattle.one_thread.specs.Seats.{node_of}
 use Rattle.node_lines.specs.Turns.{EndsTurn}
-use Rattle.node_workers.specs.Workers.{Within, WorkerOk}
+use Rattle.node_workers.specs.Workers.{Within}
 use Rattle.node_workers.proofs.Working.{keeps_within, are_bound, worker_ends}
 use Rattle.node_workers.proofs.turns.end_phase.Goals as goal
 

@@ -1,13 +1,12 @@
-use Rattle.std.proofs.Common.{◌≡◌, refl, sym, ap, ◌∙◌, subst, ◌+◌, ◌^◌, ◌<◌, ◌≤◌, ℕ, [], ◌∷◌, Bool, true, false, not, Some, None, arith}
-use Rattle.std.specs.Prelude.{IfOk, ◌==◌, OnOk}
-use Rattle.delos_types.specs.declared.entry.Entry.{Entry}
+use Rattle.std.proofs.Common.{◌≡◌, sym, ap, ◌∙◌, subst, ◌+◌, ◌^◌, ◌<◌, ◌≤◌, [], ◌∷◌, true, false, Some, None, arith}
+use Rattle.std.specs.Prelude.{IfOk, OnOk}
 use Rattle.engine_api.specs.Items.{content_of}
 use Rattle.engine_api.specs.Packing.{packed, session_item}
 use Rattle.engine_api.proofs.Packed.{content_of-session, proposable-session}
 use Rattle.node_sessions.specs.declared.desk.Desk.{Desk}
 use Rattle.node_sessions.specs.UnderWay.{rank_under}
 use Rattle.one_thread.specs.Alone.{Since}
-use Rattle.one_thread.specs.Seats.{SeatOk, node_of}
+use Rattle.one_thread.specs.Seats.{node_of}
 use Rattle.base_engine.specs.Settling.{cause_in}
 use Rattle.node_lines.specs.Moving.{HandsIn}
 use Rattle.node_lines.specs.Desks.{DeskOk, MayJoin}
@@ -16,7 +15,7 @@ use Rattle.node_lines.proofs.Moving.{rank_elsewhere}
 use Rattle.node_lines.proofs.Sessions.{own_under}
 use Rattle.node_workers.specs.Workers.{Within, LogsIt, sent_of}
 use Rattle.node_workers.proofs.Joining.{within-join, within-one}
-use Rattle.node_workers.proofs.Widening.{within-more, seat_wider}
+use Rattle.node_workers.proofs.Widening.{within-more, seat_wider, seat_allowed, grows-since, grows-both}
 use Rattle.node_workers.proofs.Working.{keeps_within}
 use Rattle.node_workers.proofs.Logging.{since-both, OneMore, counts-rise, kept_logs, handed_logs}
 use Rattle.node_workers.proofs.turns.log_at.Goals as goal
@@ -127,3 +126,31 @@ returns-in-Ok-answer-clause-logs g c =
     let is_it = subst (λ x. OnOk x (c.log_within-seat.new.desk ≡ record d { asked = d.asked + 1; sent = d.sent + 1; answers = c.log_within-seat.new.desk.answers })) c.in-Ok-answer.is c.log_within-seat.ensures.counts in
     handed_logs p.may p.floor p.shelf c.requires.run.low counts counts' old mid new s was d c.log_within-seat.new.desk (record { own = c.count.ensures.own; others = c.count.ensures.others })
     (subst (λ b. Readies (Within p.may counts) p.floor p.shelf old mid was d b) t r) (subst (λ q. HandsIn (Within p.may counts') p.floor p.shelf mid new q d.sent) own_s h) c.requires.sent is_it
+
+pub returns-in-Err-clause-stands : goal.returns-in-Err-clause-stands
+returns-in-Err-clause-stands g c =
+    let p = g.K.Terms in
+    seat_allowed p.may c.args.counts.now p.floor p.shelf g.S.Replica.state g.S.Replica.spells c.ready_within-seat.result.fabric.journal c.ready_within-seat.result.seat c.ready_within-seat.ensures.seat
+
+pub returns-then-not-ready-clause-stands : goal.returns-then-not-ready-clause-stands
+returns-then-not-ready-clause-stands g c =
+    let p = g.K.Terms in
+    seat_allowed p.may c.args.counts.now p.floor p.shelf g.S.Replica.state g.S.Replica.spells c.ready_within-seat.result.fabric.journal c.ready_within-seat.result.seat c.ready_within-seat.ensures.seat
+
+pub returns-in-Ok-answer-clause-stands : goal.returns-in-Ok-answer-clause-stands
+returns-in-Ok-answer-clause-stands g c =
+    let p = g.K.Terms in
+    seat_allowed p.may c.count.new.counts p.floor p.shelf g.S.Replica.state g.S.Replica.spells c.log_within-seat.result.fabric.journal c.log_within-seat.result.seat c.log_within-seat.ensures.seat
+
+pub returns-in-Err-answer-clause-stands : goal.returns-in-Err-answer-clause-stands
+returns-in-Err-answer-clause-stands g c =
+    let p = g.K.Terms in
+    seat_allowed p.may c.count.new.counts p.floor p.shelf g.S.Replica.state g.S.Replica.spells c.log_within-seat.result.fabric.journal c.log_within-seat.result.seat c.log_within-seat.ensures.seat
+
+pub returns-in-Ok-answer-clause-grows : goal.returns-in-Ok-answer-clause-grows
+returns-in-Ok-answer-clause-grows g c =
+    grows-both c.args.fabric.journal c.ready_within-seat.result.fabric.journal c.log_within-seat.result.fabric.journal (grows-since _ _ _ c.ready_within-seat.ensures.since) (grows-since _ _ _ c.log_within-seat.ensures.since)
+
+pub returns-in-Err-answer-clause-grows : goal.returns-in-Err-answer-clause-grows
+returns-in-Err-answer-clause-grows g c =
+    grows-both c.args.fabric.journal c.ready_within-seat.result.fabric.journal c.log_within-seat.result.fabric.journal (grows-since _ _ _ c.ready_within-seat.ensures.since) (grows-since _ _ _ c.log_within-seat.ensures.since)

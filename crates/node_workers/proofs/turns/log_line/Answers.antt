@@ -1,10 +1,9 @@
-use Rattle.std.proofs.Common.{◌≡◌, refl, sym, ap, ◌∙◌, subst, ◌+◌, ◌<◌, [], ◌∷◌, Some, length, arith}
+use Rattle.std.proofs.Common.{◌≡◌, refl, sym, ap, ◌∙◌, subst, Some, length, arith}
 use Rattle.std.specs.Prelude.{slice_get, slice_set, OnOk}
 use Rattle.std.proofs.lemmas.Option.{slice_get_read}
-use Rattle.node_sessions.specs.declared.desk.Desk.{Desk}
 use Rattle.one_thread.specs.Seats.{SeatOk, node_of}
 use Rattle.node_lines.specs.Desks.{DeskOk}
-use Rattle.node_workers.specs.Workers.{Within, WorkerOk, LogsIt, Logs}
+use Rattle.node_workers.specs.Workers.{Within, WorkerOk, LogsIt}
 use Rattle.node_workers.proofs.Logging.{worker_logs}
 use Rattle.node_workers.proofs.turns.log_line.Goals as goal
 

@@ -1,12 +1,12 @@
-use Rattle.std.proofs.Common.{◌≡◌, refl, sym, ap, ◌∙◌, subst, ◌<◌, Some, length, arith}
+use Rattle.std.proofs.Common.{◌≡◌, refl, sym, ◌∙◌, subst, Some, length, arith}
 use Rattle.std.specs.Prelude.{slice_get, IfOk}
 use Rattle.std.proofs.lemmas.Option.{slice_get_read}
 use Rattle.node_sessions.specs.declared.desk.Desk.{Desk}
-use Rattle.one_thread.specs.Seats.{SeatOk, node_of}
+use Rattle.one_thread.specs.Seats.{node_of}
 use Rattle.node_lines.specs.Desks.{DeskOk, IsBound}
 use Rattle.node_lines.specs.Lines.{Looks}
 use Rattle.node_lines.proofs.Turning.{same_at}
-use Rattle.node_workers.specs.Workers.{Within, WorkerOk}
+use Rattle.node_workers.specs.Workers.{Within}
 use Rattle.node_workers.proofs.Working.{keeps_within, worker_moves}
 use Rattle.node_workers.proofs.turns.look_line.Goals as goal
 

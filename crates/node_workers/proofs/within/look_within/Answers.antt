@@ -1,6 +1,6 @@
 use Rattle.std.proofs.Common.{sym, subst}
 use Rattle.base_engine.specs.Node.{NodeView}
-use Rattle.node_lines.specs.Desks.{DesksOk, KeepsFrom}
+use Rattle.node_lines.specs.Desks.{KeepsFrom}
 use Rattle.node_workers.proofs.within.look_within.Goals as goal
 
 pub look-answer-requires-clause-keeps : goal.look-answer-requires-clause-keeps

@@ -1,6 +1,6 @@
 use Rattle.std.proofs.Common.{sym, subst}
 use Rattle.base_engine.specs.Node.{NodeView}
-use Rattle.node_lines.specs.Desks.{DesksOk, KeepsFrom}
+use Rattle.node_lines.specs.Desks.{KeepsFrom}
 use Rattle.node_workers.proofs.within.ready_within.Goals as goal
 
 pub make_ready-answer-requires-clause-keeps : goal.make_ready-answer-requires-clause-keeps

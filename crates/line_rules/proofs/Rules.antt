@@ -1,0 +1,100 @@
+-- What may be appended, and what stands in a log of it.
+use Rattle.std.proofs.Common.{◌≡◌, refl, sym, subst, ℕ, zero, suc, ◌<◌, ◌≤◌, ◌^◌, List, [], ◌∷◌, ◌++◌, Option, Some, length, arith}
+use Rattle.std.specs.Prelude.{slice_get, All, Contains}
+use Rattle.std.specs.List.{AllByRecursion, cons_option}
+use Rattle.delos_types.specs.declared.entry.Entry.{Entry}
+use Rattle.delos_types.specs.declared.item.Item.{Item}
+use Rattle.delos_types.specs.declared.place.Place.{Place}
+use Rattle.table_core.specs.declared.command.Command.{Command}
+use Rattle.table_core.specs.Spelling.{IsSpellable, command_length}
+use Rattle.engine_api.specs.declared.content.Content.{Content}
+use Rattle.engine_api.specs.declared.content.Content.TheVariants.{Session, Alive, Leave, Trim}
+use Rattle.engine_api.specs.declared.content.Placed.{Placed}
+use Rattle.engine_api.specs.Items.{content_of, unpack}
+use Rattle.engine_api.specs.Acted.{Asked, unpack_all, asked_in}
+use Rattle.engine_api.specs.Packing.{packed, session_item, IsProposable}
+use Rattle.engine_api.proofs.Packed.{content_of-session, proposable-session}
+use Rattle.script_text.specs.declared.asks.NamedLine.{NamedLine}
+use Rattle.script_text.specs.declared.asks.Asks.{Asks}
+use Rattle.script_text.specs.declared.asks.Asks.TheVariants as asks
+use Rattle.script_text.specs.declared.line.Session as script
+use Rattle.run_laws.specs.Ended.{LogsThis}
+use Rattle.node_workers.specs.Workers.{MayRun}
+use Rattle.shown_log.proofs.Untrimmed.{none_trimmed}
+use Rattle.line_rules.specs.Rules.{LogsRank, IsLineOf, may_of, AreOfLines, IsAskedBy, floor_of}
+use Rattle.line_rules.proofs.Contents.{all-contained, unpack_all-has, to_packed, one, joined, appearances-has}
+use Rattle.line_rules.proofs.Floors.{Silent, floor-silent}
+
+module _ (lines : List NamedLine) where
+  -- A line's command
+
+  pub line_sent : (at : ℕ) (line : NamedLine) (session : script.Session) (rank : ℕ) (command : Command) → slice_get lines at ≡ Some line → line.asks ≡ asks.Logged session rank command
+      → session.id ≤ 63 → 1 ≤ rank → rank < 2 ^ 64 → IsSpellable command → command_length command ≤ 984 → may_of lines line.node (packed line.node (session_item session.id rank command ∷ []))
+  line_sent at line session rank command is asked known low small spelled short =
+      let item = session_item session.id rank command in
+      let says : content_of item ≡ Some (Session session.id rank (Some command)) = content_of-session session.id rank command known low small spelled in
+      let logs : LogsRank line.asks session.id rank (Some command) = subst (λ a. LogsRank a session.id rank (Some command)) (sym asked) (refl, refl, refl) in
+      let has : IsLineOf lines line.node (Session session.id rank (Some command)) = record { at = at; line = line; is = is; node = refl; logs = logs } in
+      record {
+        own = refl;
+        items = to_packed (IsLineOf lines line.node) line.node (item ∷ []) (one (IsLineOf lines line.node) item (proposable-session session.id rank command known low small spelled short))
+            (subst (λ o. AllByRecursion (IsLineOf lines line.node) (cons_option o [])) (sym says) (has, tt));
+      }
+
+  -- Items that are packed together
+
+  pub lines_join : (who : ℕ) (items : List Item) (item : Item) → (length items ≡ 0 → ⊥) → All IsProposable items → length items ≤ 15 → IsProposable item
+      → may_of lines who (packed who items) → may_of lines who (packed who (item ∷ [])) → may_of lines who (packed who (items ++ item ∷ []))
+  lines_join who items item some all few fine h k = record {
+    own = refl;
+    items = joined (IsLineOf lines who) who items item (at_least (length items) some) all few fine h.items k.items;
+  }
+    where
+      at_least : (n : ℕ) → (n ≡ 0 → ⊥) → 1 ≤ n
+      at_least zero h = absurd (h refl)
+      at_least (suc n) h = omega arith
+
+  -- A log of lines
+
+  -- somebody's line
+  abbrev IsLine : Content → Type 0
+  IsLine c = (who : ℕ) × IsLineOf lines who c
+
+  with_who : (who : ℕ) (ps : List Placed) → AllByRecursion (λ p. IsLineOf lines who p.content) ps → AllByRecursion (λ p. IsLine p.content) ps
+  with_who who [] h = tt
+  with_who who (p ∷ ps) h = ((who, h.0), with_who who ps h.1)
+
+  of_lines : (log : List Entry) → AreOfLines lines log → AllByRecursion (λ e. AllByRecursion (λ p. IsLine p.content) (unpack 0 e)) log
+  of_lines [] h = tt
+  of_lines (e ∷ es) h = (with_who h.0.0 (unpack 0 e) h.0.1.items, of_lines es h.1)
+
+  silent : (c : Content) → IsLine c → Silent c
+  silent (Session s r c) h node = refl
+  silent (Alive n position) h node = absurd h.1
+  silent (Leave n) h node = absurd h.1
+  silent (Trim position) h node = absurd h.1
+
+  all_silent : (ps : List Placed) → AllByRecursion (λ p. IsLine p.content) ps → AllByRecursion (λ p. Silent p.content) ps
+  all_silent [] h = tt
+  all_silent (p ∷ ps) h = (silent p.content h.0, all_silent ps h.1)
+
+  pub trims_nothing : (nodes : ℕ) (log : List Entry) → AreOfLines lines log → floor_of nodes log ≡ 0
+  trims_nothing nodes log h = floor-silent nodes log (all_silent (unpack_all 0 log) (unpack_all-has IsLine 0 log (of_lines log h)))
+
+  logs_this : (a : Asks) (place : Place) (s r : ℕ) (c : Option Command) → LogsRank a s r c → LogsThis a (record { place = place; session = s; rank = r; command = c })
+  logs_this (asks.Logged session rank command) place s r c h = h
+  logs_this (asks.Look session query) place s r c h = absurd h
+
+  pub asked_by : (log : List Entry) → AreOfLines lines log → (x : Asked) → Contains (asked_in 0 log) x → IsAskedBy lines x
+  asked_by log h x among = all-contained (IsAskedBy lines) (asked_in 0 log) x
+      (appearances-has IsLine (IsAskedBy lines) (λ place s r c k. record { at = k.1.at; line = k.1.line; is = k.1.is; logs = logs_this k.1.line.asks place s r c k.1.logs })
+      (unpack_all 0 log) (unpack_all-has IsLine 0 log (of_lines log h))) among
+
+  -- The rules of a run
+
+  pub may_run : (nodes : ℕ) (shelf : List ℕ) → MayRun (may_of lines) (floor_of nodes) shelf
+  may_run nodes shelf = record {
+    low = λ log. omega arith;
+    join = lines_join;
+    keeps = λ seen pos legal trimmed. absurd (none_trimmed (may_of lines) (floor_of nodes) shelf (trims_nothing nodes) seen pos legal trimmed);
+  }

@@ -1,0 +1,62 @@
+-- The rules that a run over nodes picks for its log: who may append what, and up to where the log may be trimmed.
+use Rattle.std.specs.Prelude.{◌≡◌, ℕ, List, length, min, Option, Some, slice_get}
+use Rattle.std.specs.List.{AllByRecursion}
+use Rattle.delos_types.specs.declared.entry.Entry.{Entry}
+use Rattle.table_core.specs.declared.command.Command.{Command}
+use Rattle.engine_api.specs.declared.content.Content.{Content}
+use Rattle.engine_api.specs.declared.content.Content.TheVariants.{Session, Alive, Leave, Trim}
+use Rattle.engine_api.specs.Items.{unpack}
+use Rattle.engine_api.specs.Acted.{Asked, unpack_all}
+use Rattle.engine_api.specs.Members.{least_position}
+use Rattle.script_text.specs.declared.asks.NamedLine.{NamedLine}
+use Rattle.script_text.specs.declared.asks.Asks.{Asks}
+use Rattle.script_text.specs.declared.asks.Asks.TheVariants as asks
+use Rattle.run_laws.specs.Ended.{LogsThis}
+
+-- what is asked is to log this command, as this rank of this session
+abbrev pub LogsRank : Asks → ℕ → ℕ → Option Command → Type 0
+LogsRank (asks.Logged s r c) session rank command = (session ≡ s.id) × (rank ≡ r) × (command ≡ Some c)
+LogsRank (asks.Look s q) session rank command = ⊥
+
+-- a line of the node logs it
+pub record HasLine (lines : List NamedLine) (who session rank : ℕ) (command : Option Command) : Type 0 where
+  pub at : ℕ
+  pub line : NamedLine
+  pub is : slice_get lines at ≡ Some line
+  pub node : line.node ≡ who
+  pub logs : LogsRank line.asks session rank command
+
+-- it is a command, of a line of the node
+abbrev pub IsLineOf : List NamedLine → ℕ → Content → Type 0
+IsLineOf lines who (Session s r c) = HasLine lines who s r c
+IsLineOf lines who (Alive node position) = ⊥
+IsLineOf lines who (Leave node) = ⊥
+IsLineOf lines who (Trim position) = ⊥
+
+-- the entry is the node's own, and each item of it a command of a line there
+pub record HoldsLines (lines : List NamedLine) (who : ℕ) (e : Entry) : Type 0 where
+  pub own : e.origin ≡ who
+  pub items : AllByRecursion (λ p. IsLineOf lines who p.content) (unpack 0 e)
+
+-- who may append what
+abbrev pub may_of : List NamedLine → ℕ → Entry → Type 0
+may_of lines who e = HoldsLines lines who e
+
+-- each entry is somebody's
+abbrev pub AreOfLines : List NamedLine → List Entry → Type 0
+AreOfLines lines log = AllByRecursion (λ e. (who : ℕ) × may_of lines who e) log
+
+-- the least of the positions that the members among the nodes 1 to `nodes` reported, 0 where none is a member
+abbrev pub least_in : ℕ → List Entry → ℕ
+least_in nodes log = least_position nodes (unpack_all 0 log)
+
+-- up to where a log may be trimmed: that position, as far as the log goes
+abbrev pub floor_of : ℕ → List Entry → ℕ
+floor_of nodes log = min (length log) (least_in nodes log)
+
+-- a line asks for this command
+pub record IsAskedBy (lines : List NamedLine) (x : Asked) : Type 0 where
+  pub at : ℕ
+  pub line : NamedLine
+  pub is : slice_get lines at ≡ Some line
+  pub logs : LogsThis line.asks x
