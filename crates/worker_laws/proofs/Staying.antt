@@ -53,7 +53,7 @@ module _ (may : ℕ → Entry → Type 0) (floor : List Entry → ℕ) (shelf : 
     given = λ free none. let g = k.given free none in (g.0, given_later seat.node.outbox.entries seat.node.replica.kept s d.sent g.1);
   }
 
-  seat_later : (state : List Entry → SpaceMap → Type 0) (spells : List ℕ → Saved → Type 0) (s : SeatView) → SeatOk may floor shelf state spells early s → SeatOk may floor shelf state spells (early ++ more) s
+  pub seat_later : (state : List Entry → SpaceMap → Type 0) (spells : List ℕ → Saved → Type 0) (s : SeatView) → SeatOk may floor shelf state spells early s → SeatOk may floor shelf state spells (early ++ more) s
   seat_later state spells s h =
       let on : Later may floor shelf early (early ++ more) = record { more = more; seen = refl; legal = legal } in
       record {

@@ -1,0 +1,33 @@
+#!/bin/sh
+# Appends a second of a striped loglet over native loglets of three log servers on disks in memory: 10,000 entries of 100 bytes through each of three kinds, and more.
+#
+# usage: bench/striped/run.sh PROGRAM [RUNS]
+#
+# PROGRAM is the built `striped_bench`. RUNS is how often each row is measured (7).
+set -eu
+
+program=$1
+runs=${2:-7}
+work=$(mktemp -d)
+trap 'rm -rf "$work"' EXIT
+. "$(dirname "$0")/../rates.sh"
+
+# append APPENDS KIND BYTES: one run
+append() {
+    "$program" "$2" "$1" "$3"
+}
+
+# measure KIND APPENDS BYTES: one row
+measure() {
+    echo "| $1 | $2 | $3 | $(rates "$2" append "$2" "$1" "$3") |"
+}
+
+echo "| kind | appends | bytes each | appends a second, best | median |"
+echo "|---|---|---|---|---|"
+measure striped2 10000 100
+measure striped8 10000 100
+measure nested 10000 100
+measure striped2 20000 100
+measure striped8 20000 100
+measure nested 20000 100
+measure striped8 10000 1000

@@ -1,0 +1,7 @@
+pub mod Counting
+pub mod Turns
+pub mod Sessions
+pub mod Placing
+pub mod Lines
+pub mod Ending
+pub mod Reading

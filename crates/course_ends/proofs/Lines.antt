@@ -1,0 +1,484 @@
+-- How the lines have ended once the nodes have closed.
+use Rattle.std.proofs.Common.{◌≡◌, refl, sym, ap, ◌∙◌, subst, ◌⊎◌, inl, inr, ⊎_elim, ℕ, zero, suc, ◌+◌, ◌-◌, ◌<◌, ◌≤◌, ◌==◌, ◌&&◌, Bool, true, false, cond, List, [], ◌∷◌, Option, Some, None, IsSome, map, length, take, count_by, slice_get, nat_lt, arith, eq-eqb, length-take-le}
+use Rattle.std.specs.List.{AllByRecursion, list_any}
+use Rattle.std.specs.FinMap as finmap
+use Rattle.std.proofs.lemmas.Bool.{and_from, and_parts, cases_lt}
+use Rattle.std.proofs.lemmas.Bool.Decides.{nat_tests}
+use Rattle.std.proofs.lemmas.List.Sums.{count_by-le-length}
+use Rattle.std.proofs.lemmas.Option.{slice_get_within}
+use Rattle.delos_types.specs.Spaces.{SpaceMap}
+use Rattle.delos_types.specs.declared.entry.Entry.{Entry}
+use Rattle.delos_types.specs.declared.place.Place.{Place}
+use Rattle.delos_types.specs.declared.cause.Cause.{Cause}
+use Rattle.table_core.specs.declared.command.Query.{Query}
+use Rattle.table_core.specs.declared.command.Found.{Found}
+use Rattle.table_core.specs.declared.command.Reply.{Reply}
+use Rattle.table_core.specs.Find.{find_in}
+use Rattle.legal_journal.specs.declared.events.Event.{Event}
+use Rattle.legal_journal.specs.Journal.{IsLegal}
+use Rattle.virtual_log.specs.Holding.{Holds}
+use Rattle.engine_api.specs.declared.act.Act.{Act}
+use Rattle.engine_api.specs.Acted.{asked_in, table_after}
+use Rattle.engine_api.specs.Order.{gap_from}
+use Rattle.engine_steps.specs.declared.layout.Kept.{Kept}
+use Rattle.engine_laws.specs.State.{acts_in}
+use Rattle.replica_api.specs.Replica.{Saved}
+use Rattle.base_engine.specs.Reading.{IsFront}
+use Rattle.script_text.specs.declared.asks.NamedLine.{NamedLine}
+use Rattle.script_text.specs.declared.asks.Asks.{Asks}
+use Rattle.script_text.specs.declared.asks.Asks.TheVariants as asks
+use Rattle.row_text.specs.declared.row.Row.{Row}
+use Rattle.row_text.specs.declared.row.Outcome.{Outcome}
+use Rattle.row_text.specs.declared.row.Outcome.TheVariants as out
+use Rattle.fitting_run.specs.Answered.{is_open}
+use Rattle.fitting_run.specs.Lines.{is_of, logs_for}
+use Rattle.fitting_run.specs.Outcomes.{answers, is_row_of}
+use Rattle.one_thread.proofs.Widening.{legal_wider}
+use Rattle.kept_replies.specs.Told.{IsTold}
+use Rattle.node_sessions.specs.declared.desk.Desk.{Desk}
+use Rattle.node_sessions.specs.Desks.{ActedSo, AreAllAnswers}
+use Rattle.node_sessions.proofs.Catching.{acted_sent}
+use Rattle.node_lines.specs.declared.lines.Looked.{Looked}
+use Rattle.node_lines.specs.declared.lines.Looked.TheVariants as looked
+use Rattle.node_workers.specs.Workers.{MayRun, Within, sent_of}
+use Rattle.worker_laws.proofs.Bounding.{tail_bounds}
+use Rattle.run_laws.specs.Ended.{AllAfter, CameOf, CameTo, HasLooked, IsLeft, IsPlaced, IsStoppedBy, IsUnread, LineEnded, Played, SessionEnd, act_of_rank, rank_in, session_in}
+use Rattle.run_laws.proofs.Fronts.{front-acts}
+use Rattle.run_laws.proofs.Members.{all-at, found-among}
+use Rattle.run_laws.proofs.Placing.{is_rank}
+use Rattle.run_course.specs.Script.{asked_before, asked_by, failure_of_look, logs_at}
+use Rattle.run_course.specs.Desks.{HasActed, IsUpTo, LoggedSo, LogsBefore, LookedSo, PlayedSo, SawSo, WasStopped}
+use Rattle.run_course.proofs.Lines.{asked_home, at_get, count-cons, phase_before}
+use Rattle.run_course.proofs.Ranks.{node_is_home, rank_counts, rank_low}
+use Rattle.course_ends.specs.Closing.{HasClosed, WorkerEnd}
+use Rattle.course_ends.specs.Rows.{AreRows, CanTell, CanTellLine, IsRowOf, Tells, TellsIt, TellsPlace, is_behind, played_of}
+use Rattle.course_ends.specs.Ends.{answered_of}
+use Rattle.course_ends.proofs.Turns.{all_after, any_map, count_map, lines_are, map_take, some_at, turn_is}
+use Rattle.course_ends.proofs.Sessions.{AtHome, HasDesk, at_home, ends_so, has_desk, stopped_first, the_end}
+use Rattle.course_ends.proofs.Placing.{acted_below, acted_on, acts_low, acts_not, appeared_by, fronts_agree}
+
+-- Counting
+
+-- what q counts of a list stands among its first elements, where p counts it
+module _ {A : Type 0} (p q : A → Bool) where
+  none_first : (xs : List A) → count_by p (take 0 xs) ≡ 0
+  none_first [] = refl
+  none_first (x ∷ xs) = refl
+
+  counted_no : (x : A) → (q x ≡ true → ⊥) → ◌≡◌ {A = ℕ} (cond (q x) 1 0) 0
+  counted_no x never = by (q x) refl
+    where
+      by : (b : Bool) → q x ≡ b → ◌≡◌ {A = ℕ} (cond b 1 0) 0
+      by true e = absurd (never e)
+      by false e = refl
+
+  counted_yes : (x : A) → (q x ≡ true → p x ≡ true) → cond (q x) 1 0 ≤ cond (p x) 1 0
+  counted_yes x imply = by (q x) (p x) imply
+    where
+      by : (b c : Bool) → (b ≡ true → c ≡ true) → cond b 1 0 ≤ cond c 1 0
+      by false c h = omega arith
+      by true c h = let e : ◌≡◌ {A = ℕ} (cond c 1 0) 1 = ap {B = ℕ} (λ b. cond b 1 0) (h refl) in omega (arith, e)
+
+  few_before : (xs : List A) (i : ℕ) → ((j : ℕ) (x : A) → slice_get xs j ≡ Some x → q x ≡ true → (p x ≡ true) × (j < i)) → count_by q xs ≤ count_by p (take i xs)
+  few_before [] i each = omega arith
+  few_before (x ∷ xs) zero each =
+      let more = count-cons q x xs in
+      let zero' = counted_no x (λ e. let k = (each 0 x refl e).1 in omega (arith, k)) in
+      let rest = few_before xs zero (λ j y at e. absurd (let k = (each (suc j) y at e).1 in omega (arith, k))) in
+      let none = none_first xs in
+      omega (arith, more, zero', rest, none)
+  few_before (x ∷ xs) (suc i) each =
+      let a = count-cons q x xs in
+      let b = count-cons p x (take i xs) in
+      let one = counted_yes x (λ e. (each 0 x refl e).0) in
+      let rest = few_before xs i (λ j y at e. let k = each (suc j) y at e in (k.0, let low = k.1 in omega (arith, low))) in
+      omega (arith, a, b, one, rest)
+
+-- a row that tells what comes of such a line answers it
+answers_so : (d : Desk) (look : Option Looked) (a : Asks) (o : Outcome) → Tells d look a o → answers a o ≡ true
+answers_so d look (asks.Logged s r command) (out.Placed place reply late) t = refl
+answers_so d look (asks.Logged s r command) (out.Open cause) t = refl
+answers_so d look (asks.Look s query) (out.Read after found) t = refl
+answers_so d look (asks.Look s query) (out.Open cause) t = refl
+answers_so d look a o t = absurd t
+
+same_some : {A : Type 0} (x y : A) → Some x ≡ Some y → x ≡ y
+same_some x y e = cc
+
+module _ (may : ℕ → Entry → Type 0) (floor : List Entry → ℕ) (shelf : List ℕ) (state : List Entry → SpaceMap → Type 0) (spells : List ℕ → Saved → Type 0) (run : MayRun may floor shelf) (lines : List NamedLine) (journal : List Event) (counts : List ℕ) (looks : List (Option Looked)) (log : List Entry) (workers : List WorkerEnd) (h : HasClosed may floor shelf state spells lines journal counts looks log workers) where
+  abbrev Home : ℕ → Type 0
+  Home s = AtHome may floor shelf state spells lines journal counts looks log workers h s
+
+  abbrev Seat : (s : ℕ) → Home s → Type 0
+  Seat s n = HasDesk may floor shelf state spells lines journal counts looks log workers h s n
+
+  abbrev ends : ℕ → SessionEnd
+  ends s = the_end may floor shelf state spells lines journal counts looks log workers h s
+
+  abbrev end_so : ℕ → Desk → SessionEnd
+  end_so s d = ends_so may floor shelf state spells lines journal counts looks log workers h s d
+
+  first_stop : (s : ℕ) (n : Home s) (d : Seat s n) (k : Cause) → d.was.stopped ≡ Some k → (a : ℕ) × (d.was.answered ≡ Some a)
+  first_stop s n d k stop = stopped_first may floor shelf state spells lines journal counts looks log workers h s n d k stop
+
+  legal : IsLegal may floor shelf h.course.journal
+  legal = legal_wider (Within may counts) may floor shelf (λ who e k. k.0) h.course.journal h.ok.legal
+
+  -- the log as far as it was played is a front of what is held
+  front : IsFront Holds h.course.journal log
+  front = subst (λ j. IsFront Holds j log) (sym h.journal_is) h.front
+
+  -- what a node has applied is how the log begins
+  begins_so : (s : ℕ) (n : Home s) (l : List Entry) → IsFront Holds h.course.journal l → length l ≤ n.worker.seat.node.replica.cursor → (length l ≤ length log) × (l ≡ take (length l) log)
+  begins_so s n l was upto =
+      let short : length l ≤ length log = let a = n.closed.short in omega (arith, a, upto) in
+      (short, fronts_agree may floor shelf h.course.journal l log legal was front short)
+
+  -- A line that logs a command
+
+  module _ (i : ℕ) (l : NamedLine) (s r : ℕ) (n : Home s) (d : Seat s n) (at : slice_get lines i ≡ Some l) (logs : logs_for s l ≡ true) (rank : rank_in l.asks ≡ r) where
+    within : i < length lines
+    within = slice_get_within lines i l at
+
+    over : l.phase < h.course.phase
+    over = h.over i l at
+
+    node : l.node ≡ h.home s
+    node = node_is_home lines h.home (length workers) h.lines_are i s l at logs
+
+    rank_is : r ≡ asked_by lines (h.home s) s i + 1
+    rank_is = sym rank ∙ rank_counts lines h.home (length workers) h.lines_are (h.home s) i s l at node logs
+
+    least : 1 ≤ r
+    least = omega (arith, rank_is)
+
+    asked : r ≤ asked_by lines (h.home s) s (length lines)
+    asked = let low = rank_low lines h.home (length workers) h.lines_are (h.home s) i (length lines) s l at within node logs in omega (arith, low, rank)
+
+    few : r ≤ length lines
+    few =
+        let most = count_by-le-length (logs_at (h.home s) s) (take (length lines) lines) in
+        let size = length-take-le (length lines) lines (omega arith) in
+        omega (arith, asked, most, size)
+
+    -- the session's answers are all of its ranks that acted
+    all : AreAllAnswers log s d.now.answers.items
+    all = d.all (let is = d.stands.asked in omega (arith, asked, least, is))
+
+    answered_is : d.now.answered ≡ d.was.answered
+    answered_is = ap (λ (x : Desk). x.answered) d.rest
+
+    stopped_is : d.now.stopped ≡ d.was.stopped
+    stopped_is = ap (λ (x : Desk). x.stopped) d.rest
+
+    -- no command of then or later was sent when its phase began
+    sent_later : asked_before lines s l.phase < r
+    sent_later =
+        let before = few_before (logs_for s) (λ m. logs_for s m && nat_lt m.phase l.phase) lines i each in
+        let home = asked_home lines h.home (length workers) h.lines_are s i in
+        omega (arith, before, home, rank_is)
+      where
+        each : (j : ℕ) (m : NamedLine) → slice_get lines j ≡ Some m → (logs_for s m && nat_lt m.phase l.phase) ≡ true → (logs_for s m ≡ true) × (j < i)
+        each j m there e =
+            let parts = and_parts (logs_for s m) (nat_lt m.phase l.phase) e in (
+              parts.0,
+              ⊎_elim (λ (before : j < i). before)
+                  (λ (behind : i ≤ j).
+                  let up = phase_before lines h.home (length workers) h.lines_are i j l m at there behind in
+                  absurd (let low : m.phase < l.phase = grind (arith, nat_tests, parts.1) in omega (arith, low, up)))
+                  (cases_lt j i),
+            )
+
+    module _ (so : LoggedSo h.course h.course.phase n.worker.seat.node.replica.cursor d.was l.phase s r) where
+      -- it acted by the end of its phase, where it isn't above what was answered
+      acted_so : (o : Option ℕ) → d.was.answered ≡ o → r ≤ answered_of lines o → HasActed h.course n.worker.seat.node.replica.cursor l.phase s r
+      acted_so o is low = so.acted over (subst (λ x. IsUpTo x r) (sym is) (upto o low))
+        where
+          upto : (x : Option ℕ) → r ≤ answered_of lines x → IsUpTo x r
+          upto None k = tt
+          upto (Some a) k = k
+
+      acted_low : HasActed h.course n.worker.seat.node.replica.cursor l.phase s r → r < gap_from (asked_in 0 log) s 1
+      acted_low k =
+          let b = begins_so s n k.log k.front k.within in
+          acted_on log (length k.log) s r (subst (λ x. r < gap_from (asked_in 0 x) s 1) b.1 k.acted)
+
+      -- its row tells where it was placed
+      module _ (told : (log : List Entry) → AllByRecursion (λ a. IsTold a.reply) (acts_in log)) (place : Place) (reply : Option Reply) (late : Bool) (t : TellsPlace d.now r place reply late) where
+        so_kept : ActedSo log s (t.index + 1) t.kept
+        so_kept = all.each t.index t.kept t.at
+
+        found : act_of_rank log s r ≡ Some so_kept.act
+        found = subst (λ q. act_of_rank log s q ≡ Some so_kept.act) (sym t.rank) so_kept.found
+
+        late_so : (o : Option ℕ) → is_behind o r ≡ nat_lt (answered_of lines o) r
+        late_so None = let no : nat_lt (length lines) r ≡ false = grind (arith, nat_tests, few) in sym no
+        late_so (Some a) = refl
+
+        placed_from : h.course.tails l.phase ≤ so_kept.act.place.pos
+        placed_from =
+            let began = h.ok.began l.phase (let low = over in omega (arith, low)) in
+            let x = appeared_by log s r least so_kept.act found in
+            let sent = began.sent s in
+            let above : sent_of began.counts s < r = omega (arith, sent, sent_later) in
+            let held = subst (λ j. Holds j x.0 x.1) began.seen (front x.0 x.1 x.2) in
+            let low = tail_bounds may floor shelf run.low began.counts began.early began.more s r x.0 x.1 began.legal (subst (IsLegal may floor shelf) began.seen legal) held x.3 above in
+            let up = x.4 in
+            omega (arith, low, up, began.tail_is)
+
+        placed_upto : r ≤ answered_of lines d.was.answered → so_kept.act.place.pos < h.course.tails (l.phase + 1)
+        placed_upto low =
+            let k = acted_so d.was.answered refl low in
+            let b = begins_so s n k.log k.front k.within in
+            let below = acted_below log s r least so_kept.act found (length k.log) b.0 (subst (λ x. r < gap_from (asked_in 0 x) s 1) b.1 k.acted) in
+            omega (arith, below, k.upto)
+
+        placed : IsPlaced log h.course.tails (end_so s d.was) l.phase s r place reply late
+        placed = record {
+          act = so_kept.act;
+          found = found;
+          place_is = t.place_is ∙ ap (λ (k : Kept). k.place) so_kept.is;
+          reply_is = t.reply_is so_kept.act.reply (all-at (λ (a : Act). IsTold a.reply) (acts_in log) so_kept.act (told log) (found-among (is_rank s r) (acts_in log) so_kept.act found).0) (ap (λ (k : Kept). k.reply) so_kept.is);
+          late_is = t.late_is ∙ ap (λ o. is_behind o r) answered_is ∙ late_so d.was.answered;
+          from = placed_from;
+          upto = placed_upto;
+        }
+
+        -- nothing of a later phase acts than that in which its session was stopped
+        not_stopped : (k : Cause) → d.was.stopped ≡ Some k → h.course.when s < l.phase → ⊥
+        not_stopped k stop earlier =
+            let first = first_stop s n d k stop in
+            let unsent = so.unsent first.0 first.1 earlier in
+            let sent = d.stands.sent refl in
+            let low = acts_low log s r least so_kept.act found in
+            let most = acted_sent (Within may counts) floor shelf h.course.journal log s (sent_of counts s) h.ok.legal front (λ who e q allowed has. allowed.1 s q has) in
+            omega (arith, unsent, sent, low, most)
+
+      -- its row tells that it is open
+      left : (cause : Cause) → length d.now.answers.items < r → d.now.stopped ≡ Some cause → IsLeft log (end_so s d.was) s r cause
+      left cause high stop =
+          let was : d.was.stopped ≡ Some cause = sym stopped_is ∙ stop in
+          let gap = all.all in
+          record {
+            none = acts_not log s r least (omega (arith, gap, high));
+            stopped = was;
+            above = ⊎_elim (λ (above : answered_of lines d.was.answered < r). above)
+                (λ (low : r ≤ answered_of lines d.was.answered). absurd (let acted = acted_low (acted_so d.was.answered refl low) in omega (arith, acted, gap, high)))
+                (cases_lt (answered_of lines d.was.answered) r);
+          }
+
+      -- it is answered, or its session was stopped
+      has_outcome : (r ≤ length d.now.answers.items) ⊎ IsSome d.now.stopped
+      has_outcome = by d.was.answered refl
+        where
+          by : (o : Option ℕ) → d.was.answered ≡ o → (r ≤ length d.now.answers.items) ⊎ IsSome d.now.stopped
+          by None is = inl (let acted = acted_low (so.acted over (subst (λ o. IsUpTo o r) (sym is) tt)) in let gap = all.all in omega (arith, acted, gap))
+          by (Some a) is = inr (subst IsSome (sym (stopped_is ∙ (d.stands.ended a is).is)) refl)
+
+      missed : answered_of lines d.was.answered < r → IsSome d.was.stopped × (h.course.when s ≤ l.phase)
+      missed above = by d.was.answered refl above
+        where
+          by : (o : Option ℕ) → d.was.answered ≡ o → answered_of lines o < r → IsSome d.was.stopped × (h.course.when s ≤ l.phase)
+          by None is high = absurd (omega (arith, high, few))
+          by (Some a) is high =
+              let ended = d.stands.ended a is in (
+                subst IsSome (sym ended.is) refl,
+                ⊎_elim (λ (early : l.phase < h.course.when s). absurd (let low = ended.earlier i l at logs early in omega (arith, low, rank, high)))
+                    (λ (late : h.course.when s ≤ l.phase). late)
+                    (cases_lt l.phase (h.course.when s)),
+              )
+
+  -- A line that was played, at its session's desk
+
+  module _ (i : ℕ) (l : NamedLine) (line_at : slice_get lines i ≡ Some l) where
+    node_at : l.node ≡ h.home (session_in l.asks)
+    node_at = at_get (λ (m : NamedLine). m.node ≡ h.home (session_in m.asks)) lines i l h.lines_are.at_home line_at
+
+    module _ (a : Asks) (is : l.asks ≡ a) where
+      known : session_in a < 64
+      known = let low = at_get (λ (m : NamedLine). session_in m.asks ≤ 63) lines i l h.lines_are.known line_at in let same = ap session_in is in omega (arith, low, same)
+
+      node_is : l.node ≡ h.home (session_in a)
+      node_is = node_at ∙ ap (λ x. h.home (session_in x)) is
+
+      home_of : Home (session_in a)
+      home_of = at_home may floor shelf state spells lines journal counts looks log workers h (session_in a)
+
+      seat_of : Seat (session_in a) home_of
+      seat_of = has_desk may floor shelf state spells lines journal counts looks log workers h (session_in a) home_of known
+
+      -- its node, counted from 0
+      index_is : l.node ≡ h.home (session_in a) - 1 + 1
+      index_is = let there = h.lines_are.there (session_in a) in let e : h.home (session_in a) ≡ h.home (session_in a) - 1 + 1 = omega (arith, there) in node_is ∙ e
+
+      desk_at : slice_get home_of.worker.desks (session_in l.asks) ≡ Some seat_of.now
+      desk_at = ap (λ x. slice_get home_of.worker.desks (session_in x)) is ∙ seat_of.now_there
+
+      played_so : PlayedSo lines h.course h.course.phase home_of.worker.seat.node.replica.cursor (h.home (session_in a)) home_of.closed.was looks i l.phase a
+      played_so =
+          subst (PlayedSo lines h.course h.course.phase home_of.worker.seat.node.replica.cursor (h.home (session_in a)) home_of.closed.was looks i l.phase) is
+          (home_of.closed.rests.worker.played i l (slice_get_within lines i l line_at) line_at node_is)
+
+    tells_it : (a : Asks) (is : l.asks ≡ a) (look : Option Looked) → slice_get looks i ≡ Some look → PlayedSo lines h.course h.course.phase (home_of a is).worker.seat.node.replica.cursor (h.home (session_in a)) (home_of a is).closed.was looks i l.phase a
+        → TellsIt (seat_of a is).now look a
+    tells_it (asks.Logged s r command) is look look_at so =
+        let x = seat_of (asks.Logged s r command) is in
+        let logs = ap (is_of s.id) is ∙ eq-eqb s.id s.id refl in (
+          least i l s.id r (home_of (asks.Logged s r command) is) x line_at logs (ap rank_in is),
+          has_outcome i l s.id r (home_of (asks.Logged s r command) is) x line_at logs (ap rank_in is) (so x.was x.was_there),
+        )
+    tells_it (asks.Look s query) is look look_at so = subst IsSome (same_some (Some so.0) look (sym so.1 ∙ look_at)) refl
+
+    can_tell_line : CanTellLine workers looks i l
+    can_tell_line =
+        let size = h.ok.size in
+        let within = slice_get_within lines i l line_at in
+        let look = some_at looks i (omega (arith, size, within)) in
+        record {
+          index = h.home (session_in l.asks) - 1;
+          node = index_is l.asks refl;
+          worker = (home_of l.asks refl).worker;
+          worker_at = (home_of l.asks refl).at;
+          desk = (seat_of l.asks refl).now;
+          desk_at = desk_at l.asks refl;
+          look = look.0;
+          look_at = look.1;
+          tells = tells_it l.asks refl look.0 look.1 (played_so l.asks refl);
+        }
+
+  pub can_tell : CanTell lines workers looks
+  can_tell = record { size = h.ok.size; each = can_tell_line }
+
+  -- A line that looks
+
+  module _ (told : (log : List Entry) → AllByRecursion (λ a. IsTold a.reply) (acts_in log)) (rows : List Row) (are : AreRows lines workers looks rows) where
+    abbrev played : List Played
+    played = played_of lines rows looks
+
+    played_lines : map (λ t. t.line) played ≡ lines
+    played_lines = lines_are lines rows looks are.size h.ok.size
+
+    -- the first lines, with their rows
+    first_lines : (i : ℕ) → map (λ t. t.line) (take i played) ≡ take i lines
+    first_lines i = map_take (λ (t : Played). t.line) i played ∙ ap (take i) played_lines
+
+    count_first : (i s : ℕ) → count_by (λ t. logs_for s t.line) (take i played) ≡ count_by (logs_for s) (take i lines)
+    count_first i s = count_map (λ (t : Played). t.line) (logs_for s) (take i played) ∙ ap (count_by (logs_for s)) (first_lines i)
+
+    any_first : (i s phase : ℕ) → list_any (λ t. logs_for s t.line && (t.line.phase == phase)) (take i played) ≡ list_any (λ l. logs_for s l && (l.phase == phase)) (take i lines)
+    any_first i s phase =
+        any_map (λ (t : Played). t.line) (λ l. logs_for s l && (l.phase == phase)) (take i played) ∙ ap (list_any (λ l. logs_for s l && (l.phase == phase))) (first_lines i)
+
+    module _ (i : ℕ) (l : NamedLine) (s : ℕ) (query : Query) (n : Home s) (d : Seat s n) where
+      saw : (after : ℕ) (found : Found) → SawSo lines h.course n.worker.seat.node.replica.cursor d.was i l.phase s query after found → HasLooked log h.course.tails (take i played) l.phase s query after found
+      saw after found k =
+          let b = begins_so s n k.log k.front (let a = k.within in let e = k.size in omega (arith, a, e)) in
+          let front_is : k.log ≡ take after log = b.1 ∙ ap (λ m. take m log) k.size in
+          let short : after ≤ length log = let a = b.0 in let e = k.size in omega (arith, a, e) in
+          record {
+            within = short;
+            shows = k.shows ∙ ap (λ acts. find_in (table_after finmap.empty acts) query) (ap acts_in front_is ∙ sym (front-acts log after short));
+            sees = ap (λ x. gap_from (asked_in 0 x) s 1) (sym front_is) ∙ k.sees ∙ ap (λ m. m + 1) (sym (count_first i s));
+            from = k.from;
+            upto = k.upto;
+          }
+
+      kept : (row : Row) (look : Option Looked) (cause : Cause) → WasStopped h.course d.was l.phase s cause ⊎ (LogsBefore lines i s l.phase × CameTo h.course.faults cause (h.home s) l.phase) → l.node ≡ h.home s
+          → IsUnread h.course.faults (end_so s d.was) (take i played) (record { line = l; row = row; paid = failure_of_look look }) s cause
+      kept row look cause (inl k) own = inr (inl (k.cause_is, k.earlier))
+      kept row look cause (inr k) own = inr (inr (any_first i s l.phase ∙ k.0, subst (λ m. CameTo h.course.faults cause m l.phase) (sym own) k.1))
+
+    -- A line with its row
+
+    module _ (i : ℕ) (l : NamedLine) (row : Row) (look : Option Looked) (line_at : slice_get lines i ≡ Some l) (row_at : slice_get rows i ≡ Some row) (look_at : slice_get looks i ≡ Some look) where
+      abbrev turn : Played
+      turn = record { line = l; row = row; paid = failure_of_look look }
+
+      abbrev n : (a : Asks) → l.asks ≡ a → Home (session_in a)
+      n a is = home_of i l line_at a is
+
+      abbrev d : (a : Asks) (is : l.asks ≡ a) → Seat (session_in a) (n a is)
+      d a is = seat_of i l line_at a is
+
+      module _ (a : Asks) (is : l.asks ≡ a) where
+        row_so : IsRowOf l (d a is).now look row
+        row_so = are.each i (h.home (session_in a) - 1) l (n a is).worker (d a is).now look row line_at (index_is i l line_at a is) (n a is).at (desk_at i l line_at a is) look_at row_at
+
+        tells : Tells (d a is).now look a row.outcome
+        tells = subst (λ x. Tells (d a is).now look x row.outcome) is row_so.tells
+
+        row_is : is_row_of (record { line = l; row = row }) ≡ true
+        row_is = and_from _ _ (and_from _ _ (eq-eqb row.number l.number row_so.number) row_so.who) (answers_so (d a is).now look l.asks row.outcome row_so.tells)
+
+      -- of each kind of line
+
+      came : (a : Asks) (is : l.asks ≡ a) (o : Outcome) → PlayedSo lines h.course h.course.phase (n a is).worker.seat.node.replica.cursor (h.home (session_in a)) (n a is).closed.was looks i l.phase a → Tells (d a is).now look a o
+          → CameOf log h.course.tails h.course.faults ends (take i played) turn a o
+      came (asks.Logged s r command) is (out.Placed place reply late) so t =
+          let x = d (asks.Logged s r command) is in
+          subst (λ e. IsPlaced log h.course.tails e l.phase s.id r place reply late) (sym x.ends)
+          (placed i l s.id r (n (asks.Logged s r command) is) x line_at (ap (is_of s.id) is ∙ eq-eqb s.id s.id refl) (ap rank_in is) (so x.was x.was_there) told place reply late t)
+      came (asks.Logged s r command) is (out.Open cause) so t =
+          let x = d (asks.Logged s r command) is in
+          subst (λ e. IsLeft log e s.id r cause) (sym x.ends)
+          (left i l s.id r (n (asks.Logged s r command) is) x line_at (ap (is_of s.id) is ∙ eq-eqb s.id s.id refl) (ap rank_in is) (so x.was x.was_there) cause t.0 t.1)
+      came (asks.Look s query) is (out.Read after found) so t =
+          let x = d (asks.Look s query) is in
+          let same : so.0 ≡ looked.Found after found = same_some so.0 (looked.Found after found) (same_some (Some so.0) (Some (looked.Found after found)) (sym so.1 ∙ look_at ∙ ap Some t)) in
+          saw i l s.id query (n (asks.Look s query) is) x after found
+          (subst (LookedSo lines h.course (n (asks.Look s query) is).worker.seat.node.replica.cursor (h.home s.id) x.was i l.phase s.id query) same (so.2 x.was x.was_there))
+      came (asks.Look s query) is (out.Open cause) so (inl t) =
+          let x = d (asks.Look s query) is in
+          let same : so.0 ≡ looked.Kept cause = same_some so.0 (looked.Kept cause) (same_some (Some so.0) (Some (looked.Kept cause)) (sym so.1 ∙ look_at ∙ ap Some t)) in
+          subst (λ e. IsUnread h.course.faults e (take i played) turn s.id cause) (sym x.ends)
+          (kept i l s.id query (n (asks.Look s query) is) x row look cause
+          (subst (LookedSo lines h.course (n (asks.Look s query) is).worker.seat.node.replica.cursor (h.home s.id) x.was i l.phase s.id query) same (so.2 x.was x.was_there)) (node_is i l line_at (asks.Look s query) is))
+      came (asks.Look s query) is (out.Open cause) so (inr t) = inl (ap failure_of_look t)
+      came a is o so t = absurd t
+
+      missed_so : (a : Asks) (is : l.asks ≡ a) → PlayedSo lines h.course h.course.phase (n a is).worker.seat.node.replica.cursor (h.home (session_in a)) (n a is).closed.was looks i l.phase a → IsStoppedBy (ends (session_in a)) l.phase a
+      missed_so (asks.Logged s r command) is so =
+          let x = d (asks.Logged s r command) is in
+          subst (λ e. IsStoppedBy e l.phase (asks.Logged s r command)) (sym x.ends)
+          (missed i l s.id r (n (asks.Logged s r command) is) x line_at (ap (is_of s.id) is ∙ eq-eqb s.id s.id refl) (ap rank_in is) (so x.was x.was_there))
+      missed_so (asks.Look s query) is so = tt
+
+      some_cause : (o : Option Cause) → IsSome o → (k : Cause) × (o ≡ Some k)
+      some_cause None some = absurd (cc)
+      some_cause (Some k) some = (k, refl)
+
+      stopped_so : (a : Asks) (is : l.asks ≡ a) (o : Outcome) → PlayedSo lines h.course h.course.phase (n a is).worker.seat.node.replica.cursor (h.home (session_in a)) (n a is).closed.was looks i l.phase a → Tells (d a is).now look a o
+          → IsSome (d a is).was.stopped → h.course.when (session_in a) < l.phase → is_open o ≡ true
+      stopped_so (asks.Logged s r command) is (out.Placed place reply late) so t some earlier =
+          let x = d (asks.Logged s r command) is in
+          let k = some_cause x.was.stopped some in
+          absurd (not_stopped i l s.id r (n (asks.Logged s r command) is) x line_at (ap (is_of s.id) is ∙ eq-eqb s.id s.id refl) (ap rank_in is) (so x.was x.was_there) told place reply late t k.0 k.1 earlier)
+      stopped_so (asks.Logged s r command) is (out.Open cause) so t some earlier = refl
+      stopped_so (asks.Look s query) is (out.Read after found) so t some earlier =
+          let x = d (asks.Look s query) is in
+          let k = some_cause x.was.stopped some in
+          let first = first_stop s.id (n (asks.Look s query) is) x k.0 k.1 in
+          let same : so.0 ≡ looked.Found after found = same_some so.0 (looked.Found after found) (same_some (Some so.0) (Some (looked.Found after found)) (sym so.1 ∙ look_at ∙ ap Some t)) in
+          let seen : SawSo lines h.course (n (asks.Look s query) is).worker.seat.node.replica.cursor x.was i l.phase s.id query after found =
+          subst (LookedSo lines h.course (n (asks.Look s query) is).worker.seat.node.replica.cursor (h.home s.id) x.was i l.phase s.id query) same (so.2 x.was x.was_there) in
+          let free = seen.free first.0 first.1 in
+          absurd (omega (arith, free, earlier))
+      stopped_so (asks.Look s query) is (out.Open cause) so t some earlier = refl
+      stopped_so a is o so t some earlier = absurd t
+
+      ended : LineEnded log h.course.tails h.course.faults ends (take i played) turn
+      ended = record {
+        row = row_is l.asks refl;
+        came = came l.asks refl row.outcome (played_so i l line_at l.asks refl) (tells l.asks refl);
+        missed = missed_so l.asks refl (played_so i l line_at l.asks refl);
+        stopped = subst (λ e. IsSome e.stopped → e.when < l.phase → is_open row.outcome ≡ true) (sym (d l.asks refl).ends)
+            (stopped_so l.asks refl row.outcome (played_so i l line_at l.asks refl) (tells l.asks refl));
+      }
+
+    pub lines_ended : AllAfter (LineEnded log h.course.tails h.course.faults ends) [] played
+    lines_ended = all_after (LineEnded log h.course.tails h.course.faults ends) [] played each
+      where
+        each : (i : ℕ) (t : Played) → slice_get played i ≡ Some t → LineEnded log h.course.tails h.course.faults ends (take i played) t
+        each i t at =
+            let k = turn_is lines rows looks i t at in
+            subst (LineEnded log h.course.tails h.course.faults ends (take i played)) (sym k.is) (ended i k.line k.row k.look k.line_at k.row_at k.look_at)

@@ -1,0 +1,111 @@
+-- A run whose nodes have closed stays closed as its chain is read.
+use Rattle.std.proofs.Common.{◌≡◌, refl, sym, ap, ◌∙◌, subst, ◌⊎◌, inl, inr, ⊎_elim, ℕ, zero, suc, ◌+◌, ◌<◌, ◌≤◌, Bool, true, false, List, [], ◌∷◌, ◌++◌, Option, Some, None, length, arith, append_assoc}
+use Rattle.std.specs.Prelude.{◌==◌, slice_get, count_by}
+use Rattle.std.specs.List.{AllByRecursion}
+use Rattle.std.proofs.lemmas.Bool.Decides.{nat_tests}
+use Rattle.std.proofs.lemmas.Option.{slice_get_within}
+use Rattle.delos_types.specs.Spaces.{SpaceMap}
+use Rattle.delos_types.specs.declared.entry.Entry.{Entry}
+use Rattle.delos_types.specs.declared.cause.Cause.{Cause}
+use Rattle.legal_journal.specs.declared.events.Event.{Event}
+use Rattle.legal_journal.specs.declared.events.FabricCall.{FabricCall}
+use Rattle.legal_journal.specs.declared.events.FabricCall.TheVariants.{ReadChain, MendMeta}
+use Rattle.legal_journal.specs.declared.events.FabricAnswer.{FabricAnswer}
+use Rattle.legal_journal.specs.declared.events.FabricAnswer.TheVariants.{At, Down, Set}
+use Rattle.legal_journal.specs.Moves.{move, move_of}
+use Rattle.legal_journal.specs.Journal.{State, start, state_of, after, IsAllowed, IsLegalFrom, IsLegal}
+use Rattle.legal_journal.proofs.Legal.{IsLegalFrom-split, IsLegalFrom-join}
+use Rattle.virtual_log.specs.Holding.{Holds}
+use Rattle.base_engine.specs.Holding.{held_stays}
+use Rattle.replica_api.specs.Replica.{Saved}
+use Rattle.base_engine.specs.Reading.{IsFront}
+use Rattle.script_text.specs.declared.asks.NamedLine.{NamedLine}
+use Rattle.one_thread.specs.Alone.{Since, AreOwn}
+use Rattle.node_lines.specs.declared.lines.Looked.{Looked}
+use Rattle.node_workers.specs.Workers.{Within, sent_of}
+use Rattle.run_course.specs.Script.{BeginsAt, failed_looks}
+use Rattle.run_course.specs.Course.{Course, CourseOk, TurnOf}
+use Rattle.run_course.proofs.Advance.{advanced, advance, turned}
+use Rattle.run_course.proofs.Waiting.{rests_on}
+use Rattle.course_ends.specs.Closing.{WorkerEnd, WorkerClosed, HasClosed}
+use Rattle.course_ends.specs.Reads.{IsRead, AreReads}
+
+-- whatever b allows of a read, a does: it is the register's
+module _ (a b : ℕ → Entry → Type 0) (floor : List Entry → ℕ) (shelf : List ℕ) (w : State) (cells who : ℕ) where
+  chain_read : (answer : FabricAnswer) → IsAllowed w b floor cells who (move_of ReadChain answer) → IsAllowed w a floor cells who (move_of ReadChain answer)
+  chain_read (At v c) h = h
+  chain_read Down h = h
+  chain_read answer h = absurd h
+
+  opened_again : (word : ℕ) (answer : FabricAnswer) → IsAllowed w b floor cells who (move_of (MendMeta word) answer) → IsAllowed w a floor cells who (move_of (MendMeta word) answer)
+  opened_again word (Set y) h = h
+  opened_again word answer h = absurd h
+
+  read_allowed : (call : FabricCall) (answer : FabricAnswer) → (call ≡ ReadChain) ⊎ ((word : ℕ) × (call ≡ MendMeta word)) → IsAllowed w b floor cells who (move_of call answer) → IsAllowed w a floor cells who (move_of call answer)
+  read_allowed call answer (inl is) h = subst (λ k. IsAllowed w a floor cells who (move_of k answer)) (sym is) (chain_read answer (subst (λ k. IsAllowed w b floor cells who (move_of k answer)) is h))
+  read_allowed call answer (inr is) h = subst (λ k. IsAllowed w a floor cells who (move_of k answer)) (sym is.1) (opened_again is.0 answer (subst (λ k. IsAllowed w b floor cells who (move_of k answer)) is.1 h))
+
+reads_from : (a b : ℕ → Entry → Type 0) (floor : List Entry → ℕ) (shelf : List ℕ) (w : State) (es : List Event) → AreReads es → IsLegalFrom w b floor shelf es → IsLegalFrom w a floor shelf es
+reads_from a b floor shelf w [] r h = h
+reads_from a b floor shelf w (e ∷ es) r h =
+    (record { there = h.0.there; allowed = read_allowed a b floor shelf w (length shelf) e.who e.call e.answer r.0 h.0.allowed }, reads_from a b floor shelf (after w e.who (move e)) es r.1 h.1)
+
+-- A journal that was legal by rules that allow less stays so where what came since are reads.
+reads_legal : (a b : ℕ → Entry → Type 0) (floor : List Entry → ℕ) (shelf : List ℕ) (early more : List Event) → AreReads more → IsLegal a floor shelf early → IsLegal b floor shelf (early ++ more) → IsLegal a floor shelf (early ++ more)
+reads_legal a b floor shelf early more r h k = record {
+  least = h.least;
+  most = h.most;
+  steps = IsLegalFrom-join a floor shelf start early more h.steps (reads_from a b floor shelf (state_of early) more r (IsLegalFrom-split b floor shelf start early more k.steps).1);
+}
+
+zero-apart : (j : ℕ) → (0 == j + 1) ≡ false
+zero-apart j = by (0 == j + 1) refl
+  where
+    by : (b : Bool) → (0 == j + 1) ≡ b → (0 == j + 1) ≡ false
+    by false e = e
+    by true e = absurd (grind (arith, nat_tests, e))
+
+module _ (may : ℕ → Entry → Type 0) (floor : List Entry → ℕ) (shelf : List ℕ) (state : List Entry → SpaceMap → Type 0) (spells : List ℕ → Saved → Type 0) (lines : List NamedLine) (journal more : List Event) (counts : List ℕ) (looks : List (Option Looked)) (log : List Entry) (workers : List WorkerEnd) (h : HasClosed may floor shelf state spells lines journal counts looks log workers) (own : AreOwn 0 more) (reads : AreReads more) (legal : IsLegal may floor shelf (journal ++ more)) where
+  within : IsLegal (Within may counts) floor shelf (journal ++ more)
+  within = reads_legal (Within may counts) may floor shelf journal more reads (subst (IsLegal (Within may counts) floor shelf) h.journal_is h.ok.legal) legal
+
+  seen : journal ++ more ≡ h.course.journal ++ more
+  seen = ap (λ l. l ++ more) (sym h.journal_is)
+
+  some : 1 ≤ length workers
+  some = let least = h.lines_are.there 0 in let most = h.lines_are.within 0 in omega (arith, least, most)
+
+  abbrev then' : Course
+  then' = advanced h.course 0 [] (journal ++ more) h.course.when
+
+  ok : CourseOk may floor shelf lines (length workers) then' counts looks
+  ok = advance may floor shelf lines (length workers) h.course counts looks h.ok 1 [] (journal ++ more) more h.course.when counts looks seen within (omega arith) some refl (λ P store. omega arith)
+
+  turn : TurnOf lines h.home 0 h.course then' counts counts looks looks
+  turn = turned lines h.home 0 h.course [] (journal ++ more) h.course.when counts counts looks looks (record { more = more; seen = seen; own = own }) (λ s other. refl) (λ s other. refl) (λ s. omega arith) refl (λ i l at other. refl) (λ by none. refl)
+
+  begins : BeginsAt lines (length lines) h.course.phase
+  begins = record {
+    before = λ i l at low. h.over i l at;
+    behind = λ i l at high. absurd (let inside = slice_get_within lines i l at in omega (arith, inside, high));
+  }
+
+  pub closed_on : HasClosed may floor shelf state spells lines (journal ++ more) counts looks log workers
+  closed_on = record {
+    home = h.home;
+    course = then';
+    journal_is = refl;
+    lines_are = h.lines_are;
+    ok = ok;
+    over = h.over;
+    front = λ pos e at. held_stays may floor shelf journal more pos e legal (h.front pos e at);
+    each = λ j w at.
+        let x = h.each j w at in
+        record {
+          was = x.was;
+          rests = rests_on may floor shelf state spells lines h.home (length workers) h.course then' counts counts looks looks 0 (j + 1) (length lines) h.course.phase w.seat x.was h.lines_are (zero-apart j) begins (omega arith) h.ok turn ok x.rests;
+          size = x.size;
+          short = x.short;
+          each = x.each;
+        };
+  }

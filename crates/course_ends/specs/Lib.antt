@@ -1,0 +1,4 @@
+pub mod Closing
+pub mod Rows
+pub mod Ends
+pub mod Reads

@@ -1,0 +1,59 @@
+-- A store is opened again, and then a tail is found.
+use Rattle.std.proofs.Common.{◌≡◌, sym, ap, ◌∙◌, subst, ℕ, ◌≤◌, inl, inr, List, [], ◌∷◌, ◌++◌, length, arith, append-nil}
+use Rattle.delos_types.specs.declared.entry.Entry.{Entry}
+use Rattle.delos_types.specs.declared.cause.Cause.{Cause}
+use Rattle.virtual_log.specs.Turning.{IsAbove}
+use Rattle.base_engine.specs.declared.fault.Fault.TheVariants.{Because}
+use Rattle.base_engine.specs.Causes.{Blames}
+use Rattle.base_engine.specs.Following.{IsAt}
+use Rattle.base_engine.specs.Node.{NodeView, Keeps}
+use Rattle.node_lines.specs.Moving.{Moves}
+use Rattle.node_lines.proofs.Moving.{moves-sync}
+use Rattle.node_lines.proofs.Spending.{spends-none, spends-both, spends-blames}
+use Rattle.node_closing.specs.Finishing.{Reopens, Finishes}
+
+module _ (may : ℕ → Entry → Type 0) (floor : List Entry → ℕ) (shelf : List ℕ) where
+  pub stays_down : (old new : NodeView) (c : Cause) → Keeps may floor shelf old new → new.seen ≡ old.seen → new.replica.kept ≡ old.replica.kept → new.outbox ≡ old.outbox
+      → Blames old.who old.seen old.replica.faults (Because c) new.seen new.replica.faults → Reopens old new
+  stays_down old new c k seen kept outbox blames = record {
+    who = k.who;
+    nodes = k.nodes;
+    origin = k.origin;
+    seen = seen;
+    forward = k.forward;
+    counts = k.counts;
+    kept = kept;
+    outbox = outbox;
+    up = inr (record { cause = c; spends = spends-blames old.who old.seen new.seen c old.replica.faults new.replica.faults (k.later.more, k.later.seen) k.counts blames });
+  }
+
+  keeps_on : (old mid new : NodeView) → Reopens old mid → Keeps may floor shelf mid new → Keeps may floor shelf old new
+  keeps_on old mid new r k = record {
+    who = k.who ∙ r.who;
+    nodes = k.nodes ∙ r.nodes;
+    origin = k.origin ∙ r.origin;
+    later = record { more = k.later.more; seen = k.later.seen ∙ ap (λ l. l ++ k.later.more) r.seen; legal = k.later.legal };
+    forward = omega (arith, k.forward, r.forward);
+    counts = omega (arith, k.counts, r.counts);
+  }
+
+  module _ (low : (log : List Entry) → floor log ≤ length log) where
+    pub moves_on : (old mid new : NodeView) → Reopens old mid → Keeps may floor shelf mid new → new.replica.kept ≡ mid.replica.kept → new.outbox ≡ mid.outbox → Moves may floor shelf old new []
+    moves_on old mid new r k kept outbox =
+        let on = keeps_on old mid new r k in
+        moves-sync may floor shelf low old new [] on (outbox ∙ r.outbox) (kept ∙ r.kept) (spends-none old.seen new.seen old.replica.faults new.replica.faults (on.later.more, on.later.seen) on.counts)
+
+  pub played : (old mid new : NodeView) (tail : ℕ) → Reopens old mid → IsAbove mid.who mid.seen tail new.seen → IsAt tail new.replica new.seen → Finishes old new
+  played old mid new tail r above at = inl (record {
+    tail = tail;
+    above = subst (λ w. IsAbove w old.seen tail new.seen) r.who (subst (λ l. IsAbove mid.who l tail new.seen) r.seen above);
+    at = at;
+  })
+
+  pub failed : (old mid new : NodeView) (c : Cause) → Reopens old mid → Keeps may floor shelf mid new → Blames mid.who mid.seen mid.replica.faults (Because c) new.seen new.replica.faults → Finishes old new
+  failed old mid new c r k blames = inr (record {
+    cause = c;
+    spends = spends-both old.seen mid.seen new.seen old.replica.faults mid.replica.faults new.replica.faults [] (c ∷ [])
+        (spends-none old.seen mid.seen old.replica.faults mid.replica.faults ([], r.seen ∙ sym (append-nil old.seen)) r.counts)
+        (spends-blames mid.who mid.seen new.seen c mid.replica.faults new.replica.faults (k.later.more, k.later.seen) k.counts blames);
+  })

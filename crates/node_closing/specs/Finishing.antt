@@ -1,0 +1,34 @@
+-- What a node's last calls come to.
+use Rattle.std.specs.Prelude.{◌≡◌, ℕ, ◌≤◌, ◌⊎◌, false, [], ◌∷◌}
+use Rattle.delos_types.specs.declared.cause.Cause.{Cause}
+use Rattle.virtual_log.specs.Turning.{IsAbove}
+use Rattle.base_engine.specs.Following.{IsAt}
+use Rattle.base_engine.specs.Node.{NodeView}
+use Rattle.node_lines.specs.Moving.{Spends}
+
+-- the log or the disk failed since, by a fault of its own
+pub record Fails (old new : NodeView) : Type 0 where
+  pub cause : Cause
+  pub spends : Spends old.seen new.seen old.replica.faults new.replica.faults (cause ∷ [])
+
+-- The store is up, or the disk failed. Nothing was seen, sent or settled.
+pub record Reopens (old new : NodeView) : Type 0 where
+  pub who : new.who ≡ old.who
+  pub nodes : new.nodes ≡ old.nodes
+  pub origin : new.replica.origin ≡ old.replica.origin
+  pub seen : new.seen ≡ old.seen
+  pub forward : old.replica.cursor ≤ new.replica.cursor
+  pub counts : old.replica.faults ≤ new.replica.faults
+  pub kept : new.replica.kept ≡ old.replica.kept
+  pub outbox : new.outbox ≡ old.outbox
+  pub up : (new.replica.down ≡ false) ⊎ Fails old new
+
+-- a tail of the log was found since, and the state is that at it
+pub record IsPlayed (old new : NodeView) : Type 0 where
+  pub tail : ℕ
+  pub above : IsAbove old.who old.seen tail new.seen
+  pub at : IsAt tail new.replica new.seen
+
+-- the state is that at a tail, or the log or the disk failed
+abbrev pub Finishes : NodeView → NodeView → Type 0
+Finishes old new = IsPlayed old new ⊎ Fails old new

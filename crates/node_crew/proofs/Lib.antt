@@ -1,0 +1,3 @@
+pub mod Ok
+pub mod Playing
+pub mod Crews

@@ -1,0 +1,80 @@
+-- A node's turn, from line to line.
+use Rattle.std.proofs.Common.{◌≡◌, refl, sym, ap, ◌∙◌, subst, ℕ, ◌+◌, ◌<◌, ◌≤◌, Bool, true, false, List, [], ◌∷◌, ◌++◌, Option, Some, arith}
+use Rattle.std.specs.Prelude.{◌==◌, slice_get}
+use Rattle.delos_types.specs.Spaces.{SpaceMap}
+use Rattle.delos_types.specs.declared.entry.Entry.{Entry}
+use Rattle.legal_journal.specs.declared.events.Event.{Event}
+use Rattle.replica_api.specs.Replica.{Saved}
+use Rattle.script_text.specs.declared.asks.NamedLine.{NamedLine}
+use Rattle.one_thread.specs.Seats.{SeatView}
+use Rattle.node_sessions.specs.declared.desk.Desk.{Desk}
+use Rattle.node_lines.specs.declared.lines.Looked.{Looked}
+use Rattle.node_workers.specs.Workers.{Grows}
+use Rattle.run_course.specs.Script.{BeginsAt}
+use Rattle.run_course.specs.Course.{Course, CourseOk, TurnOf}
+use Rattle.run_course.specs.Workers.{WorkerAt, IsUnderWay, LineWent}
+use Rattle.run_course.proofs.Passing.{another_line}
+use Rattle.run_course.proofs.Joining.{no_turn, turns_join}
+
+module _ (may : ℕ → Entry → Type 0) (floor : List Entry → ℕ) (shelf : List ℕ) (state : List Entry → SpaceMap → Type 0) (spells : List ℕ → Saved → Type 0) (lines : List NamedLine) (home : ℕ → ℕ) (nodes : ℕ) (c : Course) (counts : List ℕ) (looks : List (Option Looked)) (n from : ℕ) where
+  -- no line was played yet
+  pub none_went : (journal : List Event) (seat : SeatView) (desks : List Desk) → IsUnderWay may floor shelf state spells lines home nodes c counts looks n from from journal seat desks
+      → LineWent may floor shelf state spells lines home nodes c counts counts looks looks n from from journal seat desks
+  none_went journal seat desks u = record {
+    course = c;
+    journal_is = u.journal_is;
+    ok = u.ok;
+    turn = no_turn lines home n c counts looks;
+    worker = u.worker;
+  }
+
+  -- so far it is the node's turn
+  pub under_way : (counts' : List ℕ) (looks' : List (Option Looked)) (i : ℕ) (early journal : List Event) (seat seat' : SeatView) (desks desks' : List Desk) → IsUnderWay may floor shelf state spells lines home nodes c counts looks n from from early seat desks
+      → (w : LineWent may floor shelf state spells lines home nodes c counts counts' looks looks' n from i journal seat' desks') → IsUnderWay may floor shelf state spells lines home nodes w.course counts' looks' n from i journal seat' desks'
+  under_way counts' looks' i early journal seat seat' desks desks' u w = record {
+    journal_is = w.journal_is;
+    lines_are = u.lines_are;
+    least = u.least;
+    most = u.most;
+    begins = subst (BeginsAt lines from) (sym w.turn.phase) u.begins;
+    ok = w.ok;
+    worker = w.worker;
+  }
+
+  -- one more line
+  pub then_went : (counts' counts'' : List ℕ) (looks' looks'' : List (Option Looked)) (i : ℕ) (journal journal' : List Event) (seat seat' : SeatView) (desks desks' : List Desk)
+      → (w : LineWent may floor shelf state spells lines home nodes c counts counts' looks looks' n from i journal seat desks)
+      → LineWent may floor shelf state spells lines home nodes w.course counts' counts'' looks' looks'' n from (i + 1) journal' seat' desks'
+      → LineWent may floor shelf state spells lines home nodes c counts counts'' looks looks'' n from (i + 1) journal' seat' desks'
+  then_went counts' counts'' looks' looks'' i journal journal' seat seat' desks desks' w v = record {
+    course = v.course;
+    journal_is = v.journal_is;
+    ok = v.ok;
+    turn = turns_join lines home n c w.course v.course counts counts' counts'' looks looks' looks'' w.turn v.turn;
+    worker = v.worker;
+  }
+
+  -- a line of another node
+  pub passed_by : (counts' : List ℕ) (looks' : List (Option Looked)) (i : ℕ) (line : NamedLine) (journal : List Event) (seat : SeatView) (desks : List Desk) → slice_get lines i ≡ Some line → (line.node == n) ≡ false
+      → LineWent may floor shelf state spells lines home nodes c counts counts' looks looks' n from i journal seat desks → LineWent may floor shelf state spells lines home nodes c counts counts' looks looks' n from (i + 1) journal seat desks
+  passed_by counts' looks' i line journal seat desks at other w = record {
+    course = w.course;
+    journal_is = w.journal_is;
+    ok = w.ok;
+    turn = w.turn;
+    worker = another_line may floor shelf state spells lines home w.course counts' looks' n from i w.course.phase line seat desks at other w.worker;
+  }
+
+-- the lines of a phase are of it
+pub phase_is : (lines : List NamedLine) (from to i phase : ℕ) (line : NamedLine) → BeginsAt lines from phase → BeginsAt lines to (phase + 1) → from ≤ i → i < to → slice_get lines i ≡ Some line → line.phase ≡ phase
+phase_is lines from to i phase line b e low high at =
+    let least = b.behind i line at low in
+    let most = e.before i line at high in
+    omega (arith, least, most)
+
+nil : {A : Type 0} (xs : List A) → xs ++ [] ≡ xs
+nil [] = refl
+nil (x ∷ xs) = ap (λ l. x ∷ l) (nil xs)
+
+pub grows-none : (journal : List Event) → Grows journal journal
+grows-none journal = ([], sym (nil journal))

@@ -1,0 +1,10 @@
+use Rattle.std.proofs.Common.{◌≤◌}
+use Rattle.node_crew.specs.Crews.{HasNone}
+use Rattle.node_crew.proofs.crew.has_line.Given as goal
+
+abbrev pub invariant-loop-i : goal.invariant-loop-i
+invariant-loop-i l = record {
+  low : l.fn.from ≤ l.i;
+  high : l.i ≤ l.fn.to;
+  none : HasNone l.lines l.fn.from l.i l.node;
+}

@@ -1,0 +1,18 @@
+use Rattle.std.proofs.Common.{◌≡◌, ◌≤◌, ◌+◌, ℕ}
+use Rattle.one_thread.specs.Seats.{SeatOk}
+use Rattle.node_workers.specs.Workers.{Grows}
+use Rattle.run_course.specs.Script.{BeginsAt}
+use Rattle.run_course.specs.Course.{Course}
+use Rattle.run_course.specs.Workers.{IsUnderWay, LineWent}
+use Rattle.node_crew.proofs.turn.play_lines.Given as goal
+
+abbrev pub invariant-loop-i : goal.invariant-loop-i
+invariant-loop-i g l = record {
+  low : l.fn.from ≤ l.i;
+  high : l.i ≤ l.fn.to;
+  who : l.worker.seat.who ≡ l.node;
+  grows : Grows l.initial.fabric.journal l.fabric.journal;
+  goes : (home : ℕ → ℕ) (nodes : ℕ) (c : Course)
+      → IsUnderWay g.K.Terms.may g.K.Terms.floor g.K.Terms.shelf g.S.Replica.state g.S.Replica.spells l.lines home nodes c l.initial.counts l.initial.looks.items l.node l.fn.from l.fn.from l.initial.fabric.journal l.initial.worker.seat l.initial.worker.desks.items → BeginsAt l.lines l.fn.to (c.phase + 1)
+      → LineWent g.K.Terms.may g.K.Terms.floor g.K.Terms.shelf g.S.Replica.state g.S.Replica.spells l.lines home nodes c l.initial.counts l.counts l.initial.looks.items l.looks.items l.node l.fn.from l.i l.fabric.journal l.worker.seat l.worker.desks.items;
+}

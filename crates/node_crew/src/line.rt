@@ -1,0 +1,84 @@
+//! A line is played at its node.
+ghost use Rattle.std.specs.Prelude.{◌≡◌, ◌<◌, ◌+◌, ℕ, List, length, Some, IfOk, OnOk, slice_get};
+ghost use Rattle.delos_types.specs.Spaces.{SpaceMap};
+ghost use Rattle.delos_types.specs.declared.entry.Entry.{Entry};
+ghost use Rattle.engine_laws.specs.State.{IsStateOf};
+ghost use Rattle.one_thread.specs.Seats.{SeatOk};
+ghost use Rattle.script_text.specs.declared.asks.NamedLine.{NamedLine};
+ghost use Rattle.node_workers.specs.Workers.{WorkerOk, MayRun, Grows};
+ghost use Rattle.run_course.specs.Course.{Course};
+ghost use Rattle.run_course.specs.Workers.{IsUnderWay, CanSend, IsNext, LineWent};
+
+use fabric_core::fabric::Fabric;
+use fate_words::chooser::Chooser;
+use loglet_api::loglet::Loglet;
+use node_lines::lines::Looked;
+use node_workers::turns::{Returned, log_line, look_line};
+use node_workers::worker::Worker;
+use one_thread::terms::{By, Terms};
+use register_api::Register;
+use replica_api::replica::Replica;
+use script_text::asks::{Asks, NamedLine};
+use std::alloc::Global;
+
+/// Plays line `i`, which is the worker's: a command is handed in, and what a read came to stands in `looks` then.
+pub fn play_line<L: Loglet, R: Register, K: Terms, S: Replica, C: Chooser>(
+    alloc: Global,
+    fabric: Fabric<L, R, By<K>>,
+    worker: Worker<S, C>,
+    counts: &mut [u64; 64],
+    looks: &mut Vec<Option<Looked>>,
+    i: usize,
+    line: &NamedLine,
+) -> Returned<L, R, K, S, C, ()>
+    requires run { MayRun K.may K.floor K.shelf }
+    requires state { (log : List Entry) (m : SpaceMap) → S.state log m → IsStateOf log m }
+    requires worker { WorkerOk K.may K.floor K.shelf S.state S.spells worker.seat.who counts.old fabric.journal worker.seat worker.desks.items }
+    requires next { IsNext counts.old worker.desks.items line.now.asks }
+    requires sends { CanSend K.may worker.seat.who line.now.asks }
+    requires there { i < length looks.old.items }
+
+    // The run goes on.
+    ensures goes { (lines : List NamedLine) (home : ℕ → ℕ) (nodes : ℕ) (c : Course) (from : ℕ) → slice_get lines i ≡ Some line.now → line.now.node ≡ worker.seat.who → line.now.phase ≡ c.phase
+        → IsUnderWay K.may K.floor K.shelf S.state S.spells lines home nodes c counts.old looks.old.items worker.seat.who from i fabric.journal worker.seat worker.desks.items
+        → OnOk result.answer (LineWent K.may K.floor K.shelf S.state S.spells lines home nodes c counts.old counts.new looks.old.items looks.new.items worker.seat.who from (i + 1) result.fabric.journal result.worker.seat result.worker.desks.items) }
+    ensures stands { SeatOk K.may K.floor K.shelf S.state S.spells result.fabric.journal result.worker.seat }
+    ensures grows { Grows fabric.journal result.fabric.journal }
+    ensures who { OnOk result.answer (result.worker.seat.who ≡ worker.seat.who) }
+{
+    match &line.asks {
+        Asks::Logged {
+            session,
+            rank: _,
+            command,
+        } => {
+            return log_line(alloc, fabric, worker, counts, session.id, command);
+        }
+        Asks::Look { session, query } => {
+            // There is a desk for each session: its number is at most 63.
+            let _number = session.id.number();
+            let Returned {
+                worker,
+                fabric,
+                answer,
+            } = look_line(fabric, worker, counts, session.id, query);
+            match answer {
+                Ok(looked) => {
+                    looks[i] = Some(looked);
+                    return Returned {
+                        worker,
+                        fabric,
+                        answer: Ok(()),
+                    };
+                }
+                Err(fault) => {
+                    return Returned {
+                        worker,
+                        fabric,
+                        answer: Err(fault),
+                    };
+                }
+            }
+        }
+    }
+}

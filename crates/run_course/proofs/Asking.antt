@@ -1,0 +1,88 @@
+-- What the desks have asked and sent, by the lines.
+use Rattle.std.proofs.Common.{◌≡◌, refl, sym, ap, ◌∙◌, ℕ, zero, suc, ◌+◌, ◌<◌, ◌≤◌, cond, Bool, true, false, List, [], ◌∷◌, Option, Some, length, arith}
+use Rattle.std.specs.Prelude.{◌==◌, ◌&&◌, nat_lt, count_by, take, slice_get}
+use Rattle.std.proofs.lemmas.Bool.{and_parts, and_from, lt-ltb}
+use Rattle.std.proofs.lemmas.Option.{slice_get_within}
+use Rattle.std.proofs.lemmas.List.Sums.{count_by-le-length, sum_by-cons}
+use Rattle.std.proofs.lemmas.List.{length-take-le}
+use Rattle.delos_types.specs.Spaces.{SpaceMap}
+use Rattle.delos_types.specs.declared.entry.Entry.{Entry}
+use Rattle.legal_journal.specs.declared.events.Event.{Event}
+use Rattle.replica_api.specs.Replica.{Saved}
+use Rattle.script_text.specs.declared.asks.NamedLine.{NamedLine}
+use Rattle.script_text.specs.declared.asks.Asks.{Asks}
+use Rattle.script_text.specs.declared.asks.Asks.TheVariants as asks
+use Rattle.fitting_run.specs.Lines.{logs_for}
+use Rattle.one_thread.specs.Seats.{SeatView}
+use Rattle.node_sessions.specs.declared.desk.Desk.{Desk}
+use Rattle.node_lines.specs.declared.lines.Looked.{Looked}
+use Rattle.node_workers.specs.Workers.{sent_of}
+use Rattle.run_laws.specs.Ended.{session_in}
+use Rattle.run_course.specs.Script.{BeginsAt, logs_at, asked_by, asked_before}
+use Rattle.run_course.specs.Course.{Course}
+use Rattle.run_course.specs.Workers.{Rests, IsUnderWay, IsNext}
+use Rattle.run_course.proofs.Lines.{at_get, rank_is}
+
+-- fewer than there are lines
+few_asked : (lines : List NamedLine) (n s i : ℕ) (l : NamedLine) → slice_get lines i ≡ Some l → length lines ≤ 20000 → asked_by lines n s i < 20000
+few_asked lines n s i l at few =
+    let low = slice_get_within lines i l at in
+    let most = count_by-le-length (logs_at n s) (take i lines) in
+    let size = length-take-le i lines (omega (arith, low)) in
+    omega (arith, low, few, most, size)
+
+module _ (may : ℕ → Entry → Type 0) (floor : List Entry → ℕ) (shelf : List ℕ) (state : List Entry → SpaceMap → Type 0) (spells : List ℕ → Saved → Type 0) (lines : List NamedLine) (home : ℕ → ℕ) (nodes : ℕ) (c : Course) (counts : List ℕ) (looks : List (Option Looked)) where
+  pub line_next : (n from i : ℕ) (line : NamedLine) (journal : List Event) (seat : SeatView) (desks : List Desk) → slice_get lines i ≡ Some line → line.node ≡ n
+      → IsUnderWay may floor shelf state spells lines home nodes c counts looks n from i journal seat desks → IsNext counts desks line.asks
+  line_next n from i line journal seat desks at own w = by line.asks refl
+    where
+      at_home : line.node ≡ home (session_in line.asks)
+      at_home = at_get (λ (l : NamedLine). l.node ≡ home (session_in l.asks)) lines i line w.lines_are.at_home at
+
+      by : (a : Asks) → line.asks ≡ a → IsNext counts desks a
+      by (asks.Logged s r command) is = λ d there.
+          let h = w.worker.each s.id d there in
+          let home_is : home s.id ≡ n = sym (ap (λ a. home (session_in a)) is) ∙ (sym at_home ∙ own) in
+          let few = few_asked lines n s.id i line at w.lines_are.few in
+          record {
+            sent = h.sent home_is;
+            few = omega (arith, h.asked, few);
+            rank = rank_is lines home nodes w.lines_are n i line s r command at own is ∙ ap (λ k. k + 1) (sym h.asked);
+          }
+      by (asks.Look s query) is = λ d there.
+          (w.worker.each s.id d there).sent (sym (ap (λ a. home (session_in a)) is) ∙ (sym at_home ∙ own))
+
+  -- the first lines are of earlier phases
+  asked_early : (n s from phase : ℕ) → BeginsAt lines from phase → asked_by lines n s from ≤ asked_before lines s phase
+  asked_early n s from phase b = go lines from b.before
+    where
+      one : (l : NamedLine) → (logs_at n s l ≡ true → (logs_for s l && nat_lt l.phase phase) ≡ true) → cond (logs_at n s l) 1 0 ≤ cond (logs_for s l && nat_lt l.phase phase) 1 0
+      one l h = by (logs_at n s l) (logs_for s l && nat_lt l.phase phase) h
+        where
+          by : (p q : Bool) → (p ≡ true → q ≡ true) → cond p 1 0 ≤ cond q 1 0
+          by false q h = omega arith
+          by true q h = let e : ◌≡◌ {A = ℕ} (cond q 1 0) 1 = ap (λ b. cond b 1 0) (h refl) in omega (arith, e)
+
+      go : (ls : List NamedLine) (k : ℕ) → ((i : ℕ) (l : NamedLine) → slice_get ls i ≡ Some l → i < k → l.phase < phase) → count_by (logs_at n s) (take k ls) ≤ count_by (λ l. logs_for s l && nat_lt l.phase phase) ls
+      go ls zero h = omega arith
+      go [] (suc k) h = omega arith
+      go (l ∷ ls) (suc k) h =
+          let rest = go ls k (λ i m is low. h (suc i) m is (omega (arith, low))) in
+          let here = one l (λ yes'. and_from (logs_for s l) (nat_lt l.phase phase) (and_parts (l.node == n) (logs_for s l) yes').1 (lt-ltb l.phase phase (h zero l refl (omega arith)))) in
+          omega (arith, rest, here, sum_by-cons (λ (m : NamedLine). cond (logs_at n s m) 1 0) l (take k ls), sum_by-cons (λ (m : NamedLine). cond (logs_for s m && nat_lt m.phase phase) 1 0) l ls)
+
+  pub sent_asked : (s from phase : ℕ) (seat : SeatView) (desks : List Desk) → BeginsAt lines from phase → s < 64
+      → Rests may floor shelf state spells lines home c counts looks (home s) from phase seat desks → sent_of counts s ≤ asked_before lines s phase
+  sent_asked s from phase seat desks begins low r = by (some_at desks s (omega (arith, low, r.worker.ok.size)))
+    where
+      some_at : (ds : List Desk) (i : ℕ) → i < length ds → (d : Desk) × (slice_get ds i ≡ Some d)
+      some_at [] i h = absurd (omega arith)
+      some_at (d ∷ ds) zero h = (d, refl)
+      some_at (d ∷ ds) (suc i) h = some_at ds i (omega arith)
+
+      by : (d : Desk) × (slice_get desks s ≡ Some d) → sent_of counts s ≤ asked_before lines s phase
+      by h =
+          let k = r.worker.each s h.0 h.1 in
+          let few = (r.worker.ok.each s h.0 h.1).few in
+          let early = asked_early (home s) s from phase begins in
+          omega (arith, k.sent refl, k.asked, few, early)

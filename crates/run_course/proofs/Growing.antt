@@ -1,0 +1,194 @@
+-- What is known of a run stays so as it goes on.
+use Rattle.std.proofs.Common.{◌≡◌, refl, sym, ◌∙◌, subst, ◌⊎◌, inl, inr, ⊎_elim, ℕ, ◌+◌, ◌<◌, ◌≤◌, List, ◌++◌, Option, Some, None, IsSome, slice_get, Contains, arith}
+use Rattle.std.proofs.lemmas.Bool.{cases_lt}
+use Rattle.std.specs.List.{AllByRecursion}
+use Rattle.delos_types.specs.declared.entry.Entry.{Entry}
+use Rattle.delos_types.specs.declared.cause.Cause.{Cause}
+use Rattle.table_core.specs.declared.command.Query.{Query}
+use Rattle.table_core.specs.declared.command.Found.{Found}
+use Rattle.legal_journal.specs.declared.events.Event.{Event}
+use Rattle.legal_journal.specs.Journal.{IsLegal}
+use Rattle.virtual_log.specs.Holding.{Holds}
+use Rattle.base_engine.specs.Holding.{held_stays}
+use Rattle.base_engine.specs.Reading.{IsFront}
+use Rattle.base_engine.specs.declared.outbox.Given.{Given}
+use Rattle.script_text.specs.declared.asks.NamedLine.{NamedLine}
+use Rattle.script_text.specs.declared.asks.Asks.{Asks}
+use Rattle.script_text.specs.declared.asks.Asks.TheVariants as asks
+use Rattle.one_thread.proofs.Widening.{legal_wider}
+use Rattle.log_acts.proofs.Pairs.{all-imply}
+use Rattle.node_sessions.specs.declared.desk.Desk.{Desk}
+use Rattle.node_lines.specs.declared.lines.Looked.{Looked}
+use Rattle.node_lines.specs.declared.lines.Looked.TheVariants as looked
+use Rattle.node_workers.specs.Workers.{Within}
+use Rattle.run_laws.specs.Ended.{CameTo, Fault, session_in}
+use Rattle.run_laws.proofs.Members.{among-left, contained-among, contains-among}
+use Rattle.run_course.specs.Script.{asked_by}
+use Rattle.run_course.specs.Course.{Course, CourseOk, TurnOf}
+use Rattle.run_course.specs.Desks.{HasActed, IsHalted, IsUpTo, LoggedSo, LogsIn, LookedSo, PlayedSo, SawSo, WasEnded, WasStopped}
+use Rattle.run_course.proofs.Advance.{tail_rises}
+
+-- A run, and the same at a later moment of the phase.
+pub record Grown (may : ℕ → Entry → Type 0) (floor : List Entry → ℕ) (shelf : List ℕ) (c c' : Course) : Type 0 where
+  pub more : List Event
+  pub seen : c'.journal ≡ c.journal ++ more
+  pub legal : IsLegal may floor shelf c'.journal
+  pub came : List Fault
+  pub gained : c'.faults ≡ c.faults ++ came
+  pub phase : c'.phase ≡ c.phase
+  pub tails : (p : ℕ) → p ≤ c.phase → c'.tails p ≡ c.tails p
+  pub rise : (p : ℕ) → c.tails p ≤ c'.tails p
+
+-- A session's desk then. Where the session was stopped in an earlier phase it stays as it was stopped; and it isn't stopped
+-- now but in the present phase.
+pub record DeskGrew (c c' : Course) (s : ℕ) (d d' : Desk) : Type 0 where
+  pub answered : (a : ℕ) → d.answered ≡ Some a → d'.answered ≡ Some a
+  pub stopped : (a : ℕ) → d.answered ≡ Some a → d'.stopped ≡ d.stopped
+  pub sent : (a : ℕ) → d.answered ≡ Some a → d'.sent ≡ d.sent
+  pub when : (a : ℕ) → d.answered ≡ Some a → c'.when s ≡ c.when s
+  pub first : (a : ℕ) → d'.answered ≡ Some a → (d.answered ≡ Some a) ⊎ (c'.when s ≡ c.phase)
+
+-- the session's desk is that of before, at a later moment
+abbrev pub DeskOfOld : Course → Course → List Desk → List Desk → ℕ → Type 0
+DeskOfOld c c' desks desks' s = (d' : Desk) → slice_get desks' s ≡ Some d' → (d : Desk) × (slice_get desks s ≡ Some d) × DeskGrew c c' s d d'
+
+-- a desk that isn't touched
+pub desk_same : (c c' : Course) (s : ℕ) (d : Desk) → c'.when s ≡ c.when s → DeskGrew c c' s d d
+desk_same c c' s d same = record {
+  answered = λ a e. e;
+  stopped = λ a e. refl;
+  sent = λ a e. refl;
+  when = λ a e. same;
+  first = λ a e. inl e;
+}
+
+pub upto_grew : (c c' : Course) (s r : ℕ) (d d' : Desk) → DeskGrew c c' s d d' → IsUpTo d'.answered r → IsUpTo d.answered r
+upto_grew c c' s r d d' g h = by d.answered refl
+  where
+    by : (o : Option ℕ) → d.answered ≡ o → IsUpTo o r
+    by None e = tt
+    by (Some a) e = subst (λ o. IsUpTo o r) (g.answered a e) h
+
+pub some_of : {A : Type 0} (o : Option A) → IsSome o → (a : A) × (o ≡ Some a)
+some_of None h = absurd (cc)
+some_of (Some a) h = (a, refl)
+
+module _ (may : ℕ → Entry → Type 0) (floor : List Entry → ℕ) (shelf : List ℕ) where
+  -- a turn, or a part of it, is such a moment
+  pub grown_of : (lines : List NamedLine) (home : ℕ → ℕ) (nodes n : ℕ) (c c' : Course) (counts counts' : List ℕ) (looks looks' : List (Option Looked)) → TurnOf lines home n c c' counts counts' looks looks'
+      → CourseOk may floor shelf lines nodes c counts looks → CourseOk may floor shelf lines nodes c' counts' looks' → Grown may floor shelf c c'
+  grown_of lines home nodes n c c' counts counts' looks looks' t ok ok' = record {
+    more = t.more;
+    seen = t.seen;
+    legal = legal;
+    came = t.came;
+    gained = t.gained;
+    phase = t.phase;
+    tails = t.tails;
+    rise = λ p. ⊎_elim
+        (λ (high : c.phase < p). let a = ok.after p high in let same = t.phase in let b = ok'.after p (omega (arith, high, same)) in let up = tail_rises may floor shelf c.journal c'.journal t.more t.seen legal in omega arith)
+        (λ (low : p ≤ c.phase). let a = t.tails p low in omega arith) (cases_lt c.phase p);
+  }
+    where
+      legal : IsLegal may floor shelf c'.journal
+      legal = legal_wider (Within may counts') may floor shelf (λ who e h. h.0) c'.journal ok'.legal
+
+  module _ (c c' : Course) (g : Grown may floor shelf c c') where
+    pub front_grows : (log : List Entry) → IsFront Holds c.journal log → IsFront Holds c'.journal log
+    front_grows log h = λ pos e at. subst (λ l. Holds l pos e) (sym g.seen) (held_stays may floor shelf c.journal g.more pos e (subst (IsLegal may floor shelf) g.seen g.legal) (h pos e at))
+
+    pub came_grows : (k : Cause) (node phase : ℕ) → CameTo c.faults k node phase → CameTo c'.faults k node phase
+    came_grows k node phase h = record {
+      fault = h.fault;
+      among = subst (λ fs. Contains fs h.fault) (sym g.gained) (contains-among (c.faults ++ g.came) h.fault (among-left c.faults g.came h.fault (contained-among c.faults h.fault h.among)));
+      cause_is = h.cause_is;
+      node_is = h.node_is;
+      phase_is = h.phase_is;
+    }
+
+    -- each cause that was given came
+    pub given_grows : (n phase : ℕ) (given : List Given) → AllByRecursion (λ x. CameTo c.faults x.cause n phase) given → AllByRecursion (λ x. CameTo c'.faults x.cause n phase) given
+    given_grows n phase given h = all-imply (λ (x : Given). CameTo c.faults x.cause n phase) (λ (x : Given). CameTo c'.faults x.cause n phase) given (λ x k. came_grows x.cause n phase k) h
+
+    pub acted_grows : (cursor cursor' phase s r : ℕ) → cursor ≤ cursor' → HasActed c cursor phase s r → HasActed c' cursor' phase s r
+    acted_grows cursor cursor' phase s r up h = record {
+      log = h.log;
+      front = front_grows h.log h.front;
+      within = omega (arith, h.within, up);
+      upto = omega (arith, h.upto, g.rise (phase + 1));
+      acted = h.acted;
+    }
+
+    -- where no phase ended meanwhile but later ones
+    pub logged_grows : (done done' cursor cursor' phase s r : ℕ) (d d' : Desk) → phase ≤ c.phase → (phase < done' → phase < done) → cursor ≤ cursor' → DeskGrew c c' s d d' → LoggedSo c done cursor d phase s r → LoggedSo c' done' cursor' d' phase s r
+    logged_grows done done' cursor cursor' phase s r d d' low ended up k h = record {
+      acted = λ over upto. acted_grows cursor cursor' phase s r up (h.acted (ended over) (upto_grew c c' s r d d' k upto));
+      unsent = λ a e before. ⊎_elim
+          (λ (was : d.answered ≡ Some a). let same = k.when a was in let sent = k.sent a was in let below = h.unsent a was (omega (arith, before, same)) in omega arith)
+          (λ (now : c'.when s ≡ c.phase). absurd (omega (arith, now, before, low))) (k.first a e);
+    }
+
+    pub saw_grows : (lines : List NamedLine) (cursor cursor' : ℕ) (d d' : Desk) (i phase s : ℕ) (query : Query) (after : ℕ) (found : Found) → phase ≤ c.phase → cursor ≤ cursor' → DeskGrew c c' s d d' → SawSo lines c cursor d i phase s query after found → SawSo lines c' cursor' d' i phase s query after found
+    saw_grows lines cursor cursor' d d' i phase s query after found low up k h = record {
+      log = h.log;
+      front = front_grows h.log h.front;
+      size = h.size;
+      within = omega (arith, h.within, up);
+      sees = h.sees;
+      shows = h.shows;
+      from = omega (arith, h.from, g.tails phase low);
+      upto = omega (arith, h.upto, g.rise (phase + 1));
+      free = λ a e. ⊎_elim
+          (λ (was : d.answered ≡ Some a). let same = k.when a was in let free = h.free a was in omega arith)
+          (λ (now : c'.when s ≡ c.phase). omega (arith, now, low)) (k.first a e);
+    }
+
+    pub stopped_grows : (d d' : Desk) (phase s : ℕ) (cause : Cause) → DeskGrew c c' s d d' → WasStopped c d phase s cause → WasStopped c' d' phase s cause
+    stopped_grows d d' phase s cause k h =
+        let was = some_of d.answered h.answered in
+        let same = k.when was.0 was.1 in
+        record {
+          answered = subst IsSome (sym (k.answered was.0 was.1)) refl;
+          cause_is = k.stopped was.0 was.1 ∙ h.cause_is;
+          earlier = omega (arith, h.earlier, same);
+        }
+
+    pub looked_grows : (lines : List NamedLine) (cursor cursor' n : ℕ) (d d' : Desk) (i phase s : ℕ) (query : Query) (look : Looked) → phase ≤ c.phase → cursor ≤ cursor' → DeskGrew c c' s d d' → LookedSo lines c cursor n d i phase s query look → LookedSo lines c' cursor' n d' i phase s query look
+    looked_grows lines cursor cursor' n d d' i phase s query (looked.Found after found) low up k h = saw_grows lines cursor cursor' d d' i phase s query after found low up k h
+    looked_grows lines cursor cursor' n d d' i phase s query (looked.Kept cause) low up k (inl h) = inl (stopped_grows d d' phase s cause k h)
+    looked_grows lines cursor cursor' n d d' i phase s query (looked.Kept cause) low up k (inr h) = inr (h.0, came_grows cause n phase h.1)
+    looked_grows lines cursor cursor' n d d' i phase s query (looked.Failed cause) low up k h = tt
+
+    pub played_grows : (lines : List NamedLine) (done done' cursor cursor' n : ℕ) (desks desks' : List Desk) (looks looks' : List (Option Looked)) (i phase : ℕ) (a : Asks) → phase ≤ c.phase → (phase < done' → phase < done) → cursor ≤ cursor'
+        → slice_get looks' i ≡ slice_get looks i → DeskOfOld c c' desks desks' (session_in a) → PlayedSo lines c done cursor n desks looks i phase a → PlayedSo lines c' done' cursor' n desks' looks' i phase a
+    played_grows lines done done' cursor cursor' n desks desks' looks looks' i phase (asks.Logged s r command) low ended up same old h = λ d' at.
+        let o = old d' at in
+        logged_grows done done' cursor cursor' phase s.id r o.0 d' low ended up o.2 (h o.0 o.1)
+    played_grows lines done done' cursor cursor' n desks desks' looks looks' i phase (asks.Look s query) low ended up same old h = (
+      h.0,
+      same ∙ h.1,
+      λ d' at.
+          let o = old d' at in
+          looked_grows lines cursor cursor' n o.0 d' i phase s.id query h.0 low up o.2 (h.2 o.0 o.1),
+    )
+
+    -- a session that was stopped in an earlier phase
+    pub ended_grows : (lines : List NamedLine) (n done done' s : ℕ) (d d' : Desk) (a : ℕ) → done ≤ done' → d.answered ≡ Some a → DeskGrew c c' s d d' → WasEnded lines c n done s d a → WasEnded lines c' n done' s d' a
+    ended_grows lines n done done' s d d' a up e k h =
+        let same = k.when a e in
+        record {
+          cause = h.cause;
+          is = k.stopped a e ∙ h.is;
+          came = subst (CameTo c'.faults h.cause n) (sym same) (came_grows h.cause n (c.when s) h.came);
+          before = omega (arith, h.before, same, up);
+          unanswered = subst (LogsIn lines s (a + 1)) (sym same) h.unanswered;
+          earlier = λ i l at logs low. h.earlier i l at logs (omega (arith, low, same));
+        }
+
+    -- one that is stopped in this one
+    pub halted_grows : (lines : List NamedLine) (n from at at' done s : ℕ) (cause : Cause) → asked_by lines n s at ≤ asked_by lines n s at' → IsHalted lines c n from at done s cause → IsHalted lines c' n from at' done s cause
+    halted_grows lines n from at at' done s cause more h = record {
+      came = subst (CameTo c'.faults cause n) (sym g.phase) (came_grows cause n c.phase h.came);
+      running = omega (arith, h.running, g.phase);
+      asked = omega (arith, h.asked, more);
+    }

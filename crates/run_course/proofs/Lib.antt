@@ -1,0 +1,16 @@
+pub mod Script
+pub mod Passing
+pub mod Lines
+pub mod Ranks
+pub mod Advance
+pub mod Growing
+pub mod Coming
+pub mod Fronts
+pub mod Logging
+pub mod Looking
+pub mod Asking
+pub mod Joining
+pub mod Waiting
+pub mod Beginning
+pub mod Ending
+pub mod Finishing

@@ -1,0 +1,210 @@
+-- A line logged a command at its node.
+use Rattle.std.proofs.Common.{◌≡◌, ◌≢◌, refl, sym, ap, ◌∙◌, subst, inl, ⊎_elim, ℕ, ◌+◌, ◌<◌, ◌≤◌, ◌==◌, Bool, true, false, List, [], Option, Some, count_by, slice_get, slice_set, Contains, arith}
+use Rattle.std.proofs.lemmas.Bool.{cases_lt}
+use Rattle.std.proofs.lemmas.Bool.Decides.{nat_tests}
+use Rattle.delos_types.specs.Spaces.{SpaceMap}
+use Rattle.delos_types.specs.declared.entry.Entry.{Entry}
+use Rattle.delos_types.specs.declared.cause.Cause.{Cause}
+use Rattle.table_core.specs.declared.command.Command.{Command}
+use Rattle.legal_journal.specs.declared.events.Event.{Event}
+use Rattle.replica_api.specs.Replica.{Saved}
+use Rattle.script_text.specs.declared.line.Session.{Session}
+use Rattle.script_text.specs.declared.asks.NamedLine.{NamedLine}
+use Rattle.script_text.specs.declared.asks.Asks.TheVariants as asks
+use Rattle.fitting_run.specs.Lines.{is_of}
+use Rattle.fabric_core.proofs.Marks.{set_other, set_same}
+use Rattle.one_thread.specs.Alone.{Since}
+use Rattle.one_thread.specs.Seats.{SeatView, node_of}
+use Rattle.node_sessions.specs.declared.desk.Desk.{Desk}
+use Rattle.node_lines.specs.declared.lines.Looked.{Looked}
+use Rattle.node_lines.specs.Moving.{IsQuiet, causes_of}
+use Rattle.node_workers.specs.Workers.{Logs, WorkerOk, sent_of}
+use Rattle.run_laws.specs.Ended.{session_in}
+use Rattle.run_laws.proofs.Members.{among-right, contained-among}
+use Rattle.run_laws.proofs.Placing.{same_some}
+use Rattle.run_course.specs.Script.{AreLines, asked_by}
+use Rattle.run_course.specs.Course.{Course, CourseOk, TurnOf}
+use Rattle.run_course.specs.Desks.{DeskAt, LoggedSo, PlayedSo}
+use Rattle.run_course.specs.Workers.{LineWent, WorkerAt}
+use Rattle.run_course.proofs.Lines.{asked_more, asked_none, asked_one, at_get, phase_before, rank_is}
+use Rattle.run_course.proofs.Advance.{advance, advanced, stores_counted, turned}
+use Rattle.run_course.proofs.Growing.{DeskGrew, DeskOfOld, Grown, desk_same, ended_grows, grown_of, halted_grows, played_grows}
+use Rattle.run_course.proofs.Coming.{came_at, given_among, given_then}
+
+module _ (may : ℕ → Entry → Type 0) (floor : List Entry → ℕ) (shelf : List ℕ) (state : List Entry → SpaceMap → Type 0) (spells : List ℕ → Saved → Type 0) (lines : List NamedLine) (home : ℕ → ℕ) (nodes : ℕ) (c : Course) (counts counts' : List ℕ) (looks : List (Option Looked)) (n from i : ℕ) (line : NamedLine) (session : Session) (rank : ℕ) (command : Command) (seat seat' : SeatView) (desks desks' : List Desk) (journal : List Event) (are : AreLines lines home nodes) (least : 1 ≤ n) (most : n ≤ nodes) (at : slice_get lines i ≡ Some line) (node : line.node ≡ n) (phase : line.phase ≡ c.phase) (asks_is : line.asks ≡ asks.Logged session rank command) (ok : CourseOk may floor shelf lines nodes c counts looks) (worker : WorkerAt may floor shelf state spells lines home c counts looks n from i c.phase seat desks) (since : Since n c.journal journal) (logs : Logs may floor shelf counts counts' (node_of seat c.journal) (node_of seat' journal) session.id desks desks') (now : WorkerOk may floor shelf state spells n counts' journal seat' desks') where
+  here : (t : ℕ) → (session.id == t) ≡ true → session.id ≡ t
+  here t e = grind (arith, nat_tests, e)
+
+  apart : (t : ℕ) → (session.id == t) ≡ false → t ≢ session.id
+  apart t e = grind (arith, nat_tests, e)
+
+  abbrev came : List Cause
+  came = causes_of logs.logs.goes.given logs.logs.others
+
+  abbrev then' : Course
+  then' = advanced c n came journal c.when
+
+  course_ok : CourseOk may floor shelf lines nodes then' counts' looks
+  course_ok = advance may floor shelf lines nodes c counts looks ok n came journal logs.logs.goes.spends.more c.when counts' looks logs.logs.goes.spends.seen now.ok.node.legal least most refl
+      (λ P store. let e = logs.logs.goes.spends.events P store in omega (arith, e))
+
+  at_home : home session.id ≡ n
+  at_home = sym (at_get (λ (l : NamedLine). l.node ≡ home (session_in l.asks)) lines i line are.at_home at ∙ ap (λ a. home (session_in a)) asks_is) ∙ node
+
+  not_here : (s : ℕ) → s ≡ n → (s == n) ≡ false → ⊥
+  not_here s e f = grind (arith, nat_tests, e, f)
+
+  others_sent : (s : ℕ) → (home s == n) ≡ false → sent_of counts' s ≡ sent_of counts s
+  others_sent s other = by (session.id == s) refl
+    where
+      by : (b : Bool) → (session.id == s) ≡ b → sent_of counts' s ≡ sent_of counts s
+      by true e = absurd (not_here (home s) (ap home (sym (here s e)) ∙ at_home) other)
+      by false e = logs.logs.counted s e
+
+  no_fewer : (s : ℕ) → sent_of counts s ≤ sent_of counts' s
+  no_fewer s = by (session.id == s) refl
+    where
+      by : (b : Bool) → (session.id == s) ≡ b → sent_of counts s ≤ sent_of counts' s
+      by true e = subst (λ t. sent_of counts t ≤ sent_of counts' t) (here s e) logs.logs.more
+      by false e = omega (arith, logs.logs.counted s e)
+
+  turn : TurnOf lines home n c then' counts counts' looks looks
+  turn = turned lines home n c came journal c.when counts counts' looks looks since (λ s other. refl) others_sent no_fewer refl (λ j l get other. refl) (λ by none. refl)
+
+  grown : Grown may floor shelf c then'
+  grown = grown_of may floor shelf lines home nodes n c then' counts counts' looks looks turn ok course_ok
+
+  -- Desks
+
+  was : DeskAt lines home c counts n from i c.phase session.id logs.before
+  was = worker.each session.id logs.before logs.was_at
+
+  grew : DeskGrew c then' session.id logs.before logs.after
+  grew = record {
+    answered = λ a e. logs.logs.answered ∙ e;
+    stopped = λ a e. let w = was.ended a e in logs.logs.stopped w.cause w.is ∙ sym w.is;
+    sent = λ a e. let w = was.ended a e in logs.logs.held w.cause (logs.logs.stopped w.cause w.is);
+    when = λ a e. refl;
+    first = λ a e. inl (sym logs.logs.answered ∙ e);
+  }
+
+  own_desk : (t : ℕ) (d : Desk) → slice_get desks' t ≡ Some d → (session.id == t) ≡ true → logs.after ≡ d
+  own_desk t d get e =
+      same_some logs.after d (sym (set_same desks session.id logs.after logs.before logs.was_at) ∙ ap (slice_get (slice_set desks session.id logs.after)) (here t e) ∙ ap (λ ds. slice_get ds t) (sym logs.is_at) ∙ get)
+
+  old_desk : (t : ℕ) (d : Desk) → slice_get desks' t ≡ Some d → (session.id == t) ≡ false → slice_get desks t ≡ Some d
+  old_desk t d get e = sym (set_other desks session.id t logs.after (apart t e)) ∙ ap (λ ds. slice_get ds t) (sym logs.is_at) ∙ get
+
+  of_old : (t : ℕ) → DeskOfOld c then' desks desks' t
+  of_old t = λ d get. by d get (session.id == t) refl
+    where
+      by : (d : Desk) → slice_get desks' t ≡ Some d → (b : Bool) → (session.id == t) ≡ b → (x : Desk) × (slice_get desks t ≡ Some x) × DeskGrew c then' t x d
+      by d get true e = (logs.before, ap (slice_get desks) (sym (here t e)) ∙ logs.was_at, subst (λ s. DeskGrew c then' s logs.before d) (here t e) (subst (DeskGrew c then' session.id logs.before) (own_desk t d get e) grew))
+      by d get false e = (d, old_desk t d get e, desk_same c then' t d refl)
+
+  one_more : asked_by lines n session.id (i + 1) ≡ asked_by lines n session.id i + 1
+  one_more = asked_one lines n i line session rank command at node asks_is
+
+  none_more : (t : ℕ) → (session.id == t) ≡ false → asked_by lines n t (i + 1) ≡ asked_by lines n t i
+  none_more t e = asked_none lines n t i line at (ap (is_of t) asks_is ∙ e)
+
+  own_at : DeskAt lines home then' counts' n from (i + 1) c.phase session.id logs.after
+  own_at = record {
+    asked = logs.logs.asked ∙ ap (λ k. k + 1) was.asked ∙ sym one_more;
+    sent = λ own. logs.logs.sent;
+    ended = λ a e. let first = sym logs.logs.answered ∙ e in
+        ended_grows may floor shelf c then' grown lines n c.phase c.phase session.id logs.before logs.after a (omega arith) first grew (was.ended a first);
+    here = λ a e. at_home;
+    halted = λ k none e. ⊎_elim
+        (λ (before : logs.before.stopped ≡ Some k). halted_grows may floor shelf c then' grown lines n from i (i + 1) c.phase session.id k (asked_more lines n session.id i (i + 1) (omega arith))
+        (was.halted k (sym logs.logs.answered ∙ none) before))
+        (λ (m : Contains logs.logs.others k). record {
+          came = came_at c n came journal c.when k (among-right _ logs.logs.others k (contained-among logs.logs.others k m));
+          running = omega arith;
+          asked = let low = asked_more lines n session.id from i worker.order in let e = one_more in omega arith;
+        })
+        (logs.logs.stops k e);
+    held = λ k none e. let few = (worker.ok.each session.id logs.before logs.was_at).few in omega (arith, logs.logs.held k e, logs.logs.asked, few);
+  }
+
+  old_at : (t : ℕ) (d : Desk) → (session.id == t) ≡ false → DeskAt lines home c counts n from i c.phase t d → DeskAt lines home then' counts' n from (i + 1) c.phase t d
+  old_at t d e x = record {
+    asked = x.asked ∙ sym (none_more t e);
+    sent = λ own. x.sent own ∙ sym (logs.logs.counted t e);
+    ended = λ a first. ended_grows may floor shelf c then' grown lines n c.phase c.phase t d d a (omega arith) first (desk_same c then' t d refl) (x.ended a first);
+    here = x.here;
+    halted = λ k none stop. halted_grows may floor shelf c then' grown lines n from i (i + 1) c.phase t k (asked_more lines n t i (i + 1) (omega arith)) (x.halted k none stop);
+    held = x.held;
+  }
+
+  each : (t : ℕ) (d : Desk) → slice_get desks' t ≡ Some d → DeskAt lines home then' counts' n from (i + 1) c.phase t d
+  each t d get = by (session.id == t) refl
+    where
+      by : (b : Bool) → (session.id == t) ≡ b → DeskAt lines home then' counts' n from (i + 1) c.phase t d
+      by true e = subst (λ s. DeskAt lines home then' counts' n from (i + 1) c.phase s d) (here t e) (subst (DeskAt lines home then' counts' n from (i + 1) c.phase session.id) (own_desk t d get e) own_at)
+      by false e = old_at t d e (worker.each t d (old_desk t d get e))
+
+  quiet : (t : ℕ) → asked_by lines n t from ≡ asked_by lines n t (i + 1) → IsQuiet (node_of seat' journal) t
+  quiet t same = by (session.id == t) refl
+    where
+      by : (b : Bool) → (session.id == t) ≡ b → IsQuiet (node_of seat' journal) t
+      by true e = absurd
+          (let low = asked_more lines n session.id from i worker.order in
+          let more = one_more in
+          let equal : asked_by lines n session.id from ≡ asked_by lines n session.id (i + 1) = subst (λ s. asked_by lines n s from ≡ asked_by lines n s (i + 1)) (sym (here t e)) same in
+          omega arith)
+      by false e = logs.logs.quiet t e (worker.quiet t (same ∙ none_more t e))
+
+  -- Lines
+
+  -- its command isn't above those that were asked
+  line_so : (d : Desk) → slice_get desks' session.id ≡ Some d → LoggedSo then' c.phase seat'.node.replica.cursor d line.phase session.id rank
+  line_so d get = record {
+    acted = λ over upto. absurd (omega (arith, over, phase));
+    unsent = λ a e before.
+        let own = own_desk session.id d get (grind (arith, nat_tests)) in
+        let first : logs.before.answered ≡ Some a = sym logs.logs.answered ∙ ap (λ (x : Desk). x.answered) own ∙ e in
+        let sent = grew.sent a first in
+        let is = ap (λ (x : Desk). x.sent) own in
+        let few = (worker.ok.each session.id logs.before logs.was_at).few in
+        let asked = was.asked in
+        let above = rank_is lines home nodes are n i line session rank command at node asks_is in
+        omega (arith, sent, is, few, asked, above);
+  }
+
+  line_played : PlayedSo lines then' c.phase seat'.node.replica.cursor n desks' looks i line.phase line.asks
+  line_played = subst (PlayedSo lines then' c.phase seat'.node.replica.cursor n desks' looks i line.phase) (sym asks_is) line_so
+
+  played : (j : ℕ) (l : NamedLine) → j < i + 1 → slice_get lines j ≡ Some l → l.node ≡ n → PlayedSo lines then' c.phase seat'.node.replica.cursor n desks' looks j l.phase l.asks
+  played j l low get there = ⊎_elim
+      (λ (before : j < i).
+      played_grows may floor shelf c then' grown lines c.phase c.phase seat.node.replica.cursor seat'.node.replica.cursor n desks desks' looks looks j l.phase l.asks
+      (let up = phase_before lines home nodes are j i l line get at (omega (arith, before)) in omega (arith, up, phase)) (λ over. over) logs.logs.goes.keeps.forward refl (of_old (session_in l.asks))
+      (worker.played j l before get there))
+      (λ (high : i ≤ j).
+      let same : i ≡ j = omega (arith, low, high) in
+      let is : line ≡ l = same_some line l (sym at ∙ ap (slice_get lines) same ∙ get) in
+      subst (λ k. PlayedSo lines then' c.phase seat'.node.replica.cursor n desks' looks k l.phase l.asks) same
+      (subst (λ (x : NamedLine). PlayedSo lines then' c.phase seat'.node.replica.cursor n desks' looks i x.phase x.asks) is line_played))
+      (cases_lt j i)
+
+  worker_then : WorkerAt may floor shelf state spells lines home then' counts' looks n from (i + 1) c.phase seat' desks'
+  worker_then = record {
+    ok = now;
+    order = omega (arith, worker.order);
+    each = each;
+    quiet = quiet;
+    given = given_then may floor shelf c n came journal c.when seat.node.outbox.given logs.logs.goes.given seat'.node.outbox.given grown logs.logs.goes.gained (given_among logs.logs.goes.given logs.logs.others) worker.given;
+    waiting = λ j l high get there. worker.waiting j l (omega (arith, high)) get there;
+    played = played;
+    stores = stores_counted lines n c.phase c.faults looks looks came [] came seat.node.replica.faults seat'.node.replica.faults (λ P. let e : count_by P came + 0 ≡ count_by P came = omega arith in e) (omega arith) logs.logs.goes.spends.disk worker.stores;
+  }
+
+  pub line_logged : LineWent may floor shelf state spells lines home nodes c counts counts' looks looks n from (i + 1) journal seat' desks'
+  line_logged = record {
+    course = then';
+    journal_is = refl;
+    ok = course_ok;
+    turn = turn;
+    worker = worker_then;
+  }

@@ -1,0 +1,4 @@
+pub mod Script
+pub mod Course
+pub mod Desks
+pub mod Workers

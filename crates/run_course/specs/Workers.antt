@@ -1,0 +1,91 @@
+-- What is known of a node with its sessions, from line to line.
+use Rattle.std.specs.Prelude.{◌≡◌, ℕ, ◌+◌, ◌<◌, ◌≤◌, min, List, [], ◌∷◌, count_by, slice_get, Option, Some, None}
+use Rattle.std.specs.List.{AllByRecursion}
+use Rattle.delos_types.specs.Spaces.{SpaceMap}
+use Rattle.delos_types.specs.declared.entry.Entry.{Entry}
+use Rattle.replica_api.specs.Replica.{Saved}
+use Rattle.table_core.specs.Spelling.{IsSpellable, command_length}
+use Rattle.engine_api.specs.Packing.{packed, session_item}
+use Rattle.script_text.specs.declared.asks.NamedLine.{NamedLine}
+use Rattle.script_text.specs.declared.asks.Asks.{Asks}
+use Rattle.script_text.specs.declared.asks.Asks.TheVariants as asks
+use Rattle.fitting_run.specs.Faults.{lacks_store}
+use Rattle.one_thread.specs.Seats.{SeatView, node_of}
+use Rattle.node_sessions.specs.declared.desk.Desk.{Desk}
+use Rattle.node_lines.specs.declared.lines.Looked.{Looked}
+use Rattle.node_lines.specs.Moving.{IsQuiet}
+use Rattle.node_workers.specs.Workers.{WorkerOk, sent_of}
+use Rattle.run_laws.specs.Ended.{CameTo, most_faults}
+use Rattle.run_course.specs.Script.{AreLines, BeginsAt, asked_by, failed_looks}
+use Rattle.legal_journal.specs.declared.events.Event.{Event}
+use Rattle.run_course.specs.Course.{Course, CourseOk, TurnOf}
+use Rattle.run_course.specs.Desks.{DeskAt, PlayedSo}
+
+-- Of node n: its lines up to `at` were played, of which those of the present phase begin at `from`. The phases below `done` have
+-- ended there.
+pub record WorkerAt (may : ℕ → Entry → Type 0) (floor : List Entry → ℕ) (shelf : List ℕ) (state : List Entry → SpaceMap → Type 0) (spells : List ℕ → Saved → Type 0) (lines : List NamedLine) (home : ℕ → ℕ) (c : Course) (counts : List ℕ) (looks : List (Option Looked)) (n from at done : ℕ) (seat : SeatView) (desks : List Desk) : Type 0 where
+  pub ok : WorkerOk may floor shelf state spells n counts c.journal seat desks
+  pub order : from ≤ at
+  pub each : (s : ℕ) (d : Desk) → slice_get desks s ≡ Some d → DeskAt lines home c counts n from at done s d
+  -- of a session that asked nothing in this phase nothing is on its way
+  pub quiet : (s : ℕ) → asked_by lines n s from ≡ asked_by lines n s at → IsQuiet (node_of seat c.journal) s
+  pub given : AllByRecursion (λ g. CameTo c.faults g.cause n c.phase) seat.node.outbox.given
+  pub waiting : (i : ℕ) (l : NamedLine) → at ≤ i → slice_get lines i ≡ Some l → l.node ≡ n → slice_get looks i ≡ Some None
+  pub played : (i : ℕ) (l : NamedLine) → i < at → slice_get lines i ≡ Some l → l.node ≡ n → PlayedSo lines c done seat.node.replica.cursor n desks looks i l.phase l.asks
+  -- each fault of its store was counted
+  pub stores : min (failed_looks (lacks_store n) lines looks + count_by (λ f. lacks_store n f.node f.cause) c.faults) most_faults ≤ min seat.node.replica.faults most_faults
+
+-- It waits between two phases, the lines of the next one beginning at `from`.
+pub record Rests (may : ℕ → Entry → Type 0) (floor : List Entry → ℕ) (shelf : List ℕ) (state : List Entry → SpaceMap → Type 0) (spells : List ℕ → Saved → Type 0) (lines : List NamedLine) (home : ℕ → ℕ) (c : Course) (counts : List ℕ) (looks : List (Option Looked)) (n from done : ℕ) (seat : SeatView) (desks : List Desk) : Type 0 where
+  pub worker : WorkerAt may floor shelf state spells lines home c counts looks n from from done seat desks
+  pub none_given : seat.node.outbox.given ≡ []
+
+-- The run went on by a line, at a node whose turn it is.
+pub record LineWent (may : ℕ → Entry → Type 0) (floor : List Entry → ℕ) (shelf : List ℕ) (state : List Entry → SpaceMap → Type 0) (spells : List ℕ → Saved → Type 0) (lines : List NamedLine) (home : ℕ → ℕ) (nodes : ℕ) (c : Course) (counts counts' : List ℕ) (looks looks' : List (Option Looked)) (n from at : ℕ) (journal : List Event) (seat : SeatView) (desks : List Desk) : Type 0 where
+  pub course : Course
+  pub journal_is : course.journal ≡ journal
+  pub ok : CourseOk may floor shelf lines nodes course counts' looks'
+  pub turn : TurnOf lines home n c course counts counts' looks looks'
+  pub worker : WorkerAt may floor shelf state spells lines home course counts' looks' n from at course.phase seat desks
+
+-- The run went on by the end of the phase at a node.
+pub record TurnEnded (may : ℕ → Entry → Type 0) (floor : List Entry → ℕ) (shelf : List ℕ) (state : List Entry → SpaceMap → Type 0) (spells : List ℕ → Saved → Type 0) (lines : List NamedLine) (home : ℕ → ℕ) (nodes : ℕ) (c : Course) (counts : List ℕ) (looks : List (Option Looked)) (n to : ℕ) (journal : List Event) (seat : SeatView) (desks : List Desk) : Type 0 where
+  pub course : Course
+  pub journal_is : course.journal ≡ journal
+  pub ok : CourseOk may floor shelf lines nodes course counts looks
+  pub turn : TurnOf lines home n c course counts counts looks looks
+  pub rests : Rests may floor shelf state spells lines home course counts looks n to (course.phase + 1) seat desks
+
+-- The run went on by a node's last calls; it rests as before.
+pub record NodeFinished (may : ℕ → Entry → Type 0) (floor : List Entry → ℕ) (shelf : List ℕ) (state : List Entry → SpaceMap → Type 0) (spells : List ℕ → Saved → Type 0) (lines : List NamedLine) (home : ℕ → ℕ) (nodes : ℕ) (c : Course) (counts : List ℕ) (looks : List (Option Looked)) (n from done : ℕ) (journal : List Event) (seat : SeatView) (desks : List Desk) : Type 0 where
+  pub course : Course
+  pub journal_is : course.journal ≡ journal
+  pub ok : CourseOk may floor shelf lines nodes course counts looks
+  pub turn : TurnOf lines home n c course counts counts looks looks
+  pub rests : Rests may floor shelf state spells lines home course counts looks n from done seat desks
+
+-- It is the turn of node n, whose lines up to `at` were played.
+pub record IsUnderWay (may : ℕ → Entry → Type 0) (floor : List Entry → ℕ) (shelf : List ℕ) (state : List Entry → SpaceMap → Type 0) (spells : List ℕ → Saved → Type 0) (lines : List NamedLine) (home : ℕ → ℕ) (nodes : ℕ) (c : Course) (counts : List ℕ) (looks : List (Option Looked)) (n from at : ℕ) (journal : List Event) (seat : SeatView) (desks : List Desk) : Type 0 where
+  pub journal_is : c.journal ≡ journal
+  pub lines_are : AreLines lines home nodes
+  pub least : 1 ≤ n
+  pub most : n ≤ nodes
+  pub begins : BeginsAt lines from c.phase
+  pub ok : CourseOk may floor shelf lines nodes c counts looks
+  pub worker : WorkerAt may floor shelf state spells lines home c counts looks n from at c.phase seat desks
+
+-- what the line logs its node may append
+abbrev pub CanSend : (ℕ → Entry → Type 0) → ℕ → Asks → Type 0
+CanSend may who (asks.Logged s r command) = IsSpellable command × (command_length command ≤ 984) × may who (packed who (session_item s.id r command ∷ []))
+CanSend may who (asks.Look s query) = Unit {0}
+
+-- at the desk of its session the command is the next
+pub record IsNextAt (counts : List ℕ) (s r : ℕ) (d : Desk) : Type 0 where
+  pub sent : d.sent ≡ sent_of counts s
+  pub few : d.asked < 20000
+  pub rank : r ≡ d.asked + 1
+
+-- the line is its session's next
+abbrev pub IsNext : List ℕ → List Desk → Asks → Type 0
+IsNext counts desks (asks.Logged s r command) = (d : Desk) → slice_get desks s.id ≡ Some d → IsNextAt counts s.id r d
+IsNext counts desks (asks.Look s query) = (d : Desk) → slice_get desks s.id ≡ Some d → d.sent ≡ sent_of counts s.id

@@ -1,0 +1,136 @@
+//! Laws of how a run over nodes goes on. Each function does nothing: its contract is the law.
+ghost use Rattle.std.specs.Prelude.{◌≡◌, ◌==◌, ◌<◌, ◌≤◌, ◌+◌, ℕ, Bool, true, false, List, [], length, Option, Some, None, slice_get, slice_set};
+ghost use Rattle.delos_types.specs.declared.cause.Cause.{Cause};
+ghost use Rattle.table_core.specs.declared.command.Command.{Command};
+ghost use Rattle.table_core.specs.declared.command.Query.{Query};
+ghost use Rattle.legal_journal.specs.declared.events.Event.{Event};
+ghost use Rattle.script_text.specs.declared.asks.NamedLine.{NamedLine};
+ghost use Rattle.script_text.specs.declared.line.Session.{Session};
+ghost use Rattle.script_text.specs.declared.asks.Asks.TheVariants as asks;
+ghost use Rattle.one_thread.specs.Alone.{Since};
+ghost use Rattle.one_thread.specs.Seats.{SeatView, node_of};
+ghost use Rattle.node_sessions.specs.declared.desk.Desk.{Desk};
+ghost use Rattle.node_lines.specs.declared.lines.Looked.{Looked};
+ghost use Rattle.node_lines.specs.Lines.{Looks};
+ghost use Rattle.node_lines.specs.Moving.{Moves};
+ghost use Rattle.node_lines.specs.Turns.{EndsTurn};
+ghost use Rattle.node_workers.specs.Workers.{WorkerOk, MayRun, Logs, Within, sent_of};
+ghost use Rattle.run_course.specs.Script.{AreLines, BeginsAt, asked_before};
+ghost use Rattle.run_course.specs.Course.{Course, CourseOk, TurnOf};
+ghost use Rattle.run_course.specs.Workers.{WorkerAt, Rests, LineWent, TurnEnded, NodeFinished, IsUnderWay, IsNext};
+
+use legal_journal::rules::Rules;
+use replica_api::replica::Replica;
+
+/// No line makes a turn, and two parts of a node's turn make one.
+pub fn a_turn_goes_on()
+    ensures none { (lines : List NamedLine) (home : ℕ → ℕ) (n : ℕ) (c : Course) (counts : List ℕ) (looks : List (Option Looked)) → TurnOf lines home n c c counts counts looks looks }
+    ensures more { (lines : List NamedLine) (home : ℕ → ℕ) (n : ℕ) (c d e : Course) (counts counts' counts'' : List ℕ) (looks looks' looks'' : List (Option Looked))
+        → TurnOf lines home n c d counts counts' looks looks' → TurnOf lines home n d e counts' counts'' looks' looks'' → TurnOf lines home n c e counts counts'' looks looks'' }
+{}
+
+/// A line that is another node's changes nothing of a node.
+pub fn a_line_is_of_another<P: Rules, S: Replica>()
+    ensures { (lines : List NamedLine) (home : ℕ → ℕ) (c : Course) (counts : List ℕ) (looks : List (Option Looked)) (n from i done : ℕ) (line : NamedLine) (seat : SeatView) (desks : List Desk)
+        → slice_get lines i ≡ Some line → (line.node == n) ≡ false
+        → WorkerAt P.may P.floor P.shelf S.state S.spells lines home c counts looks n from i done seat desks
+        → WorkerAt P.may P.floor P.shelf S.state S.spells lines home c counts looks n from (i + 1) done seat desks }
+{}
+
+/// A line of a node whose turn it is is its session's next.
+pub fn a_line_is_next<P: Rules, S: Replica>()
+    ensures { (lines : List NamedLine) (home : ℕ → ℕ) (nodes : ℕ) (c : Course) (counts : List ℕ) (looks : List (Option Looked)) (n from i : ℕ) (line : NamedLine) (journal : List Event) (seat : SeatView) (desks : List Desk)
+        → slice_get lines i ≡ Some line → line.node ≡ n
+        → IsUnderWay P.may P.floor P.shelf S.state S.spells lines home nodes c counts looks n from i journal seat desks
+        → IsNext counts desks line.asks }
+{}
+
+/// A line logged a command at its node.
+pub fn a_command_is_logged<P: Rules, S: Replica>()
+    ensures { MayRun P.may P.floor P.shelf → (lines : List NamedLine) (home : ℕ → ℕ) (nodes : ℕ) (c : Course) (counts counts' : List ℕ) (looks : List (Option Looked)) (n from i : ℕ) (line : NamedLine) (session : Session) (rank : ℕ) (command : Command) (seat seat' : SeatView) (desks desks' : List Desk) (journal : List Event)
+        → AreLines lines home nodes → 1 ≤ n → n ≤ nodes → BeginsAt lines from c.phase
+        → slice_get lines i ≡ Some line → line.node ≡ n → line.phase ≡ c.phase → line.asks ≡ asks.Logged session rank command
+        → CourseOk P.may P.floor P.shelf lines nodes c counts looks
+        → WorkerAt P.may P.floor P.shelf S.state S.spells lines home c counts looks n from i c.phase seat desks
+        → Since n c.journal journal
+        → Logs P.may P.floor P.shelf counts counts' (node_of seat c.journal) (node_of seat' journal) session.id desks desks'
+        → WorkerOk P.may P.floor P.shelf S.state S.spells n counts' journal seat' desks'
+        → LineWent P.may P.floor P.shelf S.state S.spells lines home nodes c counts counts' looks looks n from (i + 1) journal seat' desks' }
+{}
+
+/// A line looked at the table at its node.
+pub fn a_read_has_looked<P: Rules, S: Replica>()
+    ensures { MayRun P.may P.floor P.shelf → (lines : List NamedLine) (home : ℕ → ℕ) (nodes : ℕ) (c : Course) (counts : List ℕ) (looks : List (Option Looked)) (n from i : ℕ) (line : NamedLine) (session : Session) (query : Query) (desk : Desk) (look : Looked) (seat seat' : SeatView) (desks : List Desk) (journal : List Event)
+        → AreLines lines home nodes → 1 ≤ n → n ≤ nodes → BeginsAt lines from c.phase
+        → slice_get lines i ≡ Some line → line.node ≡ n → line.phase ≡ c.phase → line.asks ≡ asks.Look session query
+        → CourseOk P.may P.floor P.shelf lines nodes c counts looks
+        → WorkerAt P.may P.floor P.shelf S.state S.spells lines home c counts looks n from i c.phase seat desks
+        → Since n c.journal journal
+        → slice_get desks session.id ≡ Some desk
+        → Looks (Within P.may counts) P.floor P.shelf (node_of seat c.journal) (node_of seat' journal) desk query look
+        → WorkerOk P.may P.floor P.shelf S.state S.spells n counts journal seat' desks
+        → LineWent P.may P.floor P.shelf S.state S.spells lines home nodes c counts counts looks (slice_set looks i (Some look)) n from (i + 1) journal seat' desks }
+{}
+
+/// The phase ended at a node, whose lines of it were played. Those of the next phase begin at `to`.
+pub fn a_phase_has_ended<P: Rules, S: Replica>()
+    ensures { MayRun P.may P.floor P.shelf → (lines : List NamedLine) (home : ℕ → ℕ) (nodes : ℕ) (c : Course) (counts : List ℕ) (looks : List (Option Looked)) (n from to : ℕ) (failed : Option Cause) (seat seat' : SeatView) (desks desks' : List Desk) (journal : List Event)
+        → AreLines lines home nodes → 1 ≤ n → n ≤ nodes → BeginsAt lines from c.phase → BeginsAt lines to (c.phase + 1)
+        → CourseOk P.may P.floor P.shelf lines nodes c counts looks
+        → WorkerAt P.may P.floor P.shelf S.state S.spells lines home c counts looks n from to c.phase seat desks
+        → Since n c.journal journal
+        → EndsTurn (Within P.may counts) P.floor P.shelf (node_of seat c.journal) (node_of seat' journal) desks desks' failed
+        → WorkerOk P.may P.floor P.shelf S.state S.spells n counts journal seat' desks'
+        → TurnEnded P.may P.floor P.shelf S.state S.spells lines home nodes c counts looks n to journal seat' desks' }
+{}
+
+/// A node without a line in a phase rests on.
+pub fn a_phase_passes_by<P: Rules, S: Replica>()
+    ensures { (lines : List NamedLine) (home : ℕ → ℕ) (c : Course) (counts : List ℕ) (looks : List (Option Looked)) (n from to : ℕ) (seat : SeatView) (desks : List Desk)
+        → from ≤ to → BeginsAt lines from c.phase → BeginsAt lines to (c.phase + 1)
+        → ((i : ℕ) (l : NamedLine) → from ≤ i → i < to → slice_get lines i ≡ Some l → (l.node == n) ≡ false)
+        → Rests P.may P.floor P.shelf S.state S.spells lines home c counts looks n from c.phase seat desks
+        → Rests P.may P.floor P.shelf S.state S.spells lines home c counts looks n to (c.phase + 1) seat desks }
+{}
+
+/// A node that waits stays as it was while another has its turn.
+pub fn who_waits_stays<P: Rules, S: Replica>()
+    ensures { MayRun P.may P.floor P.shelf → (lines : List NamedLine) (home : ℕ → ℕ) (nodes : ℕ) (c c' : Course) (counts counts' : List ℕ) (looks looks' : List (Option Looked)) (n m from done : ℕ) (seat : SeatView) (desks : List Desk)
+        → AreLines lines home nodes → (n == m) ≡ false → BeginsAt lines from done → done ≤ c.phase + 1
+        → CourseOk P.may P.floor P.shelf lines nodes c counts looks
+        → TurnOf lines home n c c' counts counts' looks looks'
+        → CourseOk P.may P.floor P.shelf lines nodes c' counts' looks'
+        → Rests P.may P.floor P.shelf S.state S.spells lines home c counts looks m from done seat desks
+        → Rests P.may P.floor P.shelf S.state S.spells lines home c' counts' looks' m from done seat desks }
+{}
+
+/// A node that rests made its last calls: it stays at rest, with the same desks, and gives no cause.
+pub fn a_node_finishes<P: Rules, S: Replica>()
+    ensures { MayRun P.may P.floor P.shelf → (lines : List NamedLine) (home : ℕ → ℕ) (nodes : ℕ) (c : Course) (counts : List ℕ) (looks : List (Option Looked)) (n from done : ℕ) (seat seat' : SeatView) (desks : List Desk) (journal : List Event)
+        → AreLines lines home nodes → 1 ≤ n → n ≤ nodes → BeginsAt lines from done → done ≤ c.phase + 1
+        → CourseOk P.may P.floor P.shelf lines nodes c counts looks
+        → Rests P.may P.floor P.shelf S.state S.spells lines home c counts looks n from done seat desks
+        → Since n c.journal journal
+        → Moves (Within P.may counts) P.floor P.shelf (node_of seat c.journal) (node_of seat' journal) [] → seat'.node.outbox ≡ seat.node.outbox
+        → WorkerOk P.may P.floor P.shelf S.state S.spells n counts journal seat' desks
+        → NodeFinished P.may P.floor P.shelf S.state S.spells lines home nodes c counts looks n from done journal seat' desks }
+{}
+
+/// The next phase begins.
+pub fn a_phase_begins<P: Rules, S: Replica>()
+    ensures course { (lines : List NamedLine) (nodes : ℕ) (c : Course) (counts : List ℕ) (looks : List (Option Looked))
+        → ((s : ℕ) → sent_of counts s ≤ asked_before lines s (c.phase + 1))
+        → CourseOk P.may P.floor P.shelf lines nodes c counts looks
+        → CourseOk P.may P.floor P.shelf lines nodes (record c { phase = c.phase + 1 }) counts looks }
+    ensures rests { (lines : List NamedLine) (home : ℕ → ℕ) (c : Course) (counts : List ℕ) (looks : List (Option Looked)) (n from : ℕ) (seat : SeatView) (desks : List Desk)
+        → Rests P.may P.floor P.shelf S.state S.spells lines home c counts looks n from (c.phase + 1) seat desks
+        → Rests P.may P.floor P.shelf S.state S.spells lines home (record c { phase = c.phase + 1 }) counts looks n from (c.phase + 1) seat desks }
+{}
+
+/// Between phases no command was sent that no line before asked.
+pub fn what_was_sent_was_asked<P: Rules, S: Replica>()
+    ensures { (lines : List NamedLine) (home : ℕ → ℕ) (nodes : ℕ) (c : Course) (counts : List ℕ) (looks : List (Option Looked)) (s from phase : ℕ) (seat : SeatView) (desks : List Desk)
+        → AreLines lines home nodes → BeginsAt lines from phase → s < 64
+        → Rests P.may P.floor P.shelf S.state S.spells lines home c counts looks (home s) from phase seat desks
+        → sent_of counts s ≤ asked_before lines s phase }
+{}
