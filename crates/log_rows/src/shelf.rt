@@ -3,7 +3,7 @@ ghost use Rattle.delos_types.specs.Spelling.{IsSpellable};
 ghost use Rattle.loglet_api.specs.View.{IsFresh};
 ghost use Rattle.std.specs.Prelude.{◌≡◌, ◌<◌, ◌≤◌, ◌^◌, [], IfSome};
 ghost use Rattle.loglet_api.specs.Sound.{IsSound};
-ghost use Rattle.register_api.specs.View as register;
+ghost use Rattle.register_api.specs.View as view;
 
 use chain_map::change::{drop_below, first_chain};
 use delos_types::entry::Entry;
@@ -60,7 +60,7 @@ pub type Register = MetaRegister<MemDisk>;
 
 /// A register to which nothing was written.
 pub fn fresh_register(alloc: Global) -> Option<Register>
-    ensures { IfSome result (λ made. register.IsFresh made.register) }
+    ensures { IfSome result (λ made. view.IsFresh made.register) }
 {
     match MetaRegister::open_on(alloc, MemDisk::new(alloc)) {
         Ok(register) => Some(register),
@@ -162,8 +162,12 @@ fn fresh_cell(alloc: Global) -> Option<Cell>
     Some(cell)
 }
 
-/// A fabric over three loglets and a register, with no event.
-pub fn fresh_fabric(alloc: Global) -> Option<Fabric<Cell, Register, Free>>
+/// A fabric over three loglets and this register, with no event.
+pub fn fabric_on<R: register_api::Register>(
+    alloc: Global,
+    register: R,
+) -> Option<Fabric<Cell, R, Free>>
+    requires { view.IsFresh (R.view register) }
     ensures { IfSome result (λ made. made.journal ≡ []) }
 {
     let first = fresh_cell(alloc)?;
@@ -176,11 +180,18 @@ pub fn fresh_fabric(alloc: Global) -> Option<Fabric<Cell, Register, Free>>
     cells.push_reserved(first);
     cells.push_reserved(second);
     cells.push_reserved(third);
-    let register = fresh_register(alloc)?;
-    let Ok(fabric) = Fabric::<Cell, Register, Free>::new(alloc, cells, register) else {
+    let Ok(fabric) = Fabric::<Cell, R, Free>::new(alloc, cells, register) else {
         return None;
     };
     Some(fabric)
+}
+
+/// A fabric over three loglets and a register on a disk in memory, with no event.
+pub fn fresh_fabric(alloc: Global) -> Option<Fabric<Cell, Register, Free>>
+    ensures { IfSome result (λ made. made.journal ≡ []) }
+{
+    let register = fresh_register(alloc)?;
+    fabric_on(alloc, register)
 }
 
 /// A virtual log of one user over three loglets, with no event.
@@ -271,7 +282,11 @@ pub enum Write {
 }
 
 /// Writes the first chain with its trim raised to `n`, as one that knows of no other chain.
-pub fn raise_first(alloc: Global, turns: &mut Own<Cell, Register, Free>, n: u64) -> Option<Write>
+pub fn raise_first<R: register_api::Register>(
+    alloc: Global,
+    turns: &mut Own<Cell, R, Free>,
+    n: u64,
+) -> Option<Write>
     requires { (0 < n) × (n ≤ 2 ^ 38) }
 {
     let Ok(first) = first_chain(alloc) else {

@@ -2,6 +2,7 @@
 ghost use Rattle.std.specs.Prelude.{IfOk};
 ghost use Rattle.delos_types.specs.Spelling.{IsSpellable};
 
+use crate::closing::{Told, told_where};
 use crate::first::First;
 use crate::second::{Act, Second};
 use crate::shelf::{
@@ -126,6 +127,52 @@ fn second_write_finds_the_first(rt: HostRuntime) -> Result<(), Fail> {
             trim: 1
         }
     );
+    Ok(())
+}
+
+/// Which calls of the register's disk fail, and what is told then: its third call begins the write, and the next ones open
+/// it again.
+const LAST: [(&[u64], Told); 4] = [
+    (
+        &[],
+        Told {
+            version: 2,
+            trim: 1,
+            down: false,
+        },
+    ),
+    (
+        &[3],
+        Told {
+            version: 1,
+            trim: 0,
+            down: false,
+        },
+    ),
+    (
+        &[3, 4],
+        Told {
+            version: 1,
+            trim: 0,
+            down: true,
+        },
+    ),
+    (
+        &[3, 5],
+        Told {
+            version: 1,
+            trim: 0,
+            down: true,
+        },
+    ),
+];
+
+#[test]
+fn the_chain_is_read_a_last_time(rt: HostRuntime) -> Result<(), Fail> {
+    for (failing, told) in &LAST {
+        let last = told_where(rt.alloc(), failing).ok_or("memory")?;
+        assert_eq!(rt; last, *told);
+    }
     Ok(())
 }
 

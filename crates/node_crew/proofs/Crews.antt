@@ -35,7 +35,7 @@ put_back [] k y h = absurd (omega arith)
 put_back (x ∷ xs) zero y h = refl
 put_back (x ∷ xs) (suc k) y h = ap (λ l. x ∷ l) (put_back xs k y (omega arith))
 
-apart : (j k : ℕ) → j ≢ k → (k + 1 == j + 1) ≡ false
+pub apart : (j k : ℕ) → j ≢ k → (k + 1 == j + 1) ≡ false
 apart j k other = by (k + 1 == j + 1) refl
   where
     by : (b : Bool) → (k + 1 == j + 1) ≡ b → (k + 1 == j + 1) ≡ false
@@ -43,7 +43,7 @@ apart j k other = by (k + 1 == j + 1) refl
     by true e = absurd (other (grind (arith, nat_tests, e)))
 
 -- each element after one was changed is that one, or was there
-changed : {A : Type 0} (xs : List A) (k j : ℕ) (old y w : A) → slice_get xs k ≡ Some old → slice_get (slice_set xs k y) j ≡ Some w → ((j ≡ k) × (y ≡ w)) ⊎ ((j ≢ k) × (slice_get xs j ≡ Some w))
+pub changed : {A : Type 0} (xs : List A) (k j : ℕ) (old y w : A) → slice_get xs k ≡ Some old → slice_get (slice_set xs k y) j ≡ Some w → ((j ≡ k) × (y ≡ w)) ⊎ ((j ≢ k) × (slice_get xs j ≡ Some w))
 changed xs k j old y w at is = by (cases_lt j k) (cases_lt k j)
   where
     some : y ≡ y → Some y ≡ Some w → y ≡ w

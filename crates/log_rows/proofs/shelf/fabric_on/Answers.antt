@@ -4,14 +4,14 @@ use Rattle.file_loglet.specs.declared.file.FileLoglet.{FileLoglet}
 use Rattle.loglet_api.specs.View.{IsFresh}
 use Rattle.loglet_api.specs.Sound.{IsSound}
 use Rattle.log_rows.proofs.Free.{all_three}
-use Rattle.log_rows.proofs.shelf.fresh_fabric.Goals as goal
+use Rattle.log_rows.proofs.shelf.fabric_on.Goals as goal
 
 pub new-requires-clause-fresh : goal.new-requires-clause-fresh
-new-requires-clause-fresh c =
+new-requires-clause-fresh g c =
     all_three (λ (l : FileLoglet MemDisk). IsFresh l.loglet) _ _ _ _ _ _ _ (c.reserve.ensures.items ∙ c.new-cells.ensures.items) c.push_reserved.ensures.items c.push_reserved-2.ensures.items c.push_reserved-3.ensures.items
     c.in_ok-first.ensures.fresh c.in_ok-second.ensures.fresh c.in_ok-third.ensures.fresh
 
 pub new-requires-clause-sound : goal.new-requires-clause-sound
-new-requires-clause-sound c =
+new-requires-clause-sound g c =
     all_three (λ (l : FileLoglet MemDisk). IsSound l.loglet) _ _ _ _ _ _ _ (c.reserve.ensures.items ∙ c.new-cells.ensures.items) c.push_reserved.ensures.items c.push_reserved-2.ensures.items c.push_reserved-3.ensures.items
     c.in_ok-first.ensures.sound c.in_ok-second.ensures.sound c.in_ok-third.ensures.sound

@@ -1,0 +1,56 @@
+use Rattle.std.proofs.Common.{◌≡◌, refl, sym, ap, ◌∙◌, subst, length}
+use Rattle.std.specs.Prelude.{if◌then◌else◌, is_ok, insert}
+use Rattle.std.proofs.lemmas.Option.{slice_get_read}
+use Rattle.node_crew.specs.Crews.{CrewRests, CrewStands}
+use Rattle.node_crew.proofs.Crews.{put_back, still_stands}
+use Rattle.crew_closing.proofs.Ok.{on_ok4, if_ok}
+use Rattle.crew_closing.proofs.Finishing.{rests_stand, own_ok, crew_finished}
+use Rattle.crew_closing.proofs.finish.finish_node.Goals as goal
+
+pub finish_worker-worker-requires-clause-worker : goal.finish_worker-worker-requires-clause-worker
+finish_worker-worker-requires-clause-worker g c =
+    let p = g.K.Terms in
+    let r = g.S.Replica in
+    let a = c.args in
+    let w = c.remove-worker.result in
+    let at = slice_get_read a.crew.workers.items (length a.crew.workers.items) a.k w refl c.requires.there c.remove-worker.ensures.value in
+    own_ok p.may p.floor p.shelf r.state r.spells a._lines.now (λ w. w.seat) (λ w. w.desks.items) a.crew.workers.items (length a._lines.now) c.requires.rests.0 a.crew.fabric.journal a.crew.counts a.crew.looks.items c.requires.rests.1 a.k w at
+
+pub returns-clause-rests : goal.returns-clause-rests
+returns-clause-rests g c =
+    let p = g.K.Terms in
+    let r = g.S.Replica in
+    let a = c.args in
+    let q = c.finish_worker-worker in
+    let w = c.remove-worker.result in
+    let at = slice_get_read a.crew.workers.items (length a.crew.workers.items) a.k w refl c.requires.there c.remove-worker.ensures.value in
+    let items = (subst (λ x. c.insert.new.self.items ≡ (if is_ok x then insert c.remove-worker.new.self.items a.k q.result.worker else c.remove-worker.new.self.items)) c.in-Ok.is c.insert.ensures.items)
+    ∙ (ap (λ l. insert l a.k q.result.worker) c.remove-worker.ensures.items ∙ put_back a.crew.workers.items a.k q.result.worker c.requires.there) in
+    on_ok4 q.result.answer q.ensures.since q.ensures.moves q.ensures.outbox q.ensures.worker (λ since moves same now. (
+      c.requires.rests.0,
+      subst (λ l. CrewRests p.may p.floor p.shelf r.state r.spells a._lines.now (length a._lines.now) c.requires.rests.0 q.result.fabric.journal a.crew.counts a.crew.looks.items (λ w. w.seat) (λ w. w.desks.items) l) (sym items)
+          (crew_finished p.may p.floor p.shelf r.state r.spells a._lines.now (λ w. w.seat) (λ w. w.desks.items) a.crew.workers.items (length a._lines.now) c.requires.rests.0 a.crew.fabric.journal a.crew.counts a.crew.looks.items c.requires.rests.1 a.k q.result.fabric.journal w q.result.worker at since moves same now
+          (ap (λ d. d.items) q.ensures.desks)),
+    ))
+
+pub returns-clause-finishes : goal.returns-clause-finishes
+returns-clause-finishes g c =
+    let a = c.args in
+    let q = c.finish_worker-worker in
+    let items = (subst (λ x. c.insert.new.self.items ≡ (if is_ok x then insert c.remove-worker.new.self.items a.k q.result.worker else c.remove-worker.new.self.items)) c.in-Ok.is c.insert.ensures.items)
+    ∙ (ap (λ l. insert l a.k q.result.worker) c.remove-worker.ensures.items ∙ put_back a.crew.workers.items a.k q.result.worker c.requires.there) in
+    if_ok q.result.answer q.ensures.cursor (λ n is. record { now = q.result.worker; is = items; at = sym is })
+
+pub returns-clause-stands : goal.returns-clause-stands
+returns-clause-stands g c =
+    let p = g.K.Terms in
+    let r = g.S.Replica in
+    let a = c.args in
+    let q = c.finish_worker-worker in
+    let w = c.remove-worker.result in
+    let at = slice_get_read a.crew.workers.items (length a.crew.workers.items) a.k w refl c.requires.there c.remove-worker.ensures.value in
+    let items = (subst (λ x. c.insert.new.self.items ≡ (if is_ok x then insert c.remove-worker.new.self.items a.k q.result.worker else c.remove-worker.new.self.items)) c.in-Ok.is c.insert.ensures.items)
+    ∙ (ap (λ l. insert l a.k q.result.worker) c.remove-worker.ensures.items ∙ put_back a.crew.workers.items a.k q.result.worker c.requires.there) in
+    let before = rests_stand p.may p.floor p.shelf r.state r.spells a._lines.now (λ w. w.seat) (λ w. w.desks.items) a.crew.workers.items (length a._lines.now) c.requires.rests.0 a.crew.fabric.journal a.crew.counts a.crew.looks.items c.requires.rests.1 in
+    subst (λ l. CrewStands p.may p.floor p.shelf r.state r.spells q.result.fabric.journal (λ w. w.seat) l) (sym items)
+    (still_stands p.may p.floor p.shelf r.state r.spells a._lines.now (λ w. w.seat) (λ w. w.desks.items) a.crew.workers.items a.k a.crew.fabric.journal q.result.fabric.journal w q.result.worker at q.ensures.grows before q.ensures.stands)

@@ -1,0 +1,30 @@
+-- The nodes of a run, whose lines are all played, and how much of the log they have played.
+use Rattle.std.specs.Prelude.{◌≡◌, ℕ, ◌<◌, ◌≤◌, List, length, slice_get, slice_set, Option, Some}
+use Rattle.delos_types.specs.Spaces.{SpaceMap}
+use Rattle.delos_types.specs.declared.entry.Entry.{Entry}
+use Rattle.legal_journal.specs.declared.events.Event.{Event}
+use Rattle.replica_api.specs.Replica.{Saved}
+use Rattle.script_text.specs.declared.asks.NamedLine.{NamedLine}
+use Rattle.one_thread.specs.Seats.{SeatView}
+use Rattle.node_sessions.specs.declared.desk.Desk.{Desk}
+use Rattle.node_lines.specs.declared.lines.Looked.{Looked}
+use Rattle.node_crew.specs.Crews.{CrewRests}
+
+-- all lines were played, and each node rests
+abbrev pub HasPlayed : {A : Type 0} → (ℕ → Entry → Type 0) → (List Entry → ℕ) → List ℕ → (List Entry → SpaceMap → Type 0) → (List ℕ → Saved → Type 0) → List NamedLine → List Event → List ℕ → List (Option Looked) → (A → SeatView) → (A → List Desk) → List A → Type 0
+HasPlayed {A} may floor shelf state spells lines journal counts looks seat desks workers = (phase : ℕ) × CrewRests may floor shelf state spells lines (length lines) phase journal counts looks seat desks workers
+
+-- the node at index k has played so much of the log, and the others are as they were
+pub record HasFinished {A : Type 0} (seat : A → SeatView) (old new : List A) (k cursor : ℕ) : Type 0 where
+  pub now : A
+  pub is : new ≡ slice_set old k now
+  pub at : (seat now).node.replica.cursor ≡ cursor
+
+-- Of the first k nodes the one at index `node` has played most of the log, and so much of it. Before the first one it is the
+-- first one, with nothing.
+pub record HasMost {A : Type 0} (seat : A → SeatView) (workers : List A) (k node cursor : ℕ) : Type 0 where
+  pub there : node < length workers
+  pub start : k ≡ 0 → (node ≡ 0) × (cursor ≡ 0)
+  pub low : 0 < k → node < k
+  pub at : 0 < k → (w : A) → slice_get workers node ≡ Some w → (seat w).node.replica.cursor ≡ cursor
+  pub most : (j : ℕ) (w : A) → j < k → slice_get workers j ≡ Some w → (seat w).node.replica.cursor ≤ cursor

@@ -1,0 +1,4 @@
+pub mod Before
+pub mod Fresh
+pub mod Lists
+pub mod Resting

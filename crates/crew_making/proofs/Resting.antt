@@ -1,0 +1,178 @@
+-- A run before its first line.
+use Rattle.std.proofs.Common.{◌≡◌, refl, sym, ap, ◌∙◌, subst, ℕ, zero, suc, ◌+◌, ◌≤◌, Bool, List, [], ◌∷◌, Option, Some, None, length, arith}
+use Rattle.std.specs.Prelude.{slice_get, count_by, All}
+use Rattle.std.proofs.lemmas.Option.{slice_get_within}
+use Rattle.std.specs.List.{AllByRecursion}
+use Rattle.delos_types.specs.Spaces.{SpaceMap}
+use Rattle.delos_types.specs.declared.entry.Entry.{Entry}
+use Rattle.delos_types.specs.declared.cause.Cause.{Cause}
+use Rattle.legal_journal.specs.declared.events.Event.{Event}
+use Rattle.legal_journal.specs.Journal.{IsLegal, state_of, tail_of}
+use Rattle.engine_api.specs.Acted.{asked_in}
+use Rattle.engine_api.specs.Order.{gap_from}
+use Rattle.engine_steps.specs.declared.layout.Kept.{Kept}
+use Rattle.base_engine.specs.Settling.{OutboxView, cause_in}
+use Rattle.replica_api.specs.Replica.{Saved}
+use Rattle.script_text.specs.declared.asks.NamedLine.{NamedLine}
+use Rattle.fitting_run.specs.Faults.{lacks_store}
+use Rattle.one_thread.specs.Seats.{SeatView, node_of}
+use Rattle.node_sessions.specs.declared.desk.Desk.{Desk}
+use Rattle.node_sessions.specs.UnderWay.{IsGiven, ranks_in}
+use Rattle.node_lines.specs.declared.lines.Looked.{Looked}
+use Rattle.node_lines.specs.Moving.{CanPack, IsQuiet, HasNoneOf}
+use Rattle.node_lines.specs.Desks.{HasAnswers, DeskOk}
+use Rattle.node_workers.specs.Workers.{Within, sent_of}
+use Rattle.node_workers.proofs.Widening.{seat_allowed}
+use Rattle.run_laws.specs.Ended.{CameTo, pays}
+use Rattle.run_course.specs.Script.{AreLines, asked_by, failure_of_look, failed_looks}
+use Rattle.run_course.specs.Course.{Course, CourseOk}
+use Rattle.run_course.specs.Desks.{DeskAt}
+use Rattle.run_course.specs.Workers.{Rests}
+use Rattle.node_crew.specs.Crews.{CrewRests, CrewStands}
+use Rattle.crew_making.specs.Fresh.{IsFreshDesk, IsNewWorker, AreNewWorkers}
+
+-- no line has looked at anything
+
+nothing_failed : (by : ℕ → Cause → Bool) (lines : List NamedLine) (looks : List (Option Looked)) → AllByRecursion (λ look. look ≡ None) looks → failed_looks by lines looks ≡ 0
+nothing_failed by [] looks h = refl
+nothing_failed by (l ∷ lines) [] h = refl
+nothing_failed by (l ∷ lines) (k ∷ looks) h =
+    subst (λ x. count_by (pays (by l.node)) (failure_of_look x ∷ []) + failed_looks by lines looks ≡ 0) (sym h.0)
+    (let rest = nothing_failed by lines looks h.1 in omega (arith, rest))
+
+none_there : (lines : List NamedLine) (looks : List (Option Looked)) (i : ℕ) (l : NamedLine) → length looks ≡ length lines → AllByRecursion (λ look. look ≡ None) looks → slice_get lines i ≡ Some l → slice_get looks i ≡ Some None
+none_there [] looks i l size h at = absurd (cc)
+none_there (m ∷ lines) [] i l size h at = absurd (omega (arith, size))
+none_there (m ∷ lines) (k ∷ looks) zero l size h at = ap Some h.0
+none_there (m ∷ lines) (k ∷ looks) (suc i) l size h at = none_there lines looks i l (omega (arith, size)) h.1 at
+
+none_asked : (lines : List NamedLine) (n s : ℕ) → asked_by lines n s 0 ≡ 0
+none_asked [] n s = refl
+none_asked (l ∷ lines) n s = refl
+
+-- Sessions
+
+no_answers : (seen : List Event) (cursor s : ℕ) (answers : List Kept) → answers ≡ [] → HasAnswers seen cursor s answers
+no_answers seen cursor s answers none = subst (HasAnswers seen cursor s) (sym none) (record {
+  log = [];
+  front = λ pos e at. absurd (cc);
+  upto = omega arith;
+  are = record {
+    each = λ i k at. absurd (cc);
+    below = (let first : gap_from (asked_in 0 []) s 1 ≡ 1 = refl in omega (arith, first));
+  };
+})
+
+module _ (seat : SeatView) (none_kept : seat.node.replica.kept ≡ []) (none_sent : seat.node.outbox ≡ record { entries = []; given = []; unsettled = None }) where
+  none_given : (s : ℕ) → IsGiven [] seat.node.outbox.entries seat.node.replica.kept s 0
+  none_given s =
+      subst (λ (o : OutboxView). IsGiven [] o.entries seat.node.replica.kept s 0) (sym none_sent)
+      (subst (λ k. IsGiven [] [] k s 0) (sym none_kept)
+      (record { queued = 0; few = omega arith; waiting = refl; under_way = λ r least most. absurd (omega (arith, least, most)) }))
+
+  quiet : (s : ℕ) → IsQuiet (node_of seat []) s
+  quiet s = record {
+    outstanding = subst (λ (o : OutboxView). All (HasNoneOf s) o.entries) (sym none_sent) (λ k d low. absurd (omega (arith, low)));
+    waiting = subst (λ k. ranks_in s k ≡ []) (sym none_kept) refl;
+    free = subst (λ (o : OutboxView). cause_in s o.given ≡ None) (sym none_sent) refl;
+  }
+
+  desk_ok : (s : ℕ) (d : Desk) → s ≤ 63 → IsFreshDesk s d → DeskOk (node_of seat []) s d
+  desk_ok s d known h = record {
+    session = h.session_is;
+    known = known;
+    few = omega (arith, h.none_sent);
+    near = omega (arith, h.none_sent);
+    acted = no_answers [] seat.node.replica.cursor s d.answers.items h.no_answers;
+    ended = λ _. h.not_ended;
+    given = λ _ free. (h.none_sent ∙ sym h.none_asked, subst (IsGiven [] seat.node.outbox.entries seat.node.replica.kept s) (sym h.none_sent) (none_given s));
+  }
+
+-- The run
+
+abbrev pub first_course : Course
+first_course = record { journal = []; phase = 0; tails = λ _. tail_of (state_of []); faults = []; when = λ _. 0 }
+
+some_none : {A : Type 0} (x : Option A) (a : A) → x ≡ None → x ≡ Some a → ⊥
+some_none x a h k = absurd (cc)
+
+module _ (may : ℕ → Entry → Type 0) (floor : List Entry → ℕ) (shelf : List ℕ) (lines : List NamedLine) (counts : List ℕ) (looks : List (Option Looked)) (none_sent : (s : ℕ) → sent_of counts s ≡ 0) (size : length looks ≡ length lines) (none : AllByRecursion (λ look. look ≡ None) looks) where
+  course_ok : (nodes : ℕ) → IsLegal may floor shelf [] → CourseOk may floor shelf lines nodes first_course counts looks
+  course_ok nodes legal = record {
+    legal = within;
+    began = λ p low. record {
+      early = [];
+      more = [];
+      seen = refl;
+      tail_is = refl;
+      counts = counts;
+      legal = within;
+      sent = λ s. omega (arith, none_sent s);
+    };
+    after = λ p high. refl;
+    rise = λ p. omega arith;
+    size = size;
+    events = λ P store. let calm = nothing_failed (λ n. P) lines looks none in omega (arith, calm);
+    nodes_are = tt;
+  }
+    where
+      within : IsLegal (Within may counts) floor shelf []
+      within = record { least = legal.least; most = legal.most; steps = tt }
+
+  module _ (state : List Entry → SpaceMap → Type 0) (spells : List ℕ → Saved → Type 0) (home : ℕ → ℕ) where
+    worker_rests : (n : ℕ) (seat : SeatView) (desks : List Desk) → IsNewWorker (Within may counts) floor shelf state spells n seat desks → Rests may floor shelf state spells lines home first_course counts looks n 0 0 seat desks
+    worker_rests n seat desks w = record {
+      worker = record {
+        ok = record {
+          who_is = w.waits.who_is;
+          origin = w.waits.replica.origin_is;
+          ok = w.waits.ok;
+          packs = subst CanPack (sym kept) (record { each = λ k d low. absurd (omega (arith, low)); few = omega arith });
+          size = w.desks_are.size;
+          each = λ s d at. desk_ok seat kept w.waits.outbox s d (known s d at) (w.desks_are.each s d at);
+          counted = λ s d at some. let asked = (w.desks_are.each s d at).none_asked in absurd (omega (arith, asked, some));
+        };
+        order = omega arith;
+        each = λ s d at. desk_at s d (w.desks_are.each s d at);
+        quiet = λ s same. quiet seat kept w.waits.outbox s;
+        given = subst (λ (o : OutboxView). AllByRecursion (λ g. CameTo [] g.cause n 0) o.given) (sym w.waits.outbox) tt;
+        waiting = λ i l low at here. none_there lines looks i l size none at;
+        played = λ i l low at here. absurd (omega (arith, low));
+        stores = (let calm = nothing_failed (lacks_store n) lines looks none in omega (arith, calm));
+      };
+      none_given = ap (λ (o : OutboxView). o.given) w.waits.outbox;
+    }
+      where
+        kept : seat.node.replica.kept ≡ []
+        kept = w.waits.replica.nothing_waits
+
+        known : (s : ℕ) (d : Desk) → slice_get desks s ≡ Some d → s ≤ 63
+        known s d at = let low = slice_get_within desks s d at in omega (arith, low, w.desks_are.size)
+
+        desk_at : (s : ℕ) (d : Desk) → IsFreshDesk s d → DeskAt lines home first_course counts n 0 0 0 s d
+        desk_at s d h = record {
+          asked = h.none_asked ∙ sym (none_asked lines n s);
+          sent = λ here. h.none_sent ∙ sym (none_sent s);
+          ended = λ a is. absurd (some_none d.answered a h.not_ended is);
+          here = λ a is. absurd (some_none d.answered a h.not_ended is);
+          halted = λ cause _ is. absurd (some_none d.stopped cause h.goes_on is);
+          held = λ cause _ is. absurd (some_none d.stopped cause h.goes_on is);
+        }
+
+    pub crew_rests : {A : Type 0} (seat : A → SeatView) (desks : A → List Desk) (workers : List A) → AreLines lines home (length workers) → length counts ≡ 64 → IsLegal may floor shelf []
+        → AreNewWorkers (Within may counts) floor shelf state spells seat desks workers → CrewRests may floor shelf state spells lines 0 0 [] counts looks seat desks workers
+    crew_rests seat desks workers are long legal new = record {
+      home = home;
+      course = first_course;
+      journal_is = refl;
+      phase_is = refl;
+      lines_are = are;
+      begins = record { before = λ i l at low. absurd (omega (arith, low)); behind = λ i l at high. omega arith };
+      ok = course_ok (length workers) legal;
+      long = long;
+      each = λ j w at. worker_rests (j + 1) (seat w) (desks w) (new j w at);
+    }
+
+pub new_stands : {A : Type 0} (may : ℕ → Entry → Type 0) (floor : List Entry → ℕ) (shelf : List ℕ) (state : List Entry → SpaceMap → Type 0) (spells : List ℕ → Saved → Type 0) (counts : List ℕ) (seat : A → SeatView) (desks : A → List Desk) (workers : List A)
+    → AreNewWorkers (Within may counts) floor shelf state spells seat desks workers → CrewStands may floor shelf state spells [] seat workers
+new_stands may floor shelf state spells counts seat desks workers new = λ j w at. seat_allowed may counts floor shelf state spells [] (seat w) (new j w at).waits.ok

@@ -1,0 +1,90 @@
+use Rattle.std.proofs.Common.{[], length, map, sym, ap, ◌∙◌, subst, arith}
+use Rattle.std.proofs.lemmas.List.{length-map}
+use Rattle.legal_journal.specs.Journal.{IsLegal}
+use Rattle.base_engine.specs.Trimming.{IsFloor}
+use Rattle.run_course.specs.Script.{AreLines}
+use Rattle.node_crew.specs.Crews.{CrewRests, CrewStands}
+use Rattle.crew_making.specs.Apart.{AreAsTold}
+use Rattle.crew_making.specs.Fresh.{AreFreshFrom}
+use Rattle.fabric_core.specs.Runs.{HasRegisterRun}
+use Rattle.crew_making.proofs.Before.{fresh_register}
+use Rattle.crew_making.proofs.Fresh.{fresh_from}
+use Rattle.crew_making.proofs.Lists.{as_long, shown_same}
+use Rattle.crew_making.proofs.Resting.{crew_rests, new_stands}
+use Rattle.crew_making.proofs.make.make_crew.Goals as goal
+
+pub seat_all-workers-requires-clause-eight : goal.seat_all-workers-requires-clause-eight
+seat_all-workers-requires-clause-eight g c =
+    let size = as_long (λ b. b.replica) (λ n. n.replica) c.in-Ok-prepare_all.berths.items c.args.nodes.now.items c.in-Ok-prepare_all.ensures.replicas in
+    omega (arith, size, c.requires.eight)
+
+pub seat_all-workers-requires-clause-floor : goal.seat_all-workers-requires-clause-floor
+seat_all-workers-requires-clause-floor g c =
+    let size = as_long (λ b. b.replica) (λ n. n.replica) c.in-Ok-prepare_all.berths.items c.args.nodes.now.items c.in-Ok-prepare_all.ensures.replicas in
+    subst (IsFloor g.S.Replica.state g.K.Terms.floor) (sym size) c.requires.floor
+
+pub seat_all-workers-requires-clause-fresh : goal.seat_all-workers-requires-clause-fresh
+seat_all-workers-requires-clause-fresh g c =
+    let r = g.S.Replica in
+    let same = shown_same (λ b. b.replica) (λ n. n.replica) r.shows c.in-Ok-prepare_all.berths.items c.args.nodes.now.items c.in-Ok-prepare_all.ensures.replicas in
+    subst (AreFreshFrom r.state r.spells 1) (sym same) (fresh_from r.state r.spells (λ n. r.shows n.replica) 1 c.args.nodes.now.items c.requires.nodes)
+
+pub seat_all-workers-requires-clause-room : goal.seat_all-workers-requires-clause-room
+seat_all-workers-requires-clause-room g c =
+    let size = as_long (λ b. b.replica) (λ n. n.replica) c.in-Ok-prepare_all.berths.items c.args.nodes.now.items c.in-Ok-prepare_all.ensures.replicas in
+    (c.in-Ok-with_capacity.ensures.items, grind (arith, size, c.in-Ok-with_capacity.ensures.exact, c.len.ensures))
+
+pub returns-in-Ok-new-clause-rests : goal.returns-in-Ok-new-clause-rests
+returns-in-Ok-new-clause-rests g c =
+    let p = g.K.Terms in
+    let r = g.S.Replica in
+    let a = c.args in
+    let q = c.seat_all-workers in
+    let n = c.no_counts-counts in
+    let size = as_long (λ b. b.replica) (λ n. n.replica) c.in-Ok-prepare_all.berths.items a.nodes.now.items c.in-Ok-prepare_all.ensures.replicas in
+    let size' = as_long (λ w. w.seat.node.replica) (λ b. r.shows b.replica) q.result.workers.items c.in-Ok-prepare_all.berths.items q.ensures.replicas in
+    let shelf = sym (ap length c.requires.shelf) ∙ (length-map (map g.L.Loglet.view a.cells.items) (λ v. v.servers) ∙ length-map a.cells.items g.L.Loglet.view) in
+    let legal : IsLegal p.may p.floor p.shelf [] = record { least = omega (arith, shelf, c.requires.least); most = omega (arith, shelf, c.requires.most); steps = tt } in
+    subst (λ j. CrewRests p.may p.floor p.shelf r.state r.spells a.lines.now 0 0 j n.result c.in-Ok.looks.items (λ w. w.seat) (λ w. w.desks.items) q.result.workers.items) (sym q.ensures.none)
+    (crew_rests p.may p.floor p.shelf a.lines.now n.result c.in-Ok.looks.items n.ensures.none c.in-Ok.ensures.size c.in-Ok.ensures.none r.state r.spells c.requires.lines.0 (λ w. w.seat) (λ w. w.desks.items) q.result.workers.items
+    (subst (AreLines a.lines.now c.requires.lines.0) (sym (size' ∙ size)) c.requires.lines.1) n.ensures.long legal q.ensures.workers)
+
+pub returns-in-Ok-new-clause-stands : goal.returns-in-Ok-new-clause-stands
+returns-in-Ok-new-clause-stands g c =
+    let p = g.K.Terms in
+    let r = g.S.Replica in
+    let q = c.seat_all-workers in
+    subst (λ j. CrewStands p.may p.floor p.shelf r.state r.spells j (λ w. w.seat) q.result.workers.items) (sym q.ensures.none)
+    (new_stands p.may p.floor p.shelf r.state r.spells c.no_counts-counts.result (λ w. w.seat) (λ w. w.desks.items) q.result.workers.items q.ensures.workers)
+
+pub returns-in-Ok-new-clause-replicas : goal.returns-in-Ok-new-clause-replicas
+returns-in-Ok-new-clause-replicas g c =
+    c.seat_all-workers.ensures.replicas ∙ shown_same (λ b. b.replica) (λ n. n.replica) g.S.Replica.shows c.in-Ok-prepare_all.berths.items c.args.nodes.now.items c.in-Ok-prepare_all.ensures.replicas
+
+pub leave_all-requires-clause-room : goal.leave_all-requires-clause-room
+leave_all-requires-clause-room g c =
+    let size = as_long (λ b. b.replica) (λ n. n.replica) c.in-Ok-prepare_all.berths.items c.args.nodes.now.items c.in-Ok-prepare_all.ensures.replicas in
+    let none = ap length c.in-Ok-prepare_all.ensures.taken in
+    omega (arith, size, none, c.in-Ok-prepare_all.ensures.room)
+
+pub returns-in-Ok-new-clause-told : goal.returns-in-Ok-new-clause-told
+returns-in-Ok-new-clause-told g c =
+    let p = g.K.Terms in
+    let q = c.seat_all-workers in
+    let t = c.journal-told in
+    subst (λ j. AreAsTold p.may p.floor p.shelf j q.result.fabric.cells q.result.fabric.register) q.ensures.none
+    (record {
+      legal = t.ensures.legal;
+      shelf_is = t.ensures.shelf;
+      runs = t.ensures.runs;
+      register_runs = t.ensures.register_runs;
+      register_is = t.ensures.register;
+      shows = t.ensures.shows;
+      tail = t.ensures.tail;
+    })
+
+pub returns-in-Ok-new-clause-register : goal.returns-in-Ok-new-clause-register
+returns-in-Ok-new-clause-register g c =
+    let q = c.seat_all-workers in
+    let h = subst (λ j. HasRegisterRun j q.result.fabric.register) q.ensures.none c.journal-told.ensures.register_runs in
+    h.run ∙ fresh_register h.opening (g.R.Register.view c.args.register) h.fresh c.requires.register

@@ -1,0 +1,61 @@
+-- What a node is before a run.
+use Rattle.std.specs.Prelude.{◌≡◌, ℕ, ◌+◌, List, [], ◌∷◌, length, slice_get, Some, None}
+use Rattle.delos_types.specs.Spaces.{SpaceMap}
+use Rattle.delos_types.specs.declared.entry.Entry.{Entry}
+use Rattle.chain_map.specs.Chain.{first_chain}
+use Rattle.virtual_log.specs.Log as log
+use Rattle.replica_api.specs.Replica.{Saved, ReplicaView, Survives}
+use Rattle.one_thread.specs.Seats.{SeatView, SeatOk}
+use Rattle.node_sessions.specs.declared.desk.Desk.{Desk}
+
+-- a replica that has applied nothing, of the node with this number
+pub record IsFreshReplica (state : List Entry → SpaceMap → Type 0) (spells : List ℕ → Saved → Type 0) (node : ℕ) (v : ReplicaView) : Type 0 where
+  pub empty : state [] v.contents
+  pub start : v.cursor ≡ 0
+  pub none_asked : v.asked ≡ None
+  pub nothing_waits : v.kept ≡ []
+  pub survives : Survives spells v
+  pub origin_is : v.origin ≡ node
+
+-- a log that knows nothing but the first chain, over so many loglets
+abbrev pub IsFreshLog : ℕ → log.RestedView → Type 0
+IsFreshLog cells l = l ≡ record { known = 0; version = 1; chain = first_chain; shelf_len = cells }
+
+-- a session's desk at which nothing was asked
+pub record IsFreshDesk (s : ℕ) (d : Desk) : Type 0 where
+  pub session_is : d.session ≡ s
+  pub none_asked : d.asked ≡ 0
+  pub none_sent : d.sent ≡ 0
+  pub no_answers : d.answers.items ≡ []
+  pub goes_on : d.stopped ≡ None
+  pub not_ended : d.answered ≡ None
+
+-- the first desks, by the numbers of their sessions
+pub record AreDesksUpTo (count : ℕ) (desks : List Desk) : Type 0 where
+  pub size : length desks ≡ count
+  pub each : (s : ℕ) (d : Desk) → slice_get desks s ≡ Some d → IsFreshDesk s d
+
+-- a desk for each session
+abbrev pub AreFreshDesks : List Desk → Type 0
+AreFreshDesks desks = AreDesksUpTo 64 desks
+
+-- replicas of the nodes from this number on
+abbrev pub AreFreshFrom : (List Entry → SpaceMap → Type 0) → (List ℕ → Saved → Type 0) → ℕ → List ReplicaView → Type 0
+AreFreshFrom state spells n [] = Unit {0}
+AreFreshFrom state spells n (v ∷ vs) = IsFreshReplica state spells n v × AreFreshFrom state spells (n + 1) vs
+
+-- a node that waits for its first turn: it has sent nothing, and may take the fabric before any event
+pub record IsNewSeat (may : ℕ → Entry → Type 0) (floor : List Entry → ℕ) (shelf : List ℕ) (state : List Entry → SpaceMap → Type 0) (spells : List ℕ → Saved → Type 0) (who : ℕ) (seat : SeatView) : Type 0 where
+  pub who_is : seat.who ≡ who
+  pub replica : IsFreshReplica state spells who seat.node.replica
+  pub outbox : seat.node.outbox ≡ record { entries = []; given = []; unsettled = None }
+  pub ok : SeatOk may floor shelf state spells [] seat
+
+-- a node, and the desks of the sessions
+pub record IsNewWorker (may : ℕ → Entry → Type 0) (floor : List Entry → ℕ) (shelf : List ℕ) (state : List Entry → SpaceMap → Type 0) (spells : List ℕ → Saved → Type 0) (who : ℕ) (seat : SeatView) (desks : List Desk) : Type 0 where
+  pub waits : IsNewSeat may floor shelf state spells who seat
+  pub desks_are : AreFreshDesks desks
+
+-- all nodes, numbered from 1
+abbrev pub AreNewWorkers : {A : Type 0} → (ℕ → Entry → Type 0) → (List Entry → ℕ) → List ℕ → (List Entry → SpaceMap → Type 0) → (List ℕ → Saved → Type 0) → (A → SeatView) → (A → List Desk) → List A → Type 0
+AreNewWorkers {A} may floor shelf state spells seat desks workers = (j : ℕ) (w : A) → slice_get workers j ≡ Some w → IsNewWorker may floor shelf state spells (j + 1) (seat w) (desks w)

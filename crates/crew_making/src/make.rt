@@ -1,0 +1,200 @@
+//! The nodes of a run are made of their parts.
+ghost use Rattle.std.specs.Prelude.{◌≡◌, ◌≤◌, ◌<◌, ◌+◌, ℕ, [], List, length, map, slice_get, Some, None, All, IfOk, IfErr, OnOk, OnErr};
+ghost use Rattle.std.specs.List.{AllByRecursion};
+ghost use Rattle.std.specs.Vec.{vec_capacity};
+ghost use Rattle.delos_types.specs.declared.entry.Entry.{Entry};
+ghost use Rattle.loglet_api.specs.View.{IsFresh};
+ghost use Rattle.loglet_api.specs.Sound.{IsSound};
+ghost use Rattle.register_api.specs.View as view;
+ghost use Rattle.base_engine.specs.Trimming.{IsFloor};
+ghost use Rattle.node_workers.specs.Workers.{Within, sent_of};
+ghost use Rattle.run_course.specs.Script.{AreLines};
+ghost use Rattle.node_crew.specs.Crews.{CrewRests, CrewStands};
+ghost use Rattle.crew_making.specs.Apart.{AreAsTold};
+ghost use Rattle.crew_making.specs.Fresh.{IsFreshReplica, AreFreshFrom, AreFreshDesks, IsFreshLog, IsNewSeat, AreNewWorkers};
+
+use crate::berth::{Berth, leave_all, prepare_all};
+use crate::parts::NodeParts;
+use base_engine::node::Node;
+use fabric_core::fabric::{Fabric, Parts};
+use fate_words::chooser::Chooser;
+use loglet_api::loglet::Loglet;
+use node_crew::crew::Crew;
+use node_lines::lines::Looked;
+use node_workers::worker::Worker;
+use one_thread::alone::Alone;
+use one_thread::seat::{Seat, rest};
+use one_thread::terms::{By, Scope, Terms};
+use register_api::Register;
+use replica_api::replica::Replica;
+use script_text::asks::NamedLine;
+use std::alloc::{AllocError, Global};
+use std::marker::Brand;
+use virtual_log::rest::Rested as RestedLog;
+
+/// A node that waits for the fabric, and the fabric.
+struct Seated<L: Loglet, R: Register, K: Terms, S: Replica, C: Chooser> {
+    seat: Seat<S, C>,
+    fabric: Fabric<L, R, By<K>>,
+}
+
+/// All nodes, and the fabric.
+struct AllSeated<L: Loglet, R: Register, K: Terms, S: Replica, C: Chooser> {
+    workers: Vec<Worker<S, C>>,
+    fabric: Fabric<L, R, By<K>>,
+}
+
+/// A node gets its seat, within a scope. The counts of commands that were sent are handed in for the rules of the scope alone.
+fn seat_within<L: Loglet, R: Register, K: Terms, Q: Scope, S: Replica, C: Chooser>(
+    alloc: Global,
+    fabric: Fabric<L, R, By<K>>,
+    who: u32,
+    nodes: u8,
+    log: RestedLog<C>,
+    replica: S,
+    _counts: &[u64; 64],
+) -> Seated<L, R, K, S, C>
+    requires eight { nodes ≤ 8 }
+    requires floor { IsFloor S.state K.floor nodes }
+    requires log { IsFreshLog (length K.shelf) log }
+    requires fresh { IsFreshReplica S.state S.spells who (S.shows replica) }
+    requires none { fabric.journal ≡ [] }
+    requires narrower { (who : ℕ) (e : Entry) → Q.sends who e → K.may who e }
+    requires since { Q.since ≡ fabric.journal }
+    ensures seat { IsNewSeat Q.sends K.floor K.shelf S.state S.spells who result.seat }
+    ensures replica { result.seat.node.replica ≡ S.shows replica }
+    ensures none { result.fabric.journal ≡ [] }
+{
+    // A journal is legal before any event.
+    let _seen = fabric.journal();
+    let log = log.wake(Alone::<L, R, K, Q>::new(who, fabric));
+    let (seat, fabric) = rest(Node::new(alloc, nodes, log, replica));
+    Seated { seat, fabric }
+}
+
+/// All nodes get their seats, in their order. Takes no memory: there is room for them.
+fn seat_all<L: Loglet, R: Register, K: Terms, S: Replica, C: Chooser>(
+    alloc: Global,
+    fabric: Fabric<L, R, By<K>>,
+    berths: Vec<Berth<S, C>>,
+    workers: Vec<Worker<S, C>>,
+    counts: &[u64; 64],
+) -> AllSeated<L, R, K, S, C>
+    requires eight { length berths.items ≤ 8 }
+    requires floor { IsFloor S.state K.floor (length berths.items) }
+    requires logs { AllByRecursion (λ b. IsFreshLog (length K.shelf) b.log) berths.items }
+    requires desks { AllByRecursion (λ b. AreFreshDesks b.desks.items) berths.items }
+    requires fresh { AreFreshFrom S.state S.spells 1 (map (λ b. S.shows b.replica) berths.items) }
+    requires none { fabric.journal ≡ [] }
+    requires room { (workers.items ≡ []) × (length berths.items ≤ vec_capacity workers) }
+    ensures workers { AreNewWorkers (Within K.may counts.now) K.floor K.shelf S.state S.spells (λ w. w.seat) (λ w. w.desks.items) result.workers.items }
+    ensures replicas { map (λ w. w.seat.node.replica) result.workers.items ≡ map (λ b. S.shows b.replica) berths.items }
+    ensures none { result.fabric.journal ≡ [] }
+{
+    let nodes = berths.len() as u8;
+    let (mut fabric, mut berths, mut workers) = (fabric, berths, workers);
+    for k in 0..nodes {
+        let Berth {
+            replica,
+            log,
+            desks,
+        } = berths.remove(0);
+        let Seated { seat, fabric: rest } = seat_within::<L, R, K, Brand, S, C>(
+            alloc,
+            fabric,
+            u32::from(k) + 1,
+            nodes,
+            log,
+            replica,
+            counts,
+        );
+        fabric = rest;
+        workers.push_reserved(Worker { seat, desks });
+    }
+    berths.destroy_empty();
+    AllSeated { workers, fabric }
+}
+
+/// None of the lines has looked at anything.
+fn no_looks(alloc: Global, lines: usize) -> Result<Vec<Option<Looked>>, AllocError>
+    ensures size { IfOk result (λ looks. length looks.items ≡ lines) }
+    ensures none { IfOk result (λ looks. AllByRecursion (λ look. look ≡ None) looks.items) }
+{
+    let mut looks = Vec::with_capacity(alloc, lines)?;
+    'line: for _ in 0..lines {
+        looks.push_reserved(None);
+    }
+    Ok(looks)
+}
+
+/// No command was sent.
+fn no_counts() -> [u64; 64]
+    ensures none { (s : ℕ) → sent_of result s ≡ 0 }
+    ensures long { length result ≡ 64 }
+{
+    [0; 64]
+}
+
+/// Makes the nodes of a run of their parts, which are numbered from 1 in their order, over a fabric of these loglets and this
+/// register. The nodes' vector is empty then, and has room for them. Without memory all parts come back.
+pub fn make_crew<L: Loglet, R: Register, K: Terms, S: Replica, C: Chooser>(
+    alloc: Global,
+    cells: Vec<L>,
+    register: R,
+    nodes: &mut Vec<NodeParts<S, C>>,
+    lines: &[NamedLine],
+) -> Result<Crew<L, R, K, S, C>, Parts<L, R>>
+    requires floor { IsFloor S.state K.floor (length nodes.old.items) }
+    requires least { 0 < length cells.items }
+    requires most { length cells.items ≤ 64 }
+    requires shelf { map (λ v. v.servers) (map L.view cells.items) ≡ K.shelf }
+    requires fresh { All (λ l. IsFresh (L.view l)) cells.items }
+    requires sound { All (λ l. IsSound (L.view l)) cells.items }
+    requires register { view.IsFresh (R.view register) }
+    requires eight { length nodes.old.items ≤ 8 }
+    requires nodes { (j : ℕ) (n : NodeParts S C) → slice_get nodes.old.items j ≡ Some n → IsFreshReplica S.state S.spells (j + 1) (S.shows n.replica) }
+    requires lines { (home : ℕ → ℕ) × AreLines lines.now home (length nodes.old.items) }
+    ensures rests { IfOk result (λ crew. CrewRests K.may K.floor K.shelf S.state S.spells lines.now 0 0 crew.fabric.journal crew.counts crew.looks.items (λ w. w.seat) (λ w. w.desks.items) crew.workers.items) }
+    ensures stands { IfOk result (λ crew. CrewStands K.may K.floor K.shelf S.state S.spells crew.fabric.journal (λ w. w.seat) crew.workers.items) }
+    ensures none { IfOk result (λ crew. crew.fabric.journal ≡ []) }
+    ensures told { IfOk result (λ crew. AreAsTold K.may K.floor K.shelf [] crew.fabric.cells crew.fabric.register) }
+    ensures register { IfOk result (λ crew. crew.fabric.register ≡ R.view register) }
+    ensures replicas { IfOk result (λ crew. map (λ w. w.seat.node.replica) crew.workers.items ≡ map (λ n. S.shows n.replica) nodes.old.items) }
+    ensures taken { OnOk result (nodes.new.items ≡ []) }
+
+    // Nothing is lost, and there is room to put all nodes back.
+    ensures parts { IfErr result (λ parts. (parts.cells ≡ cells) × (parts.register ≡ register)) }
+    ensures back { OnErr result (map (λ n. n.replica) nodes.new.items ≡ map (λ n. n.replica) nodes.old.items) }
+    ensures room { length nodes.old.items ≤ vec_capacity nodes.new }
+{
+    let Ok(looks) = no_looks(alloc, lines.len()) else {
+        return Err(Parts { cells, register });
+    };
+    let Ok(workers) = Vec::with_capacity(alloc, nodes.len()) else {
+        return Err(Parts { cells, register });
+    };
+    let Ok(berths) = prepare_all::<K, S, C>(alloc, nodes, cells.len() as u32) else {
+        workers.destroy_empty();
+        return Err(Parts { cells, register });
+    };
+    match Fabric::new(alloc, cells, register) {
+        Ok(fabric) => {
+            let counts = no_counts();
+            let AllSeated { workers, fabric } = seat_all::<L, R, K, S, C>(
+                alloc, fabric, berths, workers, &counts,
+            );
+            let _told = fabric.journal();
+            return Ok(Crew {
+                fabric,
+                workers,
+                counts,
+                looks,
+            });
+        }
+        Err(parts) => {
+            leave_all::<K, S, C>(berths, nodes);
+            workers.destroy_empty();
+            return Err(parts);
+        }
+    }
+}

@@ -1,0 +1,70 @@
+use Rattle.std.proofs.Common.{◌≡◌, refl, sym, ap, ◌∙◌, subst, ◌++◌, List, map}
+use Rattle.std.specs.Prelude.{IfOk, OnOk}
+use Rattle.legal_journal.specs.Journal.{IsLegal}
+use Rattle.fitting_run.specs.Yard.{Shown}
+use Rattle.fitting_run.specs.declared.told.Told.{Told}
+use Rattle.run_laws.specs.Ended.{Played, RunEnded}
+use Rattle.fabric_core.specs.Fabric.{IsRegisterAsTold}
+use Rattle.legal_journal.specs.Journal as journal
+use Rattle.course_ends.specs.Closing.{WorkerEnd, HasClosed, IsGivenBack}
+use Rattle.course_ends.specs.Rows.{played_of}
+use Rattle.course_ends.specs.Rows.{AreRows, CanTell}
+use Rattle.fitting_run.specs.Fits.{Fits}
+use Rattle.last_chain.specs.Last.{AsksOnce, IsLast}
+use Rattle.crew_run.proofs.Telling.{stands_on, own_more, reads_asked}
+use Rattle.crew_run.proofs.tell.tell_closed.Goals as goal
+
+pub rows_of-rows-requires : goal.rows_of-rows-requires
+rows_of-rows-requires g c =
+    let p = g.K.Terms in
+    let r = g.S.Replica in
+    let w = c.args.crew in
+    let h = c.requires.closed in
+    let ends : List WorkerEnd = map (λ x. record { seat = x.seat; desks = x.desks.items }) w.workers.items in
+    record {
+      tellable = subst (λ l. CanTell c.args.lines.now (map (λ x. record { seat = x.seat; desks = x.desks.items }) l) c.as_slice-2.result.now) (sym c.as_slice.ensures.value)
+          (subst (λ l. CanTell c.args.lines.now ends l) (sym c.as_slice-2.ensures.value)
+          (c.what_closed_can_be_told.ensures c.requires.run c.args.lines.now w.fabric.journal w.counts w.looks.items h.0 ends h.2));
+    }
+
+pub returns-in-Ok-Ok-clause-told : goal.returns-in-Ok-Ok-clause-told
+returns-in-Ok-Ok-clause-told g c =
+    let p = g.K.Terms in
+    let r = g.S.Replica in
+    let lines = c.args.lines.now in
+    let w = c.args.crew in
+    let q = c.read_last-fabric in
+    let h = c.requires.closed in
+    let early = w.fabric.journal in
+    let new = q.result.fabric.journal in
+    let ends : List WorkerEnd = map (λ x. record { seat = x.seat; desks = x.desks.items }) w.workers.items in
+    let o : Told = record { rows = c.in-Ok-Ok.rows; end = c.args.end; version = c.in-Ok-Ok.last.version; chain = c.in-Ok-Ok.last.chain; down = c.in-Ok-Ok.last.down } in
+    let asks = subst (λ x. OnOk x (AsksOnce early new)) c.in-Ok-Ok.is-0 q.ensures.asks in
+    let last = subst (λ x. IfOk x (λ l. IsLast l q.result.fabric)) c.in-Ok-Ok.is-0 q.ensures.last in
+    let legal = q.ensures.legal in
+    let closed = subst (λ l. HasClosed p.may p.floor p.shelf r.state r.spells lines l w.counts w.looks.items h.0 ends) (sym asks.seen)
+    (c.reads_change_nothing.ensures lines early asks.more w.counts w.looks.items h.0 ends h.2 (own_more 0 early new q.ensures.since asks) (reads_asked asks.more asks.calls) (subst (λ l. IsLegal p.may p.floor p.shelf l) asks.seen legal)) in
+    let rows = subst (λ x. IfOk x (λ rows. AreRows lines (map (λ x. record { seat = x.seat; desks = x.desks.items }) c.as_slice.result.now) c.as_slice-2.result.now rows)) c.in-Ok-Ok.is-1 c.rows_of-rows.ensures.rows in
+    let rows' = subst (λ l. AreRows lines (map (λ x. record { seat = x.seat; desks = x.desks.items }) l) w.looks.items c.in-Ok-Ok.rows) c.as_slice.ensures.value (subst (λ l. AreRows lines (map (λ x. record { seat = x.seat; desks = x.desks.items }) c.as_slice.result.now) l c.in-Ok-Ok.rows) c.as_slice-2.ensures.value rows) in
+    let trim = c.nothing_is_trimmed.ensures.trim c.requires.none_trimmed new legal in
+    let ended : (yard : Shown) → IsGivenBack p.may p.floor p.shelf new ends o.chain yard → IsRegisterAsTold (journal.state_of new).register yard.register → (map (λ t. t.line) (played_of lines o.rows w.looks.items) ≡ lines) × RunEnded (played_of lines o.rows w.looks.items) o yard = λ yard back told.
+    c.what_closed_has_ended.ensures c.requires.run lines new w.counts w.looks.items h.0 ends o yard c.requires.may trim closed rows' (sym h.1) back
+    (c.the_chain_is_registered.ensures early c.in-Ok-Ok.last q.result.fabric yard.register o legal asks last c.journal-told.ensures.register c.journal-told.ensures.register_runs told back.register_runs refl refl refl) in
+    record {
+      fits = λ yard back told. let e = ended yard back told in subst (λ l. Fits l o yard) e.0 (c.what_ended_fits.ensures (played_of lines o.rows w.looks.items) o yard e.1);
+      calm = λ yard back told quiet. c.a_calm_run_answers_all.ensures (played_of lines o.rows w.looks.items) o yard (ended yard back told).1 quiet;
+    }
+
+pub returns-in-Ok-Ok-clause-stands : goal.returns-in-Ok-Ok-clause-stands
+returns-in-Ok-Ok-clause-stands g c =
+    let p = g.K.Terms in
+    let r = g.S.Replica in
+    let q = c.read_last-fabric in
+    stands_on p.may p.floor p.shelf r.state r.spells 0 c.args.crew.fabric.journal q.result.fabric.journal (λ x. x.seat) c.args.crew.workers.items q.ensures.since q.ensures.legal c.requires.stands
+
+pub returns-in_default-clause-stands : goal.returns-in_default-clause-stands
+returns-in_default-clause-stands g c =
+    let p = g.K.Terms in
+    let r = g.S.Replica in
+    let q = c.read_last-fabric in
+    stands_on p.may p.floor p.shelf r.state r.spells 0 c.args.crew.fabric.journal q.result.fabric.journal (λ x. x.seat) c.args.crew.workers.items q.ensures.since q.ensures.legal c.requires.stands

@@ -1,0 +1,17 @@
+-- What a run tells, whatever yard comes back that is as its journal tells.
+use Rattle.std.specs.Prelude.{◌≡◌, ℕ, true, List}
+use Rattle.delos_types.specs.declared.entry.Entry.{Entry}
+use Rattle.legal_journal.specs.declared.events.Event.{Event}
+use Rattle.legal_journal.specs.Journal.{state_of}
+use Rattle.fabric_core.specs.Fabric.{IsRegisterAsTold}
+use Rattle.script_text.specs.declared.asks.NamedLine.{NamedLine}
+use Rattle.fitting_run.specs.declared.told.Told.{Told}
+use Rattle.fitting_run.specs.Yard.{Shown}
+use Rattle.fitting_run.specs.Fits.{Fits}
+use Rattle.fitting_run.specs.Calm.{IsCalm, all_answered}
+use Rattle.course_ends.specs.Closing.{WorkerEnd, IsGivenBack}
+
+-- it fits the lines and that yard, and where no fault was counted there each line has its own answer
+pub record FitsGivenBack (may : ℕ → Entry → Type 0) (floor : List Entry → ℕ) (shelf : List ℕ) (lines : List NamedLine) (journal : List Event) (workers : List WorkerEnd) (o : Told) : Type 0 where
+  pub fits : (yard : Shown) → IsGivenBack may floor shelf journal workers o.chain yard → IsRegisterAsTold (state_of journal).register yard.register → Fits lines o yard
+  pub calm : (yard : Shown) → IsGivenBack may floor shelf journal workers o.chain yard → IsRegisterAsTold (state_of journal).register yard.register → IsCalm yard → all_answered o.rows ≡ true

@@ -1,0 +1,138 @@
+//! The lines of a run are played, its nodes close, and its rows are told.
+ghost use Rattle.std.specs.Prelude.{◌≡◌, ◌≤◌, ℕ, List, length, map, IfOk};
+ghost use Rattle.std.specs.List.{AllByRecursion};
+ghost use Rattle.delos_types.specs.Spaces.{SpaceMap};
+ghost use Rattle.delos_types.specs.declared.entry.Entry.{Entry};
+ghost use Rattle.engine_laws.specs.State.{IsStateOf};
+ghost use Rattle.node_workers.specs.Workers.{MayRun};
+ghost use Rattle.line_rules.specs.Rules.{may_of};
+ghost use Rattle.node_crew.specs.Turns.{MaySendAll};
+ghost use Rattle.node_crew.specs.Crews.{CrewRests, CrewStands};
+ghost use Rattle.course_ends.specs.Closing.{HasClosed};
+ghost use Rattle.crew_run.specs.Telling.{FitsGivenBack};
+
+use crate::laws::the_chain_is_registered;
+use course_ends::laws::{reads_change_nothing, what_closed_can_be_told, what_closed_has_ended};
+use crew_closing::close::{Closed, close};
+use crew_rows::rows::rows_of;
+use fate_words::chooser::Chooser;
+use fitting_run::told::Told;
+use last_chain::last::{Last, read_last};
+use loglet_api::loglet::Loglet;
+use node_crew::crew::{Crew, Played, play_phases};
+use one_thread::terms::{By, Terms};
+use register_api::Register;
+use replica_api::replica::Replica;
+use run_laws::laws::{a_calm_run_answers_all, what_ended_fits};
+use script_text::asks::NamedLine;
+use shown_log::laws::nothing_is_trimmed;
+use std::alloc::{AllocError, Global};
+
+/// The user that reads the chain as a run closes, which is no node.
+const NOBODY: u32 = 0;
+
+/// What a run told, if memory sufficed, and its nodes.
+pub struct Ended<L: Loglet, R: Register, K: Terms, S: Replica, C: Chooser> {
+    pub crew: Crew<L, R, K, S, C>,
+    pub told: Result<Told, AllocError>,
+}
+
+/// Reads the chain a last time, and tells the rows. The nodes have closed, having played `end` entries of the log.
+fn tell_closed<L: Loglet, R: Register, K: Terms, S: Replica, C: Chooser>(
+    alloc: Global,
+    crew: Crew<L, R, K, S, C>,
+    lines: &[NamedLine],
+    end: u64,
+) -> Ended<L, R, K, S, C>
+    requires run { MayRun K.may K.floor K.shelf }
+    requires may { (who : ℕ) (e : Entry) → K.may who e → may_of lines.now who e }
+    requires none_trimmed { (log : List Entry) → AllByRecursion (λ e. (who : ℕ) × K.may who e) log → K.floor log ≡ 0 }
+    requires closed { (log : List Entry) × (length log ≡ end) × HasClosed K.may K.floor K.shelf S.state S.spells lines.now crew.fabric.journal crew.counts crew.looks.items log (map (λ w. record { seat = w.seat; desks = w.desks.items }) crew.workers.items) }
+    requires stands { CrewStands K.may K.floor K.shelf S.state S.spells crew.fabric.journal (λ w. w.seat) crew.workers.items }
+    ensures told { IfOk result.told (FitsGivenBack K.may K.floor K.shelf lines.now result.crew.fabric.journal (map (λ w. record { seat = w.seat; desks = w.desks.items }) result.crew.workers.items)) }
+    ensures stands { CrewStands K.may K.floor K.shelf S.state S.spells result.crew.fabric.journal (λ w. w.seat) result.crew.workers.items }
+    ensures size { length result.crew.workers.items ≡ length crew.workers.items }
+{
+    what_closed_can_be_told::<By<K>, S>();
+    reads_change_nothing::<By<K>, S>();
+    what_closed_has_ended::<By<K>, S>();
+    what_ended_fits();
+    a_calm_run_answers_all();
+    the_chain_is_registered::<By<K>>();
+    nothing_is_trimmed::<By<K>>();
+    let Crew {
+        fabric,
+        workers,
+        counts,
+        looks,
+    } = crew;
+    let Last { fabric, answer } = read_last(alloc, NOBODY, fabric);
+    let _told = fabric.journal();
+    let rows = rows_of(alloc, lines, workers.as_slice(), looks.as_slice());
+    let crew = Crew {
+        fabric,
+        workers,
+        counts,
+        looks,
+    };
+    match (answer, rows) {
+        (Ok(last), Ok(rows)) => {
+            return Ended {
+                crew,
+                told: Ok(Told {
+                    rows,
+                    end,
+                    version: last.version,
+                    chain: last.chain,
+                    down: last.down,
+                }),
+            };
+        }
+        _ => {
+            return Ended {
+                crew,
+                told: Err(AllocError),
+            };
+        }
+    }
+}
+
+/// Plays all lines, closes the nodes, and tells the rows and the chain.
+pub fn tell<L: Loglet, R: Register, K: Terms, S: Replica, C: Chooser>(
+    alloc: Global,
+    crew: Crew<L, R, K, S, C>,
+    lines: &[NamedLine],
+) -> Ended<L, R, K, S, C>
+    requires run { MayRun K.may K.floor K.shelf }
+    requires state { (log : List Entry) (m : SpaceMap) → S.state log m → IsStateOf log m }
+    requires may { (who : ℕ) (e : Entry) → K.may who e → may_of lines.now who e }
+    requires none_trimmed { (log : List Entry) → AllByRecursion (λ e. (who : ℕ) × K.may who e) log → K.floor log ≡ 0 }
+    requires sends { MaySendAll K.may lines.now }
+    requires eight { length crew.workers.items ≤ 8 }
+    requires fresh { CrewRests K.may K.floor K.shelf S.state S.spells lines.now 0 0 crew.fabric.journal crew.counts crew.looks.items (λ w. w.seat) (λ w. w.desks.items) crew.workers.items }
+    requires stands { CrewStands K.may K.floor K.shelf S.state S.spells crew.fabric.journal (λ w. w.seat) crew.workers.items }
+    ensures told { IfOk result.told (FitsGivenBack K.may K.floor K.shelf lines.now result.crew.fabric.journal (map (λ w. record { seat = w.seat; desks = w.desks.items }) result.crew.workers.items)) }
+    ensures stands { CrewStands K.may K.floor K.shelf S.state S.spells result.crew.fabric.journal (λ w. w.seat) result.crew.workers.items }
+    ensures size { length result.crew.workers.items ≡ length crew.workers.items }
+{
+    let Played { crew, answer } = play_phases(alloc, crew, lines);
+    match answer {
+        Ok(()) => {}
+        Err(fault) => {
+            return Ended {
+                crew,
+                told: Err(fault),
+            };
+        }
+    }
+    let Closed { crew, answer } = close(crew, lines);
+    match answer {
+        Ok(end) => return tell_closed(alloc, crew, lines, end),
+        Err(fault) => {
+            return Ended {
+                crew,
+                told: Err(fault),
+            };
+        }
+    }
+}
