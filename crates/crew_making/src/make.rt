@@ -183,6 +183,7 @@ pub fn make_crew<L: Loglet, R: Register, K: Terms, S: Replica, C: Chooser>(
             let AllSeated { workers, fabric } = seat_all::<L, R, K, S, C>(
                 alloc, fabric, berths, workers, &counts,
             );
+            // The loglets and the register are as their journal tells.
             let _told = fabric.journal();
             return Ok(Crew {
                 fabric,

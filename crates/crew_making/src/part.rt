@@ -73,6 +73,7 @@ pub fn part_crew<L: Loglet, R: Register, K: Terms, S: Replica, C: Chooser>(
         nodes.push_reserved(node);
     }
     workers.destroy_empty();
+    // The loglets and the register are as their journal tells.
     let _told = fabric.journal();
     fabric.into_parts()
 }
