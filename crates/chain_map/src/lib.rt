@@ -14,6 +14,3 @@ pub use decode::decode_chain;
 pub use encode::encode_chain;
 pub use fault::{BadChain, DecodeError, Rule};
 pub use place::{Located, locate};
-
-#[cfg(test)]
-mod tests;

@@ -13,8 +13,6 @@ mod fault;
 mod image;
 mod memory;
 mod synced;
-#[cfg(test)]
-mod tests;
 
 pub use disk::Disk;
 pub use failing::FailDisk;

@@ -12,5 +12,3 @@ pub mod members;
 pub mod order;
 pub mod pack;
 pub mod read;
-#[cfg(test)]
-mod tests;

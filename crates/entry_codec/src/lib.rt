@@ -11,6 +11,3 @@ pub mod laws;
 pub use decode::{decode_entry, decode_item};
 pub use encode::{encode_entry, encode_item, encode_items, item_len};
 pub use fault::{BadEntry, DecodeError, Rule};
-
-#[cfg(test)]
-mod tests;

@@ -7,6 +7,4 @@
 
 pub mod chooser;
 pub mod fates;
-#[cfg(test)]
-mod tests;
 pub mod words;

@@ -19,5 +19,3 @@ pub mod marks;
 pub mod memory;
 pub mod pending;
 pub mod server;
-#[cfg(test)]
-mod tests;

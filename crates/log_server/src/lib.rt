@@ -13,8 +13,6 @@ mod fault;
 mod held;
 mod replay;
 mod server;
-#[cfg(test)]
-mod tests;
 
 pub use fault::{OpenFault, Refused};
 pub use server::LogServer;

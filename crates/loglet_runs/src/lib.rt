@@ -2,5 +2,3 @@
 #![tactic(auto)]
 
 pub mod runs;
-#[cfg(test)]
-mod tests;

@@ -12,8 +12,6 @@ mod meta;
 mod records;
 mod replay;
 mod standing;
-#[cfg(test)]
-mod tests;
 
 pub use fault::{OpenFault, Refused};
 pub use meta::MetaRegister;

@@ -16,5 +16,3 @@ pub mod marks;
 pub mod memory;
 pub mod opening;
 pub mod replica;
-#[cfg(test)]
-mod tests;

@@ -17,5 +17,3 @@ pub mod member;
 pub mod message;
 pub mod pending;
 pub mod send;
-#[cfg(test)]
-mod tests;

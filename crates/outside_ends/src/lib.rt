@@ -6,6 +6,4 @@ pub mod memory;
 pub mod sink;
 pub mod source;
 pub mod standard;
-#[cfg(test)]
-mod tests;
 pub mod whole;

@@ -3,6 +3,4 @@
 
 pub mod render;
 pub mod row;
-#[cfg(test)]
-mod tests;
 pub mod text;

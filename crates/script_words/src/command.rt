@@ -14,7 +14,7 @@ fn nodes_arg<'a>(alloc: Global) -> Arg<'a>
 {
     Arg::new(alloc, "nodes")
         .long("nodes")
-        .value_parser(ValueParser::signed(1, 1))
+        .value_parser(ValueParser::signed(1, 8))
         .default_value("1")
 }
 
@@ -47,7 +47,7 @@ fn run_command<'a>(alloc: Global) -> Result<Command<'a>, AllocError>
         .arg(shelf_arg(alloc))
 }
 
-/// The command line of the program: `delos_sim run` with `--nodes` (1, the default), `--seed` (0 to
+/// The command line of the program: `delos_sim run` with `--nodes` (1 to 8, default 1), `--seed` (0 to
 /// 4294967295, default 0) and `--shelf` (default `file,native3,striped2,native5`).
 pub fn the_command<'a>(alloc: Global) -> Result<Command<'a>, AllocError>
     ensures { IfOk result (λ c. app_of c ≡ the_app) }

@@ -8,5 +8,3 @@
 pub mod command;
 pub mod plan;
 pub mod shelf;
-#[cfg(test)]
-mod tests;

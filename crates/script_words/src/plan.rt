@@ -12,7 +12,7 @@ use std::alloc::{AllocError, Global};
 /// A run: how many nodes it has, from which seed its chances come, and over which shelf.
 #[derive(Drop, Debug)]
 pub struct Plan {
-    /// So far 1.
+    /// 1 to 8.
     pub nodes: u8,
     /// Nothing is left to chance yet.
     pub seed: u32,
@@ -67,12 +67,18 @@ fn text_in<'a>(matches: &ArgMatches<'a>, id: &str) -> Option<&'a str>
     matches.get_str(id)
 }
 
-// How many nodes: so far one.
+// How many nodes: 1 to 8.
 fn nodes_in(matches: &ArgMatches<'_>) -> Option<u8>
     ensures { result ≡ nodes_in (rows_of (found_of matches.now)) }
 {
     match number_in(matches, "nodes") {
-        Some(n) => { if n == 1 { Some(n as u8) } else { None } }
+        Some(n) => {
+            if 1 <= n && n <= 8 {
+                Some(n as u8)
+            } else {
+                None
+            }
+        }
         None => None,
     }
 }

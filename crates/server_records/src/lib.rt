@@ -15,6 +15,3 @@ pub mod spell;
 
 pub use record::Record;
 pub use spell::{read_record, sealed_record, stored_record, trimmed_record};
-
-#[cfg(test)]
-mod tests;

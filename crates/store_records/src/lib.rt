@@ -13,8 +13,6 @@ pub mod change;
 mod fields;
 pub mod laws;
 pub mod spell;
-#[cfg(test)]
-mod tests;
 
 pub use change::{Change, Changes, Commit};
 pub use spell::{put_change, put_head, read_commit};

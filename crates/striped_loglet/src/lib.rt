@@ -18,5 +18,3 @@ pub mod plan;
 pub mod shape;
 pub mod stripe;
 pub mod striped;
-#[cfg(test)]
-mod tests;

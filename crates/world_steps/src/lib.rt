@@ -10,6 +10,4 @@
 pub mod cell;
 pub mod server;
 pub mod tally;
-#[cfg(test)]
-mod tests;
 pub mod world;
