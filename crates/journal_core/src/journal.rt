@@ -76,6 +76,23 @@ impl<D: Disk> Journal<D> {
         }
     }
 
+    /// The journal of a disk without records that couldn't be opened: it has none, and is shut until a reopening succeeds.
+    /// It takes no memory.
+    pub fn shut_on(alloc: Global, disk: D) -> Journal<D>
+        requires { LeavesRecords (D.view disk) (λ found. found ≡ []) }
+        ensures shut { result ≡ record { records = []; torn = None; shut = true; disk = D.view disk } }
+        ensures survives { Survives result }
+    {
+        Journal {
+            alloc,
+            disk,
+            found: Vec::new(alloc),
+            end: 0,
+            torn: None,
+            shut: true,
+        }
+    }
+
     /// Adds a record. After `Ok` every crash leaves it.
     ///
     /// After `Disk` the journal is shut, shows the records of before, and a crash leaves them with the new one or

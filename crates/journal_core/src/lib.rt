@@ -8,8 +8,6 @@ mod fault;
 mod journal;
 mod layout;
 mod open;
-#[cfg(test)]
-mod tests;
 
 pub use fault::{AppendFault, Fault, Refused};
 pub use journal::Journal;

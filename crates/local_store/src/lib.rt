@@ -14,8 +14,6 @@ mod replay;
 mod seek;
 mod spell;
 mod store;
-#[cfg(test)]
-mod tests;
 mod txn;
 
 pub use fault::{CommitFault, OpenFault, Refused};

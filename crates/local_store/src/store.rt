@@ -3,7 +3,8 @@ ghost use Rattle.std.specs.Prelude.{◌≡◌, ◌≢◌, ℕ, ◌≤◌, ◌↔
 ghost use Rattle.disk_model.specs.Disk.{reads, IsSynced, Rose};
 ghost use Rattle.journal_core.specs.Records.{records_of};
 ghost use Rattle.journal_core.specs.Journal.{LeavesRecords, AnyCrashLeaves};
-ghost use Rattle.store_records.specs.Spelled.{committed, saved_of, IsFirstBad};
+ghost use Rattle.journal_core.specs.Journal as journal;
+ghost use Rattle.store_records.specs.Spelled.{nothing_saved, committed, saved_of, IsFirstBad};
 ghost use Rattle.local_store.specs.View.{View, txn_commit, saved_in, reopened, up_with, MayFind, MayFindDuring, Survives};
 ghost use Rattle.std.specs.Arc.{arc_value};
 ghost use Rattle.std.specs.Option.{ForSome};
@@ -100,6 +101,41 @@ impl<D: Disk> Store<D> {
                 disk: journal.into_parts(),
             }),
         }
+    }
+
+    /// Begins a store on a disk that has no records and on which nothing is pending: cursor 0, and the empty space. Where
+    /// the disk fails as it is opened, the store is down until a reopening succeeds. Without memory the disk comes back,
+    /// and nothing was written to it. A crash inside leaves no record.
+    ///
+    /// Cost: one write of a byte at most, and its sync; the memory of an empty space.
+    pub fn begin_on(alloc: Global, disk: D) -> Result<Store<D>, D>
+        requires synced { IsSynced (D.view disk) }
+        requires empty { records_of (reads (D.view disk)) ≡ [] }
+        ensures start { IfOk result (λ s. saved_in s ≡ nothing_saved) }
+        ensures none_asked { IfOk result (λ s. s.asked ≡ None) }
+        ensures survives { IfOk result Survives }
+        ensures any_crash { IfOk result (λ s. AnyCrashLeaves (D.view disk) s.disk (λ found. found ≡ [])) }
+        ensures faults { IfOk result (λ s. (D.view disk).faults ≤ s.disk.faults) }
+
+        // It is down just where the disk failed, and then that was counted.
+        ensures down { IfOk result (λ s. s.down ≡ true → Rose (D.view disk).faults s.disk.faults) }
+        ensures up { IfOk result (λ s. s.down ≡ false → s.disk.faults ≡ (D.view disk).faults) }
+        ensures memory { IfErr result (λ d. ((D.view d).timeline ≡ (D.view disk).timeline) × ((D.view d).faults ≡ (D.view disk).faults)) }
+    {
+        let Ok(base) = Arc::new(alloc, Base::new(alloc)) else {
+            return Err(disk);
+        };
+        let journal = match begin_journal(alloc, disk) {
+            Ok(journal) => journal,
+            Err(disk) => return Err(disk),
+        };
+        Ok(Store {
+            alloc,
+            journal,
+            base,
+            cursor: 0,
+            asked: None,
+        })
     }
 
     /// A transaction that begins with what the store shows, also where it is down. Cost: constant; nothing is copied.
@@ -231,6 +267,27 @@ impl<D: Disk> Store<D> {
             asked: _,
         } = self;
         journal.into_parts()
+    }
+}
+
+/// A journal on a disk without records. Where the disk fails as it is opened, the journal is shut.
+fn begin_journal<D: Disk>(alloc: Global, disk: D) -> Result<Journal<D>, D>
+    requires synced { IsSynced (D.view disk) }
+    requires empty { records_of (reads (D.view disk)) ≡ [] }
+    ensures none { IfOk result (λ j. (j.records ≡ []) × (j.torn ≡ None)) }
+    ensures survives { IfOk result journal.Survives }
+    ensures any_crash { IfOk result (λ j. AnyCrashLeaves (D.view disk) j.disk (λ found. found ≡ [])) }
+    ensures faults { IfOk result (λ j. (D.view disk).faults ≤ j.disk.faults) }
+    ensures shut { IfOk result (λ j. j.shut ≡ true → Rose (D.view disk).faults j.disk.faults) }
+    ensures opened { IfOk result (λ j. j.shut ≡ false → j.disk.faults ≡ (D.view disk).faults) }
+    ensures memory { IfErr result (λ d. ((D.view d).timeline ≡ (D.view disk).timeline) × ((D.view d).faults ≡ (D.view disk).faults)) }
+{
+    match Journal::open_on(alloc, disk) {
+        Ok(journal) => Ok(journal),
+        Err(refused) => match refused.fault {
+            Fault::Disk => Ok(Journal::shut_on(alloc, refused.disk)),
+            Fault::Memory => Err(refused.disk),
+        },
     }
 }
 
