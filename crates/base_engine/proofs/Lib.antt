@@ -1,4 +1,5 @@
 pub mod Following
+pub mod Tails
 pub mod Settling
 pub mod Proposing
 pub mod Whole

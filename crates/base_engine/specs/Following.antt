@@ -6,6 +6,8 @@ use Rattle.disk_model.specs.Disk.{Rose}
 use Rattle.legal_journal.specs.declared.events.Event.{Event}
 use Rattle.base_engine.specs.declared.play.Played.{Played}
 use Rattle.base_engine.specs.declared.play.Played.TheVariants as played
+use Rattle.legal_journal.specs.Journal.{state_of, tail_of, trim_of}
+use Rattle.virtual_log.specs.Turning.{OnlyOwn}
 use Rattle.virtual_log.specs.Holding.{IsTrimmed}
 use Rattle.base_engine.specs.Reading.{IsFront}
 use Rattle.replica_api.specs.Replica.{Saved, ReplicaView, saved_in, Survives}
@@ -51,3 +53,11 @@ Reaches to old new seen = (new.cursor ≡ max old.cursor to) ⊎ IsTrimmed seen 
 -- the cursor is that tail, or stands below the trim
 abbrev pub IsAt : ℕ → ReplicaView → List Event → Type 0
 IsAt tail v seen = (v.cursor ≡ tail) ⊎ IsTrimmed seen v.cursor
+
+-- Where each event since is who's, and the log isn't trimmed above the position, its tail is as it was.
+abbrev pub KeepsTail : ℕ → ℕ → List Event → List Event → Type 0
+KeepsTail who pos old new = trim_of (state_of new) ≤ pos → OnlyOwn who old new → tail_of (state_of new) ≡ tail_of (state_of old)
+
+-- where each event since is who's, and the log isn't trimmed above the position, it ends no higher than this
+abbrev pub EndsBy : ℕ → ℕ → List Event → ℕ → List Event → Type 0
+EndsBy who pos old tail new = trim_of (state_of new) ≤ pos → OnlyOwn who old new → tail_of (state_of new) ≤ tail

@@ -6,7 +6,7 @@ ghost use Rattle.engine_steps.specs.Layout as layout;
 ghost use Rattle.legal_journal.specs.Journal.{IsLegal};
 ghost use Rattle.virtual_log.specs.Turning.{Later, IsAbove};
 ghost use Rattle.base_engine.specs.Causes.{Blames};
-ghost use Rattle.base_engine.specs.Following.{Follows, IsFound, Reaches, IsAt};
+ghost use Rattle.base_engine.specs.Following.{Follows, IsFound, Reaches, IsAt, EndsBy};
 ghost use Rattle.replica_api.specs.Replica.{SpellsOne, Survives, Flushes, Queues};
 ghost use Rattle.base_engine.specs.Settling.{view_of, Settled, Answers, Failing, cause_in};
 ghost use Rattle.base_engine.specs.Proposing.{Sent, Proposed, Refused, IsNear};
@@ -176,6 +176,9 @@ impl<L: SharedLog, R: Replica> Node<L, R> {
         ensures follows { Follows L.holds R.state R.spells self.new.seen self.new.replica }
         ensures synced { IfOk result (λ tail. IsAbove self.old.who self.old.seen tail self.new.seen) }
         ensures cursor { IfOk result (λ tail. IsAt tail self.new.replica self.new.seen) }
+
+        // It is the log's tail, where no event of another came meanwhile and nothing was trimmed that wasn't played.
+        ensures exact { IfOk result (λ tail. EndsBy self.old.who self.old.replica.cursor self.old.seen tail self.new.seen) }
         ensures blames { IfErr result (λ f. Blames self.old.who self.old.seen self.old.replica.faults f self.new.seen self.new.replica.faults) }
         ensures any_crash { AnyCrash self.old.replica.disk self.new.replica.disk (SpellsOne R.spells (IsFound L.holds R.state self.new.seen self.old.replica.cursor)) }
         ensures kept { self.new.replica.kept ≡ self.old.replica.kept }

@@ -6,7 +6,7 @@ ghost use Rattle.virtual_log.specs.Turning.{Later, IsAbove};
 ghost use Rattle.disk_model.specs.Disk.{Rose};
 ghost use Rattle.disk_model.specs.Crash.{AnyCrash};
 ghost use Rattle.replica_api.specs.Replica.{ReplicaView, SpellsOne, MayFind, Survives, Recovered, StaysDown};
-ghost use Rattle.base_engine.specs.Following.{Follows, IsKnown, Plays, Reaches, IsAt, IsFound};
+ghost use Rattle.base_engine.specs.Following.{Follows, IsKnown, Plays, Reaches, IsAt, IsFound, KeepsTail, EndsBy};
 ghost use Rattle.base_engine.specs.Causes.{Blames};
 
 use crate::fault::{Fault, told};
@@ -42,6 +42,7 @@ pub fn apply_next<L: SharedLog, R: Replica>(
     ensures follows { Follows L.holds R.state R.spells (L.seen log.new) (R.shows replica.new) }
     ensures bounded { IsKnown (L.reaches log.new) (R.shows replica.new) }
     ensures plays { IfOk result (λ p. Plays p (R.shows replica.old) (R.shows replica.new) (L.seen log.new)) }
+    ensures quiet { OnOk result (KeepsTail (L.who log.old) (R.shows replica.old).cursor (L.seen log.old) (L.seen log.new)) }
     ensures forward { (R.shows replica.old).cursor ≤ (R.shows replica.new).cursor }
     ensures blames { IfErr result (λ f. Blames (L.who log.old) (L.seen log.old) (R.shows replica.old).faults f (L.seen log.new) (R.shows replica.new).faults) }
     ensures calm { IfErr result (λ f. ((R.shows replica.new).faults ≡ (R.shows replica.old).faults) × ((R.shows replica.new).cursor ≡ (R.shows replica.old).cursor)) }
@@ -125,6 +126,7 @@ pub fn play<L: SharedLog, R: Replica>(log: &mut L, replica: &mut R, to: u64) -> 
     ensures follows { Follows L.holds R.state R.spells (L.seen log.new) (R.shows replica.new) }
     ensures bounded { IsKnown (L.reaches log.new) (R.shows replica.new) }
     ensures reaches { OnOk result (Reaches to (R.shows replica.old) (R.shows replica.new) (L.seen log.new)) }
+    ensures quiet { OnOk result (KeepsTail (L.who log.old) (R.shows replica.old).cursor (L.seen log.old) (L.seen log.new)) }
     ensures forward { (R.shows replica.old).cursor ≤ (R.shows replica.new).cursor }
     ensures blames { IfErr result (λ f. Blames (L.who log.old) (L.seen log.old) (R.shows replica.old).faults f (L.seen log.new) (R.shows replica.new).faults) }
     ensures counts { (R.shows replica.old).faults ≤ (R.shows replica.new).faults }
@@ -167,6 +169,9 @@ pub fn sync<L: SharedLog, R: Replica>(log: &mut L, replica: &mut R) -> Result<u6
     // The position is above each append, and not below any tail, that was answered before the call's first event.
     ensures synced { IfOk result (λ tail. IsAbove (L.who log.old) (L.seen log.old) tail (L.seen log.new)) }
     ensures cursor { IfOk result (λ tail. IsAt tail (R.shows replica.new) (L.seen log.new)) }
+
+    // It is the log's tail, where no event of another came meanwhile and nothing was trimmed that wasn't played.
+    ensures exact { IfOk result (λ tail. EndsBy (L.who log.old) (R.shows replica.old).cursor (L.seen log.old) tail (L.seen log.new)) }
     ensures forward { (R.shows replica.old).cursor ≤ (R.shows replica.new).cursor }
     ensures blames { IfErr result (λ f. Blames (L.who log.old) (L.seen log.old) (R.shows replica.old).faults f (L.seen log.new) (R.shows replica.new).faults) }
     ensures counts { (R.shows replica.old).faults ≤ (R.shows replica.new).faults }

@@ -1,15 +1,16 @@
 //! The log that nodes share.
-ghost use Rattle.std.specs.Prelude.{◌≡◌, ℕ, ◌+◌, ◌≤◌, min, max, List, length, IfOk, IfErr, OnErr};
+ghost use Rattle.std.specs.Prelude.{◌≡◌, ℕ, ◌+◌, ◌≤◌, min, max, List, length, IfOk, OnOk, IfErr, OnErr};
 ghost use Rattle.delos_types.specs.Spelling.{IsSpellable};
 ghost use Rattle.delos_types.specs.declared.entry.Entry.{Entry};
 ghost use Rattle.legal_journal.specs.declared.events.Event.{Event};
 ghost use Rattle.legal_journal.specs.Journal.{state_of, tail_of, IsFree};
 ghost use Rattle.legal_journal.specs.Laws.{Stands};
-ghost use Rattle.virtual_log.specs.Turning.{Later, IsAbove};
+ghost use Rattle.virtual_log.specs.Turning.{OnlyOwn, Later, IsAbove};
 ghost use Rattle.virtual_log.specs.Causes.{HasCause};
 ghost use Rattle.virtual_log.specs.Truncating.{IsPrefixTrimmed};
 ghost use Rattle.virtual_log.specs.Holding.{Reads, Stays};
 ghost use Rattle.base_engine.specs.Reading.{IsExtendedBy};
+ghost use Rattle.base_engine.specs.Following.{KeepsTail};
 
 use delos_types::entry::Entry;
 use legal_journal::rules::Rules;
@@ -60,6 +61,9 @@ pub trait SharedLog {
 
         // It isn't below what was answered before.
         ensures forward { IfOk result (λ tail. reaches self.old ≤ tail) }
+
+        // Where no event of another came meanwhile it isn't below the log's tail either.
+        ensures exact { IfOk result (λ tail. OnlyOwn (who self.old) (seen self.old) (seen self.new) → tail_of (state_of (seen self.new)) ≤ tail) }
         ensures err { IfErr result (λ fault. HasCause (who self.old) (seen self.old) fault (seen self.new)) }
         ensures unknown { OnErr result (reaches self.new ≡ reaches self.old) };
 
@@ -69,6 +73,7 @@ pub trait SharedLog {
         ensures who { who self.new ≡ who self.old }
         ensures known { reaches self.new ≡ reaches self.old }
         ensures next { IfOk result (Reads holds (seen self.new) least (min most (reaches self.old))) }
+        ensures quiet { OnOk result (KeepsTail (who self.old) least (seen self.old) (seen self.new)) }
         ensures err { IfErr result (λ fault. HasCause (who self.old) (seen self.old) fault (seen self.new)) };
 
     /// Lets the log go on in its next loglet. Where another does so first, answers `Moved`; where there is no next

@@ -9,16 +9,18 @@ use Rattle.loglet_api.specs.declared.call.Op.{Op}
 use Rattle.loglet_api.specs.declared.call.Op.TheVariants.{Append, Tail, Read}
 use Rattle.loglet_api.specs.declared.call.Answer.{Answer}
 use Rattle.loglet_api.specs.declared.call.Answer.TheVariants.{Placed, SealedTail, SealDone, OpenTail, Sealed}
-use Rattle.legal_journal.specs.Told.{Told, Running, started}
+use Rattle.legal_journal.specs.Told.{Told, Running, started, begun}
 use Rattle.legal_journal.specs.declared.events.Event.{Event}
 use Rattle.legal_journal.specs.declared.events.FabricCall.TheVariants.{Begin}
-use Rattle.legal_journal.specs.Journal.{State, state_of, IsLegal, last_segment, tail_of, entries, reach}
+use Rattle.legal_journal.specs.Journal.{CellState, State, state_of, IsLegal, last_segment, tail_of, entries, reach}
 use Rattle.legal_journal.specs.Laws.{Continues, Stands}
 use Rattle.legal_journal.specs.Turns.{MayTurn}
+use Rattle.legal_journal.proofs.Cells.{put_same}
 use Rattle.legal_journal.proofs.Log.{slice_get_front}
 use Rattle.legal_journal.proofs.Sound.{StateOk, open_tail}
 use Rattle.legal_journal.proofs.Legal.{sound, continues_trans, legal_front, reached_stands, goes_on, clears_on, last_clears}
-use Rattle.virtual_log.specs.Turning.{Later, FirstTurn, Opened, Answered, IsAbove}
+use Rattle.virtual_log.specs.Turning.{OnlyOwn, Later, FirstTurn, Opened, Answered, IsAbove}
+use Rattle.virtual_log.proofs.Owning.{own_split}
 use Rattle.virtual_log.proofs.OneTurn.{later_continues, first_later}
 
 -- a started cell that no answer told sealed is the last
@@ -148,6 +150,7 @@ module _ (may : ℕ → Entry → Type 0) (floor : List Entry → ℕ) (shelf : 
     pub within : pos ≤ tail_of (state_of new)
     pub above : IsAbove who old pos new
     pub reached : pos ≤ s + ((state_of new).cells i).told.reach
+    pub exact : OnlyOwn who old new → tail_of (state_of new) ≤ pos
     pub fits : pos < 2 ^ 64
 
   pub tail_ok : (who : ℕ) (old mid new : List Event) (i s t n : ℕ) → IsLegal may floor shelf old → (state_of old).starts i ≡ Some s → (first : Later may floor shelf old mid) → Later may floor shelf mid new → (o : Opened who old i Tail t mid) → Answered who mid i t (started ((state_of (old ++ o.first.others)).cells i).told Tail) (OpenTail n) new → Finding who old new i s (s + n)
@@ -161,6 +164,16 @@ module _ (may : ℕ → Entry → Type 0) (floor : List Entry → ℕ) (shelf : 
         within = omega (arith, reach_below (length shelf) (state_of new) i s m.new_ok m.at_new, reach_is);
         above = above_begin who old mid new i t (s + n) Tail legal first second o (omega (arith, tail, x.may.0));
         reached = omega (arith, reach_is);
+        exact = λ alone.
+            let parts = own_split who old mid new first.more second.more first.seen second.seen alone in
+            let still = x.still (own_split who mid x.moment new x.since.0 x.rest.0 x.since.1 x.rest.1 parts.1).0 in
+            let mid_is : ((state_of mid).cells i).told ≡ begun ((state_of begin).cells i).told Tail t = ap (λ (w : State). (w.cells i).told) o.now ∙ ap (λ (c : CellState). c.told) (put_same (state_of begin).cells i _) in
+            let told = still.told i ∙ mid_is in
+            let same_reach : ((state_of x.moment).cells i).told.reach ≡ ((state_of begin).cells i).told.reach = ap (λ (y : Told). y.reach) told in
+            let sealed_is : ((state_of new).cells i).told.sealed ≡ ((state_of x.moment).cells i).told.sealed = ap (λ (y : Told). y.sealed) x.told in
+            let unsealed = sealed_is ∙ (ap (λ (y : Told). y.sealed) told ∙ x.may.1.unsealed) in
+            let last = unsealed_last (length shelf) (state_of new) i s m.new_ok m.at_new unsealed in
+            omega (arith, last, reach_is, same_reach, x.may.0);
         fits = omega (arith, m.new_ok.rooms i s m.at_new, m.new_ok.ids i s m.at_new, m.new_ok.shelf, m.few, new_cell.reach, new_cell.firm, new_cell.room, reach_is);
       }
 

@@ -1,5 +1,5 @@
 -- The writes that close the last segment of a chain.
-use Rattle.std.proofs.Common.{◌≡◌, ℕ, ◌+◌, ◌<◌, ◌≤◌, max, List, [], ◌++◌, length, Some, refl, sym, ap, ◌∙◌, subst, arith}
+use Rattle.std.proofs.Common.{◌≡◌, ℕ, ◌+◌, ◌<◌, ◌≤◌, max, List, [], ◌∷◌, ◌++◌, length, Some, refl, sym, ap, ◌∙◌, subst, arith}
 use Rattle.std.specs.Prelude.{Contains}
 use Rattle.delos_types.specs.declared.entry.Entry.{Entry}
 use Rattle.delos_types.specs.declared.chain.Segment.{Segment}
@@ -7,8 +7,8 @@ use Rattle.delos_types.specs.declared.chain.Chain.{Chain}
 use Rattle.chain_map.specs.Chain.{last_of_segments, last_segment}
 use Rattle.chain_map.specs.Step.{extended}
 use Rattle.legal_journal.specs.declared.events.Event.{Event}
-use Rattle.legal_journal.specs.declared.events.FabricCall.TheVariants.{WriteChain}
-use Rattle.legal_journal.specs.declared.events.FabricAnswer.TheVariants.{Written, Conflict}
+use Rattle.legal_journal.specs.declared.events.FabricCall.TheVariants.{ReadChain, WriteChain}
+use Rattle.legal_journal.specs.declared.events.FabricAnswer.TheVariants.{At, Written, Conflict}
 use Rattle.legal_journal.specs.Journal.{State, state_of, IsLegal, ends}
 use Rattle.legal_journal.specs.Turns.{IsTurn, MayTurn}
 use Rattle.legal_journal.proofs.Log.{next, last_open, last_of_segments-extended_segments}
@@ -17,8 +17,10 @@ use Rattle.legal_journal.proofs.Legal.{sound}
 use Rattle.virtual_log.specs.Log.{GoesBy}
 use Rattle.virtual_log.specs.declared.extend.Extension.{Extension}
 use Rattle.virtual_log.specs.declared.extend.Extension.TheVariants.{Extended, Moved, NoSpare}
-use Rattle.virtual_log.specs.Extending.{IsWritten, IsPassed, IsClosed, Follows}
+use Rattle.virtual_log.specs.Extending.{IsWritten, IsRefused, Closes, IsClosed, Follows}
+use Rattle.virtual_log.specs.Writing.{WroteNone}
 use Rattle.virtual_log.proofs.OneTurn.{turn_later, event_since}
+use Rattle.virtual_log.proofs.Writing.{wrote_trans, another_wrote, refusal_tells}
 use Rattle.virtual_log.proofs.Replacing.{Fits, fits, last_started, may_write, written_given, Conflicted, conflict_ok}
 use Rattle.virtual_log.proofs.Going.{goes_later, goes_onto, goes_behind, goes_further}
 
@@ -88,8 +90,8 @@ module _ (may : ℕ → Entry → Type 0) (floor : List Entry → ℕ) (shelf : 
       let on = goes_later may floor shelf old new v k c later goes in
       same_last (length shelf) (state_of new) v n c e (sound may floor shelf new h.legal) on.given x.given (omega (arith, x.last))
 
-  pub passed_ok : (n : ℕ) (d e : Chain) (new : List Event) → IsTurn may floor shelf who old (WriteChain v d) (Conflict n e) new → (last_segment c).id < (last_segment e).id → IsPassed who old (last_segment c) n new
-  passed_ok n d e new h up = record {
+  pub refusal_ok : (n : ℕ) (d e : Chain) (new : List Event) → IsTurn may floor shelf who old (WriteChain v d) (Conflict n e) new → (last_segment c).id < (last_segment e).id → IsRefused who old (last_segment c) n new
+  refusal_ok n d e new h up = record {
     expected = v;
     asked = d;
     chain = e;
@@ -108,8 +110,8 @@ written_since who a b s z n start new more is same w = record {
   start_is = w.start_is ∙ ap (λ (x : Segment). x.start + w.at) same;
 }
 
-pub passed_since : (who : ℕ) (a b : List Event) (s z : Segment) (n : ℕ) (new more : List Event) → b ≡ a ++ more → s ≡ z → IsPassed who b s n new → IsPassed who a z n new
-passed_since who a b s z n new more is same w = record {
+pub refusal_since : (who : ℕ) (a b : List Event) (s z : Segment) (n : ℕ) (new more : List Event) → b ≡ a ++ more → s ≡ z → IsRefused who b s n new → IsRefused who a z n new
+refusal_since who a b s z n new more is same w = record {
   expected = w.expected;
   asked = w.asked;
   chain = w.chain;
@@ -117,10 +119,21 @@ passed_since who a b s z n new more is same w = record {
   behind = subst (λ (x : Segment). x.id < (last_segment w.chain).id) same w.behind;
 }
 
-pub closed_since : (who : ℕ) (a b : List Event) (s : Segment) (k k' v' : ℕ) (new more : List Event) → b ≡ a ++ more → (x : Extension) → IsClosed who b s k k' v' new x → IsClosed who a s k k' v' new x
-closed_since who a b s k k' v' new more is (Extended n start) h = (written_since who a b s s n start new more is refl h.0, h.1, h.2)
-closed_since who a b s k k' v' new more is (Moved n) h = (passed_since who a b s s n new more is refl h.0, h.1, h.2)
-closed_since who a b s k k' v' new more is NoSpare h = absurd h
+-- what the writes since a later moment came to, by a look at the chain before it
+pub closed_since : (may : ℕ → Entry → Type 0) (floor : List Entry → ℕ) (shelf : List ℕ) (who v : ℕ) (c : Chain) (old others a b new more : List Event) → IsLegal may floor shelf new → a ≡ (old ++ others) ++ record { who = who; call = ReadChain; answer = At v c } ∷ []
+    → b ≡ a ++ more → WroteNone who a b → (k k' v' : ℕ) (x : Extension) → Closes who b (last_segment c) k k' v' new x → IsClosed who a (last_segment c) k k' v' new x
+closed_since may floor shelf who v c old others a b new more legal look is quiet k k' v' (Extended n start) h = (written_since who a b (last_segment c) (last_segment c) n start new more is refl h.0, h.1, h.2)
+closed_since may floor shelf who v c old others a b new more legal look is quiet k k' v' (Moved n) h =
+    let far = refusal_tells may floor shelf who b new h.0.expected n h.0.asked h.0.chain legal h.0.event in
+    let up : (last_segment c).id < (last_segment (state_of new).register.chain).id = omega (arith, far, h.0.behind) in (
+      record {
+        refused = refusal_since who a b (last_segment c) (last_segment c) n new more is refl h.0;
+        another = another_wrote may floor shelf who old others new v c a legal look (wrote_trans who a b new quiet h.1) up;
+      },
+      h.2,
+      h.3,
+    )
+closed_since may floor shelf who v c old others a b new more legal look is quiet k k' v' NoSpare h = absurd h
 
 pub follows_closed : (cells who : ℕ) (a : List Event) (s : Segment) (k k' v' : ℕ) (rest new : List Event) (x : Extension) → s.id + 1 < cells → IsClosed who a s k k' v' new x → Follows cells who a s k k' v' rest new x
 follows_closed cells who a s k k' v' rest new (Extended n start) l h = (l, h)

@@ -1,4 +1,7 @@
+pub mod Owning
 pub mod OneTurn
+pub mod Levels
+pub mod Writing
 pub mod Appending
 pub mod Replacing
 pub mod Lasts

@@ -15,13 +15,14 @@ use Rattle.legal_journal.specs.Moves.{Begins, Carries, Answers}
 use Rattle.legal_journal.specs.Journal.{CellState, State, cell_after, answered_by, state_of, start, IsOwn, IsLegal, IsLegalFrom, patience}
 use Rattle.legal_journal.specs.Laws.{Continues}
 use Rattle.legal_journal.specs.Turns.{AreOthers, IsTurn, MayTurn}
-use Rattle.legal_journal.proofs.Cells.{put_same}
+use Rattle.legal_journal.proofs.Cells.{put_cases, put_same}
 use Rattle.legal_journal.proofs.Legal.{IsLegalFrom-split, after_all-append, sound, goes_on}
 use Rattle.legal_journal.proofs.Taken.{Keeps, own_stays, took}
 use Rattle.virtual_log.specs.declared.fault.Fault.{Fault}
 use Rattle.virtual_log.specs.declared.fault.Fault.TheVariants as fault
-use Rattle.virtual_log.specs.Turning.{Later, Looked, FirstTurn, Opened, Answered, HasEvent, IsAnswer}
+use Rattle.virtual_log.specs.Turning.{OnlyOwn, Still, Later, Looked, FirstTurn, Opened, Answered, HasEvent, IsAnswer}
 use Rattle.virtual_log.specs.Causes.{Causes, HasCause}
+use Rattle.virtual_log.proofs.Owning.{own_split, still_trans, still_others}
 
 pub nil : (xs : List Event) → xs ≡ xs ++ []
 nil [] = refl
@@ -50,6 +51,7 @@ module _ (may : ℕ → Entry → Type 0) (floor : List Entry → ℕ) (shelf : 
           own = put_same (w.cells i).owner t who;
         });
         event = record { event = record { who = who; call = Begin i op; answer = Begun t }; is = refl; before = h.others; after = []; seen = h.seen ∙ ap (λ es. (old ++ h.others) ++ es) h.event };
+        now = k.now;
       }
 
   -- an own ticket may be carried, whatever others do first
@@ -90,7 +92,22 @@ module _ (may : ℕ → Entry → Type 0) (floor : List Entry → ℕ) (shelf : 
         told = ap (λ (c : CellState). c.told) at ∙ ap (answered_by (w.cells i).told t a) keeps.own.is_open;
         ends = ap (λ (c : CellState). c.ends) at;
         event = record { event = record { who = who; call = Carry i t word; answer = Done a }; is = (word, refl); before = h.others; after = []; seen = seen };
+        now = k.now;
+        still = still_others who old h.others h.apart;
       }
+
+  -- an own carry that leaves the operation undecided changes nothing that is told
+  pub going_still : (i t word : ℕ) → IsTurn may floor shelf who old (Carry i t word) Going new → OnlyOwn who old new → Still (state_of old) (state_of new)
+  going_still i t word h alone =
+      let k = took may floor shelf old h.others _ new h.legal (h.seen ∙ ap (λ es. (old ++ h.others) ++ es) h.event) in
+      let w = state_of (old ++ h.others) in
+      let carried = cell_after who (w.cells i) (Carries t) in
+      let front = own_split who old (old ++ h.others) new h.others h.own refl h.seen alone in
+      still_trans (state_of old) w (state_of new) (still_others who old h.others h.apart front.0)
+      (subst (λ (x : State). Still w x) (sym k.now) (record {
+        register = refl;
+        told = λ j. put_cases (λ (c : CellState). c.told ≡ (w.cells j).told) w.cells i carried j (λ e. ap (λ n. (w.cells n).told) (sym e)) (λ _. refl);
+      }))
 
   -- a fault by the own event of a turn
   pub full_cause : (i : ℕ) (op : Op) → IsTurn may floor shelf who old (Begin i op) Full new → HasCause who old (fault.Full i) new
@@ -162,8 +179,8 @@ lack_cause who i t u old new h = record {
 }
 
 -- an answer since a later moment is one since an earlier one
-pub answered_since : (who : ℕ) (a b c : List Event) (i t : ℕ) (r : Running) (x : Answer) (more : List Event) → b ≡ a ++ more → Answered who b i t r x c → Answered who a i t r x c
-answered_since who a b c i t r x more is h = record {
+pub answered_since : (who : ℕ) (a b c : List Event) (i t : ℕ) (r : Running) (x : Answer) (more : List Event) → b ≡ a ++ more → (OnlyOwn who a b → Still (state_of a) (state_of b)) → Answered who b i t r x c → Answered who a i t r x c
+answered_since who a b c i t r x more is before h = record {
   moment = h.moment;
   since = (more ++ h.since.0, h.since.1 ∙ (ap (λ l. l ++ h.since.0) is ∙ append_assoc a more h.since.0));
   rest = h.rest;
@@ -171,6 +188,10 @@ answered_since who a b c i t r x more is h = record {
   told = h.told;
   ends = h.ends;
   event = event_since (λ e. IsAnswer who i t x e) a b c more is h.event;
+  now = h.now;
+  still = λ alone.
+      let parts = own_split who a b h.moment more h.since.0 is h.since.1 alone in
+      still_trans (state_of a) (state_of b) (state_of h.moment) (before parts.0) (h.still parts.1);
 }
 
 -- what was first stays first

@@ -11,6 +11,7 @@ use Rattle.legal_journal.specs.Turns.{AreOthers}
 use Rattle.virtual_log.specs.declared.extend.Extension.{Extension}
 use Rattle.virtual_log.specs.declared.extend.Extension.TheVariants.{Extended, Moved, NoSpare}
 use Rattle.virtual_log.specs.Turning.{HasEvent}
+use Rattle.virtual_log.specs.Writing.{WroteNone, IsAnothers}
 
 -- An own write stands under this version, over a chain whose last segment was still this one: it closes that segment, and
 -- goes on from start in the next loglet.
@@ -23,14 +24,27 @@ pub record IsWritten (who : ℕ) (old : List Event) (last : Segment) (version st
   pub start_is : start ≡ last.start + at
 
 -- An own write was refused: under this version a chain stands in which that segment is closed.
-pub record IsPassed (who : ℕ) (old : List Event) (last : Segment) (version : ℕ) (new : List Event) : Type 0 where
+pub record IsRefused (who : ℕ) (old : List Event) (last : Segment) (version : ℕ) (new : List Event) : Type 0 where
   pub expected : ℕ
   pub asked : Chain
   pub chain : Chain
   pub event : HasEvent old (λ e. e ≡ record { who = who; call = WriteChain expected asked; answer = Conflict version chain }) new
   pub behind : last.id < (last_segment chain).id
 
--- how the last segment was closed; known grows by the start that was answered
+-- An own write was refused, and since old another wrote a chain that goes on behind that segment's loglet.
+pub record IsPassed (who : ℕ) (old : List Event) (last : Segment) (version : ℕ) (new : List Event) : Type 0 where
+  pub refused : IsRefused who old last version new
+  pub another : HasEvent old (IsAnothers who last.id) new
+
+-- what comes of the writes that close the last segment; known grows by the start that was answered
+abbrev pub Closes : ℕ → List Event → Segment → ℕ → ℕ → ℕ → List Event → Extension → Type 0
+Closes who old last known known' version' new (Extended version start) =
+    IsWritten who old last version start new × (known' ≡ max known start) × (version' ≡ version)
+Closes who old last known known' version' new (Moved version) =
+    IsRefused who old last version new × WroteNone who old new × (known' ≡ known) × (version' ≡ version)
+Closes who old last known known' version' new NoSpare = ⊥
+
+-- how the last segment was closed
 abbrev pub IsClosed : ℕ → List Event → Segment → ℕ → ℕ → ℕ → List Event → Extension → Type 0
 IsClosed who old last known known' version' new (Extended version start) =
     IsWritten who old last version start new × (known' ≡ max known start) × (version' ≡ version)

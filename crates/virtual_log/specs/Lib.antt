@@ -1,5 +1,6 @@
 pub mod Turning
 pub mod Causes
+pub mod Writing
 pub mod Tails
 pub mod Log
 pub mod Next

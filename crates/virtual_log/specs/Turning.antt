@@ -8,9 +8,26 @@ use Rattle.legal_journal.specs.declared.events.Event.{Event}
 use Rattle.legal_journal.specs.declared.events.FabricCall.TheVariants.{Begin, Carry, ReadChain}
 use Rattle.legal_journal.specs.declared.events.FabricAnswer.TheVariants.{Begun, Done, At}
 use Rattle.legal_journal.specs.Told.{Running, started, MayAnswer, answered}
-use Rattle.legal_journal.specs.Journal.{state_of, IsOwn, IsLegal, ends_told}
+use Rattle.legal_journal.specs.Moves.{Begins, Answers, OnCell}
+use Rattle.legal_journal.specs.Journal.{State, state_of, after, IsOwn, IsLegal, ends_told}
 use Rattle.legal_journal.specs.Laws.{Clears}
 use Rattle.legal_journal.specs.Turns.{AreOthers}
+
+-- each event is who's
+abbrev pub AreOwn : ℕ → List Event → Type 0
+AreOwn who [] = Unit {0}
+AreOwn who (e ∷ es) = (e.who ≡ who) × AreOwn who es
+
+-- each event since old is who's
+pub record OnlyOwn (who : ℕ) (old new : List Event) : Type 0 where
+  pub more : List Event
+  pub seen : new ≡ old ++ more
+  pub own : AreOwn who more
+
+-- the register and what each loglet told are as they were
+pub record Still (old new : State) : Type 0 where
+  pub register : new.register ≡ old.register
+  pub told : (i : ℕ) → (new.cells i).told ≡ (old.cells i).told
 
 -- what was seen before is still seen, and what is seen is legal
 pub record Later (may : ℕ → Entry → Type 0) (floor : List Entry → ℕ) (shelf : List ℕ) (old new : List Event) : Type 0 where
@@ -48,6 +65,7 @@ pub record Opened (who : ℕ) (old : List Event) (i : ℕ) (op : Op) (t : ℕ) (
   pub first : FirstTurn who old new
   pub own : IsOwn ((state_of new).cells i) who t (started ((state_of (old ++ first.others)).cells i).told op)
   pub event : HasEvent old (λ e. e ≡ record { who = who; call = Begin i op; answer = Begun t }) new
+  pub now : state_of new ≡ after (state_of (old ++ first.others)) who (OnCell i (Begins op t))
 
 -- who's carry of the ticket was answered so
 abbrev pub IsAnswer : ℕ → ℕ → ℕ → Answer → Event → Type 0
@@ -62,6 +80,9 @@ pub record Answered (who : ℕ) (old : List Event) (i t : ℕ) (r : Running) (a 
   pub told : ((state_of new).cells i).told ≡ answered ((state_of moment).cells i).told t r a
   pub ends : ((state_of new).cells i).ends ≡ ends_told ((state_of moment).cells i).ends a
   pub event : HasEvent old (λ e. IsAnswer who i t a e) new
+  pub now : state_of new ≡ after (state_of moment) who (OnCell i (Answers t a))
+  -- own carries before it change nothing that is told
+  pub still : OnlyOwn who old moment → Still (state_of old) (state_of moment)
 
 -- The position is above each position that was answered, and not below any tail that was, before the first own event.
 pub record IsAbove (who : ℕ) (old : List Event) (pos : ℕ) (new : List Event) : Type 0 where

@@ -1,10 +1,10 @@
 //! Appends, tails and reads of a log, each over as many turns as it takes.
-ghost use Rattle.std.specs.Prelude.{◌≡◌, ◌<◌, ◌≤◌, ◌+◌, ℕ, max, IfOk, IfErr, OnErr, IfSome, IfNone, Some, length};
+ghost use Rattle.std.specs.Prelude.{◌≡◌, ◌<◌, ◌≤◌, ◌+◌, ℕ, max, IfOk, OnOk, IfErr, OnErr, IfSome, IfNone, Some, length};
 ghost use Rattle.chain_map.specs.Chain.{last_segment, last_id};
 ghost use Rattle.delos_types.specs.Spelling.{IsSpellable};
 ghost use Rattle.legal_journal.specs.Journal.{state_of, IsLegal, tail_of, trim_of};
 ghost use Rattle.legal_journal.specs.Laws.{Stands};
-ghost use Rattle.virtual_log.specs.Turning.{Later, IsAbove};
+ghost use Rattle.virtual_log.specs.Turning.{OnlyOwn, Later, IsAbove};
 ghost use Rattle.virtual_log.specs.Causes.{HasCause};
 ghost use Rattle.virtual_log.specs.Log.{GoesBy};
 ghost use Rattle.virtual_log.specs.Next.{IsNext};
@@ -83,6 +83,7 @@ pub fn tail_on<T: Turns, C: Chooser>(
     ensures within { IfOk result (λ tail. tail ≤ tail_of (state_of (T.seen turns.new))) }
     ensures above { IfOk result (λ tail. IsAbove (T.who turns.old) (T.seen turns.old) tail (T.seen turns.new)) }
     ensures forward { IfOk result (λ tail. known.old.tail ≤ tail) }
+    ensures exact { IfOk result (λ tail. OnlyOwn (T.who turns.old) (T.seen turns.old) (T.seen turns.new) → tail_of (state_of (T.seen turns.new)) ≤ tail) }
     ensures known { IfOk result (λ tail. known.new.tail ≡ max known.old.tail tail) }
     ensures unknown { OnErr result (known.new.tail ≡ known.old.tail) }
     ensures err { IfErr result (λ fault. HasCause (T.who turns.old) (T.seen turns.old) fault (T.seen turns.new)) }
@@ -126,6 +127,7 @@ fn read_at<T: Turns, C: Chooser>(
     ensures found { IfOk result (λ o. IfSome o (λ e. Stands (state_of (T.seen turns.old)) pos e)) }
     ensures held { IfOk result (λ o. IfSome o (λ e. Holds (T.seen turns.new) pos e)) }
     ensures cut { IfOk result (λ o. IfNone o (pos < trim_of (state_of (T.seen turns.new)))) }
+    ensures quiet { OnOk result (OnlyOwn (T.who turns.old) (T.seen turns.old) (T.seen turns.new) → tail_of (state_of (T.seen turns.new)) ≡ tail_of (state_of (T.seen turns.old))) }
     ensures err { IfErr result (λ fault. HasCause (T.who turns.old) (T.seen turns.old) fault (T.seen turns.new)) }
 {
     let Located::Inside { id, index } = locate(&known.chain, pos) else {
@@ -158,6 +160,8 @@ pub fn read_from<T: Turns, C: Chooser>(
     ensures known { known.new.tail ≡ known.old.tail }
     ensures next { IfOk result (IsNext (T.seen turns.old) (T.seen turns.new) min m known.new.chain.trim) }
     ensures reads { IfOk result (Reads Holds (T.seen turns.new) min m) }
+    ensures quiet { OnOk result (trim_of (state_of (T.seen turns.new)) ≤ min → OnlyOwn (T.who turns.old) (T.seen turns.old) (T.seen turns.new)
+        → tail_of (state_of (T.seen turns.new)) ≡ tail_of (state_of (T.seen turns.old))) }
     ensures err { IfErr result (λ fault. HasCause (T.who turns.old) (T.seen turns.old) fault (T.seen turns.new)) }
 {
     'trim: loop {

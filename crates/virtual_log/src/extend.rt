@@ -6,7 +6,7 @@ ghost use Rattle.legal_journal.specs.Journal.{state_of, IsLegal};
 ghost use Rattle.virtual_log.specs.Turning.{Later};
 ghost use Rattle.virtual_log.specs.Causes.{HasCause};
 ghost use Rattle.virtual_log.specs.Log.{GoesBy};
-ghost use Rattle.virtual_log.specs.Extending.{IsClosed, IsExtension};
+ghost use Rattle.virtual_log.specs.Extending.{Closes, IsExtension};
 
 use crate::calls::Known;
 use crate::fault::Fault;
@@ -45,7 +45,7 @@ fn close_at<T: Turns>(
     ensures later { Later T.Law.may T.Law.floor T.Law.shelf (T.seen turns.old) (T.seen turns.new) }
     ensures who { T.who turns.new ≡ T.who turns.old }
     ensures goes_by { GoesBy (state_of (T.seen turns.new)) known.new.version known.new.chain known.new.tail }
-    ensures closed { IfOk result (IsClosed (T.who turns.old) (T.seen turns.old) (last_segment known.old.chain) known.old.tail known.new.tail known.new.version (T.seen turns.new)) }
+    ensures closed { IfOk result (Closes (T.who turns.old) (T.seen turns.old) (last_segment known.old.chain) known.old.tail known.new.tail known.new.version (T.seen turns.new)) }
     ensures unknown { OnErr result (known.new.tail ≡ known.old.tail) }
     ensures err { IfErr result (λ fault. HasCause (T.who turns.old) (T.seen turns.old) fault (T.seen turns.new)) }
 {

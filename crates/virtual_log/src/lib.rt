@@ -12,8 +12,9 @@
 //! - `extend`: the last loglet is replaced on request.
 //! - `truncate`: the trim is raised, and the loglets let go of what lies below it.
 //!
-//! The definitions stand in `specs/`: `Turning` (what turns bring), `Causes` (the cause of each fault), `Log` (what a
-//! virtual log shows), `Next` and `Holding` (what its reads say), `Extending` and `Truncating`.
+//! The definitions stand in `specs/`: `Turning` (what turns bring), `Causes` (the cause of each fault), `Writing`
+//! (which events write a chain), `Log` (what a virtual log shows), `Next` and `Holding` (what its reads say), `Extending` and
+//! `Truncating`.
 #![tactic(auto)]
 
 pub mod calls;

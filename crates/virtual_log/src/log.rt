@@ -1,10 +1,10 @@
 //! The virtual log.
-ghost use Rattle.std.specs.Prelude.{◌≡◌, ◌≤◌, ◌<◌, ◌+◌, ℕ, length, min, max, IfOk, IfErr, OnErr};
+ghost use Rattle.std.specs.Prelude.{◌≡◌, ◌≤◌, ◌<◌, ◌+◌, ℕ, length, min, max, IfOk, OnOk, IfErr, OnErr};
 ghost use Rattle.delos_types.specs.Spelling.{IsSpellable};
 ghost use Rattle.chain_map.specs.Chain.{first_chain};
-ghost use Rattle.legal_journal.specs.Journal.{state_of, IsLegal, IsFree, tail_of};
+ghost use Rattle.legal_journal.specs.Journal.{state_of, IsLegal, IsFree, tail_of, trim_of};
 ghost use Rattle.legal_journal.specs.Laws.{Stands};
-ghost use Rattle.virtual_log.specs.Turning.{Later, IsAbove};
+ghost use Rattle.virtual_log.specs.Turning.{OnlyOwn, Later, IsAbove};
 ghost use Rattle.virtual_log.specs.Causes.{HasCause};
 ghost use Rattle.virtual_log.specs.Next.{IsNext};
 ghost use Rattle.virtual_log.specs.Holding.{Holds, Reads};
@@ -175,6 +175,9 @@ impl<T: Turns, C: Chooser> VirtualLog<T, C> {
 
         // It isn't below what this value was answered before.
         ensures forward { IfOk result (λ tail. self.old.known ≤ tail) }
+
+        // Where no event of another came meanwhile it isn't below the log's tail either.
+        ensures exact { IfOk result (λ tail. OnlyOwn self.old.who self.old.seen self.new.seen → tail_of (state_of self.new.seen) ≤ tail) }
         ensures err { IfErr result (λ fault. HasCause self.old.who self.old.seen fault self.new.seen) }
         ensures unknown { OnErr result (self.new.known ≡ self.old.known) }
     {
@@ -197,8 +200,8 @@ impl<T: Turns, C: Chooser> VirtualLog<T, C> {
 
         // By the chain of this call's first look: there is no next loglet exactly with `NoSpare`, which
         // makes no other event. `Extended`: an own write stands, which closes that chain's last segment
-        // and goes on at `start`. `Moved`: an own write was refused, and by the chain that stands under
-        // that version another closed that segment.
+        // and goes on at `start`. `Moved`: an own write was refused, in the chain that stands under that
+        // version that segment is closed, and since the look another wrote a chain that goes on behind it.
         ensures extension { IfOk result (IsExtension (length T.Law.shelf) self.old.who self.old.seen self.old.known self.new.known self.new.version self.new.seen) }
         ensures err { IfErr result (λ fault. HasCause self.old.who self.old.seen fault self.new.seen) }
         ensures unknown { OnErr result (self.new.known ≡ self.old.known) }
@@ -274,6 +277,10 @@ impl<T: Turns, C: Chooser> VirtualLog<T, C> {
         // An entry that is answered is held for good, also where the log was trimmed before it showed it.
         // `Trimmed`, and an entry further on, come only where `least` is trimmed.
         ensures reads { IfOk result (Reads Holds self.new.seen least (min most self.old.known)) }
+
+        // Where no event of another came meanwhile, and the log isn't trimmed above `least`, its tail stays.
+        ensures quiet { OnOk result (trim_of (state_of self.new.seen) ≤ least → OnlyOwn self.old.who self.old.seen self.new.seen
+            → tail_of (state_of self.new.seen) ≡ tail_of (state_of self.old.seen)) }
         ensures err { IfErr result (λ fault. HasCause self.old.who self.old.seen fault self.new.seen) }
     {
         let end = most.min(self.known.tail);

@@ -6,6 +6,7 @@ ghost use Rattle.legal_journal.specs.Laws.{Stands};
 ghost use Rattle.virtual_log.specs.Turning.{Later, FirstTurn, IsAbove};
 ghost use Rattle.virtual_log.specs.Causes.{HasCause};
 ghost use Rattle.virtual_log.specs.Tails.{IsFound, IsSealedTail};
+ghost use Rattle.virtual_log.specs.Writing.{WroteNone};
 
 use crate::fault::Fault;
 use crate::turn::{begin, carry_on};
@@ -74,6 +75,7 @@ pub fn find_tail<T: Turns, C: Chooser>(
     ensures who { T.who turns.new ≡ T.who turns.old }
     ensures found { IfOk result (IsFound (T.who turns.old) (T.seen turns.old) segment (T.seen turns.new)) }
     ensures shut { ((state_of (T.seen turns.old)).cells segment.id).told.sealed ≡ true → IfOk result IsSealedTail }
+    ensures quiet { IfOk result (λ x. WroteNone (T.who turns.old) (T.seen turns.old) (T.seen turns.new)) }
     ensures err { IfErr result (λ fault. HasCause (T.who turns.old) (T.seen turns.old) fault (T.seen turns.new)) }
 {
     let ticket = begin(turns, segment.id, Op::Tail)?;
@@ -97,6 +99,7 @@ pub fn seal<T: Turns, C: Chooser>(turns: &mut T, chooser: &mut C, id: u32) -> Re
     ensures later { Later T.Law.may T.Law.floor T.Law.shelf (T.seen turns.old) (T.seen turns.new) }
     ensures who { T.who turns.new ≡ T.who turns.old }
     ensures sealed { OnOk result (((state_of (T.seen turns.new)).cells id).told.sealed ≡ true) }
+    ensures quiet { OnOk result (WroteNone (T.who turns.old) (T.seen turns.old) (T.seen turns.new)) }
     ensures err { IfErr result (λ fault. HasCause (T.who turns.old) (T.seen turns.old) fault (T.seen turns.new)) }
 {
     let ticket = begin(turns, id, Op::Seal)?;

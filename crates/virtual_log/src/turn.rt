@@ -5,6 +5,7 @@ ghost use Rattle.legal_journal.specs.Journal.{state_of, IsOwn, IsLegal};
 ghost use Rattle.legal_journal.specs.Turns.{MayTurn};
 ghost use Rattle.virtual_log.specs.Turning.{Later, Looked, Opened, Answered};
 ghost use Rattle.virtual_log.specs.Causes.{HasCause};
+ghost use Rattle.virtual_log.specs.Writing.{WroteNone};
 
 use crate::fault::Fault;
 use delos_types::chain::Chain;
@@ -36,6 +37,7 @@ pub fn begin<T: Turns>(turns: &mut T, cell: u32, op: Op) -> Result<Ticket, Fault
     ensures later { Later T.Law.may T.Law.floor T.Law.shelf (T.seen turns.old) (T.seen turns.new) }
     ensures who { T.who turns.new ≡ T.who turns.old }
     ensures ok { IfOk result (λ t. Opened (T.who turns.old) (T.seen turns.old) cell op t (T.seen turns.new)) }
+    ensures quiet { IfOk result (λ t. WroteNone (T.who turns.old) (T.seen turns.old) (T.seen turns.new)) }
     ensures err { IfErr result (λ fault. HasCause (T.who turns.old) (T.seen turns.old) fault (T.seen turns.new)) }
 {
     match turns.turn(FabricCall::Begin(cell, op)) {
@@ -59,6 +61,7 @@ pub fn carry_on<T: Turns, C: Chooser>(
     ensures who { T.who turns.new ≡ T.who turns.old }
     ensures ok { IfOk result (λ a. (r : Running) → IsOwn ((state_of (T.seen turns.old)).cells cell) (T.who turns.old) ticket r
         → Answered (T.who turns.old) (T.seen turns.old) cell ticket r a (T.seen turns.new)) }
+    ensures quiet { IfOk result (λ a. WroteNone (T.who turns.old) (T.seen turns.old) (T.seen turns.new)) }
 {
     loop {
         let word = chooser.word();

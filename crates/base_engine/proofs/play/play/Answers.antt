@@ -1,8 +1,9 @@
 use Rattle.std.proofs.Common.{◌≡◌, ◌∙◌, ◌≤◌, inl, inr, subst, refl, ap, arith}
 use Rattle.replica_api.specs.Replica.{ReplicaView, saved_in}
-use Rattle.base_engine.specs.Following.{Plays}
+use Rattle.base_engine.specs.Following.{Plays, KeepsTail}
 use Rattle.virtual_log.proofs.OneTurn.{later_refl, later_trans}
 use Rattle.base_engine.proofs.Following.{follows_same, follows_reopened, found_state, found_near, crash_at_rest, crash_on, crash_in_reopen, known_reopened, known_same, turns_left}
+use Rattle.base_engine.proofs.Tails.{keeps_same, keeps_on}
 use Rattle.base_engine.proofs.play.play.Goals as goal
 
 pub entry-init : goal.entry-init
@@ -22,6 +23,7 @@ entry-init g c =
       up = λ h. absurd (cc);
       kept = refl;
       origin = refl;
+      quiet = keeps_same (t.who c.args.log.now) (r.shows c.args.replica.now).cursor (t.seen c.args.log.now);
       any_crash = crash_at_rest t.holds r.state r.spells (t.seen c.args.log.now) (r.shows c.args.replica.now) c.requires.follows;
     }
 
@@ -49,6 +51,8 @@ entry-preserved-in-Ok-Applied g c =
       up = λ h. plays.2;
       kept = e.kept ∙ i.kept;
       origin = e.origin ∙ i.origin;
+      quiet = keeps_on p.may p.floor p.shelf (t.who c.args.log.now) (r.shows c.args.replica.now).cursor first now new i.later e.later (r.shows l.replica).cursor i.forward i.quiet
+          (subst (λ w. KeepsTail w (r.shows l.replica).cursor now new) i.who e.quiet);
       any_crash = crash_on p.may p.floor p.shelf t.holds r.state r.spells g.met.L.SharedLog.stays now new (r.shows c.args.replica.now) (r.shows l.replica) (r.shows c.apply_next.new.replica) e.later i.forward i.any_crash e.any_crash;
     }
 
@@ -61,6 +65,19 @@ returns-in-Ok-Trimmed-clause-any_crash g c =
     let i = l.invariant in
     let e = c.in-Ok-Trimmed.ensures in
     crash_on p.may p.floor p.shelf t.holds r.state r.spells g.met.L.SharedLog.stays (t.seen l.log) (t.seen c.apply_next.new.log) (r.shows c.args.replica.now) (r.shows l.replica) (r.shows c.apply_next.new.replica) e.later i.forward i.any_crash e.any_crash
+
+pub returns-in-Ok-Trimmed-clause-quiet : goal.returns-in-Ok-Trimmed-clause-quiet
+returns-in-Ok-Trimmed-clause-quiet g c =
+    let p = g.L.Law.Rules in
+    let t = g.L.SharedLog in
+    let r = g.R.Replica in
+    let l = c.entry in
+    let i = l.invariant in
+    let e = c.in-Ok-Trimmed.ensures in
+    let now = t.seen l.log in
+    let new = t.seen c.apply_next.new.log in
+    keeps_on p.may p.floor p.shelf (t.who c.args.log.now) (r.shows c.args.replica.now).cursor (t.seen c.args.log.now) now new i.later e.later (r.shows l.replica).cursor i.forward i.quiet
+    (subst (λ w. KeepsTail w (r.shows l.replica).cursor now new) i.who e.quiet)
 
 pub returns-then-not-spare-clause-any_crash : goal.returns-then-not-spare-clause-any_crash
 returns-then-not-spare-clause-any_crash g c =
@@ -159,6 +176,8 @@ entry-preserved g c =
       up = λ h. up.up;
       kept = up.kept ∙ (e.kept ∙ i.kept);
       origin = up.origin ∙ (e.origin ∙ i.origin);
+      quiet = keeps_on p.may p.floor p.shelf (t.who c.args.log.now) (r.shows c.args.replica.now).cursor first now new i.later e.later (r.shows l.replica).cursor i.forward i.quiet
+          (subst (λ w. KeepsTail w (r.shows l.replica).cursor now new) i.who e.quiet);
       any_crash = crash_on p.may p.floor p.shelf t.holds r.state r.spells g.met.L.SharedLog.stays new new a v w (later_refl p.may p.floor p.shelf new e.later.legal) (omega (arith, i.forward, e.forward))
           (crash_on p.may p.floor p.shelf t.holds r.state r.spells g.met.L.SharedLog.stays now new a b v e.later i.forward i.any_crash e.any_crash)
           (crash_in_reopen t.holds r.state r.spells new v w e.follows c.in-Ok.ensures.any_crash);

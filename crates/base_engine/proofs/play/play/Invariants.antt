@@ -2,7 +2,7 @@ use Rattle.std.proofs.Common.{◌≡◌, ◌⊎◌, false, ◌≤◌, ◌+◌, �
 use Rattle.disk_model.specs.Crash.{AnyCrash}
 use Rattle.virtual_log.specs.Turning.{Later}
 use Rattle.replica_api.specs.Replica.{SpellsOne}
-use Rattle.base_engine.specs.Following.{Follows, IsKnown, IsFound}
+use Rattle.base_engine.specs.Following.{Follows, IsKnown, IsFound, KeepsTail}
 use Rattle.base_engine.proofs.Following.{turns_left}
 use Rattle.base_engine.proofs.play.play.Given as goal
 
@@ -25,6 +25,7 @@ invariant-entry g l =
       up : l.spare ≡ false → v.down ≡ false;
       kept : v.kept ≡ w.kept;
       origin : v.origin ≡ w.origin;
+      quiet : KeepsTail (t.who l.fn.log) w.cursor (t.seen l.fn.log) (t.seen l.log);
       any_crash : AnyCrash w.disk v.disk (SpellsOne r.spells (IsFound t.holds r.state (t.seen l.log) w.cursor));
     }
 

@@ -1,4 +1,6 @@
-use Rattle.std.proofs.Common.{◌≤◌, arith}
+use Rattle.std.proofs.Common.{◌≤◌, subst, arith}
+use Rattle.base_engine.specs.Following.{KeepsTail}
+use Rattle.base_engine.proofs.Tails.{ends_on}
 use Rattle.base_engine.proofs.Following.{follows_later, crash_at_rest, above_later, at_tail}
 use Rattle.base_engine.proofs.play.sync.Goals as goal
 
@@ -37,3 +39,14 @@ returns-in-Ok-play-clause-cursor g c =
     let r = g.R.Replica in
     let below : (r.shows c.args.replica.now).cursor ≤ c.in-Ok.tail = omega (arith, c.requires.bounded.now, c.in-Ok.ensures.forward) in
     at_tail (r.shows c.args.replica.now) (r.shows c.play.new.replica) c.in-Ok.tail (t.seen c.play.new.log) below c.in-Ok-play.ensures.reaches
+
+pub returns-in-Ok-play-clause-exact : goal.returns-in-Ok-play-clause-exact
+returns-in-Ok-play-clause-exact g c =
+    let p = g.L.Law.Rules in
+    let t = g.L.SharedLog in
+    let who = t.who c.args.log.now in
+    let pos = (g.R.Replica.shows c.args.replica.now).cursor in
+    let mid = t.seen c.check_tail.new.self in
+    let new = t.seen c.play.new.log in
+    ends_on p.may p.floor p.shelf who pos (t.seen c.args.log.now) mid new c.in-Ok.ensures.later c.play.ensures.later c.in-Ok.tail c.in-Ok.ensures.exact
+    (subst (λ w. KeepsTail w pos mid new) c.in-Ok.ensures.who c.in-Ok-play.ensures.quiet)

@@ -1,7 +1,7 @@
-use Rattle.std.proofs.Common.{◌≡◌, ◌++◌, ◌∷◌, [], ℕ, true, false, Some, None, refl, sym, ap, ◌∙◌}
-use Rattle.delos_types.specs.Spaces.{SpaceMap, Text, least_key_from}
+use Rattle.std.proofs.Common.{◌≡◌, Some, None, sym, ap, ◌∙◌}
+use Rattle.delos_types.specs.Spaces.{least_key_from}
 use Rattle.engine_steps.specs.Layout.{value_of}
-use Rattle.base_engine.proofs.Scanning.{IsLeastFrom, least_from, next_none, next_beyond, next_some, least_has}
+use Rattle.base_engine.proofs.Scanning.{least_from, next_none, next_beyond, next_some, least_has}
 use Rattle.base_engine.proofs.read.next_pair.Goals as goal
 
 pub returns-in_default : goal.returns-in_default

@@ -1,6 +1,7 @@
-use Rattle.std.proofs.Common.{◌++◌, length, subst}
+use Rattle.std.proofs.Common.{◌++◌, length, refl, subst}
 use Rattle.loglet_api.specs.declared.call.Op.TheVariants.{Read}
 use Rattle.loglet_api.specs.declared.call.Answer.{Answer}
+use Rattle.loglet_api.specs.declared.call.Answer.TheVariants.{Got, CutAt}
 use Rattle.legal_journal.specs.Told.{started}
 use Rattle.legal_journal.specs.Journal.{state_of}
 use Rattle.legal_journal.proofs.Legal.{sound}
@@ -9,6 +10,7 @@ use Rattle.virtual_log.specs.Turning.{Answered}
 use Rattle.virtual_log.specs.declared.fault.Fault.TheVariants as fault
 use Rattle.virtual_log.proofs.OneTurn.{own_by, lack_cause, cause_since}
 use Rattle.virtual_log.proofs.Appending.{may_read, started_within}
+use Rattle.virtual_log.proofs.Levels.{level_tail, silent_level}
 use Rattle.virtual_log.proofs.Reading.{place_of, got_ok, cut_ok}
 use Rattle.virtual_log.proofs.Holding.{got_held}
 use Rattle.virtual_log.proofs.calls.read_at.Goals as goal
@@ -84,6 +86,22 @@ returns-in-Got-clause-held g c =
     (subst (λ w. Answered w mid id c.in_ok-ticket.ticket r c.in_ok-entry.field-0 new) c.in_ok-ticket.ensures.who (c.in_ok-entry.ensures.ok r (own_by _ _ _ _ _ c.in_ok-ticket.ensures.who o.own))) in
     got_held p.may p.floor p.shelf who old mid new k.version k.tail c.args.pos id index c.in_ok-ticket.ticket k.chain c.in-Got.entry c.requires.legal c.requires.goes_by c.requires.tail place c.in_ok-ticket.ensures.later c.in_ok-entry.ensures.later o x
 
+pub returns-in-Got-clause-quiet : goal.returns-in-Got-clause-quiet
+returns-in-Got-clause-quiet g c = λ alone.
+    let p = g.T.Law.Rules in
+    let t = g.T.Turns in
+    let old = t.seen c.args.turns.now in
+    let id = c.in-Inside.id in
+    let index = c.in-Inside.index in
+    let who = t.who c.args.turns.now in
+    let mid = t.seen c.begin.new.turns in
+    let new = t.seen c.carry_on.new.turns in
+    let o = c.in_ok-ticket.ensures.ok in
+    let r = started ((state_of (old ++ o.first.others)).cells id).told (Read index) in
+    let x = subst (λ (a : Answer). Answered who mid id c.in_ok-ticket.ticket r a new) c.in-Got.is
+    (subst (λ w. Answered w mid id c.in_ok-ticket.ticket r c.in_ok-entry.field-0 new) c.in_ok-ticket.ensures.who (c.in_ok-entry.ensures.ok r (own_by _ _ _ _ _ c.in_ok-ticket.ensures.who o.own))) in
+    level_tail (state_of old) (state_of new) (silent_level p.may p.floor p.shelf who old mid new id c.in_ok-ticket.ticket (Read index) r (Got c.in-Got.entry) refl c.in_ok-ticket.ensures.later c.in_ok-entry.ensures.later o x alone)
+
 pub returns-in-CutAt-clause-cut : goal.returns-in-CutAt-clause-cut
 returns-in-CutAt-clause-cut g c =
     let p = g.T.Law.Rules in
@@ -102,6 +120,22 @@ returns-in-CutAt-clause-cut g c =
     let x = subst (λ (a : Answer). Answered who mid id c.in_ok-ticket.ticket r a new) c.in-CutAt.is
     (subst (λ w. Answered w mid id c.in_ok-ticket.ticket r c.in_ok-entry.field-0 new) c.in_ok-ticket.ensures.who (c.in_ok-entry.ensures.ok r (own_by _ _ _ _ _ c.in_ok-ticket.ensures.who o.own))) in
     cut_ok p.may p.floor p.shelf who old mid new c.args.pos id index c.in_ok-ticket.ticket c.in-CutAt.field-0 k.chain c.requires.legal place c.in_ok-ticket.ensures.later c.in_ok-entry.ensures.later o x
+
+pub returns-in-CutAt-clause-quiet : goal.returns-in-CutAt-clause-quiet
+returns-in-CutAt-clause-quiet g c = λ alone.
+    let p = g.T.Law.Rules in
+    let t = g.T.Turns in
+    let old = t.seen c.args.turns.now in
+    let id = c.in-Inside.id in
+    let index = c.in-Inside.index in
+    let who = t.who c.args.turns.now in
+    let mid = t.seen c.begin.new.turns in
+    let new = t.seen c.carry_on.new.turns in
+    let o = c.in_ok-ticket.ensures.ok in
+    let r = started ((state_of (old ++ o.first.others)).cells id).told (Read index) in
+    let x = subst (λ (a : Answer). Answered who mid id c.in_ok-ticket.ticket r a new) c.in-CutAt.is
+    (subst (λ w. Answered w mid id c.in_ok-ticket.ticket r c.in_ok-entry.field-0 new) c.in_ok-ticket.ensures.who (c.in_ok-entry.ensures.ok r (own_by _ _ _ _ _ c.in_ok-ticket.ensures.who o.own))) in
+    level_tail (state_of old) (state_of new) (silent_level p.may p.floor p.shelf who old mid new id c.in_ok-ticket.ticket (Read index) r (CutAt c.in-CutAt.field-0) refl c.in_ok-ticket.ensures.later c.in_ok-entry.ensures.later o x alone)
 
 pub returns-in-NoQuorum-clause-err : goal.returns-in-NoQuorum-clause-err
 returns-in-NoQuorum-clause-err g c =

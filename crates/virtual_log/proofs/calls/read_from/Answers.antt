@@ -1,6 +1,10 @@
-use Rattle.std.proofs.Common.{◌∙◌, ◌<◌, subst, IfNone, IfSome, arith}
-use Rattle.legal_journal.specs.Journal.{state_of, trim_of}
-use Rattle.virtual_log.proofs.OneTurn.{later_trans, later_continues}
+use Rattle.std.proofs.Common.{◌≡◌, ◌∙◌, inr, ◌<◌, sym, ap, subst, ⊎_elim, IfNone, IfSome, arith}
+use Rattle.std.proofs.lemmas.Result.{err_from_is_err_and}
+use Rattle.legal_journal.specs.Journal.{state_of, tail_of, trim_of}
+use Rattle.virtual_log.specs.Turning.{OnlyOwn}
+use Rattle.virtual_log.specs.Causes.{HasCause}
+use Rattle.virtual_log.proofs.Owning.{own_split}
+use Rattle.virtual_log.proofs.OneTurn.{later_trans, later_continues, cause_since}
 use Rattle.virtual_log.proofs.Going.{goes_later, goes_now, trim_now}
 use Rattle.virtual_log.specs.Holding.{Holds}
 use Rattle.virtual_log.proofs.Holding.{reads_found}
@@ -41,6 +45,22 @@ returns-in-Some-clause-reads g c =
     let held = subst (λ o. IfSome o (λ e. Holds mid c.max-pos.result e)) c.in-Some.is c.in_ok-entry.ensures.held in
     (c.requires.some, reads_found p.may p.floor p.shelf mid k.version k.tail c.args.min c.max-pos.result k.chain goes c.max-pos.ensures, held)
 
+pub returns-in-Some-clause-quiet : goal.returns-in-Some-clause-quiet
+returns-in-Some-clause-quiet g c = λ low alone.
+    let p = g.T.Law.Rules in
+    let t = g.T.Turns in
+    let l = c.trim in
+    let i = l.invariant in
+    let start = t.seen c.args.turns.now in
+    let now = t.seen l.turns in
+    let mid = t.seen c.read_at.new.turns in
+    let to_mid = c.in_ok-entry.ensures.later in
+    let parts = own_split (t.who c.args.turns.now) start now mid i.later.more to_mid.more i.later.seen to_mid.seen alone in
+    ⊎_elim
+    (λ (same : now ≡ start). c.in_ok-entry.ensures.quiet (subst (λ w. OnlyOwn w now mid) (sym i.who) parts.1) ∙ ap (λ es. tail_of (state_of es)) same)
+    (λ (cut : c.args.min < trim_of (state_of now)). absurd (omega (arith, low, cut, (later_continues p.may p.floor p.shelf now mid to_mid).trim)))
+    i.first
+
 pub returns-in_err-version-clause-goes_by : goal.returns-in_err-version-clause-goes_by
 returns-in_err-version-clause-goes_by g c =
     let p = g.T.Law.Rules in
@@ -53,6 +73,21 @@ returns-in_err-version-clause-goes_by g c =
     let end = t.seen c.look.new.turns in
     let to_mid = c.in_ok-entry.ensures.later in
     goes_later p.may p.floor p.shelf now end k.version k.tail k.chain (later_trans p.may p.floor p.shelf now mid end to_mid c.in_err-version.ensures.later) i.goes_by
+
+pub returns-in_err-version-clause-err : goal.returns-in_err-version-clause-err
+returns-in_err-version-clause-err g c =
+    let p = g.T.Law.Rules in
+    let t = g.T.Turns in
+    let i = c.trim.invariant in
+    let start = t.seen c.args.turns.now in
+    let now = t.seen c.trim.turns in
+    let mid = t.seen c.read_at.new.turns in
+    let end = t.seen c.look.new.turns in
+    let r = err_from_is_err_and c.from_residual-in_err-version.result c.from_residual-in_err-version.ensures.1 in
+    let f = c.in_err-version.field-0.0 in
+    let before = later_trans p.may p.floor p.shelf start now mid i.later c.in_ok-entry.ensures.later in
+    rw (r.1, r.2) (cause_since (t.who c.args.turns.now) f start mid end before.more before.seen
+    (subst (λ w. HasCause w mid f end) (c.in_ok-entry.ensures.who ∙ i.who) c.in_err-version.ensures.err))
 
 pub trim-smaller : goal.trim-smaller
 trim-smaller g c =
@@ -89,4 +124,7 @@ trim-preserved g c =
       who = c.in_ok-version.ensures.who ∙ (c.in_ok-entry.ensures.who ∙ i.who);
       goes_by = goes_now p.may p.floor p.shelf (t.who c.read_at.new.turns) k.version k.tail c.in_ok-version.version k.chain c.in_ok-version.chain mid end to_mid.legal to_end at_mid c.in_ok-version.ensures.ok;
       tail = i.tail;
+      first =
+          let cut = subst (λ o. IfNone o (c.max-pos.result < trim_of (state_of mid))) c.in_default.is c.in_ok-entry.ensures.cut in
+          inr (omega (arith, cut, (later_continues p.may p.floor p.shelf mid end to_end).trim, c.max-pos.ensures));
     }

@@ -1,5 +1,5 @@
-use Rattle.std.proofs.Common.{◌≡◌, ◌-◌, ◌^◌}
-use Rattle.legal_journal.specs.Journal.{state_of}
+use Rattle.std.proofs.Common.{◌≡◌, ◌⊎◌, ◌-◌, ◌<◌, ◌^◌}
+use Rattle.legal_journal.specs.Journal.{state_of, trim_of}
 use Rattle.virtual_log.specs.Turning.{Later}
 use Rattle.virtual_log.specs.Log.{GoesBy}
 use Rattle.virtual_log.proofs.calls.read_from.Given as goal
@@ -13,6 +13,7 @@ invariant-trim g l =
       who : t.who l.turns ≡ t.who l.fn.turns;
       goes_by : GoesBy (state_of (t.seen l.turns)) l.known.version l.known.chain l.known.tail;
       tail : l.known.tail ≡ l.fn.known.tail;
+      first : (t.seen l.turns ≡ t.seen l.fn.turns) ⊎ (l.min < trim_of (state_of (t.seen l.turns)));
     }
 
 abbrev pub decreases-trim : goal.decreases-trim

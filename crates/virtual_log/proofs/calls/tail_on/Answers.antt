@@ -1,9 +1,10 @@
-use Rattle.std.proofs.Common.{◌∙◌, ap, subst, arith}
+use Rattle.std.proofs.Common.{◌∙◌, sym, ap, subst, arith}
 use Rattle.std.proofs.lemmas.Result.{err_from_is_err_and}
 use Rattle.delos_types.specs.declared.chain.Segment.{Segment}
-use Rattle.virtual_log.specs.Turning.{IsAbove, FirstTurn}
+use Rattle.virtual_log.specs.Turning.{OnlyOwn, IsAbove, FirstTurn}
 use Rattle.virtual_log.specs.Causes.{HasCause}
 use Rattle.virtual_log.specs.Tails.{IsFound}
+use Rattle.virtual_log.proofs.Owning.{own_split}
 use Rattle.virtual_log.proofs.OneTurn.{later_trans, cause_since}
 use Rattle.virtual_log.proofs.Appending.{above_since}
 use Rattle.virtual_log.proofs.Going.{last_there, there_later, goes_later, goes_further, goes_behind, fewer}
@@ -80,6 +81,18 @@ returns-in-Open-clause-forward g c =
     let found = subst (IsFound (t.who l.turns) now last mid) c.in-Open.is c.in_ok-tail.ensures.found in
     above_known p.may p.floor p.shelf (t.who c.args.turns.now) (t.seen c.args.turns.now) mid c.args.known.now.version c.args.known.now.tail c.in-Open.tail c.args.known.now.chain c.requires.legal to_mid.legal c.requires.goes_by
     (i.above c.in-Open.tail mid to_mid (subst (λ w. IsAbove w now c.in-Open.tail mid) i.who found.1))
+
+pub returns-in-Open-clause-exact : goal.returns-in-Open-clause-exact
+returns-in-Open-clause-exact g c = λ alone.
+    let t = g.T.Turns in
+    let l = c.segment in
+    let i = l.invariant in
+    let now = t.seen l.turns in
+    let mid = t.seen c.find_tail.new.turns in
+    let to_mid = c.in_ok-tail.ensures.later in
+    let found = subst (IsFound (t.who l.turns) now c.last_of-last.result mid) c.in-Open.is c.in_ok-tail.ensures.found in
+    let parts = own_split (t.who c.args.turns.now) (t.seen c.args.turns.now) now mid i.later.more to_mid.more i.later.seen to_mid.seen alone in
+    found.3 (subst (λ w. OnlyOwn w now mid) (sym i.who) parts.1)
 
 pub chain_behind-requires-clause-started : goal.chain_behind-requires-clause-started
 chain_behind-requires-clause-started g c =

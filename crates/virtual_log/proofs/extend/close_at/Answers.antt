@@ -3,10 +3,11 @@ use Rattle.std.specs.Prelude.{Contains}
 use Rattle.delos_types.specs.declared.chain.Segment.{Segment}
 use Rattle.chain_map.specs.Chain.{last_segment}
 use Rattle.legal_journal.specs.Journal.{state_of}
-use Rattle.virtual_log.specs.Extending.{IsWritten, IsPassed}
-use Rattle.virtual_log.proofs.OneTurn.{turn_later, later_trans}
+use Rattle.virtual_log.specs.Extending.{IsWritten, IsRefused}
+use Rattle.virtual_log.proofs.OneTurn.{nil, turn_later, later_refl, later_trans}
+use Rattle.virtual_log.proofs.Writing.{turn_wrote, wrote_refl, wrote_trans, wrote_by}
 use Rattle.virtual_log.proofs.Going.{goes_later}
-use Rattle.virtual_log.proofs.Closing.{fits_now, may_close, closed_ok, refused, refused_goes, refused_same, passed_ok, written_since, passed_since}
+use Rattle.virtual_log.proofs.Closing.{fits_now, may_close, closed_ok, refused, refused_goes, refused_same, refusal_ok, written_since, refusal_since}
 use Rattle.virtual_log.proofs.extend.close_at.Goals as goal
 
 pub extend-requires-clause-chain : goal.extend-requires-clause-chain
@@ -112,8 +113,10 @@ returns-then-newest-last-clause-closed g c =
     let now = t.seen l.turns in
     let new = t.seen c.turn.new.self in
     let up : (last_segment k.chain).id < (last_segment c.in-Conflict.chain).id = omega (arith, c.if-newest-last.true, ap (λ (s : Segment). s.id) c.last_of-newest.ensures, ap (λ (s : Segment). s.id) (c.last_of-last.ensures ∙ sym i.last)) in (
-      passed_since (t.who c.args.turns.now) (t.seen c.args.turns.now) now (last_segment k.chain) (last_segment c.args.known.now.chain) c.in-Conflict.version new i.later.more i.later.seen i.last
-          (subst (λ w. IsPassed w now (last_segment k.chain) c.in-Conflict.version new) i.who (passed_ok p.may p.floor p.shelf (t.who l.turns) now k.version k.tail c.args.length k.chain i.later.legal i.goes_by i.told c.in-Conflict.version c.in_ok-next.next c.in-Conflict.chain new c.in-Conflict.ensures.turn up)),
+      refusal_since (t.who c.args.turns.now) (t.seen c.args.turns.now) now (last_segment k.chain) (last_segment c.args.known.now.chain) c.in-Conflict.version new i.later.more i.later.seen i.last
+          (subst (λ w. IsRefused w now (last_segment k.chain) c.in-Conflict.version new) i.who (refusal_ok p.may p.floor p.shelf (t.who l.turns) now k.version k.tail c.args.length k.chain i.later.legal i.goes_by i.told c.in-Conflict.version c.in_ok-next.next c.in-Conflict.chain new c.in-Conflict.ensures.turn up)),
+      wrote_trans (t.who c.args.turns.now) (t.seen c.args.turns.now) now new i.quiet
+          (wrote_by _ _ _ _ i.who (turn_wrote p.may p.floor p.shelf _ _ _ _ _ c.in-Conflict.ensures.turn c.in-Conflict.ensures.turn.event refl)),
       i.tail,
       refl,
     )
@@ -190,4 +193,21 @@ write-preserved g c =
       last = same ∙ i.last;
       told = subst (λ (s : Segment). Contains ((state_of new).cells s.id).ends c.args.length) (sym same) x.told;
       tail = i.tail;
+      quiet = wrote_trans (t.who c.args.turns.now) (t.seen c.args.turns.now) now new i.quiet
+          (wrote_by _ _ _ _ i.who (turn_wrote p.may p.floor p.shelf _ _ _ _ _ c.in-Conflict.ensures.turn c.in-Conflict.ensures.turn.event refl));
+    }
+
+pub write-init : goal.write-init
+write-init g c =
+    let p = g.T.Law.Rules in
+    let t = g.T.Turns in
+    let old = t.seen c.args.turns.now in
+    record {
+      later = later_refl p.may p.floor p.shelf old c.requires.legal;
+      who = refl;
+      goes_by = c.requires.goes_by;
+      last = refl;
+      told = c.requires.told;
+      tail = refl;
+      quiet = wrote_refl (t.who c.args.turns.now) old (nil old);
     }

@@ -3,6 +3,7 @@ use Rattle.std.specs.Prelude.{Contains}
 use Rattle.chain_map.specs.Chain.{last_segment}
 use Rattle.legal_journal.specs.Journal.{state_of}
 use Rattle.virtual_log.specs.Turning.{Later}
+use Rattle.virtual_log.specs.Writing.{WroteNone}
 use Rattle.virtual_log.specs.Log.{GoesBy}
 use Rattle.virtual_log.proofs.extend.close_at.Given as goal
 
@@ -17,6 +18,7 @@ invariant-write g l =
       last : last_segment l.known.chain ≡ last_segment l.fn.known.chain;
       told : Contains ((state_of (t.seen l.turns)).cells (last_segment l.known.chain).id).ends l.length;
       tail : l.known.tail ≡ l.fn.known.tail;
+      quiet : WroteNone (t.who l.fn.turns) (t.seen l.fn.turns) (t.seen l.turns);
     }
 
 abbrev pub decreases-write : goal.decreases-write

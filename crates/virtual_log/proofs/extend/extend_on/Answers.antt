@@ -3,9 +3,10 @@ use Rattle.std.proofs.lemmas.Result.{err_from_is_err_and}
 use Rattle.delos_types.specs.declared.chain.Segment.{Segment}
 use Rattle.chain_map.specs.Chain.{last_segment}
 use Rattle.virtual_log.specs.Causes.{HasCause}
-use Rattle.virtual_log.specs.Extending.{IsClosed}
+use Rattle.virtual_log.specs.Extending.{Closes}
 use Rattle.virtual_log.proofs.OneTurn.{nil, later_trans, cause_since}
 use Rattle.virtual_log.proofs.Going.{last_there, goes_later, goes_now, last_within}
+use Rattle.virtual_log.proofs.Writing.{wrote_trans, wrote_by}
 use Rattle.virtual_log.proofs.Closing.{closed_since, follows_closed}
 use Rattle.virtual_log.proofs.extend.extend_on.Goals as goal
 
@@ -142,6 +143,22 @@ returns-in_err-length-clause-goes_by g c =
     let d = t.seen c.find_tail.new.turns in
     goes_later p.may p.floor p.shelf b d v k.tail chain c.in_err-length.ensures.later goes_b
 
+pub returns-in_err-length-clause-err : goal.returns-in_err-length-clause-err
+returns-in_err-length-clause-err g c =
+    let p = g.T.Law.Rules in
+    let t = g.T.Turns in
+    let who = t.who c.args.turns.now in
+    let old = t.seen c.args.turns.now in
+    let a = t.seen c.look.new.turns in
+    let first = c.in_ok-version.ensures in
+    let b = t.seen c.seal.new.turns in
+    let second = c.in_ok-seal.ensures in
+    let d = t.seen c.find_tail.new.turns in
+    let r = err_from_is_err_and c.from_residual-in_err-length.result c.from_residual-in_err-length.ensures.1 in
+    let f = c.in_err-length.field-0.0 in
+    let before = later_trans p.may p.floor p.shelf old a b first.later second.later in
+    rw (r.1, r.2) (cause_since who f old b d before.more before.seen (subst (λ w. HasCause w b f d) (second.who ∙ first.who) c.in_err-length.ensures.err))
+
 pub close_at-requires-clause-goes_by : goal.close_at-requires-clause-goes_by
 close_at-requires-clause-goes_by g c =
     let p = g.T.Law.Rules in
@@ -219,6 +236,7 @@ returns-clause-extension g c =
     let who_d = third.who ∙ (second.who ∙ first.who) in
     let fourth = c.in_ok-closed.ensures in
     let to_e = later_trans p.may p.floor p.shelf a d e to_d fourth.later in
+    let quiet = wrote_trans who a b d (wrote_by _ _ _ _ first.who second.quiet) (wrote_by _ _ _ _ (second.who ∙ first.who) third.quiet) in
     let spare : (last_segment chain).id + 1 < length p.shelf = omega (arith, few.0, c.if-last-shelf_len.false, c.requires.shelf, ap (λ (s : Segment). s.id) c.last_of-last.ensures) in
     record {
       others = first.ok.others;
@@ -230,7 +248,8 @@ returns-clause-extension g c =
       rest = to_e.more;
       seen = to_e.seen;
       follows = follows_closed (length p.shelf) who a (last_segment chain) k.tail c.close_at.new.known.tail c.close_at.new.known.version to_e.more e c.in_ok-closed.closed spare
-          (closed_since who a d (last_segment chain) k.tail c.close_at.new.known.tail c.close_at.new.known.version e to_d.more to_d.seen c.in_ok-closed.closed (subst (λ w. IsClosed w d (last_segment chain) k.tail c.close_at.new.known.tail c.close_at.new.known.version e c.in_ok-closed.closed) who_d fourth.closed));
+          (closed_since p.may p.floor p.shelf who v chain old first.ok.others a d e to_d.more fourth.later.legal first.ok.seen to_d.seen quiet k.tail c.close_at.new.known.tail c.close_at.new.known.version c.in_ok-closed.closed
+          (subst (λ w. Closes w d (last_segment chain) k.tail c.close_at.new.known.tail c.close_at.new.known.version e c.in_ok-closed.closed) who_d fourth.closed));
     }
 
 pub returns-then-last-shelf_len-clause-extension : goal.returns-then-last-shelf_len-clause-extension

@@ -7,6 +7,7 @@ use Rattle.virtual_log.specs.Turning.{Answered}
 use Rattle.virtual_log.specs.declared.fault.Fault.TheVariants as fault
 use Rattle.virtual_log.proofs.OneTurn.{own_by, lack_cause, cause_since, first_later}
 use Rattle.virtual_log.proofs.Appending.{may_tail, started_within, tail_ok, end_ok, shut_ok, never_open}
+use Rattle.virtual_log.proofs.Writing.{wrote_trans, wrote_by}
 use Rattle.virtual_log.proofs.operation.find_tail.Goals as goal
 
 pub begin-requires : goal.begin-requires
@@ -47,7 +48,7 @@ returns-in-OpenTail-clause-found g c =
     (subst (λ k. Answered k mid c.args.segment.id c.in_ok-ticket.ticket r c.in_ok-length.field-0 new) c.in_ok-ticket.ensures.who (c.in_ok-length.ensures.ok r (own_by _ _ _ _ _ c.in_ok-ticket.ensures.who o.own))) in
     let k = tail_ok p.may p.floor p.shelf who (t.seen c.args.turns.now) mid new c.args.segment.id c.args.segment.start c.in_ok-ticket.ticket c.in-OpenTail.length
     c.requires.legal c.requires.started c.in_ok-ticket.ensures.later c.in_ok-length.ensures.later o x in
-    (k.within, k.above, k.reached)
+    (k.within, k.above, k.reached, k.exact)
 
 pub returns-in-OpenTail-clause-shut : goal.returns-in-OpenTail-clause-shut
 returns-in-OpenTail-clause-shut g c = λ shut.
@@ -88,3 +89,15 @@ returns-in-NoQuorum-clause-err g c =
     (subst (λ k. Answered k mid c.args.segment.id c.in_ok-ticket.ticket r c.in_ok-length.field-0 new) c.in_ok-ticket.ensures.who (c.in_ok-length.ensures.ok r (own_by _ _ _ _ _ c.in_ok-ticket.ensures.who o.own))) in
     cause_since who (fault.NoQuorum c.args.segment.id c.in-NoQuorum.unreached) (t.seen c.args.turns.now) mid new c.in_ok-ticket.ensures.later.more c.in_ok-ticket.ensures.later.seen
     (lack_cause who c.args.segment.id c.in_ok-ticket.ticket c.in-NoQuorum.unreached mid new x.event)
+
+pub returns-in-OpenTail-clause-quiet : goal.returns-in-OpenTail-clause-quiet
+returns-in-OpenTail-clause-quiet g c =
+    let t = g.T.Turns in
+    wrote_trans (t.who c.args.turns.now) (t.seen c.args.turns.now) (t.seen c.begin.new.turns) (t.seen c.carry_on.new.turns) c.in_ok-ticket.ensures.quiet
+    (wrote_by _ _ _ _ c.in_ok-ticket.ensures.who c.in_ok-length.ensures.quiet)
+
+pub returns-in-SealedTail-clause-quiet : goal.returns-in-SealedTail-clause-quiet
+returns-in-SealedTail-clause-quiet g c =
+    let t = g.T.Turns in
+    wrote_trans (t.who c.args.turns.now) (t.seen c.args.turns.now) (t.seen c.begin.new.turns) (t.seen c.carry_on.new.turns) c.in_ok-ticket.ensures.quiet
+    (wrote_by _ _ _ _ c.in_ok-ticket.ensures.who c.in_ok-length.ensures.quiet)

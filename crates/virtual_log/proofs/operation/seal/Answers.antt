@@ -7,6 +7,7 @@ use Rattle.virtual_log.specs.Turning.{Answered}
 use Rattle.virtual_log.specs.declared.fault.Fault.TheVariants as fault
 use Rattle.virtual_log.proofs.OneTurn.{own_by, lack_cause, cause_since}
 use Rattle.virtual_log.proofs.Appending.{sealing_ok}
+use Rattle.virtual_log.proofs.Writing.{wrote_trans, wrote_by}
 use Rattle.virtual_log.proofs.operation.seal.Goals as goal
 
 pub returns-in-SealDone-clause-sealed : goal.returns-in-SealDone-clause-sealed
@@ -35,3 +36,9 @@ returns-in-NoQuorum-clause-err g c =
     (subst (λ k. Answered k mid c.args.id c.in_ok-ticket.ticket r c.in_ok-carry_on.field-0 new) c.in_ok-ticket.ensures.who (c.in_ok-carry_on.ensures.ok r (own_by _ _ _ _ _ c.in_ok-ticket.ensures.who o.own))) in
     cause_since who (fault.NoQuorum c.args.id c.in-NoQuorum.unreached) (t.seen c.args.turns.now) mid new c.in_ok-ticket.ensures.later.more c.in_ok-ticket.ensures.later.seen
     (lack_cause who c.args.id c.in_ok-ticket.ticket c.in-NoQuorum.unreached mid new x.event)
+
+pub returns-in-SealDone-clause-quiet : goal.returns-in-SealDone-clause-quiet
+returns-in-SealDone-clause-quiet g c =
+    let t = g.T.Turns in
+    wrote_trans (t.who c.args.turns.now) (t.seen c.args.turns.now) (t.seen c.begin.new.turns) (t.seen c.carry_on.new.turns) c.in_ok-ticket.ensures.quiet
+    (wrote_by _ _ _ _ c.in_ok-ticket.ensures.who c.in_ok-carry_on.ensures.quiet)
