@@ -23,7 +23,7 @@ use Rattle.fitting_run.specs.Yard.{Shown}
 use Rattle.fitting_run.specs.Tests.{some_is}
 use Rattle.fitting_run.specs.Faults.{is_full, lacks_of, faults_of, disk_faults, stands, lacks_quorum, finds_full, lacks_register, lacks_store}
 use Rattle.node_lines.specs.declared.lines.Looked.{Looked}
-use Rattle.run_laws.specs.Ended.{Played, Fault, FaultsCame, PaidStands, counted, most_faults, paid_by, pays, session_in}
+use Rattle.run_laws.specs.Ended.{Played, Fault, FaultsCame, PaidStands, counted, most_faults, paid_by, pays}
 use Rattle.run_laws.proofs.Members.{Among, all-at, all-of, contains-among}
 use Rattle.run_course.specs.Script.{failed_looks, failure_of_look}
 use Rattle.run_course.proofs.Lines.{count-cons}
@@ -256,7 +256,7 @@ module _ (may : ℕ → Entry → Type 0) (floor : List Entry → ℕ) (shelf : 
       -- nothing comes of a node that isn't there
       nowhere : (1 ≤ n → n ≤ length workers → ⊥) → min (came_by (lacks_store n)) most_faults ≤ disk_faults yard.disks n
       nowhere out =
-          let looked = failed_none (lacks_store n) lines looks (all-imply (λ (l : NamedLine). l.node ≡ h.home (session_in l.asks)) (λ (l : NamedLine). (k : Cause) → lacks_store n l.node k ≡ false) lines not_looked h.lines_are.at_home) in
+          let looked = failed_none (lacks_store n) lines looks (all-imply (λ (l : NamedLine). (1 ≤ l.node) × (l.node ≤ length workers)) (λ (l : NamedLine). (k : Cause) → lacks_store n l.node k ≡ false) lines not_looked h.lines_are.nodes_are) in
           elim (zero_or (count_by (λ f. lacks_store n f.node f.cause) faults)) [
             | inl none ↦ omega (arith, looked, none)
             | inr some ↦ absurd (let one = counted_among (λ (f : Fault). lacks_store n f.node f.cause) faults some in
@@ -267,12 +267,12 @@ module _ (may : ℕ → Entry → Type 0) (floor : List Entry → ℕ) (shelf : 
                 out (omega (arith, low, is)) (omega (arith, high, is)))
           ]
         where
-          not_looked : (l : NamedLine) → l.node ≡ h.home (session_in l.asks) → (k : Cause) → lacks_store n l.node k ≡ false
-          not_looked l here k = false_from_ne_true (lacks_store n l.node k) (λ e.
+          not_looked : (l : NamedLine) → (1 ≤ l.node) × (l.node ≤ length workers) → (k : Cause) → lacks_store n l.node k ≡ false
+          not_looked l there k = false_from_ne_true (lacks_store n l.node k) (λ e.
               let is = store_at n l.node k e in
-              let low = h.lines_are.there (session_in l.asks) in
-              let high = h.lines_are.within (session_in l.asks) in
-              out (omega (arith, low, is, here)) (omega (arith, high, is, here)))
+              let low = there.0 in
+              let high = there.1 in
+              out (omega (arith, low, is)) (omega (arith, high, is)))
 
   -- Each stands
 

@@ -10,6 +10,7 @@ use Rattle.engine_api.specs.Acted.{Asked, asked_in}
 use Rattle.engine_api.specs.Order.{is_clean}
 use Rattle.replica_api.specs.Replica.{Saved}
 use Rattle.script_text.specs.declared.asks.NamedLine.{NamedLine}
+use Rattle.fabric_core.specs.Fabric.{IsRegisterAsTold}
 use Rattle.fitting_run.specs.declared.told.Told.{Told}
 use Rattle.fitting_run.specs.Fits.{ChainIsRegistered}
 use Rattle.fitting_run.specs.Lines.{are_in_phase, are_ranked}
@@ -20,11 +21,13 @@ use Rattle.node_workers.specs.Workers.{MayRun}
 use Rattle.worker_laws.proofs.Bounding.{front_below}
 use Rattle.line_rules.specs.Rules.{AreOfLines, may_of}
 use Rattle.line_rules.proofs.Rules.{asked_by}
-use Rattle.run_laws.specs.Ended.{AllAfter, FaultsCame, IsOfLine, LineEnded, LogStands, LogsThis, Played, RunEnded, SessionEnded, session_in}
+use Rattle.run_laws.specs.Ended.{AllAfter, FaultsCame, IsAtHome, IsOfLine, LineEnded, LogStands, LogsThis, Played, Replacements, RunEnded, SessionEnded}
+use Rattle.run_course.specs.Replacing.{Replaced}
 use Rattle.course_ends.specs.Closing.{HasClosed, IsGivenBack, WorkerEnd}
 use Rattle.course_ends.specs.Ends.{end_of}
 use Rattle.course_ends.specs.Rows.{AreRows, played_of}
 use Rattle.course_ends.proofs.Turns.{all_lines, lines_are, rows_are, turn_of}
+use Rattle.course_ends.proofs.Replacements.{replacements}
 
 -- what holds of the element at each place holds of each
 each_there : {A : Type 0} (P : A → Type 0) (xs : List A) → ((i : ℕ) (x : A) → slice_get xs i ≡ Some x → P x) → AllByRecursion P xs
@@ -35,7 +38,7 @@ none_clean : (log : List Entry) → is_clean (λ s. 1) (asked_in 0 (take 0 log))
 none_clean [] = refl
 none_clean (e ∷ es) = refl
 
-module _ (may : ℕ → Entry → Type 0) (floor : List Entry → ℕ) (shelf : List ℕ) (state : List Entry → SpaceMap → Type 0) (spells : List ℕ → Saved → Type 0) (run : MayRun may floor shelf) (lines : List NamedLine) (journal : List Event) (counts : List ℕ) (looks : List (Option Looked)) (log : List Entry) (workers : List WorkerEnd) (o : Told) (yard : Shown) (mine : (who : ℕ) (e : Entry) → may who e → may_of lines who e) (untrimmed : trim_of (state_of journal) ≡ 0) (h : HasClosed may floor shelf state spells lines journal counts looks log workers) (are : AreRows lines workers looks o.rows) (end_is : o.end ≡ length log) (back : IsGivenBack may floor shelf journal workers o.chain yard) (registered : ChainIsRegistered o yard.register) where
+module _ (may : ℕ → Entry → Type 0) (floor : List Entry → ℕ) (shelf : List ℕ) (state : List Entry → SpaceMap → Type 0) (spells : List ℕ → Saved → Type 0) (run : MayRun may floor shelf) (lines : List NamedLine) (journal : List Event) (counts : List ℕ) (looks : List (Option Looked)) (log : List Entry) (workers : List WorkerEnd) (o : Told) (yard : Shown) (mine : (who : ℕ) (e : Entry) → may who e → may_of lines who e) (untrimmed : trim_of (state_of journal) ≡ 0) (h : HasClosed may floor shelf state spells lines journal counts looks log workers) (are : AreRows lines workers looks o.rows) (end_is : o.end ≡ length log) (back : IsGivenBack may floor shelf journal workers o.chain yard) (told : IsRegisterAsTold (state_of journal).register yard.register) (registered : ChainIsRegistered o yard.register) where
   abbrev played : List Played
   played = played_of lines o.rows looks
 
@@ -55,6 +58,13 @@ module _ (may : ℕ → Entry → Type 0) (floor : List Entry → ℕ) (shelf : 
   below : length log ≤ tail_of (state_of journal)
   below = front_below may floor shelf run.low journal log back.legal h.front
 
+  -- what lines did to the chain, by the register at the end
+  replaced : Replacements played o.version o.chain (length yard.cells)
+  replaced =
+      replacements lines workers looks o.rows are (state_of journal).register o.version o.chain (length shelf) (length yard.cells) (sym told.given ∙ sym registered.version) (sym back.chain_is)
+      (sym (ap length back.shelf_is) ∙ length-map yard.cells (λ v. v.servers))
+      (subst (λ j. Replaced lines looks (state_of j).register (length shelf)) h.journal_is h.ok.replaced)
+
   module _ (stands : length log ≤ tail_of (state_of journal) → trim_of (state_of journal) ≤ length log → is_clean (λ s. 1) (asked_in 0 (take (trim_of (state_of journal)) log)) ≡ true → LogStands log (state_of journal).register.chain yard.cells) (lines_ended : AllAfter (LineEnded log h.course.tails h.course.faults (end_of lines workers h.home h.course.when)) [] played) (sessions_ended : (s : ℕ) → SessionEnded played h.course.faults h.home s (end_of lines workers h.home h.course.when s)) (came : FaultsCame played h.course.faults yard) where
     pub run_ended : RunEnded played o yard
     run_ended = record {
@@ -68,13 +78,14 @@ module _ (may : ℕ → Entry → Type 0) (floor : List Entry → ℕ) (shelf : 
       end = end_is;
       ranked = ap (are_ranked []) played_lines ∙ h.lines_are.ranked;
       phases = ap (are_in_phase 0) played_lines ∙ h.lines_are.phases;
-      at_home = all_lines (λ l. l.node ≡ h.home (session_in l.asks)) played (subst (AllByRecursion (λ (l : NamedLine). l.node ≡ h.home (session_in l.asks))) (sym played_lines) h.lines_are.at_home);
+      at_home = all_lines (λ l. IsAtHome h.home l.node l.asks) played (subst (AllByRecursion (λ (l : NamedLine). IsAtHome h.home l.node l.asks)) (sym played_lines) h.lines_are.at_home);
       rise = h.ok.rise;
       stands = subst (λ k. LogStands log k yard.cells) (sym back.chain_is)
           (stands below (omega (arith, untrimmed)) (subst (λ n. is_clean (λ s. 1) (asked_in 0 (take n log)) ≡ true) (sym untrimmed) (none_clean log)));
       sent = sent;
       lines = lines_ended;
       sessions = sessions_ended;
+      replacements = replaced;
       came = came;
       registered = registered;
     }

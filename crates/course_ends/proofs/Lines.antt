@@ -24,13 +24,15 @@ use Rattle.engine_steps.specs.declared.layout.Kept.{Kept}
 use Rattle.engine_laws.specs.State.{acts_in}
 use Rattle.replica_api.specs.Replica.{Saved}
 use Rattle.base_engine.specs.Reading.{IsFront}
+use Rattle.script_text.specs.declared.line.Admin.{Admin}
+use Rattle.script_text.specs.declared.line.Admin.TheVariants.{Extend}
 use Rattle.script_text.specs.declared.asks.NamedLine.{NamedLine}
 use Rattle.script_text.specs.declared.asks.Asks.{Asks}
 use Rattle.script_text.specs.declared.asks.Asks.TheVariants as asks
 use Rattle.row_text.specs.declared.row.Row.{Row}
 use Rattle.row_text.specs.declared.row.Outcome.{Outcome}
 use Rattle.row_text.specs.declared.row.Outcome.TheVariants as out
-use Rattle.fitting_run.specs.Answered.{is_open}
+use Rattle.fitting_run.specs.Answered.{is_open, session_asking}
 use Rattle.fitting_run.specs.Lines.{is_of, logs_for}
 use Rattle.fitting_run.specs.Outcomes.{answers, is_row_of}
 use Rattle.one_thread.proofs.Widening.{legal_wider}
@@ -42,17 +44,17 @@ use Rattle.node_lines.specs.declared.lines.Looked.{Looked}
 use Rattle.node_lines.specs.declared.lines.Looked.TheVariants as looked
 use Rattle.node_workers.specs.Workers.{MayRun, Within, sent_of}
 use Rattle.worker_laws.proofs.Bounding.{tail_bounds}
-use Rattle.run_laws.specs.Ended.{AllAfter, CameOf, CameTo, HasLooked, IsLeft, IsPlaced, IsStoppedBy, IsUnread, LineEnded, Played, SessionEnd, act_of_rank, rank_in, session_in}
+use Rattle.run_laws.specs.Ended.{AllAfter, CameOf, CameTo, HasLooked, IsLeft, IsAtHome, IsPlaced, IsStoppedBy, IsUnread, LineEnded, Played, SessionEnd, act_of_rank, rank_in, session_in}
 use Rattle.run_laws.proofs.Fronts.{front-acts}
 use Rattle.run_laws.proofs.Members.{all-at, found-among}
 use Rattle.run_laws.proofs.Placing.{is_rank}
 use Rattle.run_course.specs.Script.{asked_before, asked_by, failure_of_look, logs_at}
-use Rattle.run_course.specs.Desks.{HasActed, IsUpTo, LoggedSo, LogsBefore, LookedSo, PlayedSo, SawSo, WasStopped}
+use Rattle.run_course.specs.Desks.{HasActed, IsOfNode, IsUpTo, LoggedSo, LogsBefore, LookedSo, PlayedSo, SawSo, WasStopped}
 use Rattle.run_course.proofs.Lines.{asked_home, at_get, count-cons, phase_before}
 use Rattle.run_course.proofs.Ranks.{node_is_home, rank_counts, rank_low}
 use Rattle.course_ends.specs.Closing.{HasClosed, WorkerEnd}
-use Rattle.course_ends.specs.Rows.{AreRows, CanTell, CanTellLine, IsRowOf, Tells, TellsIt, TellsPlace, is_behind, played_of}
-use Rattle.course_ends.specs.Ends.{answered_of}
+use Rattle.course_ends.specs.Rows.{AreRows, CanTell, CanTellLine, IsOfTable, IsRowOf, Tells, TellsIt, TellsPlace, desk_for, is_behind, played_of}
+use Rattle.course_ends.specs.Ends.{answered_of, desk_in, desks_at}
 use Rattle.course_ends.proofs.Turns.{all_after, any_map, count_map, lines_are, map_take, some_at, turn_is}
 use Rattle.course_ends.proofs.Sessions.{AtHome, HasDesk, at_home, ends_so, has_desk, stopped_first, the_end}
 use Rattle.course_ends.proofs.Placing.{acted_below, acted_on, acts_low, acts_not, appeared_by, fronts_agree}
@@ -95,11 +97,15 @@ module _ {A : Type 0} (p q : A → Bool) where
       omega (arith, a, b, one, rest)
 
 -- a row that tells what comes of such a line answers it
-answers_so : (d : Desk) (look : Option Looked) (a : Asks) (o : Outcome) → Tells d look a o → answers a o ≡ true
-answers_so d look (asks.Logged s r command) (out.Placed place reply late) t = refl
-answers_so d look (asks.Logged s r command) (out.Open cause) t = refl
-answers_so d look (asks.Look s query) (out.Read after found) t = refl
-answers_so d look (asks.Look s query) (out.Open cause) t = refl
+answers_so : (d : Option Desk) (look : Option Looked) (a : Asks) (o : Outcome) → Tells d look a o → answers a o ≡ true
+answers_so (Some d) look (asks.Logged s r command) (out.Placed place reply late) t = refl
+answers_so (Some d) look (asks.Logged s r command) (out.Open cause) t = refl
+answers_so (Some d) look (asks.Look s query) (out.Read after found) t = refl
+answers_so (Some d) look (asks.Look s query) (out.Open cause) t = refl
+answers_so None look (asks.Admin Extend) (out.Extended version start) t = refl
+answers_so None look (asks.Admin Extend) (out.Moved version) t = refl
+answers_so None look (asks.Admin Extend) out.NoSpare t = refl
+answers_so None look (asks.Admin Extend) (out.Open cause) t = refl
 answers_so d look a o t = absurd t
 
 same_some : {A : Type 0} (x y : A) → Some x ≡ Some y → x ≡ y
@@ -288,18 +294,29 @@ module _ (may : ℕ → Entry → Type 0) (floor : List Entry → ℕ) (shelf : 
                     (cases_lt l.phase (h.course.when s)),
               )
 
-  -- A line that was played, at its session's desk
+  -- A line that was played
+
+  -- what a node itself was asked came to
+  abbrev CameOfNode : ℕ → Type 0
+  CameOfNode i = (look : Looked) × (slice_get looks i ≡ Some (Some look)) × IsOfNode look
+
+  own_home : (node : ℕ) (a : Asks) → IsAtHome h.home node a → IsSome (session_asking a) → node ≡ h.home (session_in a)
+  own_home node (asks.Logged s r command) at some = at
+  own_home node (asks.Look s query) at some = at
+  own_home node (asks.Admin a) at some = absurd (cc)
+
+  of_table : (s : ℕ) (n : Home s) (d : Seat s n) (i phase : ℕ) (query : Query) (look : Looked) → LookedSo lines h.course n.worker.seat.node.replica.cursor (h.home s) d.was i phase s query look → IsOfTable look
+  of_table s n d i phase query (looked.Found after answer) so = tt
+  of_table s n d i phase query (looked.Kept cause) so = tt
+  of_table s n d i phase query (looked.Failed cause) so = tt
+  of_table s n d i phase query (looked.Extended x) so = so
 
   module _ (i : ℕ) (l : NamedLine) (line_at : slice_get lines i ≡ Some l) where
-    node_at : l.node ≡ h.home (session_in l.asks)
-    node_at = at_get (λ (m : NamedLine). m.node ≡ h.home (session_in m.asks)) lines i l h.lines_are.at_home line_at
+    -- at its session's desk, if it has one
 
     module _ (a : Asks) (is : l.asks ≡ a) where
       known : session_in a < 64
       known = let low = at_get (λ (m : NamedLine). session_in m.asks ≤ 63) lines i l h.lines_are.known line_at in let same = ap session_in is in omega (arith, low, same)
-
-      node_is : l.node ≡ h.home (session_in a)
-      node_is = node_at ∙ ap (λ x. h.home (session_in x)) is
 
       home_of : Home (session_in a)
       home_of = at_home may floor shelf state spells lines journal counts looks log workers h (session_in a)
@@ -307,44 +324,60 @@ module _ (may : ℕ → Entry → Type 0) (floor : List Entry → ℕ) (shelf : 
       seat_of : Seat (session_in a) home_of
       seat_of = has_desk may floor shelf state spells lines journal counts looks log workers h (session_in a) home_of known
 
-      -- its node, counted from 0
-      index_is : l.node ≡ h.home (session_in a) - 1 + 1
-      index_is = let there = h.lines_are.there (session_in a) in let e : h.home (session_in a) ≡ h.home (session_in a) - 1 + 1 = omega (arith, there) in node_is ∙ e
+      module _ (some : IsSome (session_asking a)) where
+        node_is : l.node ≡ h.home (session_in a)
+        node_is = own_home l.node a (subst (IsAtHome h.home l.node) is (at_get (λ (m : NamedLine). IsAtHome h.home m.node m.asks) lines i l h.lines_are.at_home line_at)) some
 
-      desk_at : slice_get home_of.worker.desks (session_in l.asks) ≡ Some seat_of.now
-      desk_at = ap (λ x. slice_get home_of.worker.desks (session_in x)) is ∙ seat_of.now_there
+        desk_there : desk_in (desks_at workers l.node) (session_in a) ≡ Some seat_of.now
+        desk_there = ap (λ n. desk_in (desks_at workers n) (session_in a)) node_is ∙ ap (λ w. desk_in w (session_in a)) home_of.at ∙ seat_of.now_there
 
-      played_so : PlayedSo lines h.course h.course.phase home_of.worker.seat.node.replica.cursor (h.home (session_in a)) home_of.closed.was looks i l.phase a
-      played_so =
-          subst (PlayedSo lines h.course h.course.phase home_of.worker.seat.node.replica.cursor (h.home (session_in a)) home_of.closed.was looks i l.phase) is
-          (home_of.closed.rests.worker.played i l (slice_get_within lines i l line_at) line_at node_is)
+        played_so : PlayedSo lines h.course h.course.phase home_of.worker.seat.node.replica.cursor (h.home (session_in a)) home_of.closed.was looks i l.phase a
+        played_so =
+            subst (PlayedSo lines h.course h.course.phase home_of.worker.seat.node.replica.cursor (h.home (session_in a)) home_of.closed.was looks i l.phase) is
+            (home_of.closed.rests.worker.played i l (slice_get_within lines i l line_at) line_at node_is)
 
-    tells_it : (a : Asks) (is : l.asks ≡ a) (look : Option Looked) → slice_get looks i ≡ Some look → PlayedSo lines h.course h.course.phase (home_of a is).worker.seat.node.replica.cursor (h.home (session_in a)) (home_of a is).closed.was looks i l.phase a
-        → TellsIt (seat_of a is).now look a
-    tells_it (asks.Logged s r command) is look look_at so =
-        let x = seat_of (asks.Logged s r command) is in
-        let logs = ap (is_of s.id) is ∙ eq-eqb s.id s.id refl in (
-          least i l s.id r (home_of (asks.Logged s r command) is) x line_at logs (ap rank_in is),
-          has_outcome i l s.id r (home_of (asks.Logged s r command) is) x line_at logs (ap rank_in is) (so x.was x.was_there),
-        )
-    tells_it (asks.Look s query) is look look_at so = subst IsSome (same_some (Some so.0) look (sym so.1 ∙ look_at)) refl
+    desk_is : (a : Asks) (is : l.asks ≡ a) → IsSome (session_asking a) → desk_for workers l.node a ≡ Some (seat_of a is).now
+    desk_is (asks.Logged s r command) is some = desk_there (asks.Logged s r command) is some
+    desk_is (asks.Look s query) is some = desk_there (asks.Look s query) is some
+    desk_is (asks.Admin a) is some = absurd (cc)
+
+    -- at its node
+    node_played : (a : Admin) → l.asks ≡ asks.Admin a → CameOfNode i
+    node_played a is =
+        let there = at_get (λ (m : NamedLine). (1 ≤ m.node) × (m.node ≤ length workers)) lines i l h.lines_are.nodes_are line_at in
+        let low = there.0 in
+        let high = there.1 in
+        let w = some_at workers (l.node - 1) (omega (arith, low, high)) in
+        let same : l.node ≡ l.node - 1 + 1 = omega (arith, low) in
+        let k = h.each (l.node - 1) w.0 w.1 in
+        subst (PlayedSo lines h.course h.course.phase w.0.seat.node.replica.cursor (l.node - 1 + 1) k.was looks i l.phase) is
+        (k.rests.worker.played i l (slice_get_within lines i l line_at) line_at same)
+
+    can_tell_so : (a : Asks) (is : l.asks ≡ a) (look : Option Looked) → slice_get looks i ≡ Some look → TellsIt (desk_for workers l.node a) look a
+    can_tell_so (asks.Logged s r command) is look look_at =
+        let asked = asks.Logged s r command in
+        let n = home_of asked is in
+        let x = seat_of asked is in
+        let so = played_so asked is refl in
+        let logs = ap (is_of s.id) is ∙ eq-eqb s.id s.id refl in
+        subst (λ d. TellsIt d look asked) (sym (desk_is asked is refl))
+        (least i l s.id r n x line_at logs (ap rank_in is), has_outcome i l s.id r n x line_at logs (ap rank_in is) (so x.was x.was_there))
+    can_tell_so (asks.Look s query) is look look_at =
+        let asked = asks.Look s query in
+        let x = seat_of asked is in
+        let so = played_so asked is refl in
+        subst (λ d. TellsIt d look asked) (sym (desk_is asked is refl))
+        (subst (λ o. TellsIt (Some x.now) o asked) (same_some (Some so.0) look (sym so.1 ∙ look_at)) (of_table s.id (home_of asked is) x i l.phase query so.0 (so.2 x.was x.was_there)))
+    can_tell_so (asks.Admin a) is look look_at =
+        let so = node_played a is in
+        subst (λ o. TellsIt None o (asks.Admin a)) (same_some (Some so.0) look (sym so.1 ∙ look_at)) so.2
 
     can_tell_line : CanTellLine workers looks i l
     can_tell_line =
         let size = h.ok.size in
         let within = slice_get_within lines i l line_at in
         let look = some_at looks i (omega (arith, size, within)) in
-        record {
-          index = h.home (session_in l.asks) - 1;
-          node = index_is l.asks refl;
-          worker = (home_of l.asks refl).worker;
-          worker_at = (home_of l.asks refl).at;
-          desk = (seat_of l.asks refl).now;
-          desk_at = desk_at l.asks refl;
-          look = look.0;
-          look_at = look.1;
-          tells = tells_it l.asks refl look.0 look.1 (played_so l.asks refl);
-        }
+        record { look = look.0; look_at = look.1; tells = can_tell_so l.asks refl look.0 look.1 }
 
   pub can_tell : CanTell lines workers looks
   can_tell = record { size = h.ok.size; each = can_tell_line }
@@ -400,19 +433,20 @@ module _ (may : ℕ → Entry → Type 0) (floor : List Entry → ℕ) (shelf : 
       abbrev d : (a : Asks) (is : l.asks ≡ a) → Seat (session_in a) (n a is)
       d a is = seat_of i l line_at a is
 
-      module _ (a : Asks) (is : l.asks ≡ a) where
-        row_so : IsRowOf l (d a is).now look row
-        row_so = are.each i (h.home (session_in a) - 1) l (n a is).worker (d a is).now look row line_at (index_is i l line_at a is) (n a is).at (desk_at i l line_at a is) look_at row_at
+      row_so : IsRowOf l (desk_for workers l.node l.asks) look row
+      row_so = are.each i l look row line_at look_at row_at
 
-        tells : Tells (d a is).now look a row.outcome
-        tells = subst (λ x. Tells (d a is).now look x row.outcome) is row_so.tells
+      tells : (a : Asks) (is : l.asks ≡ a) → IsSome (session_asking a) → Tells (Some (d a is).now) look a row.outcome
+      tells a is some =
+          subst (λ o. Tells o look a row.outcome) (desk_is i l line_at a is some)
+          (subst (λ x. Tells (desk_for workers l.node x) look x row.outcome) is row_so.tells)
 
-        row_is : is_row_of (record { line = l; row = row }) ≡ true
-        row_is = and_from _ _ (and_from _ _ (eq-eqb row.number l.number row_so.number) row_so.who) (answers_so (d a is).now look l.asks row.outcome row_so.tells)
+      row_is : is_row_of (record { line = l; row = row }) ≡ true
+      row_is = and_from _ _ (and_from _ _ (eq-eqb row.number l.number row_so.number) row_so.who) (answers_so (desk_for workers l.node l.asks) look l.asks row.outcome row_so.tells)
 
       -- of each kind of line
 
-      came : (a : Asks) (is : l.asks ≡ a) (o : Outcome) → PlayedSo lines h.course h.course.phase (n a is).worker.seat.node.replica.cursor (h.home (session_in a)) (n a is).closed.was looks i l.phase a → Tells (d a is).now look a o
+      came : (a : Asks) (is : l.asks ≡ a) (o : Outcome) → PlayedSo lines h.course h.course.phase (n a is).worker.seat.node.replica.cursor (h.home (session_in a)) (n a is).closed.was looks i l.phase a → Tells (Some (d a is).now) look a o
           → CameOf log h.course.tails h.course.faults ends (take i played) turn a o
       came (asks.Logged s r command) is (out.Placed place reply late) so t =
           let x = d (asks.Logged s r command) is in
@@ -432,7 +466,7 @@ module _ (may : ℕ → Entry → Type 0) (floor : List Entry → ℕ) (shelf : 
           let same : so.0 ≡ looked.Kept cause = same_some so.0 (looked.Kept cause) (same_some (Some so.0) (Some (looked.Kept cause)) (sym so.1 ∙ look_at ∙ ap Some t)) in
           subst (λ e. IsUnread h.course.faults e (take i played) turn s.id cause) (sym x.ends)
           (kept i l s.id query (n (asks.Look s query) is) x row look cause
-          (subst (LookedSo lines h.course (n (asks.Look s query) is).worker.seat.node.replica.cursor (h.home s.id) x.was i l.phase s.id query) same (so.2 x.was x.was_there)) (node_is i l line_at (asks.Look s query) is))
+          (subst (LookedSo lines h.course (n (asks.Look s query) is).worker.seat.node.replica.cursor (h.home s.id) x.was i l.phase s.id query) same (so.2 x.was x.was_there)) (node_is i l line_at (asks.Look s query) is refl))
       came (asks.Look s query) is (out.Open cause) so (inr t) = inl (ap failure_of_look t)
       came a is o so t = absurd t
 
@@ -442,12 +476,13 @@ module _ (may : ℕ → Entry → Type 0) (floor : List Entry → ℕ) (shelf : 
           subst (λ e. IsStoppedBy e l.phase (asks.Logged s r command)) (sym x.ends)
           (missed i l s.id r (n (asks.Logged s r command) is) x line_at (ap (is_of s.id) is ∙ eq-eqb s.id s.id refl) (ap rank_in is) (so x.was x.was_there))
       missed_so (asks.Look s query) is so = tt
+      missed_so (asks.Admin a) is so = tt
 
       some_cause : (o : Option Cause) → IsSome o → (k : Cause) × (o ≡ Some k)
       some_cause None some = absurd (cc)
       some_cause (Some k) some = (k, refl)
 
-      stopped_so : (a : Asks) (is : l.asks ≡ a) (o : Outcome) → PlayedSo lines h.course h.course.phase (n a is).worker.seat.node.replica.cursor (h.home (session_in a)) (n a is).closed.was looks i l.phase a → Tells (d a is).now look a o
+      stopped_so : (a : Asks) (is : l.asks ≡ a) (o : Outcome) → PlayedSo lines h.course h.course.phase (n a is).worker.seat.node.replica.cursor (h.home (session_in a)) (n a is).closed.was looks i l.phase a → Tells (Some (d a is).now) look a o
           → IsSome (d a is).was.stopped → h.course.when (session_in a) < l.phase → is_open o ≡ true
       stopped_so (asks.Logged s r command) is (out.Placed place reply late) so t some earlier =
           let x = d (asks.Logged s r command) is in
@@ -466,14 +501,46 @@ module _ (may : ℕ → Entry → Type 0) (floor : List Entry → ℕ) (shelf : 
       stopped_so (asks.Look s query) is (out.Open cause) so t some earlier = refl
       stopped_so a is o so t some earlier = absurd t
 
+      -- a line of a session
+      ended_there : IsSome (session_asking l.asks) → LineEnded log h.course.tails h.course.faults ends (take i played) turn
+      ended_there some =
+          let so = played_so i l line_at l.asks refl some in
+          let told = tells l.asks refl some in
+          record {
+            row = row_is;
+            came = came l.asks refl row.outcome so told;
+            missed = missed_so l.asks refl so;
+            stopped = λ own. subst (λ e. IsSome e.stopped → e.when < l.phase → is_open row.outcome ≡ true) (sym (d l.asks refl).ends) (stopped_so l.asks refl row.outcome so told);
+          }
+
+      -- a line that asks its node itself
+      module _ (admin : Admin) (is : l.asks ≡ asks.Admin admin) where
+        node_came : (a : Admin) (o : Outcome) → Tells None look (asks.Admin a) o → CameOf log h.course.tails h.course.faults ends (take i played) turn (asks.Admin a) o
+        node_came Extend (out.Extended version start) t = tt
+        node_came Extend (out.Moved version) t = tt
+        node_came Extend out.NoSpare t = tt
+        node_came Extend (out.Open cause) t = ap failure_of_look t
+        node_came Extend o t = absurd t
+
+        ended_at_node : LineEnded log h.course.tails h.course.faults ends (take i played) turn
+        ended_at_node = record {
+          row = row_is;
+          came = subst (λ a. CameOf log h.course.tails h.course.faults ends (take i played) turn a row.outcome) (sym is)
+              (node_came admin row.outcome (subst (λ a. Tells (desk_for workers l.node a) look a row.outcome) is row_so.tells));
+          missed = subst (λ a. IsStoppedBy (ends (session_in a)) l.phase a) (sym is) tt;
+          stopped = λ some. absurd (no_session (subst (λ a. IsSome (session_asking a)) is some));
+        }
+          where
+            no_session : IsSome (session_asking (asks.Admin admin)) → ⊥
+            no_session some = cc
+
       ended : LineEnded log h.course.tails h.course.faults ends (take i played) turn
-      ended = record {
-        row = row_is l.asks refl;
-        came = came l.asks refl row.outcome (played_so i l line_at l.asks refl) (tells l.asks refl);
-        missed = missed_so l.asks refl (played_so i l line_at l.asks refl);
-        stopped = subst (λ e. IsSome e.stopped → e.when < l.phase → is_open row.outcome ≡ true) (sym (d l.asks refl).ends)
-            (stopped_so l.asks refl row.outcome (played_so i l line_at l.asks refl) (tells l.asks refl));
-      }
+      ended = by l.asks refl
+        where
+          by : (a : Asks) → l.asks ≡ a → LineEnded log h.course.tails h.course.faults ends (take i played) turn
+          by (asks.Logged s r command) is = ended_there (subst (λ a. IsSome (session_asking a)) (sym is) refl)
+          by (asks.Look s query) is = ended_there (subst (λ a. IsSome (session_asking a)) (sym is) refl)
+          by (asks.Admin a) is = ended_at_node a is
 
     pub lines_ended : AllAfter (LineEnded log h.course.tails h.course.faults ends) [] played
     lines_ended = all_after (LineEnded log h.course.tails h.course.faults ends) [] played each

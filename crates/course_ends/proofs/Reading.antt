@@ -1,12 +1,10 @@
 -- A run whose nodes have closed stays closed as its chain is read.
-use Rattle.std.proofs.Common.{◌≡◌, refl, sym, ap, ◌∙◌, subst, ◌⊎◌, inl, inr, ⊎_elim, ℕ, zero, suc, ◌+◌, ◌<◌, ◌≤◌, Bool, true, false, List, [], ◌∷◌, ◌++◌, Option, Some, None, length, arith, append_assoc}
-use Rattle.std.specs.Prelude.{◌==◌, slice_get, count_by}
-use Rattle.std.specs.List.{AllByRecursion}
+use Rattle.std.proofs.Common.{◌≡◌, refl, sym, ap, subst, ◌⊎◌, inl, inr, ℕ, ◌+◌, ◌≤◌, Bool, true, false, List, [], ◌∷◌, ◌++◌, Option, length, arith}
+use Rattle.std.specs.Prelude.{◌==◌}
 use Rattle.std.proofs.lemmas.Bool.Decides.{nat_tests}
 use Rattle.std.proofs.lemmas.Option.{slice_get_within}
 use Rattle.delos_types.specs.Spaces.{SpaceMap}
 use Rattle.delos_types.specs.declared.entry.Entry.{Entry}
-use Rattle.delos_types.specs.declared.cause.Cause.{Cause}
 use Rattle.legal_journal.specs.declared.events.Event.{Event}
 use Rattle.legal_journal.specs.declared.events.FabricCall.{FabricCall}
 use Rattle.legal_journal.specs.declared.events.FabricCall.TheVariants.{ReadChain, MendMeta}
@@ -15,20 +13,18 @@ use Rattle.legal_journal.specs.declared.events.FabricAnswer.TheVariants.{At, Dow
 use Rattle.legal_journal.specs.Moves.{move, move_of}
 use Rattle.legal_journal.specs.Journal.{State, start, state_of, after, IsAllowed, IsLegalFrom, IsLegal}
 use Rattle.legal_journal.proofs.Legal.{IsLegalFrom-split, IsLegalFrom-join}
-use Rattle.virtual_log.specs.Holding.{Holds}
 use Rattle.base_engine.specs.Holding.{held_stays}
 use Rattle.replica_api.specs.Replica.{Saved}
-use Rattle.base_engine.specs.Reading.{IsFront}
 use Rattle.script_text.specs.declared.asks.NamedLine.{NamedLine}
-use Rattle.one_thread.specs.Alone.{Since, AreOwn}
+use Rattle.one_thread.specs.Alone.{AreOwn}
 use Rattle.node_lines.specs.declared.lines.Looked.{Looked}
-use Rattle.node_workers.specs.Workers.{Within, sent_of}
-use Rattle.run_course.specs.Script.{BeginsAt, failed_looks}
+use Rattle.node_workers.specs.Workers.{Within}
+use Rattle.run_course.specs.Script.{BeginsAt}
 use Rattle.run_course.specs.Course.{Course, CourseOk, TurnOf}
-use Rattle.run_course.proofs.Advance.{advanced, advance, turned}
+use Rattle.run_course.proofs.Advance.{advanced, advance_still, turned}
 use Rattle.run_course.proofs.Waiting.{rests_on}
-use Rattle.course_ends.specs.Closing.{WorkerEnd, WorkerClosed, HasClosed}
-use Rattle.course_ends.specs.Reads.{IsRead, AreReads}
+use Rattle.course_ends.specs.Closing.{WorkerEnd, HasClosed}
+use Rattle.course_ends.specs.Reads.{AreReads}
 
 -- whatever b allows of a read, a does: it is the register's
 module _ (a b : ℕ → Entry → Type 0) (floor : List Entry → ℕ) (shelf : List ℕ) (w : State) (cells who : ℕ) where
@@ -51,14 +47,14 @@ reads_from a b floor shelf w (e ∷ es) r h =
     (record { there = h.0.there; allowed = read_allowed a b floor shelf w (length shelf) e.who e.call e.answer r.0 h.0.allowed }, reads_from a b floor shelf (after w e.who (move e)) es r.1 h.1)
 
 -- A journal that was legal by rules that allow less stays so where what came since are reads.
-reads_legal : (a b : ℕ → Entry → Type 0) (floor : List Entry → ℕ) (shelf : List ℕ) (early more : List Event) → AreReads more → IsLegal a floor shelf early → IsLegal b floor shelf (early ++ more) → IsLegal a floor shelf (early ++ more)
+pub reads_legal : (a b : ℕ → Entry → Type 0) (floor : List Entry → ℕ) (shelf : List ℕ) (early more : List Event) → AreReads more → IsLegal a floor shelf early → IsLegal b floor shelf (early ++ more) → IsLegal a floor shelf (early ++ more)
 reads_legal a b floor shelf early more r h k = record {
   least = h.least;
   most = h.most;
   steps = IsLegalFrom-join a floor shelf start early more h.steps (reads_from a b floor shelf (state_of early) more r (IsLegalFrom-split b floor shelf start early more k.steps).1);
 }
 
-zero-apart : (j : ℕ) → (0 == j + 1) ≡ false
+pub zero-apart : (j : ℕ) → (0 == j + 1) ≡ false
 zero-apart j = by (0 == j + 1) refl
   where
     by : (b : Bool) → (0 == j + 1) ≡ b → (0 == j + 1) ≡ false
@@ -79,7 +75,7 @@ module _ (may : ℕ → Entry → Type 0) (floor : List Entry → ℕ) (shelf : 
   then' = advanced h.course 0 [] (journal ++ more) h.course.when
 
   ok : CourseOk may floor shelf lines (length workers) then' counts looks
-  ok = advance may floor shelf lines (length workers) h.course counts looks h.ok 1 [] (journal ++ more) more h.course.when counts looks seen within (omega arith) some refl (λ P store. omega arith)
+  ok = advance_still may floor shelf lines (length workers) h.course counts looks h.ok 1 [] (journal ++ more) more h.course.when counts seen within (omega arith) some (λ P store. omega arith)
 
   turn : TurnOf lines h.home 0 h.course then' counts counts looks looks
   turn = turned lines h.home 0 h.course [] (journal ++ more) h.course.when counts counts looks looks (record { more = more; seen = seen; own = own }) (λ s other. refl) (λ s other. refl) (λ s. omega arith) refl (λ i l at other. refl) (λ by none. refl)

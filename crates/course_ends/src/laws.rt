@@ -7,6 +7,7 @@ ghost use Rattle.legal_journal.specs.Journal.{IsLegal, state_of, trim_of};
 ghost use Rattle.one_thread.specs.Alone.{AreOwn};
 ghost use Rattle.row_text.specs.declared.row.Row.{Row};
 ghost use Rattle.script_text.specs.declared.asks.NamedLine.{NamedLine};
+ghost use Rattle.fabric_core.specs.Fabric.{IsRegisterAsTold};
 ghost use Rattle.fitting_run.specs.declared.told.Told.{Told};
 ghost use Rattle.fitting_run.specs.Yard.{Shown};
 ghost use Rattle.fitting_run.specs.Fits.{ChainIsRegistered};
@@ -71,7 +72,8 @@ pub fn what_closed_has_ended<P: Rules, S: Replica>()
     ensures { MayRun P.may P.floor P.shelf → (lines : List NamedLine) (journal : List Event) (counts : List ℕ) (looks : List (Option Looked)) (log : List Entry) (workers : List WorkerEnd) (o : Told) (yard : Shown)
         → ((who : ℕ) (e : Entry) → P.may who e → may_of lines who e) → trim_of (state_of journal) ≡ 0
         → HasClosed P.may P.floor P.shelf S.state S.spells lines journal counts looks log workers
-        → AreRows lines workers looks o.rows → o.end ≡ length log → IsGivenBack P.may P.floor P.shelf journal workers o.chain yard → ChainIsRegistered o yard.register
+        → AreRows lines workers looks o.rows → o.end ≡ length log → IsGivenBack P.may P.floor P.shelf journal workers o.chain yard
+        → IsRegisterAsTold (state_of journal).register yard.register → ChainIsRegistered o yard.register
         → (map (λ t. t.line) (played_of lines o.rows looks) ≡ lines) × RunEnded (played_of lines o.rows looks) o yard }
 {
     the_faults_were_counted::<P, S>();

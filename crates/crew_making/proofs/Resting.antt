@@ -28,6 +28,8 @@ use Rattle.run_course.specs.Script.{AreLines, asked_by, failure_of_look, failed_
 use Rattle.run_course.specs.Course.{Course, CourseOk}
 use Rattle.run_course.specs.Desks.{DeskAt}
 use Rattle.run_course.specs.Workers.{Rests}
+use Rattle.run_course.proofs.Lines.{at_get}
+use Rattle.run_course.proofs.Replacing.{replaced_none}
 use Rattle.node_crew.specs.Crews.{CrewRests, CrewStands}
 use Rattle.crew_making.specs.Fresh.{IsFreshDesk, IsNewWorker, AreNewWorkers}
 
@@ -114,6 +116,8 @@ module _ (may : ℕ → Entry → Type 0) (floor : List Entry → ℕ) (shelf : 
     size = size;
     events = λ P store. let calm = nothing_failed (λ n. P) lines looks none in omega (arith, calm);
     nodes_are = tt;
+    replaced = replaced_none lines looks (state_of []).register (length shelf) (λ i look at. at_get (λ look. look ≡ None) looks i look none at);
+    ahead = λ i l at late. none_there lines looks i l size none at;
   }
     where
       within : IsLegal (Within may counts) floor shelf []

@@ -1,18 +1,21 @@
-//! One row for each line of a script, by the desk of its session and by what its own look came to.
-ghost use Rattle.std.specs.Prelude.{◌≡◌, ◌≤◌, ◌⊎◌, IfOk, IsSome, Option, Some, length, map};
+//! One row for each line of a script, by the desk of its session, if it has one, and by what its own look came to.
+ghost use Rattle.std.specs.Prelude.{◌≡◌, ◌≤◌, ◌⊎◌, ℕ, IfOk, IsSome, None, Option, Some, true, length, map};
 ghost use Rattle.table_core.specs.declared.command.Command.{Command};
 ghost use Rattle.table_core.specs.declared.command.Query.{Query};
+ghost use Rattle.script_text.specs.declared.line.Admin.TheVariants.{Extend};
 ghost use Rattle.script_text.specs.declared.line.Session.{Session};
 ghost use Rattle.script_text.specs.declared.asks.Asks.TheVariants as asks;
 ghost use Rattle.fitting_run.specs.Answered.{session_asking};
+ghost use Rattle.fitting_run.specs.Outcomes.{names};
 ghost use Rattle.node_sessions.specs.declared.desk.Desk.{Desk};
 ghost use Rattle.node_lines.specs.declared.lines.Looked.{Looked};
-ghost use Rattle.run_laws.specs.Ended.{session_in};
+ghost use Rattle.node_lines.specs.declared.lines.Looked.TheVariants as looked;
+ghost use Rattle.run_course.specs.Desks.{IsOfNode};
 ghost use Rattle.course_ends.specs.Ends.{desk_in, desks_at};
-ghost use Rattle.course_ends.specs.Rows.{AreRows, CanTell, IsRowOf, Tells, TellsIt, is_behind};
+ghost use Rattle.course_ends.specs.Rows.{AreRows, CanTell, IsOfTable, IsRowOf, Tells, TellsIt, desk_for, is_behind};
 
 use crate::found::copy_of;
-use delos_types::numbers::Rank;
+use delos_types::numbers::{NodeId, Rank};
 use fate_words::chooser::Chooser;
 use kept_replies::reply::read_reply;
 use node_lines::lines::Looked;
@@ -21,12 +24,13 @@ use node_workers::worker::Worker;
 use replica_api::replica::Replica;
 use row_text::row::{Outcome, Row, Rows, Who};
 use script_text::asks::{Asks, NamedLine};
-use script_text::line::Session;
+use script_text::line::{Admin, Session};
 use std::alloc::{AllocError, Global};
+use virtual_log::extend::Extension;
 
 /// The rows of all lines, in their order. A command that its desk has an answer of is placed there, `late` where its rank is above
 /// those that were answered as its session was stopped; any other is open, by the cause of that. A read tells what it looked
-/// at, or why it didn't.
+/// at, or why it didn't. What a node itself was asked tells what became of the last loglet, or why the log failed.
 ///
 /// Cost: constant for each line, beside the copy of what it tells.
 pub fn rows_of<S: Replica, C: Chooser>(
@@ -40,72 +44,86 @@ pub fn rows_of<S: Replica, C: Chooser>(
 {
     let mut rows = Vec::with_capacity(alloc, lines.len())?;
     for i in 0..lines.len() {
-        let line = &lines[i];
-        let desk = desk_of(workers, line);
-        let row = row_of(alloc, line, desk, &looks[i])?;
+        let row = row_of(alloc, &lines[i], workers, &looks[i])?;
         rows.push(row)?;
     }
     Ok(Rows::from_vec(rows))
 }
 
-/// The desk of a line's session at its node.
-fn desk_of<'a, S: Replica, C: Chooser>(workers: &'a [Worker<S, C>], line: &NamedLine) -> &'a Desk
-    requires { IsSome (desk_in (desks_at (map (λ w. record { seat = w.seat; desks = w.desks.items }) workers.now) line.now.node) (session_in line.now.asks)) }
-    ensures { desk_in (desks_at (map (λ w. record { seat = w.seat; desks = w.desks.items }) workers.now) line.now.node) (session_in line.now.asks) ≡ Some result.now }
-{
-    let node = usize::from(line.node.number()) - 1;
-    let session = usize::from(session_of(&line.asks).id.number());
-    &workers[node].desks[session]
-}
-
-fn session_of(asks: &Asks) -> &Session
-    ensures id { result.now.id ≡ session_in asks.now }
-    ensures asking { session_asking asks.now ≡ Some result.now }
-{
-    match asks {
-        Asks::Logged { session, .. } => session,
-        Asks::Look { session, .. } => session,
-    }
-}
-
-/// The row of a line, by its session's desk and by what its own look came to.
-fn row_of(
+/// The row of a line, by its session's desk, if it has one, and by what its own look came to.
+fn row_of<S: Replica, C: Chooser>(
     alloc: Global,
     line: &NamedLine,
-    desk: &Desk,
+    workers: &[Worker<S, C>],
     look: &Option<Looked>,
 ) -> Result<Row, AllocError>
-    requires { TellsIt desk.now look.now line.now.asks }
-    ensures { IfOk result (IsRowOf line.now desk.now look.now) }
+    requires { TellsIt (desk_for (map (λ w. record { seat = w.seat; desks = w.desks.items }) workers.now) line.now.node line.now.asks) look.now line.now.asks }
+    ensures { IfOk result (IsRowOf line.now (desk_for (map (λ w. record { seat = w.seat; desks = w.desks.items }) workers.now) line.now.node line.now.asks) look.now) }
 {
-    let name = session_of(&line.asks).name.clone()?;
-    let outcome = outcome_of(alloc, &line.asks, desk, look)?;
+    let who = who_asks(line)?;
+    let outcome = outcome_of(alloc, line, workers, look)?;
     Ok(Row {
         number: line.number,
-        who: Who::Session(name),
+        who,
         outcome,
     })
 }
 
-fn outcome_of(
+/// Who asks: a session by its name, or the node.
+fn who_asks(line: &NamedLine) -> Result<Who, AllocError>
+    ensures { IfOk result (λ who. names who line.now.node (session_asking line.now.asks) ≡ true) }
+{
+    match &line.asks {
+        Asks::Logged { session, .. } => session_who(session),
+        Asks::Look { session, .. } => session_who(session),
+        Asks::Admin(_) => Ok(Who::Node(line.node)),
+    }
+}
+
+/// A session, by its name.
+fn session_who(session: &Session) -> Result<Who, AllocError>
+    ensures { IfOk result (λ who. (node : ℕ) → names who node (Some session.now) ≡ true) }
+{
+    Ok(Who::Session(session.name.clone()?))
+}
+
+fn outcome_of<S: Replica, C: Chooser>(
     alloc: Global,
-    asks: &Asks,
-    desk: &Desk,
+    line: &NamedLine,
+    workers: &[Worker<S, C>],
     look: &Option<Looked>,
 ) -> Result<Outcome, AllocError>
-    requires { TellsIt desk.now look.now asks.now }
-    ensures { IfOk result (Tells desk.now look.now asks.now) }
+    requires { TellsIt (desk_for (map (λ w. record { seat = w.seat; desks = w.desks.items }) workers.now) line.now.node line.now.asks) look.now line.now.asks }
+    ensures { IfOk result (Tells (desk_for (map (λ w. record { seat = w.seat; desks = w.desks.items }) workers.now) line.now.node line.now.asks) look.now line.now.asks) }
 {
-    match asks {
-        Asks::Logged { rank, .. } => logged_outcome(alloc, *rank, desk),
+    match &line.asks {
+        Asks::Logged { session, rank, .. } => {
+            let desk = desk_of(workers, line.node, session);
+            logged_outcome(alloc, *rank, desk)
+        }
         Asks::Look { .. } => look_outcome(alloc, look),
+        Asks::Admin(Admin::Extend) => Ok(extend_outcome(look)),
     }
+}
+
+/// The desk of a session at its node.
+fn desk_of<'a, S: Replica, C: Chooser>(
+    workers: &'a [Worker<S, C>],
+    node: NodeId,
+    session: &Session,
+) -> &'a Desk
+    requires { IsSome (desk_in (desks_at (map (λ w. record { seat = w.seat; desks = w.desks.items }) workers.now) node) session.now.id) }
+    ensures { desk_in (desks_at (map (λ w. record { seat = w.seat; desks = w.desks.items }) workers.now) node) session.now.id ≡ Some result.now }
+{
+    let node = usize::from(node.number()) - 1;
+    let session = usize::from(session.id.number());
+    &workers[node].desks[session]
 }
 
 /// What becomes of a logged command.
 fn logged_outcome(alloc: Global, rank: Rank, desk: &Desk) -> Result<Outcome, AllocError>
     requires { (rank ≤ length desk.now.answers.items) ⊎ IsSome desk.now.stopped }
-    ensures { IfOk result (λ outcome. (session : Session) (command : Command) (look : Option Looked) → Tells desk.now look (asks.Logged session rank command) outcome) }
+    ensures { IfOk result (λ outcome. (session : Session) (command : Command) (look : Option Looked) → Tells (Some desk.now) look (asks.Logged session rank command) outcome) }
 {
     let index = rank.number() as usize - 1;
     match desk.answers.get(index) {
@@ -139,8 +157,8 @@ fn is_late(answered: Option<u64>, rank: Rank) -> bool
 
 /// What becomes of a read.
 fn look_outcome(alloc: Global, look: &Option<Looked>) -> Result<Outcome, AllocError>
-    requires { IsSome look.now }
-    ensures { IfOk result (λ outcome. (desk : Desk) (session : Session) (query : Query) → Tells desk look.now (asks.Look session query) outcome) }
+    requires { (looked : Looked) × (look.now ≡ Some looked) × IsOfTable looked }
+    ensures { IfOk result (λ outcome. (desk : Desk) (session : Session) (query : Query) → Tells (Some desk) look.now (asks.Look session query) outcome) }
 {
     let Some(look) = look else { unreachable!() };
     match look {
@@ -153,5 +171,31 @@ fn look_outcome(alloc: Global, look: &Option<Looked>) -> Result<Outcome, AllocEr
         }
         Looked::Kept(cause) => Ok(Outcome::Open { cause: *cause }),
         Looked::Failed(cause) => Ok(Outcome::Open { cause: *cause }),
+        Looked::Extended(_) => unreachable!(),
+    }
+}
+
+/// What becomes of a replacement of the last loglet.
+fn extend_outcome(look: &Option<Looked>) -> Outcome
+    requires { (looked : Looked) × (look.now ≡ Some looked) × IsOfNode looked }
+    ensures { Tells None look.now (asks.Admin Extend) result }
+{
+    let Some(look) = look else { unreachable!() };
+    match look {
+        Looked::Extended(extension) => extended(*extension),
+        Looked::Failed(cause) => Outcome::Open { cause: *cause },
+        Looked::Found { .. } => unreachable!(),
+        Looked::Kept(_) => unreachable!(),
+    }
+}
+
+/// What a replacement came to, as rows tell it.
+fn extended(extension: Extension) -> Outcome
+    ensures { Tells None (Some (looked.Extended extension)) (asks.Admin Extend) result }
+{
+    match extension {
+        Extension::Extended { version, start } => Outcome::Extended { version, start },
+        Extension::Moved { version } => Outcome::Moved { version },
+        Extension::NoSpare => Outcome::NoSpare,
     }
 }

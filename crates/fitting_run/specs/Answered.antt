@@ -1,5 +1,5 @@
 -- The lines of a script with their rows.
-use Rattle.std.specs.Prelude.{ℕ, Bool, true, false, ◌&&◌, ◌||◌, ◌==◌, nat_lt, nat_le, if◌then◌else◌, List, [], ◌∷◌, map, filter, Option, Some, None, is_some}
+use Rattle.std.specs.Prelude.{ℕ, Bool, true, false, ◌&&◌, ◌||◌, ◌==◌, nat_lt, nat_le, if◌then◌else◌, List, map, filter, Option, Some, None, is_some}
 use Rattle.std.specs.List.{zip}
 use Rattle.delos_types.specs.declared.place.Place.{Place}
 use Rattle.delos_types.specs.declared.cause.Cause.{Cause}
@@ -18,15 +18,18 @@ use Rattle.fitting_run.specs.Tests.{where_some, some_is}
 abbrev pub session_asking : Asks → Option Session
 session_asking (asks.Logged s r c) = Some s
 session_asking (asks.Look s q) = Some s
+session_asking (asks.Admin a) = None
 
 abbrev pub logs : Asks → Bool
 logs (asks.Logged s r c) = true
 logs (asks.Look s q) = false
+logs (asks.Admin a) = false
 
 -- it is an `on` line, which has a row
 abbrev pub has_row : Asks → Bool
 has_row (asks.Logged s r c) = true
 has_row (asks.Look s q) = true
+has_row (asks.Admin a) = true
 
 -- What a row answers
 
@@ -61,7 +64,7 @@ answered_lines lines rows = map (λ x. record { line = x.0; row = x.1 }) (zip (f
 abbrev pub session_of : Answered → Option Session
 session_of a = session_asking a.line.asks
 
--- both are lines of one session
+-- both are lines of one session; what is asked of a node itself is of none
 abbrev pub same_session : Answered → Answered → Bool
 same_session a b = some_is (session_of a) (λ s. some_is (session_of b) (λ t. s.id == t.id))
 

@@ -1,12 +1,12 @@
 -- Open and late rows, and the faults that were counted.
-use Rattle.std.specs.Prelude.{◌≡◌, ℕ, ◌+◌, ◌<◌, ◌≤◌, ◌⊎◌, Bool, true, false, not, ◌&&◌, ◌||◌, nat_le, ◌==◌, if◌then◌else◌, List, [], ◌∷◌, ◌++◌, Option, Some, None, length, filter, sum_by, slice_get, get_or, ◌-◌, is_some}
+use Rattle.std.specs.Prelude.{◌≡◌, ℕ, ◌+◌, ◌≤◌, Bool, true, false, not, ◌&&◌, ◌||◌, nat_le, ◌==◌, if◌then◌else◌, List, [], ◌∷◌, ◌++◌, Option, Some, None, length, filter, sum_by, slice_get, get_or, ◌-◌}
 use Rattle.std.specs.List.{list_all, list_any}
 use Rattle.delos_types.specs.declared.cause.Cause.{Cause}
 use Rattle.delos_types.specs.declared.cause.Cause.TheVariants as cause
 use Rattle.loglet_api.specs.View.{LogletView, size_of}
 use Rattle.fitting_run.specs.Yard.{Shown}
 use Rattle.fitting_run.specs.Tests.{where_some, some_is}
-use Rattle.fitting_run.specs.Answered.{Answered, same_session, before_barrier, session_of, is_logged, is_open, cause_of, is_late}
+use Rattle.fitting_run.specs.Answered.{Answered, same_session, before_barrier, is_logged, is_open, cause_of, is_late}
 
 -- Causes stand in the yard
 
@@ -47,7 +47,7 @@ is_broken a = is_open a.row.outcome || is_late a.row.outcome
 abbrev pub stops : Answered → Answered → Bool
 stops b a = same_session a b && before_barrier a b && is_logged a && is_broken a
 
--- open or late, and its session wasn't stopped before its phase
+-- open or late, and its session wasn't stopped before its phase; a line of no session is opened where it is open
 abbrev pub is_opened : List Answered → Answered → Bool
 is_opened before b = is_broken b && not (list_any (stops b) before)
 
@@ -58,7 +58,7 @@ same_turn a b = (a.line.node == b.line.node) && (a.line.phase == b.line.phase)
 abbrev pub logs_beside : Answered → Answered → Bool
 logs_beside b a = same_session a b && (a.line.phase == b.line.phase) && is_logged a
 
--- a read, with no logged line of its session earlier in its phase
+-- a read, with no logged line of its session earlier in its phase; so is each line that is of no session
 abbrev pub is_first_look : List Answered → Answered → Bool
 is_first_look before b = not (is_logged b) && not (list_any (logs_beside b) before)
 
@@ -78,7 +78,8 @@ abbrev pub turns_of : List Answered → ℕ
 turns_of [] = 0
 turns_of (a ∷ rest) = (if list_any (same_turn a) rest then 0 else 1) + turns_of rest
 
--- each opened first look stands for an occasion of its own, all other opened rows of one node and phase for one
+-- Each opened first look stands for an occasion of its own, and so does each open line of no session; all other opened rows of
+-- one node and phase stand for one.
 abbrev pub occasions : (ℕ → Cause → Bool) → List Answered → ℕ
 occasions by told = length (picked (opens_look by) [] told) + turns_of (picked (opens_other by) [] told)
 

@@ -1,5 +1,5 @@
 -- When what a run tells fits the script and the yard that it gave back.
-use Rattle.std.specs.Prelude.{◌≡◌, ◌≤◌, ℕ, Bool, true, false, List, [], ◌∷◌, None}
+use Rattle.std.specs.Prelude.{◌≡◌, ◌≤◌, true, false, List, length}
 use Rattle.register_api.specs.View.{RegisterView}
 use Rattle.chain_map.specs.Chain.{is_chain}
 use Rattle.script_text.specs.declared.asks.NamedLine.{NamedLine}
@@ -9,6 +9,7 @@ use Rattle.fitting_run.specs.Acts.{ActsOnce}
 use Rattle.fitting_run.specs.Outcomes.{OneRowEach, KeepsSessionOrder, keeps_barriers}
 use Rattle.fitting_run.specs.Reads.{ReadsAreCurrent}
 use Rattle.fitting_run.specs.Faults.{FaultsAreCounted}
+use Rattle.fitting_run.specs.Replacements.{ReplacementsAgree}
 use Rattle.fitting_run.specs.Yard.{Shown}
 
 -- The chain that is told is one that joins, and with its version the last that the register gave: the current one, unless
@@ -33,4 +34,5 @@ pub record Fits (lines : List NamedLine) (o : Told) (yard : Shown) : Type 0 wher
   pub reads_are_current : ReadsAreCurrent (told_of lines o) o.end
   pub barriers : keeps_barriers (told_of lines o) ≡ true
   pub faults_are_counted : FaultsAreCounted (told_of lines o) yard
+  pub replacements : ReplacementsAgree lines (told_of lines o) o.version o.chain (length yard.cells)
   pub chain_is_registered : ChainIsRegistered o yard.register

@@ -5,6 +5,7 @@ pub mod Acts
 pub mod Reads
 pub mod Yard
 pub mod Faults
+pub mod Replacements
 pub mod Fits
 pub mod Calm
 pub mod Lines

@@ -1,7 +1,5 @@
 -- What holds of the lines of every script.
-use Rattle.std.specs.Prelude.{◌≡◌, ℕ, ◌+◌, ◌≤◌, ◌==◌, nat_le, ◌&&◌, Bool, true, false, List, [], ◌∷◌, ◌++◌, length, count_by}
-use Rattle.std.specs.List.{AllByRecursion}
-use Rattle.table_core.specs.declared.command.Command.{Command}
+use Rattle.std.specs.Prelude.{◌≡◌, ℕ, ◌+◌, ◌≤◌, ◌==◌, nat_le, ◌&&◌, Bool, true, false, List, [], ◌∷◌, ◌++◌, count_by}
 use Rattle.table_core.specs.Spelling.{IsSpellable, command_length}
 use Rattle.script_text.specs.declared.asks.NamedLine.{NamedLine}
 use Rattle.script_text.specs.declared.asks.Asks.{Asks}
@@ -11,6 +9,7 @@ use Rattle.script_text.specs.declared.asks.Asks.TheVariants as asks
 abbrev pub is_of : ℕ → Asks → Bool
 is_of s (asks.Logged t r c) = t.id == s
 is_of s (asks.Look t q) = false
+is_of s (asks.Admin a) = false
 
 abbrev pub logs_for : ℕ → NamedLine → Bool
 logs_for s l = is_of s l.asks
@@ -19,6 +18,7 @@ logs_for s l = is_of s l.asks
 abbrev pub has_rank : List NamedLine → Asks → Bool
 has_rank before (asks.Logged s r c) = r == (count_by (logs_for s.id) before + 1)
 has_rank before (asks.Look s q) = true
+has_rank before (asks.Admin a) = true
 
 abbrev pub are_ranked : List NamedLine → List NamedLine → Bool
 are_ranked before [] = true
@@ -33,11 +33,4 @@ are_in_phase phase (l ∷ ls) = nat_le phase l.phase && are_in_phase l.phase ls
 abbrev pub CanLog : Asks → Type 0
 CanLog (asks.Logged s r c) = IsSpellable c × (command_length c ≤ 984)
 CanLog (asks.Look s q) = Unit {0}
-
--- lines that can be played
-pub record ArePlayable (lines : List NamedLine) : Type 0 where
-  pub few : length lines ≤ 20000
-  pub ranked : are_ranked [] lines ≡ true
-  pub phases : are_in_phase 0 lines ≡ true
-  pub one_node : AllByRecursion (λ l. l.node ≡ 1) lines
-  pub spelled : AllByRecursion (λ l. CanLog l.asks) lines
+CanLog (asks.Admin a) = Unit {0}

@@ -15,13 +15,14 @@ use delos_types::place::Place;
 use engine_api::act::Act;
 use row_text::row::{Outcome, Who};
 use script_text::asks::Asks;
-use script_text::line::Session;
+use script_text::line::{Admin, Session};
 
 fn session_asking(asked: &Asks) -> Option<&Session>
     ensures { option_copied result ≡ answers_of.session_asking asked.now }
 {
     match asked {
         Asks::Logged { session, .. } | Asks::Look { session, .. } => Some(session),
+        Asks::Admin(_) => None,
     }
 }
 
@@ -46,6 +47,7 @@ fn logs(asked: &Asks) -> bool
     match asked {
         Asks::Logged { .. } => true,
         Asks::Look { .. } => false,
+        Asks::Admin(_) => false,
     }
 }
 
@@ -99,6 +101,10 @@ fn answers(asked: &Asks, outcome: &Outcome) -> bool
     match (asked, outcome) {
         (Asks::Logged { .. }, Outcome::Placed { .. }) => true,
         (Asks::Look { .. }, Outcome::Read { .. }) => true,
+        (
+            Asks::Admin(Admin::Extend),
+            Outcome::Extended { .. } | Outcome::Moved { .. } | Outcome::NoSpare,
+        ) => true,
         (_, Outcome::Open { .. }) => true,
         _ => false,
     }

@@ -3,9 +3,10 @@
 //!
 //! - `answered`: lines with their rows.
 //! - `told`: what a run tells.
-//! - `fitting`: the tests, as programs.
+//! - `fitting`: the tests, as programs; `replacing`: those of replacements of the loglet.
 #![tactic(auto)]
 
 pub mod answered;
 pub mod fitting;
+pub mod replacing;
 pub mod told;

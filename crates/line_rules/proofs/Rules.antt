@@ -84,6 +84,7 @@ module _ (lines : List NamedLine) where
   logs_this : (a : Asks) (place : Place) (s r : ℕ) (c : Option Command) → LogsRank a s r c → LogsThis a (record { place = place; session = s; rank = r; command = c })
   logs_this (asks.Logged session rank command) place s r c h = h
   logs_this (asks.Look session query) place s r c h = absurd h
+  logs_this (asks.Admin admin) place s r c h = absurd h
 
   pub asked_by : (log : List Entry) → AreOfLines lines log → (x : Asked) → Contains (asked_in 0 log) x → IsAskedBy lines x
   asked_by log h x among = all-contained (IsAskedBy lines) (asked_in 0 log) x

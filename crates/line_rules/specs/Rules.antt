@@ -17,6 +17,7 @@ use Rattle.run_laws.specs.Ended.{LogsThis}
 abbrev pub LogsRank : Asks → ℕ → ℕ → Option Command → Type 0
 LogsRank (asks.Logged s r c) session rank command = (session ≡ s.id) × (rank ≡ r) × (command ≡ Some c)
 LogsRank (asks.Look s q) session rank command = ⊥
+LogsRank (asks.Admin a) session rank command = ⊥
 
 -- a line of the node logs it
 pub record HasLine (lines : List NamedLine) (who session rank : ℕ) (command : Option Command) : Type 0 where

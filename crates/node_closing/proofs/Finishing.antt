@@ -2,10 +2,10 @@
 use Rattle.std.proofs.Common.{◌≡◌, sym, ap, ◌∙◌, subst, ℕ, ◌≤◌, inl, inr, List, [], ◌∷◌, ◌++◌, length, arith, append-nil}
 use Rattle.delos_types.specs.declared.entry.Entry.{Entry}
 use Rattle.delos_types.specs.declared.cause.Cause.{Cause}
-use Rattle.virtual_log.specs.Turning.{IsAbove}
+use Rattle.virtual_log.specs.Turning.{OnlyOwn, IsAbove}
 use Rattle.base_engine.specs.declared.fault.Fault.TheVariants.{Because}
 use Rattle.base_engine.specs.Causes.{Blames}
-use Rattle.base_engine.specs.Following.{IsAt}
+use Rattle.base_engine.specs.Following.{IsAt, EndsBy}
 use Rattle.base_engine.specs.Node.{NodeView, Keeps}
 use Rattle.node_lines.specs.Moving.{Moves}
 use Rattle.node_lines.proofs.Moving.{moves-sync}
@@ -43,11 +43,12 @@ module _ (may : ℕ → Entry → Type 0) (floor : List Entry → ℕ) (shelf : 
         let on = keeps_on old mid new r k in
         moves-sync may floor shelf low old new [] on (outbox ∙ r.outbox) (kept ∙ r.kept) (spends-none old.seen new.seen old.replica.faults new.replica.faults (on.later.more, on.later.seen) on.counts)
 
-  pub played : (old mid new : NodeView) (tail : ℕ) → Reopens old mid → IsAbove mid.who mid.seen tail new.seen → IsAt tail new.replica new.seen → Finishes old new
-  played old mid new tail r above at = inl (record {
+  pub played : (old mid new : NodeView) (tail : ℕ) → Reopens old mid → IsAbove mid.who mid.seen tail new.seen → IsAt tail new.replica new.seen → EndsBy mid.who mid.replica.cursor mid.seen tail new.seen → Finishes old new
+  played old mid new tail r above at exact = inl (record {
     tail = tail;
     above = subst (λ w. IsAbove w old.seen tail new.seen) r.who (subst (λ l. IsAbove mid.who l tail new.seen) r.seen above);
     at = at;
+    exact = λ low alone. exact (omega (arith, low, r.forward)) (subst (λ w. OnlyOwn w mid.seen new.seen) (sym r.who) (subst (λ l. OnlyOwn old.who l new.seen) (sym r.seen) alone));
   })
 
   pub failed : (old mid new : NodeView) (c : Cause) → Reopens old mid → Keeps may floor shelf mid new → Blames mid.who mid.seen mid.replica.faults (Because c) new.seen new.replica.faults → Finishes old new

@@ -2,7 +2,7 @@
 use Rattle.std.specs.Prelude.{◌≡◌, ℕ, ◌≤◌, ◌⊎◌, false, [], ◌∷◌}
 use Rattle.delos_types.specs.declared.cause.Cause.{Cause}
 use Rattle.virtual_log.specs.Turning.{IsAbove}
-use Rattle.base_engine.specs.Following.{IsAt}
+use Rattle.base_engine.specs.Following.{IsAt, EndsBy}
 use Rattle.base_engine.specs.Node.{NodeView}
 use Rattle.node_lines.specs.Moving.{Spends}
 
@@ -28,6 +28,8 @@ pub record IsPlayed (old new : NodeView) : Type 0 where
   pub tail : ℕ
   pub above : IsAbove old.who old.seen tail new.seen
   pub at : IsAt tail new.replica new.seen
+  -- where no other node's event came meanwhile and nothing was trimmed that wasn't played, the log ends there
+  pub exact : EndsBy old.who old.replica.cursor old.seen tail new.seen
 
 -- the state is that at a tail, or the log or the disk failed
 abbrev pub Finishes : NodeView → NodeView → Type 0

@@ -1,5 +1,5 @@
 -- All nodes, in a phase and between two.
-use Rattle.std.proofs.Common.{◌≡◌, ◌≢◌, refl, sym, ap, ◌∙◌, subst, ◌⊎◌, inl, inr, ⊎_elim, ℕ, zero, suc, ◌+◌, ◌-◌, ◌<◌, ◌≤◌, Bool, true, false, List, [], ◌∷◌, ◌++◌, Option, Some, None, length, arith}
+use Rattle.std.proofs.Common.{◌≡◌, ◌≢◌, refl, sym, ap, ◌∙◌, subst, ◌⊎◌, inl, inr, ℕ, zero, suc, ◌+◌, ◌-◌, ◌<◌, ◌≤◌, Bool, true, false, List, [], ◌∷◌, Option, Some, length, arith}
 use Rattle.std.specs.Prelude.{◌==◌, slice_get, slice_set, remove, insert}
 use Rattle.std.proofs.lemmas.Bool.{cases_lt}
 use Rattle.std.proofs.lemmas.Bool.Decides.{nat_tests}
@@ -19,14 +19,14 @@ use Rattle.node_workers.specs.Workers.{MayRun, Grows, Within, sent_of}
 use Rattle.node_workers.proofs.Widening.{seat_allowed}
 use Rattle.worker_laws.proofs.Staying.{seat_later}
 use Rattle.run_course.specs.Script.{AreLines, BeginsAt, asked_before}
-use Rattle.run_course.specs.Course.{Course, CourseOk, TurnOf}
+use Rattle.run_course.specs.Course.{CourseOk}
 use Rattle.run_course.specs.Workers.{WorkerAt, Rests, IsUnderWay}
 use Rattle.run_course.proofs.Waiting.{rests_on}
 use Rattle.run_course.proofs.Passing.{phase_passed}
 use Rattle.run_course.proofs.Lines.{phase_before}
 use Rattle.run_course.proofs.Asking.{sent_asked}
 use Rattle.run_course.proofs.Beginning.{next_phase, course_begins, rests_then}
-use Rattle.node_crew.specs.Turns.{IsPlaying, TurnWent}
+use Rattle.node_crew.specs.Turns.{TurnWent}
 use Rattle.node_crew.specs.Crews.{HasNone, EndsPhase, CrewAt, CrewRests, CrewStands}
 
 -- an element is taken out, and another put in its place

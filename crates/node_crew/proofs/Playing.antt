@@ -1,5 +1,5 @@
 -- A node's turn, from line to line.
-use Rattle.std.proofs.Common.{◌≡◌, refl, sym, ap, ◌∙◌, subst, ℕ, ◌+◌, ◌<◌, ◌≤◌, Bool, true, false, List, [], ◌∷◌, ◌++◌, Option, Some, arith}
+use Rattle.std.proofs.Common.{◌≡◌, refl, sym, ap, subst, ℕ, ◌+◌, ◌<◌, ◌≤◌, false, List, [], ◌∷◌, ◌++◌, Option, Some, arith}
 use Rattle.std.specs.Prelude.{◌==◌, slice_get}
 use Rattle.delos_types.specs.Spaces.{SpaceMap}
 use Rattle.delos_types.specs.declared.entry.Entry.{Entry}
@@ -11,8 +11,8 @@ use Rattle.node_sessions.specs.declared.desk.Desk.{Desk}
 use Rattle.node_lines.specs.declared.lines.Looked.{Looked}
 use Rattle.node_workers.specs.Workers.{Grows}
 use Rattle.run_course.specs.Script.{BeginsAt}
-use Rattle.run_course.specs.Course.{Course, CourseOk, TurnOf}
-use Rattle.run_course.specs.Workers.{WorkerAt, IsUnderWay, LineWent}
+use Rattle.run_course.specs.Course.{Course}
+use Rattle.run_course.specs.Workers.{IsUnderWay, LineWent}
 use Rattle.run_course.proofs.Passing.{another_line}
 use Rattle.run_course.proofs.Joining.{no_turn, turns_join}
 

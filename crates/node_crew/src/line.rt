@@ -1,10 +1,11 @@
 //! A line is played at its node.
-ghost use Rattle.std.specs.Prelude.{◌≡◌, ◌<◌, ◌+◌, ℕ, List, length, Some, IfOk, OnOk, slice_get};
+ghost use Rattle.std.specs.Prelude.{◌≡◌, ◌<◌, ◌+◌, ℕ, List, length, Some, Ok, IfOk, OnOk, slice_get, slice_set};
 ghost use Rattle.delos_types.specs.Spaces.{SpaceMap};
 ghost use Rattle.delos_types.specs.declared.entry.Entry.{Entry};
 ghost use Rattle.engine_laws.specs.State.{IsStateOf};
 ghost use Rattle.one_thread.specs.Seats.{SeatOk};
 ghost use Rattle.script_text.specs.declared.asks.NamedLine.{NamedLine};
+ghost use Rattle.node_lines.specs.declared.lines.Looked.{Looked};
 ghost use Rattle.node_workers.specs.Workers.{WorkerOk, MayRun, Grows};
 ghost use Rattle.run_course.specs.Course.{Course};
 ghost use Rattle.run_course.specs.Workers.{IsUnderWay, CanSend, IsNext, LineWent};
@@ -13,15 +14,52 @@ use fabric_core::fabric::Fabric;
 use fate_words::chooser::Chooser;
 use loglet_api::loglet::Loglet;
 use node_lines::lines::Looked;
-use node_workers::turns::{Returned, log_line, look_line};
+use node_workers::turns::{Returned, extend_line, log_line, look_line};
 use node_workers::worker::Worker;
 use one_thread::terms::{By, Terms};
 use register_api::Register;
 use replica_api::replica::Replica;
 use script_text::asks::{Asks, NamedLine};
+use script_text::line::Admin;
 use std::alloc::Global;
 
-/// Plays line `i`, which is the worker's: a command is handed in, and what a read came to stands in `looks` then.
+/// What the look of line `i` came to stands in `looks` then.
+fn keep_look<L: Loglet, R: Register, K: Terms, S: Replica, C: Chooser>(
+    looked: Returned<L, R, K, S, C, Looked>,
+    looks: &mut Vec<Option<Looked>>,
+    i: usize,
+) -> Returned<L, R, K, S, C, ()>
+    requires there { i < length looks.old.items }
+    ensures worker { result.worker ≡ looked.worker }
+    ensures fabric { result.fabric ≡ looked.fabric }
+    ensures looks { OnOk result.answer ((look : Looked) × (looked.answer ≡ Ok look) × (looks.new.items ≡ slice_set looks.old.items i (Some look))) }
+{
+    let Returned {
+        worker,
+        fabric,
+        answer,
+    } = looked;
+    match answer {
+        Ok(look) => {
+            looks[i] = Some(look);
+            return Returned {
+                worker,
+                fabric,
+                answer: Ok(()),
+            };
+        }
+        Err(fault) => {
+            return Returned {
+                worker,
+                fabric,
+                answer: Err(fault),
+            };
+        }
+    }
+}
+
+/// Plays line `i`, which is the worker's: a command is handed in, and what a read or a replacement of the last loglet came to
+/// stands in `looks` then.
 pub fn play_line<L: Loglet, R: Register, K: Terms, S: Replica, C: Chooser>(
     alloc: Global,
     fabric: Fabric<L, R, By<K>>,
@@ -57,28 +95,12 @@ pub fn play_line<L: Loglet, R: Register, K: Terms, S: Replica, C: Chooser>(
         Asks::Look { session, query } => {
             // There is a desk for each session: its number is at most 63.
             let _number = session.id.number();
-            let Returned {
-                worker,
-                fabric,
-                answer,
-            } = look_line(fabric, worker, counts, session.id, query);
-            match answer {
-                Ok(looked) => {
-                    looks[i] = Some(looked);
-                    return Returned {
-                        worker,
-                        fabric,
-                        answer: Ok(()),
-                    };
-                }
-                Err(fault) => {
-                    return Returned {
-                        worker,
-                        fabric,
-                        answer: Err(fault),
-                    };
-                }
-            }
+            let looked = look_line(fabric, worker, counts, session.id, query);
+            return keep_look(looked, looks, i);
+        }
+        Asks::Admin(Admin::Extend) => {
+            let looked = extend_line(fabric, worker, counts);
+            return keep_look(looked, looks, i);
         }
     }
 }

@@ -1,4 +1,5 @@
 pub mod Moving
 pub mod Desks
 pub mod Lines
+pub mod Extending
 pub mod Turns

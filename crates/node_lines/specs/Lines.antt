@@ -65,6 +65,7 @@ abbrev pub LooksSo : NodeView → NodeView → Desk → Query → List Cause →
 LooksSo old new d query others (looked.Found after found) = (others ≡ []) × IsFree old d × (tail_of (state_of old.seen) ≤ after) × Shows new.seen d.session d.sent query after found × (after ≡ new.replica.cursor)
 LooksSo old new d query others (looked.Kept c) = (others ≡ []) × (((d.stopped ≡ Some c)) ⊎ ((d.stopped ≡ None) × (cause_in d.session new.outbox.given ≡ Some c)))
 LooksSo old new d query others (looked.Failed c) = (others ≡ c ∷ []) × (d.stopped ≡ None)
+LooksSo old new d query others (looked.Extended x) = ⊥
 
 pub record Looks (may : ℕ → Entry → Type 0) (floor : List Entry → ℕ) (shelf : List ℕ) (old new : NodeView) (d : Desk) (query : Query) (answer : Looked) : Type 0 where
   pub others : List Cause

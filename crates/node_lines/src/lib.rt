@@ -1,10 +1,13 @@
-//! The lines of a session at its node: a command is handed in, and a read looks at the table.
+//! The lines of a session at its node: a command is handed in, and a read looks at the table; and a node's own line, which
+//! replaces the last loglet.
 //!
 //! - `steps`: a node's calls, as far as the sessions' lines need them.
 //! - `lines`: what a line asks of its node.
+//! - `extend`: the last loglet of the log is replaced.
 //! - `turn`: a phase ends.
 #![tactic(auto)]
 
+pub mod extend;
 pub mod lines;
 pub mod steps;
 pub mod turn;

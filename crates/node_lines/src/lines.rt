@@ -28,17 +28,20 @@ use node_sessions::desk::{Desk, collect};
 use replica_api::replica::Replica;
 use std::alloc::{AllocError, Global};
 use table_core::command::{Command, Found, Query};
+use virtual_log::extend::Extension;
 use virtual_log::log::VirtualLog;
 
-/// What a read came to.
+/// What a line came to that asks for no command: a read, or a replacement of the last loglet.
 #[derive(Drop)]
 pub enum Looked {
     /// The table after the log's first `after` entries answers so.
     Found { after: u64, found: Found },
     /// The session was stopped, or was given this cause.
     Kept(Cause),
-    /// The log or the disk failed so as the read looked for a tail.
+    /// The log or the disk failed so as the read looked for a tail, or the log as its last loglet was replaced.
     Failed(Cause),
+    /// The last loglet was replaced, by this node or by another, or there is no next one.
+    Extended(Extension),
 }
 
 /// Why nothing more is tried for the session in this phase.

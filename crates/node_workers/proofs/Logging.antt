@@ -1,5 +1,5 @@
 -- A command is asked at a session's desk.
-use Rattle.std.proofs.Common.{◌≡◌, ◌≢◌, refl, sym, ap, ◌∙◌, subst, ◌⊎◌, inl, inr, ⊎_elim, ℕ, ◌+◌, ◌<◌, ◌≤◌, Bool, true, false, List, [], ◌∷◌, ◌++◌, Option, Some, None, length, arith, append_assoc}
+use Rattle.std.proofs.Common.{◌≡◌, ◌≢◌, refl, sym, ap, ◌∙◌, subst, ◌⊎◌, inl, inr, ℕ, ◌+◌, ◌<◌, ◌≤◌, Bool, true, false, List, [], ◌∷◌, ◌++◌, Some, None, length, arith, append_assoc}
 use Rattle.std.specs.Prelude.{slice_get, slice_set, ◌==◌, Contains}
 use Rattle.std.proofs.lemmas.Bool.Decides.{nat_tests}
 use Rattle.std.proofs.lemmas.List.{length-set}
@@ -15,13 +15,13 @@ use Rattle.base_engine.specs.Node.{NodeView}
 use Rattle.node_sessions.specs.declared.desk.Desk.{Desk}
 use Rattle.one_thread.specs.Alone.{AreOwn, Since}
 use Rattle.one_thread.specs.Seats.{SeatView, SeatOk, node_of}
-use Rattle.node_lines.specs.Moving.{Goes, StaysGiven, Moves, HandsIn}
-use Rattle.node_lines.specs.Desks.{DeskOk, DesksOk}
+use Rattle.node_lines.specs.Moving.{HandsIn}
+use Rattle.node_lines.specs.Desks.{DeskOk}
 use Rattle.node_lines.specs.Lines.{IsFree, Readies}
-use Rattle.node_lines.proofs.Moving.{goes-both, stays-both, none-before}
+use Rattle.node_lines.proofs.Moving.{goes-both, stays-both}
 use Rattle.node_lines.proofs.Desks.{desk_goes}
 use Rattle.node_lines.proofs.Turning.{same_at}
-use Rattle.node_workers.specs.Workers.{Within, WorkerOk, MayRun, LogsIt, Logs, sent_of}
+use Rattle.node_workers.specs.Workers.{Within, WorkerOk, LogsIt, sent_of}
 use Rattle.node_workers.proofs.Widening.{within-more, goes_wider}
 
 own-append : (who : ℕ) (xs ys : List Event) → AreOwn who xs → AreOwn who ys → AreOwn who (xs ++ ys)

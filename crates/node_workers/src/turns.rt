@@ -12,10 +12,11 @@ ghost use Rattle.one_thread.specs.Seats.{SeatOk, node_of};
 ghost use Rattle.node_lines.specs.Moving.{CanPack};
 ghost use Rattle.node_lines.specs.Desks.{DeskOk};
 ghost use Rattle.node_lines.specs.Lines.{Looks};
+ghost use Rattle.node_lines.specs.Extending.{Extends};
 ghost use Rattle.node_lines.specs.Turns.{EndsTurn};
 ghost use Rattle.node_workers.specs.Workers.{WorkerOk, MayRun, LogsIt, Logs, Within, Grows, sent_of};
 
-use crate::within::{Back, end_within, log_within, look_within, ready_within};
+use crate::within::{Back, end_within, extend_within, log_within, look_within, ready_within};
 use crate::worker::Worker;
 use delos_types::cause::Cause;
 use delos_types::numbers::SessionId;
@@ -205,6 +206,45 @@ pub fn look_line<L: Loglet, R: Register, K: Terms, S: Replica, C: Chooser>(
         fabric,
         answer,
     } = look_within::<L, R, K, Brand, S, C>(fabric, seat, &desks[i], query, counts);
+    match answer {
+        Ok(looked) => {
+            return Returned {
+                worker: Worker { seat, desks },
+                fabric,
+                answer: Ok(looked),
+            };
+        }
+        Err(fault) => {
+            return Returned {
+                worker: Worker { seat, desks },
+                fabric,
+                answer: Err(fault),
+            };
+        }
+    }
+}
+
+/// A line that replaces the last loglet of the log. It is of no session, and no session's cause keeps it from being tried.
+pub fn extend_line<L: Loglet, R: Register, K: Terms, S: Replica, C: Chooser>(
+    fabric: Fabric<L, R, By<K>>,
+    worker: Worker<S, C>,
+    counts: &[u64; 64],
+) -> Returned<L, R, K, S, C, Looked>
+    requires run { MayRun K.may K.floor K.shelf }
+    requires worker { WorkerOk K.may K.floor K.shelf S.state S.spells worker.seat.who counts.now fabric.journal worker.seat worker.desks.items }
+    ensures desks { result.worker.desks ≡ worker.desks }
+    ensures stands { SeatOk K.may K.floor K.shelf S.state S.spells result.fabric.journal result.worker.seat }
+    ensures grows { Grows fabric.journal result.fabric.journal }
+    ensures since { IfOk result.answer (λ l. Since worker.seat.who fabric.journal result.fabric.journal) }
+    ensures worker { IfOk result.answer (λ l. WorkerOk K.may K.floor K.shelf S.state S.spells worker.seat.who counts.now result.fabric.journal result.worker.seat result.worker.desks.items) }
+    ensures extends { IfOk result.answer (Extends (Within K.may counts.now) K.floor K.shelf (node_of worker.seat fabric.journal) (node_of result.worker.seat result.fabric.journal)) }
+{
+    let Worker { seat, desks } = worker;
+    let Back {
+        seat,
+        fabric,
+        answer,
+    } = extend_within::<L, R, K, Brand, S, C>(fabric, seat, counts);
     match answer {
         Ok(looked) => {
             return Returned {

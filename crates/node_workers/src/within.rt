@@ -12,6 +12,7 @@ ghost use Rattle.one_thread.specs.Seats.{SeatOk, node_of};
 ghost use Rattle.node_lines.specs.Moving.{HandsIn, CanPack};
 ghost use Rattle.node_lines.specs.Desks.{DeskOk, DesksOk, IsBound, AreBound, MayJoin, KeepsFrom};
 ghost use Rattle.node_lines.specs.Lines.{Readies, Looks};
+ghost use Rattle.node_lines.specs.Extending.{Extends};
 ghost use Rattle.node_lines.specs.Turns.{EndsTurn};
 
 use delos_types::cause::Cause;
@@ -19,6 +20,7 @@ use fabric_core::fabric::Fabric;
 use fate_words::chooser::Chooser;
 use legal_journal::rules::Rules;
 use loglet_api::loglet::Loglet;
+use node_lines::extend::extend_log;
 use node_lines::lines::{Looked, log_command, look, make_ready};
 use node_lines::turn::end_turn;
 use node_sessions::desk::Desk;
@@ -133,6 +135,31 @@ pub fn look_within<L: Loglet, R: Register, K: Terms, Q: Scope, S: Replica, C: Ch
 {
     let mut node = seat.wake::<L, R, K, Q>(fabric);
     let answer = look(&mut node, desk, query);
+    let (seat, fabric) = rest(node);
+    Back {
+        seat,
+        fabric,
+        answer,
+    }
+}
+
+/// The last loglet of the log is replaced.
+pub fn extend_within<L: Loglet, R: Register, K: Terms, Q: Scope, S: Replica, C: Chooser>(
+    fabric: Fabric<L, R, By<K>>,
+    seat: Seat<S, C>,
+    _counts: &[u64; 64],
+) -> Back<L, R, K, S, C, Looked>
+    requires floor { (log : List Entry) → K.floor log ≤ length log }
+    requires seat { SeatOk Q.sends K.floor K.shelf S.state S.spells fabric.journal seat }
+    requires narrower { (who : ℕ) (e : Entry) → Q.sends who e → K.may who e }
+    requires since { Q.since ≡ fabric.journal }
+    requires kept { CanPack seat.node.replica.kept }
+    ensures seat { SeatOk Q.sends K.floor K.shelf S.state S.spells result.fabric.journal result.seat }
+    ensures since { Since result.seat.who Q.since result.fabric.journal }
+    ensures extends { IfOk result.answer (Extends Q.sends K.floor K.shelf (node_of seat fabric.journal) (node_of result.seat result.fabric.journal)) }
+{
+    let mut node = seat.wake::<L, R, K, Q>(fabric);
+    let answer = extend_log(&mut node);
     let (seat, fabric) = rest(node);
     Back {
         seat,

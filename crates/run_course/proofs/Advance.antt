@@ -24,7 +24,9 @@ use Rattle.node_workers.specs.Workers.{Within, sent_of}
 use Rattle.run_laws.specs.Ended.{Fault, pays, most_faults}
 use Rattle.run_course.specs.Script.{failure_of_look, failed_looks}
 use Rattle.run_course.specs.Course.{Course, BeganAt, CourseOk, TurnOf}
+use Rattle.run_course.specs.Replacing.{Replaced}
 use Rattle.run_course.proofs.Lines.{count-cons}
+use Rattle.run_course.proofs.Replacing.{later, replaced_on}
 
 -- Counting
 
@@ -109,8 +111,10 @@ module _ (may : ℕ → Entry → Type 0) (floor : List Entry → ℕ) (shelf : 
     -- The run then is one still: what a read's own look paid, and what came, was told by the new events.
     pub advance : 1 ≤ n → n ≤ nodes → length looks' ≡ length looks
         → ((P : Cause → Bool) → P cause.Store ≡ false → failed_looks (λ n. P) lines looks' + count_by P came ≤ failed_looks (λ n. P) lines looks + count_by P (faults_in more))
+        → Replaced lines looks' (state_of journal).register (length shelf)
+        → ((i : ℕ) (l : NamedLine) → slice_get lines i ≡ Some l → c.phase < l.phase → slice_get looks' i ≡ Some None)
         → CourseOk may floor shelf lines nodes then' counts' looks'
-    advance least most size paid = record {
+    advance least most size paid replaced ahead = record {
       legal = legal;
       began = began;
       after = λ p high. tails_new c n came journal when p high;
@@ -126,7 +130,19 @@ module _ (may : ℕ → Entry → Type 0) (floor : List Entry → ℕ) (shelf : 
           omega (arith, was, now, a, b, d, e);
       nodes_are = all-append (λ (f : Fault). (1 ≤ f.node) × (f.node ≤ nodes)) c.faults (map (fault_at n c.phase) came) ok.nodes_are
           (came_here (λ (f : Fault). (1 ≤ f.node) × (f.node ≤ nodes)) n c.phase (λ k. (least, most)) came);
+      replaced = replaced;
+      ahead = ahead;
     }
+
+  -- .. where no line came to a look of its own meanwhile
+  pub advance_still : (lines : List NamedLine) (nodes : ℕ) (c : Course) (counts : List ℕ) (looks : List (Option Looked)) → CourseOk may floor shelf lines nodes c counts looks → (n : ℕ) (came : List Cause) (journal more : List Event) (when : ℕ → ℕ) (counts' : List ℕ)
+      → journal ≡ c.journal ++ more → IsLegal (Within may counts') floor shelf journal → 1 ≤ n → n ≤ nodes
+      → ((P : Cause → Bool) → P cause.Store ≡ false → failed_looks (λ n. P) lines looks + count_by P came ≤ failed_looks (λ n. P) lines looks + count_by P (faults_in more))
+      → CourseOk may floor shelf lines nodes (advanced c n came journal when) counts' looks
+  advance_still lines nodes c counts looks ok n came journal more when counts' seen legal least most paid =
+      advance lines nodes c counts looks ok n came journal more when counts' looks seen legal least most refl paid
+      (replaced_on lines looks (state_of c.journal).register (state_of journal).register (length shelf) (later (Within may counts') floor shelf c.journal journal more seen legal) ok.replaced)
+      ok.ahead
 
 -- It is a part of a turn of node n.
 pub turned : (lines : List NamedLine) (home : ℕ → ℕ) (n : ℕ) (c : Course) (came : List Cause) (journal : List Event) (when : ℕ → ℕ) (counts counts' : List ℕ) (looks looks' : List (Option Looked))
@@ -159,11 +175,13 @@ abbrev pub failed_of : Looked → List Cause
 failed_of (looked.Found after found) = []
 failed_of (looked.Kept k) = []
 failed_of (looked.Failed k) = k ∷ []
+failed_of (looked.Extended x) = []
 
 look_pays : (by : Cause → Bool) (look : Looked) → count_by (pays by) (failure_of_look (Some look) ∷ []) ≡ count_by by (failed_of look)
 look_pays by (looked.Found after found) = refl
 look_pays by (looked.Kept k) = refl
 look_pays by (looked.Failed k) = refl
+look_pays by (looked.Extended x) = refl
 
 -- a line's look, where it hadn't looked yet
 pub failed_set : (by : ℕ → Cause → Bool) (lines : List NamedLine) (looks : List (Option Looked)) (i : ℕ) (l : NamedLine) (look : Looked) → slice_get lines i ≡ Some l → slice_get looks i ≡ Some None

@@ -1,5 +1,5 @@
 -- What the desks have asked and sent, by the lines.
-use Rattle.std.proofs.Common.{◌≡◌, refl, sym, ap, ◌∙◌, ℕ, zero, suc, ◌+◌, ◌<◌, ◌≤◌, cond, Bool, true, false, List, [], ◌∷◌, Option, Some, length, arith}
+use Rattle.std.proofs.Common.{◌≡◌, subst, refl, sym, ap, ◌∙◌, ℕ, zero, suc, ◌+◌, ◌<◌, ◌≤◌, cond, Bool, true, false, List, [], ◌∷◌, Option, Some, length, arith}
 use Rattle.std.specs.Prelude.{◌==◌, ◌&&◌, nat_lt, count_by, take, slice_get}
 use Rattle.std.proofs.lemmas.Bool.{and_parts, and_from, lt-ltb}
 use Rattle.std.proofs.lemmas.Option.{slice_get_within}
@@ -17,7 +17,7 @@ use Rattle.one_thread.specs.Seats.{SeatView}
 use Rattle.node_sessions.specs.declared.desk.Desk.{Desk}
 use Rattle.node_lines.specs.declared.lines.Looked.{Looked}
 use Rattle.node_workers.specs.Workers.{sent_of}
-use Rattle.run_laws.specs.Ended.{session_in}
+use Rattle.run_laws.specs.Ended.{IsAtHome}
 use Rattle.run_course.specs.Script.{BeginsAt, logs_at, asked_by, asked_before}
 use Rattle.run_course.specs.Course.{Course}
 use Rattle.run_course.specs.Workers.{Rests, IsUnderWay, IsNext}
@@ -36,13 +36,13 @@ module _ (may : ℕ → Entry → Type 0) (floor : List Entry → ℕ) (shelf : 
       → IsUnderWay may floor shelf state spells lines home nodes c counts looks n from i journal seat desks → IsNext counts desks line.asks
   line_next n from i line journal seat desks at own w = by line.asks refl
     where
-      at_home : line.node ≡ home (session_in line.asks)
-      at_home = at_get (λ (l : NamedLine). l.node ≡ home (session_in l.asks)) lines i line w.lines_are.at_home at
+      at_home : IsAtHome home line.node line.asks
+      at_home = at_get (λ (l : NamedLine). IsAtHome home l.node l.asks) lines i line w.lines_are.at_home at
 
       by : (a : Asks) → line.asks ≡ a → IsNext counts desks a
       by (asks.Logged s r command) is = λ d there.
           let h = w.worker.each s.id d there in
-          let home_is : home s.id ≡ n = sym (ap (λ a. home (session_in a)) is) ∙ (sym at_home ∙ own) in
+          let home_is : home s.id ≡ n = sym (subst (IsAtHome home line.node) is at_home) ∙ own in
           let few = few_asked lines n s.id i line at w.lines_are.few in
           record {
             sent = h.sent home_is;
@@ -50,7 +50,8 @@ module _ (may : ℕ → Entry → Type 0) (floor : List Entry → ℕ) (shelf : 
             rank = rank_is lines home nodes w.lines_are n i line s r command at own is ∙ ap (λ k. k + 1) (sym h.asked);
           }
       by (asks.Look s query) is = λ d there.
-          (w.worker.each s.id d there).sent (sym (ap (λ a. home (session_in a)) is) ∙ (sym at_home ∙ own))
+          (w.worker.each s.id d there).sent (sym (subst (IsAtHome home line.node) is at_home) ∙ own)
+      by (asks.Admin a) is = tt
 
   -- the first lines are of earlier phases
   asked_early : (n s from phase : ℕ) → BeginsAt lines from phase → asked_by lines n s from ≤ asked_before lines s phase

@@ -36,6 +36,8 @@ course_begins may floor shelf lines nodes c counts looks sent ok = record {
   size = ok.size;
   events = ok.events;
   nodes_are = ok.nodes_are;
+  replaced = ok.replaced;
+  ahead = λ i l at high. ok.ahead i l at (omega (arith, high));
 }
   where
     now : BeganAt may floor shelf lines c.journal (c.tails (c.phase + 1)) (c.phase + 1)
@@ -75,10 +77,12 @@ module _ (c : Course) where
   looked_then lines cursor n d i phase s query (looked.Kept cause) (inl h) = inl (record { answered = h.answered; cause_is = h.cause_is; earlier = h.earlier })
   looked_then lines cursor n d i phase s query (looked.Kept cause) (inr h) = inr h
   looked_then lines cursor n d i phase s query (looked.Failed cause) h = tt
+  looked_then lines cursor n d i phase s query (looked.Extended x) h = h
 
   played_then : (lines : List NamedLine) (done cursor n : ℕ) (desks : List Desk) (looks : List (Option Looked)) (i phase : ℕ) (a : Asks) → PlayedSo lines c done cursor n desks looks i phase a → PlayedSo lines (next_phase c) done cursor n desks looks i phase a
   played_then lines done cursor n desks looks i phase (asks.Logged s r command) h = λ d at. logged_then done cursor d phase s.id r (h d at)
   played_then lines done cursor n desks looks i phase (asks.Look s query) h = (h.0, h.1, λ d at. looked_then lines cursor n d i phase s.id query h.0 (h.2 d at))
+  played_then lines done cursor n desks looks i phase (asks.Admin a) h = h
 
   ended_then : (lines : List NamedLine) (n done s : ℕ) (d : Desk) (a : ℕ) → WasEnded lines c n done s d a → WasEnded lines (next_phase c) n done s d a
   ended_then lines n done s d a h = record {

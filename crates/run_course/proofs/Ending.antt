@@ -42,7 +42,7 @@ use Rattle.run_course.specs.Desks.{DeskAt, HasActed, IsUpTo, LoggedSo, PlayedSo,
 use Rattle.run_course.specs.Workers.{TurnEnded, WorkerAt}
 use Rattle.run_course.proofs.Lines.{of_session}
 use Rattle.run_course.proofs.Ranks.{home_is, logs_rank, node_is_home, rank_counts, rank_later, rank_low}
-use Rattle.run_course.proofs.Advance.{advance, advanced, stores_counted, tails_new, turned}
+use Rattle.run_course.proofs.Advance.{advance_still, advanced, stores_counted, tails_new, turned}
 use Rattle.run_course.proofs.Growing.{DeskGrew, DeskOfOld, Grown, came_grows, ended_grows, grown_of, played_grows}
 use Rattle.run_course.proofs.Coming.{came_at, cause_came, given_among, given_then}
 use Rattle.run_course.proofs.Fronts.{front_low}
@@ -143,7 +143,7 @@ module _ (may : ℕ → Entry → Type 0) (floor : List Entry → ℕ) (shelf : 
   -- The run
 
   course_ok : CourseOk may floor shelf lines nodes then' counts looks
-  course_ok = advance may floor shelf lines nodes c counts looks ok n came journal does.ends.moves.goes.spends.more when' counts looks seen_more now.ok.node.legal least most refl
+  course_ok = advance_still may floor shelf lines nodes c counts looks ok n came journal does.ends.moves.goes.spends.more when' counts seen_more now.ok.node.legal least most
       (λ P store. let e = does.ends.moves.goes.spends.events P store in omega (arith, e))
 
   -- the desk of before
@@ -240,6 +240,7 @@ module _ (may : ℕ → Entry → Type 0) (floor : List Entry → ℕ) (shelf : 
           let rank : rank_in l.asks ≡ r = ap rank_in is in
           omega (arith, still, gap, rank)
       by (asks.Look t query) is played = let rank : rank_in l.asks ≡ 0 = ap rank_in is in omega (arith, rank)
+      by (asks.Admin a) is played = let rank : rank_in l.asks ≡ 0 = ap rank_in is in omega (arith, rank)
 
   -- Sessions that are stopped now
 
@@ -405,6 +406,8 @@ module _ (may : ℕ → Entry → Type 0) (floor : List Entry → ℕ) (shelf : 
               own : (s.id == s.id) ≡ true
               own = grind (arith, nat_tests)
       by (asks.Look s query) is so =
+          subst (PlayedSo lines then' (c.phase + 1) seat'.node.replica.cursor n desks' looks i l.phase) (sym is) (subst (PlayedSo lines then' c.phase seat'.node.replica.cursor n desks' looks i l.phase) is so)
+      by (asks.Admin a) is so =
           subst (PlayedSo lines then' (c.phase + 1) seat'.node.replica.cursor n desks' looks i l.phase) (sym is) (subst (PlayedSo lines then' c.phase seat'.node.replica.cursor n desks' looks i l.phase) is so)
 
   worker_then : WorkerAt may floor shelf state spells lines home then' counts looks n to to (c.phase + 1) seat' desks'

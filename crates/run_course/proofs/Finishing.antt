@@ -19,7 +19,7 @@ use Rattle.run_course.specs.Script.{BeginsAt}
 use Rattle.run_course.specs.Course.{Course, CourseOk, TurnOf}
 use Rattle.run_course.specs.Desks.{DeskAt, PlayedSo}
 use Rattle.run_course.specs.Workers.{Rests, NodeFinished}
-use Rattle.run_course.proofs.Advance.{advance, advanced, stores_counted, turned}
+use Rattle.run_course.proofs.Advance.{advance_still, advanced, stores_counted, turned}
 use Rattle.run_course.proofs.Growing.{Grown, desk_same, ended_grows, grown_of, played_grows}
 
 module _ (may : ℕ → Entry → Type 0) (floor : List Entry → ℕ) (shelf : List ℕ) (state : List Entry → SpaceMap → Type 0) (spells : List ℕ → Saved → Type 0) (lines : List NamedLine) (home : ℕ → ℕ) (nodes : ℕ) (c : Course) (counts : List ℕ) (looks : List (Option Looked)) (n from done : ℕ) (seat seat' : SeatView) (desks : List Desk) (journal : List Event) (least : 1 ≤ n) (most : n ≤ nodes) (begins : BeginsAt lines from done) (low : done ≤ c.phase + 1) (ok : CourseOk may floor shelf lines nodes c counts looks) (r : Rests may floor shelf state spells lines home c counts looks n from done seat desks) (since : Since n c.journal journal) (moves : Moves (Within may counts) floor shelf (node_of seat c.journal) (node_of seat' journal) []) (same : seat'.node.outbox ≡ seat.node.outbox) (now : WorkerOk may floor shelf state spells n counts journal seat' desks) where
@@ -27,7 +27,7 @@ module _ (may : ℕ → Entry → Type 0) (floor : List Entry → ℕ) (shelf : 
   then' = advanced c n [] journal c.when
 
   course_ok : CourseOk may floor shelf lines nodes then' counts looks
-  course_ok = advance may floor shelf lines nodes c counts looks ok n [] journal since.more c.when counts looks since.seen now.ok.node.legal least most refl (λ P store. omega arith)
+  course_ok = advance_still may floor shelf lines nodes c counts looks ok n [] journal since.more c.when counts since.seen now.ok.node.legal least most (λ P store. omega arith)
 
   turn : TurnOf lines home n c then' counts counts looks looks
   turn = turned lines home n c [] journal c.when counts counts looks looks since (λ s other. refl) (λ s other. refl) (λ s. omega arith) refl (λ i l at other. refl) (λ by none. refl)

@@ -158,6 +158,7 @@ module _ (may : ℕ → Entry → Type 0) (floor : List Entry → ℕ) (shelf : 
     looked_grows lines cursor cursor' n d d' i phase s query (looked.Kept cause) low up k (inl h) = inl (stopped_grows d d' phase s cause k h)
     looked_grows lines cursor cursor' n d d' i phase s query (looked.Kept cause) low up k (inr h) = inr (h.0, came_grows cause n phase h.1)
     looked_grows lines cursor cursor' n d d' i phase s query (looked.Failed cause) low up k h = tt
+    looked_grows lines cursor cursor' n d d' i phase s query (looked.Extended x) low up k h = h
 
     pub played_grows : (lines : List NamedLine) (done done' cursor cursor' n : ℕ) (desks desks' : List Desk) (looks looks' : List (Option Looked)) (i phase : ℕ) (a : Asks) → phase ≤ c.phase → (phase < done' → phase < done) → cursor ≤ cursor'
         → slice_get looks' i ≡ slice_get looks i → DeskOfOld c c' desks desks' (session_in a) → PlayedSo lines c done cursor n desks looks i phase a → PlayedSo lines c' done' cursor' n desks' looks' i phase a
@@ -171,6 +172,7 @@ module _ (may : ℕ → Entry → Type 0) (floor : List Entry → ℕ) (shelf : 
           let o = old d' at in
           looked_grows lines cursor cursor' n o.0 d' i phase s.id query h.0 low up o.2 (h.2 o.0 o.1),
     )
+    played_grows lines done done' cursor cursor' n desks desks' looks looks' i phase (asks.Admin a) low ended up same old h = (h.0, same ∙ h.1, h.2)
 
     -- a session that was stopped in an earlier phase
     pub ended_grows : (lines : List NamedLine) (n done done' s : ℕ) (d d' : Desk) (a : ℕ) → done ≤ done' → d.answered ≡ Some a → DeskGrew c c' s d d' → WasEnded lines c n done s d a → WasEnded lines c' n done' s d' a

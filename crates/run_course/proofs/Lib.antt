@@ -2,12 +2,15 @@ pub mod Script
 pub mod Passing
 pub mod Lines
 pub mod Ranks
+pub mod Replacing
 pub mod Advance
 pub mod Growing
 pub mod Coming
 pub mod Fronts
 pub mod Logging
+pub mod Playing
 pub mod Looking
+pub mod Extending
 pub mod Asking
 pub mod Joining
 pub mod Waiting

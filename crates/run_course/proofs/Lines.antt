@@ -9,7 +9,7 @@ use Rattle.script_text.specs.declared.asks.NamedLine.{NamedLine}
 use Rattle.script_text.specs.declared.asks.Asks.{Asks}
 use Rattle.script_text.specs.declared.asks.Asks.TheVariants as asks
 use Rattle.fitting_run.specs.Lines.{is_of, logs_for, has_rank, are_ranked, are_in_phase}
-use Rattle.run_laws.specs.Ended.{session_in}
+use Rattle.run_laws.specs.Ended.{session_in, IsAtHome}
 use Rattle.run_course.specs.Script.{AreLines, BeginsAt, asked_by, logs_at}
 use Rattle.run_course.specs.Desks.{LogsBefore}
 
@@ -105,16 +105,23 @@ at_get P (y ∷ ys) (suc i) x h at = at_get P ys i x h.1 at
 pub of_session : (s : ℕ) (a : Asks) → is_of s a ≡ true → session_in a ≡ s
 of_session s (asks.Logged t r c) e = eqb-true t.id s e
 of_session s (asks.Look t q) e = absurd (cc)
+of_session s (asks.Admin a) e = absurd (cc)
+
+-- a line of the session is at its home
+pub of_home : (home : ℕ → ℕ) (node s : ℕ) (a : Asks) → IsAtHome home node a → is_of s a ≡ true → node ≡ home s
+of_home home node s (asks.Logged t r c) at e = at ∙ ap home (eqb-true t.id s e)
+of_home home node s (asks.Look t q) at e = absurd (cc)
+of_home home node s (asks.Admin a) at e = absurd (cc)
 
 -- a session's lines are logged at its home
-logs_home : (home : ℕ → ℕ) (s : ℕ) (l : NamedLine) → l.node ≡ home (session_in l.asks) → logs_at (home s) s l ≡ logs_for s l
+logs_home : (home : ℕ → ℕ) (s : ℕ) (l : NamedLine) → IsAtHome home l.node l.asks → logs_at (home s) s l ≡ logs_for s l
 logs_home home s l at = by (logs_for s l) refl
   where
     by : (b : Bool) → logs_for s l ≡ b → logs_at (home s) s l ≡ logs_for s l
-    by true e = and_from (l.node == home s) (logs_for s l) (eq-eqb l.node (home s) (at ∙ ap home (of_session s l.asks e))) e ∙ sym e
+    by true e = and_from (l.node == home s) (logs_for s l) (eq-eqb l.node (home s) (of_home home l.node s l.asks at e)) e ∙ sym e
     by false e = and_right (l.node == home s) (logs_for s l) e ∙ sym e
 
-count_home : (home : ℕ → ℕ) (s : ℕ) (lines : List NamedLine) (i : ℕ) → AllByRecursion (λ l. l.node ≡ home (session_in l.asks)) lines → asked_by lines (home s) s i ≡ count_by (logs_for s) (take i lines)
+count_home : (home : ℕ → ℕ) (s : ℕ) (lines : List NamedLine) (i : ℕ) → AllByRecursion (λ l. IsAtHome home l.node l.asks) lines → asked_by lines (home s) s i ≡ count_by (logs_for s) (take i lines)
 count_home home s [] zero h = refl
 count_home home s [] (suc i) h = refl
 count_home home s (l ∷ lines) zero h = refl
@@ -179,15 +186,15 @@ module _ (lines : List NamedLine) (home : ℕ → ℕ) (nodes : ℕ) (are : AreL
   asked_home s i = count_home home s lines i are.at_home
 
   -- so many of the session's lines before it are logged
-  pub asked_there : (n i s : ℕ) (l : NamedLine) → slice_get lines i ≡ Some l → l.node ≡ n → session_in l.asks ≡ s → asked_by lines n s i ≡ count_by (logs_for s) (take i lines)
-  asked_there n i s l at node session =
-      let there : n ≡ home s = sym node ∙ at_get (λ (l : NamedLine). l.node ≡ home (session_in l.asks)) lines i l are.at_home at ∙ ap home session in
+  pub asked_there : (n i s : ℕ) (l : NamedLine) (a : Asks) → slice_get lines i ≡ Some l → l.node ≡ n → l.asks ≡ a → (IsAtHome home l.node a → l.node ≡ home s) → asked_by lines n s i ≡ count_by (logs_for s) (take i lines)
+  asked_there n i s l a at node is home_is =
+      let there : n ≡ home s = sym node ∙ home_is (subst (IsAtHome home l.node) is (at_get (λ (m : NamedLine). IsAtHome home m.node m.asks) lines i l are.at_home at)) in
       ap (λ m. asked_by lines m s i) there ∙ asked_home s i
 
   -- a command's rank is their number and one
   pub rank_is : (n i : ℕ) (l : NamedLine) (s : Session) (r : ℕ) (c : Command) → slice_get lines i ≡ Some l → l.node ≡ n → l.asks ≡ asks.Logged s r c → r ≡ asked_by lines n s.id i + 1
   rank_is n i l s r c at node is =
-      ranked_at [] lines i l s r c are.ranked at is ∙ ap (λ k. k + 1) (sym (asked_there n i s.id l at node (ap session_in is)))
+      ranked_at [] lines i l s r c are.ranked at is ∙ ap (λ k. k + 1) (sym (asked_there n i s.id l (asks.Logged s r c) at node is (λ own. own)))
 
   -- where the session logged a line since the phase began, it did so in the phase
   pub logs_before : (n from i s phase : ℕ) (l : NamedLine) → BeginsAt lines from phase → slice_get lines i ≡ Some l → l.phase ≡ phase → asked_by lines n s from < asked_by lines n s i → LogsBefore lines i s phase

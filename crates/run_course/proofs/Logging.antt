@@ -19,7 +19,7 @@ use Rattle.node_sessions.specs.declared.desk.Desk.{Desk}
 use Rattle.node_lines.specs.declared.lines.Looked.{Looked}
 use Rattle.node_lines.specs.Moving.{IsQuiet, causes_of}
 use Rattle.node_workers.specs.Workers.{Logs, WorkerOk, sent_of}
-use Rattle.run_laws.specs.Ended.{session_in}
+use Rattle.run_laws.specs.Ended.{IsAtHome, session_in}
 use Rattle.run_laws.proofs.Members.{among-right, contained-among}
 use Rattle.run_laws.proofs.Placing.{same_some}
 use Rattle.run_course.specs.Script.{AreLines, asked_by}
@@ -27,7 +27,7 @@ use Rattle.run_course.specs.Course.{Course, CourseOk, TurnOf}
 use Rattle.run_course.specs.Desks.{DeskAt, LoggedSo, PlayedSo}
 use Rattle.run_course.specs.Workers.{LineWent, WorkerAt}
 use Rattle.run_course.proofs.Lines.{asked_more, asked_none, asked_one, at_get, phase_before, rank_is}
-use Rattle.run_course.proofs.Advance.{advance, advanced, stores_counted, turned}
+use Rattle.run_course.proofs.Advance.{advance_still, advanced, stores_counted, turned}
 use Rattle.run_course.proofs.Growing.{DeskGrew, DeskOfOld, Grown, desk_same, ended_grows, grown_of, halted_grows, played_grows}
 use Rattle.run_course.proofs.Coming.{came_at, given_among, given_then}
 
@@ -45,11 +45,11 @@ module _ (may : ℕ → Entry → Type 0) (floor : List Entry → ℕ) (shelf : 
   then' = advanced c n came journal c.when
 
   course_ok : CourseOk may floor shelf lines nodes then' counts' looks
-  course_ok = advance may floor shelf lines nodes c counts looks ok n came journal logs.logs.goes.spends.more c.when counts' looks logs.logs.goes.spends.seen now.ok.node.legal least most refl
+  course_ok = advance_still may floor shelf lines nodes c counts looks ok n came journal logs.logs.goes.spends.more c.when counts' logs.logs.goes.spends.seen now.ok.node.legal least most
       (λ P store. let e = logs.logs.goes.spends.events P store in omega (arith, e))
 
   at_home : home session.id ≡ n
-  at_home = sym (at_get (λ (l : NamedLine). l.node ≡ home (session_in l.asks)) lines i line are.at_home at ∙ ap (λ a. home (session_in a)) asks_is) ∙ node
+  at_home = sym (subst (IsAtHome home line.node) asks_is (at_get (λ (l : NamedLine). IsAtHome home l.node l.asks) lines i line are.at_home at)) ∙ node
 
   not_here : (s : ℕ) → s ≡ n → (s == n) ≡ false → ⊥
   not_here s e f = grind (arith, nat_tests, e, f)

@@ -1,47 +1,44 @@
 -- A line looked at the table at its node.
-use Rattle.std.proofs.Common.{◌≡◌, ◌≢◌, refl, sym, ap, ◌∙◌, subst, ◌⊎◌, inl, inr, ⊎_elim, ℕ, ◌+◌, ◌<◌, ◌≤◌, ◌==◌, Bool, false, cond, List, [], ◌∷◌, ◌++◌, Option, Some, None, IsSome, map, length, length-set, count_by, slice_get, slice_set, arith}
+use Rattle.std.proofs.Common.{◌≡◌, refl, sym, ap, ◌∙◌, subst, ◌⊎◌, inl, inr, ⊎_elim, ℕ, ◌+◌, ◌<◌, ◌≤◌, false, List, Option, Some, None, IsSome, map, length, slice_get, slice_set, arith}
 use Rattle.std.specs.List.{AllByRecursion}
 use Rattle.std.proofs.lemmas.Bool.{cases_lt}
-use Rattle.std.proofs.lemmas.Bool.Decides.{nat_tests}
-use Rattle.std.proofs.lemmas.List.Sums.{sum_by-append}
 use Rattle.delos_types.specs.Spaces.{SpaceMap}
 use Rattle.delos_types.specs.declared.entry.Entry.{Entry}
 use Rattle.delos_types.specs.declared.cause.Cause.{Cause}
 use Rattle.table_core.specs.declared.command.Query.{Query}
 use Rattle.table_core.specs.declared.command.Found.{Found}
 use Rattle.legal_journal.specs.declared.events.Event.{Event}
+use Rattle.legal_journal.specs.Journal.{state_of}
 use Rattle.engine_api.specs.Acted.{asked_in}
 use Rattle.engine_api.specs.Order.{gap_from}
 use Rattle.replica_api.specs.Replica.{Saved}
-use Rattle.base_engine.specs.declared.outbox.Given.{Given}
 use Rattle.base_engine.specs.Settling.{cause_in}
 use Rattle.script_text.specs.declared.line.Session.{Session}
 use Rattle.script_text.specs.declared.asks.NamedLine.{NamedLine}
 use Rattle.script_text.specs.declared.asks.Asks.TheVariants as asks
-use Rattle.fitting_run.specs.Lines.{is_of}
-use Rattle.fitting_run.specs.Faults.{lacks_store}
-use Rattle.fabric_core.proofs.Marks.{set_other, set_same}
+use Rattle.fitting_run.specs.Lines.{is_of, logs_for}
+use Rattle.fabric_core.proofs.Marks.{set_same}
 use Rattle.one_thread.specs.Alone.{Since}
 use Rattle.one_thread.specs.Seats.{SeatView, node_of}
 use Rattle.one_thread.proofs.Widening.{legal_wider}
 use Rattle.node_sessions.specs.declared.desk.Desk.{Desk}
 use Rattle.node_lines.specs.declared.lines.Looked.{Looked}
 use Rattle.node_lines.specs.declared.lines.Looked.TheVariants as looked
-use Rattle.node_lines.specs.Moving.{causes_of}
 use Rattle.node_lines.specs.Lines.{Looks, LooksSo}
 use Rattle.node_workers.specs.Workers.{MayRun, Within, WorkerOk}
-use Rattle.run_laws.specs.Ended.{CameTo, session_in}
-use Rattle.run_laws.proofs.Members.{among-map}
+use Rattle.run_laws.specs.Ended.{CameTo}
 use Rattle.run_laws.proofs.Placing.{same_some}
-use Rattle.run_course.specs.Script.{AreLines, BeginsAt, asked_by, failed_looks}
-use Rattle.run_course.specs.Course.{Course, CourseOk, TurnOf}
+use Rattle.run_course.specs.Script.{AreLines, BeginsAt, asked_by}
+use Rattle.run_course.specs.Course.{Course, CourseOk}
 use Rattle.run_course.specs.Desks.{DeskAt, LogsBefore, LookedSo, PlayedSo, SawSo, WasStopped}
 use Rattle.run_course.specs.Workers.{LineWent, WorkerAt}
-use Rattle.run_course.proofs.Lines.{count-cons, asked_more, asked_none, asked_there, logs_before, phase_before}
-use Rattle.run_course.proofs.Advance.{advance, advanced, failed_of, failed_set, stores_counted, tails_new, tails_old, turned}
-use Rattle.run_course.proofs.Growing.{Grown, came_grows, desk_same, ended_grows, grown_of, halted_grows, played_grows}
-use Rattle.run_course.proofs.Coming.{cause_came, given_then}
+use Rattle.run_course.proofs.Lines.{asked_more, asked_there, logs_before}
+use Rattle.run_course.proofs.Advance.{advanced, failed_of, tails_new, tails_old}
+use Rattle.run_course.proofs.Growing.{Grown, came_grows}
+use Rattle.run_course.proofs.Coming.{cause_came}
 use Rattle.run_course.proofs.Fronts.{front_low}
+use Rattle.run_course.proofs.Replacing.{LooksOn}
+use Rattle.run_course.proofs.Playing as playing
 
 module _ (may : ℕ → Entry → Type 0) (floor : List Entry → ℕ) (shelf : List ℕ) (state : List Entry → SpaceMap → Type 0) (spells : List ℕ → Saved → Type 0) (run : MayRun may floor shelf) (lines : List NamedLine) (home : ℕ → ℕ) (nodes : ℕ) (c : Course) (counts : List ℕ) (looks : List (Option Looked)) (n from i : ℕ) (line : NamedLine) (session : Session) (query : Query) (desk : Desk) (look : Looked) (seat seat' : SeatView) (desks : List Desk) (journal : List Event) (are : AreLines lines home nodes) (least : 1 ≤ n) (most : n ≤ nodes) (begins : BeginsAt lines from c.phase) (at : slice_get lines i ≡ Some line) (node : line.node ≡ n) (phase : line.phase ≡ c.phase) (asks_is : line.asks ≡ asks.Look session query) (ok : CourseOk may floor shelf lines nodes c counts looks) (worker : WorkerAt may floor shelf state spells lines home c counts looks n from i c.phase seat desks) (since : Since n c.journal journal) (desk_at : slice_get desks session.id ≡ Some desk) (does : Looks (Within may counts) floor shelf (node_of seat c.journal) (node_of seat' journal) desk query look) (now : WorkerOk may floor shelf state spells n counts journal seat' desks) where
   abbrev came : List Cause
@@ -57,67 +54,23 @@ module _ (may : ℕ → Entry → Type 0) (floor : List Entry → ℕ) (shelf : 
   not_yet = worker.waiting i line (omega arith) at node
 
   -- what the calls came across but what sessions were given is by what the look failed
-  others_are : (x : Looked) → LooksSo (node_of seat c.journal) (node_of seat' journal) desk query does.others x → does.others ≡ failed_of x
-  others_are (looked.Found after found) h = h.0
-  others_are (looked.Kept k) h = h.0
-  others_are (looked.Failed k) h = h.0
+  paid_is : (x : Looked) → LooksSo (node_of seat c.journal) (node_of seat' journal) desk query does.others x → does.others ≡ failed_of x
+  paid_is (looked.Found after found) h = h.0
+  paid_is (looked.Kept k) h = h.0
+  paid_is (looked.Failed k) h = h.0
+  paid_is (looked.Extended x) h = absurd h
 
-  both : (P : Cause → Bool) → count_by P came + count_by P (failed_of look) ≡ count_by P (causes_of does.moves.goes.given does.others)
-  both P =
-      let a = ap (count_by P) (others_are look does.looks) in
-      let b : count_by P (came ++ does.others) ≡ count_by P came + count_by P does.others = sum_by-append (λ k. cond (P k) 1 0) came does.others in
-      omega (arith, a, b)
+  on : LooksOn (length shelf) (state_of c.journal).register (state_of journal).register look
+  on x is = absurd (subst (LooksSo (node_of seat c.journal) (node_of seat' journal) desk query does.others) is does.looks)
 
-  paid : (by : ℕ → Cause → Bool) → failed_looks by lines looks' ≡ failed_looks by lines looks + count_by (by n) (failed_of look)
-  paid by = failed_set by lines looks i line look at not_yet ∙ ap (λ m. failed_looks by lines looks + count_by (by m) (failed_of look)) node
-
-  size : length looks' ≡ length looks
-  size = length-set looks i (Some look)
-
-  course_ok : CourseOk may floor shelf lines nodes then' counts looks'
-  course_ok = advance may floor shelf lines nodes c counts looks ok n came journal does.moves.goes.spends.more c.when counts looks' does.moves.goes.spends.seen now.ok.node.legal least most size
-      (λ P store. let e = does.moves.goes.spends.events P store in let a = both P in let b = paid (λ m. P) in omega (arith, e, a, b))
-
-  elsewhere : (j : ℕ) → j ≢ i → slice_get looks' j ≡ slice_get looks j
-  elsewhere j other = set_other looks i j (Some look) other
-
-  not_here : (m : ℕ) → m ≡ n → (m == n) ≡ false → ⊥
-  not_here m e f = grind (arith, nat_tests, e, f)
-
-  turn : TurnOf lines home n c then' counts counts looks looks'
-  turn = turned lines home n c came journal c.when counts counts looks looks' since (λ s other. refl) (λ s other. refl) (λ s. omega arith) size
-      (λ j l get other. elsewhere j (λ same. not_here l.node (ap (λ (x : NamedLine). x.node) (same_some l line (sym get ∙ ap (slice_get lines) same ∙ at)) ∙ node) other))
-      (λ by none. let e = paid by in let z = none_counted by none (failed_of look) in omega arith)
-    where
-      none_counted : (by : ℕ → Cause → Bool) → ((k : Cause) → by n k ≡ false) → (ks : List Cause) → count_by (by n) ks ≡ 0
-      none_counted by none [] = refl
-      none_counted by none (k ∷ ks) =
-          let a = count-cons (by n) k ks in
-          let e = ap {B = ℕ} (λ b. cond b 1 0) (none k) in
-          let rest = none_counted by none ks in
-          omega (arith, a, e, rest)
+  unlogged : (s : ℕ) → logs_for s line ≡ false
+  unlogged s = ap (is_of s) asks_is
 
   grown : Grown may floor shelf c then'
-  grown = grown_of may floor shelf lines home nodes n c then' counts counts looks looks' turn ok course_ok
-
-  none_more : (s : ℕ) → asked_by lines n s (i + 1) ≡ asked_by lines n s i
-  none_more s = asked_none lines n s i line at (ap (is_of s) asks_is)
-
-  each : (s : ℕ) (d : Desk) → slice_get desks s ≡ Some d → DeskAt lines home then' counts n from (i + 1) c.phase s d
-  each s d get =
-      let x = worker.each s d get in
-      record {
-        asked = x.asked ∙ sym (none_more s);
-        sent = x.sent;
-        ended = λ a first. ended_grows may floor shelf c then' grown lines n c.phase c.phase s d d a (omega arith) first (desk_same c then' s d refl) (x.ended a first);
-        here = x.here;
-        halted = λ k none stop. halted_grows may floor shelf c then' grown lines n from i (i + 1) c.phase s k (asked_more lines n s i (i + 1) (omega arith)) (x.halted k none stop);
-        held = x.held;
-      }
+  grown = playing.grown may floor shelf state spells lines home nodes c counts looks n from i line look seat seat' desks journal are least most at node phase unlogged ok worker since does.others does.moves (paid_is look does.looks) on now
 
   all_given : AllByRecursion (λ g. CameTo then'.faults g.cause n c.phase) seat'.node.outbox.given
-  all_given = given_then may floor shelf c n came journal c.when seat.node.outbox.given does.moves.goes.given seat'.node.outbox.given grown does.moves.goes.gained
-      (λ g m. among-map (λ (x : Given). x.cause) does.moves.goes.given g m) worker.given
+  all_given = playing.all_given may floor shelf state spells lines home nodes c counts looks n from i line look seat seat' desks journal are least most at node phase unlogged ok worker since does.others does.moves (paid_is look does.looks) on now
 
   -- The line
 
@@ -146,7 +99,7 @@ module _ (may : ℕ → Entry → Type 0) (floor : List Entry → ℕ) (shelf : 
       let given = fine.given h.1.0 (ap (λ s. cause_in s seat.node.outbox.given) (sym fine.session) ∙ h.1.1) in
       let shows = h.3 in
       let asked = own_at.asked in
-      let there = asked_there lines home nodes are n i session.id line at node (ap session_in asks_is) in
+      let there = asked_there lines home nodes are n i session.id line (asks.Look session query) at node asks_is (λ own. own) in
       let old = tails_old c n came journal c.when line.phase (omega (arith, phase)) in
       let new = tails_new c n came journal c.when (line.phase + 1) (omega (arith, phase)) in
       record {
@@ -187,42 +140,11 @@ module _ (may : ℕ → Entry → Type 0) (floor : List Entry → ℕ) (shelf : 
       inr (logs_then (had_asked k has.1), subst (CameTo then'.faults k n) (sym phase) (cause_came (λ x. CameTo then'.faults x n c.phase) desk.session seat'.node.outbox.given k all_given has.1)))
       h.1
   looked_so (looked.Failed k) h = tt
+  looked_so (looked.Extended x) h = h
 
   line_played : PlayedSo lines then' c.phase seat'.node.replica.cursor n desks looks' i line.phase line.asks
   line_played = subst (PlayedSo lines then' c.phase seat'.node.replica.cursor n desks looks' i line.phase) (sym asks_is)
       (look, set_same looks i (Some look) None not_yet, λ d get. subst (λ x. LookedSo lines then' seat'.node.replica.cursor n x i line.phase session.id query look) (same_some desk d (sym desk_at ∙ get)) (looked_so look does.looks))
 
-  played : (j : ℕ) (l : NamedLine) → j < i + 1 → slice_get lines j ≡ Some l → l.node ≡ n → PlayedSo lines then' c.phase seat'.node.replica.cursor n desks looks' j l.phase l.asks
-  played j l low get there = ⊎_elim
-      (λ (before : j < i).
-      played_grows may floor shelf c then' grown lines c.phase c.phase seat.node.replica.cursor seat'.node.replica.cursor n desks desks looks looks' j l.phase l.asks
-      (let up = phase_before lines home nodes are j i l line get at (omega (arith, before)) in omega (arith, up, phase)) (λ over. over) does.moves.goes.keeps.forward
-      (elsewhere j (λ same. absurd (omega (arith, before, same)))) (λ d is. (d, is, desk_same c then' (session_in l.asks) d refl))
-      (worker.played j l before get there))
-      (λ (high : i ≤ j).
-      let same : i ≡ j = omega (arith, low, high) in
-      let is : line ≡ l = same_some line l (sym at ∙ ap (slice_get lines) same ∙ get) in
-      subst (λ k. PlayedSo lines then' c.phase seat'.node.replica.cursor n desks looks' k l.phase l.asks) same
-      (subst (λ (x : NamedLine). PlayedSo lines then' c.phase seat'.node.replica.cursor n desks looks' i x.phase x.asks) is line_played))
-      (cases_lt j i)
-
-  worker_then : WorkerAt may floor shelf state spells lines home then' counts looks' n from (i + 1) c.phase seat' desks
-  worker_then = record {
-    ok = now;
-    order = omega (arith, worker.order);
-    each = each;
-    quiet = λ s same. does.moves.quiet s (worker.quiet s (same ∙ none_more s));
-    given = all_given;
-    waiting = λ j l high get there. elsewhere j (λ same. absurd (omega (arith, high, same))) ∙ worker.waiting j l (omega (arith, high)) get there;
-    played = played;
-    stores = stores_counted lines n c.phase c.faults looks looks' came (failed_of look) (causes_of does.moves.goes.given does.others) seat.node.replica.faults seat'.node.replica.faults both (paid (lacks_store n)) does.moves.goes.spends.disk worker.stores;
-  }
-
   pub line_looked : LineWent may floor shelf state spells lines home nodes c counts counts looks looks' n from (i + 1) journal seat' desks
-  line_looked = record {
-    course = then';
-    journal_is = refl;
-    ok = course_ok;
-    turn = turn;
-    worker = worker_then;
-  }
+  line_looked = playing.line_went may floor shelf state spells lines home nodes c counts looks n from i line look seat seat' desks journal are least most at node phase unlogged ok worker since does.others does.moves (paid_is look does.looks) on now line_played

@@ -69,6 +69,7 @@ module _ (may : ℕ → Entry → Type 0) (floor : List Entry → ℕ) (shelf : 
   played_on : (done cursor i phase : ℕ) (desks : List Desk) (a : Asks) → phase < done → PlayedSo lines c done cursor n desks looks i phase a → PlayedSo lines c (done + 1) cursor n desks looks i phase a
   played_on done cursor i phase desks (asks.Logged s r command) low h = λ d is. record { acted = λ lt upto. (h d is).acted low upto; unsent = (h d is).unsent }
   played_on done cursor i phase desks (asks.Look s query) low h = h
+  played_on done cursor i phase desks (asks.Admin a) low h = h
 
   pub phase_passed : (to : ℕ) (seat : SeatView) (desks : List Desk) → from ≤ to → BeginsAt lines from c.phase
       → ((i : ℕ) (l : NamedLine) → from ≤ i → i < to → slice_get lines i ≡ Some l → (l.node == n) ≡ false)

@@ -5,11 +5,11 @@ use Rattle.script_text.specs.declared.asks.NamedLine.{NamedLine}
 use Rattle.script_text.specs.declared.asks.Asks.{Asks}
 use Rattle.script_text.specs.declared.asks.Asks.TheVariants as asks
 use Rattle.fitting_run.specs.Lines.{is_of, logs_for}
-use Rattle.run_laws.specs.Ended.{rank_in, session_in}
+use Rattle.run_laws.specs.Ended.{IsAtHome, rank_in}
 use Rattle.run_course.specs.Script.{AreLines, asked_by, logs_at}
 use Rattle.run_course.specs.Desks.{LogsIn}
 use Rattle.run_course.proofs.Script.{asked-yes}
-use Rattle.run_course.proofs.Lines.{asked_more, at_get, count-cons, of_session, phase_before, rank_is}
+use Rattle.run_course.proofs.Lines.{asked_more, at_get, count-cons, of_home, of_session, phase_before, rank_is}
 
 module _ {A : Type 0} (p : A → Bool) where
   -- one that is counted, behind so many others
@@ -61,10 +61,11 @@ module _ (lines : List NamedLine) (home : ℕ → ℕ) (nodes : ℕ) (are : AreL
           let same : t.id ≡ s = of_session s (asks.Logged t r c) (ap (is_of s) (sym is) ∙ logs) in
           ap rank_in is ∙ rank_is lines home nodes are n i l t r c at node is ∙ ap (λ u. asked_by lines n u i + 1) same
       by (asks.Look t q) is = absurd (let none : false ≡ true = ap (is_of s) (sym is) ∙ logs in cc)
+      by (asks.Admin a) is = absurd (let none : false ≡ true = ap (is_of s) (sym is) ∙ logs in cc)
 
   -- a session's logged lines are at its home
   pub node_is_home : (i s : ℕ) (l : NamedLine) → slice_get lines i ≡ Some l → logs_for s l ≡ true → l.node ≡ home s
-  node_is_home i s l at logs = at_get (λ (m : NamedLine). m.node ≡ home (session_in m.asks)) lines i l are.at_home at ∙ ap home (of_session s l.asks logs)
+  node_is_home i s l at logs = of_home home l.node s l.asks (at_get (λ (m : NamedLine). IsAtHome home m.node m.asks) lines i l are.at_home at) logs
 
   -- where the session asked something, there is its home
   pub home_is : (n s to : ℕ) → 0 < asked_by lines n s to → home s ≡ n

@@ -20,12 +20,12 @@ use Rattle.node_lines.specs.declared.lines.Looked.{Looked}
 use Rattle.node_lines.specs.Moving.{IsQuiet}
 use Rattle.node_workers.specs.Workers.{Within, WorkerOk}
 use Rattle.worker_laws.proofs.Staying.{worker_stays}
-use Rattle.run_laws.specs.Ended.{CameTo, Fault, most_faults, session_in}
+use Rattle.run_laws.specs.Ended.{CameTo, Fault, IsAtHome, most_faults, session_in}
 use Rattle.run_course.specs.Script.{AreLines, BeginsAt, asked_by, failed_looks, logs_at}
 use Rattle.run_course.specs.Course.{Course, CourseOk, TurnOf}
 use Rattle.run_course.specs.Desks.{DeskAt, PlayedSo}
 use Rattle.run_course.specs.Workers.{Rests}
-use Rattle.run_course.proofs.Lines.{at_get, counted_between, of_session}
+use Rattle.run_course.proofs.Lines.{at_get, counted_between, of_home}
 use Rattle.run_course.proofs.Growing.{DeskGrew, Grown, ended_grows, grown_of, played_grows}
 
 none_first : {A : Type 0} (p : A → Bool) (xs : List A) → count_by p (take 0 xs) ≡ 0
@@ -37,9 +37,9 @@ pub asked_has_home : (lines : List NamedLine) (home : ℕ → ℕ) (nodes n s at
 asked_has_home lines home nodes n s at are some =
     let b = counted_between (logs_at n s) lines 0 at (let none = none_first (logs_at n s) lines in omega (arith, some, none)) in
     let logs = and_parts (b.one.node == n) (logs_for s b.one) b.counted in
-    let there = at_get (λ (l : NamedLine). l.node ≡ home (session_in l.asks)) lines b.at b.one are.at_home b.is in
+    let there = of_home home b.one.node s b.one.asks (at_get (λ (l : NamedLine). IsAtHome home l.node l.asks) lines b.at b.one are.at_home b.is) logs.1 in
     let own : b.one.node ≡ n = grind (arith, nat_tests, logs.0) in
-    sym (ap home (of_session s b.one.asks logs.1)) ∙ sym there ∙ own
+    sym there ∙ own
 
 -- a store is of no other node
 store_of_other : (n m : ℕ) (k : Cause) → (n == m) ≡ false → lacks_store m n k ≡ false

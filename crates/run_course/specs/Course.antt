@@ -1,5 +1,5 @@
 -- What has happened in a run over nodes.
-use Rattle.std.specs.Prelude.{◌≡◌, ℕ, ◌+◌, ◌<◌, ◌≤◌, ◌==◌, Bool, false, List, ◌++◌, length, count_by, slice_get, Option, Some}
+use Rattle.std.specs.Prelude.{◌≡◌, ℕ, ◌+◌, ◌<◌, ◌≤◌, ◌==◌, Bool, false, List, ◌++◌, length, count_by, slice_get, Option, Some, None}
 use Rattle.std.specs.List.{AllByRecursion}
 use Rattle.delos_types.specs.declared.entry.Entry.{Entry}
 use Rattle.delos_types.specs.declared.cause.Cause.{Cause}
@@ -13,6 +13,7 @@ use Rattle.one_thread.specs.Alone.{AreOwn}
 use Rattle.node_workers.specs.Workers.{Within, sent_of}
 use Rattle.run_laws.specs.Ended.{Fault}
 use Rattle.run_course.specs.Script.{asked_before, failed_looks}
+use Rattle.run_course.specs.Replacing.{Replaced}
 
 -- All events so far; the present phase; the tails at which phases began, of those to come the present tail; the faults that came,
 -- but for those of reads' own looks; and the phases in which sessions were stopped, of those that were.
@@ -33,8 +34,8 @@ pub record BeganAt (may : ℕ → Entry → Type 0) (floor : List Entry → ℕ)
   pub legal : IsLegal (Within may counts) floor shelf early
   pub sent : (s : ℕ) → sent_of counts s ≤ asked_before lines s phase
 
--- Of the whole run: how each phase began, and each fault that came had an event of its own. `counts` are the commands that were
--- sent, by sessions; `looks` what each line's own look came to, if it was played.
+-- Of the whole run: how each phase began, each fault that came had an event of its own, and what lines did to the chain. `counts`
+-- are the commands that were sent, by sessions; `looks` what each line's own look came to, if it was played.
 pub record CourseOk (may : ℕ → Entry → Type 0) (floor : List Entry → ℕ) (shelf : List ℕ) (lines : List NamedLine) (nodes : ℕ) (c : Course) (counts : List ℕ) (looks : List (Option Looked)) : Type 0 where
   pub legal : IsLegal (Within may counts) floor shelf c.journal
   pub began : (p : ℕ) → p ≤ c.phase → BeganAt may floor shelf lines c.journal (c.tails p) p
@@ -43,6 +44,9 @@ pub record CourseOk (may : ℕ → Entry → Type 0) (floor : List Entry → ℕ
   pub size : length looks ≡ length lines
   pub events : (P : Cause → Bool) → P cause.Store ≡ false → failed_looks (λ n. P) lines looks + count_by (λ f. P f.cause) c.faults ≤ count_by P (faults_in c.journal)
   pub nodes_are : AllByRecursion (λ f. (1 ≤ f.node) × (f.node ≤ nodes)) c.faults
+  pub replaced : Replaced lines looks (state_of c.journal).register (length shelf)
+  -- no line of a phase to come was played
+  pub ahead : (i : ℕ) (l : NamedLine) → slice_get lines i ≡ Some l → c.phase < l.phase → slice_get looks i ≡ Some None
 
 -- What a node's turn, or a part of it, brings: events, faults and looks of its own, and commands of the sessions that have
 -- their lines there.

@@ -72,12 +72,21 @@ abbrev pub LookedSo : List NamedLine → Course → ℕ → ℕ → Desk → ℕ
 LookedSo lines c cursor n d i phase s query (looked.Found after found) = SawSo lines c cursor d i phase s query after found
 LookedSo lines c cursor n d i phase s query (looked.Kept cause) = WasStopped c d phase s cause ⊎ (LogsBefore lines i s phase × CameTo c.faults cause n phase)
 LookedSo lines c cursor n d i phase s query (looked.Failed cause) = Unit {0}
+LookedSo lines c cursor n d i phase s query (looked.Extended extension) = ⊥
 
--- line i was played, at the desk of its session
+-- the last loglet was replaced, or couldn't be, or the log failed
+abbrev pub IsOfNode : Looked → Type 0
+IsOfNode (looked.Extended extension) = Unit {0}
+IsOfNode (looked.Failed cause) = Unit {0}
+IsOfNode (looked.Found after found) = ⊥
+IsOfNode (looked.Kept cause) = ⊥
+
+-- line i was played, at the desk of its session, or at the node itself
 abbrev pub PlayedSo : List NamedLine → Course → ℕ → ℕ → ℕ → List Desk → List (Option Looked) → ℕ → ℕ → Asks → Type 0
 PlayedSo lines c done cursor n desks looks i phase (asks.Logged s r command) = (d : Desk) → slice_get desks s.id ≡ Some d → LoggedSo c done cursor d phase s.id r
 PlayedSo lines c done cursor n desks looks i phase (asks.Look s query) =
     (look : Looked) × (slice_get looks i ≡ Some (Some look)) × ((d : Desk) → slice_get desks s.id ≡ Some d → LookedSo lines c cursor n d i phase s.id query look)
+PlayedSo lines c done cursor n desks looks i phase (asks.Admin a) = (look : Looked) × (slice_get looks i ≡ Some (Some look)) × IsOfNode look
 
 -- Sessions
 

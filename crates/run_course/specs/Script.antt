@@ -6,14 +6,16 @@ use Rattle.script_text.specs.declared.asks.NamedLine.{NamedLine}
 use Rattle.fitting_run.specs.Lines.{logs_for, are_ranked, are_in_phase}
 use Rattle.node_lines.specs.declared.lines.Looked.{Looked}
 use Rattle.node_lines.specs.declared.lines.Looked.TheVariants as looked
-use Rattle.run_laws.specs.Ended.{session_in, pays}
+use Rattle.run_laws.specs.Ended.{session_in, pays, IsAtHome}
 
--- Each session has its lines at one of the nodes, which keeps a desk for it; ranks count its logged lines.
+-- Each session has its lines at one of the nodes, which keeps a desk for it; ranks count its logged lines. Any node may be asked
+-- something itself.
 pub record AreLines (lines : List NamedLine) (home : ℕ → ℕ) (nodes : ℕ) : Type 0 where
   pub few : length lines ≤ 20000
   pub ranked : are_ranked [] lines ≡ true
   pub phases : are_in_phase 0 lines ≡ true
-  pub at_home : AllByRecursion (λ l. l.node ≡ home (session_in l.asks)) lines
+  pub nodes_are : AllByRecursion (λ l. (1 ≤ l.node) × (l.node ≤ nodes)) lines
+  pub at_home : AllByRecursion (λ l. IsAtHome home l.node l.asks) lines
   pub there : (s : ℕ) → 1 ≤ home s
   pub within : (s : ℕ) → home s ≤ nodes
   pub known : AllByRecursion (λ l. session_in l.asks ≤ 63) lines
@@ -35,14 +37,16 @@ asked_by lines n s at = count_by (logs_at n s) (take at lines)
 abbrev pub asked_before : List NamedLine → ℕ → ℕ → ℕ
 asked_before lines s phase = count_by (λ l. logs_for s l && nat_lt l.phase phase) lines
 
--- Why a read's own look failed, if it did. A line that wasn't played yet has looked at nothing.
+-- Why a read's own look failed, or what a line asked of a node itself, if it did. A line that wasn't played yet has looked at
+-- nothing.
 abbrev pub failure_of_look : Option Looked → Option Cause
 failure_of_look None = None
 failure_of_look (Some (looked.Found after found)) = None
 failure_of_look (Some (looked.Kept cause)) = None
+failure_of_look (Some (looked.Extended extension)) = None
 failure_of_look (Some (looked.Failed cause)) = Some cause
 
--- how many reads failed by such causes
+-- how many lines failed so by such causes
 abbrev pub failed_looks : (ℕ → Cause → Bool) → List NamedLine → List (Option Looked) → ℕ
 failed_looks by [] looks = 0
 failed_looks by (l ∷ lines) [] = 0

@@ -78,6 +78,7 @@ pub record IsUnderWay (may : ℕ → Entry → Type 0) (floor : List Entry → �
 abbrev pub CanSend : (ℕ → Entry → Type 0) → ℕ → Asks → Type 0
 CanSend may who (asks.Logged s r command) = IsSpellable command × (command_length command ≤ 984) × may who (packed who (session_item s.id r command ∷ []))
 CanSend may who (asks.Look s query) = Unit {0}
+CanSend may who (asks.Admin a) = Unit {0}
 
 -- at the desk of its session the command is the next
 pub record IsNextAt (counts : List ℕ) (s r : ℕ) (d : Desk) : Type 0 where
@@ -85,7 +86,8 @@ pub record IsNextAt (counts : List ℕ) (s r : ℕ) (d : Desk) : Type 0 where
   pub few : d.asked < 20000
   pub rank : r ≡ d.asked + 1
 
--- the line is its session's next
+-- the line is its session's next, if it has one
 abbrev pub IsNext : List ℕ → List Desk → Asks → Type 0
 IsNext counts desks (asks.Logged s r command) = (d : Desk) → slice_get desks s.id ≡ Some d → IsNextAt counts s.id r d
 IsNext counts desks (asks.Look s query) = (d : Desk) → slice_get desks s.id ≡ Some d → d.sent ≡ sent_of counts s.id
+IsNext counts desks (asks.Admin a) = Unit {0}

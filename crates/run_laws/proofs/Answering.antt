@@ -1,5 +1,5 @@
 -- What a line's row tells: where its command acted on time, where its read looked; and which rank the line logs.
-use Rattle.std.proofs.Common.{◌≡◌, refl, sym, ap, ◌∙◌, subst, ℕ, ◌+◌, ◌<◌, ◌≤◌, true, false, cond, List, [], ◌∷◌, ◌++◌, Some, None, length, map, take, count_by, is_some, ◌==◌, ◌||◌, arith, eq-eqb, eqb-true, ltb-false}
+use Rattle.std.proofs.Common.{◌≡◌, refl, sym, ap, ◌∙◌, subst, ℕ, ◌+◌, ◌<◌, ◌≤◌, true, false, cond, List, [], ◌∷◌, ◌++◌, Some, None, IsSome, length, map, take, count_by, is_some, ◌==◌, ◌||◌, arith, eq-eqb, eqb-true, ltb-false}
 use Rattle.std.proofs.lemmas.Bool.{and_parts, both_ways}
 use Rattle.std.proofs.lemmas.List.{map-append}
 use Rattle.std.proofs.lemmas.List.Sums.{sum_by-append, sum_by-cons}
@@ -9,6 +9,7 @@ use Rattle.engine_api.specs.declared.act.Act.{Act}
 use Rattle.engine_api.specs.Acted.{asked_in}
 use Rattle.engine_api.specs.Order.{gap_from}
 use Rattle.engine_laws.specs.State.{acts_in}
+use Rattle.script_text.specs.declared.line.Admin.TheVariants.{Extend}
 use Rattle.script_text.specs.declared.asks.NamedLine.{NamedLine}
 use Rattle.script_text.specs.declared.asks.Asks.{Asks}
 use Rattle.script_text.specs.declared.asks.Asks.TheVariants as asks
@@ -61,6 +62,8 @@ module _ (log : List Entry) (tails : ℕ → ℕ) (faults : List Fault) (ends : 
   on-time (asks.Look s q) (out.Open cause) p h e = absurd (none_some p e)
   on-time (asks.Look s q) (out.Read after found) p h e = absurd (none_some p e)
   on-time (asks.Look s q) o p h e = absurd h
+  on-time (asks.Admin Extend) (out.Placed place reply late) p h e = absurd h
+  on-time (asks.Admin a) o p h e = absurd (none_some p e)
 
   pub looked : (a : Asks) (o : Outcome) (after : ℕ) → CameOf log tails faults ends before t a o → looked_at o ≡ Some after → IsLook log tails before t.line.phase a after
   looked (asks.Look s q) (out.Read at found) after h e =
@@ -71,6 +74,8 @@ module _ (log : List Entry) (tails : ℕ → ℕ) (faults : List Fault) (ends : 
   looked (asks.Logged s r c) (out.Placed place reply late) after h e = absurd (none_some after e)
   looked (asks.Logged s r c) (out.Open cause) after h e = absurd (none_some after e)
   looked (asks.Logged s r c) o after h e = absurd h
+  looked (asks.Admin Extend) (out.Read at found) after h e = absurd h
+  looked (asks.Admin a) o after h e = absurd (none_some after e)
 
   -- a logged row that isn't placed in its phase is open or late
   pub not-on_time : (a : Asks) (o : Outcome) → CameOf log tails faults ends before t a o → logs a ≡ true → is_some (place_on_time o) ≡ false → (is_open o || is_late o) ≡ true
@@ -79,6 +84,7 @@ module _ (log : List Entry) (tails : ℕ → ℕ) (faults : List Fault) (ends : 
   not-on_time (asks.Logged s r c) (out.Open cause) h l e = refl
   not-on_time (asks.Logged s r c) o h l e = absurd h
   not-on_time (asks.Look s q) o h l e = absurd (both_ways false refl l)
+  not-on_time (asks.Admin a) o h l e = absurd (both_ways false refl l)
 
 -- the act of a line whose command acted
 pub record IsActOf (log : List Entry) (a : Asks) (act : Act) : Type 0 where
@@ -99,6 +105,16 @@ one-session (asks.Logged s r c) (asks.Logged t u d) e = eqb-true s.id t.id e
 one-session (asks.Logged s r c) (asks.Look t q) e = eqb-true s.id t.id e
 one-session (asks.Look s p) (asks.Logged t u d) e = eqb-true s.id t.id e
 one-session (asks.Look s p) (asks.Look t q) e = eqb-true s.id t.id e
+one-session (asks.Admin a) b e = absurd (both_ways false refl e)
+one-session (asks.Logged s r c) (asks.Admin b) e = absurd (both_ways false refl e)
+one-session (asks.Look s p) (asks.Admin b) e = absurd (both_ways false refl e)
+
+-- the other of two lines of one session has a session
+pub has-session : (a b : Asks) → some_is (session_asking a) (λ s. some_is (session_asking b) (λ t. s.id == t.id)) ≡ true → IsSome (session_asking b)
+has-session (asks.Admin a) b e = absurd (both_ways false refl e)
+has-session (asks.Logged s r c) (asks.Admin b) e = absurd (both_ways false refl e)
+has-session (asks.Look s p) (asks.Admin b) e = absurd (both_ways false refl e)
+has-session a b e = refl
 
 -- how many of these lines log a command of the session
 abbrev pub logged_by : ℕ → List Played → ℕ
@@ -119,6 +135,7 @@ rank-is before (asks.Logged s r c) e l =
     let is = eqb-true r (count_by (logs_for s.id) (map (λ (t : Played). t.line) before) + 1) e in
     omega (arith, is, count-lines s.id before)
 rank-is before (asks.Look s q) e l = absurd (both_ways false refl l)
+rank-is before (asks.Admin a) e l = absurd (both_ways false refl l)
 
 pub all_ranked : (before ts : List Played) → are_ranked (map (λ t. t.line) before) (map (λ t. t.line) ts) ≡ true → AllAfter IsRanked before ts
 all_ranked before [] e = tt
@@ -130,6 +147,7 @@ all_ranked before (t ∷ ts) e =
 own-logs : (a : Asks) → logs a ≡ true → is_of (session_in a) a ≡ true
 own-logs (asks.Logged s r c) l = eq-eqb s.id s.id refl
 own-logs (asks.Look s q) l = absurd (both_ways false refl l)
+own-logs (asks.Admin a) l = absurd (both_ways false refl l)
 
 -- behind a line as many of its session are logged as before it
 pub logged-more : (s : ℕ) (before : List Played) (t : Played) (mid : List Played) → session_in t.line.asks ≡ s → logged_by (session_in t.line.asks) before ≤ logged_by s (before ++ t ∷ mid)

@@ -79,8 +79,8 @@ module _ (played : List Played) (o : Told) (yard : Shown) (e : RunEnded played o
       answered-from t.row.outcome
       (λ k is. elim (has-cause played o yard e before t k h is) [
         | inl paid ↦ none-paid t k m paid
-        | inr more ↦ elim more [
-          | inl stopped ↦ none-came k t.line.node (e.ends (session_in t.line.asks)).when (stop-came played o yard e t k m stopped.0)
+        | inr more ↦ elim more.1 [
+          | inl stopped ↦ none-came k t.line.node (e.ends (session_in t.line.asks)).when (stop-came played o yard e t k m more.0 stopped.0)
           | inr came ↦ none-came k t.line.node t.line.phase came.1
         ]
       ])

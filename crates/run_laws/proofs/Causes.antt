@@ -3,15 +3,16 @@ use Rattle.std.proofs.Common.{◌≡◌, refl, sym, ap, ◌∙◌, subst, inl, i
 use Rattle.std.proofs.lemmas.Bool.{both_ways, cases_lt}
 use Rattle.delos_types.specs.declared.entry.Entry.{Entry}
 use Rattle.delos_types.specs.declared.cause.Cause.{Cause}
+use Rattle.script_text.specs.declared.line.Admin.TheVariants.{Extend}
 use Rattle.script_text.specs.declared.asks.Asks.{Asks}
 use Rattle.script_text.specs.declared.asks.Asks.TheVariants as asks
 use Rattle.row_text.specs.declared.row.Outcome.{Outcome}
 use Rattle.row_text.specs.declared.row.Outcome.TheVariants as out
 use Rattle.fitting_run.specs.declared.told.Told.{Told}
-use Rattle.fitting_run.specs.Answered.{cause_of, is_late, is_logged, is_open, logs}
+use Rattle.fitting_run.specs.Answered.{cause_of, is_late, is_logged, is_open, logs, session_asking}
 use Rattle.fitting_run.specs.Faults.{is_broken, stands}
 use Rattle.fitting_run.specs.Yard.{Shown}
-use Rattle.run_laws.specs.Ended.{Played, Fault, SessionEnd, LineEnded, CameOf, CameTo, LogsBefore, PaidStands, RunEnded, session_in}
+use Rattle.run_laws.specs.Ended.{Played, Fault, SessionEnd, LineEnded, CameOf, CameTo, IsAtHome, LogsBefore, PaidStands, RunEnded, session_in}
 use Rattle.run_laws.proofs.Behind.{Cut}
 use Rattle.run_laws.proofs.Members.{Among, all-at, among-right, contained-among}
 use Rattle.run_laws.proofs.Stopped.{broken-stopped}
@@ -21,8 +22,8 @@ use Rattle.run_laws.proofs.Telling.{tell}
 abbrev pub HasCause : List Fault → SessionEnd → List Played → Played → ℕ → Cause → Type 0
 HasCause faults e before t s cause =
     (t.paid ≡ Some cause)
-    ⊎ (((e.stopped ≡ Some cause) × ((e.when < t.line.phase) ⊎ (is_logged (tell t) ≡ true)))
-    ⊎ (LogsBefore before s t.line.phase × CameTo faults cause t.line.node t.line.phase))
+    ⊎ (IsSome (session_asking t.line.asks) × (((e.stopped ≡ Some cause) × ((e.when < t.line.phase) ⊎ (is_logged (tell t) ≡ true)))
+    ⊎ (LogsBefore before s t.line.phase × CameTo faults cause t.line.node t.line.phase)))
 
 no_cause : (k : Cause) → None ≡ Some k → ⊥
 no_cause k e = cc
@@ -32,19 +33,22 @@ same_cause j k e = cc
 
 cause-had : (log : List Entry) (tails : ℕ → ℕ) (faults : List Fault) (ends : ℕ → SessionEnd) (before : List Played) (t : Played) (a : Asks) (o : Outcome) (k : Cause)
     → CameOf log tails faults ends before t a o → t.line.asks ≡ a → cause_of o ≡ Some k → HasCause faults (ends (session_in a)) before t (session_in a) k
-cause-had log tails faults ends before t (asks.Logged s r c) (out.Open j) k h is e = inr (inl (h.stopped ∙ e, inr (ap logs is)))
+cause-had log tails faults ends before t (asks.Logged s r c) (out.Open j) k h is e =
+    inr (rw is refl, inl (h.stopped ∙ e, inr (ap logs is)))
 cause-had log tails faults ends before t (asks.Logged s r c) (out.Placed place reply late) k h is e = absurd (no_cause k e)
 cause-had log tails faults ends before t (asks.Logged s r c) o k h is e = absurd h
 cause-had log tails faults ends before t (asks.Look s q) (out.Open j) k h is e =
     elim h [
       | inl paid ↦ inl (paid ∙ e)
       | inr more ↦ elim more [
-        | inl stopped ↦ inr (inl (stopped.0 ∙ e, inl stopped.1))
-        | inr came ↦ inr (inr (came.0, subst (λ c. CameTo faults c t.line.node t.line.phase) (same_cause j k e) came.1))
+        | inl stopped ↦ inr (rw is refl, inl (stopped.0 ∙ e, inl stopped.1))
+        | inr came ↦ inr (rw is refl, inr (came.0, subst (λ c. CameTo faults c t.line.node t.line.phase) (same_cause j k e) came.1))
       ]
     ]
 cause-had log tails faults ends before t (asks.Look s q) (out.Read after found) k h is e = absurd (no_cause k e)
 cause-had log tails faults ends before t (asks.Look s q) o k h is e = absurd h
+cause-had log tails faults ends before t (asks.Admin a) (out.Open j) k h is e = inl (h ∙ e)
+cause-had log tails faults ends before t (asks.Admin a) o k h is e = absurd (no_cause k e)
 
 -- only a logged row is late
 late-logged : (log : List Entry) (tails : ℕ → ℕ) (faults : List Fault) (ends : ℕ → SessionEnd) (before : List Played) (t : Played) (a : Asks) (o : Outcome)
@@ -55,6 +59,18 @@ late-logged log tails faults ends before t (asks.Logged s r c) o h e = absurd h
 late-logged log tails faults ends before t (asks.Look s q) (out.Open j) h e = absurd (both_ways false refl e)
 late-logged log tails faults ends before t (asks.Look s q) (out.Read after found) h e = absurd (both_ways false refl e)
 late-logged log tails faults ends before t (asks.Look s q) o h e = absurd h
+late-logged log tails faults ends before t (asks.Admin Extend) (out.Placed place reply late) h e = absurd h
+late-logged log tails faults ends before t (asks.Admin a) o h e = absurd (both_ways false refl e)
+
+at-home : (home : ℕ → ℕ) (node : ℕ) (a : Asks) → IsAtHome home node a → IsSome (session_asking a) → node ≡ home (session_in a)
+at-home home node (asks.Logged s r c) h some = h
+at-home home node (asks.Look s q) h some = h
+at-home home node (asks.Admin a) h some = absurd (both_ways false refl some)
+
+logged-session : (a : Asks) → logs a ≡ true → IsSome (session_asking a)
+logged-session (asks.Logged s r c) l = refl
+logged-session (asks.Look s q) l = refl
+logged-session (asks.Admin a) l = absurd (both_ways false refl l)
 
 some-of : (o : Option Cause) → IsSome o → (k : Cause) × (o ≡ Some k)
 some-of None h = absurd (both_ways false refl h)
@@ -71,10 +87,10 @@ module _ (played : List Played) (o : Told) (yard : Shown) (e : RunEnded played o
   has-cause before t k h is = cause-had e.log e.tails e.faults e.ends before t t.line.asks t.row.outcome k h.1.came refl is
 
   -- the fault that stopped the session of a line came to the line's node
-  pub stop-came : (t : Played) (k : Cause) → Among played t → (e.ends (session_in t.line.asks)).stopped ≡ Some k → CameTo e.faults k t.line.node (e.ends (session_in t.line.asks)).when
-  stop-came t k m stopped =
+  pub stop-came : (t : Played) (k : Cause) → Among played t → IsSome (session_asking t.line.asks) → (e.ends (session_in t.line.asks)).stopped ≡ Some k → CameTo e.faults k t.line.node (e.ends (session_in t.line.asks)).when
+  stop-came t k m some stopped =
       let s = session_in t.line.asks in
-      subst (λ n. CameTo e.faults k n (e.ends s).when) (sym (all-at (λ (u : Played). u.line.node ≡ e.home (session_in u.line.asks)) played t e.at_home m)) ((e.sessions s).fault k stopped)
+      subst (λ n. CameTo e.faults k n (e.ends s).when) (sym (at-home e.home t.line.node t.line.asks (all-at (λ (u : Played). IsAtHome e.home u.line.node u.line.asks) played t e.at_home m) some)) ((e.sessions s).fault k stopped)
 
   pub came-stands : (k : Cause) (node phase : ℕ) → CameTo e.faults k node phase → stands yard node k ≡ true
   came-stands k node phase c =
@@ -87,8 +103,8 @@ module _ (played : List Played) (o : Told) (yard : Shown) (e : RunEnded played o
       let m = ended-among before t h in
       elim (has-cause before t k h is) [
         | inl paid ↦ all-at (PaidStands yard) played t e.came.paid m k paid
-        | inr more ↦ elim more [
-          | inl stopped ↦ came-stands k t.line.node (e.ends (session_in t.line.asks)).when (stop-came t k m stopped.0)
+        | inr more ↦ elim more.1 [
+          | inl stopped ↦ came-stands k t.line.node (e.ends (session_in t.line.asks)).when (stop-came t k m more.0 stopped.0)
           | inr came ↦ came-stands k t.line.node t.line.phase came.1
         ]
       ]
@@ -103,7 +119,7 @@ module _ (played : List Played) (o : Told) (yard : Shown) (e : RunEnded played o
       let low = st.1 in
       elim (cases_lt (e.ends s).when t.line.phase) [
         | inl before_it ↦ absurd (early before_it)
-        | inr high ↦ subst (CameTo e.faults k t.line.node) (let z : (e.ends s).when ≡ t.line.phase = omega (arith, low, high) in z) (stop-came t k m stopped)
+        | inr high ↦ subst (CameTo e.faults k t.line.node) (let z : (e.ends s).when ≡ t.line.phase = omega (arith, low, high) in z) (stop-came t k m (logged-session t.line.asks logged) stopped)
       ]
 
   -- a late row: a fault came to its node in its phase
@@ -115,4 +131,4 @@ module _ (played : List Played) (o : Told) (yard : Shown) (e : RunEnded played o
       let broken : is_broken (tell t) ≡ true = rw l.1 late in
       let st = broken-stopped played o yard e t m l.0 broken in
       let k = some-of (e.ends s).stopped st.0 in
-      (k.0, broken-came before t h l.0 broken (λ early. both_ways (is_open t.row.outcome) l.1 (h.1.stopped st.0 early)) k.0 k.1)
+      (k.0, broken-came before t h l.0 broken (λ early. both_ways (is_open t.row.outcome) l.1 (h.1.stopped (logged-session t.line.asks l.0) st.0 early)) k.0 k.1)

@@ -23,3 +23,4 @@ pub mod Orders
 pub mod Looks
 pub mod Counts
 pub mod Calm
+pub mod Replacing

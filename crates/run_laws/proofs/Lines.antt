@@ -18,6 +18,7 @@ use Rattle.run_laws.proofs.Pairs.{pair-at}
 abbrev IsAbove : (ℕ → ℕ) → Asks → Type 0
 IsAbove logged (asks.Logged s r c) = logged s.id < r
 IsAbove logged (asks.Look s q) = Unit {0}
+IsAbove logged (asks.Admin a) = Unit {0}
 
 -- of two lines that log for one session the later has the higher rank
 abbrev pub RankRises : Asks → Asks → Type 0
@@ -30,10 +31,12 @@ logged_in before s = count_by (logs_for s) before
 above-fewer : (few many : ℕ → ℕ) (a : Asks) → ((s : ℕ) → few s ≤ many s) → IsAbove many a → IsAbove few a
 above-fewer few many (asks.Logged s r c) le h = let l = le s.id in omega (arith, h)
 above-fewer few many (asks.Look s q) le h = tt
+above-fewer few many (asks.Admin a) le h = tt
 
 ranked-above : (before : List NamedLine) (a : Asks) → has_rank before a ≡ true → IsAbove (logged_in before) a
 ranked-above before (asks.Logged s r c) e = let is = eqb-true r (logged_in before s.id + 1) e in omega arith
 ranked-above before (asks.Look s q) e = tt
+ranked-above before (asks.Admin a) e = tt
 
 ranks-above : (before ls : List NamedLine) → are_ranked before ls ≡ true → AllByRecursion (λ l. IsAbove (logged_in before) l.asks) ls
 ranks-above before [] e = tt
@@ -56,7 +59,9 @@ rank-rises before l (asks.Logged s r c) (asks.Logged t u d) is e h = λ same.
     let here : logged_in before s.id ≡ logged_in before t.id = ap (logged_in before) same in
     omega (arith, h)
 rank-rises before l (asks.Logged s r c) (asks.Look t q) is e h = tt
+rank-rises before l (asks.Logged s r c) (asks.Admin a) is e h = tt
 rank-rises before l (asks.Look s q) b is e h = tt
+rank-rises before l (asks.Admin a) b is e h = tt
 
 pub ranks-rise_in : (before ls : List NamedLine) → are_ranked before ls ≡ true → EachPair (λ l m. RankRises l.asks m.asks) ls
 ranks-rise_in before [] e = tt

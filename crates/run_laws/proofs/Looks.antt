@@ -34,6 +34,7 @@ shows-table log tails faults ends before t told (asks.Look s q) (out.Read after 
 shows-table log tails faults ends before t told (asks.Look s q) (out.Open cause) acts h = tt
 shows-table log tails faults ends before t told (asks.Look s q) o acts h = absurd h
 shows-table log tails faults ends before t told (asks.Logged s r c) o acts h = tt
+shows-table log tails faults ends before t told (asks.Admin a) o acts h = tt
 
 module _ (played : List Played) (o : Told) (yard : Shown) (e : RunEnded played o yard) where
   -- whether the act of a line stands below a position, told by the first rank that is missing there

@@ -4,7 +4,7 @@ use Rattle.std.specs.List.{list_any}
 use Rattle.std.proofs.lemmas.Bool.{and_parts, and_from, and_left, and_right, both_ways, not-true, not_from_true}
 use Rattle.delos_types.specs.declared.cause.Cause.{Cause}
 use Rattle.fitting_run.specs.declared.told.Told.{Told}
-use Rattle.fitting_run.specs.Answered.{cause_of, is_logged, same_session}
+use Rattle.fitting_run.specs.Answered.{cause_of, is_logged, same_session, session_asking}
 use Rattle.fitting_run.specs.Faults.{is_broken, is_first_look, is_opened, is_opened_by, logs_beside, stops}
 use Rattle.fitting_run.specs.Lines.{logs_for}
 use Rattle.fitting_run.specs.Tests.{some_is}
@@ -20,15 +20,15 @@ cause-some None by e = absurd (both_ways false refl e)
 cause-some (Some k) by e = (k, refl, e)
 
 -- a line that another of its session logs beside, before it, isn't a first look
-beside-not_first : (before : List Played) (t : Played) → LogsBefore before (session_in t.line.asks) t.line.phase → is_first_look (map tell before) (tell t) ≡ false
-beside-not_first before t h =
+beside-not_first : (before : List Played) (t : Played) → IsSome (session_asking t.line.asks) → LogsBefore before (session_in t.line.asks) t.line.phase → is_first_look (map tell before) (tell t) ≡ false
+beside-not_first before t some h =
     let s = session_in t.line.asks in
     let w = any-one (λ (u : Played). logs_for s u.line && (u.line.phase == t.line.phase)) before h in
     let u : Played = w.one in
     let is = and_parts (logs_for s u.line) (u.line.phase == t.line.phase) w.passes in
     and_right (not (is_logged (tell t))) (not (list_any (logs_beside (tell t)) (map tell before))) (not_from_true _ (any-at tell (logs_beside (tell t)) before u w.among
     (and_from (same_session (tell u) (tell t) && (u.line.phase == t.line.phase)) (is_logged (tell u))
-    (and_from (same_session (tell u) (tell t)) (u.line.phase == t.line.phase) (same-session s u.line.asks t.line.asks is.0 refl) is.1)
+    (and_from (same_session (tell u) (tell t)) (u.line.phase == t.line.phase) (same-session s u.line.asks t.line.asks is.0 refl some) is.1)
     (logs-of s u.line.asks is.0))))
 
 pub record IsOpenedBy (by : ℕ → Cause → Bool) (faults : List Fault) (before : List Played) (t : Played) : Type 0 where
@@ -42,24 +42,24 @@ module _ (played : List Played) (o : Told) (yard : Shown) (e : RunEnded played o
       let both = and_parts (is_opened (map tell before) (tell t)) (some_is (cause_of t.row.outcome) (by t.line.node)) opened in
       let broken = and_parts (is_broken (tell t)) (not (list_any (stops (tell t)) (map tell before))) both.0 in
       let k = cause-some (cause_of t.row.outcome) (by t.line.node) both.1 in
-      let stopped_early : IsSome (e.ends (session_in t.line.asks)).stopped → (e.ends (session_in t.line.asks)).when < t.line.phase → ⊥ =
-      λ stopped early. both_ways (list_any (stops (tell t)) (map tell before)) (not-true _ broken.1) (stopped-before played o yard e before t h.0 stopped early) in
+      let stopped_early : IsSome (session_asking t.line.asks) → IsSome (e.ends (session_in t.line.asks)).stopped → (e.ends (session_in t.line.asks)).when < t.line.phase → ⊥ =
+      λ asking stopped early. both_ways (list_any (stops (tell t)) (map tell before)) (not-true _ broken.1) (stopped-before played o yard e before t h.0 asking stopped early) in
       record {
         cause = k.0;
         is = k.2;
         rests = elim (has-cause played o yard e before t k.0 h k.1) [
           | inl paid ↦ inl paid
-          | inr more ↦ elim more [
+          | inr more ↦ elim more.1 [
             | inl stopped ↦
                 let some : IsSome (e.ends (session_in t.line.asks)).stopped = rw stopped.0 refl in
                 elim stopped.1 [
-                  | inl early ↦ absurd (stopped_early some early)
+                  | inl early ↦ absurd (stopped_early more.0 some early)
                   | inr logged ↦ inr (
                     and_left (not (is_logged (tell t))) (not (list_any (logs_beside (tell t)) (map tell before))) (not_from_true (is_logged (tell t)) logged),
-                    broken-came played o yard e before t h logged broken.0 (stopped_early some) k.0 stopped.0,
+                    broken-came played o yard e before t h logged broken.0 (stopped_early more.0 some) k.0 stopped.0,
                   )
                 ]
-            | inr came ↦ inr (beside-not_first before t came.0, came.1)
+            | inr came ↦ inr (beside-not_first before t more.0 came.0, came.1)
           ]
         ];
       }

@@ -1,5 +1,5 @@
 -- One row for each line, and the order of sessions and barriers.
-use Rattle.std.proofs.Common.{◌≡◌, sym, ap, ◌∙◌, subst, inl, inr, ℕ, zero, suc, ◌+◌, ◌<◌, ◌≤◌, true, false, not, Some, List, [], ◌∷◌, ◌++◌, length, map, nat_lt, nat_le, ◌==◌, ◌&&◌, arith, le-leb, lt-ltb, ltb-true, eq-eqb}
+use Rattle.std.proofs.Common.{◌≡◌, sym, ap, ◌∙◌, subst, inl, inr, ℕ, zero, suc, ◌+◌, ◌<◌, ◌≤◌, true, false, not, Some, IsSome, List, [], ◌∷◌, ◌++◌, length, map, nat_lt, nat_le, ◌==◌, ◌&&◌, arith, le-leb, lt-ltb, ltb-true, eq-eqb}
 use Rattle.std.specs.List.{AllByRecursion, list_all}
 use Rattle.std.proofs.lemmas.Bool.{and_from, and_parts, cases_lt, not-true, or_left, or_right}
 use Rattle.std.proofs.lemmas.List.{length-map}
@@ -8,7 +8,7 @@ use Rattle.delos_types.specs.declared.place.Place.{Place}
 use Rattle.engine_api.specs.declared.act.Act.{Act}
 use Rattle.engine_laws.specs.State.{acts_in}
 use Rattle.fitting_run.specs.declared.told.Told.{Told}
-use Rattle.fitting_run.specs.Answered.{before_barrier, is_logged, is_open, is_placed_on_time, looked_at, on_read, on_time, place_le, place_on_time, same_session}
+use Rattle.fitting_run.specs.Answered.{before_barrier, is_logged, is_open, is_placed_on_time, looked_at, on_read, on_time, place_le, place_on_time, same_session, session_asking}
 use Rattle.fitting_run.specs.Faults.{is_broken}
 use Rattle.fitting_run.specs.Fits.{told_of}
 use Rattle.fitting_run.specs.Outcomes.{KeepsSessionOrder, OneRowEach, is_above, is_not_below, is_passed, is_row_of, is_stopped_by, keeps_barrier, keeps_barriers, rises}
@@ -16,7 +16,7 @@ use Rattle.fitting_run.specs.Yard.{Shown}
 use Rattle.log_acts.specs.Order.{ActsBefore}
 use Rattle.log_acts.proofs.Acting.{in_order}
 use Rattle.run_laws.specs.Ended.{AllAfter, Played, RunEnded, session_in}
-use Rattle.run_laws.proofs.Answering.{IsLook, IsOnTime, IsRanked, all_ranked, its-act, logged_by, logged-own, looked, not-on_time, on-time, one-session}
+use Rattle.run_laws.proofs.Answering.{IsLook, IsOnTime, IsRanked, all_ranked, has-session, its-act, logged_by, logged-own, looked, not-on_time, on-time, one-session}
 use Rattle.run_laws.proofs.Behind.{after-both, after-each, pairs-behind}
 use Rattle.run_laws.proofs.Causes.{Ended}
 use Rattle.run_laws.proofs.Members.{Among, all-at, all-test}
@@ -118,10 +118,10 @@ module _ (played : List Played) (o : Told) (yard : Shown) (e : RunEnded played o
       (λ b t h logged missed. not-on_time e.log e.tails e.faults e.ends b t t.line.asks t.row.outcome h.0.1.came logged missed) all_turns
 
   -- nothing is tried after the phase in which its session was stopped
-  all_opened : AllByRecursion (λ t. (phase : ℕ) → IsStopped (e.ends (session_in t.line.asks)) phase → phase < t.line.phase → is_open t.row.outcome ≡ true) played
+  all_opened : AllByRecursion (λ t. (phase : ℕ) → IsSome (session_asking t.line.asks) → IsStopped (e.ends (session_in t.line.asks)) phase → phase < t.line.phase → is_open t.row.outcome ≡ true) played
   all_opened =
-      after-each Turn (λ t. (phase : ℕ) → IsStopped (e.ends (session_in t.line.asks)) phase → phase < t.line.phase → is_open t.row.outcome ≡ true) [] played
-      (λ b t h phase stopped early. h.0.1.stopped stopped.0 (let upto = stopped.1 in omega (arith, upto, early))) all_turns
+      after-each Turn (λ t. (phase : ℕ) → IsSome (session_asking t.line.asks) → IsStopped (e.ends (session_in t.line.asks)) phase → phase < t.line.phase → is_open t.row.outcome ≡ true) [] played
+      (λ b t h phase some stopped early. h.0.1.stopped some stopped.0 (let upto = stopped.1 in omega (arith, upto, early))) all_turns
 
   stays-stopped : (t u : Played) → Among played t → Among played u → is_stopped_by (tell t) (tell u) ≡ true
   stays-stopped t u m n =
@@ -133,8 +133,8 @@ module _ (played : List Played) (o : Told) (yard : Shown) (e : RunEnded played o
       let two = and_parts session early three.0 in
       let broken = all-at (λ (v : Played). is_logged (tell v) ≡ true → is_placed_on_time (tell v) ≡ false → is_broken (tell v) ≡ true) played t all_broken m three.1 (not-true _ all.1) in
       let stopped = broken-stopped played o yard e t m three.1 broken in
-      all-at (λ (v : Played). (phase : ℕ) → IsStopped (e.ends (session_in v.line.asks)) phase → phase < v.line.phase → is_open v.row.outcome ≡ true) played u all_opened n t.line.phase
-      (subst (λ s. IsStopped (e.ends s) t.line.phase) (one-session t.line.asks u.line.asks two.0) stopped) (ltb-true t.line.phase u.line.phase two.1))
+      all-at (λ (v : Played). (phase : ℕ) → IsSome (session_asking v.line.asks) → IsStopped (e.ends (session_in v.line.asks)) phase → phase < v.line.phase → is_open v.row.outcome ≡ true) played u all_opened n t.line.phase
+      (has-session t.line.asks u.line.asks two.0) (subst (λ s. IsStopped (e.ends s) t.line.phase) (one-session t.line.asks u.line.asks two.0) stopped) (ltb-true t.line.phase u.line.phase two.1))
 
   told-session_order : KeepsSessionOrder (map tell played)
   told-session_order = record {

@@ -34,12 +34,14 @@ Fate log (asks.Logged s r c) (out.Placed place reply late) = (a : Act) × (act_o
 Fate log (asks.Logged s r c) (out.Open cause) = act_of_rank log s.id r ≡ None
 Fate log (asks.Logged s r c) answered = ⊥
 Fate log (asks.Look s q) answered = Unit {0}
+Fate log (asks.Admin a) answered = Unit {0}
 
 fate : (log : List Entry) (tails : ℕ → ℕ) (faults : List Fault) (ends : ℕ → SessionEnd) (before : List Played) (t : Played) (a : Asks) (o : Outcome) → CameOf log tails faults ends before t a o → Fate log a o
 fate log tails faults ends before t (asks.Logged s r c) (out.Placed place reply late) h = (h.act, h.found, h.place_is, h.reply_is)
 fate log tails faults ends before t (asks.Logged s r c) (out.Open cause) h = h.none
 fate log tails faults ends before t (asks.Logged s r c) o h = absurd h
 fate log tails faults ends before t (asks.Look s q) o h = tt
+fate log tails faults ends before t (asks.Admin a) o h = tt
 
 fates : (log : List Entry) (tails : ℕ → ℕ) (faults : List Fault) (ends : ℕ → SessionEnd) (before ts : List Played) → AllAfter (LineEnded log tails faults ends) before ts → AllByRecursion (λ t. Fate log t.line.asks t.row.outcome) ts
 fates log tails faults ends before [] h = tt
@@ -96,6 +98,7 @@ logged-line played a turn x (asks.Logged s r c) m is session rank command h = re
   command_is = command ∙ h.2;
 }
 logged-line played a turn x (asks.Look s q) m is session rank command h = absurd h
+logged-line played a turn x (asks.Admin b) m is session rank command h = absurd h
 
 has-line : (played : List Played) (o : Told) (yard : Shown) (e : RunEnded played o yard) (a : Act) → Among (acts_in e.log) a → HasLine played a
 has-line played o yard e a m =
@@ -158,6 +161,7 @@ module _ (played : List Played) (o : Told) (yard : Shown) (e : RunEnded played o
   row-tells t (asks.Logged s r c) (out.Open cause) m is f = tt
   row-tells t (asks.Logged s r c) w m is f = absurd f
   row-tells t (asks.Look s q) w m is f = tt
+  row-tells t (asks.Admin a) w m is f = tt
 
   rows-tell : (ts : List Played) → AllByRecursion (Among played) ts → AllByRecursion (λ t. Fate e.log t.line.asks t.row.outcome) ts → AllByRecursion (λ a. AllAmong (acts_in e.log) (told_act a)) (map tell ts)
   rows-tell [] m f = tt

@@ -69,6 +69,7 @@ breaks o = is_open o || is_late o
 abbrev IsBrokenBy : SessionEnd → ℕ → Asks → Outcome → Type 0
 IsBrokenBy e phase (asks.Logged s r c) o = (e.answered < r → breaks o ≡ true) × (breaks o ≡ true → IsStopped e phase)
 IsBrokenBy e phase (asks.Look s q) o = Unit {0}
+IsBrokenBy e phase (asks.Admin a) o = Unit {0}
 
 broken-by : (log : List Entry) (tails : ℕ → ℕ) (faults : List Fault) (ends : ℕ → SessionEnd) (before : List Played) (t : Played) (a : Asks) (o : Outcome)
     → CameOf log tails faults ends before t a o → IsStoppedBy (ends (session_in a)) t.line.phase a → IsBrokenBy (ends (session_in a)) t.line.phase a o
@@ -79,10 +80,12 @@ broken-by log tails faults ends before t (asks.Logged s r c) (out.Placed place r
 broken-by log tails faults ends before t (asks.Logged s r c) (out.Open cause) h stopped = (λ above. refl, λ e. stopped h.above)
 broken-by log tails faults ends before t (asks.Logged s r c) o h stopped = absurd h
 broken-by log tails faults ends before t (asks.Look s q) o h stopped = tt
+broken-by log tails faults ends before t (asks.Admin a) o h stopped = tt
 
 stopped_at : (e : SessionEnd) (phase : ℕ) (a : Asks) (o : Outcome) → IsBrokenBy e phase a o → logs a ≡ true → breaks o ≡ true → IsStopped e phase
 stopped_at e phase (asks.Logged s r c) o h l b = h.1 b
 stopped_at e phase (asks.Look s q) o h l b = absurd (both_ways false refl l)
+stopped_at e phase (asks.Admin a) o h l b = absurd (both_ways false refl l)
 
 -- its rank wasn't answered
 missed_at : (ends : ℕ → SessionEnd) (phase s r : ℕ) (a : Asks) (o : Outcome) → IsBrokenBy (ends (session_in a)) phase a o → is_of s a ≡ true → rank_in a ≡ r → (ends s).answered < r → breaks o ≡ true
@@ -90,15 +93,19 @@ missed_at ends phase s r (asks.Logged t u c) o h is rank above =
     let session : t.id ≡ s = eqb-true t.id s is in
     h.0 (subst (λ n. (ends n).answered < u) (sym session) (subst (λ n. (ends s).answered < n) (sym rank) above))
 missed_at ends phase s r (asks.Look t q) o h is rank above = absurd (both_ways false refl is)
+missed_at ends phase s r (asks.Admin a) o h is rank above = absurd (both_ways false refl is)
 
 pub logs-of : (s : ℕ) (a : Asks) → is_of s a ≡ true → logs a ≡ true
 logs-of s (asks.Logged t r c) is = refl
 logs-of s (asks.Look t q) is = absurd (both_ways false refl is)
+logs-of s (asks.Admin a) is = absurd (both_ways false refl is)
 
-pub same-session : (s : ℕ) (a b : Asks) → is_of s a ≡ true → session_in b ≡ s → some_is (session_asking a) (λ t. some_is (session_asking b) (λ u. t.id == u.id)) ≡ true
-same-session s (asks.Logged t r c) (asks.Logged u q d) is e = eq-eqb t.id u.id (eqb-true t.id s is ∙ sym e)
-same-session s (asks.Logged t r c) (asks.Look u q) is e = eq-eqb t.id u.id (eqb-true t.id s is ∙ sym e)
-same-session s (asks.Look t q) b is e = absurd (both_ways false refl is)
+pub same-session : (s : ℕ) (a b : Asks) → is_of s a ≡ true → session_in b ≡ s → IsSome (session_asking b) → some_is (session_asking a) (λ t. some_is (session_asking b) (λ u. t.id == u.id)) ≡ true
+same-session s (asks.Logged t r c) (asks.Logged u q d) is e some = eq-eqb t.id u.id (eqb-true t.id s is ∙ sym e)
+same-session s (asks.Logged t r c) (asks.Look u q) is e some = eq-eqb t.id u.id (eqb-true t.id s is ∙ sym e)
+same-session s (asks.Logged t r c) (asks.Admin a) is e some = absurd (both_ways false refl some)
+same-session s (asks.Look t q) b is e some = absurd (both_ways false refl is)
+same-session s (asks.Admin a) b is e some = absurd (both_ways false refl is)
 
 module _ (played : List Played) (o : Told) (yard : Shown) (e : RunEnded played o yard) where
   abbrev end_of : Played → SessionEnd
@@ -110,8 +117,8 @@ module _ (played : List Played) (o : Told) (yard : Shown) (e : RunEnded played o
       (λ b t h. broken-by e.log e.tails e.faults e.ends b t t.line.asks t.row.outcome h.came h.missed) e.lines
 
   -- a session that was stopped in an earlier phase is stopped by a row before
-  pub stopped-before : (before : List Played) (t : Played) → Cut played before t → IsSome (e.ends (session_in t.line.asks)).stopped → (e.ends (session_in t.line.asks)).when < t.line.phase → list_any (stops (tell t)) (map tell before) ≡ true
-  stopped-before before t cut stopped early =
+  pub stopped-before : (before : List Played) (t : Played) → Cut played before t → IsSome (session_asking t.line.asks) → IsSome (e.ends (session_in t.line.asks)).stopped → (e.ends (session_in t.line.asks)).when < t.line.phase → list_any (stops (tell t)) (map tell before) ≡ true
+  stopped-before before t cut some stopped early =
       let s = session_in t.line.asks in
       let l : LogsRank played s ((e.ends s).answered + 1) (e.ends s).when = (e.sessions s).unanswered stopped in
       let u : Played = l.turn in
@@ -124,7 +131,7 @@ module _ (played : List Played) (o : Told) (yard : Shown) (e : RunEnded played o
       any-at tell (stops (tell t)) before u (earlier played before t u e.phases cut m low)
       (and_from (same_session (tell u) (tell t) && before_barrier (tell u) (tell t) && is_logged (tell u)) (is_broken (tell u))
       (and_from (same_session (tell u) (tell t) && before_barrier (tell u) (tell t)) (is_logged (tell u))
-      (and_from (same_session (tell u) (tell t)) (before_barrier (tell u) (tell t)) (same-session s u.line.asks t.line.asks l.logs refl) (lt-ltb u.line.phase t.line.phase low))
+      (and_from (same_session (tell u) (tell t)) (before_barrier (tell u) (tell t)) (same-session s u.line.asks t.line.asks l.logs refl some) (lt-ltb u.line.phase t.line.phase low))
       (logs-of s u.line.asks l.logs)) broken)
 
   -- a logged row that is broken: its session was stopped in its phase or before

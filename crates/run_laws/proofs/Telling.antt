@@ -15,6 +15,7 @@ tell t = record { line = t.line; row = t.row }
 has_rows : (asked : Asks) → has_row asked ≡ true
 has_rows (asks.Logged s r c) = refl
 has_rows (asks.Look s q) = refl
+has_rows (asks.Admin a) = refl
 
 pub all_have_rows : (lines : List NamedLine) → filter (λ l. has_row l.asks) lines ≡ lines
 all_have_rows [] = refl

@@ -1,5 +1,5 @@
 -- What is known of a run over nodes once it has ended: of the log, of each session, of each line, and of the faults.
-use Rattle.std.specs.Prelude.{◌≡◌, ℕ, ◌+◌, ◌<◌, ◌≤◌, ◌⊎◌, nat_lt, Bool, true, false, ◌&&◌, ◌==◌, List, [], ◌∷◌, ◌++◌, length, map, find, take, drop, count_by, min, Option, Some, None, IsSome, Contains, slice_get}
+use Rattle.std.specs.Prelude.{◌≡◌, ℕ, ◌+◌, ◌<◌, ◌≤◌, ◌⊎◌, ◌≢◌, nat_lt, Bool, true, false, ◌&&◌, ◌==◌, List, [], ◌∷◌, ◌++◌, length, map, find, take, drop, count_by, min, Option, Some, None, IsSome, is_some, Contains, slice_get}
 use Rattle.std.specs.List.{AllByRecursion, list_any}
 use Rattle.std.specs.FinMap as finmap
 use Rattle.delos_types.specs.declared.entry.Entry.{Entry}
@@ -15,8 +15,10 @@ use Rattle.engine_api.specs.declared.act.Act.{Act}
 use Rattle.engine_api.specs.Acted.{Asked, asked_in, table_after}
 use Rattle.engine_api.specs.Order.{gap_from, is_clean}
 use Rattle.engine_laws.specs.State.{acts_in}
+use Rattle.chain_map.specs.Chain.{last_id}
 use Rattle.log_acts.specs.Order.{acts_below}
 use Rattle.fabric_core.specs.Log.{virtual_tail, virtual_log, has_no_gap}
+use Rattle.script_text.specs.declared.line.Admin.TheVariants.{Extend}
 use Rattle.script_text.specs.declared.asks.NamedLine.{NamedLine}
 use Rattle.script_text.specs.declared.asks.Asks.{Asks}
 use Rattle.script_text.specs.declared.asks.Asks.TheVariants as asks
@@ -24,20 +26,21 @@ use Rattle.row_text.specs.declared.row.Row.{Row}
 use Rattle.row_text.specs.declared.row.Outcome.{Outcome}
 use Rattle.row_text.specs.declared.row.Outcome.TheVariants as out
 use Rattle.fitting_run.specs.declared.told.Told.{Told}
-use Rattle.fitting_run.specs.Answered.{is_open}
+use Rattle.fitting_run.specs.Answered.{is_open, session_asking}
 use Rattle.fitting_run.specs.Outcomes.{is_row_of}
 use Rattle.fitting_run.specs.Lines.{logs_for, are_ranked, are_in_phase}
+use Rattle.fitting_run.specs.Replacements.{version_made, begins_at}
 use Rattle.fitting_run.specs.Yard.{Shown}
 use Rattle.fitting_run.specs.Faults.{stands, lacks_of, faults_of, disk_faults, lacks_quorum, finds_full, lacks_register, lacks_store}
 use Rattle.fitting_run.specs.Fits.{ChainIsRegistered}
 
--- A line with its row; where its own look at the table failed, the cause of that.
+-- A line with its row; where its own look at the table failed, or what it asked of the node itself, the cause of that.
 pub record Played : Type 0 where
   pub line : NamedLine
   pub row : Row
   pub paid : Option Cause
 
--- A fault that came to a node in a phase, and wasn't that of a line's own look.
+-- A fault that came to a node in a phase, and wasn't that of a line's own look, or of what it asked of the node itself.
 pub record Fault : Type 0 where
   pub cause : Cause
   pub node : ℕ
@@ -60,6 +63,7 @@ act_of_rank log s r = find (λ a. (a.session == s) && (a.rank == r)) (acts_in lo
 abbrev pub LogsThis : Asks → Asked → Type 0
 LogsThis (asks.Logged s r c) x = (x.session ≡ s.id) × (x.rank ≡ r) × (x.command ≡ Some c)
 LogsThis (asks.Look s q) x = ⊥
+LogsThis (asks.Admin a) x = ⊥
 
 pub record IsOfLine (played : List Played) (x : Asked) : Type 0 where
   pub at : ℕ
@@ -125,23 +129,31 @@ CameOf log tails faults ends before t (asks.Logged s r c) (out.Placed place repl
 CameOf log tails faults ends before t (asks.Logged s r c) (out.Open cause) = IsLeft log (ends s.id) s.id r cause
 CameOf log tails faults ends before t (asks.Look s q) (out.Read after found) = HasLooked log tails before t.line.phase s.id q after found
 CameOf log tails faults ends before t (asks.Look s q) (out.Open cause) = IsUnread faults (ends s.id) before t s.id cause
+CameOf log tails faults ends before t (asks.Admin a) (out.Open cause) = t.paid ≡ Some cause
+-- what these rows say is said of all of them at once, below
+CameOf log tails faults ends before t (asks.Admin Extend) (out.Extended version start) = Unit {0}
+CameOf log tails faults ends before t (asks.Admin Extend) (out.Moved version) = Unit {0}
+CameOf log tails faults ends before t (asks.Admin Extend) out.NoSpare = Unit {0}
 CameOf log tails faults ends before t asked answered = ⊥
 
+-- the session of the line; what is asked of a node itself is of none
 abbrev pub session_in : Asks → ℕ
 session_in (asks.Logged s r c) = s.id
 session_in (asks.Look s q) = s.id
+session_in (asks.Admin a) = 0
 
 -- the rank that the line logs was answered by its phase's end, or its session was stopped then or before
 abbrev pub IsStoppedBy : SessionEnd → ℕ → Asks → Type 0
 IsStoppedBy e phase (asks.Logged s r c) = e.answered < r → IsSome e.stopped × (e.when ≤ phase)
 IsStoppedBy e phase (asks.Look s q) = Unit {0}
+IsStoppedBy e phase (asks.Admin a) = Unit {0}
 
 pub record LineEnded (log : List Entry) (tails : ℕ → ℕ) (faults : List Fault) (ends : ℕ → SessionEnd) (before : List Played) (t : Played) : Type 0 where
   pub row : is_row_of (record { line = t.line; row = t.row }) ≡ true
   pub came : CameOf log tails faults ends before t t.line.asks t.row.outcome
   pub missed : IsStoppedBy (ends (session_in t.line.asks)) t.line.phase t.line.asks
   -- nothing is tried after the phase in which its session was stopped
-  pub stopped : IsSome (ends (session_in t.line.asks)).stopped → (ends (session_in t.line.asks)).when < t.line.phase → is_open t.row.outcome ≡ true
+  pub stopped : IsSome (session_asking t.line.asks) → IsSome (ends (session_in t.line.asks)).stopped → (ends (session_in t.line.asks)).when < t.line.phase → is_open t.row.outcome ≡ true
 
 -- each element, behind those before it
 abbrev pub AllAfter : {A : Type 0} → (List A → A → Type 0) → List A → List A → Type 0
@@ -153,6 +165,7 @@ AllAfter P before (x ∷ xs) = P before x × AllAfter P (before ++ x ∷ []) xs
 abbrev pub rank_in : Asks → ℕ
 rank_in (asks.Logged s r c) = r
 rank_in (asks.Look s q) = 0
+rank_in (asks.Admin a) = 0
 
 -- the line that logs this rank, in that phase or before
 pub record LogsRank (played : List Played) (s r phase : ℕ) : Type 0 where
@@ -167,6 +180,40 @@ pub record SessionEnded (played : List Played) (faults : List Fault) (home : ℕ
   -- it was stopped since a rank wasn't answered, by a fault that came to its node then
   pub unanswered : IsSome e.stopped → LogsRank played s (e.answered + 1) e.when
   pub fault : (cause : Cause) → e.stopped ≡ Some cause → CameTo faults cause (home s) e.when
+
+-- a session's lines are at its home; a node itself may be asked anywhere
+abbrev pub IsAtHome : (ℕ → ℕ) → ℕ → Asks → Type 0
+IsAtHome home node (asks.Logged s r c) = node ≡ home s.id
+IsAtHome home node (asks.Look s q) = node ≡ home s.id
+IsAtHome home node (asks.Admin a) = Unit {0}
+
+-- Replacements of the loglet
+
+-- what the chain at the end has of a row; no line found a replacement that wasn't its own
+abbrev pub IsReplaced : ℕ → Chain → ℕ → Outcome → Type 0
+IsReplaced version chain shelf (out.Extended v s) = (v ≤ version) × (begins_at chain s ≡ true)
+IsReplaced version chain shelf (out.Moved v) = ⊥
+IsReplaced version chain shelf out.NoSpare = last_id chain + 1 ≡ shelf
+IsReplaced version chain shelf answered = Unit {0}
+
+-- rows of any two lines
+abbrev pub IsApart : Outcome → Outcome → Type 0
+IsApart (out.Extended v s) (out.Extended w r) = v ≢ w
+IsApart answered other = Unit {0}
+
+-- rows of two lines, the first of an earlier phase than the other, or of an earlier line of the same node
+abbrev pub Precedes : Outcome → Outcome → Type 0
+Precedes (out.Extended v s) (out.Extended w r) = v < w
+Precedes out.NoSpare (out.Extended w r) = ⊥
+Precedes answered other = Unit {0}
+
+pub record Replacements (played : List Played) (version : ℕ) (chain : Chain) (shelf : ℕ) : Type 0 where
+  pub each : (i : ℕ) (t : Played) → slice_get played i ≡ Some t → IsReplaced version chain shelf t.row.outcome
+  -- each replacement took an id of its own
+  pub ids : count_by (λ t. is_some (version_made t.row.outcome)) played ≤ last_id chain
+  pub apart : (i j : ℕ) (t u : Played) → slice_get played i ≡ Some t → slice_get played j ≡ Some u → i < j → IsApart t.row.outcome u.row.outcome
+  pub order : (i j : ℕ) (t u : Played) → slice_get played i ≡ Some t → slice_get played j ≡ Some u → i < j
+      → (t.line.phase < u.line.phase) ⊎ (t.line.node ≡ u.line.node) → Precedes t.row.outcome u.row.outcome
 
 -- Faults
 
@@ -213,12 +260,13 @@ pub record RunEnded (played : List Played) (o : Told) (yard : Shown) : Type 0 wh
   pub end : o.end ≡ length log
   pub ranked : are_ranked [] (map (λ t. t.line) played) ≡ true
   pub phases : are_in_phase 0 (map (λ t. t.line) played) ≡ true
-  pub at_home : AllByRecursion (λ t. t.line.node ≡ home (session_in t.line.asks)) played
+  pub at_home : AllByRecursion (λ t. IsAtHome home t.line.node t.line.asks) played
   pub rise : (phase : ℕ) → tails phase ≤ tails (phase + 1)
   pub stands : LogStands log o.chain yard.cells
   -- each command in the log is a line's
   pub sent : (x : Asked) → Contains (asked_in 0 log) x → IsOfLine played x
   pub lines : AllAfter (LineEnded log tails faults ends) [] played
   pub sessions : (s : ℕ) → SessionEnded played faults home s (ends s)
+  pub replacements : Replacements played o.version o.chain (length yard.cells)
   pub came : FaultsCame played faults yard
   pub registered : ChainIsRegistered o yard.register

@@ -13,6 +13,8 @@ use Rattle.table_core.specs.declared.command.Query.TheVariants.{Get, Scan}
 use Rattle.script_text.specs.declared.line.Session.{Session}
 use Rattle.script_text.specs.declared.line.Line.{Line}
 use Rattle.script_text.specs.declared.line.Line.TheVariants as line
+use Rattle.script_text.specs.declared.line.Admin.{Admin}
+use Rattle.script_text.specs.declared.line.Admin.TheVariants.{Extend}
 use Rattle.script_text.specs.declared.line.Ask.{Ask}
 use Rattle.script_text.specs.declared.line.Ask.TheVariants.{Log, Look}
 use Rattle.script_text.specs.Gives.{◌>>=◌}
@@ -20,7 +22,7 @@ use Rattle.script_text.specs.Words.{Word, is_empty, is_text_byte, words_of}
 use Rattle.script_text.specs.Fields.{node_of, is_name_byte, is_name, name_of, key_of, value_of}
 use Rattle.script_text.specs.Seen.{Before, nothing_yet, session, with_session, admit}
 use Rattle.script_text.specs.Forms.{form_of, session_line, line_in, line_at}
-use Rattle.script_text.specs.Spelling.{node_name, ask_words, line_words, spell, is_print, IsWord, IsNode, AskFits, LineFits, Belongs, Follows, Spells, SpellsFrom, IsScript}
+use Rattle.script_text.specs.Spelling.{node_name, ask_words, admin_name, line_words, spell, is_print, IsWord, IsNode, AskFits, LineFits, Belongs, Follows, Spells, SpellsFrom, IsScript}
 use Rattle.script_text.specs.Script.{RawLine, lines_in, lines_from, script_of}
 use Rattle.script_text.proofs.Takes.{both}
 use Rattle.script_text.proofs.Numbers.{number_again, number_prints}
@@ -140,6 +142,9 @@ plain_ask (Look (Scan low high)) f = (literal (codes "scan") refl, (plain_word 6
 plain_session : (nodes n : ℕ) (s : Session) (a : Ask) → nodes ≤ 8 → LineFits nodes (line.Session n s a) → AllPlain (line_words (line.Session n s a))
 plain_session nodes n s a few f = (plain_on, (plain_node nodes n few f.0, (plain_name s.name f.1.letters, plain_ask a f.2)))
 
+plain_admin : (a : Admin) → Plain (admin_name a)
+plain_admin Extend = literal (codes "extend") refl
+
 -- ---- fields
 
 node_again : (nodes n : ℕ) → nodes ≤ 8 → IsNode nodes n → node_of nodes (node_name n) ≡ Ok n
@@ -185,15 +190,21 @@ session_again nodes b after n s (Look (Get k)) few f at =
 session_again nodes b after n s (Look (Scan low high)) few f at =
     rw (f.1.not_admin, node_again nodes n few f.0, name_again s.name f.1.letters, key_again low f.2.0.most_bytes, key_again high f.2.1.most_bytes, admit_again b after n s at) refl
 
+admin_again : (nodes : ℕ) (b : Before) (n : ℕ) (a : Admin) → nodes ≤ 8 → IsNode nodes n
+    → (form_of (line_words (line.Admin n a)) >>= λ f. line_in nodes b (line_words (line.Admin n a)) f) ≡ Ok (line.Admin n a, b)
+admin_again nodes b n Extend few is = rw (node_again nodes n few is) refl
+
 by_words_again : (nodes : ℕ) (b after : Before) (l : Line) → nodes ≤ 8 → LineFits nodes l → Follows b l after
     → (form_of (line_words l) >>= λ f. line_in nodes b (line_words l) f) ≡ Ok (l, after)
 by_words_again nodes b after line.Blank few f follows = ap (λ (x : Before). Ok (line.Blank, x)) (sym follows)
 by_words_again nodes b after (line.Session n s a) few f follows = session_again nodes b after n s a few f follows
+by_words_again nodes b after (line.Admin n a) few f follows = admin_again nodes b n a few f ∙ ap (λ (x : Before). Ok (line.Admin n a, x)) (sym follows)
 by_words_again nodes b after line.Barrier few f follows = ap (λ (x : Before). Ok (line.Barrier, x)) (sym follows)
 
 words_of_line : (nodes : ℕ) (l : Line) → nodes ≤ 8 → LineFits nodes l → length (spell l) ≤ 512 → words_of (spell l) ≡ Ok (line_words l)
 words_of_line nodes line.Blank few f short = refl
 words_of_line nodes (line.Session n s a) few f short = words_again _ _ (plain_session nodes n s a few f) short
+words_of_line nodes (line.Admin n a) few f short = words_again _ _ (plain_on, (plain_node nodes n few f, (plain_admin a, tt))) short
 words_of_line nodes line.Barrier few f short = words_again _ _ (plain_barrier, tt) short
 
 -- a line that is spelled is read

@@ -12,6 +12,7 @@ use Rattle.script_text.specs.declared.line.Rule.TheVariants as rule
 use Rattle.script_text.specs.declared.line.Line.{Line}
 use Rattle.script_text.specs.declared.line.Line.TheVariants as line
 use Rattle.script_text.specs.declared.line.Session.{Session}
+use Rattle.script_text.specs.declared.line.Admin.TheVariants as admin
 use Rattle.script_text.specs.declared.line.Ask.{Ask}
 use Rattle.script_text.specs.declared.line.Ask.TheVariants as ask
 use Rattle.script_text.specs.declared.forms.Verb.{Verb}
@@ -26,7 +27,7 @@ use Rattle.script_text.specs.Gives.{◌>>=◌}
 use Rattle.script_text.specs.Words.{Word, is_empty, is_text_byte, split_words}
 use Rattle.script_text.specs.Fields.{is_node, node_number, node_of, is_name, name_of, number_from, number_of}
 use Rattle.script_text.specs.Seen.{Before, nothing_yet, session, home_of, with_session, admit, admit_at}
-use Rattle.script_text.specs.Forms.{word, is_admin_word, form_of, verb_count, ask_of, session_line, line_in, line_at}
+use Rattle.script_text.specs.Forms.{word, form_of, verb_count, ask_of, session_line, line_in, line_at}
 use Rattle.script_text.specs.Script.{RawLine, line_numbered, in_line, lines_in, lines_from, script_of, ReadsScript}
 use Rattle.script_text.specs.Rules.{form_begun, word_count, nodes_at, sessions_at, numbers_at, keys_at, values_at, words_in, some_word, has_other_count, is_elsewhere, is_too_many, first_broken, IsRefusedFrom, IsRefused}
 use Rattle.script_text.proofs.Takes.{taken_else, line_takes}
@@ -178,6 +179,9 @@ in_told : (nodes : ℕ) (b : Before) (ws : List Word) (f : Form) → HasNone ws 
 in_told nodes b ws form.Blank none = rw none refl
 in_told nodes b ws form.Barrier none = where_so (length ws == 1) rule.Count (Ok (line.Barrier, b)) None (λ e. refl)
 in_told nodes b ws (form.Session v) none = session_told nodes b ws v
+in_told nodes b ws (form.Admin a) none =
+    where_so (length ws == 3) rule.Count (node_of nodes (word ws 1) >>= λ node. Ok (line.Admin node a, b)) _
+    (λ e. has_to_be (is_node nodes (word ws 1)) (node_number (word ws 1)) rule.Node (λ node. Ok (line.Admin node a, b)) None refl)
 
 -- ---- forms
 
@@ -189,38 +193,44 @@ FindsForm ws (Err r) found = (found ≡ None) × (r ≡ rule.Word)
 few_words : (ws : List Word) → nat_lt (length ws) 3 ≡ true → nat_lt (length ws) 4 ≡ false → ⊥
 few_words ws a b = grind (arith, nat_tests)
 
--- by the tests of the words: none, `barrier`, `on`, fewer than three, a word of an admin line, fewer than four, and the verbs
-forms_found : (ws : List Word) (none bar on two admin three p d c a g s : Bool) → (none ≡ true → (length ws == 0) ≡ true) → (two ≡ true → three ≡ false → ⊥) →
+-- by the tests of the words: none, `barrier`, `on`, fewer than three, `extend`, another word of an admin line, fewer than four,
+-- and the verbs
+forms_found : (ws : List Word) (none bar on two ext other three p d c a g s : Bool) → (none ≡ true → (length ws == 0) ≡ true) → (two ≡ true → three ≡ false → ⊥) →
     FindsForm ws
-    (cond none (Ok form.Blank) (cond bar (Ok form.Barrier) (cond on (cond two (Err rule.Word) (cond admin (Err rule.Word) (cond three (Err rule.Word)
+    (cond none (Ok form.Blank) (cond bar (Ok form.Barrier) (cond on (cond two (Err rule.Word) (cond (ext || other) (cond ext (Ok admin.Extend) (Err rule.Word) >>= λ x. Ok (form.Admin x))
+    (cond three (Err rule.Word)
     (cond p (Ok verb.Put) (cond d (Ok verb.Del) (cond c (Ok verb.Cas) (cond a (Ok verb.Add) (cond g (Ok verb.Get) (cond s (Ok verb.Scan) (Err rule.Word))))))
     >>= λ v. Ok (form.Session v))))) (Err rule.Word))))
     (cond none (Some form.Blank) (cond bar (Some form.Barrier)
-    (cond (on && (not three && (not admin && p))) (Some (form.Session verb.Put))
-    (cond (on && (not three && (not admin && d))) (Some (form.Session verb.Del))
-    (cond (on && (not three && (not admin && c))) (Some (form.Session verb.Cas))
-    (cond (on && (not three && (not admin && a))) (Some (form.Session verb.Add))
-    (cond (on && (not three && (not admin && g))) (Some (form.Session verb.Get))
-    (cond (on && (not three && (not admin && s))) (Some (form.Session verb.Scan)) None))))))))
-forms_found ws true bar on two admin three p d c a g s empty few = (refl, empty refl)
-forms_found ws false true on two admin three p d c a g s empty few = (refl, tt)
-forms_found ws false false false two admin three p d c a g s empty few = (refl, refl)
-forms_found ws false false true true admin true p d c a g s empty few = (refl, refl)
-forms_found ws false false true true admin false p d c a g s empty few = absurd (few refl refl)
-forms_found ws false false true false true true p d c a g s empty few = (refl, refl)
-forms_found ws false false true false true false p d c a g s empty few = (refl, refl)
-forms_found ws false false true false false true p d c a g s empty few = (refl, refl)
-forms_found ws false false true false false false true d c a g s empty few = (refl, tt)
-forms_found ws false false true false false false false true c a g s empty few = (refl, tt)
-forms_found ws false false true false false false false false true a g s empty few = (refl, tt)
-forms_found ws false false true false false false false false false true g s empty few = (refl, tt)
-forms_found ws false false true false false false false false false false true s empty few = (refl, tt)
-forms_found ws false false true false false false false false false false false true empty few = (refl, tt)
-forms_found ws false false true false false false false false false false false false empty few = (refl, refl)
+    (cond (on && (not two && ext)) (Some (form.Admin admin.Extend))
+    (cond (on && (not three && (not (ext || other) && p))) (Some (form.Session verb.Put))
+    (cond (on && (not three && (not (ext || other) && d))) (Some (form.Session verb.Del))
+    (cond (on && (not three && (not (ext || other) && c))) (Some (form.Session verb.Cas))
+    (cond (on && (not three && (not (ext || other) && a))) (Some (form.Session verb.Add))
+    (cond (on && (not three && (not (ext || other) && g))) (Some (form.Session verb.Get))
+    (cond (on && (not three && (not (ext || other) && s))) (Some (form.Session verb.Scan)) None)))))))))
+forms_found ws true bar on two ext other three p d c a g s empty few = (refl, empty refl)
+forms_found ws false true on two ext other three p d c a g s empty few = (refl, tt)
+forms_found ws false false false two ext other three p d c a g s empty few = (refl, refl)
+forms_found ws false false true true ext other true p d c a g s empty few = (refl, refl)
+forms_found ws false false true true ext other false p d c a g s empty few = absurd (few refl refl)
+forms_found ws false false true false true other three p d c a g s empty few = (refl, tt)
+forms_found ws false false true false false true true p d c a g s empty few = (refl, refl)
+forms_found ws false false true false false true false p d c a g s empty few = (refl, refl)
+forms_found ws false false true false false false true p d c a g s empty few = (refl, refl)
+forms_found ws false false true false false false false true d c a g s empty few = (refl, tt)
+forms_found ws false false true false false false false false true c a g s empty few = (refl, tt)
+forms_found ws false false true false false false false false false true a g s empty few = (refl, tt)
+forms_found ws false false true false false false false false false false true g s empty few = (refl, tt)
+forms_found ws false false true false false false false false false false false true s empty few = (refl, tt)
+forms_found ws false false true false false false false false false false false false true empty few = (refl, tt)
+forms_found ws false false true false false false false false false false false false false empty few = (refl, refl)
 
 form_found : (ws : List Word) → FindsForm ws (form_of ws) (form_begun ws)
 form_found ws =
-    forms_found ws (length ws == 0) (bytes_eq (word ws 0) (codes "barrier")) (bytes_eq (word ws 0) (codes "on")) (nat_lt (length ws) 3) (is_admin_word (word ws 2)) (nat_lt (length ws) 4)
+    forms_found ws (length ws == 0) (bytes_eq (word ws 0) (codes "barrier")) (bytes_eq (word ws 0) (codes "on")) (nat_lt (length ws) 3)
+    (bytes_eq (word ws 2) (codes "extend")) (bytes_eq (word ws 2) (codes "alive") || (bytes_eq (word ws 2) (codes "trim") || bytes_eq (word ws 2) (codes "retire")))
+    (nat_lt (length ws) 4)
     (bytes_eq (word ws 3) (codes "put")) (bytes_eq (word ws 3) (codes "del")) (bytes_eq (word ws 3) (codes "cas"))
     (bytes_eq (word ws 3) (codes "add")) (bytes_eq (word ws 3) (codes "get")) (bytes_eq (word ws 3) (codes "scan"))
     (λ e. e) (few_words ws)

@@ -15,6 +15,8 @@ use Rattle.script_text.specs.declared.line.Rule.TheVariants as rule
 use Rattle.script_text.specs.declared.line.Session.{Session}
 use Rattle.script_text.specs.declared.line.Line.{Line}
 use Rattle.script_text.specs.declared.line.Line.TheVariants as line
+use Rattle.script_text.specs.declared.line.Admin.{Admin}
+use Rattle.script_text.specs.declared.line.Admin.TheVariants as admin
 use Rattle.script_text.specs.declared.line.Ask.{Ask}
 use Rattle.script_text.specs.declared.line.Ask.TheVariants as ask
 use Rattle.script_text.specs.declared.forms.Verb.{Verb}
@@ -26,10 +28,10 @@ use Rattle.script_text.specs.Gives.{◌>>=◌}
 use Rattle.script_text.specs.Words.{Word, is_empty, is_text_byte, split_words, words_of}
 use Rattle.script_text.specs.Fields.{is_node, node_of, is_name, name_of, number_of, key_of, value_of}
 use Rattle.script_text.specs.Seen.{Before, session, home, is_named, home_of, with_session, admit, admit_at, admit_new}
-use Rattle.script_text.specs.Forms.{word, is_admin_word, verb_of, session_form, on_form, form_of, having, verb_count, ask_of, session_line, line_in, line_at}
+use Rattle.script_text.specs.Forms.{word, is_admin_word, admin_of, admin_form, verb_of, session_form, on_form, form_of, having, verb_count, ask_of, session_line, line_in, line_at}
 use Rattle.script_text.specs.Rules.{verb_name}
 use Rattle.script_text.proofs.Numbers.{number_takes}
-use Rattle.script_text.specs.Spelling.{node_name, ask_words, line_words, is_print, IsWord, IsNode, IsSessionName, AskFits, LineFits, Belongs, Follows, Spells}
+use Rattle.script_text.specs.Spelling.{node_name, ask_words, admin_name, line_words, is_print, IsWord, IsNode, IsSessionName, AskFits, LineFits, Belongs, Follows, Spells}
 
 -- ---- steps that did not fail
 
@@ -356,6 +358,22 @@ barrier_takes nodes b text ws x cut is e =
     let words : ws ≡ line_words y.0 = so_many ws 1 h.0 ∙ one (word ws 0) (codes "barrier") is in
     subst (λ (z : Line × Before). Spells nodes b text z.0 z.1) (ok_is y x h.1) (by_words nodes b y.1 text ws y.0 cut words tt refl)
 
+-- what the form of an admin line says of the words
+pub record IsAdmin (ws : List Word) (a : Admin) : Type 0 where
+  pub on : word ws 0 ≡ codes "on"
+  pub admin_is : word ws 2 ≡ admin_name a
+
+pub admin_takes : (nodes : ℕ) (b : Before) (text : List ℕ) (ws : List Word) (a : Admin) (x : Line × Before) → Cut text ws → IsAdmin ws a
+    → having 3 ws (node_of nodes (word ws 1) >>= λ node. Ok (line.Admin node a, b)) ≡ Ok x → Spells nodes b text x.0 x.1
+admin_takes nodes b text ws a x cut on e =
+    let h = having_ok 3 ws (node_of nodes (word ws 1) >>= λ node. Ok (line.Admin node a, b)) x e in
+    let n = bind_ok (node_of nodes (word ws 1)) (λ node. Ok (line.Admin node a, b)) x h.1 in
+    let tn = node_takes nodes n.0 (word ws 1) n.1 in
+    let y : Line × Before = (line.Admin n.0 a, b) in
+    let words : ws ≡ line_words y.0 =
+    so_many ws 3 h.0 ∙ three (word ws 0) (word ws 1) (word ws 2) (codes "on") (node_name n.0) (admin_name a) on.on tn.0 on.admin_is in
+    subst (λ (z : Line × Before). Spells nodes b text z.0 z.1) (ok_is y x n.2) (by_words nodes b y.1 text ws y.0 cut words tn.1 refl)
+
 -- ---- forms
 
 -- what a form says of the words
@@ -363,6 +381,7 @@ abbrev pub Means : List Word → Form → Type 0
 Means ws form.Blank = length ws ≡ 0
 Means ws form.Barrier = word ws 0 ≡ codes "barrier"
 Means ws (form.Session v) = IsOn ws v
+Means ws (form.Admin a) = IsAdmin ws a
 
 leaf : (ws : List Word) (g f : Form) → Means ws g → done g ≡ Ok f → Means ws f
 leaf ws g f h e = subst (Means ws) (ok_is g f e) h
@@ -392,11 +411,17 @@ session_means ws f on not_admin e =
     let v = bind_ok (verb_of (word ws 3)) (λ v. Ok (form.Session v)) f t.1 in
     leaf ws (form.Session v.0) f (record { on = on; not_admin = not_admin; verb_is = verb_means (word ws 3) v.0 v.1 }) v.2
 
+admin_means : (ws : List Word) (f : Form) → word ws 0 ≡ codes "on" → admin_form ws ≡ Ok f → Means ws f
+admin_means ws f on e =
+    let a = bind_ok (admin_of (word ws 2)) (λ a. Ok (form.Admin a)) f e in
+    let t = taken_then (bytes_eq (word ws 2) (codes "extend")) rule.Word (Ok admin.Extend) a.0 a.1 in
+    let named : word ws 2 ≡ admin_name a.0 = subst (λ (b : Admin). word ws 2 ≡ admin_name b) (ok_is admin.Extend a.0 t.1) (same_bytes (word ws 2) (codes "extend") t.0) in
+    leaf ws (form.Admin a.0) f (record { on = on; admin_is = named }) a.2
+
 on_means : (ws : List Word) (f : Form) → word ws 0 ≡ codes "on" → on_form ws ≡ Ok f → Means ws f
 on_means ws f on e =
-    let t = taken_else (nat_lt (length ws) 3) rule.Word (cond (is_admin_word (word ws 2)) (Err rule.Word) (session_form ws)) f e in
-    let u = taken_else (is_admin_word (word ws 2)) rule.Word (session_form ws) f t.1 in
-    session_means ws f on u.0 u.1
+    let t = taken_else (nat_lt (length ws) 3) rule.Word (cond (is_admin_word (word ws 2)) (admin_form ws) (session_form ws)) f e in
+    cased (is_admin_word (word ws 2)) (admin_form ws) (session_form ws) f (Means ws f) (λ y. admin_means ws f on) (λ not_admin. session_means ws f on not_admin) t.1
 
 pub form_means : (ws : List Word) (f : Form) → form_of ws ≡ Ok f → Means ws f
 form_means ws f = cased (length ws == 0) _ _ f (Means ws f) (λ y. leaf ws form.Blank f (eqb-true _ _ y))
@@ -408,6 +433,7 @@ in_takes : (nodes : ℕ) (b : Before) (text : List ℕ) (ws : List Word) (f : Fo
 in_takes nodes b text ws form.Blank x cut on e = blank_takes nodes b text ws x cut on e
 in_takes nodes b text ws form.Barrier x cut is e = barrier_takes nodes b text ws x cut is e
 in_takes nodes b text ws (form.Session v) x cut on e = session_takes nodes b text ws v x cut on e
+in_takes nodes b text ws (form.Admin a) x cut on e = admin_takes nodes b text ws a x cut on e
 
 -- a line that is read is spelled so
 pub line_takes : (nodes : ℕ) (b : Before) (text : List ℕ) (x : Line × Before) → line_at nodes b text ≡ Ok x → Spells nodes b text x.0 x.1

@@ -54,6 +54,9 @@ rank_is before w id small past few = ap one_more (past.logged id few) ∙ one_mo
 pub named_is : (before : List Line) (l : Line) (w : Walk) → length before + 1 < 2 ^ 64 → IsPast before w → IsCountedLine l → named_now w l ≡ named_after before l
 named_is before line.Blank w small past few = refl
 named_is before line.Barrier w small past few = refl
+named_is before (line.Admin node a) w small past few =
+    let number : one_more w.number ≡ length before + 1 = ap one_more past.number ∙ one_more_is (length before) small in
+    rw (number, past.phase) refl
 named_is before (line.Session node s (ask.Look query)) w small past few =
     let number : one_more w.number ≡ length before + 1 = ap one_more past.number ∙ one_more_is (length before) small in
     rw (number, past.phase) refl
@@ -95,6 +98,12 @@ past_line before line.Barrier w small past few = record {
   phase = ap one_more past.phase ∙ one_more_counted is_barrier before small ∙ sym (counted is_barrier before line.Barrier refl);
   size = past.size;
   logged = λ id lt. past.logged id lt ∙ sym (passed_over (is_logged_by id) before line.Barrier refl);
+}
+past_line before (line.Admin node a) w small past few = record {
+  number = ap one_more past.number ∙ one_more_is (length before) small ∙ sym (more_lines before (line.Admin node a));
+  phase = past.phase ∙ sym (passed_over is_barrier before (line.Admin node a) refl);
+  size = past.size;
+  logged = λ id lt. past.logged id lt ∙ sym (passed_over (is_logged_by id) before (line.Admin node a) refl);
 }
 past_line before (line.Session node s (ask.Look query)) w small past few = record {
   number = ap one_more past.number ∙ one_more_is (length before) small ∙ sym (more_lines before (line.Session node s (ask.Look query)));

@@ -7,6 +7,8 @@ use Rattle.script_text.specs.declared.line.Rule.{Rule}
 use Rattle.script_text.specs.declared.line.Rule.TheVariants as rule
 use Rattle.script_text.specs.declared.line.Line.{Line}
 use Rattle.script_text.specs.declared.line.Line.TheVariants as line
+use Rattle.script_text.specs.declared.line.Admin.{Admin}
+use Rattle.script_text.specs.declared.line.Admin.TheVariants as admin
 use Rattle.script_text.specs.declared.line.Ask.{Ask}
 use Rattle.script_text.specs.declared.line.Ask.TheVariants as ask
 use Rattle.script_text.specs.declared.forms.Verb.{Verb}
@@ -26,6 +28,16 @@ word ws i = slice_index_or ws i []
 abbrev pub is_admin_word : Word → Bool
 is_admin_word w = bytes_eq w (codes "extend") || (bytes_eq w (codes "alive") || (bytes_eq w (codes "trim") || bytes_eq w (codes "retire")))
 
+-- what the word of an admin line asks, of those that a line may have
+abbrev pub admin_of : Word → Result Admin Rule
+admin_of w = if bytes_eq w (codes "extend") then Ok admin.Extend else Err rule.Word
+
+-- `on N` and a word of admin lines
+abbrev pub admin_form : List Word → Result Form Rule
+admin_form ws = do
+  a ← admin_of (word ws 2)
+  Ok (form.Admin a)
+
 -- what the fourth word of a session's line says
 abbrev pub verb_of : Word → Result Verb Rule
 verb_of w = if bytes_eq w (codes "put") then Ok verb.Put
@@ -44,7 +56,7 @@ session_form ws = if nat_lt (length ws) 4 then Err rule.Word else (do
 -- `on N` and who asks
 abbrev pub on_form : List Word → Result Form Rule
 on_form ws = if nat_lt (length ws) 3 then Err rule.Word
-    else (if is_admin_word (word ws 2) then Err rule.Word else session_form ws)
+    else (if is_admin_word (word ws 2) then admin_form ws else session_form ws)
 
 -- the form that the words begin, which the rule `word` asks for
 abbrev pub form_of : List Word → Result Form Rule
@@ -106,6 +118,9 @@ abbrev pub line_in : ℕ → Before → List Word → Form → Result (Line × B
 line_in nodes seen ws form.Blank = Ok (line.Blank, seen)
 line_in nodes seen ws form.Barrier = having 1 ws (Ok (line.Barrier, seen))
 line_in nodes seen ws (form.Session v) = session_line nodes seen ws v
+line_in nodes seen ws (form.Admin a) = having 3 ws (do
+  node ← node_of nodes (word ws 1)
+  Ok (line.Admin node a, seen))
 
 -- a line, after the lines so far, or the first rule that it breaks
 unfoldable pub line_at : ℕ → Before → List ℕ → Result (Line × Before) Rule

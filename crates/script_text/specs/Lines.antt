@@ -29,6 +29,8 @@ asks_after before s (ask.Look query) = asks.Look s query
 abbrev pub named_after : List Line → Line → Option NamedLine
 named_after before (line.Session node s a) =
     Some (record { number = length before + 1; phase = count_by is_barrier before; node = node; asks = asks_after before s a })
+named_after before (line.Admin node a) =
+    Some (record { number = length before + 1; phase = count_by is_barrier before; node = node; asks = asks.Admin a })
 named_after before _ = None
 
 abbrev pub lines_after : List Line → List Line → List NamedLine

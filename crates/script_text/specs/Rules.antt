@@ -6,6 +6,7 @@ use Rattle.table_core.specs.Table.{amount_of}
 use Rattle.script_text.specs.declared.line.Rule.{Rule}
 use Rattle.script_text.specs.declared.line.Rule.TheVariants as rule
 use Rattle.script_text.specs.declared.line.Line.{Line}
+use Rattle.script_text.specs.declared.line.Admin.TheVariants as admin
 use Rattle.script_text.specs.declared.forms.Verb.{Verb}
 use Rattle.script_text.specs.declared.forms.Verb.TheVariants as verb
 use Rattle.script_text.specs.declared.forms.Form.{Form}
@@ -17,7 +18,7 @@ use Rattle.script_text.specs.Fields.{is_node, node_number, is_name}
 use Rattle.script_text.specs.Seen.{Before, nothing_yet, home_of}
 use Rattle.script_text.specs.Forms.{word, is_admin_word}
 use Rattle.script_text.specs.Script.{RawLine, lines_in}
-use Rattle.script_text.specs.Spelling.{Spells}
+use Rattle.script_text.specs.Spelling.{Spells, admin_name}
 
 -- ---- forms of lines
 
@@ -29,15 +30,17 @@ verb_name verb.Add = codes "add"
 verb_name verb.Get = codes "get"
 verb_name verb.Scan = codes "scan"
 
--- the words begin a line of this form: nothing, `barrier`, or `on N S` and a verb, where S is no word of an admin line
+-- the words begin a line of this form: nothing, `barrier`, `on N` and what is asked of the node, or `on N S` and a verb,
+-- where S is no word of an admin line
 abbrev pub begins : List Word → Form → Bool
 begins ws form.Blank = length ws == 0
 begins ws form.Barrier = bytes_eq (word ws 0) (codes "barrier")
 begins ws (form.Session v) = bytes_eq (word ws 0) (codes "on")
     && (not (nat_lt (length ws) 4) && (not (is_admin_word (word ws 2)) && bytes_eq (word ws 3) (verb_name v)))
+begins ws (form.Admin a) = bytes_eq (word ws 0) (codes "on") && (not (nat_lt (length ws) 3) && bytes_eq (word ws 2) (admin_name a))
 
 abbrev pub forms : List Form
-forms = form.Blank ∷ form.Barrier ∷ form.Session verb.Put ∷ form.Session verb.Del ∷ form.Session verb.Cas ∷ form.Session verb.Add
+forms = form.Blank ∷ form.Barrier ∷ form.Admin admin.Extend ∷ form.Session verb.Put ∷ form.Session verb.Del ∷ form.Session verb.Cas ∷ form.Session verb.Add
     ∷ form.Session verb.Get ∷ form.Session verb.Scan ∷ []
 
 -- the form that the words begin
@@ -54,10 +57,12 @@ word_count (form.Session verb.Cas) = 7
 word_count (form.Session verb.Add) = 6
 word_count (form.Session verb.Get) = 5
 word_count (form.Session verb.Scan) = 6
+word_count (form.Admin a) = 3
 
 -- which of its words, counted from 0, are a node, a session, a number, keys and values
 abbrev pub nodes_at : Form → List ℕ
 nodes_at (form.Session v) = 1 ∷ []
+nodes_at (form.Admin a) = 1 ∷ []
 nodes_at other = []
 
 abbrev pub sessions_at : Form → List ℕ

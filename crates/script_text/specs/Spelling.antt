@@ -10,6 +10,8 @@ use Rattle.table_core.specs.declared.command.Query.TheVariants.{Get, Scan}
 use Rattle.script_text.specs.declared.line.Session.{Session}
 use Rattle.script_text.specs.declared.line.Line.{Line}
 use Rattle.script_text.specs.declared.line.Line.TheVariants as line
+use Rattle.script_text.specs.declared.line.Admin.{Admin}
+use Rattle.script_text.specs.declared.line.Admin.TheVariants.{Extend}
 use Rattle.script_text.specs.declared.line.Ask.{Ask}
 use Rattle.script_text.specs.declared.line.Ask.TheVariants.{Log, Look}
 use Rattle.script_text.specs.Words.{Word}
@@ -36,10 +38,14 @@ abbrev pub ask_words : Ask → List Word
 ask_words (Log c) = command_words c
 ask_words (Look q) = query_words q
 
+abbrev pub admin_name : Admin → Word
+admin_name Extend = codes "extend"
+
 -- the words of a line
 abbrev pub line_words : Line → List Word
 line_words line.Blank = []
 line_words (line.Session n s a) = codes "on" ∷ node_name n ∷ s.name ∷ ask_words a
+line_words (line.Admin n a) = codes "on" ∷ node_name n ∷ admin_name a ∷ []
 line_words line.Barrier = codes "barrier" ∷ []
 
 -- a line is its words with one space between
@@ -86,6 +92,7 @@ AskFits (Look q) = QueryFits q
 abbrev pub LineFits : ℕ → Line → Type 0
 LineFits nodes line.Blank = Unit {0}
 LineFits nodes (line.Session n s a) = IsNode nodes n × IsSessionName s.name × AskFits a
+LineFits nodes (line.Admin n a) = IsNode nodes n
 LineFits nodes line.Barrier = Unit {0}
 
 -- ---- what a line may say after the lines before it

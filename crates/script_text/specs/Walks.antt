@@ -38,4 +38,5 @@ walked w _ = record { number = one_more w.number; phase = w.phase; logged = w.lo
 
 abbrev pub named_now : Walk → Line → Option NamedLine
 named_now w (line.Session node s a) = Some (record { number = one_more w.number; phase = w.phase; node = node; asks = asks_now w.logged s a })
+named_now w (line.Admin node a) = Some (record { number = one_more w.number; phase = w.phase; node = node; asks = asks.Admin a })
 named_now w _ = None

@@ -4,7 +4,7 @@ ghost use Rattle.std.specs.Option.{option_to_list};
 ghost use Rattle.script_text.specs.Lines.{lines_of};
 ghost use Rattle.script_text.specs.Walks.{one_more, asks_now, logged_now, IsCounted, IsCountedLine, walked, named_now};
 
-use crate::line::{Ask, Line, Session};
+use crate::line::{Admin, Ask, Line, Session};
 use crate::script::Script;
 use delos_types::numbers::{NodeId, Rank, SessionId};
 use std::alloc::{AllocError, Global};
@@ -26,6 +26,8 @@ pub enum Asks {
         session: Session,
         query: Query,
     },
+    /// The node itself is asked.
+    Admin(Admin),
 }
 
 /// A line that names a node.
@@ -139,6 +141,12 @@ fn walk_on(walk: &mut Walk, line: Line) -> Option<NamedLine>
                 asks,
             })
         }
+        Line::Admin { node, admin } => Some(NamedLine {
+            number: walk.number,
+            phase: walk.phase,
+            node,
+            asks: Asks::Admin(admin),
+        }),
         Line::Barrier => {
             walk.phase = walk.phase.saturating_add(1);
             None

@@ -2,10 +2,10 @@
 ghost use Rattle.std.specs.Prelude.{◌≡◌, ◌≤◌, length};
 ghost use Rattle.script_text.specs.Gives.{Gives};
 ghost use Rattle.script_text.specs.Seen.{Reads};
-ghost use Rattle.script_text.specs.Forms.{is_admin_word, verb_of, session_form, on_form, form_of, verb_count, ask_of, session_line, line_in, line_at};
+ghost use Rattle.script_text.specs.Forms.{is_admin_word, admin_of, verb_of, session_form, on_form, form_of, verb_count, ask_of, session_line, line_in, line_at};
 
 use crate::fields::{key_at, name_at, node_at, number_at, value_at};
-use crate::line::{Ask, Fault, Line, Rule};
+use crate::line::{Admin, Ask, Fault, Line, Rule};
 use crate::seen::Seen;
 use crate::words::{Words, words_of};
 use std::alloc::Global;
@@ -28,6 +28,7 @@ pub enum Form {
     Blank,
     Barrier,
     Session(Verb),
+    Admin(Admin),
 }
 
 fn is_admin_word(word: &[u8]) -> bool
@@ -37,6 +38,17 @@ fn is_admin_word(word: &[u8]) -> bool
         || word == b"alive".as_slice()
         || word == b"trim".as_slice()
         || word == b"retire".as_slice()
+}
+
+// What a word of an admin line asks, of those that a line may have.
+fn admin_of(word: &[u8]) -> Result<Admin, Fault>
+    ensures { Gives result (admin_of word.now) }
+{
+    if word == b"extend".as_slice() {
+        Ok(Admin::Extend)
+    } else {
+        Err(Fault::Breaks(Rule::Word))
+    }
 }
 
 fn verb_of(word: &[u8]) -> Result<Verb, Fault>
@@ -76,7 +88,8 @@ fn on_form(words: &Words<'_>) -> Result<Form, Fault>
         return Err(Fault::Breaks(Rule::Word));
     }
     if is_admin_word(words.get(2)) {
-        return Err(Fault::Breaks(Rule::Word));
+        let admin = admin_of(words.get(2))?;
+        return Ok(Form::Admin(admin));
     }
     session_form(words)
 }
@@ -187,6 +200,13 @@ fn line_in(
             Ok(Line::Barrier)
         }
         Form::Session(verb) => session_line(alloc, nodes, seen, words, verb),
+        Form::Admin(admin) => {
+            if words.len() != 3 {
+                return Err(Fault::Breaks(Rule::Count));
+            }
+            let node = node_at(nodes, words.get(1))?;
+            Ok(Line::Admin { node, admin })
+        }
     }
 }
 

@@ -1,7 +1,7 @@
 //! Scripts: their lines, the first rule that one breaks, and what each line asks of its node.
 //!
-//! The words of the command line and the text of a run stand in crates of their own, `script_words`
-//! and `row_text`; their calls are given on here.
+//! The text of a run stands in a crate of its own, `row_text`; its call is given on here. So do the words of the command
+//! line, `script_words`, on which no script depends.
 #![tactic(auto)]
 
 pub mod asks;
@@ -11,9 +11,6 @@ pub mod line;
 pub mod refusal;
 pub mod script;
 mod seen;
-#[cfg(test)]
-mod tests;
 mod words;
 
 pub use row_text::render::render;
-pub use script_words::plan::read_words;

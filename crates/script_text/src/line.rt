@@ -94,6 +94,13 @@ pub enum Ask {
     Look(Query),
 }
 
+/// What is asked of a node itself.
+#[derive(Clone, Copy, Debug, PartialEq, Eq)]
+pub enum Admin {
+    /// The chain is to go on in another loglet.
+    Extend,
+}
+
 /// A line of a script.
 #[derive(Drop, Debug)]
 pub enum Line {
@@ -104,6 +111,11 @@ pub enum Line {
         node: NodeId,
         session: Session,
         ask: Ask,
+    },
+    /// A node itself is asked.
+    Admin {
+        node: NodeId,
+        admin: Admin,
     },
     /// The phase ends.
     Barrier,

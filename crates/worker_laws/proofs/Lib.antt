@@ -1,2 +1,4 @@
 pub mod Staying
 pub mod Bounding
+pub mod Chains
+pub mod Lone

@@ -1,16 +1,15 @@
-use Rattle.std.proofs.Common.{sym, subst, IfOk}
-use Rattle.course_ends.specs.Rows.{Tells}
+use Rattle.std.proofs.Common.{sym, subst, List, map}
+use Rattle.script_text.specs.declared.asks.Asks.TheVariants as asks
+use Rattle.course_ends.specs.Closing.{WorkerEnd}
+use Rattle.course_ends.specs.Rows.{Tells, desk_for}
 use Rattle.crew_rows.proofs.First.{ok_then}
 use Rattle.crew_rows.proofs.rows.outcome_of.Goals as goal
 
 pub returns-in-Logged : goal.returns-in-Logged
-returns-in-Logged c =
+returns-in-Logged g c =
     let a = c.args in
-    subst (λ x. IfOk c.logged_outcome.result (Tells a.desk.now a.look.now x)) (sym c.in-Logged.is)
-    (ok_then c.logged_outcome.result c.logged_outcome.ensures (λ o told. told c.in-Logged.session c.in-Logged.command a.look.now))
-
-pub returns-in-Look : goal.returns-in-Look
-returns-in-Look c =
-    let a = c.args in
-    subst (λ x. IfOk c.look_outcome.result (Tells a.desk.now a.look.now x)) (sym c.in-Look.is)
-    (ok_then c.look_outcome.result c.look_outcome.ensures (λ o told. told a.desk.now c.in-Look.session c.in-Look.query))
+    let s = c.in-Logged.session in
+    let workers : List WorkerEnd = map (λ w. record { seat = w.seat; desks = w.desks.items }) a.workers.now in
+    ok_then c.logged_outcome.result c.logged_outcome.ensures (λ o told.
+    subst (λ x. Tells (desk_for workers a.line.now.node x) a.look.now x o) (sym c.in-Logged.is)
+    (subst (λ desk. Tells desk a.look.now (asks.Logged s c.in-Logged.rank c.in-Logged.command) o) (sym c.desk_of-desk.ensures) (told s c.in-Logged.command a.look.now)))

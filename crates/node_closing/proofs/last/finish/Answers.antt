@@ -13,7 +13,7 @@ pub returns-in-Ok-clause-plays : goal.returns-in-Ok-clause-plays
 returns-in-Ok-clause-plays g c =
     let p = g.T.Law.Rules in
     let e = c.in-Ok.ensures in
-    played p.may p.floor p.shelf c.args.node.now c.reopen.new.node c.sync.new.self c.in-Ok.field-0 c.in_ok-reopen.ensures e.synced e.cursor
+    played p.may p.floor p.shelf c.args.node.now c.reopen.new.node c.sync.new.self c.in-Ok.field-0 c.in_ok-reopen.ensures e.synced e.cursor e.exact
 
 pub returns-in-Err-Because-clause-moves : goal.returns-in-Err-Because-clause-moves
 returns-in-Err-Because-clause-moves g c =

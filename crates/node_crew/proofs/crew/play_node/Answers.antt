@@ -1,5 +1,5 @@
-use Rattle.std.proofs.Common.{◌≡◌, refl, sym, ap, ◌∙◌, subst, ◌+◌, length, Some, Result, Ok, arith}
-use Rattle.std.specs.Prelude.{slice_get, slice_set, if◌then◌else◌, is_ok, insert, OnOk}
+use Rattle.std.proofs.Common.{◌≡◌, refl, sym, ap, ◌∙◌, subst, ◌+◌, length, arith}
+use Rattle.std.specs.Prelude.{if◌then◌else◌, is_ok, insert}
 use Rattle.std.proofs.lemmas.Option.{slice_get_read}
 use Rattle.node_crew.specs.Crews.{HasNone, CrewAt, CrewStands}
 use Rattle.node_crew.specs.Turns.{TurnWent}

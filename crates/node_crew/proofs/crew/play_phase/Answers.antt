@@ -1,4 +1,4 @@
-use Rattle.std.proofs.Common.{◌≡◌, sym, ap, ◌∙◌, subst, length, arith}
+use Rattle.std.proofs.Common.{◌≡◌, subst, length, arith}
 use Rattle.node_crew.specs.Crews.{CrewAt}
 use Rattle.node_crew.proofs.Crews.{crew_stands}
 use Rattle.node_crew.proofs.crew.play_phase.Goals as goal

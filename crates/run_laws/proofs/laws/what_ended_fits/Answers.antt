@@ -2,6 +2,7 @@ use Rattle.run_laws.proofs.Acting.{acts-once}
 use Rattle.run_laws.proofs.Counts.{faults-counted}
 use Rattle.run_laws.proofs.Looks.{reads-current}
 use Rattle.run_laws.proofs.Orders.{barriers-kept, one-row-each, session-order}
+use Rattle.run_laws.proofs.Replacing.{replacements-agree}
 use Rattle.run_laws.proofs.laws.what_ended_fits.Goals as goal
 
 pub returns : goal.returns
@@ -12,5 +13,6 @@ returns c = λ played o yard e. record {
   reads_are_current = reads-current played o yard e;
   barriers = barriers-kept played o yard e;
   faults_are_counted = faults-counted played o yard e;
+  replacements = replacements-agree played o yard e;
   chain_is_registered = e.registered;
 }

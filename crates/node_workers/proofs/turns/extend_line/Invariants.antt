@@ -1,0 +1,5 @@
+use Rattle.node_workers.specs.Workers.{Within}
+use Rattle.node_workers.proofs.turns.extend_line.Given as goal
+
+abbrev pub ghosts-extend_within : goal.ghosts-extend_within
+ghosts-extend_within g a = record { sends = Within g.K.Terms.may a._counts.now; since = a.fabric.journal }

@@ -1,0 +1,158 @@
+-- A line was played that logs no command: what it came to, it came to at once.
+use Rattle.std.proofs.Common.{◌≡◌, ◌≢◌, refl, sym, ap, ◌∙◌, subst, ◌⊎◌, inl, inr, ⊎_elim, ℕ, ◌+◌, ◌<◌, ◌≤◌, ◌==◌, Bool, false, cond, List, [], ◌∷◌, ◌++◌, Option, Some, None, map, length, length-set, count_by, slice_get, slice_set, arith}
+use Rattle.std.specs.List.{AllByRecursion}
+use Rattle.std.proofs.lemmas.Bool.{cases_lt}
+use Rattle.std.proofs.lemmas.Bool.Decides.{nat_tests}
+use Rattle.std.proofs.lemmas.List.Sums.{sum_by-append}
+use Rattle.delos_types.specs.Spaces.{SpaceMap}
+use Rattle.delos_types.specs.declared.entry.Entry.{Entry}
+use Rattle.delos_types.specs.declared.cause.Cause.{Cause}
+use Rattle.legal_journal.specs.declared.events.Event.{Event}
+use Rattle.legal_journal.specs.Journal.{state_of}
+use Rattle.replica_api.specs.Replica.{Saved}
+use Rattle.base_engine.specs.declared.outbox.Given.{Given}
+use Rattle.script_text.specs.declared.asks.NamedLine.{NamedLine}
+use Rattle.fitting_run.specs.Lines.{logs_for}
+use Rattle.fitting_run.specs.Faults.{lacks_store}
+use Rattle.fabric_core.proofs.Marks.{set_other}
+use Rattle.one_thread.specs.Alone.{Since}
+use Rattle.one_thread.specs.Seats.{SeatView, node_of}
+use Rattle.node_sessions.specs.declared.desk.Desk.{Desk}
+use Rattle.node_lines.specs.declared.lines.Looked.{Looked}
+use Rattle.node_lines.specs.Moving.{causes_of, Moves}
+use Rattle.node_workers.specs.Workers.{Within, WorkerOk}
+use Rattle.run_laws.specs.Ended.{CameTo, session_in}
+use Rattle.run_laws.proofs.Members.{among-map}
+use Rattle.run_laws.proofs.Placing.{same_some}
+use Rattle.run_course.specs.Script.{AreLines, asked_by, failed_looks}
+use Rattle.run_course.specs.Course.{Course, CourseOk, TurnOf}
+use Rattle.run_course.specs.Desks.{DeskAt, PlayedSo}
+use Rattle.run_course.specs.Replacing.{Replaced}
+use Rattle.run_course.specs.Workers.{LineWent, WorkerAt}
+use Rattle.run_course.proofs.Lines.{count-cons, asked_more, asked_none, phase_before}
+use Rattle.run_course.proofs.Advance.{advance, advanced, failed_of, failed_set, stores_counted, turned}
+use Rattle.run_course.proofs.Replacing.{LooksOn, later, replaced_then}
+use Rattle.run_course.proofs.Growing.{Grown, desk_same, ended_grows, grown_of, halted_grows, played_grows}
+use Rattle.run_course.proofs.Coming.{given_then}
+
+module _ (may : ℕ → Entry → Type 0) (floor : List Entry → ℕ) (shelf : List ℕ) (state : List Entry → SpaceMap → Type 0) (spells : List ℕ → Saved → Type 0) (lines : List NamedLine) (home : ℕ → ℕ) (nodes : ℕ) (c : Course) (counts : List ℕ) (looks : List (Option Looked)) (n from i : ℕ) (line : NamedLine) (look : Looked) (seat seat' : SeatView) (desks : List Desk) (journal : List Event) (are : AreLines lines home nodes) (least : 1 ≤ n) (most : n ≤ nodes) (at : slice_get lines i ≡ Some line) (node : line.node ≡ n) (phase : line.phase ≡ c.phase) (unlogged : (s : ℕ) → logs_for s line ≡ false) (ok : CourseOk may floor shelf lines nodes c counts looks) (worker : WorkerAt may floor shelf state spells lines home c counts looks n from i c.phase seat desks) (since : Since n c.journal journal) (others : List Cause) (moves : Moves (Within may counts) floor shelf (node_of seat c.journal) (node_of seat' journal) others) (paid_is : others ≡ failed_of look) (on : LooksOn (length shelf) (state_of c.journal).register (state_of journal).register look) (now : WorkerOk may floor shelf state spells n counts journal seat' desks) where
+  abbrev came : List Cause
+  came = map (λ g. g.cause) moves.goes.given
+
+  abbrev then' : Course
+  then' = advanced c n came journal c.when
+
+  abbrev looks' : List (Option Looked)
+  looks' = slice_set looks i (Some look)
+
+  not_yet : slice_get looks i ≡ Some None
+  not_yet = worker.waiting i line (omega arith) at node
+
+  both : (P : Cause → Bool) → count_by P came + count_by P (failed_of look) ≡ count_by P (causes_of moves.goes.given others)
+  both P =
+      let a = ap (count_by P) paid_is in
+      let b : count_by P (came ++ others) ≡ count_by P came + count_by P others = sum_by-append (λ k. cond (P k) 1 0) came others in
+      omega (arith, a, b)
+
+  paid : (by : ℕ → Cause → Bool) → failed_looks by lines looks' ≡ failed_looks by lines looks + count_by (by n) (failed_of look)
+  paid by = failed_set by lines looks i line look at not_yet ∙ ap (λ m. failed_looks by lines looks + count_by (by m) (failed_of look)) node
+
+  size : length looks' ≡ length looks
+  size = length-set looks i (Some look)
+
+  elsewhere : (j : ℕ) → j ≢ i → slice_get looks' j ≡ slice_get looks j
+  elsewhere j other = set_other looks i j (Some look) other
+
+  not_here : (m : ℕ) → m ≡ n → (m == n) ≡ false → ⊥
+  not_here m e f = grind (arith, nat_tests, e, f)
+
+  same_at : (j : ℕ) (l : NamedLine) → slice_get lines j ≡ Some l → j ≡ i → l ≡ line
+  same_at j l get same = same_some l line (sym get ∙ ap (slice_get lines) same ∙ at)
+
+  -- none of the node's lines behind it was played, and none of a phase to come
+  behind : (j : ℕ) (m : NamedLine) → slice_get lines j ≡ Some m → i < j → (line.phase < m.phase) ⊎ (line.node ≡ m.node) → slice_get looks j ≡ Some None
+  behind j m get low (inl late) = ok.ahead j m get (omega (arith, late, phase))
+  behind j m get low (inr own) = worker.waiting j m (omega (arith, low)) get (sym own ∙ node)
+
+  ahead : (j : ℕ) (l : NamedLine) → slice_get lines j ≡ Some l → c.phase < l.phase → slice_get looks' j ≡ Some None
+  ahead j l get high = elsewhere j (λ same. absurd (let e = ap (λ (x : NamedLine). x.phase) (same_at j l get same) in omega (arith, e, phase, high))) ∙ ok.ahead j l get high
+
+  replaced : Replaced lines looks' (state_of journal).register (length shelf)
+  replaced =
+      replaced_then (state_of c.journal).register (state_of journal).register (length shelf) (later (Within may counts) floor shelf c.journal journal moves.goes.spends.more moves.goes.spends.seen now.ok.node.legal)
+      lines looks i line look at not_yet ok.replaced on behind
+
+  course_ok : CourseOk may floor shelf lines nodes then' counts looks'
+  course_ok = advance may floor shelf lines nodes c counts looks ok n came journal moves.goes.spends.more c.when counts looks' moves.goes.spends.seen now.ok.node.legal least most size
+      (λ P store. let e = moves.goes.spends.events P store in let a = both P in let b = paid (λ m. P) in omega (arith, e, a, b)) replaced ahead
+
+  turn : TurnOf lines home n c then' counts counts looks looks'
+  turn = turned lines home n c came journal c.when counts counts looks looks' since (λ s other. refl) (λ s other. refl) (λ s. omega arith) size
+      (λ j l get other. elsewhere j (λ same. not_here l.node (ap (λ (x : NamedLine). x.node) (same_at j l get same) ∙ node) other))
+      (λ by none. let e = paid by in let z = none_counted by none (failed_of look) in omega arith)
+    where
+      none_counted : (by : ℕ → Cause → Bool) → ((k : Cause) → by n k ≡ false) → (ks : List Cause) → count_by (by n) ks ≡ 0
+      none_counted by none [] = refl
+      none_counted by none (k ∷ ks) =
+          let a = count-cons (by n) k ks in
+          let e = ap {B = ℕ} (λ b. cond b 1 0) (none k) in
+          let rest = none_counted by none ks in
+          omega (arith, a, e, rest)
+
+  pub grown : Grown may floor shelf c then'
+  grown = grown_of may floor shelf lines home nodes n c then' counts counts looks looks' turn ok course_ok
+
+  none_more : (s : ℕ) → asked_by lines n s (i + 1) ≡ asked_by lines n s i
+  none_more s = asked_none lines n s i line at (unlogged s)
+
+  each : (s : ℕ) (d : Desk) → slice_get desks s ≡ Some d → DeskAt lines home then' counts n from (i + 1) c.phase s d
+  each s d get =
+      let x = worker.each s d get in
+      record {
+        asked = x.asked ∙ sym (none_more s);
+        sent = x.sent;
+        ended = λ a first. ended_grows may floor shelf c then' grown lines n c.phase c.phase s d d a (omega arith) first (desk_same c then' s d refl) (x.ended a first);
+        here = x.here;
+        halted = λ k none stop. halted_grows may floor shelf c then' grown lines n from i (i + 1) c.phase s k (asked_more lines n s i (i + 1) (omega arith)) (x.halted k none stop);
+        held = x.held;
+      }
+
+  pub all_given : AllByRecursion (λ g. CameTo then'.faults g.cause n c.phase) seat'.node.outbox.given
+  all_given = given_then may floor shelf c n came journal c.when seat.node.outbox.given moves.goes.given seat'.node.outbox.given grown moves.goes.gained
+      (λ g m. among-map (λ (x : Given). x.cause) moves.goes.given g m) worker.given
+
+  module _ (line_played : PlayedSo lines then' c.phase seat'.node.replica.cursor n desks looks' i line.phase line.asks) where
+    played : (j : ℕ) (l : NamedLine) → j < i + 1 → slice_get lines j ≡ Some l → l.node ≡ n → PlayedSo lines then' c.phase seat'.node.replica.cursor n desks looks' j l.phase l.asks
+    played j l low get there = ⊎_elim
+        (λ (before : j < i).
+        played_grows may floor shelf c then' grown lines c.phase c.phase seat.node.replica.cursor seat'.node.replica.cursor n desks desks looks looks' j l.phase l.asks
+        (let up = phase_before lines home nodes are j i l line get at (omega (arith, before)) in omega (arith, up, phase)) (λ over. over) moves.goes.keeps.forward
+        (elsewhere j (λ same. absurd (omega (arith, before, same)))) (λ d is. (d, is, desk_same c then' (session_in l.asks) d refl))
+        (worker.played j l before get there))
+        (λ (high : i ≤ j).
+        let same : i ≡ j = omega (arith, low, high) in
+        let is : line ≡ l = same_some line l (sym at ∙ ap (slice_get lines) same ∙ get) in
+        subst (λ k. PlayedSo lines then' c.phase seat'.node.replica.cursor n desks looks' k l.phase l.asks) same
+        (subst (λ (x : NamedLine). PlayedSo lines then' c.phase seat'.node.replica.cursor n desks looks' i x.phase x.asks) is line_played))
+        (cases_lt j i)
+
+    worker_then : WorkerAt may floor shelf state spells lines home then' counts looks' n from (i + 1) c.phase seat' desks
+    worker_then = record {
+      ok = now;
+      order = omega (arith, worker.order);
+      each = each;
+      quiet = λ s same. moves.quiet s (worker.quiet s (same ∙ none_more s));
+      given = all_given;
+      waiting = λ j l high get there. elsewhere j (λ same. absurd (omega (arith, high, same))) ∙ worker.waiting j l (omega (arith, high)) get there;
+      played = played;
+      stores = stores_counted lines n c.phase c.faults looks looks' came (failed_of look) (causes_of moves.goes.given others) seat.node.replica.faults seat'.node.replica.faults both (paid (lacks_store n)) moves.goes.spends.disk worker.stores;
+    }
+
+    pub line_went : LineWent may floor shelf state spells lines home nodes c counts counts looks looks' n from (i + 1) journal seat' desks
+    line_went = record {
+      course = then';
+      journal_is = refl;
+      ok = course_ok;
+      turn = turn;
+      worker = worker_then;
+    }
