@@ -36,7 +36,7 @@ use Rattle.node_crew.specs.Crews.{CrewRests, CrewStands}
 use Rattle.node_crew.proofs.Crews.{changed}
 use Rattle.node_closing.specs.Taking.{CanTakeAll, TakesAll}
 use Rattle.course_ends.specs.Closing.{WorkerClosed, DeskClosed}
-use Rattle.crew_closing.specs.Finishing.{HasMost}
+use Rattle.crew_closing.specs.Finishing.{HasMost, SeesAll}
 use Rattle.crew_closing.specs.Taking.{CrewTakes}
 use Rattle.crew_closing.proofs.Putting.{some_at, same_some}
 
@@ -74,9 +74,9 @@ pub record Turned {A : Type 0} (may : ℕ → Entry → Type 0) (floor : List En
 
 module _ {A : Type 0} (may : ℕ → Entry → Type 0) (floor : List Entry → ℕ) (shelf : List ℕ) (state : List Entry → SpaceMap → Type 0) (spells : List ℕ → Saved → Type 0) (lines : List NamedLine) (seat : A → SeatView) (desks : A → List Desk) (workers : List A) (journal : List Event) (counts : List ℕ) (looks : List (Option Looked)) where
   -- all have played what they could
-  pub takes_first : (phase node cursor : ℕ) → CrewRests may floor shelf state spells lines (length lines) phase journal counts looks seat desks workers → HasMost seat workers (length workers) node cursor
+  pub takes_first : (phase node cursor : ℕ) → CrewRests may floor shelf state spells lines (length lines) phase journal counts looks seat desks workers → HasMost seat workers (length workers) node cursor → SeesAll journal seat workers cursor
       → CrewTakes may floor shelf state spells lines node cursor 0 journal counts looks seat desks workers
-  takes_first phase node cursor h m = record {
+  takes_first phase node cursor h m sees = record {
     home = h.home;
     course = h.course;
     journal_is = h.journal_is;
@@ -86,6 +86,7 @@ module _ {A : Type 0} (may : ℕ → Entry → Type 0) (floor : List Entry → �
     log = front.log;
     size = long;
     front = subst (λ i. IsFront Holds i front.log) h.journal_is front.front;
+    sees = sees;
     there = m.there;
     most = m.at some;
     taken = λ j w less at. absurd (omega (arith, less));
@@ -167,6 +168,16 @@ module _ {A : Type 0} (may : ℕ → Entry → Type 0) (floor : List Entry → �
               all = λ some. subst (λ t. AreAllAnswers h.log t one.desk.answers.items) fine.session (one.takes.all some h.log (h.size ∙ sym (h.most b best)) h.front);
             }
 
+        -- a node that was there before is there still, with the disk that it had
+        sees_then : ((j : ℕ) (w : A) → slice_get workers j ≡ Some w → (w' : A) × (slice_get workers' j ≡ Some w')) → SeesAll journal seat workers' cursor
+        sees_then there none = h.sees (record {
+          told = none.told;
+          disks = λ j w at.
+              let now = there j w at in
+              let t = turned j now.0 now.1 in
+              subst (λ x. (seat x).node.replica.faults ≡ 0) (same_some t.0 w (sym t.1 ∙ at)) (sym (ap (λ (x : NodeView). x.replica.faults) t.2.same) ∙ none.disks j now.0 now.1);
+        })
+
         taken : (j : ℕ) (w w' : A) → j < k + 1 → slice_get workers j ≡ Some w → slice_get workers' j ≡ Some w' → Turned may floor shelf state spells journal counts seat desks k j w w'
             → WorkerClosed may floor shelf state spells lines h.home h.course counts looks h.log (j + 1) (record { seat = seat w'; desks = desks w' })
         taken j w w' less at at' t = by (cases_lt j k)
@@ -206,6 +217,7 @@ module _ {A : Type 0} (may : ℕ → Entry → Type 0) (floor : List Entry → �
           log = h.log;
           size = h.size;
           front = h.front;
+          sees = sees_then (λ j w at. some_at workers' j (let inside = slice_get_within workers j w at in omega (arith, inside, long)));
           there = let inside = h.there in omega (arith, inside, long);
           most = λ w' at'. let t = turned node w' at' in cursor_same node t.0 w' t.2 ∙ h.most t.0 t.1;
           taken = λ j w' less at'. let t = turned j w' at' in taken j t.0 w' less t.1 at' t.2;

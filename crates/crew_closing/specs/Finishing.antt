@@ -1,8 +1,10 @@
 -- The nodes of a run, whose lines are all played, and how much of the log they have played.
-use Rattle.std.specs.Prelude.{◌≡◌, ℕ, ◌<◌, ◌≤◌, List, length, slice_get, slice_set, Option, Some}
+use Rattle.std.specs.Prelude.{◌≡◌, ℕ, ◌<◌, ◌≤◌, List, [], length, slice_get, slice_set, Option, Some}
 use Rattle.delos_types.specs.Spaces.{SpaceMap}
 use Rattle.delos_types.specs.declared.entry.Entry.{Entry}
 use Rattle.legal_journal.specs.declared.events.Event.{Event}
+use Rattle.legal_journal.specs.Journal.{state_of, tail_of, trim_of}
+use Rattle.journal_faults.specs.Faults.{faults_in}
 use Rattle.replica_api.specs.Replica.{Saved}
 use Rattle.script_text.specs.declared.asks.NamedLine.{NamedLine}
 use Rattle.one_thread.specs.Seats.{SeatView}
@@ -28,3 +30,12 @@ pub record HasMost {A : Type 0} (seat : A → SeatView) (workers : List A) (k no
   pub low : 0 < k → node < k
   pub at : 0 < k → (w : A) → slice_get workers node ≡ Some w → (seat w).node.replica.cursor ≡ cursor
   pub most : (j : ℕ) (w : A) → j < k → slice_get workers j ≡ Some w → (seat w).node.replica.cursor ≤ cursor
+
+-- the journal tells no fault, and no node's disk counted one
+pub record HasNoFault {A : Type 0} (journal : List Event) (seat : A → SeatView) (workers : List A) : Type 0 where
+  pub told : faults_in journal ≡ []
+  pub disks : (j : ℕ) (w : A) → slice_get workers j ≡ Some w → (seat w).node.replica.faults ≡ 0
+
+-- where no fault came and nothing is trimmed, the log ends there
+abbrev pub SeesAll : {A : Type 0} → List Event → (A → SeatView) → List A → ℕ → Type 0
+SeesAll journal seat workers end = HasNoFault journal seat workers → trim_of (state_of journal) ≡ 0 → tail_of (state_of journal) ≤ end

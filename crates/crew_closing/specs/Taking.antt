@@ -14,6 +14,7 @@ use Rattle.run_course.specs.Script.{AreLines}
 use Rattle.run_course.specs.Course.{Course, CourseOk}
 use Rattle.run_course.specs.Workers.{Rests}
 use Rattle.course_ends.specs.Closing.{WorkerClosed}
+use Rattle.crew_closing.specs.Finishing.{SeesAll}
 
 -- a node that rests behind the last line, and hasn't played the log further than `log`
 pub record WaitsToTake (may : ℕ → Entry → Type 0) (floor : List Entry → ℕ) (shelf : List ℕ) (state : List Entry → SpaceMap → Type 0) (spells : List ℕ → Saved → Type 0) (lines : List NamedLine) (home : ℕ → ℕ) (c : Course) (counts : List ℕ) (looks : List (Option Looked)) (log : List Entry) (n : ℕ) (seat : SeatView) (desks : List Desk) : Type 0 where
@@ -32,6 +33,7 @@ pub record CrewTakes {A : Type 0} (may : ℕ → Entry → Type 0) (floor : List
   pub log : List Entry
   pub size : length log ≡ cursor
   pub front : IsFront Holds journal log
+  pub sees : SeesAll journal seat workers cursor
   pub there : node < length workers
   pub most : (w : A) → slice_get workers node ≡ Some w → (seat w).node.replica.cursor ≡ cursor
   pub taken : (j : ℕ) (w : A) → j < k → slice_get workers j ≡ Some w → WorkerClosed may floor shelf state spells lines home course counts looks log (j + 1) (record { seat = seat w; desks = desks w })

@@ -3,9 +3,9 @@ ghost use Rattle.std.specs.Prelude.{◌≡◌, ◌<◌, ◌≤◌, ◌+◌, ℕ,
 ghost use Rattle.delos_types.specs.Spaces.{SpaceMap};
 ghost use Rattle.delos_types.specs.declared.entry.Entry.{Entry};
 ghost use Rattle.engine_laws.specs.State.{IsStateOf};
-ghost use Rattle.node_workers.specs.Workers.{MayRun};
+ghost use Rattle.node_workers.specs.Workers.{MayRun, Grows};
 ghost use Rattle.node_crew.specs.Crews.{CrewStands};
-ghost use Rattle.crew_closing.specs.Finishing.{HasPlayed, HasFinished, HasMost};
+ghost use Rattle.crew_closing.specs.Finishing.{HasPlayed, HasFinished, HasMost, SeesAll};
 
 use fate_words::chooser::Chooser;
 use loglet_api::loglet::Loglet;
@@ -55,6 +55,10 @@ fn finish_node<L: Loglet, R: Register, K: Terms, S: Replica, C: Chooser>(
     requires rests { HasPlayed K.may K.floor K.shelf S.state S.spells _lines.now crew.fabric.journal crew.counts crew.looks.items (λ w. w.seat) (λ w. w.desks.items) crew.workers.items }
     ensures rests { OnOk result.answer (HasPlayed K.may K.floor K.shelf S.state S.spells _lines.now result.crew.fabric.journal result.crew.counts result.crew.looks.items (λ w. w.seat) (λ w. w.desks.items) result.crew.workers.items) }
     ensures finishes { IfOk result.answer (HasFinished (λ w. w.seat) crew.workers.items result.crew.workers.items k) }
+
+    // Where no fault came, it has played the whole log.
+    ensures sees { IfOk result.answer (SeesAll result.crew.fabric.journal (λ w. w.seat) result.crew.workers.items) }
+    ensures grows { Grows crew.fabric.journal result.crew.fabric.journal }
     ensures stands { CrewStands K.may K.floor K.shelf S.state S.spells result.crew.fabric.journal (λ w. w.seat) result.crew.workers.items }
     ensures size { length result.crew.workers.items ≡ length crew.workers.items }
 {
@@ -96,6 +100,8 @@ pub fn finish_all<L: Loglet, R: Register, K: Terms, S: Replica, C: Chooser>(
     requires rests { HasPlayed K.may K.floor K.shelf S.state S.spells lines.now crew.fabric.journal crew.counts crew.looks.items (λ w. w.seat) (λ w. w.desks.items) crew.workers.items }
     ensures rests { OnOk result.answer (HasPlayed K.may K.floor K.shelf S.state S.spells lines.now result.crew.fabric.journal result.crew.counts result.crew.looks.items (λ w. w.seat) (λ w. w.desks.items) result.crew.workers.items) }
     ensures most { IfOk result.answer (λ most. HasMost (λ w. w.seat) result.crew.workers.items (length result.crew.workers.items) most.node most.cursor) }
+    ensures sees { IfOk result.answer (λ most. SeesAll result.crew.fabric.journal (λ w. w.seat) result.crew.workers.items most.cursor) }
+    ensures grows { Grows crew.fabric.journal result.crew.fabric.journal }
     ensures stands { CrewStands K.may K.floor K.shelf S.state S.spells result.crew.fabric.journal (λ w. w.seat) result.crew.workers.items }
     ensures size { length result.crew.workers.items ≡ length crew.workers.items }
 {

@@ -29,6 +29,7 @@ fn take_own<L: Loglet, R: Register, K: Terms, S: Replica, C: Chooser>(
     requires state { (log : List Entry) (m : SpaceMap) → S.state log m → IsStateOf log m }
     requires takes { CrewTakes K.may K.floor K.shelf S.state S.spells _lines.now most.node most.cursor most.node crew.fabric.journal crew.counts crew.looks.items (λ w. w.seat) (λ w. w.desks.items) crew.workers.items }
     ensures takes { OnOk result.answer (CrewTakes K.may K.floor K.shelf S.state S.spells _lines.now most.node most.cursor (most.node + 1) result.crew.fabric.journal result.crew.counts result.crew.looks.items (λ w. w.seat) (λ w. w.desks.items) result.crew.workers.items) }
+    ensures journal { result.crew.fabric.journal ≡ crew.fabric.journal }
     ensures stands { CrewStands K.may K.floor K.shelf S.state S.spells result.crew.fabric.journal (λ w. w.seat) result.crew.workers.items }
     ensures size { length result.crew.workers.items ≡ length crew.workers.items }
 {
@@ -86,6 +87,7 @@ fn take_other<L: Loglet, R: Register, K: Terms, S: Replica, C: Chooser>(
     requires other { most.node ≢ k }
     requires takes { CrewTakes K.may K.floor K.shelf S.state S.spells _lines.now most.node most.cursor k crew.fabric.journal crew.counts crew.looks.items (λ w. w.seat) (λ w. w.desks.items) crew.workers.items }
     ensures takes { OnOk result.answer (CrewTakes K.may K.floor K.shelf S.state S.spells _lines.now most.node most.cursor (k + 1) result.crew.fabric.journal result.crew.counts result.crew.looks.items (λ w. w.seat) (λ w. w.desks.items) result.crew.workers.items) }
+    ensures journal { result.crew.fabric.journal ≡ crew.fabric.journal }
     ensures stands { CrewStands K.may K.floor K.shelf S.state S.spells result.crew.fabric.journal (λ w. w.seat) result.crew.workers.items }
     ensures size { length result.crew.workers.items ≡ length crew.workers.items }
 {
@@ -145,6 +147,7 @@ fn take_node<L: Loglet, R: Register, K: Terms, S: Replica, C: Chooser>(
     requires there { k < length crew.workers.items }
     requires takes { CrewTakes K.may K.floor K.shelf S.state S.spells lines.now most.node most.cursor k crew.fabric.journal crew.counts crew.looks.items (λ w. w.seat) (λ w. w.desks.items) crew.workers.items }
     ensures takes { OnOk result.answer (CrewTakes K.may K.floor K.shelf S.state S.spells lines.now most.node most.cursor (k + 1) result.crew.fabric.journal result.crew.counts result.crew.looks.items (λ w. w.seat) (λ w. w.desks.items) result.crew.workers.items) }
+    ensures journal { result.crew.fabric.journal ≡ crew.fabric.journal }
     ensures stands { CrewStands K.may K.floor K.shelf S.state S.spells result.crew.fabric.journal (λ w. w.seat) result.crew.workers.items }
     ensures size { length result.crew.workers.items ≡ length crew.workers.items }
 {
@@ -164,6 +167,7 @@ pub fn take_all_nodes<L: Loglet, R: Register, K: Terms, S: Replica, C: Chooser>(
     requires state { (log : List Entry) (m : SpaceMap) → S.state log m → IsStateOf log m }
     requires takes { CrewTakes K.may K.floor K.shelf S.state S.spells lines.now most.node most.cursor 0 crew.fabric.journal crew.counts crew.looks.items (λ w. w.seat) (λ w. w.desks.items) crew.workers.items }
     ensures takes { OnOk result.answer (CrewTakes K.may K.floor K.shelf S.state S.spells lines.now most.node most.cursor (length result.crew.workers.items) result.crew.fabric.journal result.crew.counts result.crew.looks.items (λ w. w.seat) (λ w. w.desks.items) result.crew.workers.items) }
+    ensures journal { result.crew.fabric.journal ≡ crew.fabric.journal }
     ensures stands { CrewStands K.may K.floor K.shelf S.state S.spells result.crew.fabric.journal (λ w. w.seat) result.crew.workers.items }
     ensures size { length result.crew.workers.items ≡ length crew.workers.items }
 {

@@ -1,2 +1,4 @@
 pub mod Registering
 pub mod Telling
+pub mod Seeing
+pub mod Running

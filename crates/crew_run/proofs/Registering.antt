@@ -1,8 +1,6 @@
 -- The chain that was read last is told of any register that is as the journal tells.
-use Rattle.std.proofs.Common.{◌≡◌, refl, sym, ap, ◌∙◌, subst, ◌⊎◌, inl, inr, ℕ, ◌+◌, ◌≤◌, Bool, true, false, List, [], ◌∷◌, ◌++◌, Option, Some, None, arith, append_assoc}
-use Rattle.std.specs.Prelude.{min}
+use Rattle.std.proofs.Common.{◌≡◌, refl, sym, ap, ◌∙◌, subst, ◌⊎◌, inl, inr, ℕ, ◌+◌, true, false, List, [], ◌∷◌, ◌++◌, Some, None, arith, append_assoc}
 use Rattle.delos_types.specs.declared.entry.Entry.{Entry}
-use Rattle.delos_types.specs.declared.chain.Chain.{Chain}
 use Rattle.chain_map.specs.Chain.{is_chain}
 use Rattle.register_api.specs.View.{RegisterView}
 use Rattle.legal_journal.specs.declared.events.Event.{Event}
@@ -11,14 +9,13 @@ use Rattle.legal_journal.specs.declared.events.FabricCall.TheVariants.{ReadChain
 use Rattle.legal_journal.specs.declared.events.FabricAnswer.{FabricAnswer}
 use Rattle.legal_journal.specs.declared.events.FabricAnswer.TheVariants.{At, Down}
 use Rattle.legal_journal.specs.Moves.{move, move_of}
-use Rattle.legal_journal.specs.Journal.{State, start, state_of, after, IsAllowed, IsLegalFrom, IsLegal}
+use Rattle.legal_journal.specs.Journal.{State, start, state_of, after, IsAllowed, IsLegal}
 use Rattle.legal_journal.proofs.Legal.{IsLegalFrom-split, after_all-append}
 use Rattle.fabric_core.specs.Fabric.{FabricView, IsRegisterAsTold}
 use Rattle.fabric_core.specs.Runs.{HasRegisterRun}
 use Rattle.fitting_run.specs.declared.told.Told.{Told}
 use Rattle.fitting_run.specs.Fits.{ChainIsRegistered}
 use Rattle.last_chain.specs.declared.last.LastChain.{LastChain}
-use Rattle.last_chain.specs.Gifts.{misses_in}
 use Rattle.last_chain.specs.Last.{IsLast, AsksOnce, AskedOnce, calls_of}
 use Rattle.last_chain.proofs.Misses.{counted}
 

@@ -1,6 +1,5 @@
 -- What stands once the chain was read last.
-use Rattle.std.proofs.Common.{◌≡◌, refl, sym, ap, ◌∙◌, subst, ◌⊎◌, inl, inr, ℕ, List, [], ◌∷◌, ◌++◌, Some, slice_get}
-use Rattle.std.specs.List.{AllByRecursion}
+use Rattle.std.proofs.Common.{◌≡◌, sym, ◌∙◌, subst, inl, inr, ℕ, List, [], ◌∷◌, ◌++◌}
 use Rattle.delos_types.specs.Spaces.{SpaceMap}
 use Rattle.delos_types.specs.declared.entry.Entry.{Entry}
 use Rattle.legal_journal.specs.declared.events.Event.{Event}
@@ -12,7 +11,7 @@ use Rattle.one_thread.specs.Alone.{Since, AreOwn}
 use Rattle.one_thread.specs.Seats.{SeatView, SeatOk}
 use Rattle.worker_laws.proofs.Staying.{seat_later}
 use Rattle.node_crew.specs.Crews.{CrewStands}
-use Rattle.course_ends.specs.Reads.{IsRead, AreReads}
+use Rattle.course_ends.specs.Reads.{AreReads}
 use Rattle.last_chain.specs.Last.{AsksOnce, AskedOnce, calls_of}
 
 -- each node can take the fabric still

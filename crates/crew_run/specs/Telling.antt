@@ -4,6 +4,7 @@ use Rattle.delos_types.specs.declared.entry.Entry.{Entry}
 use Rattle.legal_journal.specs.declared.events.Event.{Event}
 use Rattle.legal_journal.specs.Journal.{state_of}
 use Rattle.fabric_core.specs.Fabric.{IsRegisterAsTold}
+use Rattle.fabric_core.specs.Log.{virtual_tail}
 use Rattle.script_text.specs.declared.asks.NamedLine.{NamedLine}
 use Rattle.fitting_run.specs.declared.told.Told.{Told}
 use Rattle.fitting_run.specs.Yard.{Shown}
@@ -11,7 +12,10 @@ use Rattle.fitting_run.specs.Fits.{Fits}
 use Rattle.fitting_run.specs.Calm.{IsCalm, all_answered}
 use Rattle.course_ends.specs.Closing.{WorkerEnd, IsGivenBack}
 
--- it fits the lines and that yard, and where no fault was counted there each line has its own answer
+-- It tells the chain that the journal knows; it fits the lines and that yard. Where no fault was counted there, each line has
+-- its own answer, and the run has seen the whole log.
 pub record FitsGivenBack (may : ℕ → Entry → Type 0) (floor : List Entry → ℕ) (shelf : List ℕ) (lines : List NamedLine) (journal : List Event) (workers : List WorkerEnd) (o : Told) : Type 0 where
+  pub chain : o.chain ≡ (state_of journal).register.chain
   pub fits : (yard : Shown) → IsGivenBack may floor shelf journal workers o.chain yard → IsRegisterAsTold (state_of journal).register yard.register → Fits lines o yard
   pub calm : (yard : Shown) → IsGivenBack may floor shelf journal workers o.chain yard → IsRegisterAsTold (state_of journal).register yard.register → IsCalm yard → all_answered o.rows ≡ true
+  pub whole : (yard : Shown) → IsGivenBack may floor shelf journal workers o.chain yard → IsCalm yard → o.end ≡ virtual_tail o.chain yard.cells

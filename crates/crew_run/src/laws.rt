@@ -1,16 +1,31 @@
-//! A law of the chain that a run tells. The function does nothing: its contract is the law.
-ghost use Rattle.std.specs.Prelude.{◌≡◌, List};
+//! Laws of what a run tells. Each function does nothing, or calls laws that its own rests on: its contract is the law.
+ghost use Rattle.std.specs.Prelude.{◌≡◌, ◌++◌, ◌≤◌, ℕ, List, length};
+ghost use Rattle.delos_types.specs.declared.entry.Entry.{Entry};
+ghost use Rattle.delos_types.specs.declared.chain.Chain.{Chain};
 ghost use Rattle.register_api.specs.View.{RegisterView};
 ghost use Rattle.legal_journal.specs.declared.events.Event.{Event};
-ghost use Rattle.legal_journal.specs.Journal.{IsLegal, state_of};
+ghost use Rattle.legal_journal.specs.Journal.{IsLegal, state_of, trim_of};
 ghost use Rattle.fabric_core.specs.Fabric.{FabricView, IsRegisterAsTold};
 ghost use Rattle.fabric_core.specs.Runs.{HasRegisterRun};
+ghost use Rattle.fabric_core.specs.Log.{virtual_tail};
+ghost use Rattle.virtual_log.specs.Holding.{Holds};
+ghost use Rattle.base_engine.specs.Reading.{IsFront};
 ghost use Rattle.fitting_run.specs.declared.told.Told.{Told};
 ghost use Rattle.fitting_run.specs.Fits.{ChainIsRegistered};
+ghost use Rattle.fitting_run.specs.Yard.{Shown};
+ghost use Rattle.fitting_run.specs.Calm.{IsCalm};
+ghost use Rattle.course_ends.specs.Closing.{WorkerEnd, IsGivenBack};
+ghost use Rattle.course_ends.specs.Reads.{AreReads};
+ghost use Rattle.crew_closing.specs.Finishing.{SeesAll};
 ghost use Rattle.last_chain.specs.declared.last.LastChain.{LastChain};
 ghost use Rattle.last_chain.specs.Last.{IsLast, AsksOnce};
 
+use journal_faults::laws::{
+    a_fault_names_a_cell, a_lack_has_a_fault, lacks_are_counted, refusals_are_counted,
+    register_faults_are_counted,
+};
 use legal_journal::rules::Rules;
+use shown_log::laws::a_front_is_below_the_tail;
 
 /// The chain that was read last is what any register gave that is as the journal tells.
 pub fn the_chain_is_registered<P: Rules>()
@@ -19,3 +34,18 @@ pub fn the_chain_is_registered<P: Rules>()
         → IsRegisterAsTold (state_of f.journal).register v → HasRegisterRun f.journal v
         → o.version ≡ l.version → o.chain ≡ l.chain → o.down ≡ l.down → ChainIsRegistered o v }
 {}
+
+/// Where no fault was counted in the yard that comes back, what was played as the nodes closed is the whole log, and a read
+/// of the chain since lets it end there still.
+pub fn a_calm_run_has_seen_all<P: Rules>()
+    ensures { ((log : List Entry) → P.floor log ≤ length log) → (journal more : List Event) (workers : List WorkerEnd) (log : List Entry) (chain : Chain) (yard : Shown)
+        → SeesAll journal (λ (w : WorkerEnd). w.seat) workers (length log) → IsFront Holds journal log → AreReads more → trim_of (state_of (journal ++ more)) ≡ 0
+        → IsGivenBack P.may P.floor P.shelf (journal ++ more) workers chain yard → IsCalm yard → length log ≡ virtual_tail chain yard.cells }
+{
+    lacks_are_counted();
+    a_lack_has_a_fault();
+    refusals_are_counted();
+    register_faults_are_counted::<P>();
+    a_fault_names_a_cell::<P>();
+    a_front_is_below_the_tail::<P>();
+}

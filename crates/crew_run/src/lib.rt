@@ -1,8 +1,10 @@
 //! A run over nodes, from its parts to what it tells, and its parts again.
 //!
 //! - `tell`: the lines are played, the nodes close, and the rows are told.
-//! - `laws`: a law of the chain that is told.
+//! - `laws`: laws of the chain that is told, and of the end of a calm run.
+//! - `run`: the nodes are made of their parts, all this is done, and they are taken apart again.
 #![tactic(auto)]
 
 pub mod laws;
+pub mod run;
 pub mod tell;

@@ -8,10 +8,11 @@ ghost use Rattle.node_workers.specs.Workers.{MayRun};
 ghost use Rattle.line_rules.specs.Rules.{may_of};
 ghost use Rattle.node_crew.specs.Turns.{MaySendAll};
 ghost use Rattle.node_crew.specs.Crews.{CrewRests, CrewStands};
-ghost use Rattle.course_ends.specs.Closing.{HasClosed};
+ghost use Rattle.course_ends.specs.Closing.{WorkerEnd, HasClosed};
+ghost use Rattle.crew_closing.specs.Finishing.{SeesAll};
 ghost use Rattle.crew_run.specs.Telling.{FitsGivenBack};
 
-use crate::laws::the_chain_is_registered;
+use crate::laws::{a_calm_run_has_seen_all, the_chain_is_registered};
 use course_ends::laws::{reads_change_nothing, what_closed_can_be_told, what_closed_has_ended};
 use crew_closing::close::{Closed, close};
 use crew_rows::rows::rows_of;
@@ -48,6 +49,7 @@ fn tell_closed<L: Loglet, R: Register, K: Terms, S: Replica, C: Chooser>(
     requires may { (who : ℕ) (e : Entry) → K.may who e → may_of lines.now who e }
     requires none_trimmed { (log : List Entry) → AllByRecursion (λ e. (who : ℕ) × K.may who e) log → K.floor log ≡ 0 }
     requires closed { (log : List Entry) × (length log ≡ end) × HasClosed K.may K.floor K.shelf S.state S.spells lines.now crew.fabric.journal crew.counts crew.looks.items log (map (λ w. record { seat = w.seat; desks = w.desks.items }) crew.workers.items) }
+    requires sees { SeesAll crew.fabric.journal (λ (w : WorkerEnd). w.seat) (map (λ w. record { seat = w.seat; desks = w.desks.items }) crew.workers.items) end }
     requires stands { CrewStands K.may K.floor K.shelf S.state S.spells crew.fabric.journal (λ w. w.seat) crew.workers.items }
     ensures told { IfOk result.told (FitsGivenBack K.may K.floor K.shelf lines.now result.crew.fabric.journal (map (λ w. record { seat = w.seat; desks = w.desks.items }) result.crew.workers.items)) }
     ensures stands { CrewStands K.may K.floor K.shelf S.state S.spells result.crew.fabric.journal (λ w. w.seat) result.crew.workers.items }
@@ -59,6 +61,7 @@ fn tell_closed<L: Loglet, R: Register, K: Terms, S: Replica, C: Chooser>(
     what_ended_fits();
     a_calm_run_answers_all();
     the_chain_is_registered::<By<K>>();
+    a_calm_run_has_seen_all::<By<K>>();
     nothing_is_trimmed::<By<K>>();
     let Crew {
         fabric,

@@ -100,6 +100,11 @@ module _ (may : ℕ → Entry → Type 0) (floor : List Entry → ℕ) (shelf : 
       let ok = sound may floor shelf journal legal in
       chain_ok (length shelf) (state_of journal) (state_of journal).register.version (state_of journal).register.chain ok ok.given
 
+  -- it is up then
+  pub up_then : (who v : ℕ) (c : Chain) (old new : FabricView) → Adds old.journal who ReadChain (At v c) new.journal → IsRegisterAsTold (state_of new.journal).register new.register → new.register.down ≡ false
+  up_then who v c old new adds told =
+      told.down ∙ ap (λ (w : State). w.register.down) (told_after who ReadChain (At v c) old.journal new.journal (adds.added ∙ ap (λ l. old.journal ++ l) adds.event))
+
   pub gave : (who v : ℕ) (c : Chain) (old new : FabricView) → Adds old.journal who ReadChain (At v c) new.journal → IsLegal may floor shelf new.journal → IsRegisterAsTold (state_of new.journal).register new.register
       → IsLast (record { version = v; chain = c; down = false }) new
   gave who v c old new adds legal told =

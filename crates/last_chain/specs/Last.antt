@@ -45,6 +45,17 @@ pub record AsksOnce (old new : List Event) : Type 0 where
   pub seen : new ≡ old ++ more
   pub calls : AskedOnce (calls_of more)
 
+-- The chain was read, and the register is up; or it was down, and was opened again, once, with word 0.
+abbrev pub OpenedOnce : FabricView → List FabricCall → FabricView → Type 0
+OpenedOnce old calls new =
+    ((calls ≡ ReadChain ∷ []) × (new.register.down ≡ false))
+    ⊎ ((calls ≡ ReadChain ∷ MendMeta 0 ∷ []) × (old.register.down ≡ true) × (new.register.down ≡ true → 1 ≤ misses_in new.journal))
+
+pub record OpensOnce (old new : FabricView) : Type 0 where
+  pub more : List Event
+  pub seen : new.journal ≡ old.journal ++ more
+  pub calls : OpenedOnce old (calls_of more) new
+
 -- it is down still
 pub record StaysDown (old new : FabricView) : Type 0 where
   pub was : old.register.down ≡ true
@@ -52,7 +63,7 @@ pub record StaysDown (old new : FabricView) : Type 0 where
 
 -- what a read of the chain comes to
 abbrev pub Asked : FabricView → Option LastChain → FabricView → Type 0
-Asked old (Some l) new = IsLast l new
+Asked old (Some l) new = IsLast l new × (new.register.down ≡ false)
 Asked old None new = StaysDown old new
 
 -- where it is down, that failed

@@ -3,7 +3,7 @@ ghost use Rattle.std.specs.Prelude.{◌≡◌, ◌≤◌, true, IfOk, OnOk};
 ghost use Rattle.legal_journal.specs.Journal.{IsLegal, state_of};
 ghost use Rattle.one_thread.specs.Alone.{Since};
 ghost use Rattle.last_chain.specs.Gifts.{read_gift, write_gift, gift_of, given_last};
-ghost use Rattle.last_chain.specs.Last.{IsLast, Watches, Makes, AsksOnce, Asked, Opened};
+ghost use Rattle.last_chain.specs.Last.{IsLast, Watches, Makes, AsksOnce, Asked, Opened, OpensOnce};
 
 use chain_map::change::first_chain;
 use delos_types::chain::Chain;
@@ -119,6 +119,24 @@ fn reopen<L: Loglet, R: Register, P: Rules>(
         FabricAnswer::Set(_) => return Ok(()),
         _ => return Err(AllocError),
     }
+}
+
+/// Reads the chain. A register that is down is opened again once, with word 0, and stays as it is then. The one error is want of
+/// memory.
+///
+/// Cost: at most two events.
+pub fn open_if_down<L: Loglet, R: Register, P: Rules>(
+    fabric: &mut Fabric<L, R, P>,
+    who: u32,
+) -> Result<(), AllocError>
+    ensures legal { IsLegal P.may P.floor P.shelf fabric.new.journal }
+    ensures watches { Watches who fabric.old.journal fabric.new.journal }
+    ensures opens { OnOk result (OpensOnce fabric.old fabric.new) }
+{
+    let Some(_last) = ask(fabric, who)? else {
+        return reopen(fabric, who);
+    };
+    Ok(())
 }
 
 /// The register is down still: what it gave last is found in the journal.

@@ -1,7 +1,11 @@
-use Rattle.std.proofs.Common.{◌≡◌, sym, ◌∙◌, subst, ◌+◌, ◌<◌, ◌≤◌, ⊎_elim, refl, length, arith}
+use Rattle.std.proofs.Common.{◌≡◌, sym, ap, ◌∙◌, subst, ◌+◌, ◌<◌, ◌≤◌, ⊎_elim, refl, length, arith}
 use Rattle.std.specs.Prelude.{slice_set, IfOk, OnOk}
 use Rattle.std.proofs.lemmas.Bool.{cases_lt}
-use Rattle.crew_closing.specs.Finishing.{HasPlayed, HasFinished, HasMost}
+use Rattle.node_workers.proofs.Widening.{grows-both}
+use Rattle.node_crew.proofs.Playing.{grows-none}
+use Rattle.crew_closing.specs.Finishing.{HasPlayed, HasFinished, HasMost, SeesAll}
+use Rattle.crew_closing.specs.declared.finish.Most.{Most}
+use Rattle.crew_closing.proofs.Seeing.{sees_more}
 use Rattle.crew_closing.proofs.Putting.{some_at}
 use Rattle.crew_closing.proofs.Finishing.{rests_stand, some_node, most_first, most_next, most_stays}
 use Rattle.crew_closing.proofs.finish.finish_all.Goals as goal
@@ -15,6 +19,8 @@ loop-k-init g c =
       high = omega arith;
       size = refl;
       rests = c.requires.rests;
+      grows = grows-none a.fabric.journal;
+      sees = λ less. absurd (omega (arith, less));
       most = most_first (λ w. w.seat) a.workers.items
           (some_node p.may p.floor p.shelf r.state r.spells c.args.lines.now (λ w. w.seat) (λ w. w.desks.items) a.workers.items (length c.args.lines.now) c.requires.rests.0 a.fabric.journal a.counts a.looks.items c.requires.rests.1);
     }
@@ -41,11 +47,18 @@ loop-k-preserved g c =
     subst (λ x. HasMost (λ w. w.seat) (slice_set l.crew.workers.items l.k done.now) (l.k + 1) x.node x.cursor) (sym same)
     (most_stays (λ w. w.seat) l.crew.workers.items l.k m.node m.cursor c.in-Ok.cursor old.0 done.now old.1 done.at l.invariant.most few))
     (cases_lt m.cursor c.in-Ok.cursor)) in
+    let up : c.in-Ok.cursor ≤ c.most_of-most.result.cursor = ⊎_elim
+    (λ (more : m.cursor < c.in-Ok.cursor). let new = c.most_of-most.ensures.more more in omega (arith, new.1))
+    (λ (few : c.in-Ok.cursor ≤ m.cursor). let same = ap (λ (x : Most). x.cursor) (c.most_of-most.ensures.same few) in omega (arith, same, few))
+    (cases_lt m.cursor c.in-Ok.cursor) in
     record {
       high = omega (arith, c.loop-k-test.true);
       size = q.ensures.size ∙ l.invariant.size;
       rests = rests;
+      grows = grows-both c.args.crew.fabric.journal l.crew.fabric.journal q.result.crew.fabric.journal l.invariant.grows q.ensures.grows;
       most = most;
+      sees = λ less. sees_more q.result.crew.fabric.journal (λ w. w.seat) q.result.crew.workers.items c.in-Ok.cursor c.most_of-most.result.cursor up
+          (subst (λ x. IfOk x (SeesAll q.result.crew.fabric.journal (λ w. w.seat) q.result.crew.workers.items)) c.in-Ok.is q.ensures.sees);
     }
 
 pub returns-clause-most : goal.returns-clause-most
@@ -54,9 +67,24 @@ returns-clause-most g c =
     let over : l.k ≡ length l.crew.workers.items = omega (arith, l.invariant.high, l.invariant.size, c.loop-k-test.false) in
     subst (λ k. HasMost (λ w. w.seat) l.crew.workers.items k l.most.node l.most.cursor) over l.invariant.most
 
+pub returns-clause-sees : goal.returns-clause-sees
+returns-clause-sees g c =
+    let p = g.K.Terms in
+    let r = g.S.Replica in
+    let l = c.loop-k in
+    let over : l.k ≡ length l.crew.workers.items = omega (arith, l.invariant.high, l.invariant.size, c.loop-k-test.false) in
+    let some = some_node p.may p.floor p.shelf r.state r.spells c.args.lines.now (λ w. w.seat) (λ w. w.desks.items) l.crew.workers.items (length c.args.lines.now) l.invariant.rests.0 l.crew.fabric.journal l.crew.counts l.crew.looks.items l.invariant.rests.1 in
+    l.invariant.sees (omega (arith, over, some))
+
 pub returns-clause-stands : goal.returns-clause-stands
 returns-clause-stands g c =
     let p = g.K.Terms in
     let r = g.S.Replica in
     let l = c.loop-k in
     rests_stand p.may p.floor p.shelf r.state r.spells c.args.lines.now (λ w. w.seat) (λ w. w.desks.items) l.crew.workers.items (length c.args.lines.now) l.invariant.rests.0 l.crew.fabric.journal l.crew.counts l.crew.looks.items l.invariant.rests.1
+
+pub returns-in-Err-clause-grows : goal.returns-in-Err-clause-grows
+returns-in-Err-clause-grows g c =
+    let l = c.loop-k in
+    let q = c.finish_node-now in
+    grows-both c.args.crew.fabric.journal l.crew.fabric.journal q.result.crew.fabric.journal l.invariant.grows q.ensures.grows

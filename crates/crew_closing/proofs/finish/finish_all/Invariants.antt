@@ -1,5 +1,6 @@
-use Rattle.std.proofs.Common.{◌≡◌, ◌≤◌, length}
-use Rattle.crew_closing.specs.Finishing.{HasPlayed, HasMost}
+use Rattle.std.proofs.Common.{◌≡◌, ◌<◌, ◌≤◌, length}
+use Rattle.node_workers.specs.Workers.{Grows}
+use Rattle.crew_closing.specs.Finishing.{HasPlayed, HasMost, SeesAll}
 use Rattle.crew_closing.proofs.finish.finish_all.Given as goal
 
 abbrev pub invariant-loop-k : goal.invariant-loop-k
@@ -7,5 +8,7 @@ invariant-loop-k g l = record {
   high : l.k ≤ length l.initial.crew.workers.items;
   size : length l.crew.workers.items ≡ length l.initial.crew.workers.items;
   rests : HasPlayed g.K.Terms.may g.K.Terms.floor g.K.Terms.shelf g.S.Replica.state g.S.Replica.spells l.lines l.crew.fabric.journal l.crew.counts l.crew.looks.items (λ w. w.seat) (λ w. w.desks.items) l.crew.workers.items;
+  grows : Grows l.initial.crew.fabric.journal l.crew.fabric.journal;
   most : HasMost (λ w. w.seat) l.crew.workers.items l.k l.most.node l.most.cursor;
+  sees : 0 < l.k → SeesAll l.crew.fabric.journal (λ w. w.seat) l.crew.workers.items l.most.cursor;
 }

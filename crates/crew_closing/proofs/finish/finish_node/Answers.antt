@@ -3,7 +3,9 @@ use Rattle.std.specs.Prelude.{if◌then◌else◌, is_ok, insert}
 use Rattle.std.proofs.lemmas.Option.{slice_get_read}
 use Rattle.node_crew.specs.Crews.{CrewRests, CrewStands}
 use Rattle.node_crew.proofs.Crews.{put_back, still_stands}
-use Rattle.crew_closing.proofs.Ok.{on_ok4, if_ok}
+use Rattle.crew_closing.proofs.Ok.{on_ok4, if_ok, if_ok3}
+use Rattle.crew_closing.specs.Finishing.{SeesAll}
+use Rattle.crew_closing.proofs.Seeing.{finished_sees}
 use Rattle.crew_closing.proofs.Finishing.{rests_stand, own_ok, crew_finished}
 use Rattle.crew_closing.proofs.finish.finish_node.Goals as goal
 
@@ -40,6 +42,19 @@ returns-clause-finishes g c =
     let items = (subst (λ x. c.insert.new.self.items ≡ (if is_ok x then insert c.remove-worker.new.self.items a.k q.result.worker else c.remove-worker.new.self.items)) c.in-Ok.is c.insert.ensures.items)
     ∙ (ap (λ l. insert l a.k q.result.worker) c.remove-worker.ensures.items ∙ put_back a.crew.workers.items a.k q.result.worker c.requires.there) in
     if_ok q.result.answer q.ensures.cursor (λ n is. record { now = q.result.worker; is = items; at = sym is })
+
+pub returns-clause-sees : goal.returns-clause-sees
+returns-clause-sees g c =
+    let p = g.K.Terms in
+    let a = c.args in
+    let q = c.finish_worker-worker in
+    let w = c.remove-worker.result in
+    let at = slice_get_read a.crew.workers.items (length a.crew.workers.items) a.k w refl c.requires.there c.remove-worker.ensures.value in
+    let items = (subst (λ x. c.insert.new.self.items ≡ (if is_ok x then insert c.remove-worker.new.self.items a.k q.result.worker else c.remove-worker.new.self.items)) c.in-Ok.is c.insert.ensures.items)
+    ∙ (ap (λ l. insert l a.k q.result.worker) c.remove-worker.ensures.items ∙ put_back a.crew.workers.items a.k q.result.worker c.requires.there) in
+    if_ok3 q.result.answer q.ensures.since q.ensures.plays q.ensures.cursor (λ since plays n is.
+    subst (λ l. SeesAll q.result.fabric.journal (λ w. w.seat) l n) (sym items)
+    (finished_sees p.may p.floor p.shelf (λ w. w.seat) a.crew.workers.items a.k w q.result.worker a.crew.fabric.journal q.result.fabric.journal n at q.ensures.stands.node.legal since plays is))
 
 pub returns-clause-stands : goal.returns-clause-stands
 returns-clause-stands g c =

@@ -1,15 +1,16 @@
-use Rattle.std.proofs.Common.{◌≡◌, refl, sym, ap, ◌∙◌, subst, ◌++◌, List, map}
+use Rattle.std.proofs.Common.{◌≡◌, refl, sym, ◌∙◌, subst, List, map}
 use Rattle.std.specs.Prelude.{IfOk, OnOk}
 use Rattle.legal_journal.specs.Journal.{IsLegal}
 use Rattle.fitting_run.specs.Yard.{Shown}
 use Rattle.fitting_run.specs.declared.told.Told.{Told}
-use Rattle.run_laws.specs.Ended.{Played, RunEnded}
+use Rattle.run_laws.specs.Ended.{RunEnded}
 use Rattle.fabric_core.specs.Fabric.{IsRegisterAsTold}
 use Rattle.legal_journal.specs.Journal as journal
 use Rattle.course_ends.specs.Closing.{WorkerEnd, HasClosed, IsGivenBack}
 use Rattle.course_ends.specs.Rows.{played_of}
 use Rattle.course_ends.specs.Rows.{AreRows, CanTell}
 use Rattle.fitting_run.specs.Fits.{Fits}
+use Rattle.crew_closing.specs.Finishing.{SeesAll}
 use Rattle.last_chain.specs.Last.{AsksOnce, IsLast}
 use Rattle.crew_run.proofs.Telling.{stands_on, own_more, reads_asked}
 use Rattle.crew_run.proofs.tell.tell_closed.Goals as goal
@@ -48,9 +49,16 @@ returns-in-Ok-Ok-clause-told g c =
     let rows' = subst (λ l. AreRows lines (map (λ x. record { seat = x.seat; desks = x.desks.items }) l) w.looks.items c.in-Ok-Ok.rows) c.as_slice.ensures.value (subst (λ l. AreRows lines (map (λ x. record { seat = x.seat; desks = x.desks.items }) c.as_slice.result.now) l c.in-Ok-Ok.rows) c.as_slice-2.ensures.value rows) in
     let trim = c.nothing_is_trimmed.ensures.trim c.requires.none_trimmed new legal in
     let ended : (yard : Shown) → IsGivenBack p.may p.floor p.shelf new ends o.chain yard → IsRegisterAsTold (journal.state_of new).register yard.register → (map (λ t. t.line) (played_of lines o.rows w.looks.items) ≡ lines) × RunEnded (played_of lines o.rows w.looks.items) o yard = λ yard back told.
-    c.what_closed_has_ended.ensures c.requires.run lines new w.counts w.looks.items h.0 ends o yard c.requires.may trim closed rows' (sym h.1) back
+    c.what_closed_has_ended.ensures c.requires.run lines new w.counts w.looks.items h.0 ends o yard c.requires.may trim closed rows' (sym h.1) back told
     (c.the_chain_is_registered.ensures early c.in-Ok-Ok.last q.result.fabric yard.register o legal asks last c.journal-told.ensures.register c.journal-told.ensures.register_runs told back.register_runs refl refl refl) in
     record {
+      chain = last.told;
+      whole = λ yard back quiet.
+          let reads = reads_asked asks.more asks.calls in
+          sym h.1 ∙ c.a_calm_run_has_seen_all.ensures c.requires.run.low early asks.more ends h.0 o.chain yard
+          (subst (λ n. SeesAll early (λ (w : WorkerEnd). w.seat) ends n) (sym h.1) c.requires.sees) h.2.front reads
+          (subst (λ l. journal.trim_of (journal.state_of l) ≡ 0) asks.seen trim)
+          (subst (λ l. IsGivenBack p.may p.floor p.shelf l ends o.chain yard) asks.seen back) quiet;
       fits = λ yard back told. let e = ended yard back told in subst (λ l. Fits l o yard) e.0 (c.what_ended_fits.ensures (played_of lines o.rows w.looks.items) o yard e.1);
       calm = λ yard back told quiet. c.a_calm_run_answers_all.ensures (played_of lines o.rows w.looks.items) o yard (ended yard back told).1 quiet;
     }

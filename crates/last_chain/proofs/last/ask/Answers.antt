@@ -2,7 +2,7 @@ use Rattle.std.proofs.Common.{subst}
 use Rattle.legal_journal.specs.declared.events.FabricAnswer.{FabricAnswer}
 use Rattle.legal_journal.specs.declared.events.FabricCall.TheVariants.{ReadChain}
 use Rattle.fabric_core.specs.Fabric.{Adds}
-use Rattle.last_chain.proofs.Asking.{watches, read_leaves, gave, stays_down}
+use Rattle.last_chain.proofs.Asking.{watches, read_leaves, gave, stays_down, up_then}
 use Rattle.last_chain.proofs.last.ask.Goals as goal
 
 pub returns-in-At-clause-watches : goal.returns-in-At-clause-watches
@@ -15,9 +15,11 @@ returns-in-At-clause-asked g c =
     let p = g.P.Rules in
     let old = c.args.fabric.now in
     let new = c.apply-answer.new.self in
-    gave p.may p.floor p.shelf c.args.who c.in-At.version c.in-At.chain old new
-    (subst (λ (x : FabricAnswer). Adds old.journal c.args.who ReadChain x new.journal) c.in-At.is c.apply-answer.ensures.adds)
-    c.apply-answer.ensures.legal c.journal-after.ensures.register
+    let adds = subst (λ (x : FabricAnswer). Adds old.journal c.args.who ReadChain x new.journal) c.in-At.is c.apply-answer.ensures.adds in
+    let told = c.journal-after.ensures.register in (
+      gave p.may p.floor p.shelf c.args.who c.in-At.version c.in-At.chain old new adds c.apply-answer.ensures.legal told,
+      up_then p.may p.floor p.shelf c.args.who c.in-At.version c.in-At.chain old new adds told,
+    )
 
 pub returns-in-Down-clause-watches : goal.returns-in-Down-clause-watches
 returns-in-Down-clause-watches g c =

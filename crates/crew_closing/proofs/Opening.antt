@@ -1,0 +1,95 @@
+-- All nodes rest on as the chain is read, and the register opened again, by a user that is no node.
+use Rattle.std.proofs.Common.{◌≡◌, refl, sym, ap, ◌∙◌, subst, inl, inr, ℕ, ◌+◌, ◌≤◌, List, [], ◌∷◌, ◌++◌, Option, length, arith}
+use Rattle.delos_types.specs.Spaces.{SpaceMap}
+use Rattle.delos_types.specs.declared.entry.Entry.{Entry}
+use Rattle.legal_journal.specs.declared.events.Event.{Event}
+use Rattle.legal_journal.specs.declared.events.FabricCall.{FabricCall}
+use Rattle.legal_journal.specs.declared.events.FabricCall.TheVariants.{ReadChain, MendMeta}
+use Rattle.legal_journal.specs.Journal.{IsLegal}
+use Rattle.fabric_core.specs.Fabric.{FabricView}
+use Rattle.replica_api.specs.Replica.{Saved}
+use Rattle.script_text.specs.declared.asks.NamedLine.{NamedLine}
+use Rattle.one_thread.specs.Alone.{AreOwn, Since}
+use Rattle.one_thread.specs.Seats.{SeatView}
+use Rattle.node_sessions.specs.declared.desk.Desk.{Desk}
+use Rattle.node_lines.specs.declared.lines.Looked.{Looked}
+use Rattle.node_workers.specs.Workers.{Within}
+use Rattle.run_course.specs.Course.{Course, CourseOk, TurnOf}
+use Rattle.run_course.proofs.Advance.{advanced, advance_still, turned}
+use Rattle.run_course.proofs.Waiting.{rests_on}
+use Rattle.node_crew.specs.Crews.{CrewRests}
+use Rattle.course_ends.specs.Reads.{AreReads}
+use Rattle.course_ends.proofs.Reading.{reads_legal, zero-apart}
+use Rattle.last_chain.specs.Last.{OpenedOnce, calls_of}
+
+-- What the register was asked
+
+one-read : (es : List Event) → calls_of es ≡ ReadChain ∷ [] → AreReads es
+one-read [] h = tt
+one-read (e ∷ []) h = (inl (first e.call h), tt)
+  where
+    first : (k : FabricCall) → k ∷ [] ≡ ReadChain ∷ [] → k ≡ ReadChain
+    first k h = cc
+one-read (e ∷ f ∷ es) h = absurd (cc)
+
+two-reads : (es : List Event) → calls_of es ≡ ReadChain ∷ MendMeta 0 ∷ [] → AreReads es
+two-reads [] h = tt
+two-reads (e ∷ []) h = absurd (cc)
+two-reads (e ∷ f ∷ []) h = (inl (first e.call f.call h), (inr (0, second e.call f.call h), tt))
+  where
+    first : (x y : FabricCall) → x ∷ y ∷ [] ≡ ReadChain ∷ MendMeta 0 ∷ [] → x ≡ ReadChain
+    first x y h = cc
+
+    second : (x y : FabricCall) → x ∷ y ∷ [] ≡ ReadChain ∷ MendMeta 0 ∷ [] → y ≡ MendMeta 0
+    second x y h = cc
+two-reads (e ∷ f ∷ g ∷ es) h = absurd (cc)
+
+pub reads_opened : (old new : FabricView) (es : List Event) → OpenedOnce old (calls_of es) new → AreReads es
+reads_opened old new es (inl h) = one-read es h.0
+reads_opened old new es (inr h) = two-reads es h.0
+
+tail_same : (x : Event) (xs ys : List Event) → x ∷ xs ≡ x ∷ ys → xs ≡ ys
+tail_same x xs ys h = cc
+
+cancel : (xs ys zs : List Event) → xs ++ ys ≡ xs ++ zs → ys ≡ zs
+cancel [] ys zs h = h
+cancel (x ∷ xs) ys zs h = cancel xs ys zs (tail_same x (xs ++ ys) (xs ++ zs) h)
+
+pub own_more : (who : ℕ) (early new more : List Event) → Since who early new → new ≡ early ++ more → AreOwn who more
+own_more who early new more since seen = subst (AreOwn who) (cancel early since.more more (sym since.seen ∙ seen)) since.own
+
+-- The nodes
+
+module _ {A : Type 0} (may : ℕ → Entry → Type 0) (floor : List Entry → ℕ) (shelf : List ℕ) (state : List Entry → SpaceMap → Type 0) (spells : List ℕ → Saved → Type 0) (lines : List NamedLine) (seat : A → SeatView) (desks : A → List Desk) (workers : List A) (from phase : ℕ) (journal more : List Event) (counts : List ℕ) (looks : List (Option Looked)) (h : CrewRests may floor shelf state spells lines from phase journal counts looks seat desks workers) (own : AreOwn 0 more) (reads : AreReads more) (legal : IsLegal may floor shelf (journal ++ more)) where
+  within : IsLegal (Within may counts) floor shelf (journal ++ more)
+  within = reads_legal (Within may counts) may floor shelf journal more reads (subst (IsLegal (Within may counts) floor shelf) h.journal_is h.ok.legal) legal
+
+  seen : journal ++ more ≡ h.course.journal ++ more
+  seen = ap (λ l. l ++ more) (sym h.journal_is)
+
+  some : 1 ≤ length workers
+  some = let least = h.lines_are.there 0 in let most = h.lines_are.within 0 in omega (arith, least, most)
+
+  abbrev then' : Course
+  then' = advanced h.course 0 [] (journal ++ more) h.course.when
+
+  ok : CourseOk may floor shelf lines (length workers) then' counts looks
+  ok = advance_still may floor shelf lines (length workers) h.course counts looks h.ok 1 [] (journal ++ more) more h.course.when counts seen within (omega arith) some (λ P store. omega arith)
+
+  turn : TurnOf lines h.home 0 h.course then' counts counts looks looks
+  turn = turned lines h.home 0 h.course [] (journal ++ more) h.course.when counts counts looks looks (record { more = more; seen = seen; own = own }) (λ s other. refl) (λ s other. refl) (λ s. omega arith) refl (λ i l at other. refl) (λ by none. refl)
+
+  pub crew_read : CrewRests may floor shelf state spells lines from phase (journal ++ more) counts looks seat desks workers
+  crew_read = record {
+    home = h.home;
+    course = then';
+    journal_is = refl;
+    phase_is = h.phase_is;
+    lines_are = h.lines_are;
+    begins = h.begins;
+    ok = ok;
+    long = h.long;
+    each = λ j w at.
+        let low : phase ≤ h.course.phase + 1 = omega (arith, h.phase_is) in
+        rests_on may floor shelf state spells lines h.home (length workers) h.course then' counts counts looks looks 0 (j + 1) from phase (seat w) (desks w) h.lines_are (zero-apart j) h.begins low h.ok turn ok (h.each j w at);
+  }

@@ -1,0 +1,40 @@
+use Rattle.std.proofs.Common.{◌∙◌, ap, length, map, arith}
+use Rattle.crew_run.specs.Telling.{FitsGivenBack}
+use Rattle.crew_run.specs.Running.{RunTold}
+use Rattle.crew_run.proofs.Running.{as_many, if_ok, run_told, same_shelf}
+use Rattle.crew_run.proofs.run.run_by.Goals as goal
+
+pub tell-crew-requires-clause-eight : goal.tell-crew-requires-clause-eight
+tell-crew-requires-clause-eight g c =
+    let size = as_many (λ w. w.seat.node.replica) (λ n. g.S.Replica.shows n.replica) c.in-Ok.crew.workers.items c.args.nodes.items c.in-Ok.ensures.replicas in
+    omega (arith, size, c.requires.eight)
+
+pub part_crew-cells-requires-clause-room : goal.part_crew-cells-requires-clause-room
+part_crew-cells-requires-clause-room g c =
+    let size = as_many (λ w. w.seat.node.replica) (λ n. g.S.Replica.shows n.replica) c.in-Ok.crew.workers.items c.args.nodes.items c.in-Ok.ensures.replicas in
+    omega (arith, size, c.tell-crew.ensures.size, c.in-Ok.ensures.room)
+
+pub returns-in-Ok-clause-told : goal.returns-in-Ok-clause-told
+returns-in-Ok-clause-told g c =
+    let p = g.K.Terms in
+    let r = g.S.Replica in
+    let t = c.tell-crew.result.crew in
+    let q = c.part_crew-cells in
+    if_ok (FitsGivenBack p.may p.floor p.shelf c.args.lines.now t.fabric.journal (map (λ w. record { seat = w.seat; desks = w.desks.items }) t.workers.items))
+    (RunTold c.args.lines.now (record { cells = map g.L.Loglet.view q.result.cells.items; register = g.R.Register.view q.result.register; disks = map (λ n. (r.shows n.replica).faults) q.new.nodes.items }))
+    (λ o h. run_told p.may p.floor p.shelf c.args.lines.now t.fabric.journal (λ w. w.seat) (λ w. w.desks.items) (λ n. r.shows n.replica) q.new.nodes.items t.workers.items
+    (map g.L.Loglet.view q.result.cells.items) (g.R.Register.view q.result.register) o q.ensures.told q.ensures.nodes h)
+    c.tell-crew.result.told c.tell-crew.ensures.told
+
+pub returns-in-Ok-clause-size : goal.returns-in-Ok-clause-size
+returns-in-Ok-clause-size g c =
+    let q = c.part_crew-cells in
+    as_many (λ n. g.S.Replica.shows n.replica) (λ w. w.seat.node.replica) q.new.nodes.items c.tell-crew.result.crew.workers.items q.ensures.nodes
+    ∙ (c.tell-crew.ensures.size ∙ as_many (λ w. w.seat.node.replica) (λ n. g.S.Replica.shows n.replica) c.in-Ok.crew.workers.items c.args.nodes.items c.in-Ok.ensures.replicas)
+
+pub returns-in-Ok-clause-cells : goal.returns-in-Ok-clause-cells
+returns-in-Ok-clause-cells g c =
+    same_shelf g.L.Loglet.view c.part_crew-cells.result.cells.items c.args.cells.items g.K.Terms.shelf c.part_crew-cells.ensures.told.shelf_is c.requires.shelf
+
+pub returns-in-Err-clause-cells : goal.returns-in-Err-clause-cells
+returns-in-Err-clause-cells g c = ap (λ x. length x.items) c.in-Err.ensures.parts.0

@@ -1,0 +1,139 @@
+//! A run over loglets, a register and nodes that are handed in, and come back whatever comes of it.
+ghost use Rattle.std.specs.Prelude.{◌≡◌, ◌<◌, ◌≤◌, ◌+◌, ℕ, All, List, length, map, slice_get, IfOk, Some};
+ghost use Rattle.std.specs.List.{AllByRecursion};
+ghost use Rattle.delos_types.specs.Spaces.{SpaceMap};
+ghost use Rattle.delos_types.specs.declared.entry.Entry.{Entry};
+ghost use Rattle.loglet_api.specs.View.{IsFresh};
+ghost use Rattle.loglet_api.specs.Sound.{IsSound};
+ghost use Rattle.register_api.specs.View as view;
+ghost use Rattle.engine_laws.specs.State.{IsStateOf};
+ghost use Rattle.base_engine.specs.Trimming.{IsFloor};
+ghost use Rattle.fitting_run.specs.Lines.{CanLog};
+ghost use Rattle.node_workers.specs.Workers.{MayRun};
+ghost use Rattle.line_rules.specs.Rules.{may_of};
+ghost use Rattle.run_course.specs.Script.{AreLines};
+ghost use Rattle.node_crew.specs.Turns.{MaySendAll};
+ghost use Rattle.crew_making.specs.Fresh.{IsFreshReplica};
+ghost use Rattle.crew_run.specs.Running.{RunTold};
+
+use crate::tell::{Ended, tell};
+use crew_making::make::make_crew;
+use crew_making::part::part_crew;
+use crew_making::parts::NodeParts;
+use fabric_core::fabric::Parts;
+use fate_words::chooser::Chooser;
+use fitting_run::told::Told;
+use line_rules::laws::{
+    a_log_of_lines_trims_nothing, lines_are_sent, lines_may_run, the_floor_is_the_least,
+};
+use loglet_api::loglet::Loglet;
+use one_thread::terms::Terms;
+use register_api::Register;
+use replica_api::replica::Replica;
+use script_text::asks::NamedLine;
+use std::alloc::{AllocError, Global};
+use std::marker::Brand;
+
+/// What a run worked on, and what it told, if memory sufficed.
+pub struct Ran<L: Loglet, R: Register, S: Replica, C: Chooser> {
+    pub cells: Vec<L>,
+    pub register: R,
+    pub nodes: Vec<NodeParts<S, C>>,
+    pub told: Result<Told, AllocError>,
+}
+
+/// Runs a script's lines by the rules that were picked.
+fn run_by<L: Loglet, R: Register, K: Terms, S: Replica, C: Chooser>(
+    alloc: Global,
+    cells: Vec<L>,
+    register: R,
+    nodes: Vec<NodeParts<S, C>>,
+    lines: &[NamedLine],
+) -> Ran<L, R, S, C>
+    requires run { MayRun K.may K.floor K.shelf }
+    requires state { (log : List Entry) (m : SpaceMap) → S.state log m → IsStateOf log m }
+    requires may { (who : ℕ) (e : Entry) → K.may who e → may_of lines.now who e }
+    requires none_trimmed { (log : List Entry) → AllByRecursion (λ e. (who : ℕ) × K.may who e) log → K.floor log ≡ 0 }
+    requires sends { MaySendAll K.may lines.now }
+    requires floor { IsFloor S.state K.floor (length nodes.items) }
+    requires least { 0 < length cells.items }
+    requires most { length cells.items ≤ 64 }
+    requires shelf { map (λ v. v.servers) (map L.view cells.items) ≡ K.shelf }
+    requires fresh { All (λ l. IsFresh (L.view l)) cells.items }
+    requires sound { All (λ l. IsSound (L.view l)) cells.items }
+    requires register { view.IsFresh (R.view register) }
+    requires eight { length nodes.items ≤ 8 }
+    requires nodes { (j : ℕ) (n : NodeParts S C) → slice_get nodes.items j ≡ Some n → IsFreshReplica S.state S.spells (j + 1) (S.shows n.replica) }
+    requires lines { (home : ℕ → ℕ) × AreLines lines.now home (length nodes.items) }
+    ensures told { IfOk result.told (RunTold lines.now (record { cells = map L.view result.cells.items; register = R.view result.register; disks = map (λ n. (S.shows n.replica).faults) result.nodes.items })) }
+    ensures size { length result.nodes.items ≡ length nodes.items }
+    ensures cells { length result.cells.items ≡ length cells.items }
+{
+    let mut nodes = nodes;
+    match make_crew::<L, R, K, S, C>(alloc, cells, register, &mut nodes, lines) {
+        Ok(crew) => {
+            let Ended { crew, told } = tell(alloc, crew, lines);
+            let Parts { cells, register } = part_crew(crew, &mut nodes);
+            return Ran {
+                cells,
+                register,
+                nodes,
+                told,
+            };
+        }
+        Err(parts) => {
+            let Parts { cells, register } = parts;
+            return Ran {
+                cells,
+                register,
+                nodes,
+                told: Err(AllocError),
+            };
+        }
+    }
+}
+
+/// Nothing is done: what holds of every loglet is known of each of these from here on.
+fn know_all<L: Loglet>(cells: &[L])
+    ensures { All (λ l. IsSound (L.view l)) cells.now }
+{
+    for cell in cells {
+        let _servers = cell.servers();
+    }
+}
+
+/// Runs a script's lines: phase by phase, in each the nodes in order, each with its lines in order; then the nodes close, and the
+/// answers are told. The loglets, the register and the nodes' parts come back, whatever comes of it; nothing is told where
+/// memory was wanting.
+///
+/// Cost: that of the lines, and for each node what it has to play of the log. Nothing that is kept of a line is looked at again
+/// before the end.
+pub fn run_lines<L: Loglet, R: Register, S: Replica, C: Chooser>(
+    alloc: Global,
+    cells: Vec<L>,
+    register: R,
+    nodes: Vec<NodeParts<S, C>>,
+    lines: &[NamedLine],
+) -> Ran<L, R, S, C>
+    requires state { (log : List Entry) (m : SpaceMap) → S.state log m → IsStateOf log m }
+    requires least { 0 < length cells.items }
+    requires most { length cells.items ≤ 64 }
+    requires fresh { All (λ l. IsFresh (L.view l)) cells.items }
+    requires register { view.IsFresh (R.view register) }
+    requires eight { length nodes.items ≤ 8 }
+    requires nodes { (j : ℕ) (n : NodeParts S C) → slice_get nodes.items j ≡ Some n → IsFreshReplica S.state S.spells (j + 1) (S.shows n.replica) }
+    requires lines { (home : ℕ → ℕ) × AreLines lines.now home (length nodes.items) }
+    requires spelled { AllByRecursion (λ l. CanLog l.asks) lines.now }
+
+    // What is told fits the lines and what comes back.
+    ensures told { IfOk result.told (RunTold lines.now (record { cells = map L.view result.cells.items; register = R.view result.register; disks = map (λ n. (S.shows n.replica).faults) result.nodes.items })) }
+    ensures size { length result.nodes.items ≡ length nodes.items }
+    ensures cells { length result.cells.items ≡ length cells.items }
+{
+    lines_may_run();
+    a_log_of_lines_trims_nothing();
+    lines_are_sent();
+    the_floor_is_the_least::<S>();
+    know_all(cells.as_slice());
+    run_by::<L, R, Brand, S, C>(alloc, cells, register, nodes, lines)
+}
