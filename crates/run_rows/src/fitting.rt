@@ -1,5 +1,4 @@
 //! The tests of which a fitting run is made: on the rows of runs, and on rows that no run gives.
-use crate::shelves::run_on_shelf;
 use delos_types::cause::Cause;
 use delos_types::numbers::{Rank, SessionId};
 use delos_types::place::Place;
@@ -9,6 +8,7 @@ use fitting_run::fitting::{
     are_rows_of, has_first_ranks, keeps_barriers, places_dont_fall, reads_are_within,
     reads_keep_order, stand_apart, stays_stopped,
 };
+use memory_runs::run::run_in_memory;
 use outside_ends::memory::{MemSink, MemSource};
 use row_text::row::{Outcome, Row, Who};
 use script_text::asks::{Asks, NamedLine, named_lines};
@@ -97,12 +97,13 @@ fn outcome(told: Told) -> Outcome {
     }
 }
 
-// The name of the session that asks.
-fn who(asks: &Asks) -> Result<Who, AllocError> {
-    match asks {
+// Who asks: a session by its name, or the node itself.
+fn who(line: &NamedLine) -> Result<Who, AllocError> {
+    match &line.asks {
         Asks::Logged { session, .. } | Asks::Look { session, .. } => {
             Ok(Who::Session(session.name.clone()?))
         }
+        Asks::Admin(_) => Ok(Who::Node(line.node)),
     }
 }
 
@@ -119,7 +120,7 @@ fn answered(
         line.phase = *phase;
         let row = Row {
             number: *number,
-            who: who(&line.asks)?,
+            who: who(&line)?,
             outcome: outcome(*told),
         };
         all.push(Answered { line, row })?;
@@ -278,7 +279,7 @@ fn played(rt: &impl Abort, alloc: Global, script: &[u8]) -> Result<(Vec<Answered
     }
     let mut source = MemSource::new(Vec::from_slice(alloc, script)?, 64, Vec::new(alloc));
     let mut sink = MemSink::new(alloc, 4096, 64, Vec::new(alloc))?;
-    let ran = run_on_shelf(rt, alloc, words.as_slice(), ROOMS, &mut source, &mut sink)?;
+    let ran = run_in_memory(rt, alloc, words.as_slice(), ROOMS, &mut source, &mut sink)?;
     let told = ran.told.ok_or("told nothing")?;
     let end = told.end;
     let rows = told.rows.into_vec();
@@ -292,15 +293,15 @@ fn played(rt: &impl Abort, alloc: Global, script: &[u8]) -> Result<(Vec<Answered
 #[test]
 fn rows_of_runs(rt: HostRuntime) -> Result<(), Fail> {
     let alloc = rt.alloc();
-    for (script, count, places, low) in [
+    for (script, count, last, low) in [
         (ONE_SESSION, 2, 1, Some(0)),
-        (ONE_SESSION_PUTS, 2, 2, None),
+        (ONE_SESSION_PUTS, 2, 1, None),
         (READ_FIRST, 2, 1, None),
-        (TWO_SESSIONS, 3, 2, Some(1)),
+        (TWO_SESSIONS, 3, 1, Some(0)),
     ] {
         let (told, end) = played(&rt, alloc, script)?;
         assert_eq!(rt; told.len(), count);
-        assert_eq!(rt; end, places);
+        assert_eq!(rt; end, last);
         assert_eq!(rt; judge(told.as_slice()), FITS);
         assert!(rt; reads_are_within(told.as_slice(), end));
         if let Some(low) = low {

@@ -3,7 +3,12 @@
 #![tactic(auto)]
 
 #[cfg(test)]
+mod disks;
+#[cfg(test)]
 mod fitting;
-pub mod shelves;
+#[cfg(test)]
+mod own;
+#[cfg(test)]
+mod replacing;
 #[cfg(test)]
 mod tests;

@@ -1,24 +1,24 @@
 ghost use Rattle.std.specs.Prelude.{◌≤◌};
 ghost use Rattle.shelf_loglets.specs.Shelf.{AreRooms};
 
-use crate::shelves::run_on_shelf;
+use memory_runs::run::run_in_memory;
 use outside_ends::memory::{MemSink, MemSource};
 use shelf_loglets::shelf::Rooms;
 use std::alloc::Global;
 use std::process::Abort;
 use std::test::Fail;
 
-const ROOMS: Rooms = Rooms {
+pub(crate) const ROOMS: Rooms = Rooms {
     single: 0x1_0000_0000,
     inner: 0x1000_0000,
 };
 
-const PUT_AND_GET: &[u8] = b"on n1 a put x 1\non n1 a get x\n";
+pub(crate) const PUT_AND_GET: &[u8] = b"on n1 a put x 1\non n1 a get x\n";
 
-const PUT_AND_GET_TEXT: &[u8] =
+pub(crate) const PUT_AND_GET_TEXT: &[u8] =
     b"1 a @0.0 ok\n2 a >1 = 1\nend 1\nchain v=1 trim=0\nseg 0 file 0 open\n";
 
-const FILE_RUN: &[&str] = &["run", "--shelf", "file"];
+pub(crate) const FILE_RUN: &[&str] = &["run", "--shelf", "file"];
 
 /// Which calls of the ends fail, how many bytes each moves, and the rooms of the loglets.
 #[derive(Clone, Copy)]
@@ -68,7 +68,7 @@ fn ends_with(
     let mut source = MemSource::new(Vec::from_slice(alloc, script)?, ends.piece, failing);
     let failing = Vec::from_slice(alloc, ends.sink_fails)?;
     let mut sink = MemSink::new(alloc, 4096, ends.piece, failing)?;
-    let ran = run_on_shelf(
+    let ran = run_in_memory(
         rt,
         alloc,
         owned.as_slice(),
@@ -94,7 +94,7 @@ fn scripts_and_their_texts(rt: HostRuntime) -> Result<(), Fail> {
         ),
         (
             b"on n1 a put x 1\non n1 b put x 2\non n1 a get x\n",
-            b"1 a @0.0 ok\n2 b @1.0 ok\n3 a >2 = 2\nend 2\nchain v=1 trim=0\nseg 0 file 0 open\n",
+            b"1 a @0.0 ok\n2 b @0.1 ok\n3 a >1 = 2\nend 1\nchain v=1 trim=0\nseg 0 file 0 open\n",
         ),
         (
             b"on n1 a put x 1\nbarrier\non n1 b get x\nbarrier\n",
@@ -103,17 +103,17 @@ fn scripts_and_their_texts(rt: HostRuntime) -> Result<(), Fail> {
         // A sum that leaves the range changes nothing.
         (
             b"on n1 a put c 9223372036854775807\non n1 a add c 1\non n1 a get c\n",
-            b"1 a @0.0 ok\n2 a @1.0 full\n3 a >2 = 9223372036854775807\nend 2\nchain v=1 trim=0\nseg 0 file 0 open\n",
+            b"1 a @0.0 ok\n2 a @0.1 full\n3 a >1 = 9223372036854775807\nend 1\nchain v=1 trim=0\nseg 0 file 0 open\n",
         ),
         // Each reply of a logged command.
         (
             b"on n1 a add c 5\non n1 a add c -7\non n1 a cas c -2 z\non n1 a add c 1\non n1 a cas c q r\non n1 a del c\non n1 a del c\non n1 a cas c q r\non n1 a scan a z\n",
-            b"1 a @0.0 = 5\n2 a @1.0 = -2\n3 a @2.0 ok\n4 a @3.0 text\n5 a @4.0 was z\n6 a @5.0 ok\n7 a @6.0 none\n8 a @7.0 none\n9 a >8 []\nend 8\nchain v=1 trim=0\nseg 0 file 0 open\n",
+            b"1 a @0.0 = 5\n2 a @0.1 = -2\n3 a @0.2 ok\n4 a @0.3 text\n5 a @0.4 was z\n6 a @0.5 ok\n7 a @0.6 none\n8 a @0.7 none\n9 a >1 []\nend 1\nchain v=1 trim=0\nseg 0 file 0 open\n",
         ),
         // A scan is in byte order, and ends below its second key.
         (
             b"on n1 a put b 2\non n1 b put a 1\non n1 a put c 3\non n1 b scan a c\n",
-            b"1 a @0.0 ok\n2 b @1.0 ok\n3 a @2.0 ok\n4 b >3 [a=1 b=2]\nend 3\nchain v=1 trim=0\nseg 0 file 0 open\n",
+            b"1 a @0.0 ok\n2 b @0.1 ok\n3 a @0.2 ok\n4 b >1 [a=1 b=2]\nend 1\nchain v=1 trim=0\nseg 0 file 0 open\n",
         ),
     ];
     for (script, text) in rows {
@@ -122,11 +122,109 @@ fn scripts_and_their_texts(rt: HostRuntime) -> Result<(), Fail> {
     Ok(())
 }
 
+// Each node plays its lines of a phase in one turn, and packs up to 16 commands into an entry.
+#[test]
+fn nodes_and_their_texts(rt: HostRuntime) -> Result<(), Fail> {
+    let alloc = rt.alloc();
+    let two = &["run", "--nodes", "2", "--shelf", "file"][..];
+    let rows = [
+        (
+            two,
+            &b"on n1 a put x 1\nbarrier\non n2 b get x\n"[..],
+            &b"1 a @0.0 ok\n3 b >1 = 1\nend 1\nchain v=1 trim=0\nseg 0 file 0 open\n"[..],
+        ),
+        (
+            two,
+            b"on n2 b put y 2\non n1 a put x 1\nbarrier\non n1 a get y\non n2 b get x\n",
+            b"1 b @1.0 ok\n2 a @0.0 ok\n4 a >2 = 2\n5 b >2 = 1\nend 2\nchain v=1 trim=0\nseg 0 file 0 open\n",
+        ),
+        (
+            &["run", "--nodes", "8", "--shelf", "native3"],
+            b"on n8 h put x 8\non n3 c put x 3\non n8 h get x\nbarrier\nbarrier\non n5 e add y 5\n",
+            b"1 h @1.0 ok\n2 c @0.0 ok\n3 h >2 = 8\n6 e @2.0 = 5\nend 3\nchain v=1 trim=0\nseg 0 native3 0 open\n",
+        ),
+        (
+            &["run", "--nodes", "3", "--shelf", "striped2"],
+            b"on n1 a put x 1\non n2 b put x 2\non n3 c put x 3\nbarrier\non n1 a get x\n",
+            b"1 a @0.0 ok\n2 b @1.0 ok\n3 c @2.0 ok\n5 a >3 = 3\nend 3\nchain v=1 trim=0\nseg 0 striped2 0 open\n",
+        ),
+    ];
+    for (words, script, text) in rows {
+        ends_with(&rt, alloc, words, script, &CALM, 0, text)?;
+    }
+    let moved = b"on n1 a put x 1\non n2 a get x\n";
+    ends_with(&rt, alloc, two, moved, &CALM, 2, b"line 2: moved\n")
+}
+
+// The last loglet is sealed, and the log goes on in the next one of the shelf, if there is one.
+#[test]
+fn replacements_and_their_texts(rt: HostRuntime) -> Result<(), Fail> {
+    let alloc = rt.alloc();
+    let rows = [
+        (
+            &["run", "--shelf", "file,file"][..],
+            &b"on n1 extend\n"[..],
+            &b"1 n1 extended v=2 at 0\nend 0\nchain v=2 trim=0\nseg 0 file 0 0\nseg 1 file 0 open\n"[..],
+        ),
+        (
+            FILE_RUN,
+            b"on n1 extend\non n1 a put x 1\n",
+            b"1 n1 no-spare\n2 a @0.0 ok\nend 1\nchain v=1 trim=0\nseg 0 file 0 open\n",
+        ),
+        (
+            &["run", "--nodes", "2", "--shelf", "file,file,file"],
+            b"on n1 extend\non n2 extend\n",
+            b"1 n1 extended v=2 at 0\n2 n2 extended v=3 at 0\nend 0\nchain v=3 trim=0\nseg 0 file 0 0\nseg 1 file 0 0\nseg 2 file 0 open\n",
+        ),
+        // Loglets of every kind of the usual shelf, one after another.
+        (
+            &[],
+            b"on n1 a put x 1\non n1 extend\non n1 a put y 2\non n1 extend\non n1 a put x 3\non n1 extend\non n1 a get x\non n1 extend\non n1 a get y\n",
+            b"1 a @0.0 ok\n2 n1 extended v=2 at 1\n3 a @1.0 ok\n4 n1 extended v=3 at 2\n5 a @2.0 ok\n6 n1 extended v=4 at 3\n7 a >3 = 3\n8 n1 no-spare\n9 a >3 = 2\nend 3\nchain v=4 trim=0\nseg 0 file 0 1\nseg 1 native3 1 2\nseg 2 striped2 2 3\nseg 3 native5 3 open\n",
+        ),
+        // A node that goes by the chain of before finds the loglet sealed, and goes on in the next one.
+        (
+            &["run", "--nodes", "2", "--shelf", "native3,nested"],
+            b"on n2 b get x\non n1 a put x 1\non n1 extend\nbarrier\non n2 b put y 2\nbarrier\non n1 a get y\non n2 b get x\n",
+            b"1 b >1 = 1\n2 a @0.0 ok\n3 n1 extended v=2 at 1\n5 b @1.0 ok\n7 a >2 = 2\n8 b >2 = 1\nend 2\nchain v=2 trim=0\nseg 0 native3 0 1\nseg 1 nested 1 open\n",
+        ),
+    ];
+    for (words, script, text) in rows {
+        ends_with(&rt, alloc, words, script, &CALM, 0, text)?;
+    }
+    Ok(())
+}
+
+// Of seventeen commands sixteen stand in one entry, and the last in the next.
+#[test]
+fn an_entry_takes_sixteen_commands(rt: HostRuntime) -> Result<(), Fail> {
+    let alloc = rt.alloc();
+    let mut script = Vec::new(alloc);
+    let mut text = String::new(alloc);
+    for number in 0..17u64 {
+        script.extend_from_slice(b"on n1 a put x 1\n")?;
+        let row = format!(in alloc; "{} a @{}.{} ok\n", number + 1, number / 16, number % 16)?;
+        text.push_str(row.as_str())?;
+    }
+    text.push_str("end 2\nchain v=1 trim=0\nseg 0 file 0 open\n")?;
+    ends_with(
+        &rt,
+        alloc,
+        FILE_RUN,
+        script.as_slice(),
+        &CALM,
+        0,
+        text.as_bytes(),
+    )
+}
+
 #[test]
 fn bad_lines(rt: HostRuntime) -> Result<(), Fail> {
     let alloc = rt.alloc();
     let rows = [
-        (&b"on n1 extend\n"[..], &b"line 1: word\n"[..]),
+        (&b"on n1 alive\n"[..], &b"line 1: word\n"[..]),
+        (b"on n1 extend x\n", b"line 1: count\n"),
+        (b"on n2 extend\n", b"line 1: node\n"),
         (b"on n1 a put x 1\n\non n2 a get x\n", b"line 3: node\n"),
         (b"on n1 a add c -0\nwhat\n", b"line 1: number\n"),
         (b"on n1 a put x 1\nbarrier 2\n", b"line 2: count\n"),
@@ -231,8 +329,8 @@ fn a_full_loglet(rt: HostRuntime) -> Result<(), Fail> {
         ),
         // What follows in the session stays open, in its phase and behind the barrier.
         (
-            b"on n1 a put x 1\non n1 a put y 2\non n1 a get x\nbarrier\non n1 a put z 3\non n1 b put z 4\non n1 b get x\n",
-            b"1 a @0.0 ok\n2 a open full 0\n3 a open full 0\n5 a open full 0\n6 b open full 0\n7 b open full 0\nend 1\nchain v=1 trim=0\nseg 0 file 0 open\n",
+            b"on n1 a put x 1\non n1 a get x\non n1 a put y 2\non n1 a get x\nbarrier\non n1 a put z 3\non n1 b put z 4\non n1 b get x\n",
+            b"1 a @0.0 ok\n2 a >1 = 1\n3 a open full 0\n4 a open full 0\n6 a open full 0\n7 b open full 0\n8 b open full 0\nend 1\nchain v=1 trim=0\nseg 0 file 0 open\n",
         ),
     ];
     for (script, text) in rows {
@@ -245,17 +343,21 @@ fn a_full_loglet(rt: HostRuntime) -> Result<(), Fail> {
 #[test]
 fn a_full_striped_loglet(rt: HostRuntime) -> Result<(), Fail> {
     let alloc = rt.alloc();
-    for (kind, room) in [("striped2", 2u64), ("striped8", 8), ("nested", 4)] {
+    for (kind, room) in [("striped2", 2u32), ("striped8", 8), ("nested", 4)] {
         let mut script = Vec::new(alloc);
         let mut text = String::new(alloc);
         for number in 0..room {
-            script.extend_from_slice(b"on n1 a put x 1\n")?;
-            text.push_str(format!(in alloc; "{} a @{number}.0 ok\n", number + 1)?.as_str())?;
+            // A barrier gives each put an entry of its own.
+            script.extend_from_slice(b"on n1 a put x 1\nbarrier\n")?;
+            text.push_str(format!(in alloc;
+                "{} a @{number}.0 ok\n",
+                2 * (number as u64) + 1
+            )?.as_str())?;
         }
         script.extend_from_slice(b"on n1 a put x 1\n")?;
         let last = format!(in alloc;
             "{} a open full 0\nend {room}\nchain v=1 trim=0\nseg 0 {kind} 0 open\n",
-            room + 1
+            2 * (room as u64) + 1
         )?;
         text.push_str(last.as_str())?;
         ends_with(

@@ -1,6 +1,6 @@
 -- What was read of a source, and what is composed of it.
 use Rattle.std.proofs.Common.{◌≡◌, ◌<◌, ◌≤◌, ◌∙◌, ℕ, Bool, true, false, if◌then◌else◌, List, [], ◌∷◌, ◌++◌, length, map, slice_set, take, Option, Some, None, Result, Ok, Err, refl, sym, ap, subst, arith, inl, inr}
-use Rattle.std.proofs.lemmas.Bool.{cases_lt}
+use Rattle.std.proofs.lemmas.Bool.{cases_lt, and_parts}
 use Rattle.std.proofs.lemmas.List.{take_at, take_all}
 use Rattle.outside_ends.specs.Sources.{LeavesBehind}
 use Rattle.outside_ends.specs.Whole.{IsFront, ReadsUpTo}
@@ -15,20 +15,14 @@ use Rattle.fitting_run.specs.declared.told.Told.{Told}
 use Rattle.script_runner.specs.declared.ended.Status.TheVariants as status
 use Rattle.script_runner.specs.declared.run.Composed.{Composed}
 use Rattle.script_runner.specs.Composed.{ComposesRun, IsComposedScript}
-use Rattle.loglet_api.specs.View.{LogletView}
-use Rattle.chain_map.specs.Chain.{first_chain}
-use Rattle.delos_types.specs.declared.chain.Chain.{Chain}
 use Rattle.row_text.specs.declared.row.Row.{Row}
 use Rattle.row_text.specs.declared.row.Outcome.{Outcome}
 use Rattle.row_text.specs.declared.row.Outcome.TheVariants as out
-use Rattle.script_text.specs.declared.asks.NamedLine.{NamedLine}
 use Rattle.script_runner.specs.declared.ended.Status.{Status}
-use Rattle.script_runner.specs.declared.play.Played.{Played}
 use Rattle.fitting_run.specs.Answered.{is_open}
-use Rattle.script_runner.specs.Plays.{Plays, is_answered, all_answered}
-use Rattle.script_runner.proofs.Tests.{and_both}
-use Rattle.script_runner.proofs.Counting.{sum-head}
-use Rattle.script_runner.specs.Ends.{Ran, Tells, IsRefused, IsAllOf, IsFrontOf, IsCalm, read_limit, text_of, any_open, ComposesScript, Composes}
+use Rattle.fitting_run.specs.Yard.{Shown}
+use Rattle.fitting_run.specs.Calm.{IsCalm, is_answered, all_answered}
+use Rattle.script_runner.specs.Ends.{Ran, IsRefused, IsAllOf, IsFrontOf, read_limit, text_of, any_open, ComposesScript, Composes}
 
 front_of : (limit : ℕ) (all bytes : List ℕ) (after : Option (List ℕ)) → length bytes ≡ limit → LeavesBehind all after bytes → bytes ≡ take limit all
 front_of limit all bytes None len h = absurd h
@@ -49,47 +43,32 @@ pub front-read : (left after : Option (List ℕ)) (bytes : List ℕ) → ReadsUp
 front-read None after bytes came within = tt
 front-read (Some all) after bytes came within = sym (front_is read_limit all bytes after came within)
 
-pub composes-refusal : (plan : Plan) (left after : Option (List ℕ)) (cells : List LogletView) (c : Composed) (bytes : List ℕ) (bad : BadLine)
+pub composes-refusal : (plan : Plan) (left after : Option (List ℕ)) (yard : Shown) (c : Composed) (bytes : List ℕ) (bad : BadLine)
     → ReadsUpTo read_limit left after bytes → length bytes ≤ read_limit → script_of plan.nodes bytes ≡ Err bad
-    → (c.status ≡ status.BadLine) × (c.told ≡ None) × (c.text ≡ refusal_text bad) → IsComposedScript plan left cells c
-composes-refusal plan left after cells c bytes bad came within read is =
+    → (c.status ≡ status.BadLine) × (c.told ≡ None) × (c.text ≡ refusal_text bad) → IsComposedScript plan left yard c
+composes-refusal plan left after yard c bytes bad came within read is =
     rw (is.0, is.1, is.2) (bad, record { bytes = bytes; front = front-read left after bytes came within; refused = read }, refl)
 
-pub composes-run : (plan : Plan) (left after : Option (List ℕ)) (cells : List LogletView) (c : Composed) (bytes : List ℕ) (script : List Line)
+pub composes-run : (plan : Plan) (left after : Option (List ℕ)) (yard : Shown) (c : Composed) (bytes : List ℕ) (script : List Line)
     → ReadsUpTo read_limit left after bytes → length bytes ≤ 1048576 → IsScript plan.nodes bytes script
-    → ComposesRun plan script cells c → IsComposedScript plan left cells c
-composes-run plan left after cells c bytes script came short read run = decide (any_open run.told.rows) refl
+    → ComposesRun plan script yard c → IsComposedScript plan left yard c
+composes-run plan left after yard c bytes script came short read run = decide (any_open run.told.rows) refl
   where
-    ran : Ran plan left cells run.told
-    ran = record { bytes = bytes; all = all-read left after bytes came short; script = script; spelled = read; fits = run.tells.fits; answered = run.tells.answered; whole = run.tells.whole }
+    ran : Ran plan left yard run.told
+    ran = record { bytes = bytes; all = all-read left after bytes came short; script = script; spelled = read; fits = run.ran.fits; answered = run.ran.answered; whole = run.ran.whole }
 
-    decide : (b : Bool) → any_open run.told.rows ≡ b → IsComposedScript plan left cells c
+    decide : (b : Bool) → any_open run.told.rows ≡ b → IsComposedScript plan left yard c
     decide true e =
-        let is : c.status ≡ status.Open = run.status_is ∙ ap (λ (b : Bool). if b then status.Open else status.Done) e in
-        rw (is, run.is, run.text) (ran, refl, e)
+        let is : c.status ≡ status.Open = run.tells.status_is ∙ ap (λ (b : Bool). if b then status.Open else status.Done) e in
+        rw (is, run.tells.is, run.tells.text) (ran, refl, e)
     decide false e =
-        let is : c.status ≡ status.Done = run.status_is ∙ ap (λ (b : Bool). if b then status.Open else status.Done) e in
-        rw (is, run.is, run.text) (ran, refl, e)
-
--- the first loglet of a shelf was played on
-pub tells-first : (lines : List NamedLine) (v : LogletView) (rest : List LogletView) (played : Played) (chain : Chain) → Plays lines v played → chain ≡ first_chain
-    → Tells lines (v ∷ rest) (record { rows = played.rows; end = played.end; version = 1; chain = chain; down = false })
-tells-first lines v rest played chain p is = rw is (record {
-  fits = p.fits rest;
-  answered = λ calm. p.answered (omega (arith, calm, sum-head (λ (v : LogletView). v.faults) v rest));
-  whole = λ calm. p.whole (omega (arith, calm, sum-head (λ (v : LogletView). v.faults) v rest)) rest;
-  chain = refl;
-})
-
-pub tells-shelf : {A : Type 0} (view : A → LogletView) (shelf : List A) (first : A) (lines : List NamedLine) (played : Played) (chain : Chain) → 0 < length shelf → Plays lines (view first) played → chain ≡ first_chain
-    → Tells lines (map view (slice_set shelf 0 first)) (record { rows = played.rows; end = played.end; version = 1; chain = chain; down = false })
-tells-shelf view [] first lines played chain some p is = absurd (omega (arith, some))
-tells-shelf view (x ∷ shelf) first lines played chain some p is = tells-first lines (view first) (map view shelf) played chain p is
+        let is : c.status ≡ status.Done = run.tells.status_is ∙ ap (λ (b : Bool). if b then status.Open else status.Done) e in
+        rw (is, run.tells.is, run.tells.text) (ran, refl, e)
 
 -- an open row has no answer of its own
 none-open : (rows : List Row) → all_answered rows ≡ true → any_open rows ≡ false
 none-open [] e = refl
-none-open (r ∷ rs) e = let k = and_both (is_answered r.outcome) (all_answered rs) e in rw (not_open r.outcome k.0) (none-open rs k.1)
+none-open (r ∷ rs) e = let k = and_parts (is_answered r.outcome) (all_answered rs) e in rw (not_open r.outcome k.0) (none-open rs k.1)
   where
     not_open : (o : Outcome) → is_answered o ≡ true → is_open o ≡ false
     not_open (out.Open c) e = sym e
@@ -103,15 +82,15 @@ none-open (r ∷ rs) e = let k = and_both (is_answered r.outcome) (all_answered 
     not_open out.Retired e = refl
 
 -- where nothing was counted no row is open
-pub calm-closed : (words : List (List ℕ)) (left : Option (List ℕ)) (cells : List LogletView) (end : Status) (told : Option Told) (text : List ℕ) → Composes words left cells end told text → IsCalm cells → end ≡ status.Open → ⊥
-calm-closed words left cells status.Open (Some told) text h calm e = false_true (sym (none-open told.rows (h.2.0.answered calm)) ∙ h.2.2)
+pub calm-closed : (words : List (List ℕ)) (left : Option (List ℕ)) (yard : Shown) (end : Status) (told : Option Told) (text : List ℕ) → Composes words left yard end told text → IsCalm yard → end ≡ status.Open → ⊥
+calm-closed words left yard status.Open (Some told) text h calm e = false_true (sym (none-open told.rows (h.2.0.answered calm)) ∙ h.2.2)
   where
     false_true : false ≡ true → ⊥
     false_true e = cc
-calm-closed words left cells status.Open None text h calm e = absurd h.2
-calm-closed words left cells status.Done told text h calm e = cc
-calm-closed words left cells status.BadLine told text h calm e = cc
-calm-closed words left cells status.BadWords told text h calm e = cc
-calm-closed words left cells status.SourceFault told text h calm e = cc
-calm-closed words left cells status.SinkFault told text h calm e = cc
-calm-closed words left cells status.Memory told text h calm e = cc
+calm-closed words left yard status.Open None text h calm e = absurd h.2
+calm-closed words left yard status.Done told text h calm e = cc
+calm-closed words left yard status.BadLine told text h calm e = cc
+calm-closed words left yard status.BadWords told text h calm e = cc
+calm-closed words left yard status.SourceFault told text h calm e = cc
+calm-closed words left yard status.SinkFault told text h calm e = cc
+calm-closed words left yard status.Memory told text h calm e = cc

@@ -2,7 +2,7 @@
 use Rattle.std.proofs.Common.{◌≡◌, refl, sym, ap, ◌∙◌, subst, ℕ, ◌+◌, ◌<◌, ◌≤◌, ◌==◌, Bool, true, false, ◌&&◌, nat_le, List, [], ◌∷◌, ◌++◌, length, arith, append_assoc, append-nil, zero-add, length-append}
 use Rattle.std.specs.Prelude.{count_by, cond, option_to_list}
 use Rattle.std.specs.List.{list_all, AllByRecursion, sum_by, fold}
-use Rattle.std.proofs.lemmas.Bool.{and_from}
+use Rattle.std.proofs.lemmas.Bool.{and_from, and_parts}
 use Rattle.std.proofs.lemmas.Bool.Decides.{nat_tests}
 use Rattle.std.proofs.lemmas.Grind.{common_steps}
 use Rattle.std.proofs.lemmas.List.Sums.{sum_by-append}
@@ -19,9 +19,11 @@ use Rattle.table_core.specs.Spelling.{IsSpellable, command_length}
 use Rattle.script_text.specs.Seen.{Before, nothing_yet}
 use Rattle.script_text.specs.Script.{RawLine, lines_in}
 use Rattle.script_text.specs.Spelling.{IsScript, SpellsFrom, CommandFits, is_print}
-use Rattle.script_runner.proofs.Tests.{and_both}
 use Rattle.script_text.specs.Lines.{lines_of, lines_after, named_after, asks_after, is_logged_by, is_barrier}
-use Rattle.fitting_run.specs.Lines.{logs_for, has_rank, are_ranked, are_in_phase, CanLog, ArePlayable}
+use Rattle.fitting_run.specs.Lines.{logs_for, has_rank, are_ranked, are_in_phase, CanLog}
+use Rattle.run_course.specs.Script.{AreLines}
+use Rattle.script_runner.specs.Playing.{CanPlay}
+use Rattle.script_runner.proofs.Homes.{script_homes, home_at, home_low, all_home, all_within, all_known}
 
 -- the line, where it names a node
 abbrev named : List Line → Line → List NamedLine
@@ -46,6 +48,7 @@ count_by-cons p x xs = count_by-append p (x ∷ []) xs ∙ ap (λ k. k + count_b
 named_count : (s : ℕ) (before : List Line) (l : Line) → count_by (logs_for s) (named before l) ≡ cond (is_logged_by s l) 1 0
 named_count s before (line.Session node t (ask.Log c)) = zero-add (cond (t.id == s) 1 0)
 named_count s before (line.Session node t (ask.Look q)) = refl
+named_count s before (line.Admin node a) = refl
 named_count s before line.Blank = refl
 named_count s before line.Barrier = refl
 
@@ -74,6 +77,9 @@ ranked before (line.Session node t (ask.Log c) ∷ ls) =
 ranked before (line.Session node t (ask.Look q) ∷ ls) =
     let l : Line = line.Session node t (ask.Look q) in
     subst (λ b. are_ranked b (lines_after (before ++ l ∷ []) ls) ≡ true) (one_more before l) (ranked (before ++ l ∷ []) ls)
+ranked before (line.Admin node a ∷ ls) =
+    let l : Line = line.Admin node a in
+    subst (λ b. are_ranked b (lines_after (before ++ l ∷ []) ls) ≡ true) (one_more before l) (ranked (before ++ l ∷ []) ls)
 ranked before (line.Blank ∷ ls) =
     let l : Line = line.Blank in
     subst (λ b. are_ranked b (lines_after (before ++ l ∷ []) ls) ≡ true) (one_more before l ∙ append-nil (lines_of before)) (ranked (before ++ l ∷ []) ls)
@@ -85,7 +91,7 @@ ranked before (line.Barrier ∷ ls) =
 
 earlier : (m n : ℕ) (ls : List NamedLine) → m ≤ n → are_in_phase n ls ≡ true → are_in_phase m ls ≡ true
 earlier m n [] low h = refl
-earlier m n (l ∷ ls) low h = let k = and_both (nat_le n l.phase) (are_in_phase l.phase ls) h in and_from (nat_le m l.phase) (are_in_phase l.phase ls) (below m n l.phase low k.0) k.1
+earlier m n (l ∷ ls) low h = let k = and_parts (nat_le n l.phase) (are_in_phase l.phase ls) h in and_from (nat_le m l.phase) (are_in_phase l.phase ls) (below m n l.phase low k.0) k.1
   where
     below : (m n p : ℕ) → m ≤ n → nat_le n p ≡ true → nat_le m p ≡ true
     below m n p low e = grind (arith, nat_tests)
@@ -96,15 +102,19 @@ one_phase before l = count_by-append is_barrier before (l ∷ []) ∙ ap (λ k. 
 no_barrier : (before : List Line) (l : Line) → is_barrier l ≡ false → count_by is_barrier (before ++ l ∷ []) ≡ count_by is_barrier before
 no_barrier before l e = omega (arith, one_phase before l, ap (λ b. 0 + cond b 1 0) e)
 
+same_phase : (n : ℕ) → nat_le n n ≡ true
+same_phase n = grind (arith, nat_tests)
+
 phases : (before ls : List Line) → are_in_phase (count_by is_barrier before) (lines_after before ls) ≡ true
 phases before [] = refl
 phases before (line.Session node t a ∷ ls) =
     let l : Line = line.Session node t a in
-    and_from (nat_le (count_by is_barrier before) (count_by is_barrier before)) _ (up_to (count_by is_barrier before))
+    and_from (nat_le (count_by is_barrier before) (count_by is_barrier before)) _ (same_phase (count_by is_barrier before))
     (subst (λ n. are_in_phase n (lines_after (before ++ l ∷ []) ls) ≡ true) (no_barrier before l refl) (phases (before ++ l ∷ []) ls))
-  where
-    up_to : (n : ℕ) → nat_le n n ≡ true
-    up_to n = grind (arith, nat_tests)
+phases before (line.Admin node a ∷ ls) =
+    let l : Line = line.Admin node a in
+    and_from (nat_le (count_by is_barrier before) (count_by is_barrier before)) _ (same_phase (count_by is_barrier before))
+    (subst (λ n. are_in_phase n (lines_after (before ++ l ∷ []) ls) ≡ true) (no_barrier before l refl) (phases (before ++ l ∷ []) ls))
 phases before (line.Blank ∷ ls) = subst (λ n. are_in_phase n (lines_after (before ++ line.Blank ∷ []) ls) ≡ true) (no_barrier before line.Blank refl) (phases (before ++ line.Blank ∷ []) ls)
 phases before (line.Barrier ∷ ls) = earlier (count_by is_barrier before) _ (lines_after (before ++ line.Barrier ∷ []) ls) (omega (arith, one_phase before line.Barrier)) (phases (before ++ line.Barrier ∷ []) ls)
 
@@ -112,6 +122,7 @@ phases before (line.Barrier ∷ ls) = earlier (count_by is_barrier before) _ (li
 
 named_one : (before : List Line) (l : Line) → length (named before l) ≤ 1
 named_one before (line.Session node t a) = omega arith
+named_one before (line.Admin node a) = omega arith
 named_one before line.Blank = omega arith
 named_one before line.Barrier = omega arith
 
@@ -130,8 +141,8 @@ few nodes b n at (r ∷ rs) [] h low = absurd h
 printed : (w : List ℕ) → list_all is_print w ≡ true → AllByRecursion (λ b. (33 ≤ b) × (b ≤ 126)) w
 printed [] e = tt
 printed (b ∷ w) e =
-    let k = and_both (is_print b) (list_all is_print w) e in
-    let j = and_both (nat_le 33 b) (nat_le b 126) k.0 in
+    let k = and_parts (is_print b) (list_all is_print w) e in
+    let j = and_parts (nat_le 33 b) (nat_le b 126) k.0 in
     ((low b j.0, high b j.1), printed w k.1)
   where
     low : (b : ℕ) → nat_le 33 b ≡ true → 33 ≤ b
@@ -151,26 +162,30 @@ spelled : (nodes : ℕ) (b : Before) (n at : ℕ) (rs : List RawLine) (before ls
 spelled nodes b n at [] before [] h = tt
 spelled nodes b n at (r ∷ rs) before (line.Session node t (ask.Log c) ∷ ls) h = (can_log c h.3.fits.2, spelled nodes h.2 (n + 1) (at + r.size) rs (before ++ line.Session node t (ask.Log c) ∷ []) ls h.4)
 spelled nodes b n at (r ∷ rs) before (line.Session node t (ask.Look q) ∷ ls) h = (tt, spelled nodes h.2 (n + 1) (at + r.size) rs (before ++ line.Session node t (ask.Look q) ∷ []) ls h.4)
+spelled nodes b n at (r ∷ rs) before (line.Admin node a ∷ ls) h = (tt, spelled nodes h.2 (n + 1) (at + r.size) rs (before ++ line.Admin node a ∷ []) ls h.4)
 spelled nodes b n at (r ∷ rs) before (line.Blank ∷ ls) h = spelled nodes h.2 (n + 1) (at + r.size) rs (before ++ line.Blank ∷ []) ls h.4
 spelled nodes b n at (r ∷ rs) before (line.Barrier ∷ ls) h = spelled nodes h.2 (n + 1) (at + r.size) rs (before ++ line.Barrier ∷ []) ls h.4
 spelled nodes b n at [] before (l ∷ ls) h = absurd h
 spelled nodes b n at (r ∷ rs) before [] h = absurd h
 
-node_one : (nodes : ℕ) (b : Before) (n at : ℕ) (rs : List RawLine) (before ls : List Line) → nodes ≡ 1 → SpellsFrom nodes b n at rs ls → AllByRecursion (λ (l : NamedLine). l.node ≡ 1) (lines_after before ls)
-node_one nodes b n at [] before [] e h = tt
-node_one nodes b n at (r ∷ rs) before (line.Session node t a ∷ ls) e h = (omega (arith, e, h.3.fits.0.least, h.3.fits.0.most), node_one nodes h.2 (n + 1) (at + r.size) rs (before ++ line.Session node t a ∷ []) ls e h.4)
-node_one nodes b n at (r ∷ rs) before (line.Blank ∷ ls) e h = node_one nodes h.2 (n + 1) (at + r.size) rs (before ++ line.Blank ∷ []) ls e h.4
-node_one nodes b n at (r ∷ rs) before (line.Barrier ∷ ls) e h = node_one nodes h.2 (n + 1) (at + r.size) rs (before ++ line.Barrier ∷ []) ls e h.4
-node_one nodes b n at [] before (l ∷ ls) e h = absurd h
-node_one nodes b n at (r ∷ rs) before [] e h = absurd h
-
-pub playable : (nodes : ℕ) (bytes : List ℕ) (ls : List Line) → nodes ≡ 1 → IsScript nodes bytes ls → ArePlayable (lines_of ls)
-playable nodes bytes ls single h =
+are_lines : (nodes : ℕ) (bytes : List ℕ) (ls : List Line) → 1 ≤ nodes → IsScript nodes bytes ls → (home : ℕ → ℕ) × AreLines (lines_of ls) home nodes
+are_lines nodes bytes ls least h =
     let some = few nodes nothing_yet 1 0 (lines_in bytes) ls h (omega arith) in
-    record {
-      few = omega (arith, no_more [] ls, some);
-      ranked = ranked [] ls;
-      phases = phases [] ls;
-      one_node = node_one nodes nothing_yet 1 0 (lines_in bytes) [] ls single h;
-      spelled = spelled nodes nothing_yet 1 0 (lines_in bytes) [] ls h;
-    }
+    let at = script_homes nodes bytes ls h in (
+      home_at at.homes,
+      record {
+        few = omega (arith, no_more [] ls, some);
+        ranked = ranked [] ls;
+        phases = phases [] ls;
+        nodes_are = all_within nodes at.homes (lines_of ls) at.each;
+        at_home = all_home nodes at.homes (lines_of ls) at.each;
+        there = λ s. (home_low nodes at.homes least at.are s).0;
+        within = λ s. (home_low nodes at.homes least at.are s).1;
+        known = all_known nodes at.homes (lines_of ls) at.are at.each;
+      },
+    )
+
+pub can_play : (nodes : ℕ) (bytes : List ℕ) (ls : List Line) → 1 ≤ nodes → IsScript nodes bytes ls → CanPlay nodes (lines_of ls)
+can_play nodes bytes ls least h =
+    let lines = are_lines nodes bytes ls least h in
+    record { home = lines.0; lines_are = lines.1; spelled = spelled nodes nothing_yet 1 0 (lines_in bytes) [] ls h }

@@ -1,15 +1,11 @@
 -- How a run ends: what stands behind each status.
-use Rattle.std.specs.Prelude.{◌≡◌, ◌<◌, ◌≤◌, ℕ, Bool, true, false, List, [], ◌∷◌, length, Option, Some, None, Result, Ok, Err, map, take, sum_by}
+use Rattle.std.specs.Prelude.{◌≡◌, ℕ, Bool, true, false, List, [], ◌∷◌, Option, Some, None, Result, Ok, Err, map, take}
 use Rattle.std.specs.List.{list_any}
-use Rattle.delos_types.specs.declared.chain.Chain.{Chain}
-use Rattle.loglet_api.specs.View.{LogletView}
-use Rattle.chain_map.specs.Chain.{first_chain}
 use Rattle.fabric_core.specs.Log.{virtual_tail}
 use Rattle.outside_ends.specs.Sinks.{Gains}
 use Rattle.outside_ends.specs.Whole.{GainsFront}
 use Rattle.row_text.specs.declared.row.Row.{Row}
 use Rattle.row_text.specs.Output.{output}
-use Rattle.script_text.specs.declared.asks.NamedLine.{NamedLine}
 use Rattle.script_text.specs.declared.line.Line.{Line}
 use Rattle.script_text.specs.declared.script.BadLine.{BadLine}
 use Rattle.script_text.specs.Lines.{lines_of}
@@ -24,16 +20,13 @@ use Rattle.fitting_run.specs.declared.told.Told.{Told}
 use Rattle.script_runner.specs.declared.ended.Status.{Status}
 use Rattle.script_runner.specs.declared.ended.Status.TheVariants as status
 use Rattle.fitting_run.specs.Answered.{is_open}
-use Rattle.script_runner.specs.Fits.{Fits}
-use Rattle.script_runner.specs.Plays.{all_answered}
+use Rattle.fitting_run.specs.Yard.{Shown}
+use Rattle.fitting_run.specs.Fits.{Fits}
+use Rattle.fitting_run.specs.Calm.{IsCalm, all_answered}
 
 -- how many bytes of a source are read at most: one more than a script may have
 abbrev pub read_limit : ℕ
 read_limit = 1048577
-
--- no fault was counted in a loglet of the shelf
-abbrev pub IsCalm : List LogletView → Type 0
-IsCalm cells = sum_by (λ v. v.faults) cells ≡ 0
 
 -- some row is open
 abbrev pub any_open : List Row → Bool
@@ -49,23 +42,16 @@ abbrev pub IsFrontOf : Option (List ℕ) → List ℕ → Type 0
 IsFrontOf None bytes = Unit {0}
 IsFrontOf (Some all) bytes = take read_limit all ≡ bytes
 
--- The run theorem: the script is all that the source had left; what is told fits it and the loglets that come
--- back; and where none of them counted a fault, every line has its own answer, and the run saw the whole log.
-pub record Ran (plan : Plan) (left : Option (List ℕ)) (cells : List LogletView) (told : Told) : Type 0 where
+-- The run theorem: the script is all that the source had left; what is told fits it and the yard that comes back; and where no
+-- fault was counted there, every line has its own answer, and the run saw the whole log.
+pub record Ran (plan : Plan) (left : Option (List ℕ)) (yard : Shown) (told : Told) : Type 0 where
   pub bytes : List ℕ
   pub all : IsAllOf left bytes
   pub script : List Line
   pub spelled : IsScript plan.nodes bytes script
-  pub fits : Fits (lines_of script) told (record { cells = cells })
-  pub answered : IsCalm cells → all_answered told.rows ≡ true
-  pub whole : IsCalm cells → told.end ≡ virtual_tail told.chain cells
-
--- what a script's lines told on a fresh shelf
-pub record Tells (lines : List NamedLine) (cells : List LogletView) (told : Told) : Type 0 where
-  pub fits : Fits lines told (record { cells = cells })
-  pub answered : IsCalm cells → all_answered told.rows ≡ true
-  pub whole : IsCalm cells → told.end ≡ virtual_tail told.chain cells
-  pub chain : told.chain ≡ first_chain
+  pub fits : Fits (lines_of script) told yard
+  pub answered : IsCalm yard → all_answered told.rows ≡ true
+  pub whole : IsCalm yard → told.end ≡ virtual_tail told.chain yard.cells
 
 -- the text of what is told, over the plan's shelf
 abbrev pub text_of : Plan → Told → List ℕ
@@ -79,28 +65,28 @@ pub record IsRefused (plan : Plan) (left : Option (List ℕ)) (bad : BadLine) : 
 
 -- What is to be put, and which status it has once it is put whole: what a script told, whose rows are or aren't
 -- all answered, or its first bad line ..
-abbrev pub ComposesScript : Plan → Option (List ℕ) → List LogletView → Status → Option Told → List ℕ → Type 0
-ComposesScript plan left cells status.Done (Some told) text = Ran plan left cells told × (text ≡ text_of plan told) × (any_open told.rows ≡ false)
-ComposesScript plan left cells status.Open (Some told) text = Ran plan left cells told × (text ≡ text_of plan told) × (any_open told.rows ≡ true)
-ComposesScript plan left cells status.BadLine None text = (bad : BadLine) × IsRefused plan left bad × (text ≡ refusal_text bad)
-ComposesScript plan left cells end told text = ⊥
+abbrev pub ComposesScript : Plan → Option (List ℕ) → Shown → Status → Option Told → List ℕ → Type 0
+ComposesScript plan left yard status.Done (Some told) text = Ran plan left yard told × (text ≡ text_of plan told) × (any_open told.rows ≡ false)
+ComposesScript plan left yard status.Open (Some told) text = Ran plan left yard told × (text ≡ text_of plan told) × (any_open told.rows ≡ true)
+ComposesScript plan left yard status.BadLine None text = (bad : BadLine) × IsRefused plan left bad × (text ≡ refusal_text bad)
+ComposesScript plan left yard end told text = ⊥
 
 -- .. or that the words are not taken
-abbrev pub Composes : List (List ℕ) → Option (List ℕ) → List LogletView → Status → Option Told → List ℕ → Type 0
-Composes words left cells status.BadWords None text = (plan_of words ≡ None) × (text ≡ bad_words_text)
-Composes words left cells end told text = (plan : Plan) × (plan_of words ≡ Some plan) × ComposesScript plan left cells end told text
+abbrev pub Composes : List (List ℕ) → Option (List ℕ) → Shown → Status → Option Told → List ℕ → Type 0
+Composes words left yard status.BadWords None text = (plan_of words ≡ None) × (text ≡ bad_words_text)
+Composes words left yard end told text = (plan : Plan) × (plan_of words ≡ Some plan) × ComposesScript plan left yard end told text
 
 -- a text was composed with this status, and put whole
-pub record PutsWhole (words : List (List ℕ)) (left before after : Option (List ℕ)) (cells : List LogletView) (end : Status) (told : Option Told) : Type 0 where
+pub record PutsWhole (words : List (List ℕ)) (left before after : Option (List ℕ)) (yard : Shown) (end : Status) (told : Option Told) : Type 0 where
   pub text : List ℕ
-  pub composed : Composes words left cells end told text
+  pub composed : Composes words left yard end told text
   pub put : Gains before after text
 
 -- a text was composed, and a front of it put
-pub record PutsFront (words : List (List ℕ)) (left before after : Option (List ℕ)) (cells : List LogletView) (told : Option Told) : Type 0 where
+pub record PutsFront (words : List (List ℕ)) (left before after : Option (List ℕ)) (yard : Shown) (told : Option Told) : Type 0 where
   pub end : Status
   pub text : List ℕ
-  pub composed : Composes words left cells end told text
+  pub composed : Composes words left yard end told text
   pub front : GainsFront before after text
 
 -- the words are taken, and the bytes that the source has left are a script
@@ -113,7 +99,7 @@ pub record CanRun (words : List (List ℕ)) (left : Option (List ℕ)) : Type 0 
   pub read : script_of plan.nodes (take read_limit all) ≡ Ok script
 
 -- what is told is a run of the words' plan
-pub record IsRun (words : List (List ℕ)) (left : Option (List ℕ)) (cells : List LogletView) (told : Told) : Type 0 where
+pub record IsRun (words : List (List ℕ)) (left : Option (List ℕ)) (yard : Shown) (told : Told) : Type 0 where
   pub plan : Plan
   pub planned : plan_of words ≡ Some plan
-  pub ran : Ran plan left cells told
+  pub ran : Ran plan left yard told

@@ -1,19 +1,35 @@
--- A shelf as it is before a run.
-use Rattle.std.specs.Prelude.{◌≡◌, ℕ, List, length, Some}
+-- A yard as it is before a run, and what is read of one.
+use Rattle.std.specs.Prelude.{◌≡◌, ℕ, List, length, map, Some}
 use Rattle.std.specs.List.{AllByRecursion}
 use Rattle.loglet_api.specs.View.{LogletView, IsFresh}
+use Rattle.register_api.specs.View as register
+use Rattle.disk_model.specs.Disk.{DiskView}
+use Rattle.delos_types.specs.declared.item.Item.{Item}
+use Rattle.node_opening.specs.Kits.{IsFreshKit}
 use Rattle.script_words.specs.declared.plan.Plan.{Plan}
 use Rattle.script_words.specs.Plans.{plan_of}
+use Rattle.fitting_run.specs.Yard.{Shown}
+
+-- what is read of loglets, a register and what nodes are made of, each seen by a function of its own
+abbrev pub shown : {L R K : Type 0} → (L → LogletView) → (R → register.RegisterView) → (K → ℕ) → List L → R → List K → Shown
+shown view register faults cells r kits = record { cells = map view cells; register = register r; disks = map faults kits }
 
 -- nothing was begun on any of its loglets
 abbrev pub AreFresh : List LogletView → Type 0
 AreFresh cells = AllByRecursion IsFresh cells
 
--- as many loglets as the plan names, all fresh
-pub record IsFreshFor (plan : Plan) (cells : List LogletView) : Type 0 where
-  pub as_many : length cells ≡ length plan.shelf
-  pub fresh : AreFresh cells
+-- each node's engines are the five and hold nothing, and its disk is empty
+abbrev pub AreFreshKits : {K : Type 0} → (K → List ℕ) → (K → List Item) → (K → DiskView) → List K → Type 0
+AreFreshKits kinds waiting disk kits = AllByRecursion (λ k. IsFreshKit (kinds k) (waiting k) (disk k)) kits
 
--- where the words have a plan, the shelf is fresh for it; else it may be any
-abbrev pub IsFreshShelf : List (List ℕ) → List LogletView → Type 0
-IsFreshShelf words cells = (plan : Plan) → plan_of words ≡ Some plan → IsFreshFor plan cells
+-- as many loglets and nodes as the plan says; nothing was begun or written, and nothing failed
+pub record IsFreshFor {K : Type 0} (kinds : K → List ℕ) (waiting : K → List Item) (disk : K → DiskView) (plan : Plan) (cells : List LogletView) (r : register.RegisterView) (kits : List K) : Type 0 where
+  pub as_many : length cells ≡ length plan.shelf
+  pub nodes : length kits ≡ plan.nodes
+  pub fresh : AreFresh cells
+  pub register_is : register.IsFresh r
+  pub kits_are : AreFreshKits kinds waiting disk kits
+
+-- where the words have a plan, the yard is fresh for it; else it may be any
+abbrev pub IsFreshYard : {K : Type 0} → (K → List ℕ) → (K → List Item) → (K → DiskView) → List (List ℕ) → List LogletView → register.RegisterView → List K → Type 0
+IsFreshYard kinds waiting disk words cells r kits = (plan : Plan) → plan_of words ≡ Some plan → IsFreshFor kinds waiting disk plan cells r kits

@@ -1,11 +1,5 @@
-pub mod Faults
-pub mod Fits
-pub mod OneLoglet
-pub mod Asking
-pub mod Replicas
-pub mod Turns
-pub mod Plays
 pub mod Fresh
+pub mod Playing
 pub mod Ends
 pub mod Composed
 pub mod Codes

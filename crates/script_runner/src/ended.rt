@@ -3,7 +3,12 @@ ghost use Rattle.std.specs.Prelude.{◌≡◌};
 ghost use Rattle.script_runner.specs.Codes.{code_of};
 
 use crate::yard::Yard;
+use disk_model::Disk;
+use fate_words::chooser::Chooser;
 use fitting_run::told::Told;
+use local_replica::layers::Layers;
+use loglet_api::loglet::Loglet;
+use register_api::Register;
 
 /// How a run ended.
 #[derive(Clone, Copy, PartialEq, Eq, Debug)]
@@ -43,8 +48,8 @@ impl Status {
 
 /// How a run ended, with the yard that it was given, and what was run, if a script was.
 #[derive(Drop)]
-pub struct Ended {
+pub struct Ended<L: Loglet, R: Register, E: Layers, D: Disk, C: Chooser> {
     pub status: Status,
-    pub yard: Yard,
+    pub yard: Yard<L, R, E, D, C>,
     pub told: Option<Told>,
 }

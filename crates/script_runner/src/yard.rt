@@ -1,40 +1,18 @@
 //! What a run works on.
-ghost use Rattle.std.specs.Prelude.{◌≡◌, ◌+◌, ◌++◌, ◌∷◌, [], IfOk, length, map};
-ghost use Rattle.loglet_api.specs.View.{IsFresh};
-ghost use Rattle.script_runner.specs.Fresh.{AreFresh};
-
+use disk_model::Disk;
+use fate_words::chooser::Chooser;
+use local_replica::layers::Layers;
 use loglet_api::loglet::Loglet;
-use std::alloc::{AllocError, Global};
+use node_opening::parts::NodeKit;
+use register_api::Register;
 
-/// What a run works on, and gives back: the shelf of loglets, 1 to 64, the first of which is the
-/// chain's open segment.
+/// What a run works on, and gives back: a shelf of 1 to 64 loglets, the first of which is the chain's open segment; the register of
+/// the chain; and what its nodes are made of, 1 to 8, which are numbered from 1 in their order.
+///
+/// Loglets of several kinds stand on a shelf as `Box<dyn Loglet + Send>`, and engines in a `Vec<Box<dyn Engine + Send>>`.
 #[derive(Drop)]
-pub struct Yard {
-    pub shelf: Vec<Box<dyn Loglet + Send>>,
-}
-
-impl Yard {
-    /// A yard with an empty shelf.
-    pub fn new(alloc: Global) -> Yard
-        ensures fresh { AreFresh (map (λ b. view b) result.shelf.items) }
-        ensures len { length (map (λ b. view b) result.shelf.items) ≡ 0 }
-    {
-        Yard {
-            shelf: Vec::new(alloc),
-        }
-    }
-
-    /// The yard with one more fresh loglet, at the end of its shelf.
-    pub fn with(self, loglet: Box<dyn Loglet + Send>) -> Result<Yard, AllocError>
-        requires yard { AreFresh (map (λ b. view b) self.shelf.items) }
-        requires loglet { IsFresh (view loglet) }
-        ensures fresh { IfOk result (λ y. AreFresh (map (λ b. view b) y.shelf.items)) }
-        ensures len { IfOk result (λ y. length (map (λ b. view b) y.shelf.items) ≡ length (map (λ b. view b) self.shelf.items) + 1) }
-        ensures shelf { IfOk result (λ y. map (λ b. view b) y.shelf.items ≡ map (λ b. view b) self.shelf.items ++ (view loglet ∷ [])) }
-    {
-        let Yard { shelf } = self;
-        let mut shelf = shelf;
-        shelf.push(loglet)?;
-        Ok(Yard { shelf })
-    }
+pub struct Yard<L: Loglet, R: Register, E: Layers, D: Disk, C: Chooser> {
+    pub shelf: Vec<L>,
+    pub register: R,
+    pub nodes: Vec<NodeKit<E, D, C>>,
 }

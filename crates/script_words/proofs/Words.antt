@@ -1,11 +1,11 @@
 -- What clap's matches come to.
-use Rattle.std.proofs.Common.{◌≡◌, ◌==◌, ◌<◌, ◌≤◌, ◌^◌, ◌+◌, ℕ, Bool, true, false, cond, List, [], ◌∷◌, ◌++◌, length, map, drop, get_or, Option, Some, None, Result, Ok, Err, refl, sym, ap, subst, ◌∙◌, append_assoc, arith, inl, inr, codes}
+use Rattle.std.proofs.Common.{◌≡◌, ◌==◌, ◌<◌, ◌≤◌, ◌^◌, ◌+◌, ℕ, Bool, true, false, cond, List, [], ◌∷◌, ◌++◌, length, map, drop, get_or, nat_le, ◌&&◌, leb-true, Option, Some, None, Result, Ok, Err, refl, sym, ap, subst, ◌∙◌, append_assoc, arith, inl, inr, codes}
 use Rattle.std.specs.Prelude.{option_map, option_and_then, ◌≢◌, nat_lt, IfOk}
 use Rattle.std.specs.List.{slice_split}
 use Rattle.std.specs.Str.Parse.{ParsesUnsigned, digits_value, without_leading_plus}
 use Rattle.std.specs.Borrow.{Bor}
 use Rattle.std.proofs.lemmas.List.{drop_more}
-use Rattle.std.proofs.lemmas.Bool.{eqb-true}
+use Rattle.std.proofs.lemmas.Bool.{and_parts}
 use Rattle.std.proofs.lemmas.Bool.Decides.{nat_tests}
 use Rattle.std.proofs.lemmas.List.Splits.{length-slice_split}
 use Rattle.clap.specs.Words.{Row, Text, fault_of, is_simple, is_simple_and_free, kind_of, subcommand_of, first_of}
@@ -100,7 +100,7 @@ pub refused_at : (told : List Text) (e : Error) → HasKind (fault_of the_app to
 refused_at told e (inl h) other = absurd (other h)
 refused_at told e (inr h) other = among_some (kind_of e) (fault_of the_app told) h
 
--- ---- a plan has 1 to 8 nodes and a shelf that isn't empty
+-- ---- a plan has 1 to 8 nodes and a shelf of 1 to 64 loglets
 
 abbrev found : {A : Type 0} → A → Option A
 found x = Some x
@@ -117,30 +117,48 @@ some_kinds (w ∷ ws) ks some e = go (kind_named w) (all_kinds ws) e
     go (Some k) None h = absurd cc
     go (Some k) (Some xs) h = subst (λ (ys : List Kind). 0 < length ys) (same (k ∷ xs) ks h) (omega arith)
 
-shelf_some : (o : Option Text) (ks : List Kind) → option_and_then kinds_of o ≡ Some ks → 0 < length ks
-shelf_some None ks e = absurd cc
-shelf_some (Some text) ks e = go (nat_lt 64 (length (slice_split (λ b. b == 44) text))) e
+kinds_size : (words : List Text) (ks : List Kind) → all_kinds words ≡ Some ks → length ks ≡ length words
+kinds_size [] ks e = let none : [] ≡ ks = same [] ks e in sym (ap length none)
+kinds_size (w ∷ ws) ks e = go (kind_named w) (all_kinds ws) (kinds_size ws) e
   where
-    go : (t : Bool) → cond t None (all_kinds (slice_split (λ b. b == 44) text)) ≡ Some ks → 0 < length ks
-    go true h = absurd cc
-    go false h = some_kinds (slice_split (λ b. b == 44) text) ks (omega (arith, length-slice_split (λ b. b == 44) text)) h
+    go : (o : Option Kind) (rest : Option (List Kind)) → ((xs : List Kind) → rest ≡ Some xs → length xs ≡ length ws) → option_and_then (λ k. option_map (λ xs. k ∷ xs) rest) o ≡ Some ks → length ks ≡ length (w ∷ ws)
+    go None rest size h = absurd cc
+    go (Some k) None size h = absurd cc
+    go (Some k) (Some xs) size h =
+        let here = size xs refl in
+        let all = ap length (same (k ∷ xs) ks h) in
+        omega (arith, here, all)
+
+shelf_some : (o : Option Text) (ks : List Kind) → option_and_then kinds_of o ≡ Some ks → (0 < length ks) × (length ks ≤ 64)
+shelf_some None ks e = absurd cc
+shelf_some (Some text) ks e = go (nat_lt 64 (length (slice_split (λ b. b == 44) text))) refl e
+  where
+    words : List Text
+    words = slice_split (λ b. b == 44) text
+
+    go : (t : Bool) → nat_lt 64 (length words) ≡ t → cond t None (all_kinds words) ≡ Some ks → (0 < length ks) × (length ks ≤ 64)
+    go true few h = absurd cc
+    go false few h =
+        let size = kinds_size words ks h in
+        let low : length words ≤ 64 = grind (arith, nat_tests) in
+        (some_kinds words ks (omega (arith, length-slice_split (λ b. b == 44) text)) h, omega (arith, size, low))
 
 abbrev built : ℕ → ℕ → List Kind → Plan
 built n s ks = record { nodes = n; seed = s; shelf = ks }
 
-counted : (n : ℕ) (t : Bool) (s : Option ℕ) (o : Option Text) (shelf : Option (List Kind)) (plan : Plan) → (n == 1) ≡ t → option_and_then kinds_of o ≡ shelf
+counted : (n : ℕ) (t : Bool) (s : Option ℕ) (o : Option Text) (shelf : Option (List Kind)) (plan : Plan) → (nat_le 1 n && nat_le n 8) ≡ t → option_and_then kinds_of o ≡ shelf
     → option_and_then (λ nodes. option_and_then (λ seed. option_map (λ ks. built nodes seed ks) shelf) s) (cond t (Some n) None) ≡ Some plan → IsPlan plan
 counted n false s o shelf plan is from h = absurd cc
 counted n true None o shelf plan is from h = absurd cc
 counted n true (Some k) o None plan is from h = absurd cc
 counted n true (Some k) o (Some ks) plan is from h =
-    let one : n ≡ 1 = eqb-true n 1 is in
-    subst IsPlan (same (built n k ks) plan h) (record { nodes = (omega (arith, one), omega (arith, one)); single = one; shelf = shelf_some o ks from })
+    let both = and_parts (nat_le 1 n) (nat_le n 8) is in
+    subst IsPlan (same (built n k ks) plan h) (record { nodes = (leb-true 1 n both.0, leb-true n 8 both.1); shelf = shelf_some o ks from })
 
 options_sized : (n s : Option ℕ) (o : Option Text) (plan : Plan)
     → option_and_then (λ nodes. option_and_then (λ seed. option_map (λ ks. built nodes seed ks) (option_and_then kinds_of o)) s) (option_and_then node_count n) ≡ Some plan → IsPlan plan
 options_sized None s o plan e = absurd cc
-options_sized (Some n) s o plan e = counted n (n == 1) s o (option_and_then kinds_of o) plan refl refl e
+options_sized (Some n) s o plan e = counted n (nat_le 1 n && nat_le n 8) s o (option_and_then kinds_of o) plan refl refl e
 
 plan_sized : (o : Option (Text × List Row)) (plan : Plan) → plan_in o ≡ Some plan → IsPlan plan
 plan_sized None plan e = absurd cc

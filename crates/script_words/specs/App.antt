@@ -3,11 +3,11 @@ use Rattle.std.specs.Prelude.{[], ◌∷◌, Some, pos, true, codes}
 use Rattle.clap.specs.Words.{App, Rule, new_app, new_rule, with_rule, with_subcommand}
 use Rattle.clap.specs.declared.builder.value_parser.ValueParser.TheVariants.{Signed}
 
--- how many nodes: so far one
+-- how many nodes
 abbrev pub nodes_rule : Rule
 nodes_rule = record (new_rule (codes "nodes")) {
   long = Some (codes "nodes");
-  parser = Some (Signed (pos 1) (pos 1));
+  parser = Some (Signed (pos 1) (pos 8));
   defaults = codes "1" ∷ [];
 }
 

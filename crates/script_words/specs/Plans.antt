@@ -1,5 +1,5 @@
 -- What the words ask for, by the matches that clap defines.
-use Rattle.std.specs.Prelude.{◌≡◌, ◌==◌, ◌<◌, ◌≤◌, ℕ, Bool, true, false, List, [], ◌∷◌, Option, Some, None, Result, Ok, Err, codes, if◌then◌else◌, option_and_then, option_map, length}
+use Rattle.std.specs.Prelude.{◌≡◌, ◌==◌, ◌<◌, ◌≤◌, ◌&&◌, nat_le, ℕ, Bool, true, false, List, [], ◌∷◌, Option, Some, None, Result, Ok, Err, codes, if◌then◌else◌, option_and_then, option_map, length}
 use Rattle.std.specs.Str.Parse.{digits_value, without_leading_plus}
 use Rattle.clap.specs.Words.{Row, Text, fault_of, first_of, one_of, subcommand_of, subcommand_rows_of}
 use Rattle.clap.specs.ValueTests.{is_unsigned_in}
@@ -29,9 +29,9 @@ number_of t = if is_unsigned_in 0 4294967295 t then Some (digits_value 10 (witho
 abbrev pub number_in : Text → List Row → Option ℕ
 number_in id rows = option_and_then number_of (one_of id rows)
 
--- how many nodes: so far one
+-- how many nodes: 1 to 8
 abbrev pub node_count : ℕ → Option ℕ
-node_count n = if n == 1 then Some n else None
+node_count n = if nat_le 1 n && nat_le n 8 then Some n else None
 
 abbrev pub nodes_in : List Row → Option ℕ
 nodes_in rows = option_and_then node_count (number_in (codes "nodes") rows)
@@ -58,11 +58,10 @@ is_taken told = length (fault_of the_app told) == 0
 unfoldable pub plan_of : List Text → Option Plan
 plan_of words = if is_taken (told_words words) then plan_in (subcommand_of the_app (told_words words)) else None
 
--- a plan for 1 to 8 nodes, so far one, and a shelf that isn't empty
+-- a plan for 1 to 8 nodes, and a shelf of 1 to 64 loglets
 pub record IsPlan (plan : Plan) : Type 0 where
   pub nodes : (1 ≤ plan.nodes) × (plan.nodes ≤ 8)
-  pub single : plan.nodes ≡ 1
-  pub shelf : 0 < length plan.shelf
+  pub shelf : (0 < length plan.shelf) × (length plan.shelf ≤ 64)
 
 -- what a parse gave
 abbrev pub Matches : Result ArgMatches WordsError → List Text → Type 0

@@ -1,0 +1,19 @@
+use Rattle.std.proofs.Common.{ap, ◌∙◌}
+use Rattle.journal_core.specs.Records.{records_of}
+use Rattle.node_opening.proofs.Begun.{fresh_replica, is_counted}
+use Rattle.node_opening.proofs.opening.open_node.Goals as goal
+
+pub begin_on-requires-clause-empty : goal.begin_on-requires-clause-empty
+begin_on-requires-clause-empty g c = ap records_of c.requires.empty
+
+pub returns-in-Ok-clause-fresh : goal.returns-in-Ok-clause-fresh
+returns-in-Ok-clause-fresh g c =
+    let b = c.in-Ok.ensures in
+    let n = c.new-replica in
+    fresh_replica n.result.store c.in-Ok.store n.result.origin c.args.number (g.E.Layers.waiting n.result.engines) n.ensures.store b.start b.none_asked b.survives n.ensures.origin (ap g.E.Layers.waiting n.ensures.engines ∙ c.requires.nothing_waits) c.starts_empty.ensures
+
+pub returns-in-Ok-clause-counted : goal.returns-in-Ok-clause-counted
+returns-in-Ok-clause-counted g c =
+    let b = c.in-Ok.ensures in
+    let n = c.new-replica in
+    is_counted n.result.store c.in-Ok.store n.result.origin (g.D.Disk.view c.args.kit.disk).faults (g.E.Layers.waiting n.result.engines) n.ensures.store c.requires.none_counted b.down b.up

@@ -1,0 +1,98 @@
+//! The nodes' state machines are made of engines and fresh disks.
+ghost use Rattle.std.specs.Prelude.{◌≡◌, ◌≤◌, ◌+◌, [], ◌∷◌, length, map, IfOk, IfErr, OnOk, OnErr};
+ghost use Rattle.std.specs.List.{AllByRecursion};
+ghost use Rattle.std.specs.Vec.{vec_capacity};
+ghost use Rattle.engine_laws.specs.State.{IsStateOf};
+ghost use Rattle.local_replica.specs.Shown.{shown, Spells};
+ghost use Rattle.crew_making.specs.Fresh.{IsFreshReplica};
+ghost use Rattle.node_opening.specs.Kits.{IsFreshKit, IsCounted, AreFreshReplicas};
+
+use crate::closing::{close_before, put_first};
+use crate::parts::NodeKit;
+use crew_making::parts::NodeParts;
+use delos_types::numbers::NodeId;
+use disk_model::Disk;
+use engine_laws::laws::starts_empty;
+use fate_words::chooser::Chooser;
+use local_replica::layers::Layers;
+use local_replica::replica::LocalReplica;
+use local_store::Store;
+use std::alloc::{AllocError, Global};
+
+/// The engines of a node, over a store on its disk. Without memory the kit comes back.
+fn open_node<E: Layers, D: Disk, C: Chooser>(
+    alloc: Global,
+    number: NodeId,
+    kit: NodeKit<E, D, C>,
+) -> Result<NodeParts<LocalReplica<E, D>, C>, NodeKit<E, D, C>>
+    requires { IsFreshKit (E.kinds kit.engines) (E.waiting kit.engines) (D.view kit.disk) }
+    ensures fresh { IfOk result (λ n. IsFreshReplica IsStateOf Spells number (shown n.replica.store n.replica.origin (E.waiting n.replica.engines))) }
+    ensures counted { IfOk result (λ n. IsCounted (shown n.replica.store n.replica.origin (E.waiting n.replica.engines))) }
+    ensures engines { IfOk result (λ n. n.replica.engines ≡ kit.engines) }
+    ensures chooser { IfOk result (λ n. n.chooser ≡ kit.chooser) }
+    ensures back { IfErr result (λ k. (k.engines ≡ kit.engines) × (k.chooser ≡ kit.chooser)) }
+{
+    let NodeKit {
+        engines,
+        disk,
+        chooser,
+    } = kit;
+    match Store::begin_on(alloc, disk) {
+        Ok(store) => {
+            starts_empty();
+            let replica = LocalReplica::new(alloc, number, engines, store);
+            return Ok(NodeParts { replica, chooser });
+        }
+        Err(disk) => {
+            return Err(NodeKit {
+                engines,
+                disk,
+                chooser,
+            });
+        }
+    }
+}
+
+/// Makes the state machines of all nodes, which are numbered from 1 in their order, each with a store on its disk. The kits'
+/// vector is empty then, and has room for them. A node whose disk fails as its store is begun is down.
+///
+/// Without memory all kits come back, in their order. The stores that were begun are taken off their disks again, which
+/// may have been written to.
+pub fn open_all<E: Layers, D: Disk, C: Chooser>(
+    alloc: Global,
+    kits: &mut Vec<NodeKit<E, D, C>>,
+) -> Result<Vec<NodeParts<LocalReplica<E, D>, C>>, AllocError>
+    requires eight { length kits.old.items ≤ 8 }
+    requires fresh { AllByRecursion (λ k. IsFreshKit (E.kinds k.engines) (E.waiting k.engines) (D.view k.disk)) kits.old.items }
+    ensures fresh { IfOk result (λ nodes. AreFreshReplicas (λ n. shown n.replica.store n.replica.origin (E.waiting n.replica.engines)) nodes.items) }
+
+    // A node is down just where its disk failed, and that was counted.
+    ensures counted { IfOk result (λ nodes. AllByRecursion (λ n. IsCounted (shown n.replica.store n.replica.origin (E.waiting n.replica.engines))) nodes.items) }
+    ensures engines { IfOk result (λ nodes. map (λ n. n.replica.engines) nodes.items ≡ map (λ k. k.engines) kits.old.items) }
+    ensures choosers { IfOk result (λ nodes. map (λ n. n.chooser) nodes.items ≡ map (λ k. k.chooser) kits.old.items) }
+    ensures size { IfOk result (λ nodes. length nodes.items ≡ length kits.old.items) }
+    ensures taken { OnOk result (kits.new.items ≡ []) }
+
+    // Nothing is lost, and there is room to put all kits back.
+    ensures engines_back { OnErr result (map (λ k. k.engines) kits.new.items ≡ map (λ k. k.engines) kits.old.items) }
+    ensures choosers_back { OnErr result (map (λ k. k.chooser) kits.new.items ≡ map (λ k. k.chooser) kits.old.items) }
+    ensures size_back { OnErr result (length kits.new.items ≡ length kits.old.items) }
+    ensures room { length kits.old.items ≤ vec_capacity kits.new }
+{
+    let mut nodes = Vec::with_capacity(alloc, kits.len())?;
+    let count = kits.len() as u8;
+    for k in 0..count {
+        let Some(number) = NodeId::new(k + 1) else {
+            unreachable!()
+        };
+        match open_node(alloc, number, kits.remove(0)) {
+            Ok(node) => nodes.push_reserved(node),
+            Err(kit) => {
+                put_first(kits, kit);
+                close_before(nodes, kits);
+                return Err(AllocError);
+            }
+        }
+    }
+    Ok(nodes)
+}

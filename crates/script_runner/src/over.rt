@@ -1,0 +1,93 @@
+//! A script is run over any loglets, register, engines and disks.
+ghost use Rattle.std.specs.Prelude.{◌≡◌, ◌<◌, ◌≤◌, IfOk, length, map};
+ghost use Rattle.register_api.specs.View as view;
+ghost use Rattle.script_text.specs.Lines.{lines_of};
+ghost use Rattle.crew_run.specs.Running.{RunTold};
+ghost use Rattle.script_runner.specs.Fresh.{AreFresh, AreFreshKits, shown};
+ghost use Rattle.script_runner.specs.Playing.{CanPlay};
+
+use crate::yard::Yard;
+use crew_run::run::{Ran, run_lines};
+use disk_model::Disk;
+use fate_words::chooser::Chooser;
+use fitting_run::told::Told;
+use local_replica::layers::Layers;
+use loglet_api::loglet::Loglet;
+use node_opening::closing::close_all;
+use node_opening::opening::open_all;
+use register_api::Register;
+use script_text::asks::named_lines;
+use script_text::script::Script;
+use std::alloc::{AllocError, Global};
+
+/// What a script told, if memory sufficed, and what it was run over.
+pub struct Played<L: Loglet, R: Register, E: Layers, D: Disk, C: Chooser> {
+    pub yard: Yard<L, R, E, D, C>,
+    pub told: Result<Told, AllocError>,
+}
+
+/// Plays a script's lines: the nodes' stores are opened, the lines are run, and the nodes are taken apart again.
+pub fn play<L: Loglet, R: Register, E: Layers, D: Disk, C: Chooser>(
+    alloc: Global,
+    yard: Yard<L, R, E, D, C>,
+    script: Script,
+) -> Played<L, R, E, D, C>
+    requires cells { AreFresh (map L.view yard.shelf.items) }
+    requires register { view.IsFresh (R.view yard.register) }
+    requires kits { AreFreshKits (λ k. E.kinds k.engines) (λ k. E.waiting k.engines) (λ k. D.view k.disk) yard.nodes.items }
+    requires least { 0 < length yard.shelf.items }
+    requires most { length yard.shelf.items ≤ 64 }
+    requires eight { length yard.nodes.items ≤ 8 }
+    requires script { CanPlay (length yard.nodes.items) (lines_of script) }
+    ensures told { IfOk result.told (RunTold (lines_of script) (shown L.view R.view (λ k. (D.view k.disk).faults) result.yard.shelf.items result.yard.register result.yard.nodes.items)) }
+    ensures shelf { length result.yard.shelf.items ≡ length yard.shelf.items }
+{
+    let Yard {
+        shelf,
+        register,
+        nodes: kits,
+    } = yard;
+    let mut kits = kits;
+    let lines = match named_lines(alloc, script) {
+        Ok(lines) => lines,
+        Err(fault) => {
+            return Played {
+                yard: Yard {
+                    shelf,
+                    register,
+                    nodes: kits,
+                },
+                told: Err(fault),
+            };
+        }
+    };
+    match open_all(alloc, &mut kits) {
+        Ok(nodes) => {
+            let Ran {
+                cells: shelf,
+                register,
+                nodes,
+                told,
+            } = run_lines(alloc, shelf, register, nodes, lines.as_slice());
+            close_all(nodes, &mut kits);
+            return Played {
+                yard: Yard {
+                    shelf,
+                    register,
+                    nodes: kits,
+                },
+                told,
+            };
+        }
+        Err(fault) => {
+            return Played {
+                yard: Yard {
+                    shelf,
+                    register,
+                    nodes: kits,
+                },
+                told: Err(fault),
+            };
+        }
+    }
+}
