@@ -10,6 +10,7 @@ program=$1
 runs=${2:-7}
 folder=$(mktemp -d)
 trap 'rm -r "$folder"' EXIT
+. "$(dirname "$0")/../times.sh"
 
 lines() {
     awk -v n="$1" -v kind="$2" 'BEGIN {
@@ -24,22 +25,19 @@ lines() {
     }'
 }
 
+# measure STATUS SCRIPT: the least and the median time of the runs, in microseconds
 measure() {
-    for _ in $(seq "$runs"); do
-        begin=$(date +%s%N)
-        "$program" run < "$1" > "$folder/text" || true
-        end=$(date +%s%N)
-        echo $(((end - begin) / 1000))
-    done | sort -n | awk '{ t[NR] = $1 } END { printf "%d | %d", t[1], t[int((NR + 1) / 2)] }'
+    times "$1" "$2" run | awk '{ t[NR] = $1 } END { printf "%d | %d", t[1], t[int((NR + 1) / 2)] }'
 }
 
 echo "| script | lines | least | median | bytes printed |"
 echo "|---|---|---|---|---|"
 : > "$folder/script"
-echo "| empty | 0 | $(measure "$folder/script") | $(wc -c < "$folder/text") |"
+echo "| empty | 0 | $(measure 0 "$folder/script") | $(wc -c < "$folder/text") |"
 for kind in parse reads whole; do
     for n in 1000 5000 20000; do
         lines "$n" "$kind" > "$folder/script"
-        echo "| $kind | $n | $(measure "$folder/script") | $(wc -c < "$folder/text") |"
+        ends=$([ "$kind" = parse ] && echo 2 || echo 0)
+        echo "| $kind | $n | $(measure "$ends" "$folder/script") | $(wc -c < "$folder/text") |"
     done
 done

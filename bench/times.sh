@@ -1,0 +1,17 @@
+# Read by the scripts that time the program on scripts. Each says in $program what is run and in $runs how often, and makes the folder
+# $folder, where the last run's text is left.
+
+# times STATUS SCRIPT WORD..: how long the runs of the program with these words on a script took, in microseconds, the least first.
+# Each must end with that status.
+times() {
+    wanted=$1
+    script=$2
+    shift 2
+    for _ in $(seq "$runs"); do
+        begin=$(date +%s%N)
+        "$program" "$@" < "$script" > "$folder/text" && status=0 || status=$?
+        end=$(date +%s%N)
+        [ "$status" -eq "$wanted" ] || { echo "$* ended with status $status" >&2; exit 1; }
+        echo $(((end - begin) / 1000))
+    done | sort -n
+}
