@@ -1,9 +1,9 @@
 # Read by the scripts that time the program on scripts. Each says in $program what is run and in $runs how often, and makes the folder
 # $folder, where the last run's text is left.
 
-# times STATUS SCRIPT WORD..: how long the runs of the program with these words on a script took, in microseconds, the least first.
+# microseconds STATUS SCRIPT WORD..: how long the runs of the program with these words on a script took, in microseconds, the least first.
 # Each must end with that status.
-times() {
+microseconds() {
     wanted=$1
     script=$2
     shift 2

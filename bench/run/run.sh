@@ -24,7 +24,7 @@ script() {
 
 # least SHELF NODES FILE: the least time of the runs, in microseconds
 least() {
-    times 0 "$3" run --shelf "$1" --nodes "$2" | head -1
+    microseconds 0 "$3" run --shelf "$1" --nodes "$2" | head -1
 }
 
 # peak SHELF NODES FILE: the greatest resident size, in KiB

@@ -27,7 +27,7 @@ lines() {
 
 # measure STATUS SCRIPT: the least and the median time of the runs, in microseconds
 measure() {
-    times "$1" "$2" run | awk '{ t[NR] = $1 } END { printf "%d | %d", t[1], t[int((NR + 1) / 2)] }'
+    microseconds "$1" "$2" run | awk '{ t[NR] = $1 } END { printf "%d | %d", t[1], t[int((NR + 1) / 2)] }'
 }
 
 echo "| script | lines | least | median | bytes printed |"
