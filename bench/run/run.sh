@@ -2,25 +2,14 @@
 # run.sh PROGRAM [RUNS]: commands a second and peak memory of PROGRAM, the built delos_sim, on scripts of 1,000, 5,000 and 15,000
 # logged lines over several shelves, with 1, 4 and 8 nodes.
 #
-# Each node has a session of its own, whose lines add to one of sixteen keys; nodes take lines in turn, and every hundredth line is
-# followed by a barrier. A time is that of a whole process: the least of the runs, less the least of as many empty scripts.
+# A time is that of a whole process: the least of the runs, less the least of as many empty scripts.
 set -eu
 program=$1
 runs=${2:-5}
 folder=$(mktemp -d)
 trap 'rm -r "$folder"' EXIT
 . "$(dirname "$0")/../times.sh"
-
-# script LINES NODES: the lines of a script
-script() {
-    awk -v n="$1" -v nodes="$2" 'BEGIN {
-        for (i = 1; i <= n; i++) {
-            k = 1 + (i - 1) % nodes
-            print "on n" k " s" k " add k" (i * 7) % 16 " " i % 100
-            if (i % 100 == 0) print "barrier"
-        }
-    }'
-}
+. "$(dirname "$0")/lines.sh"
 
 # least SHELF NODES FILE: the least time of the runs, in microseconds
 least() {
