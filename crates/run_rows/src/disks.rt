@@ -4,7 +4,7 @@ ghost use Rattle.std.specs.List.{AllByRecursion};
 ghost use Rattle.disk_model.specs.Failing.{shown};
 ghost use Rattle.memory_runs.specs.Disks.{IsFreshDisk};
 
-use crate::tests::{FILE_RUN, PUT_AND_GET, PUT_AND_GET_TEXT, ROOMS};
+use crate::tests::{FILE_RUN, PUT_AND_GET, PUT_AND_GET_TEXT, ROOMS, words_of};
 use disk_model::{FailDisk, MemDisk};
 use memory_runs::run::run_on;
 use outside_ends::memory::{MemSink, MemSource};
@@ -31,10 +31,7 @@ pub(crate) fn failing_disks(
 
 // A put and a get over a file loglet, where these calls of the node's disk fail: the status, and the text.
 fn runs_on(rt: &impl Abort, alloc: Global, failing: &[u64]) -> Result<(u8, Vec<u8>), Fail> {
-    let mut words = Vec::new(alloc);
-    for word in FILE_RUN {
-        words.push(word.to_string(alloc)?)?;
-    }
+    let words = words_of(alloc, FILE_RUN)?;
     let Ok(plan) = read_words(alloc, words.as_slice()) else {
         return Err(Fail::from("the words aren't taken"));
     };

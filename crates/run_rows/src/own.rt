@@ -4,7 +4,7 @@ ghost use Rattle.script_runner.specs.Fresh.{AreFresh};
 ghost use Rattle.shelf_loglets.specs.Shelf.{view_of};
 
 use crate::disks::failing_disks;
-use crate::tests::{FILE_RUN, PUT_AND_GET, PUT_AND_GET_TEXT, ROOMS};
+use crate::tests::{FILE_RUN, PUT_AND_GET, PUT_AND_GET_TEXT, ROOMS, words_of};
 use counted_loglet::counted::Counted;
 use memory_runs::run::run_over;
 use outside_ends::memory::{MemSink, MemSource};
@@ -30,10 +30,7 @@ fn counted_shelf(alloc: Global, kinds: &[Kind]) -> Result<Vec<Counted<ShelfLogle
 #[test]
 fn a_loglet_of_ones_own(rt: HostRuntime) -> Result<(), Fail> {
     let alloc = rt.alloc();
-    let mut words = Vec::new(alloc);
-    for word in FILE_RUN {
-        words.push(word.to_string(alloc)?)?;
-    }
+    let words = words_of(alloc, FILE_RUN)?;
     let Ok(plan) = read_words(alloc, words.as_slice()) else {
         return Err(Fail::from("the words aren't taken"));
     };

@@ -4,7 +4,7 @@ ghost use Rattle.shelf_loglets.specs.Shelf.{AreRooms};
 use memory_runs::run::run_in_memory;
 use outside_ends::memory::{MemSink, MemSource};
 use shelf_loglets::shelf::Rooms;
-use std::alloc::Global;
+use std::alloc::{AllocError, Global};
 use std::process::Abort;
 use std::test::Fail;
 
@@ -47,6 +47,15 @@ const SMALL: Ends<'static> = Ends {
     sink_fails: &[],
 };
 
+// The words of a command line.
+pub(crate) fn words_of(alloc: Global, words: &[&str]) -> Result<Vec<String>, AllocError> {
+    let mut owned = Vec::new(alloc);
+    for word in words {
+        owned.push(word.to_string(alloc)?)?;
+    }
+    Ok(owned)
+}
+
 // A run of the words on the script ends with this status, and puts this text.
 fn ends_with(
     rt: &impl Abort,
@@ -60,10 +69,7 @@ fn ends_with(
     requires piece { 1 ≤ ends.now.piece }
     requires rooms { AreRooms ends.now.rooms }
 {
-    let mut owned = Vec::new(alloc);
-    for word in words {
-        owned.push(word.to_string(alloc)?)?;
-    }
+    let owned = words_of(alloc, words)?;
     let failing = Vec::from_slice(alloc, ends.source_fails)?;
     let mut source = MemSource::new(Vec::from_slice(alloc, script)?, ends.piece, failing);
     let failing = Vec::from_slice(alloc, ends.sink_fails)?;
