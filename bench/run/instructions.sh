@@ -1,6 +1,6 @@
 #!/bin/sh
 # instructions.sh PROGRAM: how many instructions PROGRAM, the built delos_sim, takes for a command, on scripts of 1,000, 5,000 and 15,000
-# logged lines, by callgrind; those of an empty script are left out. They are the same in each run, whatever else the machine does.
+# logged lines, by callgrind; those of an empty script are left out. They are the same in each run but for some hundreds, whatever else the machine does.
 set -eu
 program=$1
 folder=$(mktemp -d)
@@ -13,16 +13,12 @@ count() {
     awk '/ refs:/ { gsub(",", "", $NF); print $NF }' "$folder/told"
 }
 
+# row SHELF NODES LINES FILE EMPTY: one row
+row() {
+    all=$(($(count "$1" "$2" "$4") - $(count "$1" "$2" "$5")))
+    echo "| $1 | $2 | $3 | $all | $((all / $3)) |"
+}
+
 echo "| shelf | nodes | lines | instructions | a command |"
 echo "|---|---|---|---|---|"
-: > "$folder/empty"
-for shelf in file native3 striped2; do
-    for nodes in 1 4 8; do
-        none=$(count "$shelf" "$nodes" "$folder/empty")
-        for n in 1000 5000 15000; do
-            script "$n" "$nodes" > "$folder/script"
-            all=$(($(count "$shelf" "$nodes" "$folder/script") - none))
-            echo "| $shelf | $nodes | $n | $all | $((all / n)) |"
-        done
-    done
-done
+each_row row

@@ -11,3 +11,17 @@ script() {
         }
     }'
 }
+
+# each_row MEASURE: calls `MEASURE SHELF NODES LINES FILE EMPTY` for each row of the tables here: FILE has the script of so many lines,
+# and EMPTY has none. Both stand in $folder.
+each_row() {
+    : > "$folder/empty"
+    for shelf in file native3 striped2; do
+        for nodes in 1 4 8; do
+            for n in 1000 5000 15000; do
+                script "$n" "$nodes" > "$folder/script"
+                "$1" "$shelf" "$nodes" "$n" "$folder/script" "$folder/empty"
+            done
+        done
+    done
+}

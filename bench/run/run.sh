@@ -22,16 +22,12 @@ peak() {
     cat "$folder/peak"
 }
 
+# row SHELF NODES LINES FILE EMPTY: one row
+row() {
+    time=$(($(least "$1" "$2" "$4") - $(least "$1" "$2" "$5")))
+    echo "| $1 | $2 | $3 | $time | $(($3 * 1000000 / time)) | $(peak "$1" "$2" "$4") |"
+}
+
 echo "| shelf | nodes | lines | microseconds | commands a second | peak KiB |"
 echo "|---|---|---|---|---|---|"
-: > "$folder/empty"
-for shelf in file native3 striped2; do
-    for nodes in 1 4 8; do
-        none=$(least "$shelf" "$nodes" "$folder/empty")
-        for n in 1000 5000 15000; do
-            script "$n" "$nodes" > "$folder/script"
-            time=$(($(least "$shelf" "$nodes" "$folder/script") - none))
-            echo "| $shelf | $nodes | $n | $time | $((n * 1000000 / time)) | $(peak "$shelf" "$nodes" "$folder/script") |"
-        done
-    done
-done
+each_row row

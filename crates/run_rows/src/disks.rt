@@ -50,15 +50,30 @@ fn runs_on(rt: &impl Abort, alloc: Global, failing: &[u64]) -> Result<(u8, Vec<u
     Ok((ran.status.code(), Vec::from_slice(alloc, sink.as_slice())?))
 }
 
-// Whichever call fails, the node recovers, and no answer is lost: the calls in which its store begins, each of a
-// commit, and those of a recovery.
+// This call of a disk, and each of some hundreds behind it.
+fn calls_from(alloc: Global, first: u64) -> Result<Vec<u64>, AllocError> {
+    let mut calls = Vec::new(alloc);
+    for call in first..=400 {
+        calls.push(call)?;
+    }
+    Ok(calls)
+}
+
+// The run makes six calls of its node's disk: two as the store begins, and four in its one commit. Where one of them
+// fails, all is answered still. That the call is made, and its failure met, is seen where all behind it fail too: a row is
+// open then. From the seventh on a failure changes nothing.
 #[test]
 fn a_disk_fails_once(rt: HostRuntime) -> Result<(), Fail> {
     let alloc = rt.alloc();
-    for call in 1..=16 {
+    for call in 1..=6 {
         let (status, text) = runs_on(&rt, alloc, &[call])?;
         assert_eq!(rt; status, 0);
         assert_eq!(rt; text.as_slice(), PUT_AND_GET_TEXT);
+        let (status, _) = runs_on(&rt, alloc, calls_from(alloc, call)?.as_slice())?;
+        assert_eq!(rt; status, 1);
     }
+    let (status, text) = runs_on(&rt, alloc, calls_from(alloc, 7)?.as_slice())?;
+    assert_eq!(rt; status, 0);
+    assert_eq!(rt; text.as_slice(), PUT_AND_GET_TEXT);
     Ok(())
 }
