@@ -4,3 +4,4 @@ pub mod Sound
 pub mod Legal
 pub mod Chains
 pub mod Taken
+pub mod Sealing

@@ -4,3 +4,4 @@ pub mod Moves
 pub mod Journal
 pub mod Laws
 pub mod Turns
+pub mod Sealing

@@ -2,6 +2,7 @@
 use Rattle.std.specs.Prelude.{◌≡◌, ◌≢◌, ℕ, ◌⊎◌, List, [], ◌∷◌, ◌++◌, length, Some}
 use Rattle.delos_types.specs.declared.entry.Entry.{Entry}
 use Rattle.delos_types.specs.declared.chain.Chain.{Chain}
+use Rattle.loglet_api.specs.declared.call.Op.TheVariants.{Seal}
 use Rattle.legal_journal.specs.declared.events.FabricCall.{FabricCall}
 use Rattle.legal_journal.specs.declared.events.FabricCall.TheVariants.{Begin, Carry, Forget, ReadChain, WriteChain, Stop, Mend, Stray, StopMeta, MendMeta}
 use Rattle.legal_journal.specs.declared.events.FabricAnswer.{FabricAnswer}
@@ -42,6 +43,11 @@ abbrev pub MayTurn : (ℕ → Entry → Type 0) → (List Entry → ℕ) → Lis
 MayTurn may floor shelf who seen call =
     (others : List Event) → AreOthers who others → IsLegal may floor shelf (seen ++ others)
     → MayCall (state_of (seen ++ others)) may floor shelf who call
+
+-- a Seal is begun by who has the right to
+abbrev pub HasRight : (ℕ → Type 0) → ℕ → FabricCall → Type 0
+HasRight seals who (Begin i Seal) = seals who
+HasRight seals who call = Unit {0}
 
 -- the events of a call: one, but none with Memory; a Carry whose entry couldn't be copied is one with Memory
 abbrev pub OwnEvents : ℕ → FabricCall → FabricAnswer → List Event → Type 0

@@ -7,6 +7,9 @@ pub trait Rules {
     /// Who may append what.
     ghost may: { ℕ → Entry → Type 0 };
 
+    /// Who may seal a loglet.
+    ghost seals: { ℕ → Type 0 };
+
     /// Up to where the log may be trimmed, where it shows these entries from position 0 on.
     ghost floor: { List Entry → ℕ };
 

@@ -33,6 +33,8 @@ impl Rules for Anyone {
 
     ghost may = { λ _ _. Unit {0} };
 
+    ghost seals = { λ _. Unit {0} };
+
     ghost floor = { λ _. 0 };
 
     ghost shelf = { 1 ∷ [] };
@@ -46,6 +48,8 @@ impl Rules for Free {
     ghost use Rattle.std.specs.Prelude.{[], ◌∷◌, ◌^◌};
 
     ghost may = { λ _ _. Unit {0} };
+
+    ghost seals = { λ _. Unit {0} };
 
     ghost floor = { λ _. 2 ^ 38 };
 
@@ -216,6 +220,7 @@ pub struct Replaced {
 /// Replaces the last loglet, appends the entry, replaces again, and finds the tail.
 pub fn replace_and_append<T: Turns>(log: &mut VirtualLog<T, Calm>, entry: &Entry) -> Replaced
     requires may { T.Law.may log.old.who entry.now }
+    requires right { T.Law.seals log.old.who }
     requires spelled { IsSpellable entry.now }
 {
     let extended = log.extend();

@@ -11,6 +11,8 @@ impl Rules for TwoNodes {
 
     ghost may = { anything };
 
+    ghost seals = { λ _. Unit {0} };
+
     ghost floor = { least_of_two };
 
     ghost shelf = { one_loglet };

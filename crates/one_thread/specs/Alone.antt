@@ -5,6 +5,7 @@ use Rattle.loglet_api.specs.View.{LogletView}
 use Rattle.register_api.specs.View.{RegisterView}
 use Rattle.legal_journal.specs.declared.events.Event.{Event}
 use Rattle.legal_journal.specs.Journal.{IsLegal}
+use Rattle.legal_journal.specs.Sealing.{SealsBy}
 
 -- whose the events are, and the fabric
 pub record AloneView : Type 0 where
@@ -24,8 +25,10 @@ pub record Since (who : ℕ) (old new : List Event) : Type 0 where
   pub seen : new ≡ old ++ more
   pub own : AreOwn who more
 
--- The journal is legal by what the scope has, which the terms allow; and each event since the scope began is who's.
-pub record IsAlone (may sends : ℕ → Entry → Type 0) (floor : List Entry → ℕ) (shelf : List ℕ) (since : List Event) (who : ℕ) (journal : List Event) : Type 0 where
+-- The journal is legal by what the scope has, which the terms allow; each event since the scope began is who's; and a Seal was
+-- begun since then only where the scope lets who seal.
+pub record IsAlone (may sends : ℕ → Entry → Type 0) (seals : ℕ → Type 0) (floor : List Entry → ℕ) (shelf : List ℕ) (since : List Event) (who : ℕ) (journal : List Event) : Type 0 where
   pub legal : IsLegal sends floor shelf journal
   pub narrower : (user : ℕ) (e : Entry) → sends user e → may user e
   pub own : Since who since journal
+  pub right : SealsBy (seals who) since journal

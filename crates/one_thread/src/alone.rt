@@ -2,6 +2,7 @@
 ghost use Rattle.std.specs.Prelude.{◌≡◌, ℕ, List};
 ghost use Rattle.delos_types.specs.declared.entry.Entry.{Entry};
 ghost use Rattle.legal_journal.specs.Journal.{IsLegal};
+ghost use Rattle.legal_journal.specs.Sealing.{SealsBy};
 ghost use Rattle.one_thread.specs.Alone.{Since};
 
 use crate::terms::{By, Scope, Terms, Within};
@@ -13,8 +14,8 @@ use loglet_api::loglet::Loglet;
 use register_api::Register;
 use std::marker::{Model, PhantomData};
 
-/// The fabric in the hands of one user. Since it has it, each event is its own, and each entry that it appended is
-/// one that the scope has.
+/// The fabric in the hands of one user. Since it has it, each event is its own, each entry that it appended is one that
+/// the scope has, and it began a Seal only if the scope lets it.
 #[derive(Drop)]
 pub struct Alone<L: Loglet, R: Register, K: Terms, Q: Scope> {
     who: u32,
@@ -29,7 +30,7 @@ impl<L: Loglet, R: Register, K: Terms, Q: Scope> Model for Alone<L, R, K, Q> {
 
     ghost view = { λ a. record { who = a.who; cells = a.fabric.cells; register = a.fabric.register; journal = a.fabric.journal } };
 
-    ghost invariant = { λ a. IsAlone K.may Q.sends K.floor K.shelf Q.since a.who a.fabric.journal };
+    ghost invariant = { λ a. IsAlone K.may Q.sends Q.seals K.floor K.shelf Q.since a.who a.fabric.journal };
 }
 
 impl<L: Loglet, R: Register, K: Terms, Q: Scope> Alone<L, R, K, Q> {
@@ -61,6 +62,9 @@ impl<L: Loglet, R: Register, K: Terms, Q: Scope> Alone<L, R, K, Q> {
 
         // All events since it was taken are this user's.
         ensures since { Since self.who Q.since self.journal }
+
+        // Among them a Seal was begun only if the scope lets this user seal.
+        ensures right { SealsBy (Q.seals self.who) Q.since self.journal }
     {
         let Alone {
             who: _,

@@ -3,6 +3,7 @@ ghost use Rattle.std.specs.Prelude.{◌≡◌, ◌++◌, ◌≤◌, ℕ, List, l
 ghost use Rattle.delos_types.specs.declared.entry.Entry.{Entry};
 ghost use Rattle.legal_journal.specs.declared.events.Event.{Event};
 ghost use Rattle.legal_journal.specs.Journal.{IsLegal};
+ghost use Rattle.legal_journal.specs.Sealing.{SealsBy};
 ghost use Rattle.one_thread.specs.Alone.{Since};
 ghost use Rattle.one_thread.specs.Seats.{SeatView, SeatOk, node_of};
 
@@ -66,6 +67,9 @@ pub fn rest<L: Loglet, R: Register, K: Terms, Q: Scope, S: Replica, C: Chooser>(
 
     // All events within the scope are the node's.
     ensures since { Since result.0.who Q.since result.1.journal }
+
+    // Among them a Seal was begun only if the scope lets the node seal.
+    ensures right { SealsBy (Q.seals result.0.who) Q.since result.1.journal }
 {
     let (node, log) = node.rest();
     let (log, alone) = log.rest();

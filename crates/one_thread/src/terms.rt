@@ -36,6 +36,8 @@ pub struct By<K: Terms> {
 impl<K: Terms> Rules for By<K> {
     ghost may = { K.may };
 
+    ghost seals = { λ _. Unit {0} };
+
     ghost floor = { K.floor };
 
     ghost shelf = { K.shelf };
@@ -46,12 +48,17 @@ pub trait Scope {
     /// Who has appended what, up to its end.
     ghost sends: { ℕ → Entry → Type 0 };
 
+    /// Who may seal, up to its end.
+    ghost seals: { ℕ → Type 0 };
+
     /// The journal as it begins.
     ghost since: { List Event };
 }
 
 impl Scope for Brand {
     ghost sends = { λ _ _. ⊥ };
+
+    ghost seals = { λ _. ⊥ };
 
     ghost since = { [] };
 }
@@ -65,6 +72,8 @@ pub struct Within<K: Terms, Q: Scope> {
 
 impl<K: Terms, Q: Scope> Rules for Within<K, Q> {
     ghost may = { Q.sends };
+
+    ghost seals = { Q.seals };
 
     ghost floor = { K.floor };
 

@@ -12,3 +12,5 @@ pub mod Trimming
 pub mod Reading
 pub mod Holding
 pub mod Agreeing
+pub mod Sealing
+pub mod Saying

@@ -12,6 +12,7 @@ use Rattle.virtual_log.specs.declared.extend.Extension.{Extension}
 use Rattle.virtual_log.specs.declared.extend.Extension.TheVariants.{Extended, Moved, NoSpare}
 use Rattle.virtual_log.specs.Turning.{HasEvent}
 use Rattle.virtual_log.specs.Writing.{WroteNone, IsAnothers}
+use Rattle.virtual_log.specs.Sealing.{SealsOnly}
 
 -- An own write stands under this version, over a chain whose last segment was still this one: it closes that segment, and
 -- goes on from start in the next loglet.
@@ -62,7 +63,7 @@ Follows cells who looked last known known' version' rest new (Moved version) =
     (last.id + 1 < cells) × IsClosed who looked last known known' version' new (Moved version)
 
 -- The first own event since old reads the chain. There is no next loglet exactly where the last one of that chain is the
--- last of the shelf, and then it is the only own event.
+-- last of the shelf, and then it is the only own event. After it who began at most one Seal, of that last one.
 pub record IsExtension (cells who : ℕ) (old : List Event) (known known' version' : ℕ) (new : List Event) (answer : Extension) : Type 0 where
   pub others : List Event
   pub apart : AreOthers who others
@@ -73,3 +74,4 @@ pub record IsExtension (cells who : ℕ) (old : List Event) (known known' versio
   pub rest : List Event
   pub seen : new ≡ looked ++ rest
   pub follows : Follows cells who looked (last_segment chain) known known' version' rest new answer
+  pub seals : SealsOnly who (last_segment chain).id rest

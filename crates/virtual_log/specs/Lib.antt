@@ -1,6 +1,8 @@
 pub mod Turning
 pub mod Causes
 pub mod Writing
+pub mod Sealing
+pub mod Saying
 pub mod Tails
 pub mod Log
 pub mod Next

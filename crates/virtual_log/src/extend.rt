@@ -7,6 +7,8 @@ ghost use Rattle.virtual_log.specs.Turning.{Later};
 ghost use Rattle.virtual_log.specs.Causes.{HasCause};
 ghost use Rattle.virtual_log.specs.Log.{GoesBy};
 ghost use Rattle.virtual_log.specs.Extending.{Closes, IsExtension};
+ghost use Rattle.virtual_log.specs.Sealing.{SealsNone, SealsLast};
+ghost use Rattle.virtual_log.specs.Saying.{SaysOnly, SaysNone};
 
 use crate::calls::Known;
 use crate::fault::Fault;
@@ -46,7 +48,9 @@ fn close_at<T: Turns>(
     ensures who { T.who turns.new ≡ T.who turns.old }
     ensures goes_by { GoesBy (state_of (T.seen turns.new)) known.new.version known.new.chain known.new.tail }
     ensures closed { IfOk result (Closes (T.who turns.old) (T.seen turns.old) (last_segment known.old.chain) known.old.tail known.new.tail known.new.version (T.seen turns.new)) }
+    ensures unsealed { SealsNone (T.who turns.old) (T.seen turns.old) (T.seen turns.new) }
     ensures unknown { OnErr result (known.new.tail ≡ known.old.tail) }
+    ensures silent { SaysNone (T.who turns.old) (T.seen turns.old) (T.seen turns.new) }
     ensures err { IfErr result (λ fault. HasCause (T.who turns.old) (T.seen turns.old) fault (T.seen turns.new)) }
 {
     let last = last_of(&known.chain);
@@ -76,7 +80,8 @@ fn close_at<T: Turns>(
     }
 }
 
-/// Seals the last loglet, and lets the chain go on in the next one of the shelf, if there is one.
+/// Seals the last loglet, and lets the chain go on in the next one of the shelf, if there is one. It is for those alone
+/// who may seal.
 pub fn extend_on<T: Turns, C: Chooser>(
     turns: &mut T,
     chooser: &mut C,
@@ -87,11 +92,15 @@ pub fn extend_on<T: Turns, C: Chooser>(
     requires legal { IsLegal T.Law.may T.Law.floor T.Law.shelf (T.seen turns.old) }
     requires goes_by { GoesBy (state_of (T.seen turns.old)) known.old.version known.old.chain known.old.tail }
     requires shelf { shelf_len ≡ length T.Law.shelf }
+    requires right { T.Law.seals (T.who turns.old) }
     ensures later { Later T.Law.may T.Law.floor T.Law.shelf (T.seen turns.old) (T.seen turns.new) }
     ensures who { T.who turns.new ≡ T.who turns.old }
     ensures goes_by { GoesBy (state_of (T.seen turns.new)) known.new.version known.new.chain known.new.tail }
     ensures extension { IfOk result (IsExtension (length T.Law.shelf) (T.who turns.old) (T.seen turns.old) known.old.tail known.new.tail known.new.version (T.seen turns.new)) }
+    ensures seals { SealsLast (T.who turns.old) (T.seen turns.old) (T.seen turns.new) }
     ensures unknown { OnErr result (known.new.tail ≡ known.old.tail) }
+    ensures words { SaysOnly (C.may chooser.old) (T.who turns.old) (T.seen turns.old) (T.seen turns.new) }
+    ensures same { C.may chooser.new ≡ C.may chooser.old }
     ensures err { IfErr result (λ fault. HasCause (T.who turns.old) (T.seen turns.old) fault (T.seen turns.new)) }
 {
     let (version, chain) = look(turns)?;

@@ -13,8 +13,8 @@
 //! - `truncate`: the trim is raised, and the loglets let go of what lies below it.
 //!
 //! The definitions stand in `specs/`: `Turning` (what turns bring), `Causes` (the cause of each fault), `Writing`
-//! (which events write a chain), `Log` (what a virtual log shows), `Next` and `Holding` (what its reads say), `Extending` and
-//! `Truncating`.
+//! (which events write a chain), `Sealing` (which Seals a call begins), `Saying` (which words it carries with), `Log` (what a
+//! virtual log shows), `Next` and `Holding` (what its reads say), `Extending` and `Truncating`.
 #![tactic(auto)]
 
 pub mod calls;

@@ -10,6 +10,7 @@ ghost use Rattle.virtual_log.specs.Next.{IsNext};
 ghost use Rattle.virtual_log.specs.Holding.{Holds, Reads};
 ghost use Rattle.virtual_log.specs.Log.{LogView, GoesBy};
 ghost use Rattle.virtual_log.specs.Extending.{IsExtension};
+ghost use Rattle.virtual_log.specs.Sealing.{SealsLast};
 ghost use Rattle.virtual_log.specs.Truncating.{IsTruncated, IsPrefixTrimmed};
 
 use crate::calls::{Known, Next, append_on, read_from, tail_on};
@@ -192,9 +193,12 @@ impl<T: Turns, C: Chooser> VirtualLog<T, C> {
     /// Seals the last loglet, and lets the chain go on in the next one of the shelf. Where another does so
     /// first, answers `Moved`; where the shelf has no next loglet, `NoSpare`, and nothing is sealed.
     ///
+    /// It is for those alone who may seal. No other call asks for that right, so no other call begins a Seal.
+    ///
     /// Cost: a read of the chain, a seal, a tail and a write. A write is tried again where others raised
     /// the trim meanwhile.
     pub fn extend(&mut self) -> Result<Extension, Fault>
+        requires right { T.Law.seals self.old.who }
         ensures later { Later T.Law.may T.Law.floor T.Law.shelf self.old.seen self.new.seen }
         ensures who { self.new.who ≡ self.old.who }
 
@@ -203,6 +207,9 @@ impl<T: Turns, C: Chooser> VirtualLog<T, C> {
         // and goes on at `start`. `Moved`: an own write was refused, in the chain that stands under that
         // version that segment is closed, and since the look another wrote a chain that goes on behind it.
         ensures extension { IfOk result (IsExtension (length T.Law.shelf) self.old.who self.old.seen self.old.known self.new.known self.new.version self.new.seen) }
+
+        // Whatever comes of it, it begins no Seal, or one of the last loglet of that chain.
+        ensures seals { SealsLast self.old.who self.old.seen self.new.seen }
         ensures err { IfErr result (λ fault. HasCause self.old.who self.old.seen fault self.new.seen) }
         ensures unknown { OnErr result (self.new.known ≡ self.old.known) }
     {

@@ -7,6 +7,8 @@ ghost use Rattle.virtual_log.specs.Turning.{Later, FirstTurn, IsAbove};
 ghost use Rattle.virtual_log.specs.Causes.{HasCause};
 ghost use Rattle.virtual_log.specs.Tails.{IsFound, IsSealedTail};
 ghost use Rattle.virtual_log.specs.Writing.{WroteNone};
+ghost use Rattle.virtual_log.specs.Sealing.{SealsNone, SealsAt};
+ghost use Rattle.virtual_log.specs.Saying.{SaysOnly};
 
 use crate::fault::Fault;
 use crate::turn::{begin, carry_on};
@@ -37,6 +39,8 @@ pub fn append_to<T: Turns, C: Chooser>(
     ensures start { IfOk result (λ o. IfSome o (λ pos. segment.start ≤ pos)) }
     ensures placed { IfOk result (λ o. IfSome o (λ pos. slice_get ((state_of (T.seen turns.new)).cells segment.id).entries (pos - segment.start) ≡ Some entry.now)) }
     ensures reached { IfOk result (λ o. IfSome o (λ pos. pos + 1 ≤ segment.start + ((state_of (T.seen turns.new)).cells segment.id).told.reach)) }
+    ensures words { SaysOnly (C.may chooser.old) (T.who turns.old) (T.seen turns.old) (T.seen turns.new) }
+    ensures same { C.may chooser.new ≡ C.may chooser.old }
     ensures err { IfErr result (λ fault. HasCause (T.who turns.old) (T.seen turns.old) fault (T.seen turns.new)) }
 {
     let copy = entry.clone()?;
@@ -76,6 +80,9 @@ pub fn find_tail<T: Turns, C: Chooser>(
     ensures found { IfOk result (IsFound (T.who turns.old) (T.seen turns.old) segment (T.seen turns.new)) }
     ensures shut { ((state_of (T.seen turns.old)).cells segment.id).told.sealed ≡ true → IfOk result IsSealedTail }
     ensures quiet { IfOk result (λ x. WroteNone (T.who turns.old) (T.seen turns.old) (T.seen turns.new)) }
+    ensures unsealed { SealsNone (T.who turns.old) (T.seen turns.old) (T.seen turns.new) }
+    ensures words { SaysOnly (C.may chooser.old) (T.who turns.old) (T.seen turns.old) (T.seen turns.new) }
+    ensures same { C.may chooser.new ≡ C.may chooser.old }
     ensures err { IfErr result (λ fault. HasCause (T.who turns.old) (T.seen turns.old) fault (T.seen turns.new)) }
 {
     let ticket = begin(turns, segment.id, Op::Tail)?;
@@ -92,14 +99,18 @@ pub fn find_tail<T: Turns, C: Chooser>(
     }
 }
 
-/// Seals a loglet, behind which the shelf has another.
+/// Seals a loglet, behind which the shelf has another. It is for those alone who have the right to.
 pub fn seal<T: Turns, C: Chooser>(turns: &mut T, chooser: &mut C, id: u32) -> Result<(), Fault>
     requires legal { IsLegal T.Law.may T.Law.floor T.Law.shelf (T.seen turns.old) }
     requires spare { id + 1 < length T.Law.shelf }
+    requires right { T.Law.seals (T.who turns.old) }
     ensures later { Later T.Law.may T.Law.floor T.Law.shelf (T.seen turns.old) (T.seen turns.new) }
     ensures who { T.who turns.new ≡ T.who turns.old }
     ensures sealed { OnOk result (((state_of (T.seen turns.new)).cells id).told.sealed ≡ true) }
     ensures quiet { OnOk result (WroteNone (T.who turns.old) (T.seen turns.old) (T.seen turns.new)) }
+    ensures seals { SealsAt (T.who turns.old) id (T.seen turns.old) (T.seen turns.new) }
+    ensures words { SaysOnly (C.may chooser.old) (T.who turns.old) (T.seen turns.old) (T.seen turns.new) }
+    ensures same { C.may chooser.new ≡ C.may chooser.old }
     ensures err { IfErr result (λ fault. HasCause (T.who turns.old) (T.seen turns.old) fault (T.seen turns.new)) }
 {
     let ticket = begin(turns, id, Op::Seal)?;

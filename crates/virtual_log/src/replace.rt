@@ -5,6 +5,7 @@ ghost use Rattle.chain_map.specs.Chain.{last_of_segments, last_segment};
 ghost use Rattle.legal_journal.specs.Journal.{state_of, IsLegal};
 ghost use Rattle.virtual_log.specs.Turning.{Later};
 ghost use Rattle.virtual_log.specs.Causes.{HasCause};
+ghost use Rattle.virtual_log.specs.Saying.{SaysOnly, SaysNone};
 
 use crate::fault::Fault;
 use crate::operation::{FoundTail, find_tail};
@@ -45,6 +46,7 @@ fn replace<T: Turns>(
     ensures later { Later T.Law.may T.Law.floor T.Law.shelf (T.seen turns.old) (T.seen turns.new) }
     ensures who { T.who turns.new ≡ T.who turns.old }
     ensures ok { OnOk result ((last_of_segments chain.now.segments).id < (last_of_segments (state_of (T.seen turns.new)).register.chain.segments).id) }
+    ensures silent { SaysNone (T.who turns.old) (T.seen turns.old) (T.seen turns.new) }
     ensures err { IfErr result (λ fault. HasCause (T.who turns.old) (T.seen turns.old) fault (T.seen turns.new)) }
 {
     let id = last_of(chain).id;
@@ -81,6 +83,8 @@ fn finish<T: Turns, C: Chooser>(
     ensures later { Later T.Law.may T.Law.floor T.Law.shelf (T.seen turns.old) (T.seen turns.new) }
     ensures who { T.who turns.new ≡ T.who turns.old }
     ensures ok { OnOk result ((last_of_segments chain.now.segments).id < (last_of_segments (state_of (T.seen turns.new)).register.chain.segments).id) }
+    ensures words { SaysOnly (C.may chooser.old) (T.who turns.old) (T.seen turns.old) (T.seen turns.new) }
+    ensures same { C.may chooser.new ≡ C.may chooser.old }
     ensures err { IfErr result (λ fault. HasCause (T.who turns.old) (T.seen turns.old) fault (T.seen turns.new)) }
 {
     let last = last_of(chain);
@@ -106,6 +110,8 @@ pub fn chain_behind<T: Turns, C: Chooser>(
     ensures who { T.who turns.new ≡ T.who turns.old }
     ensures given { IfOk result (λ x. (state_of (T.seen turns.new)).register.given x.0 ≡ Some x.1) }
     ensures behind { IfOk result (λ x. segment.id < (last_of_segments x.1.segments).id) }
+    ensures words { SaysOnly (C.may chooser.old) (T.who turns.old) (T.seen turns.old) (T.seen turns.new) }
+    ensures same { C.may chooser.new ≡ C.may chooser.old }
     ensures err { IfErr result (λ fault. HasCause (T.who turns.old) (T.seen turns.old) fault (T.seen turns.new)) }
 {
     let (version, chain) = look(turns)?;

@@ -6,6 +6,7 @@ ghost use Rattle.virtual_log.specs.Turning.{Later, HasEvent};
 ghost use Rattle.virtual_log.specs.Causes.{HasCause};
 ghost use Rattle.virtual_log.specs.Log.{GoesBy};
 ghost use Rattle.virtual_log.specs.Truncating.{IsTruncated, length_below, IsTrimOf, AreTrimmed, IsPrefixTrimmed};
+ghost use Rattle.virtual_log.specs.Saying.{SaysOnly, SaysNone};
 
 use crate::calls::Known;
 use crate::fault::Fault;
@@ -37,6 +38,7 @@ pub fn truncate_on<T: Turns>(
     ensures known { known.new.tail ≡ known.old.tail }
     ensures truncated { IfOk result (λ x. IsTruncated (T.who turns.old) (T.seen turns.old) n x.0 x.1 (T.seen turns.new)) }
     ensures stands { IfOk result (λ x. (x.0 ≡ known.new.version) × (x.1 ≡ known.new.chain.trim)) }
+    ensures silent { SaysNone (T.who turns.old) (T.seen turns.old) (T.seen turns.new) }
     ensures err { IfErr result (λ fault. HasCause (T.who turns.old) (T.seen turns.old) fault (T.seen turns.new)) }
 {
     let (version, chain) = look(turns)?;
@@ -89,6 +91,8 @@ fn trim_segment<T: Turns, C: Chooser>(
     ensures later { Later T.Law.may T.Law.floor T.Law.shelf (T.seen turns.old) (T.seen turns.new) }
     ensures who { T.who turns.new ≡ T.who turns.old }
     ensures trimmed { OnOk result (segment.start < n → HasEvent (T.seen turns.old) (IsTrimOf (T.who turns.old) segment n) (T.seen turns.new)) }
+    ensures words { SaysOnly (C.may chooser.old) (T.who turns.old) (T.seen turns.old) (T.seen turns.new) }
+    ensures same { C.may chooser.new ≡ C.may chooser.old }
     ensures err { IfErr result (λ fault. HasCause (T.who turns.old) (T.seen turns.old) fault (T.seen turns.new)) }
 {
     if segment.start >= n {
@@ -117,6 +121,8 @@ fn trim_segments<T: Turns, C: Chooser>(
     ensures later { Later T.Law.may T.Law.floor T.Law.shelf (T.seen turns.old) (T.seen turns.new) }
     ensures who { T.who turns.new ≡ T.who turns.old }
     ensures trimmed { OnOk result (AreTrimmed (T.who turns.old) (T.seen turns.old) segments.now n (T.seen turns.new)) }
+    ensures words { SaysOnly (C.may chooser.old) (T.who turns.old) (T.seen turns.old) (T.seen turns.new) }
+    ensures same { C.may chooser.new ≡ C.may chooser.old }
     ensures err { IfErr result (λ fault. HasCause (T.who turns.old) (T.seen turns.old) fault (T.seen turns.new)) }
 {
     'segment: for segment in segments {
@@ -143,6 +149,8 @@ pub fn prefix_trim_on<T: Turns, C: Chooser>(
     ensures known { known.new.tail ≡ known.old.tail }
     ensures trimmed { IfOk result (λ trim. IsPrefixTrimmed (T.who turns.old) (T.seen turns.old) n trim (T.seen turns.new)) }
     ensures stands { IfOk result (λ trim. trim ≡ known.new.chain.trim) }
+    ensures words { SaysOnly (C.may chooser.old) (T.who turns.old) (T.seen turns.old) (T.seen turns.new) }
+    ensures same { C.may chooser.new ≡ C.may chooser.old }
     ensures err { IfErr result (λ fault. HasCause (T.who turns.old) (T.seen turns.old) fault (T.seen turns.new)) }
 {
     let (version, chain) = look(turns)?;

@@ -1,11 +1,14 @@
 //! Single turns, and operations that are carried to their end.
-ghost use Rattle.std.specs.Prelude.{◌≡◌, ◌<◌, ℕ, length, IfOk, IfErr};
+ghost use Rattle.std.specs.Prelude.{◌≡◌, ◌<◌, ℕ, false, length, IfOk, IfErr};
 ghost use Rattle.legal_journal.specs.Told.{Running};
 ghost use Rattle.legal_journal.specs.Journal.{state_of, IsOwn, IsLegal};
-ghost use Rattle.legal_journal.specs.Turns.{MayTurn};
+ghost use Rattle.legal_journal.specs.Turns.{MayTurn, HasRight};
+ghost use Rattle.legal_journal.specs.Sealing.{is_seal};
 ghost use Rattle.virtual_log.specs.Turning.{Later, Looked, Opened, Answered};
 ghost use Rattle.virtual_log.specs.Causes.{HasCause};
 ghost use Rattle.virtual_log.specs.Writing.{WroteNone};
+ghost use Rattle.virtual_log.specs.Sealing.{SealsNone, SealsAt};
+ghost use Rattle.virtual_log.specs.Saying.{SaysOnly, SaysNone};
 
 use crate::fault::Fault;
 use delos_types::chain::Chain;
@@ -22,6 +25,8 @@ pub fn look<T: Turns>(turns: &mut T) -> Result<(u64, Chain), Fault>
     ensures later { Later T.Law.may T.Law.floor T.Law.shelf (T.seen turns.old) (T.seen turns.new) }
     ensures who { T.who turns.new ≡ T.who turns.old }
     ensures ok { IfOk result (λ x. Looked (T.who turns.old) (T.seen turns.old) x.0 x.1 (T.seen turns.new)) }
+    ensures unsealed { SealsNone (T.who turns.old) (T.seen turns.old) (T.seen turns.new) }
+    ensures silent { SaysNone (T.who turns.old) (T.seen turns.old) (T.seen turns.new) }
     ensures err { IfErr result (λ fault. HasCause (T.who turns.old) (T.seen turns.old) fault (T.seen turns.new)) }
 {
     match turns.turn(FabricCall::ReadChain) {
@@ -31,13 +36,17 @@ pub fn look<T: Turns>(turns: &mut T) -> Result<(u64, Chain), Fault>
     }
 }
 
-/// Begins an operation.
+/// Begins an operation. A Seal is begun by those alone who have the right to.
 pub fn begin<T: Turns>(turns: &mut T, cell: u32, op: Op) -> Result<Ticket, Fault>
-    requires { MayTurn T.Law.may T.Law.floor T.Law.shelf (T.who turns.old) (T.seen turns.old) (FabricCall.Begin cell op) }
+    requires may { MayTurn T.Law.may T.Law.floor T.Law.shelf (T.who turns.old) (T.seen turns.old) (FabricCall.Begin cell op) }
+    requires right { HasRight T.Law.seals (T.who turns.old) (FabricCall.Begin cell op) }
     ensures later { Later T.Law.may T.Law.floor T.Law.shelf (T.seen turns.old) (T.seen turns.new) }
     ensures who { T.who turns.new ≡ T.who turns.old }
     ensures ok { IfOk result (λ t. Opened (T.who turns.old) (T.seen turns.old) cell op t (T.seen turns.new)) }
     ensures quiet { IfOk result (λ t. WroteNone (T.who turns.old) (T.seen turns.old) (T.seen turns.new)) }
+    ensures unsealed { is_seal (FabricCall.Begin cell op) ≡ false → SealsNone (T.who turns.old) (T.seen turns.old) (T.seen turns.new) }
+    ensures seals { SealsAt (T.who turns.old) cell (T.seen turns.old) (T.seen turns.new) }
+    ensures silent { SaysNone (T.who turns.old) (T.seen turns.old) (T.seen turns.new) }
     ensures err { IfErr result (λ fault. HasCause (T.who turns.old) (T.seen turns.old) fault (T.seen turns.new)) }
 {
     match turns.turn(FabricCall::Begin(cell, op)) {
@@ -62,6 +71,9 @@ pub fn carry_on<T: Turns, C: Chooser>(
     ensures ok { IfOk result (λ a. (r : Running) → IsOwn ((state_of (T.seen turns.old)).cells cell) (T.who turns.old) ticket r
         → Answered (T.who turns.old) (T.seen turns.old) cell ticket r a (T.seen turns.new)) }
     ensures quiet { IfOk result (λ a. WroteNone (T.who turns.old) (T.seen turns.old) (T.seen turns.new)) }
+    ensures unsealed { SealsNone (T.who turns.old) (T.seen turns.old) (T.seen turns.new) }
+    ensures words { SaysOnly (C.may chooser.old) (T.who turns.old) (T.seen turns.old) (T.seen turns.new) }
+    ensures same { C.may chooser.new ≡ C.may chooser.old }
 {
     loop {
         let word = chooser.word();

@@ -1,14 +1,15 @@
-use Rattle.std.proofs.Common.{◌≡◌, ◌∙◌, ◌+◌, ◌-◌, ◌≤◌, Some, IfSome, IfNone, ap, subst, arith}
+use Rattle.std.proofs.Common.{◌≡◌, ◌∙◌, ◌+◌, ◌-◌, ◌≤◌, Some, IfSome, IfNone, ap, subst, arith, refl}
 use Rattle.std.specs.Prelude.{slice_get}
 use Rattle.std.proofs.lemmas.Result.{err_from_is_err_and}
 use Rattle.delos_types.specs.declared.chain.Segment.{Segment}
 use Rattle.legal_journal.specs.Journal.{state_of}
 use Rattle.virtual_log.specs.Turning.{IsAbove, FirstTurn}
 use Rattle.virtual_log.specs.Causes.{HasCause}
-use Rattle.virtual_log.proofs.OneTurn.{later_trans, cause_since}
+use Rattle.virtual_log.proofs.OneTurn.{later_trans, cause_since, later_refl}
 use Rattle.virtual_log.proofs.Appending.{above_since}
 use Rattle.virtual_log.proofs.Going.{last_there, there_later, goes_later, goes_further, reach_fits, goes_behind, fewer}
 use Rattle.virtual_log.proofs.Holding.{placed_held}
+use Rattle.virtual_log.proofs.Saying.{says_refl, says_on}
 use Rattle.virtual_log.proofs.calls.append_on.Goals as goal
 
 pub append_to-requires-clause-started : goal.append_to-requires-clause-started
@@ -189,4 +190,66 @@ segment-preserved g c =
       above = λ pos new later x.
           i.above pos new (later_trans p.may p.floor p.shelf now end new (later_trans p.may p.floor p.shelf now mid end to_mid from.later) later)
           (above_since p.may p.floor p.shelf (t.who c.args.turns.now) pos now mid end new (subst (λ w. FirstTurn w now mid) i.who first) from.later later x);
+      words =
+          let who = t.who c.args.turns.now in
+          let old = t.seen c.args.turns.now in
+          let may = g.C.Chooser.may in
+          let words = may c.args.chooser.now in
+          says_on words (may c.append_to.new.chooser) who (t.who c.append_to.new.turns) old (t.seen c.append_to.new.turns) (t.seen c.chain_behind.new.turns) (c.in_ok-position.ensures.same ∙ i.same) (c.in_ok-position.ensures.who ∙ i.who)
+          (says_on words (may l.chooser) who (t.who l.turns) old now (t.seen c.append_to.new.turns) i.same i.who i.words c.in_ok-position.ensures.words)
+          c.in_ok-version.ensures.words;
+      same = from.same ∙ (c.in_ok-position.ensures.same ∙ i.same);
+    }
+
+pub returns-in_err-position-clause-words : goal.returns-in_err-position-clause-words
+returns-in_err-position-clause-words g c =
+    let t = g.T.Turns in
+    let who = t.who c.args.turns.now in
+    let old = t.seen c.args.turns.now in
+    let may = g.C.Chooser.may in
+    let words = may c.args.chooser.now in
+    let l = c.segment in
+    let i = l.invariant in
+    let now = t.seen l.turns in
+    says_on words (may l.chooser) who (t.who l.turns) old now (t.seen c.append_to.new.turns) i.same i.who i.words c.in_err-position.ensures.words
+
+pub returns-in-Some-clause-words : goal.returns-in-Some-clause-words
+returns-in-Some-clause-words g c =
+    let t = g.T.Turns in
+    let who = t.who c.args.turns.now in
+    let old = t.seen c.args.turns.now in
+    let may = g.C.Chooser.may in
+    let words = may c.args.chooser.now in
+    let l = c.segment in
+    let i = l.invariant in
+    let now = t.seen l.turns in
+    says_on words (may l.chooser) who (t.who l.turns) old now (t.seen c.append_to.new.turns) i.same i.who i.words c.in_ok-position.ensures.words
+
+pub returns-in_err-version-clause-words : goal.returns-in_err-version-clause-words
+returns-in_err-version-clause-words g c =
+    let t = g.T.Turns in
+    let who = t.who c.args.turns.now in
+    let old = t.seen c.args.turns.now in
+    let may = g.C.Chooser.may in
+    let words = may c.args.chooser.now in
+    let l = c.segment in
+    let i = l.invariant in
+    let now = t.seen l.turns in
+    says_on words (may c.append_to.new.chooser) who (t.who c.append_to.new.turns) old (t.seen c.append_to.new.turns) (t.seen c.chain_behind.new.turns) (c.in_ok-position.ensures.same ∙ i.same) (c.in_ok-position.ensures.who ∙ i.who)
+    (says_on words (may l.chooser) who (t.who l.turns) old now (t.seen c.append_to.new.turns) i.same i.who i.words c.in_ok-position.ensures.words)
+    c.in_err-version.ensures.words
+
+pub segment-init : goal.segment-init
+segment-init g c =
+    let p = g.T.Law.Rules in
+    let t = g.T.Turns in
+    let old = t.seen c.args.turns.now in
+    record {
+      later = later_refl p.may p.floor p.shelf old c.requires.legal;
+      who = refl;
+      goes_by = c.requires.goes_by;
+      tail = refl;
+      above = λ pos new later x. x;
+      words = says_refl (g.C.Chooser.may c.args.chooser.now) (t.who c.args.turns.now) old;
+      same = refl;
     }

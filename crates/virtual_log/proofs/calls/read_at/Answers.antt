@@ -13,6 +13,7 @@ use Rattle.virtual_log.proofs.Appending.{may_read, started_within}
 use Rattle.virtual_log.proofs.Levels.{level_tail, silent_level}
 use Rattle.virtual_log.proofs.Reading.{place_of, got_ok, cut_ok}
 use Rattle.virtual_log.proofs.Holding.{got_held}
+use Rattle.virtual_log.proofs.Saying.{says_then}
 use Rattle.virtual_log.proofs.calls.read_at.Goals as goal
 
 pub locate-requires : goal.locate-requires
@@ -24,8 +25,8 @@ locate-requires g c =
     let ok = sound p.may p.floor p.shelf old c.requires.legal in
     chain_ok (length p.shelf) (state_of old) k.version k.chain ok c.requires.goes_by.given
 
-pub begin-requires : goal.begin-requires
-begin-requires g c =
+pub begin-requires-clause-may : goal.begin-requires-clause-may
+begin-requires-clause-may g c =
     let p = g.T.Law.Rules in
     let t = g.T.Turns in
     let k = c.args.known.now in
@@ -156,3 +157,36 @@ returns-in-NoQuorum-clause-err g c =
     (subst (λ w. Answered w mid id c.in_ok-ticket.ticket r c.in_ok-entry.field-0 new) c.in_ok-ticket.ensures.who (c.in_ok-entry.ensures.ok r (own_by _ _ _ _ _ c.in_ok-ticket.ensures.who o.own))) in
     cause_since who (fault.NoQuorum id c.in-NoQuorum.unreached) old mid new c.in_ok-ticket.ensures.later.more c.in_ok-ticket.ensures.later.seen
     (lack_cause who id c.in_ok-ticket.ticket c.in-NoQuorum.unreached mid new x.event)
+
+pub returns-in_err-ticket-clause-words : goal.returns-in_err-ticket-clause-words
+returns-in_err-ticket-clause-words g c = c.in_err-ticket.ensures.silent (g.C.Chooser.may c.args.chooser.now)
+
+pub returns-in_err-entry-clause-words : goal.returns-in_err-entry-clause-words
+returns-in_err-entry-clause-words g c =
+    let t = g.T.Turns in
+    let words = g.C.Chooser.may c.args.chooser.now in
+    says_then words (t.who c.args.turns.now) (t.who c.begin.new.turns) (t.seen c.args.turns.now) (t.seen c.begin.new.turns) (t.seen c.carry_on.new.turns) c.in_ok-ticket.ensures.who (c.in_ok-ticket.ensures.silent words) c.in_err-entry.ensures.words
+
+pub returns-in-Got-clause-words : goal.returns-in-Got-clause-words
+returns-in-Got-clause-words g c =
+    let t = g.T.Turns in
+    let words = g.C.Chooser.may c.args.chooser.now in
+    says_then words (t.who c.args.turns.now) (t.who c.begin.new.turns) (t.seen c.args.turns.now) (t.seen c.begin.new.turns) (t.seen c.carry_on.new.turns) c.in_ok-ticket.ensures.who (c.in_ok-ticket.ensures.silent words) c.in_ok-entry.ensures.words
+
+pub returns-in-CutAt-clause-words : goal.returns-in-CutAt-clause-words
+returns-in-CutAt-clause-words g c =
+    let t = g.T.Turns in
+    let words = g.C.Chooser.may c.args.chooser.now in
+    says_then words (t.who c.args.turns.now) (t.who c.begin.new.turns) (t.seen c.args.turns.now) (t.seen c.begin.new.turns) (t.seen c.carry_on.new.turns) c.in_ok-ticket.ensures.who (c.in_ok-ticket.ensures.silent words) c.in_ok-entry.ensures.words
+
+pub returns-in-NoQuorum-clause-words : goal.returns-in-NoQuorum-clause-words
+returns-in-NoQuorum-clause-words g c =
+    let t = g.T.Turns in
+    let words = g.C.Chooser.may c.args.chooser.now in
+    says_then words (t.who c.args.turns.now) (t.who c.begin.new.turns) (t.seen c.args.turns.now) (t.seen c.begin.new.turns) (t.seen c.carry_on.new.turns) c.in_ok-ticket.ensures.who (c.in_ok-ticket.ensures.silent words) c.in_ok-entry.ensures.words
+
+pub returns-in_default-2-clause-words : goal.returns-in_default-2-clause-words
+returns-in_default-2-clause-words g c =
+    let t = g.T.Turns in
+    let words = g.C.Chooser.may c.args.chooser.now in
+    says_then words (t.who c.args.turns.now) (t.who c.begin.new.turns) (t.seen c.args.turns.now) (t.seen c.begin.new.turns) (t.seen c.carry_on.new.turns) c.in_ok-ticket.ensures.who (c.in_ok-ticket.ensures.silent words) c.in_ok-entry.ensures.words

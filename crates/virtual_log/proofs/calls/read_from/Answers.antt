@@ -1,13 +1,14 @@
-use Rattle.std.proofs.Common.{◌≡◌, ◌∙◌, inr, ◌<◌, sym, ap, subst, ⊎_elim, IfNone, IfSome, arith}
+use Rattle.std.proofs.Common.{◌≡◌, ◌∙◌, inr, ◌<◌, sym, ap, subst, ⊎_elim, IfNone, IfSome, arith, inl, refl}
 use Rattle.std.proofs.lemmas.Result.{err_from_is_err_and}
 use Rattle.legal_journal.specs.Journal.{state_of, tail_of, trim_of}
 use Rattle.virtual_log.specs.Turning.{OnlyOwn}
 use Rattle.virtual_log.specs.Causes.{HasCause}
 use Rattle.virtual_log.proofs.Owning.{own_split}
-use Rattle.virtual_log.proofs.OneTurn.{later_trans, later_continues, cause_since}
+use Rattle.virtual_log.proofs.OneTurn.{later_trans, later_continues, cause_since, later_refl}
 use Rattle.virtual_log.proofs.Going.{goes_later, goes_now, trim_now}
 use Rattle.virtual_log.specs.Holding.{Holds}
 use Rattle.virtual_log.proofs.Holding.{reads_found}
+use Rattle.virtual_log.proofs.Saying.{says_refl, says_then, says_on}
 use Rattle.virtual_log.proofs.calls.read_from.Goals as goal
 
 pub returns-in_err-entry-clause-goes_by : goal.returns-in_err-entry-clause-goes_by
@@ -127,4 +128,66 @@ trim-preserved g c =
       first =
           let cut = subst (λ o. IfNone o (c.max-pos.result < trim_of (state_of mid))) c.in_default.is c.in_ok-entry.ensures.cut in
           inr (omega (arith, cut, (later_continues p.may p.floor p.shelf mid end to_end).trim, c.max-pos.ensures));
+      words =
+          let who = t.who c.args.turns.now in
+          let old = t.seen c.args.turns.now in
+          let may = g.C.Chooser.may in
+          let words = may c.args.chooser.now in
+          says_then words who (t.who c.read_at.new.turns) old (t.seen c.read_at.new.turns) (t.seen c.look.new.turns) (c.in_ok-entry.ensures.who ∙ i.who)
+          (says_on words (may l.chooser) who (t.who l.turns) old now (t.seen c.read_at.new.turns) i.same i.who i.words c.in_ok-entry.ensures.words)
+          (c.in_ok-version.ensures.silent words);
+      same = c.in_ok-entry.ensures.same ∙ i.same;
+    }
+
+pub returns-in_err-entry-clause-words : goal.returns-in_err-entry-clause-words
+returns-in_err-entry-clause-words g c =
+    let t = g.T.Turns in
+    let who = t.who c.args.turns.now in
+    let old = t.seen c.args.turns.now in
+    let may = g.C.Chooser.may in
+    let words = may c.args.chooser.now in
+    let l = c.trim in
+    let i = l.invariant in
+    let now = t.seen l.turns in
+    says_on words (may l.chooser) who (t.who l.turns) old now (t.seen c.read_at.new.turns) i.same i.who i.words c.in_err-entry.ensures.words
+
+pub returns-in-Some-clause-words : goal.returns-in-Some-clause-words
+returns-in-Some-clause-words g c =
+    let t = g.T.Turns in
+    let who = t.who c.args.turns.now in
+    let old = t.seen c.args.turns.now in
+    let may = g.C.Chooser.may in
+    let words = may c.args.chooser.now in
+    let l = c.trim in
+    let i = l.invariant in
+    let now = t.seen l.turns in
+    says_on words (may l.chooser) who (t.who l.turns) old now (t.seen c.read_at.new.turns) i.same i.who i.words c.in_ok-entry.ensures.words
+
+pub returns-in_err-version-clause-words : goal.returns-in_err-version-clause-words
+returns-in_err-version-clause-words g c =
+    let t = g.T.Turns in
+    let who = t.who c.args.turns.now in
+    let old = t.seen c.args.turns.now in
+    let may = g.C.Chooser.may in
+    let words = may c.args.chooser.now in
+    let l = c.trim in
+    let i = l.invariant in
+    let now = t.seen l.turns in
+    says_then words who (t.who c.read_at.new.turns) old (t.seen c.read_at.new.turns) (t.seen c.look.new.turns) (c.in_ok-entry.ensures.who ∙ i.who)
+    (says_on words (may l.chooser) who (t.who l.turns) old now (t.seen c.read_at.new.turns) i.same i.who i.words c.in_ok-entry.ensures.words)
+    (c.in_err-version.ensures.silent words)
+
+pub trim-init : goal.trim-init
+trim-init g c =
+    let p = g.T.Law.Rules in
+    let t = g.T.Turns in
+    let old = t.seen c.args.turns.now in
+    record {
+      later = later_refl p.may p.floor p.shelf old c.requires.legal;
+      who = refl;
+      goes_by = c.requires.goes_by;
+      tail = refl;
+      first = inl refl;
+      words = says_refl (g.C.Chooser.may c.args.chooser.now) (t.who c.args.turns.now) old;
+      same = refl;
     }

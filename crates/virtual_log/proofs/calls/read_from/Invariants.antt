@@ -2,18 +2,22 @@ use Rattle.std.proofs.Common.{◌≡◌, ◌⊎◌, ◌-◌, ◌<◌, ◌^◌}
 use Rattle.legal_journal.specs.Journal.{state_of, trim_of}
 use Rattle.virtual_log.specs.Turning.{Later}
 use Rattle.virtual_log.specs.Log.{GoesBy}
+use Rattle.virtual_log.specs.Saying.{SaysOnly}
 use Rattle.virtual_log.proofs.calls.read_from.Given as goal
 
 abbrev pub invariant-trim : goal.invariant-trim
 invariant-trim g l =
     let t = g.T.Turns in
     let p = g.T.Law.Rules in
+    let may = g.C.Chooser.may in
     record {
       later : Later p.may p.floor p.shelf (t.seen l.fn.turns) (t.seen l.turns);
       who : t.who l.turns ≡ t.who l.fn.turns;
       goes_by : GoesBy (state_of (t.seen l.turns)) l.known.version l.known.chain l.known.tail;
       tail : l.known.tail ≡ l.fn.known.tail;
       first : (t.seen l.turns ≡ t.seen l.fn.turns) ⊎ (l.min < trim_of (state_of (t.seen l.turns)));
+      words : SaysOnly (may l.fn.chooser) (t.who l.fn.turns) (t.seen l.fn.turns) (t.seen l.turns);
+      same : may l.chooser ≡ may l.fn.chooser;
     }
 
 abbrev pub decreases-trim : goal.decreases-trim

@@ -1,14 +1,15 @@
-use Rattle.std.proofs.Common.{◌∙◌, sym, ap, subst, arith}
+use Rattle.std.proofs.Common.{◌∙◌, sym, ap, subst, arith, refl}
 use Rattle.std.proofs.lemmas.Result.{err_from_is_err_and}
 use Rattle.delos_types.specs.declared.chain.Segment.{Segment}
 use Rattle.virtual_log.specs.Turning.{OnlyOwn, IsAbove, FirstTurn}
 use Rattle.virtual_log.specs.Causes.{HasCause}
 use Rattle.virtual_log.specs.Tails.{IsFound}
 use Rattle.virtual_log.proofs.Owning.{own_split}
-use Rattle.virtual_log.proofs.OneTurn.{later_trans, cause_since}
+use Rattle.virtual_log.proofs.OneTurn.{later_trans, cause_since, later_refl}
 use Rattle.virtual_log.proofs.Appending.{above_since}
 use Rattle.virtual_log.proofs.Going.{last_there, there_later, goes_later, goes_further, goes_behind, fewer}
 use Rattle.virtual_log.proofs.Holding.{above_known}
+use Rattle.virtual_log.proofs.Saying.{says_refl, says_on}
 use Rattle.virtual_log.proofs.calls.tail_on.Goals as goal
 
 pub find_tail-requires-clause-started : goal.find_tail-requires-clause-started
@@ -184,4 +185,66 @@ segment-preserved g c =
       above = λ pos new later x.
           i.above pos new (later_trans p.may p.floor p.shelf now end new (later_trans p.may p.floor p.shelf now mid end to_mid from.later) later)
           (above_since p.may p.floor p.shelf (t.who c.args.turns.now) pos now mid end new (subst (λ w. FirstTurn w now mid) i.who first) from.later later x);
+      words =
+          let who = t.who c.args.turns.now in
+          let old = t.seen c.args.turns.now in
+          let may = g.C.Chooser.may in
+          let words = may c.args.chooser.now in
+          says_on words (may c.find_tail.new.chooser) who (t.who c.find_tail.new.turns) old (t.seen c.find_tail.new.turns) (t.seen c.chain_behind.new.turns) (c.in_ok-tail.ensures.same ∙ i.same) (c.in_ok-tail.ensures.who ∙ i.who)
+          (says_on words (may l.chooser) who (t.who l.turns) old now (t.seen c.find_tail.new.turns) i.same i.who i.words c.in_ok-tail.ensures.words)
+          c.in_ok-version.ensures.words;
+      same = from.same ∙ (c.in_ok-tail.ensures.same ∙ i.same);
+    }
+
+pub returns-in_err-tail-clause-words : goal.returns-in_err-tail-clause-words
+returns-in_err-tail-clause-words g c =
+    let t = g.T.Turns in
+    let who = t.who c.args.turns.now in
+    let old = t.seen c.args.turns.now in
+    let may = g.C.Chooser.may in
+    let words = may c.args.chooser.now in
+    let l = c.segment in
+    let i = l.invariant in
+    let now = t.seen l.turns in
+    says_on words (may l.chooser) who (t.who l.turns) old now (t.seen c.find_tail.new.turns) i.same i.who i.words c.in_err-tail.ensures.words
+
+pub returns-in-Open-clause-words : goal.returns-in-Open-clause-words
+returns-in-Open-clause-words g c =
+    let t = g.T.Turns in
+    let who = t.who c.args.turns.now in
+    let old = t.seen c.args.turns.now in
+    let may = g.C.Chooser.may in
+    let words = may c.args.chooser.now in
+    let l = c.segment in
+    let i = l.invariant in
+    let now = t.seen l.turns in
+    says_on words (may l.chooser) who (t.who l.turns) old now (t.seen c.find_tail.new.turns) i.same i.who i.words c.in_ok-tail.ensures.words
+
+pub returns-in_err-version-clause-words : goal.returns-in_err-version-clause-words
+returns-in_err-version-clause-words g c =
+    let t = g.T.Turns in
+    let who = t.who c.args.turns.now in
+    let old = t.seen c.args.turns.now in
+    let may = g.C.Chooser.may in
+    let words = may c.args.chooser.now in
+    let l = c.segment in
+    let i = l.invariant in
+    let now = t.seen l.turns in
+    says_on words (may c.find_tail.new.chooser) who (t.who c.find_tail.new.turns) old (t.seen c.find_tail.new.turns) (t.seen c.chain_behind.new.turns) (c.in_ok-tail.ensures.same ∙ i.same) (c.in_ok-tail.ensures.who ∙ i.who)
+    (says_on words (may l.chooser) who (t.who l.turns) old now (t.seen c.find_tail.new.turns) i.same i.who i.words c.in_ok-tail.ensures.words)
+    c.in_err-version.ensures.words
+
+pub segment-init : goal.segment-init
+segment-init g c =
+    let p = g.T.Law.Rules in
+    let t = g.T.Turns in
+    let old = t.seen c.args.turns.now in
+    record {
+      later = later_refl p.may p.floor p.shelf old c.requires.legal;
+      who = refl;
+      goes_by = c.requires.goes_by;
+      tail = refl;
+      above = λ pos new later x. x;
+      words = says_refl (g.C.Chooser.may c.args.chooser.now) (t.who c.args.turns.now) old;
+      same = refl;
     }

@@ -4,18 +4,22 @@ use Rattle.legal_journal.specs.declared.events.Event.{Event}
 use Rattle.legal_journal.specs.Journal.{state_of}
 use Rattle.virtual_log.specs.Turning.{Later, IsAbove}
 use Rattle.virtual_log.specs.Log.{GoesBy}
+use Rattle.virtual_log.specs.Saying.{SaysOnly}
 use Rattle.virtual_log.proofs.calls.tail_on.Given as goal
 
 abbrev pub invariant-segment : goal.invariant-segment
 invariant-segment g l =
     let t = g.T.Turns in
     let p = g.T.Law.Rules in
+    let may = g.C.Chooser.may in
     record {
       later : Later p.may p.floor p.shelf (t.seen l.fn.turns) (t.seen l.turns);
       who : t.who l.turns ≡ t.who l.fn.turns;
       goes_by : GoesBy (state_of (t.seen l.turns)) l.known.version l.known.chain l.known.tail;
       tail : l.known.tail ≡ l.fn.known.tail;
       above : (pos : ℕ) (new : List Event) → Later p.may p.floor p.shelf (t.seen l.turns) new → IsAbove (t.who l.fn.turns) (t.seen l.turns) pos new → IsAbove (t.who l.fn.turns) (t.seen l.fn.turns) pos new;
+      words : SaysOnly (may l.fn.chooser) (t.who l.fn.turns) (t.seen l.fn.turns) (t.seen l.turns);
+      same : may l.chooser ≡ may l.fn.chooser;
     }
 
 abbrev pub decreases-segment : goal.decreases-segment

@@ -6,8 +6,10 @@ use Rattle.legal_journal.specs.Journal.{state_of}
 use Rattle.virtual_log.specs.Extending.{IsWritten, IsRefused}
 use Rattle.virtual_log.proofs.OneTurn.{nil, turn_later, later_refl, later_trans}
 use Rattle.virtual_log.proofs.Writing.{turn_wrote, wrote_refl, wrote_trans, wrote_by}
+use Rattle.virtual_log.proofs.Sealing.{turn_none, seals_refl, seals_trans, seals_as}
 use Rattle.virtual_log.proofs.Going.{goes_later}
 use Rattle.virtual_log.proofs.Closing.{fits_now, may_close, closed_ok, refused, refused_goes, refused_same, refusal_ok, written_since, refusal_since}
+use Rattle.virtual_log.proofs.Saying.{turn_says, says_refl, says_then}
 use Rattle.virtual_log.proofs.extend.close_at.Goals as goal
 
 pub extend-requires-clause-chain : goal.extend-requires-clause-chain
@@ -41,8 +43,8 @@ extend-requires-clause-next g c =
     let f = fits_now p.may p.floor p.shelf (t.who l.turns) now k.version k.tail c.args.length k.chain i.later.legal i.goes_by i.told in
     omega (arith, f.spare, f.few)
 
-pub turn-requires : goal.turn-requires
-turn-requires g c =
+pub turn-requires-clause-may : goal.turn-requires-clause-may
+turn-requires-clause-may g c =
     let p = g.T.Law.Rules in
     let t = g.T.Turns in
     let l = c.write in
@@ -158,6 +160,11 @@ returns-in_default g c =
       who = c.turn.ensures.who ∙ i.who;
       goes_by = goes_later p.may p.floor p.shelf now new k.version k.tail k.chain step i.goes_by;
       closed = tt;
+      unsealed = seals_trans (t.who c.args.turns.now) (t.seen c.args.turns.now) now new i.unsealed
+          (seals_as _ _ _ _ i.who (turn_none p.may p.floor p.shelf _ _ _ _ _ c.turn.ensures.turn refl));
+      silent = λ words.
+          says_then words (t.who c.args.turns.now) (t.who l.turns) (t.seen c.args.turns.now) (t.seen l.turns) (t.seen c.turn.new.self) i.who (i.silent words)
+          (turn_says p.may p.floor p.shelf (t.who l.turns) (t.seen l.turns) words _ _ _ c.turn.ensures.turn tt);
       unknown = i.tail;
       err = tt;
     }
@@ -195,6 +202,11 @@ write-preserved g c =
       tail = i.tail;
       quiet = wrote_trans (t.who c.args.turns.now) (t.seen c.args.turns.now) now new i.quiet
           (wrote_by _ _ _ _ i.who (turn_wrote p.may p.floor p.shelf _ _ _ _ _ c.in-Conflict.ensures.turn c.in-Conflict.ensures.turn.event refl));
+      unsealed = seals_trans (t.who c.args.turns.now) (t.seen c.args.turns.now) now new i.unsealed
+          (seals_as _ _ _ _ i.who (turn_none p.may p.floor p.shelf _ _ _ _ _ c.in-Conflict.ensures.turn refl));
+      silent = λ words.
+          says_then words (t.who c.args.turns.now) (t.who l.turns) (t.seen c.args.turns.now) (t.seen l.turns) (t.seen c.turn.new.self) i.who (i.silent words)
+          (turn_says p.may p.floor p.shelf (t.who l.turns) (t.seen l.turns) words _ _ _ c.in-Conflict.ensures.turn tt);
     }
 
 pub write-init : goal.write-init
@@ -210,4 +222,88 @@ write-init g c =
       told = c.requires.told;
       tail = refl;
       quiet = wrote_refl (t.who c.args.turns.now) old (nil old);
+      unsealed = seals_refl (t.who c.args.turns.now) old;
+      silent = λ words. says_refl words (t.who c.args.turns.now) old;
     }
+
+pub returns-in-Written-clause-unsealed : goal.returns-in-Written-clause-unsealed
+returns-in-Written-clause-unsealed g c =
+    let p = g.T.Law.Rules in
+    let t = g.T.Turns in
+    let l = c.write in
+    let i = l.invariant in
+    seals_trans (t.who c.args.turns.now) (t.seen c.args.turns.now) (t.seen l.turns) (t.seen c.turn.new.self) i.unsealed
+    (seals_as _ _ _ _ i.who (turn_none p.may p.floor p.shelf _ _ _ _ _ c.in-Written.ensures.turn refl))
+
+pub returns-then-newest-last-clause-unsealed : goal.returns-then-newest-last-clause-unsealed
+returns-then-newest-last-clause-unsealed g c =
+    let p = g.T.Law.Rules in
+    let t = g.T.Turns in
+    let l = c.write in
+    let i = l.invariant in
+    seals_trans (t.who c.args.turns.now) (t.seen c.args.turns.now) (t.seen l.turns) (t.seen c.turn.new.self) i.unsealed
+    (seals_as _ _ _ _ i.who (turn_none p.may p.floor p.shelf _ _ _ _ _ c.in-Conflict.ensures.turn refl))
+
+pub returns-in-MetaFault-clause-unsealed : goal.returns-in-MetaFault-clause-unsealed
+returns-in-MetaFault-clause-unsealed g c =
+    let p = g.T.Law.Rules in
+    let t = g.T.Turns in
+    let l = c.write in
+    let i = l.invariant in
+    seals_trans (t.who c.args.turns.now) (t.seen c.args.turns.now) (t.seen l.turns) (t.seen c.turn.new.self) i.unsealed
+    (seals_as _ _ _ _ i.who (turn_none p.may p.floor p.shelf _ _ _ _ _ c.in-MetaFault.ensures.turn refl))
+
+pub returns-in-Down-clause-unsealed : goal.returns-in-Down-clause-unsealed
+returns-in-Down-clause-unsealed g c =
+    let p = g.T.Law.Rules in
+    let t = g.T.Turns in
+    let l = c.write in
+    let i = l.invariant in
+    seals_trans (t.who c.args.turns.now) (t.seen c.args.turns.now) (t.seen l.turns) (t.seen c.turn.new.self) i.unsealed
+    (seals_as _ _ _ _ i.who (turn_none p.may p.floor p.shelf _ _ _ _ _ c.in-Down.ensures.turn refl))
+
+pub returns-in-Written-clause-silent : goal.returns-in-Written-clause-silent
+returns-in-Written-clause-silent g c =
+    let t = g.T.Turns in
+    let p = g.T.Law.Rules in
+    let l = c.write in
+    let i = l.invariant in
+    λ words.
+    says_then words (t.who c.args.turns.now) (t.who l.turns) (t.seen c.args.turns.now) (t.seen l.turns) (t.seen c.turn.new.self) i.who (i.silent words)
+    (turn_says p.may p.floor p.shelf (t.who l.turns) (t.seen l.turns) words _ _ _ c.in-Written.ensures.turn tt)
+
+pub returns-then-newest-last-clause-silent : goal.returns-then-newest-last-clause-silent
+returns-then-newest-last-clause-silent g c =
+    let t = g.T.Turns in
+    let p = g.T.Law.Rules in
+    let l = c.write in
+    let i = l.invariant in
+    λ words.
+    says_then words (t.who c.args.turns.now) (t.who l.turns) (t.seen c.args.turns.now) (t.seen l.turns) (t.seen c.turn.new.self) i.who (i.silent words)
+    (turn_says p.may p.floor p.shelf (t.who l.turns) (t.seen l.turns) words _ _ _ c.in-Conflict.ensures.turn tt)
+
+pub returns-in-MetaFault-clause-silent : goal.returns-in-MetaFault-clause-silent
+returns-in-MetaFault-clause-silent g c =
+    let t = g.T.Turns in
+    let p = g.T.Law.Rules in
+    let l = c.write in
+    let i = l.invariant in
+    λ words.
+    says_then words (t.who c.args.turns.now) (t.who l.turns) (t.seen c.args.turns.now) (t.seen l.turns) (t.seen c.turn.new.self) i.who (i.silent words)
+    (turn_says p.may p.floor p.shelf (t.who l.turns) (t.seen l.turns) words _ _ _ c.in-MetaFault.ensures.turn tt)
+
+pub returns-in-Down-clause-silent : goal.returns-in-Down-clause-silent
+returns-in-Down-clause-silent g c =
+    let t = g.T.Turns in
+    let p = g.T.Law.Rules in
+    let l = c.write in
+    let i = l.invariant in
+    λ words.
+    says_then words (t.who c.args.turns.now) (t.who l.turns) (t.seen c.args.turns.now) (t.seen l.turns) (t.seen c.turn.new.self) i.who (i.silent words)
+    (turn_says p.may p.floor p.shelf (t.who l.turns) (t.seen l.turns) words _ _ _ c.in-Down.ensures.turn tt)
+
+pub returns-in_err-next-clause-silent : goal.returns-in_err-next-clause-silent
+returns-in_err-next-clause-silent g c = c.write.invariant.silent
+
+pub returns-in_err-copy-clause-silent : goal.returns-in_err-copy-clause-silent
+returns-in_err-copy-clause-silent g c = c.write.invariant.silent

@@ -4,7 +4,9 @@ use Rattle.chain_map.specs.Chain.{last_segment}
 use Rattle.legal_journal.specs.Journal.{state_of}
 use Rattle.virtual_log.specs.Turning.{Later}
 use Rattle.virtual_log.specs.Writing.{WroteNone}
+use Rattle.virtual_log.specs.Sealing.{SealsNone}
 use Rattle.virtual_log.specs.Log.{GoesBy}
+use Rattle.virtual_log.specs.Saying.{SaysNone}
 use Rattle.virtual_log.proofs.extend.close_at.Given as goal
 
 abbrev pub invariant-write : goal.invariant-write
@@ -19,6 +21,8 @@ invariant-write g l =
       told : Contains ((state_of (t.seen l.turns)).cells (last_segment l.known.chain).id).ends l.length;
       tail : l.known.tail ≡ l.fn.known.tail;
       quiet : WroteNone (t.who l.fn.turns) (t.seen l.fn.turns) (t.seen l.turns);
+      unsealed : SealsNone (t.who l.fn.turns) (t.seen l.fn.turns) (t.seen l.turns);
+      silent : SaysNone (t.who l.fn.turns) (t.seen l.fn.turns) (t.seen l.turns);
     }
 
 abbrev pub decreases-write : goal.decreases-write

@@ -1,4 +1,4 @@
-use Rattle.std.proofs.Common.{◌≡◌, ◌+◌, ◌<◌, ◌∙◌, [], length, refl, ap, subst, arith}
+use Rattle.std.proofs.Common.{◌≡◌, inl, inr, ◌+◌, ◌<◌, ◌∙◌, [], length, refl, ap, subst, arith}
 use Rattle.std.proofs.lemmas.Result.{err_from_is_err_and}
 use Rattle.delos_types.specs.declared.chain.Segment.{Segment}
 use Rattle.chain_map.specs.Chain.{last_segment}
@@ -7,7 +7,9 @@ use Rattle.virtual_log.specs.Extending.{Closes}
 use Rattle.virtual_log.proofs.OneTurn.{nil, later_trans, cause_since}
 use Rattle.virtual_log.proofs.Going.{last_there, goes_later, goes_now, last_within}
 use Rattle.virtual_log.proofs.Writing.{wrote_trans, wrote_by}
+use Rattle.virtual_log.proofs.Sealing.{seals_as, only_none, at_then, at_same, after_look}
 use Rattle.virtual_log.proofs.Closing.{closed_since, follows_closed}
+use Rattle.virtual_log.proofs.Saying.{says_then, says_on}
 use Rattle.virtual_log.proofs.extend.extend_on.Goals as goal
 
 pub returns-in_err-version-clause-goes_by : goal.returns-in_err-version-clause-goes_by
@@ -237,6 +239,11 @@ returns-clause-extension g c =
     let fourth = c.in_ok-closed.ensures in
     let to_e = later_trans p.may p.floor p.shelf a d e to_d fourth.later in
     let quiet = wrote_trans who a b d (wrote_by _ _ _ _ first.who second.quiet) (wrote_by _ _ _ _ (second.who ∙ first.who) third.quiet) in
+    let sealed = at_then who (last_segment chain).id a d e
+    (at_then who (last_segment chain).id a b d
+    (at_same who (t.who c.look.new.turns) c.last_of-last.result.id (last_segment chain).id a b first.who (ap (λ (s : Segment). s.id) c.last_of-last.ensures) second.seals)
+    (seals_as who (t.who c.seal.new.turns) b d (second.who ∙ first.who) third.unsealed))
+    (seals_as who (t.who c.find_tail.new.turns) d e who_d fourth.unsealed) in
     let spare : (last_segment chain).id + 1 < length p.shelf = omega (arith, few.0, c.if-last-shelf_len.false, c.requires.shelf, ap (λ (s : Segment). s.id) c.last_of-last.ensures) in
     record {
       others = first.ok.others;
@@ -245,11 +252,12 @@ returns-clause-extension g c =
       chain = chain;
       looked = a;
       look = first.ok.seen;
-      rest = to_e.more;
-      seen = to_e.seen;
-      follows = follows_closed (length p.shelf) who a (last_segment chain) k.tail c.close_at.new.known.tail c.close_at.new.known.version to_e.more e c.in_ok-closed.closed spare
+      rest = sealed.more;
+      seen = sealed.seen;
+      follows = follows_closed (length p.shelf) who a (last_segment chain) k.tail c.close_at.new.known.tail c.close_at.new.known.version sealed.more e c.in_ok-closed.closed spare
           (closed_since p.may p.floor p.shelf who v chain old first.ok.others a d e to_d.more fourth.later.legal first.ok.seen to_d.seen quiet k.tail c.close_at.new.known.tail c.close_at.new.known.version c.in_ok-closed.closed
           (subst (λ w. Closes w d (last_segment chain) k.tail c.close_at.new.known.tail c.close_at.new.known.version e c.in_ok-closed.closed) who_d fourth.closed));
+      seals = sealed.only;
     }
 
 pub returns-then-last-shelf_len-clause-extension : goal.returns-then-last-shelf_len-clause-extension
@@ -270,4 +278,173 @@ returns-then-last-shelf_len-clause-extension g c =
       rest = [];
       seen = nil a;
       follows = (none, refl, refl);
+      seals = only_none (t.who c.args.turns.now) (last_segment chain).id [] refl;
     }
+
+pub returns-in_err-version-clause-seals : goal.returns-in_err-version-clause-seals
+returns-in_err-version-clause-seals g c = inl c.in_err-version.ensures.unsealed
+
+pub returns-then-last-shelf_len-clause-seals : goal.returns-then-last-shelf_len-clause-seals
+returns-then-last-shelf_len-clause-seals g c = inl c.in_ok-version.ensures.unsealed
+
+pub returns-in_err-seal-clause-seals : goal.returns-in_err-seal-clause-seals
+returns-in_err-seal-clause-seals g c =
+    let t = g.T.Turns in
+    let who = t.who c.args.turns.now in
+    let old = t.seen c.args.turns.now in
+    let a = t.seen c.look.new.turns in
+    let first = c.in_ok-version.ensures in
+    let v = c.in_ok-version.version in
+    let chain = c.in_ok-version.chain in
+    let id = (last_segment chain).id in
+    let b = t.seen c.seal.new.turns in
+    let sealed = at_same who (t.who c.look.new.turns) c.last_of-last.result.id id a b first.who (ap (λ (s : Segment). s.id) c.last_of-last.ensures) c.in_err-seal.ensures.seals in
+    inr (after_look who old first.ok.others a b v chain first.ok.apart first.ok.seen sealed)
+
+pub returns-in_err-length-clause-seals : goal.returns-in_err-length-clause-seals
+returns-in_err-length-clause-seals g c =
+    let t = g.T.Turns in
+    let who = t.who c.args.turns.now in
+    let old = t.seen c.args.turns.now in
+    let a = t.seen c.look.new.turns in
+    let first = c.in_ok-version.ensures in
+    let v = c.in_ok-version.version in
+    let chain = c.in_ok-version.chain in
+    let id = (last_segment chain).id in
+    let b = t.seen c.seal.new.turns in
+    let sealed = at_same who (t.who c.look.new.turns) c.last_of-last.result.id id a b first.who (ap (λ (s : Segment). s.id) c.last_of-last.ensures) c.in_ok-seal.ensures.seals in
+    let second = c.in_ok-seal.ensures in
+    let d = t.seen c.find_tail.new.turns in
+    let found = at_then who id a b d sealed (seals_as who (t.who c.seal.new.turns) b d (second.who ∙ first.who) c.in_err-length.ensures.unsealed) in
+    inr (after_look who old first.ok.others a d v chain first.ok.apart first.ok.seen found)
+
+pub returns-in_err-closed-clause-seals : goal.returns-in_err-closed-clause-seals
+returns-in_err-closed-clause-seals g c =
+    let t = g.T.Turns in
+    let who = t.who c.args.turns.now in
+    let old = t.seen c.args.turns.now in
+    let a = t.seen c.look.new.turns in
+    let first = c.in_ok-version.ensures in
+    let v = c.in_ok-version.version in
+    let chain = c.in_ok-version.chain in
+    let id = (last_segment chain).id in
+    let b = t.seen c.seal.new.turns in
+    let sealed = at_same who (t.who c.look.new.turns) c.last_of-last.result.id id a b first.who (ap (λ (s : Segment). s.id) c.last_of-last.ensures) c.in_ok-seal.ensures.seals in
+    let second = c.in_ok-seal.ensures in
+    let d = t.seen c.find_tail.new.turns in
+    let found = at_then who id a b d sealed (seals_as who (t.who c.seal.new.turns) b d (second.who ∙ first.who) c.in_ok-length.ensures.unsealed) in
+    let third = c.in_ok-length.ensures in
+    let e = t.seen c.close_at.new.turns in
+    let closed = at_then who id a d e found (seals_as who (t.who c.find_tail.new.turns) d e (third.who ∙ (second.who ∙ first.who)) c.in_err-closed.ensures.unsealed) in
+    inr (after_look who old first.ok.others a e v chain first.ok.apart first.ok.seen closed)
+
+pub returns-clause-seals : goal.returns-clause-seals
+returns-clause-seals g c =
+    let t = g.T.Turns in
+    let who = t.who c.args.turns.now in
+    let old = t.seen c.args.turns.now in
+    let a = t.seen c.look.new.turns in
+    let first = c.in_ok-version.ensures in
+    let v = c.in_ok-version.version in
+    let chain = c.in_ok-version.chain in
+    let id = (last_segment chain).id in
+    let b = t.seen c.seal.new.turns in
+    let sealed = at_same who (t.who c.look.new.turns) c.last_of-last.result.id id a b first.who (ap (λ (s : Segment). s.id) c.last_of-last.ensures) c.in_ok-seal.ensures.seals in
+    let second = c.in_ok-seal.ensures in
+    let d = t.seen c.find_tail.new.turns in
+    let found = at_then who id a b d sealed (seals_as who (t.who c.seal.new.turns) b d (second.who ∙ first.who) c.in_ok-length.ensures.unsealed) in
+    let third = c.in_ok-length.ensures in
+    let e = t.seen c.close_at.new.turns in
+    let closed = at_then who id a d e found (seals_as who (t.who c.find_tail.new.turns) d e (third.who ∙ (second.who ∙ first.who)) c.in_ok-closed.ensures.unsealed) in
+    inr (after_look who old first.ok.others a e v chain first.ok.apart first.ok.seen closed)
+
+pub returns-in_err-closed-clause-later : goal.returns-in_err-closed-clause-later
+returns-in_err-closed-clause-later g c =
+    let p = g.T.Law.Rules in
+    let t = g.T.Turns in
+    let old = t.seen c.args.turns.now in
+    let a = t.seen c.look.new.turns in
+    let b = t.seen c.seal.new.turns in
+    let d = t.seen c.find_tail.new.turns in
+    let e = t.seen c.close_at.new.turns in
+    later_trans p.may p.floor p.shelf old d e
+    (later_trans p.may p.floor p.shelf old b d (later_trans p.may p.floor p.shelf old a b c.in_ok-version.ensures.later c.in_ok-seal.ensures.later) c.in_ok-length.ensures.later)
+    c.in_err-closed.ensures.later
+
+pub returns-clause-later : goal.returns-clause-later
+returns-clause-later g c =
+    let p = g.T.Law.Rules in
+    let t = g.T.Turns in
+    let old = t.seen c.args.turns.now in
+    let a = t.seen c.look.new.turns in
+    let b = t.seen c.seal.new.turns in
+    let d = t.seen c.find_tail.new.turns in
+    let e = t.seen c.close_at.new.turns in
+    later_trans p.may p.floor p.shelf old d e
+    (later_trans p.may p.floor p.shelf old b d (later_trans p.may p.floor p.shelf old a b c.in_ok-version.ensures.later c.in_ok-seal.ensures.later) c.in_ok-length.ensures.later)
+    c.in_ok-closed.ensures.later
+
+pub returns-in_err-version-clause-words : goal.returns-in_err-version-clause-words
+returns-in_err-version-clause-words g c = c.in_err-version.ensures.silent (g.C.Chooser.may c.args.chooser.now)
+
+pub returns-then-last-shelf_len-clause-words : goal.returns-then-last-shelf_len-clause-words
+returns-then-last-shelf_len-clause-words g c = c.in_ok-version.ensures.silent (g.C.Chooser.may c.args.chooser.now)
+
+pub returns-in_err-seal-clause-words : goal.returns-in_err-seal-clause-words
+returns-in_err-seal-clause-words g c =
+    let t = g.T.Turns in
+    let who = t.who c.args.turns.now in
+    let old = t.seen c.args.turns.now in
+    let may = g.C.Chooser.may in
+    let words = may c.args.chooser.now in
+    let a = t.seen c.look.new.turns in
+    let first = c.in_ok-version.ensures in
+    says_then words who (t.who c.look.new.turns) old a (t.seen c.seal.new.turns) first.who (first.silent words) c.in_err-seal.ensures.words
+
+pub returns-in_err-length-clause-words : goal.returns-in_err-length-clause-words
+returns-in_err-length-clause-words g c =
+    let t = g.T.Turns in
+    let who = t.who c.args.turns.now in
+    let old = t.seen c.args.turns.now in
+    let may = g.C.Chooser.may in
+    let words = may c.args.chooser.now in
+    let a = t.seen c.look.new.turns in
+    let first = c.in_ok-version.ensures in
+    let b = t.seen c.seal.new.turns in
+    let second = c.in_ok-seal.ensures in
+    let to_b = says_then words who (t.who c.look.new.turns) old a b first.who (first.silent words) second.words in
+    says_on words (may c.seal.new.chooser) who (t.who c.seal.new.turns) old b (t.seen c.find_tail.new.turns) second.same (second.who ∙ first.who) to_b c.in_err-length.ensures.words
+
+pub returns-in_err-closed-clause-words : goal.returns-in_err-closed-clause-words
+returns-in_err-closed-clause-words g c =
+    let t = g.T.Turns in
+    let who = t.who c.args.turns.now in
+    let old = t.seen c.args.turns.now in
+    let may = g.C.Chooser.may in
+    let words = may c.args.chooser.now in
+    let a = t.seen c.look.new.turns in
+    let first = c.in_ok-version.ensures in
+    let b = t.seen c.seal.new.turns in
+    let second = c.in_ok-seal.ensures in
+    let to_b = says_then words who (t.who c.look.new.turns) old a b first.who (first.silent words) second.words in
+    let d = t.seen c.find_tail.new.turns in
+    let third = c.in_ok-length.ensures in
+    let to_d = says_on words (may c.seal.new.chooser) who (t.who c.seal.new.turns) old b d second.same (second.who ∙ first.who) to_b third.words in
+    says_then words who (t.who c.find_tail.new.turns) old d (t.seen c.close_at.new.turns) (third.who ∙ (second.who ∙ first.who)) to_d (c.in_err-closed.ensures.silent words)
+
+pub returns-clause-words : goal.returns-clause-words
+returns-clause-words g c =
+    let t = g.T.Turns in
+    let who = t.who c.args.turns.now in
+    let old = t.seen c.args.turns.now in
+    let may = g.C.Chooser.may in
+    let words = may c.args.chooser.now in
+    let a = t.seen c.look.new.turns in
+    let first = c.in_ok-version.ensures in
+    let b = t.seen c.seal.new.turns in
+    let second = c.in_ok-seal.ensures in
+    let to_b = says_then words who (t.who c.look.new.turns) old a b first.who (first.silent words) second.words in
+    let d = t.seen c.find_tail.new.turns in
+    let third = c.in_ok-length.ensures in
+    let to_d = says_on words (may c.seal.new.chooser) who (t.who c.seal.new.turns) old b d second.same (second.who ∙ first.who) to_b third.words in
+    says_then words who (t.who c.find_tail.new.turns) old d (t.seen c.close_at.new.turns) (third.who ∙ (second.who ∙ first.who)) to_d (c.in_ok-closed.ensures.silent words)

@@ -11,10 +11,11 @@ use Rattle.virtual_log.specs.Turning.{Answered}
 use Rattle.virtual_log.specs.declared.fault.Fault.TheVariants as fault
 use Rattle.virtual_log.proofs.OneTurn.{own_by, lack_cause, cause_since, first_later}
 use Rattle.virtual_log.proofs.Appending.{may_append, started_within, placed_ok, sealed_ok}
+use Rattle.virtual_log.proofs.Saying.{says_refl, says_then}
 use Rattle.virtual_log.proofs.operation.append_to.Goals as goal
 
-pub begin-requires : goal.begin-requires
-begin-requires g c =
+pub begin-requires-clause-may : goal.begin-requires-clause-may
+begin-requires-clause-may g c =
     let p = g.T.Law.Rules in
     let t = g.T.Turns in
     may_append p.may p.floor p.shelf (t.who c.args.turns.now) (t.seen c.args.turns.now) c.args.segment.id c.in_ok-copy.copy
@@ -128,3 +129,41 @@ pub returns-in-Sealed-clause-retry : goal.returns-in-Sealed-clause-retry
 returns-in-Sealed-clause-retry g c =
     let t = g.T.Turns in
     first_later (t.who c.args.turns.now) (t.seen c.args.turns.now) (t.seen c.begin.new.turns) (t.seen c.carry_on.new.turns) c.in_ok-place.ensures.later.more c.in_ok-place.ensures.later.seen c.in_ok-ticket.ensures.ok.first
+
+pub returns-in_err-copy-clause-words : goal.returns-in_err-copy-clause-words
+returns-in_err-copy-clause-words g c =
+    let t = g.T.Turns in
+    says_refl (g.C.Chooser.may c.args.chooser.now) (t.who c.args.turns.now) (t.seen c.args.turns.now)
+
+pub returns-in_err-ticket-clause-words : goal.returns-in_err-ticket-clause-words
+returns-in_err-ticket-clause-words g c = c.in_err-ticket.ensures.silent (g.C.Chooser.may c.args.chooser.now)
+
+pub returns-in_err-place-clause-words : goal.returns-in_err-place-clause-words
+returns-in_err-place-clause-words g c =
+    let t = g.T.Turns in
+    let words = g.C.Chooser.may c.args.chooser.now in
+    says_then words (t.who c.args.turns.now) (t.who c.begin.new.turns) (t.seen c.args.turns.now) (t.seen c.begin.new.turns) (t.seen c.carry_on.new.turns) c.in_ok-ticket.ensures.who (c.in_ok-ticket.ensures.silent words) c.in_err-place.ensures.words
+
+pub returns-in-Placed-clause-words : goal.returns-in-Placed-clause-words
+returns-in-Placed-clause-words g c =
+    let t = g.T.Turns in
+    let words = g.C.Chooser.may c.args.chooser.now in
+    says_then words (t.who c.args.turns.now) (t.who c.begin.new.turns) (t.seen c.args.turns.now) (t.seen c.begin.new.turns) (t.seen c.carry_on.new.turns) c.in_ok-ticket.ensures.who (c.in_ok-ticket.ensures.silent words) c.in_ok-place.ensures.words
+
+pub returns-in-Sealed-clause-words : goal.returns-in-Sealed-clause-words
+returns-in-Sealed-clause-words g c =
+    let t = g.T.Turns in
+    let words = g.C.Chooser.may c.args.chooser.now in
+    says_then words (t.who c.args.turns.now) (t.who c.begin.new.turns) (t.seen c.args.turns.now) (t.seen c.begin.new.turns) (t.seen c.carry_on.new.turns) c.in_ok-ticket.ensures.who (c.in_ok-ticket.ensures.silent words) c.in_ok-place.ensures.words
+
+pub returns-in-NoQuorum-clause-words : goal.returns-in-NoQuorum-clause-words
+returns-in-NoQuorum-clause-words g c =
+    let t = g.T.Turns in
+    let words = g.C.Chooser.may c.args.chooser.now in
+    says_then words (t.who c.args.turns.now) (t.who c.begin.new.turns) (t.seen c.args.turns.now) (t.seen c.begin.new.turns) (t.seen c.carry_on.new.turns) c.in_ok-ticket.ensures.who (c.in_ok-ticket.ensures.silent words) c.in_ok-place.ensures.words
+
+pub returns-in_default-clause-words : goal.returns-in_default-clause-words
+returns-in_default-clause-words g c =
+    let t = g.T.Turns in
+    let words = g.C.Chooser.may c.args.chooser.now in
+    says_then words (t.who c.args.turns.now) (t.who c.begin.new.turns) (t.seen c.args.turns.now) (t.seen c.begin.new.turns) (t.seen c.carry_on.new.turns) c.in_ok-ticket.ensures.who (c.in_ok-ticket.ensures.silent words) c.in_ok-place.ensures.words

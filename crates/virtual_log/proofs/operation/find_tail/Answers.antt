@@ -1,4 +1,4 @@
-use Rattle.std.proofs.Common.{◌++◌, subst, arith}
+use Rattle.std.proofs.Common.{◌++◌, refl, subst, arith}
 use Rattle.loglet_api.specs.declared.call.Op.TheVariants.{Tail}
 use Rattle.loglet_api.specs.declared.call.Answer.{Answer}
 use Rattle.legal_journal.specs.Told.{started}
@@ -8,10 +8,12 @@ use Rattle.virtual_log.specs.declared.fault.Fault.TheVariants as fault
 use Rattle.virtual_log.proofs.OneTurn.{own_by, lack_cause, cause_since, first_later}
 use Rattle.virtual_log.proofs.Appending.{may_tail, started_within, tail_ok, end_ok, shut_ok, never_open}
 use Rattle.virtual_log.proofs.Writing.{wrote_trans, wrote_by}
+use Rattle.virtual_log.proofs.Sealing.{seals_trans, seals_as}
+use Rattle.virtual_log.proofs.Saying.{says_then}
 use Rattle.virtual_log.proofs.operation.find_tail.Goals as goal
 
-pub begin-requires : goal.begin-requires
-begin-requires g c =
+pub begin-requires-clause-may : goal.begin-requires-clause-may
+begin-requires-clause-may g c =
     let p = g.T.Law.Rules in
     may_tail p.may p.floor p.shelf _ _ c.args.segment.id (started_within p.may p.floor p.shelf (g.T.Turns.seen c.args.turns.now) c.args.segment.id c.args.segment.start c.requires.legal c.requires.started)
 
@@ -101,3 +103,69 @@ returns-in-SealedTail-clause-quiet g c =
     let t = g.T.Turns in
     wrote_trans (t.who c.args.turns.now) (t.seen c.args.turns.now) (t.seen c.begin.new.turns) (t.seen c.carry_on.new.turns) c.in_ok-ticket.ensures.quiet
     (wrote_by _ _ _ _ c.in_ok-ticket.ensures.who c.in_ok-length.ensures.quiet)
+
+pub returns-in_err-ticket-clause-unsealed : goal.returns-in_err-ticket-clause-unsealed
+returns-in_err-ticket-clause-unsealed g c = c.in_err-ticket.ensures.unsealed refl
+
+pub returns-in_err-length-clause-unsealed : goal.returns-in_err-length-clause-unsealed
+returns-in_err-length-clause-unsealed g c =
+    let t = g.T.Turns in
+    seals_trans (t.who c.args.turns.now) (t.seen c.args.turns.now) (t.seen c.begin.new.turns) (t.seen c.carry_on.new.turns) (c.in_ok-ticket.ensures.unsealed refl)
+    (seals_as _ _ _ _ c.in_ok-ticket.ensures.who c.in_err-length.ensures.unsealed)
+
+pub returns-in-OpenTail-clause-unsealed : goal.returns-in-OpenTail-clause-unsealed
+returns-in-OpenTail-clause-unsealed g c =
+    let t = g.T.Turns in
+    seals_trans (t.who c.args.turns.now) (t.seen c.args.turns.now) (t.seen c.begin.new.turns) (t.seen c.carry_on.new.turns) (c.in_ok-ticket.ensures.unsealed refl)
+    (seals_as _ _ _ _ c.in_ok-ticket.ensures.who c.in_ok-length.ensures.unsealed)
+
+pub returns-in-SealedTail-clause-unsealed : goal.returns-in-SealedTail-clause-unsealed
+returns-in-SealedTail-clause-unsealed g c =
+    let t = g.T.Turns in
+    seals_trans (t.who c.args.turns.now) (t.seen c.args.turns.now) (t.seen c.begin.new.turns) (t.seen c.carry_on.new.turns) (c.in_ok-ticket.ensures.unsealed refl)
+    (seals_as _ _ _ _ c.in_ok-ticket.ensures.who c.in_ok-length.ensures.unsealed)
+
+pub returns-in-NoQuorum-clause-unsealed : goal.returns-in-NoQuorum-clause-unsealed
+returns-in-NoQuorum-clause-unsealed g c =
+    let t = g.T.Turns in
+    seals_trans (t.who c.args.turns.now) (t.seen c.args.turns.now) (t.seen c.begin.new.turns) (t.seen c.carry_on.new.turns) (c.in_ok-ticket.ensures.unsealed refl)
+    (seals_as _ _ _ _ c.in_ok-ticket.ensures.who c.in_ok-length.ensures.unsealed)
+
+pub returns-in_default-clause-unsealed : goal.returns-in_default-clause-unsealed
+returns-in_default-clause-unsealed g c =
+    let t = g.T.Turns in
+    seals_trans (t.who c.args.turns.now) (t.seen c.args.turns.now) (t.seen c.begin.new.turns) (t.seen c.carry_on.new.turns) (c.in_ok-ticket.ensures.unsealed refl)
+    (seals_as _ _ _ _ c.in_ok-ticket.ensures.who c.in_ok-length.ensures.unsealed)
+
+pub returns-in_err-ticket-clause-words : goal.returns-in_err-ticket-clause-words
+returns-in_err-ticket-clause-words g c = c.in_err-ticket.ensures.silent (g.C.Chooser.may c.args.chooser.now)
+
+pub returns-in_err-length-clause-words : goal.returns-in_err-length-clause-words
+returns-in_err-length-clause-words g c =
+    let t = g.T.Turns in
+    let words = g.C.Chooser.may c.args.chooser.now in
+    says_then words (t.who c.args.turns.now) (t.who c.begin.new.turns) (t.seen c.args.turns.now) (t.seen c.begin.new.turns) (t.seen c.carry_on.new.turns) c.in_ok-ticket.ensures.who (c.in_ok-ticket.ensures.silent words) c.in_err-length.ensures.words
+
+pub returns-in-OpenTail-clause-words : goal.returns-in-OpenTail-clause-words
+returns-in-OpenTail-clause-words g c =
+    let t = g.T.Turns in
+    let words = g.C.Chooser.may c.args.chooser.now in
+    says_then words (t.who c.args.turns.now) (t.who c.begin.new.turns) (t.seen c.args.turns.now) (t.seen c.begin.new.turns) (t.seen c.carry_on.new.turns) c.in_ok-ticket.ensures.who (c.in_ok-ticket.ensures.silent words) c.in_ok-length.ensures.words
+
+pub returns-in-SealedTail-clause-words : goal.returns-in-SealedTail-clause-words
+returns-in-SealedTail-clause-words g c =
+    let t = g.T.Turns in
+    let words = g.C.Chooser.may c.args.chooser.now in
+    says_then words (t.who c.args.turns.now) (t.who c.begin.new.turns) (t.seen c.args.turns.now) (t.seen c.begin.new.turns) (t.seen c.carry_on.new.turns) c.in_ok-ticket.ensures.who (c.in_ok-ticket.ensures.silent words) c.in_ok-length.ensures.words
+
+pub returns-in-NoQuorum-clause-words : goal.returns-in-NoQuorum-clause-words
+returns-in-NoQuorum-clause-words g c =
+    let t = g.T.Turns in
+    let words = g.C.Chooser.may c.args.chooser.now in
+    says_then words (t.who c.args.turns.now) (t.who c.begin.new.turns) (t.seen c.args.turns.now) (t.seen c.begin.new.turns) (t.seen c.carry_on.new.turns) c.in_ok-ticket.ensures.who (c.in_ok-ticket.ensures.silent words) c.in_ok-length.ensures.words
+
+pub returns-in_default-clause-words : goal.returns-in_default-clause-words
+returns-in_default-clause-words g c =
+    let t = g.T.Turns in
+    let words = g.C.Chooser.may c.args.chooser.now in
+    says_then words (t.who c.args.turns.now) (t.who c.begin.new.turns) (t.seen c.args.turns.now) (t.seen c.begin.new.turns) (t.seen c.carry_on.new.turns) c.in_ok-ticket.ensures.who (c.in_ok-ticket.ensures.silent words) c.in_ok-length.ensures.words

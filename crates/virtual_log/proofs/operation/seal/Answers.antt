@@ -8,6 +8,8 @@ use Rattle.virtual_log.specs.declared.fault.Fault.TheVariants as fault
 use Rattle.virtual_log.proofs.OneTurn.{own_by, lack_cause, cause_since}
 use Rattle.virtual_log.proofs.Appending.{sealing_ok}
 use Rattle.virtual_log.proofs.Writing.{wrote_trans, wrote_by}
+use Rattle.virtual_log.proofs.Sealing.{seals_as, at_then}
+use Rattle.virtual_log.proofs.Saying.{says_then}
 use Rattle.virtual_log.proofs.operation.seal.Goals as goal
 
 pub returns-in-SealDone-clause-sealed : goal.returns-in-SealDone-clause-sealed
@@ -42,3 +44,57 @@ returns-in-SealDone-clause-quiet g c =
     let t = g.T.Turns in
     wrote_trans (t.who c.args.turns.now) (t.seen c.args.turns.now) (t.seen c.begin.new.turns) (t.seen c.carry_on.new.turns) c.in_ok-ticket.ensures.quiet
     (wrote_by _ _ _ _ c.in_ok-ticket.ensures.who c.in_ok-carry_on.ensures.quiet)
+
+pub returns-in_err-ticket-clause-seals : goal.returns-in_err-ticket-clause-seals
+returns-in_err-ticket-clause-seals g c = c.in_err-ticket.ensures.seals
+
+pub returns-in_err-carry_on-clause-seals : goal.returns-in_err-carry_on-clause-seals
+returns-in_err-carry_on-clause-seals g c =
+    let t = g.T.Turns in
+    at_then (t.who c.args.turns.now) c.args.id (t.seen c.args.turns.now) (t.seen c.begin.new.turns) (t.seen c.carry_on.new.turns) c.in_ok-ticket.ensures.seals
+    (seals_as _ _ _ _ c.in_ok-ticket.ensures.who c.in_err-carry_on.ensures.unsealed)
+
+pub returns-in-SealDone-clause-seals : goal.returns-in-SealDone-clause-seals
+returns-in-SealDone-clause-seals g c =
+    let t = g.T.Turns in
+    at_then (t.who c.args.turns.now) c.args.id (t.seen c.args.turns.now) (t.seen c.begin.new.turns) (t.seen c.carry_on.new.turns) c.in_ok-ticket.ensures.seals
+    (seals_as _ _ _ _ c.in_ok-ticket.ensures.who c.in_ok-carry_on.ensures.unsealed)
+
+pub returns-in-NoQuorum-clause-seals : goal.returns-in-NoQuorum-clause-seals
+returns-in-NoQuorum-clause-seals g c =
+    let t = g.T.Turns in
+    at_then (t.who c.args.turns.now) c.args.id (t.seen c.args.turns.now) (t.seen c.begin.new.turns) (t.seen c.carry_on.new.turns) c.in_ok-ticket.ensures.seals
+    (seals_as _ _ _ _ c.in_ok-ticket.ensures.who c.in_ok-carry_on.ensures.unsealed)
+
+pub returns-in_default-clause-seals : goal.returns-in_default-clause-seals
+returns-in_default-clause-seals g c =
+    let t = g.T.Turns in
+    at_then (t.who c.args.turns.now) c.args.id (t.seen c.args.turns.now) (t.seen c.begin.new.turns) (t.seen c.carry_on.new.turns) c.in_ok-ticket.ensures.seals
+    (seals_as _ _ _ _ c.in_ok-ticket.ensures.who c.in_ok-carry_on.ensures.unsealed)
+
+pub returns-in_err-ticket-clause-words : goal.returns-in_err-ticket-clause-words
+returns-in_err-ticket-clause-words g c = c.in_err-ticket.ensures.silent (g.C.Chooser.may c.args.chooser.now)
+
+pub returns-in_err-carry_on-clause-words : goal.returns-in_err-carry_on-clause-words
+returns-in_err-carry_on-clause-words g c =
+    let t = g.T.Turns in
+    let words = g.C.Chooser.may c.args.chooser.now in
+    says_then words (t.who c.args.turns.now) (t.who c.begin.new.turns) (t.seen c.args.turns.now) (t.seen c.begin.new.turns) (t.seen c.carry_on.new.turns) c.in_ok-ticket.ensures.who (c.in_ok-ticket.ensures.silent words) c.in_err-carry_on.ensures.words
+
+pub returns-in-SealDone-clause-words : goal.returns-in-SealDone-clause-words
+returns-in-SealDone-clause-words g c =
+    let t = g.T.Turns in
+    let words = g.C.Chooser.may c.args.chooser.now in
+    says_then words (t.who c.args.turns.now) (t.who c.begin.new.turns) (t.seen c.args.turns.now) (t.seen c.begin.new.turns) (t.seen c.carry_on.new.turns) c.in_ok-ticket.ensures.who (c.in_ok-ticket.ensures.silent words) c.in_ok-carry_on.ensures.words
+
+pub returns-in-NoQuorum-clause-words : goal.returns-in-NoQuorum-clause-words
+returns-in-NoQuorum-clause-words g c =
+    let t = g.T.Turns in
+    let words = g.C.Chooser.may c.args.chooser.now in
+    says_then words (t.who c.args.turns.now) (t.who c.begin.new.turns) (t.seen c.args.turns.now) (t.seen c.begin.new.turns) (t.seen c.carry_on.new.turns) c.in_ok-ticket.ensures.who (c.in_ok-ticket.ensures.silent words) c.in_ok-carry_on.ensures.words
+
+pub returns-in_default-clause-words : goal.returns-in_default-clause-words
+returns-in_default-clause-words g c =
+    let t = g.T.Turns in
+    let words = g.C.Chooser.may c.args.chooser.now in
+    says_then words (t.who c.args.turns.now) (t.who c.begin.new.turns) (t.seen c.args.turns.now) (t.seen c.begin.new.turns) (t.seen c.carry_on.new.turns) c.in_ok-ticket.ensures.who (c.in_ok-ticket.ensures.silent words) c.in_ok-carry_on.ensures.words

@@ -1,12 +1,13 @@
-use Rattle.std.proofs.Common.{◌≡◌, true, ap, subst, arith}
+use Rattle.std.proofs.Common.{◌≡◌, ◌∙◌, true, ap, subst, arith}
 use Rattle.std.proofs.lemmas.Result.{err_from_is_err_and}
 use Rattle.delos_types.specs.declared.chain.Segment.{Segment}
 use Rattle.delos_types.specs.declared.chain.Chain.{Chain}
 use Rattle.chain_map.specs.Chain.{last_of_segments}
 use Rattle.legal_journal.specs.Journal.{state_of}
 use Rattle.virtual_log.specs.Causes.{HasCause}
-use Rattle.virtual_log.proofs.OneTurn.{later_continues, cause_since}
+use Rattle.virtual_log.proofs.OneTurn.{later_continues, later_trans, cause_since}
 use Rattle.virtual_log.proofs.Replacing.{given_now, later_last}
+use Rattle.virtual_log.proofs.Saying.{says_then}
 use Rattle.virtual_log.proofs.replace.chain_behind.Goals as goal
 
 pub returns-then-last_of-segment-clause-given : goal.returns-then-last_of-segment-clause-given
@@ -53,3 +54,61 @@ returns-clause-behind g c =
     let up = later_last p.may p.floor p.shelf (t.who c.args.turns.now) _ c.args.segment.id c.args.segment.start c.in_ok-version.chain (t.seen c.args.turns.now) (t.seen c.look.new.turns) c.in_ok-version.ensures.later.legal c.in_ok-version.ensures.ok at in
     let on = later_continues p.may p.floor p.shelf (t.seen c.finish.new.turns) (t.seen c.look-2.new.turns) c.in_ok-newer.ensures.later in
     omega (arith, up, c.in_ok-finish.ensures.ok, on.last, ap (λ (x : Chain). (last_of_segments x.segments).id) c.in_ok-newer.ensures.ok.chain_is)
+
+pub returns-in_err-newer-clause-err : goal.returns-in_err-newer-clause-err
+returns-in_err-newer-clause-err g c =
+    let t = g.T.Turns in
+    let p = g.T.Law.Rules in
+    let r = err_from_is_err_and c.from_residual-in_err-newer.result c.from_residual-in_err-newer.ensures.1 in
+    let old = t.seen c.args.turns.now in
+    let mid = t.seen c.finish.new.turns in
+    let new = t.seen c.look-2.new.turns in
+    let f = c.in_err-newer.field-0.0 in
+    let before = later_trans p.may p.floor p.shelf old (t.seen c.look.new.turns) mid c.in_ok-version.ensures.later c.in_ok-finish.ensures.later in
+    rw (r.1, r.2) (cause_since (t.who c.args.turns.now) f old mid new before.more before.seen
+    (subst (λ k. HasCause k mid f new) (c.in_ok-finish.ensures.who ∙ c.in_ok-version.ensures.who) c.in_err-newer.ensures.err))
+
+pub returns-in_err-version-clause-words : goal.returns-in_err-version-clause-words
+returns-in_err-version-clause-words g c = c.in_err-version.ensures.silent (g.C.Chooser.may c.args.chooser.now)
+
+pub returns-then-last_of-segment-clause-words : goal.returns-then-last_of-segment-clause-words
+returns-then-last_of-segment-clause-words g c = c.in_ok-version.ensures.silent (g.C.Chooser.may c.args.chooser.now)
+
+pub returns-in_err-finish-clause-words : goal.returns-in_err-finish-clause-words
+returns-in_err-finish-clause-words g c =
+    let t = g.T.Turns in
+    let who = t.who c.args.turns.now in
+    let old = t.seen c.args.turns.now in
+    let may = g.C.Chooser.may in
+    let words = may c.args.chooser.now in
+    let a = t.seen c.look.new.turns in
+    let first = c.in_ok-version.ensures in
+    says_then words who (t.who c.look.new.turns) old a (t.seen c.finish.new.turns) first.who (first.silent words) c.in_err-finish.ensures.words
+
+pub returns-in_err-newer-clause-words : goal.returns-in_err-newer-clause-words
+returns-in_err-newer-clause-words g c =
+    let t = g.T.Turns in
+    let who = t.who c.args.turns.now in
+    let old = t.seen c.args.turns.now in
+    let may = g.C.Chooser.may in
+    let words = may c.args.chooser.now in
+    let a = t.seen c.look.new.turns in
+    let first = c.in_ok-version.ensures in
+    let b = t.seen c.finish.new.turns in
+    let second = c.in_ok-finish.ensures in
+    let to_b = says_then words who (t.who c.look.new.turns) old a b first.who (first.silent words) second.words in
+    says_then words who (t.who c.finish.new.turns) old b (t.seen c.look-2.new.turns) (second.who ∙ first.who) to_b (c.in_err-newer.ensures.silent words)
+
+pub returns-clause-words : goal.returns-clause-words
+returns-clause-words g c =
+    let t = g.T.Turns in
+    let who = t.who c.args.turns.now in
+    let old = t.seen c.args.turns.now in
+    let may = g.C.Chooser.may in
+    let words = may c.args.chooser.now in
+    let a = t.seen c.look.new.turns in
+    let first = c.in_ok-version.ensures in
+    let b = t.seen c.finish.new.turns in
+    let second = c.in_ok-finish.ensures in
+    let to_b = says_then words who (t.who c.look.new.turns) old a b first.who (first.silent words) second.words in
+    says_then words who (t.who c.finish.new.turns) old b (t.seen c.look-2.new.turns) (second.who ∙ first.who) to_b (c.in_ok-newer.ensures.silent words)

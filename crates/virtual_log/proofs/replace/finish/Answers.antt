@@ -4,6 +4,7 @@ use Rattle.legal_journal.specs.Journal.{state_of}
 use Rattle.legal_journal.proofs.Legal.{sound}
 use Rattle.virtual_log.proofs.OneTurn.{later_continues}
 use Rattle.virtual_log.proofs.Replacing.{last_started}
+use Rattle.virtual_log.proofs.Saying.{says_then}
 use Rattle.virtual_log.proofs.replace.finish.Goals as goal
 
 pub find_tail-requires-clause-started : goal.find_tail-requires-clause-started
@@ -17,3 +18,10 @@ pub replace-replaced-requires-clause-given : goal.replace-replaced-requires-clau
 replace-replaced-requires-clause-given g c =
     let p = g.T.Law.Rules in
     (later_continues p.may p.floor p.shelf (g.T.Turns.seen c.args.turns.now) (g.T.Turns.seen c.find_tail.new.turns) c.in_ok-length.ensures.later).given c.args.version c.args.chain.now c.requires.given
+
+pub returns-clause-words : goal.returns-clause-words
+returns-clause-words g c =
+    let t = g.T.Turns in
+    let words = g.C.Chooser.may c.args.chooser.now in
+    says_then words (t.who c.args.turns.now) (t.who c.find_tail.new.turns) (t.seen c.args.turns.now) (t.seen c.find_tail.new.turns) (t.seen c.replace-replaced.new.turns) c.in_ok-length.ensures.who c.in_ok-length.ensures.words
+    (c.replace-replaced.ensures.silent words)

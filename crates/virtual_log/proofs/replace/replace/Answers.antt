@@ -6,6 +6,7 @@ use Rattle.legal_journal.specs.Journal.{state_of}
 use Rattle.legal_journal.proofs.Legal.{sound}
 use Rattle.virtual_log.proofs.OneTurn.{turn_later, later_trans}
 use Rattle.virtual_log.proofs.Replacing.{fits, may_write, written_ok, conflict_ok}
+use Rattle.virtual_log.proofs.Saying.{turn_says, says_refl, says_then}
 use Rattle.virtual_log.proofs.replace.replace.Goals as goal
 
 pub extend-requires-clause-chain : goal.extend-requires-clause-chain
@@ -29,8 +30,8 @@ extend-requires-clause-next g c =
     let f = fits (length p.shelf) w c.args.version c.args.length c.args.chain.now (sound p.may p.floor p.shelf (g.T.Turns.seen c.args.turns.now) c.requires.legal) c.requires.given c.requires.told in
     omega (arith, f.spare, f.few)
 
-pub turn-requires : goal.turn-requires
-turn-requires g c =
+pub turn-requires-clause-may : goal.turn-requires-clause-may
+turn-requires-clause-may g c =
     let p = g.T.Law.Rules in
     let t = g.T.Turns in
     let l = c.write in
@@ -143,4 +144,70 @@ write-preserved g c =
       id = same;
       first = i.first;
       told = subst (λ x. Contains (now.cells x).ends c.args.length) i.id k.told;
+      silent = λ words.
+          says_then words (t.who c.args.turns.now) (t.who l.turns) (t.seen c.args.turns.now) (t.seen l.turns) (t.seen c.turn.new.self) i.who (i.silent words)
+          (turn_says p.may p.floor p.shelf (t.who l.turns) (t.seen l.turns) words _ _ _ c.in-Conflict.ensures.turn tt);
     }
+
+pub returns-in-Written-clause-silent : goal.returns-in-Written-clause-silent
+returns-in-Written-clause-silent g c =
+    let t = g.T.Turns in
+    let p = g.T.Law.Rules in
+    let l = c.write in
+    let i = l.invariant in
+    λ words.
+    says_then words (t.who c.args.turns.now) (t.who l.turns) (t.seen c.args.turns.now) (t.seen l.turns) (t.seen c.turn.new.self) i.who (i.silent words)
+    (turn_says p.may p.floor p.shelf (t.who l.turns) (t.seen l.turns) words _ _ _ c.in-Written.ensures.turn tt)
+
+pub returns-then-last_of-id-clause-silent : goal.returns-then-last_of-id-clause-silent
+returns-then-last_of-id-clause-silent g c =
+    let t = g.T.Turns in
+    let p = g.T.Law.Rules in
+    let l = c.write in
+    let i = l.invariant in
+    λ words.
+    says_then words (t.who c.args.turns.now) (t.who l.turns) (t.seen c.args.turns.now) (t.seen l.turns) (t.seen c.turn.new.self) i.who (i.silent words)
+    (turn_says p.may p.floor p.shelf (t.who l.turns) (t.seen l.turns) words _ _ _ c.in-Conflict.ensures.turn tt)
+
+pub returns-in_err-next-in-Conflict-clause-silent : goal.returns-in_err-next-in-Conflict-clause-silent
+returns-in_err-next-in-Conflict-clause-silent g c =
+    let t = g.T.Turns in
+    let p = g.T.Law.Rules in
+    let l = c.write in
+    let i = l.invariant in
+    λ words.
+    says_then words (t.who c.args.turns.now) (t.who l.turns) (t.seen c.args.turns.now) (t.seen l.turns) (t.seen c.turn.new.self) i.who (i.silent words)
+    (turn_says p.may p.floor p.shelf (t.who l.turns) (t.seen l.turns) words _ _ _ c.in-Conflict.ensures.turn tt)
+
+pub returns-in-MetaFault-clause-silent : goal.returns-in-MetaFault-clause-silent
+returns-in-MetaFault-clause-silent g c =
+    let t = g.T.Turns in
+    let p = g.T.Law.Rules in
+    let l = c.write in
+    let i = l.invariant in
+    λ words.
+    says_then words (t.who c.args.turns.now) (t.who l.turns) (t.seen c.args.turns.now) (t.seen l.turns) (t.seen c.turn.new.self) i.who (i.silent words)
+    (turn_says p.may p.floor p.shelf (t.who l.turns) (t.seen l.turns) words _ _ _ c.in-MetaFault.ensures.turn tt)
+
+pub returns-in-Down-clause-silent : goal.returns-in-Down-clause-silent
+returns-in-Down-clause-silent g c =
+    let t = g.T.Turns in
+    let p = g.T.Law.Rules in
+    let l = c.write in
+    let i = l.invariant in
+    λ words.
+    says_then words (t.who c.args.turns.now) (t.who l.turns) (t.seen c.args.turns.now) (t.seen l.turns) (t.seen c.turn.new.self) i.who (i.silent words)
+    (turn_says p.may p.floor p.shelf (t.who l.turns) (t.seen l.turns) words _ _ _ c.in-Down.ensures.turn tt)
+
+pub returns-in_default-clause-silent : goal.returns-in_default-clause-silent
+returns-in_default-clause-silent g c =
+    let t = g.T.Turns in
+    let p = g.T.Law.Rules in
+    let l = c.write in
+    let i = l.invariant in
+    λ words.
+    says_then words (t.who c.args.turns.now) (t.who l.turns) (t.seen c.args.turns.now) (t.seen l.turns) (t.seen c.turn.new.self) i.who (i.silent words)
+    (turn_says p.may p.floor p.shelf (t.who l.turns) (t.seen l.turns) words _ _ _ c.turn.ensures.turn tt)
+
+pub returns-in_err-next-clause-silent : goal.returns-in_err-next-clause-silent
+returns-in_err-next-clause-silent g c = λ words. says_refl words (g.T.Turns.who c.args.turns.now) (g.T.Turns.seen c.args.turns.now)

@@ -5,6 +5,7 @@ use Rattle.chain_map.specs.Chain.{last_of_segments}
 use Rattle.chain_map.specs.Step.{extended}
 use Rattle.legal_journal.specs.Journal.{state_of}
 use Rattle.virtual_log.specs.Turning.{Later}
+use Rattle.virtual_log.specs.Saying.{SaysNone}
 use Rattle.virtual_log.proofs.replace.replace.Given as goal
 
 abbrev pub invariant-write : goal.invariant-write
@@ -20,6 +21,7 @@ invariant-write g l =
       id : (last_of_segments known.segments).id ≡ l.id;
       first : (last_of_segments l.chain.segments).id ≡ l.id;
       told : Contains ((state_of (t.seen l.turns)).cells l.id).ends l.length;
+      silent : SaysNone (t.who l.fn.turns) (t.seen l.fn.turns) (t.seen l.turns);
     }
 
 abbrev pub decreases-write : goal.decreases-write

@@ -9,6 +9,7 @@ use Rattle.virtual_log.proofs.OneTurn.{later_trans, later_continues, cause_since
 use Rattle.virtual_log.proofs.Going.{there_later, goes_later, goes_now, trim_below}
 use Rattle.virtual_log.proofs.Raising.{free_later, looked_told, truncated_in}
 use Rattle.virtual_log.proofs.Trimming.{segments_started, trimmed_since}
+use Rattle.virtual_log.proofs.Saying.{says_then}
 use Rattle.virtual_log.proofs.truncate.prefix_trim_on.Goals as goal
 
 pub returns-in_err-version-clause-goes_by : goal.returns-in_err-version-clause-goes_by
@@ -201,3 +202,48 @@ returns-clause-trimmed g c =
       truncated = truncated_in who old a b e c.args.n z.version c.in_ok-trim.trim first.later.more third.later.more first.later.seen third.later.seen (subst (λ w. IsTruncated w a c.args.n z.version c.in_ok-trim.trim b) first.who (subst (λ m. IsTruncated (t.who c.look.new.turns) a c.args.n m c.in_ok-trim.trim b) second.stands.0 second.truncated));
       trimmed = subst (λ (l : List Segment). AreTrimmed who old l c.args.n e) same (trimmed_since who old b e c.as_slice.result.now c.args.n to_b.more to_b.seen (subst (λ w. AreTrimmed w b c.as_slice.result.now c.args.n e) (second.who ∙ first.who) third.trimmed));
     }
+
+pub returns-in_err-version-clause-words : goal.returns-in_err-version-clause-words
+returns-in_err-version-clause-words g c = c.in_err-version.ensures.silent (g.C.Chooser.may c.args.chooser.now)
+
+pub returns-in_err-looked-clause-words : goal.returns-in_err-looked-clause-words
+returns-in_err-looked-clause-words g c = c.in_ok-version.ensures.silent (g.C.Chooser.may c.args.chooser.now)
+
+pub returns-in_err-trim-clause-words : goal.returns-in_err-trim-clause-words
+returns-in_err-trim-clause-words g c =
+    let t = g.T.Turns in
+    let who = t.who c.args.turns.now in
+    let old = t.seen c.args.turns.now in
+    let may = g.C.Chooser.may in
+    let words = may c.args.chooser.now in
+    let a = t.seen c.look.new.turns in
+    let first = c.in_ok-version.ensures in
+    says_then words who (t.who c.look.new.turns) old a (t.seen c.truncate_on.new.turns) first.who (first.silent words) (c.in_err-trim.ensures.silent words)
+
+pub returns-in_err-trim_segments-clause-words : goal.returns-in_err-trim_segments-clause-words
+returns-in_err-trim_segments-clause-words g c =
+    let t = g.T.Turns in
+    let who = t.who c.args.turns.now in
+    let old = t.seen c.args.turns.now in
+    let may = g.C.Chooser.may in
+    let words = may c.args.chooser.now in
+    let a = t.seen c.look.new.turns in
+    let first = c.in_ok-version.ensures in
+    let b = t.seen c.truncate_on.new.turns in
+    let second = c.in_ok-trim.ensures in
+    let to_b = says_then words who (t.who c.look.new.turns) old a b first.who (first.silent words) (second.silent words) in
+    says_then words who (t.who c.truncate_on.new.turns) old b (t.seen c.trim_segments.new.turns) (second.who ∙ first.who) to_b c.in_err-trim_segments.ensures.words
+
+pub returns-clause-words : goal.returns-clause-words
+returns-clause-words g c =
+    let t = g.T.Turns in
+    let who = t.who c.args.turns.now in
+    let old = t.seen c.args.turns.now in
+    let may = g.C.Chooser.may in
+    let words = may c.args.chooser.now in
+    let a = t.seen c.look.new.turns in
+    let first = c.in_ok-version.ensures in
+    let b = t.seen c.truncate_on.new.turns in
+    let second = c.in_ok-trim.ensures in
+    let to_b = says_then words who (t.who c.look.new.turns) old a b first.who (first.silent words) (second.silent words) in
+    says_then words who (t.who c.truncate_on.new.turns) old b (t.seen c.trim_segments.new.turns) (second.who ∙ first.who) to_b c.in_ok-trim_segments.ensures.words

@@ -9,10 +9,11 @@ use Rattle.virtual_log.specs.declared.fault.Fault.TheVariants as fault
 use Rattle.virtual_log.proofs.OneTurn.{own_by, lack_cause, cause_since, event_until}
 use Rattle.virtual_log.proofs.Appending.{started_within}
 use Rattle.virtual_log.proofs.Trimming.{may_trim, trim_event}
+use Rattle.virtual_log.proofs.Saying.{says_refl, says_then}
 use Rattle.virtual_log.proofs.truncate.trim_segment.Goals as goal
 
-pub begin-requires : goal.begin-requires
-begin-requires g c =
+pub begin-requires-clause-may : goal.begin-requires-clause-may
+begin-requires-clause-may g c =
     let p = g.T.Law.Rules in
     may_trim p.may p.floor p.shelf (g.T.Turns.who c.args.turns.now) (g.T.Turns.seen c.args.turns.now) c.args.segment c.args.n c.length_below-length.result c.requires.legal c.requires.started (omega (arith, c.if-segment-n.false)) c.requires.trim c.length_below-length.ensures
 
@@ -43,3 +44,35 @@ returns-in-NoQuorum-clause-err g c =
     (subst (λ k. Answered k mid c.args.segment.id c.in_ok-ticket.ticket r c.in_ok-carry_on.field-0 new) c.in_ok-ticket.ensures.who (c.in_ok-carry_on.ensures.ok r (own_by _ _ _ _ _ c.in_ok-ticket.ensures.who o.own))) in
     cause_since who (fault.NoQuorum c.args.segment.id c.in-NoQuorum.unreached) (t.seen c.args.turns.now) mid new c.in_ok-ticket.ensures.later.more c.in_ok-ticket.ensures.later.seen
     (lack_cause who c.args.segment.id c.in_ok-ticket.ticket c.in-NoQuorum.unreached mid new x.event)
+
+pub returns-then-segment-n-clause-words : goal.returns-then-segment-n-clause-words
+returns-then-segment-n-clause-words g c =
+    let t = g.T.Turns in
+    says_refl (g.C.Chooser.may c.args.chooser.now) (t.who c.args.turns.now) (t.seen c.args.turns.now)
+
+pub returns-in_err-ticket-clause-words : goal.returns-in_err-ticket-clause-words
+returns-in_err-ticket-clause-words g c = c.in_err-ticket.ensures.silent (g.C.Chooser.may c.args.chooser.now)
+
+pub returns-in_err-carry_on-clause-words : goal.returns-in_err-carry_on-clause-words
+returns-in_err-carry_on-clause-words g c =
+    let t = g.T.Turns in
+    let words = g.C.Chooser.may c.args.chooser.now in
+    says_then words (t.who c.args.turns.now) (t.who c.begin.new.turns) (t.seen c.args.turns.now) (t.seen c.begin.new.turns) (t.seen c.carry_on.new.turns) c.in_ok-ticket.ensures.who (c.in_ok-ticket.ensures.silent words) c.in_err-carry_on.ensures.words
+
+pub returns-in-TrimDone-clause-words : goal.returns-in-TrimDone-clause-words
+returns-in-TrimDone-clause-words g c =
+    let t = g.T.Turns in
+    let words = g.C.Chooser.may c.args.chooser.now in
+    says_then words (t.who c.args.turns.now) (t.who c.begin.new.turns) (t.seen c.args.turns.now) (t.seen c.begin.new.turns) (t.seen c.carry_on.new.turns) c.in_ok-ticket.ensures.who (c.in_ok-ticket.ensures.silent words) c.in_ok-carry_on.ensures.words
+
+pub returns-in-NoQuorum-clause-words : goal.returns-in-NoQuorum-clause-words
+returns-in-NoQuorum-clause-words g c =
+    let t = g.T.Turns in
+    let words = g.C.Chooser.may c.args.chooser.now in
+    says_then words (t.who c.args.turns.now) (t.who c.begin.new.turns) (t.seen c.args.turns.now) (t.seen c.begin.new.turns) (t.seen c.carry_on.new.turns) c.in_ok-ticket.ensures.who (c.in_ok-ticket.ensures.silent words) c.in_ok-carry_on.ensures.words
+
+pub returns-in_default-clause-words : goal.returns-in_default-clause-words
+returns-in_default-clause-words g c =
+    let t = g.T.Turns in
+    let words = g.C.Chooser.may c.args.chooser.now in
+    says_then words (t.who c.args.turns.now) (t.who c.begin.new.turns) (t.seen c.args.turns.now) (t.seen c.begin.new.turns) (t.seen c.carry_on.new.turns) c.in_ok-ticket.ensures.who (c.in_ok-ticket.ensures.silent words) c.in_ok-carry_on.ensures.words

@@ -5,8 +5,9 @@ use Rattle.std.proofs.lemmas.Option.{slice_get_within}
 use Rattle.delos_types.specs.declared.chain.Segment.{Segment}
 use Rattle.virtual_log.specs.Turning.{HasEvent}
 use Rattle.virtual_log.specs.Truncating.{IsTrimOf}
-use Rattle.virtual_log.proofs.OneTurn.{later_trans, later_continues, event_since, event_until}
+use Rattle.virtual_log.proofs.OneTurn.{later_trans, later_continues, event_since, event_until, later_refl}
 use Rattle.virtual_log.proofs.Trimming.{at_index}
+use Rattle.virtual_log.proofs.Saying.{says_refl, says_on}
 use Rattle.virtual_log.proofs.truncate.trim_segments.Goals as goal
 
 pub trim_segment-requires-clause-started : goal.trim_segment-requires-clause-started
@@ -54,7 +55,34 @@ segment-preserved g c =
       later = later_trans p.may p.floor p.shelf old now new i.later step.later;
       who = step.who ∙ i.who;
       trimmed = λ k s h at below. by_test k s h at below (k == l.segment-index) refl;
+      words = says_on (g.C.Chooser.may c.args.chooser.now) (g.C.Chooser.may l.chooser) who (t.who l.turns) old now new i.same i.who i.words step.words;
+      same = step.same ∙ i.same;
     }
 
 pub returns-clause-trimmed : goal.returns-clause-trimmed
 returns-clause-trimmed g c = λ k s at below. c.segment.invariant.trimmed k s (omega (arith, slice_get_within c.args.segments.now k s at)) at below
+
+pub segment-init : goal.segment-init
+segment-init g c =
+    let p = g.T.Law.Rules in
+    let t = g.T.Turns in
+    let old = t.seen c.args.turns.now in
+    record {
+      later = later_refl p.may p.floor p.shelf old c.requires.legal;
+      who = refl;
+      trimmed = λ k s h at below. absurd (omega (arith, h));
+      words = says_refl (g.C.Chooser.may c.args.chooser.now) (t.who c.args.turns.now) old;
+      same = refl;
+    }
+
+pub returns-in_err-trim_segment-clause-words : goal.returns-in_err-trim_segment-clause-words
+returns-in_err-trim_segment-clause-words g c =
+    let t = g.T.Turns in
+    let who = t.who c.args.turns.now in
+    let old = t.seen c.args.turns.now in
+    let may = g.C.Chooser.may in
+    let words = may c.args.chooser.now in
+    let l = c.segment in
+    let i = l.invariant in
+    let now = t.seen l.turns in
+    says_on words (may l.chooser) who (t.who l.turns) old now (t.seen c.trim_segment.new.turns) i.same i.who i.words c.in_err-trim_segment.ensures.words

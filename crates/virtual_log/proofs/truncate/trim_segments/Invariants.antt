@@ -3,14 +3,18 @@ use Rattle.std.specs.Prelude.{slice_get}
 use Rattle.delos_types.specs.declared.chain.Segment.{Segment}
 use Rattle.virtual_log.specs.Turning.{Later, HasEvent}
 use Rattle.virtual_log.specs.Truncating.{IsTrimOf}
+use Rattle.virtual_log.specs.Saying.{SaysOnly}
 use Rattle.virtual_log.proofs.truncate.trim_segments.Given as goal
 
 abbrev pub invariant-segment : goal.invariant-segment
 invariant-segment g l =
     let t = g.T.Turns in
     let p = g.T.Law.Rules in
+    let may = g.C.Chooser.may in
     record {
       later : Later p.may p.floor p.shelf (t.seen l.fn.turns) (t.seen l.turns);
       who : t.who l.turns ≡ t.who l.fn.turns;
       trimmed : (k : ℕ) (s : Segment) → k < l.segment-index → slice_get l.segments k ≡ Some s → s.start < l.n → HasEvent (t.seen l.fn.turns) (IsTrimOf (t.who l.fn.turns) s l.n) (t.seen l.turns);
+      words : SaysOnly (may l.fn.chooser) (t.who l.fn.turns) (t.seen l.fn.turns) (t.seen l.turns);
+      same : may l.chooser ≡ may l.fn.chooser;
     }

@@ -8,6 +8,7 @@ use Rattle.virtual_log.specs.Truncating.{IsRaised, IsTold}
 use Rattle.virtual_log.proofs.OneTurn.{turn_later, later_trans, later_continues, event_since, cause_since, meta_cause, gone_cause}
 use Rattle.virtual_log.proofs.Going.{goes_later, goes_now}
 use Rattle.virtual_log.proofs.Raising.{free_later, looked_told, is_one, may_raise, raised_goes, raised_ok, raised_since, lost_goes, lost_later, lost_told}
+use Rattle.virtual_log.proofs.Saying.{turn_says, says_then}
 use Rattle.virtual_log.proofs.truncate.truncate_on.Goals as goal
 
 pub returns-in_err-version-clause-goes_by : goal.returns-in_err-version-clause-goes_by
@@ -32,8 +33,8 @@ drop_below-requires-clause-chain g c =
     let now = t.seen l.turns in
     is_one p.may p.floor p.shelf (t.who l.turns) now k.version k.tail n k.chain i.later.legal i.goes_by
 
-pub turn-requires : goal.turn-requires
-turn-requires g c =
+pub turn-requires-clause-may : goal.turn-requires-clause-may
+turn-requires-clause-may g c =
     let p = g.T.Law.Rules in
     let t = g.T.Turns in
     let who = t.who c.args.turns.now in
@@ -156,6 +157,9 @@ returns-in_default g c =
       known = i.tail;
       truncated = tt;
       stands = tt;
+      silent = λ words.
+          says_then words (t.who c.args.turns.now) (t.who l.turns) (t.seen c.args.turns.now) (t.seen l.turns) (t.seen c.turn.new.self) i.who (i.silent words)
+          (turn_says p.may p.floor p.shelf (t.who l.turns) (t.seen l.turns) words _ _ _ c.turn.ensures.turn tt);
       err = tt;
     }
 
@@ -195,6 +199,9 @@ write-preserved g c =
       free = free_later (state_of now) (state_of new) p.floor n (later_continues p.may p.floor p.shelf now new step) i.free;
       told = event_since (IsTold who c.in-Conflict.version c.in-Conflict.chain) old now new i.later.more i.later.seen
           (subst (λ w. HasEvent now (IsTold w c.in-Conflict.version c.in-Conflict.chain) new) i.who (lost_told p.may p.floor p.shelf (t.who l.turns) now k.version k.tail n k.chain i.later.legal i.goes_by c.in-Conflict.version c.in_ok-next.next c.in-Conflict.chain new c.in-Conflict.ensures.turn));
+      silent = λ words.
+          says_then words (t.who c.args.turns.now) (t.who l.turns) (t.seen c.args.turns.now) (t.seen l.turns) (t.seen c.turn.new.self) i.who (i.silent words)
+          (turn_says p.may p.floor p.shelf (t.who l.turns) (t.seen l.turns) words _ _ _ c.in-Conflict.ensures.turn tt);
     }
 
 pub write-init : goal.write-init
@@ -213,6 +220,7 @@ write-init g c =
       tail = refl;
       free = free_later (state_of old) (state_of a) p.floor n (later_continues p.may p.floor p.shelf old a first.later) c.requires.free;
       told = looked_told who c.in_ok-version.version c.in_ok-version.chain old a first.ok;
+      silent = first.silent;
     }
 
 pub returns-in-MetaFault-clause-err : goal.returns-in-MetaFault-clause-err
@@ -240,3 +248,45 @@ returns-in-Down-clause-err g c =
     let new = t.seen c.turn.new.self in
     cause_since who fault.Meta old now new i.later.more i.later.seen
     (subst (λ w. HasCause w now fault.Meta new) i.who (gone_cause p.may p.floor p.shelf (t.who l.turns) now new _ _ c.in-Down.ensures.turn))
+
+pub returns-in-Written-clause-silent : goal.returns-in-Written-clause-silent
+returns-in-Written-clause-silent g c =
+    let t = g.T.Turns in
+    let p = g.T.Law.Rules in
+    let l = c.write in
+    let i = l.invariant in
+    λ words.
+    says_then words (t.who c.args.turns.now) (t.who l.turns) (t.seen c.args.turns.now) (t.seen l.turns) (t.seen c.turn.new.self) i.who (i.silent words)
+    (turn_says p.may p.floor p.shelf (t.who l.turns) (t.seen l.turns) words _ _ _ c.in-Written.ensures.turn tt)
+
+pub returns-in-MetaFault-clause-silent : goal.returns-in-MetaFault-clause-silent
+returns-in-MetaFault-clause-silent g c =
+    let t = g.T.Turns in
+    let p = g.T.Law.Rules in
+    let l = c.write in
+    let i = l.invariant in
+    λ words.
+    says_then words (t.who c.args.turns.now) (t.who l.turns) (t.seen c.args.turns.now) (t.seen l.turns) (t.seen c.turn.new.self) i.who (i.silent words)
+    (turn_says p.may p.floor p.shelf (t.who l.turns) (t.seen l.turns) words _ _ _ c.in-MetaFault.ensures.turn tt)
+
+pub returns-in-Down-clause-silent : goal.returns-in-Down-clause-silent
+returns-in-Down-clause-silent g c =
+    let t = g.T.Turns in
+    let p = g.T.Law.Rules in
+    let l = c.write in
+    let i = l.invariant in
+    λ words.
+    says_then words (t.who c.args.turns.now) (t.who l.turns) (t.seen c.args.turns.now) (t.seen l.turns) (t.seen c.turn.new.self) i.who (i.silent words)
+    (turn_says p.may p.floor p.shelf (t.who l.turns) (t.seen l.turns) words _ _ _ c.in-Down.ensures.turn tt)
+
+pub returns-then-n-trim-clause-silent : goal.returns-then-n-trim-clause-silent
+returns-then-n-trim-clause-silent g c = c.write.invariant.silent
+
+pub returns-in_err-next-clause-silent : goal.returns-in_err-next-clause-silent
+returns-in_err-next-clause-silent g c = c.write.invariant.silent
+
+pub returns-in_err-copy-clause-silent : goal.returns-in_err-copy-clause-silent
+returns-in_err-copy-clause-silent g c = c.write.invariant.silent
+
+pub returns-in_err-version-clause-silent : goal.returns-in_err-version-clause-silent
+returns-in_err-version-clause-silent g c = c.in_err-version.ensures.silent

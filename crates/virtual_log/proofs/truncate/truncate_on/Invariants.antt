@@ -3,6 +3,7 @@ use Rattle.legal_journal.specs.Journal.{state_of, IsFree}
 use Rattle.virtual_log.specs.Turning.{Later, HasEvent}
 use Rattle.virtual_log.specs.Log.{GoesBy}
 use Rattle.virtual_log.specs.Truncating.{IsTold}
+use Rattle.virtual_log.specs.Saying.{SaysNone}
 use Rattle.virtual_log.proofs.truncate.truncate_on.Given as goal
 
 abbrev pub invariant-write : goal.invariant-write
@@ -16,6 +17,7 @@ invariant-write g l =
       tail : l.known.tail ≡ l.fn.known.tail;
       free : IsFree (state_of (t.seen l.turns)).shown p.floor l.n;
       told : HasEvent (t.seen l.fn.turns) (IsTold (t.who l.fn.turns) l.known.version l.known.chain) (t.seen l.turns);
+      silent : SaysNone (t.who l.fn.turns) (t.seen l.fn.turns) (t.seen l.turns);
     }
 
 abbrev pub decreases-write : goal.decreases-write

@@ -1,6 +1,8 @@
 use Rattle.std.proofs.Common.{refl}
 use Rattle.virtual_log.proofs.OneTurn.{begin_ok}
 use Rattle.virtual_log.proofs.Writing.{turn_wrote}
+use Rattle.virtual_log.proofs.Sealing.{turn_none, turn_at}
+use Rattle.virtual_log.proofs.Saying.{turn_says}
 use Rattle.virtual_log.proofs.turn.begin.Goals as goal
 
 pub returns-in-Begun-clause-ok : goal.returns-in-Begun-clause-ok
@@ -8,3 +10,30 @@ returns-in-Begun-clause-ok g c = begin_ok _ _ _ _ _ _ _ _ _ c.in-Begun.ensures.t
 
 pub returns-in-Begun-clause-quiet : goal.returns-in-Begun-clause-quiet
 returns-in-Begun-clause-quiet g c = turn_wrote _ _ _ _ _ _ _ _ c.in-Begun.ensures.turn c.in-Begun.ensures.turn.event refl
+
+pub returns-in-Begun-clause-unsealed : goal.returns-in-Begun-clause-unsealed
+returns-in-Begun-clause-unsealed g c = λ other. turn_none _ _ _ _ _ _ _ _ c.in-Begun.ensures.turn other
+
+pub returns-in-Begun-clause-seals : goal.returns-in-Begun-clause-seals
+returns-in-Begun-clause-seals g c = turn_at _ _ _ _ _ _ _ _ _ c.in-Begun.ensures.turn
+
+pub returns-in-Full-clause-unsealed : goal.returns-in-Full-clause-unsealed
+returns-in-Full-clause-unsealed g c = λ other. turn_none _ _ _ _ _ _ _ _ c.in-Full.ensures.turn other
+
+pub returns-in-Full-clause-seals : goal.returns-in-Full-clause-seals
+returns-in-Full-clause-seals g c = turn_at _ _ _ _ _ _ _ _ _ c.in-Full.ensures.turn
+
+pub returns-in_default-clause-unsealed : goal.returns-in_default-clause-unsealed
+returns-in_default-clause-unsealed g c = λ other. turn_none _ _ _ _ _ _ _ _ c.turn.ensures.turn other
+
+pub returns-in_default-clause-seals : goal.returns-in_default-clause-seals
+returns-in_default-clause-seals g c = turn_at _ _ _ _ _ _ _ _ _ c.turn.ensures.turn
+
+pub returns-in-Begun-clause-silent : goal.returns-in-Begun-clause-silent
+returns-in-Begun-clause-silent g c = λ words. turn_says _ _ _ _ _ words _ _ _ c.in-Begun.ensures.turn tt
+
+pub returns-in-Full-clause-silent : goal.returns-in-Full-clause-silent
+returns-in-Full-clause-silent g c = λ words. turn_says _ _ _ _ _ words _ _ _ c.in-Full.ensures.turn tt
+
+pub returns-in_default-clause-silent : goal.returns-in_default-clause-silent
+returns-in_default-clause-silent g c = λ words. turn_says _ _ _ _ _ words _ _ _ c.turn.ensures.turn tt

@@ -4,15 +4,17 @@ use Rattle.virtual_log.specs.Turning.{OnlyOwn, Answered}
 use Rattle.virtual_log.proofs.OneTurn.{may_carry, going_ok, going_still, done_ok, answered_since, nil, turn_later, later_refl, later_trans}
 use Rattle.virtual_log.proofs.Owning.{own_split, still_trans, still_refl}
 use Rattle.virtual_log.proofs.Writing.{turn_wrote, wrote_refl, wrote_trans, wrote_by}
+use Rattle.virtual_log.proofs.Sealing.{turn_none, seals_refl, seals_trans, seals_as}
+use Rattle.virtual_log.proofs.Saying.{turn_says, says_refl, says_on}
 use Rattle.virtual_log.proofs.turn.carry_on.Goals as goal
 
-pub turn-requires : goal.turn-requires
-turn-requires g c =
+pub turn-requires-clause-may : goal.turn-requires-clause-may
+turn-requires-clause-may g c =
     let t = g.T.Turns in
     let p = g.T.Law.Rules in
     let l = c.loop-answer in
     let r = c.requires.own.0 in
-    may_carry p.may p.floor p.shelf (t.who l.turns) (t.seen l.turns) (t.seen l.turns) c.args.cell c.args.ticket c.word-word.result r c.requires.cell l.invariant.later.legal
+    may_carry p.may p.floor p.shelf (t.who l.turns) (t.seen l.turns) (t.seen l.turns) c.args.cell c.args.ticket _ r c.requires.cell l.invariant.later.legal
     (subst (λ k. IsOwn ((state_of (t.seen l.turns)).cells c.args.cell) k c.args.ticket r) (sym l.invariant.who) (l.invariant.own r c.requires.own.1))
 
 pub returns-in-Done-clause-ok : goal.returns-in-Done-clause-ok
@@ -21,7 +23,7 @@ returns-in-Done-clause-ok g c = λ r h.
     let p = g.T.Law.Rules in
     let l = c.loop-answer in
     let now = t.seen c.turn.new.self in
-    let done = done_ok p.may p.floor p.shelf (t.who l.turns) (t.seen l.turns) now c.args.cell c.args.ticket c.word-word.result r c.in-Done.answer l.invariant.later.legal c.in-Done.ensures.turn
+    let done = done_ok p.may p.floor p.shelf (t.who l.turns) (t.seen l.turns) now c.args.cell c.args.ticket _ r c.in-Done.answer l.invariant.later.legal c.in-Done.ensures.turn
     (subst (λ k. IsOwn ((state_of (t.seen l.turns)).cells c.args.cell) k c.args.ticket r) (sym l.invariant.who) (l.invariant.own r h)) in
     answered_since (t.who c.args.turns.now) (t.seen c.args.turns.now) (t.seen l.turns) now c.args.cell c.args.ticket r c.in-Done.answer l.invariant.later.more l.invariant.later.seen l.invariant.still
     (subst (λ k. Answered k (t.seen l.turns) c.args.cell c.args.ticket r c.in-Done.answer now) l.invariant.who done)
@@ -41,7 +43,7 @@ loop-answer-smaller g c =
     let p = g.T.Law.Rules in
     let l = c.loop-answer in
     let r = c.requires.own.0 in
-    let k = going_ok p.may p.floor p.shelf (t.who l.turns) (t.seen l.turns) (t.seen c.turn.new.self) c.args.cell c.args.ticket c.word-word.result r l.invariant.later.legal c.in-Going.ensures.turn
+    let k = going_ok p.may p.floor p.shelf (t.who l.turns) (t.seen l.turns) (t.seen c.turn.new.self) c.args.cell c.args.ticket _ r l.invariant.later.legal c.in-Going.ensures.turn
     (subst (λ x. IsOwn ((state_of (t.seen l.turns)).cells c.args.cell) x c.args.ticket r) (sym l.invariant.who) (l.invariant.own r c.requires.own.1)) in
     omega (arith, k.1.0, k.1.1)
 
@@ -55,15 +57,20 @@ loop-answer-preserved g c =
       who = c.turn.ensures.who ∙ l.invariant.who;
       quiet = wrote_trans (t.who c.args.turns.now) (t.seen c.args.turns.now) (t.seen l.turns) (t.seen c.turn.new.self) l.invariant.quiet
           (wrote_by _ _ _ _ l.invariant.who (turn_wrote p.may p.floor p.shelf _ _ _ _ _ c.in-Going.ensures.turn c.in-Going.ensures.turn.event refl));
+      unsealed = seals_trans (t.who c.args.turns.now) (t.seen c.args.turns.now) (t.seen l.turns) (t.seen c.turn.new.self) l.invariant.unsealed
+          (seals_as _ _ _ _ l.invariant.who (turn_none p.may p.floor p.shelf _ _ _ _ _ c.in-Going.ensures.turn refl));
+      words = says_on (g.C.Chooser.may c.args.chooser.now) (g.C.Chooser.may l.chooser) (t.who c.args.turns.now) (t.who l.turns) (t.seen c.args.turns.now) (t.seen l.turns) (t.seen c.turn.new.self) l.invariant.same l.invariant.who l.invariant.words
+          (turn_says p.may p.floor p.shelf (t.who l.turns) (t.seen l.turns) (g.C.Chooser.may l.chooser) _ _ _ c.in-Going.ensures.turn c.word-word.ensures.given);
+      same = c.word-word.ensures.same ∙ l.invariant.same;
       own = λ r h.
           subst (λ x. IsOwn ((state_of (t.seen c.turn.new.self)).cells c.args.cell) x c.args.ticket r) l.invariant.who
-          (going_ok p.may p.floor p.shelf (t.who l.turns) (t.seen l.turns) (t.seen c.turn.new.self) c.args.cell c.args.ticket c.word-word.result r l.invariant.later.legal c.in-Going.ensures.turn
+          (going_ok p.may p.floor p.shelf (t.who l.turns) (t.seen l.turns) (t.seen c.turn.new.self) c.args.cell c.args.ticket _ r l.invariant.later.legal c.in-Going.ensures.turn
           (subst (λ x. IsOwn ((state_of (t.seen l.turns)).cells c.args.cell) x c.args.ticket r) (sym l.invariant.who) (l.invariant.own r h))).0;
       still = λ alone.
           let turn = c.in-Going.ensures.turn in
           let parts = own_split (t.who c.args.turns.now) (t.seen c.args.turns.now) (t.seen l.turns) (t.seen c.turn.new.self) l.invariant.later.more (turn.others ++ turn.own) l.invariant.later.seen (turn.seen ∙ append_assoc (t.seen l.turns) turn.others turn.own) alone in
           still_trans (state_of (t.seen c.args.turns.now)) (state_of (t.seen l.turns)) (state_of (t.seen c.turn.new.self)) (l.invariant.still parts.0)
-          (going_still p.may p.floor p.shelf (t.who l.turns) (t.seen l.turns) (t.seen c.turn.new.self) c.args.cell c.args.ticket c.word-word.result turn
+          (going_still p.may p.floor p.shelf (t.who l.turns) (t.seen l.turns) (t.seen c.turn.new.self) c.args.cell c.args.ticket _ turn
           (subst (λ w. OnlyOwn w (t.seen l.turns) (t.seen c.turn.new.self)) (sym l.invariant.who) parts.1));
     }
 
@@ -78,4 +85,39 @@ loop-answer-init g c =
       own = λ r h. h;
       still = λ alone. still_refl (state_of old);
       quiet = wrote_refl (t.who c.args.turns.now) old (nil old);
+      unsealed = seals_refl (t.who c.args.turns.now) old;
+      words = says_refl (g.C.Chooser.may c.args.chooser.now) (t.who c.args.turns.now) old;
+      same = refl;
     }
+
+pub returns-in-Done-clause-unsealed : goal.returns-in-Done-clause-unsealed
+returns-in-Done-clause-unsealed g c =
+    let t = g.T.Turns in
+    let p = g.T.Law.Rules in
+    let l = c.loop-answer in
+    seals_trans (t.who c.args.turns.now) (t.seen c.args.turns.now) (t.seen l.turns) (t.seen c.turn.new.self) l.invariant.unsealed
+    (seals_as _ _ _ _ l.invariant.who (turn_none p.may p.floor p.shelf _ _ _ _ _ c.in-Done.ensures.turn refl))
+
+pub returns-in_default-clause-unsealed : goal.returns-in_default-clause-unsealed
+returns-in_default-clause-unsealed g c =
+    let t = g.T.Turns in
+    let p = g.T.Law.Rules in
+    let l = c.loop-answer in
+    seals_trans (t.who c.args.turns.now) (t.seen c.args.turns.now) (t.seen l.turns) (t.seen c.turn.new.self) l.invariant.unsealed
+    (seals_as _ _ _ _ l.invariant.who (turn_none p.may p.floor p.shelf _ _ _ _ _ c.turn.ensures.turn refl))
+
+pub returns-in-Done-clause-words : goal.returns-in-Done-clause-words
+returns-in-Done-clause-words g c =
+    let t = g.T.Turns in
+    let p = g.T.Law.Rules in
+    let l = c.loop-answer in
+    says_on (g.C.Chooser.may c.args.chooser.now) (g.C.Chooser.may l.chooser) (t.who c.args.turns.now) (t.who l.turns) (t.seen c.args.turns.now) (t.seen l.turns) (t.seen c.turn.new.self) l.invariant.same l.invariant.who l.invariant.words
+    (turn_says p.may p.floor p.shelf (t.who l.turns) (t.seen l.turns) (g.C.Chooser.may l.chooser) _ _ _ c.in-Done.ensures.turn c.word-word.ensures.given)
+
+pub returns-in_default-clause-words : goal.returns-in_default-clause-words
+returns-in_default-clause-words g c =
+    let t = g.T.Turns in
+    let p = g.T.Law.Rules in
+    let l = c.loop-answer in
+    says_on (g.C.Chooser.may c.args.chooser.now) (g.C.Chooser.may l.chooser) (t.who c.args.turns.now) (t.who l.turns) (t.seen c.args.turns.now) (t.seen l.turns) (t.seen c.turn.new.self) l.invariant.same l.invariant.who l.invariant.words
+    (turn_says p.may p.floor p.shelf (t.who l.turns) (t.seen l.turns) (g.C.Chooser.may l.chooser) _ _ _ c.turn.ensures.turn c.word-word.ensures.given)

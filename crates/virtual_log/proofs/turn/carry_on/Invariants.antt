@@ -3,18 +3,24 @@ use Rattle.legal_journal.specs.Told.{Running}
 use Rattle.legal_journal.specs.Journal.{state_of, IsOwn, patience}
 use Rattle.virtual_log.specs.Turning.{OnlyOwn, Still, Later}
 use Rattle.virtual_log.specs.Writing.{WroteNone}
+use Rattle.virtual_log.specs.Sealing.{SealsNone}
+use Rattle.virtual_log.specs.Saying.{SaysOnly}
 use Rattle.virtual_log.proofs.turn.carry_on.Given as goal
 
 abbrev pub invariant-loop-answer : goal.invariant-loop-answer
 invariant-loop-answer g l =
     let t = g.T.Turns in
     let p = g.T.Law.Rules in
+    let may = g.C.Chooser.may in
     record {
       later : Later p.may p.floor p.shelf (t.seen l.fn.turns) (t.seen l.turns);
       who : t.who l.turns ≡ t.who l.fn.turns;
       own : (r : Running) → IsOwn ((state_of (t.seen l.fn.turns)).cells l.cell) (t.who l.fn.turns) l.ticket r → IsOwn ((state_of (t.seen l.turns)).cells l.cell) (t.who l.fn.turns) l.ticket r;
       still : OnlyOwn (t.who l.fn.turns) (t.seen l.fn.turns) (t.seen l.turns) → Still (state_of (t.seen l.fn.turns)) (state_of (t.seen l.turns));
       quiet : WroteNone (t.who l.fn.turns) (t.seen l.fn.turns) (t.seen l.turns);
+      unsealed : SealsNone (t.who l.fn.turns) (t.seen l.fn.turns) (t.seen l.turns);
+      words : SaysOnly (may l.fn.chooser) (t.who l.fn.turns) (t.seen l.fn.turns) (t.seen l.turns);
+      same : may l.chooser ≡ may l.fn.chooser;
     }
 
 abbrev pub decreases-loop-answer : goal.decreases-loop-answer

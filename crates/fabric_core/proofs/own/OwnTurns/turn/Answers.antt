@@ -5,7 +5,7 @@ pub apply-requires : goal.apply-requires
 apply-requires g c =
     let p = g.P.Rules in
     let s = c.args.self.now in
-    may_now p.may p.floor p.shelf s.who s.fabric.journal c.args.call c.requires c.journal-seen.ensures.legal
+    may_now p.may p.floor p.shelf s.who s.fabric.journal c.args.call c.requires.may c.journal-seen.ensures.legal
 
 pub returns-clause-turn : goal.returns-clause-turn
 returns-clause-turn g c =

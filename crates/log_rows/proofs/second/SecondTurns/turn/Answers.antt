@@ -2,7 +2,7 @@ use Rattle.log_rows.proofs.Alone.{alone_more, may_alone, turn_alone}
 use Rattle.log_rows.proofs.second.SecondTurns.turn.Goals as goal
 
 pub apply-requires : goal.apply-requires
-apply-requires c = may_alone _ _ _ _ _ _ _ c.self.view_is c.requires c.journal-seen.ensures.legal
+apply-requires c = may_alone _ _ _ _ _ _ _ c.self.view_is c.requires.may c.journal-seen.ensures.legal
 
 pub invariant_of-self : goal.invariant_of-self
 invariant_of-self c = alone_more _ _ _ _ _ c.self.invariant c.apply.ensures.adds
