@@ -5,6 +5,7 @@ ghost use Rattle.engine_api.specs.Packing.{IsProposable, packed, trim_item};
 ghost use Rattle.engine_steps.specs.Layout as layout;
 ghost use Rattle.legal_journal.specs.Journal.{IsLegal};
 ghost use Rattle.virtual_log.specs.Turning.{Later, IsAbove};
+ghost use Rattle.virtual_log.specs.Sealing.{SealsLast};
 ghost use Rattle.base_engine.specs.Causes.{Blames};
 ghost use Rattle.base_engine.specs.Following.{Follows, IsFound, Reaches, IsAt, EndsBy};
 ghost use Rattle.replica_api.specs.Replica.{SpellsOne, Survives, Flushes, Queues};
@@ -290,12 +291,18 @@ impl<L: SharedLog, R: Replica> Node<L, R> {
     }
 
     /// Lets the log go on in its next loglet. Where another does so first, answers `Moved`; where there is no next loglet,
-    /// `NoSpare`, and nothing is sealed.
+    /// `NoSpare`, and nothing is sealed. It is for those alone who may seal.
     pub fn extend(&mut self) -> Result<Extension, Fault>
+        requires right { L.Law.seals self.old.who }
         ensures keeps { Keeps L.Law.may L.Law.floor L.Law.shelf self.old self.new }
         ensures follows { Follows L.holds R.state R.spells self.new.seen self.new.replica }
         ensures extension { IfOk result (IsExtendedBy (length L.Law.shelf) self.old.who self.old.seen self.old.known self.new.known self.new.seen) }
-        ensures blames { IfErr result (λ f. Blames self.old.who self.old.seen self.old.replica.faults f self.new.seen self.new.replica.faults) }
+
+        // Whatever comes of it, it begins no Seal, or one of the loglet that its first look had as the last one.
+        ensures seals { SealsLast self.old.who self.old.seen self.new.seen }
+
+        // No fault is the disk's, whatever that counted.
+        ensures blames { IfErr result (λ f. (faults faults' : ℕ) → Blames self.old.who self.old.seen faults f self.new.seen faults') }
         ensures replica { self.new.replica ≡ self.old.replica }
         ensures outbox { self.new.outbox ≡ self.old.outbox }
     {

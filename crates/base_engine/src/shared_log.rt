@@ -9,6 +9,7 @@ ghost use Rattle.virtual_log.specs.Turning.{OnlyOwn, Later, IsAbove};
 ghost use Rattle.virtual_log.specs.Causes.{HasCause};
 ghost use Rattle.virtual_log.specs.Truncating.{IsPrefixTrimmed};
 ghost use Rattle.virtual_log.specs.Holding.{Reads, Stays};
+ghost use Rattle.virtual_log.specs.Sealing.{SealsLast};
 ghost use Rattle.base_engine.specs.Reading.{IsExtendedBy};
 ghost use Rattle.base_engine.specs.Following.{KeepsTail};
 
@@ -77,11 +78,15 @@ pub trait SharedLog {
         ensures err { IfErr result (λ fault. HasCause (who self.old) (seen self.old) fault (seen self.new)) };
 
     /// Lets the log go on in its next loglet. Where another does so first, answers `Moved`; where there is no next
-    /// loglet, `NoSpare`, and nothing is sealed.
+    /// loglet, `NoSpare`, and nothing is sealed. It is for those alone who may seal.
     fn extend(&mut self) -> Result<Extension, Fault>
+        requires right { Self.Law.seals (who self.old) }
         ensures later { Later Self.Law.may Self.Law.floor Self.Law.shelf (seen self.old) (seen self.new) }
         ensures who { who self.new ≡ who self.old }
         ensures extension { IfOk result (IsExtendedBy (length Self.Law.shelf) (who self.old) (seen self.old) (reaches self.old) (reaches self.new) (seen self.new)) }
+
+        // Whatever comes of it, it begins no Seal, or one of the loglet that its first look had as the last one.
+        ensures seals { SealsLast (who self.old) (seen self.old) (seen self.new) }
         ensures known { reaches self.old ≤ reaches self.new }
         ensures err { IfErr result (λ fault. HasCause (who self.old) (seen self.old) fault (seen self.new)) };
 

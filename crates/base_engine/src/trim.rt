@@ -6,6 +6,7 @@ ghost use Rattle.engine_api.specs.Packing.{IsProposable, packed, trim_item};
 ghost use Rattle.engine_steps.specs.Words.{under};
 ghost use Rattle.legal_journal.specs.Journal.{IsLegal};
 ghost use Rattle.virtual_log.specs.Turning.{Later};
+ghost use Rattle.virtual_log.specs.Sealing.{SealsLast};
 ghost use Rattle.replica_api.specs.Replica.{SpellsOne};
 ghost use Rattle.base_engine.specs.Causes.{Blames};
 ghost use Rattle.base_engine.specs.Reading.{IsExtendedBy};
@@ -241,11 +242,13 @@ pub fn trim_now<L: SharedLog, R: Replica>(
     }
 }
 
-/// Lets the log go on in its next loglet, if it has one.
+/// Lets the log go on in its next loglet, if it has one. It is for those alone who may seal.
 pub fn extend<L: SharedLog>(log: &mut L) -> Result<Extension, Fault>
+    requires right { L.Law.seals (L.who log.old) }
     ensures later { Later L.Law.may L.Law.floor L.Law.shelf (L.seen log.old) (L.seen log.new) }
     ensures who { L.who log.new ≡ L.who log.old }
     ensures known { L.reaches log.old ≤ L.reaches log.new }
+    ensures seals { SealsLast (L.who log.old) (L.seen log.old) (L.seen log.new) }
     ensures extension { IfOk result (IsExtendedBy (length L.Law.shelf) (L.who log.old) (L.seen log.old) (L.reaches log.old) (L.reaches log.new) (L.seen log.new)) }
     ensures blames { IfErr result (λ f. (faults faults' : ℕ) → Blames (L.who log.old) (L.seen log.old) faults f (L.seen log.new) faults') }
 {

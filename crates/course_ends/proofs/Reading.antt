@@ -1,18 +1,23 @@
 -- A run whose nodes have closed stays closed as its chain is read.
-use Rattle.std.proofs.Common.{◌≡◌, refl, sym, ap, subst, ◌⊎◌, inl, inr, ℕ, ◌+◌, ◌≤◌, Bool, true, false, List, [], ◌∷◌, ◌++◌, Option, length, arith}
+use Rattle.std.proofs.Common.{◌≡◌, refl, sym, ap, ◌∙◌, subst, ◌⊎◌, inl, inr, ⊎_elim, ℕ, ◌+◌, ◌≤◌, Bool, true, false, List, [], ◌∷◌, ◌++◌, Option, Some, None, length, count_by, arith}
 use Rattle.std.specs.Prelude.{◌==◌}
 use Rattle.std.proofs.lemmas.Bool.Decides.{nat_tests}
 use Rattle.std.proofs.lemmas.Option.{slice_get_within}
 use Rattle.delos_types.specs.Spaces.{SpaceMap}
 use Rattle.delos_types.specs.declared.entry.Entry.{Entry}
+use Rattle.delos_types.specs.declared.chain.Chain.{Chain}
+use Rattle.chain_map.specs.Chain.{last_id}
 use Rattle.legal_journal.specs.declared.events.Event.{Event}
 use Rattle.legal_journal.specs.declared.events.FabricCall.{FabricCall}
 use Rattle.legal_journal.specs.declared.events.FabricCall.TheVariants.{ReadChain, MendMeta}
 use Rattle.legal_journal.specs.declared.events.FabricAnswer.{FabricAnswer}
 use Rattle.legal_journal.specs.declared.events.FabricAnswer.TheVariants.{At, Down, Set}
 use Rattle.legal_journal.specs.Moves.{move, move_of}
-use Rattle.legal_journal.specs.Journal.{State, start, state_of, after, IsAllowed, IsLegalFrom, IsLegal}
-use Rattle.legal_journal.proofs.Legal.{IsLegalFrom-split, IsLegalFrom-join}
+use Rattle.legal_journal.specs.Journal.{CellState, State, start, state_of, after, after_all, IsAllowed, IsLegalFrom, IsLegal}
+use Rattle.legal_journal.proofs.Legal.{IsLegalFrom-split, IsLegalFrom-join, after_all-append}
+use Rattle.journal_faults.specs.Faults.{faults_in}
+use Rattle.unsealed_chain.specs.Unsealed.{IsUnsealed}
+use Rattle.unsealed_chain.proofs.Staying.{calm_parts}
 use Rattle.base_engine.specs.Holding.{held_stays}
 use Rattle.replica_api.specs.Replica.{Saved}
 use Rattle.script_text.specs.declared.asks.NamedLine.{NamedLine}
@@ -21,6 +26,7 @@ use Rattle.node_lines.specs.declared.lines.Looked.{Looked}
 use Rattle.node_workers.specs.Workers.{Within}
 use Rattle.run_course.specs.Script.{BeginsAt}
 use Rattle.run_course.specs.Course.{Course, CourseOk, TurnOf}
+use Rattle.run_course.specs.Replacing.{has_replaced}
 use Rattle.run_course.proofs.Advance.{advanced, advance_still, turned}
 use Rattle.run_course.proofs.Waiting.{rests_on}
 use Rattle.course_ends.specs.Closing.{WorkerEnd, HasClosed}
@@ -54,6 +60,54 @@ reads_legal a b floor shelf early more r h k = record {
   steps = IsLegalFrom-join a floor shelf start early more h.steps (reads_from a b floor shelf (state_of early) more r (IsLegalFrom-split b floor shelf start early more k.steps).1);
 }
 
+-- Reads of the chain, where no write is in doubt
+
+-- what the tail comes of is the same, and no write is in doubt
+pub record Same (a b : State) : Type 0 where
+  pub chain : b.register.chain ≡ a.register.chain
+  pub settled : b.register.asked ≡ None
+  pub cells : b.cells ≡ a.cells
+
+module _ (may : ℕ → Entry → Type 0) (floor : List Entry → ℕ) (shelf : List ℕ) where
+  read_step : (w : State) (cells who : ℕ) (answer : FabricAnswer) → w.register.asked ≡ None → IsAllowed w may floor cells who (move_of ReadChain answer) → Same w (after w who (move_of ReadChain answer))
+  read_step w cells who (At v c) none h =
+      ⊎_elim
+      (λ (same : (v ≡ w.register.version) × (c ≡ w.register.chain)). record { chain = same.1; settled = refl; cells = refl })
+      (λ (asked : (v ≡ w.register.version + 1) × (w.register.asked ≡ Some c)). absurd (let e : None ≡ Some c = sym none ∙ asked.1 in cc))
+      h.1
+  read_step w cells who Down none h = record { chain = refl; settled = none; cells = refl }
+  read_step w cells who answer none h = absurd h
+
+  mend_step : (w : State) (cells who word : ℕ) (answer : FabricAnswer) → w.register.asked ≡ None → IsAllowed w may floor cells who (move_of (MendMeta word) answer) → Same w (after w who (move_of (MendMeta word) answer))
+  mend_step w cells who word (Set b) none h = record { chain = refl; settled = none; cells = refl }
+  mend_step w cells who word answer none h = absurd h
+
+  one_step : (w : State) (cells who : ℕ) (call : FabricCall) (answer : FabricAnswer) → w.register.asked ≡ None → (call ≡ ReadChain) ⊎ ((word : ℕ) × (call ≡ MendMeta word)) → IsAllowed w may floor cells who (move_of call answer) → Same w (after w who (move_of call answer))
+  one_step w cells who call answer none (inl is) h =
+      subst (λ k. Same w (after w who (move_of k answer))) (sym is) (read_step w cells who answer none (subst (λ k. IsAllowed w may floor cells who (move_of k answer)) is h))
+  one_step w cells who call answer none (inr is) h =
+      subst (λ k. Same w (after w who (move_of k answer))) (sym is.1) (mend_step w cells who is.0 answer none (subst (λ k. IsAllowed w may floor cells who (move_of k answer)) is.1 h))
+
+  pub reads_keep : (w : State) (es : List Event) → w.register.asked ≡ None → AreReads es → IsLegalFrom w may floor shelf es → Same w (after_all w es)
+  reads_keep w [] none reads legal = record { chain = refl; settled = none; cells = refl }
+  reads_keep w (e ∷ es) none reads legal =
+      let one = one_step w (length shelf) e.who e.call e.answer none reads.0 legal.0.allowed in
+      let rest = reads_keep (after w e.who (move e)) es one.settled reads.1 legal.1 in
+      record { chain = rest.chain ∙ one.chain; settled = rest.settled; cells = rest.cells ∙ one.cells }
+
+-- the chain isn't sealed by that
+pub reads_unsealed : (may : ℕ → Entry → Type 0) (floor : List Entry → ℕ) (shelf : List ℕ) (journal more : List Event) (n : ℕ) → IsLegal may floor shelf (journal ++ more) → AreReads more
+    → (faults_in journal ≡ [] → IsUnsealed (state_of journal) n) → faults_in (journal ++ more) ≡ [] → IsUnsealed (state_of (journal ++ more)) n
+reads_unsealed may floor shelf journal more n legal reads was calm =
+    let h = was (calm_parts journal (journal ++ more) more refl calm).0 in
+    let same = reads_keep may floor shelf (state_of journal) more h.asked reads (IsLegalFrom-split may floor shelf start journal more legal.steps).1 in
+    subst (λ (w : State). IsUnsealed w n) (sym (after_all-append start journal more)) (record {
+      last = ap last_id same.chain ∙ h.last;
+      segments = ap (λ (c : Chain). length c.segments) same.chain ∙ h.segments;
+      none = λ i up. ap (λ (cells : ℕ → CellState). (cells i).told.seals) same.cells ∙ h.none i up;
+      asked = same.settled;
+    })
+
 pub zero-apart : (j : ℕ) → (0 == j + 1) ≡ false
 zero-apart j = by (0 == j + 1) refl
   where
@@ -76,6 +130,7 @@ module _ (may : ℕ → Entry → Type 0) (floor : List Entry → ℕ) (shelf : 
 
   ok : CourseOk may floor shelf lines (length workers) then' counts looks
   ok = advance_still may floor shelf lines (length workers) h.course counts looks h.ok 1 [] (journal ++ more) more h.course.when counts seen within (omega arith) some (λ P store. omega arith)
+      (reads_unsealed may floor shelf journal more (count_by has_replaced looks) legal reads (subst (λ es. faults_in es ≡ [] → IsUnsealed (state_of es) (count_by has_replaced looks)) h.journal_is h.ok.unsealed))
 
   turn : TurnOf lines h.home 0 h.course then' counts counts looks looks
   turn = turned lines h.home 0 h.course [] (journal ++ more) h.course.when counts counts looks looks (record { more = more; seen = seen; own = own }) (λ s other. refl) (λ s other. refl) (λ s. omega arith) refl (λ i l at other. refl) (λ by none. refl)

@@ -1,9 +1,10 @@
 -- What the rows tell of replacements of the last loglet, by the chain that is told.
-use Rattle.std.proofs.Common.{◌≡◌, refl, sym, ap, ◌∙◌, subst, inl, inr, ℕ, suc, ◌+◌, ◌≤◌, ◌==◌, Bool, true, false, cond, List, [], ◌∷◌, Option, Some, None, map, count_by, slice_get, nat_lt, arith, eq-eqb}
+use Rattle.std.proofs.Common.{◌≡◌, refl, sym, ap, ◌∙◌, subst, inl, inr, ℕ, suc, ◌+◌, ◌≤◌, ◌==◌, Bool, true, false, cond, List, [], ◌∷◌, Option, Some, None, map, length, count_by, slice_get, nat_lt, arith, eq-eqb}
 use Rattle.std.specs.Prelude.{is_some}
 use Rattle.std.specs.List.{list_any}
 use Rattle.std.proofs.lemmas.Bool.{or_left, or_right}
 use Rattle.std.proofs.lemmas.Bool.Decides.{nat_tests}
+use Rattle.std.proofs.lemmas.Option.{slice_get_cases, slice_get_within}
 use Rattle.delos_types.specs.declared.chain.Segment.{Segment}
 use Rattle.delos_types.specs.declared.chain.Chain.{Chain}
 use Rattle.chain_map.specs.Chain.{first_start, last_id}
@@ -25,7 +26,7 @@ use Rattle.node_lines.specs.declared.lines.Looked.TheVariants as looked
 use Rattle.run_laws.specs.Ended.{IsApart, IsReplaced, Played, Precedes, Replacements}
 use Rattle.run_laws.proofs.Members.{Among, contained-among}
 use Rattle.run_course.specs.Script.{failure_of_look}
-use Rattle.run_course.specs.Replacing.{AreApart, CameSo, GoesBefore, Replaced, StandsSo, has_replaced}
+use Rattle.run_course.specs.Replacing.{AreApart, AsksNode, CameSo, GoesBefore, Replaced, StandsSo, has_replaced}
 use Rattle.run_course.proofs.Lines.{count-cons}
 use Rattle.course_ends.specs.Closing.{WorkerEnd}
 use Rattle.course_ends.specs.Rows.{AreRows, Tells, desk_for, played_of}
@@ -164,6 +165,42 @@ count_low (l ∷ lines) (row ∷ rows) (look ∷ looks) each =
     let rest = count_low lines rows looks (λ i u k at look_at. each (suc i) u k at look_at) in
     omega (arith, a, b, one, rest)
 
+-- A row tells that its line replaced the last loglet exactly where it did.
+
+not_replaced : (look : Option Looked) → ((x : Extension) → look ≡ Some (looked.Extended x) → ⊥) → false ≡ has_replaced look
+not_replaced None h = refl
+not_replaced (Some (looked.Found after found)) h = refl
+not_replaced (Some (looked.Kept cause)) h = refl
+not_replaced (Some (looked.Failed cause)) h = refl
+not_replaced (Some (looked.Extended x)) h = absurd (h x refl)
+
+told_so : (d : Option Desk) (look : Option Looked) (a : Asks) (o : Outcome) → Tells d look a o → ((x : Extension) → look ≡ Some (looked.Extended x) → AsksNode a) → is_some (version_made o) ≡ has_replaced look
+told_so (Some d) look (asks.Logged s r command) (out.Placed place reply late) t own = not_replaced look own
+told_so (Some d) look (asks.Logged s r command) (out.Open cause) t own = not_replaced look own
+told_so (Some d) look (asks.Look s query) (out.Read after answer) t own = sym (ap has_replaced t)
+told_so (Some d) look (asks.Look s query) (out.Open cause) (inl t) own = sym (ap has_replaced t)
+told_so (Some d) look (asks.Look s query) (out.Open cause) (inr t) own = sym (ap has_replaced t)
+told_so None look (asks.Admin Extend) (out.Extended version start) t own = sym (ap has_replaced t)
+told_so None look (asks.Admin Extend) (out.Moved version) t own = sym (ap has_replaced t)
+told_so None look (asks.Admin Extend) out.NoSpare t own = sym (ap has_replaced t)
+told_so None look (asks.Admin Extend) (out.Open cause) t own = sym (ap has_replaced t)
+told_so d look a o t own = absurd t
+
+abbrev tells_one : Row → Bool
+tells_one row = is_some (version_made row.outcome)
+
+count_same : (rows : List Row) (looks : List (Option Looked)) → length rows ≡ length looks → ((i : ℕ) (row : Row) (look : Option Looked) → slice_get rows i ≡ Some row → slice_get looks i ≡ Some look → tells_one row ≡ has_replaced look)
+    → count_by tells_one rows ≡ count_by has_replaced looks
+count_same [] [] size each = refl
+count_same [] (look ∷ looks) size each = absurd (omega (arith, size))
+count_same (row ∷ rows) [] size each = absurd (omega (arith, size))
+count_same (row ∷ rows) (look ∷ looks) size each =
+    let a = count-cons tells_one row rows in
+    let b = count-cons has_replaced look looks in
+    let one : ◌≡◌ {A = ℕ} (cond (tells_one row) 1 0) (cond (has_replaced look) 1 0) = ap {B = ℕ} (λ t. cond t 1 0) (each 0 row look refl refl) in
+    let rest = count_same rows looks (omega (arith, size)) (λ i r k at look_at. each (suc i) r k at look_at) in
+    omega (arith, a, b, one, rest)
+
 -- All of them
 
 module _ (lines : List NamedLine) (workers : List WorkerEnd) (looks : List (Option Looked)) (rows : List Row) (are : AreRows lines workers looks rows) where
@@ -190,6 +227,17 @@ module _ (lines : List NamedLine) (workers : List WorkerEnd) (looks : List (Opti
         where
           same_look : (a b : Option Looked) → Some a ≡ Some b → a ≡ b
           same_look a b e = cc
+
+  pub all_told : length looks ≡ length lines → ((i : ℕ) (l : NamedLine) (x : Extension) → slice_get lines i ≡ Some l → CameSo looks i x → AsksNode l.asks) → count_by tells_one rows ≡ count_by has_replaced looks
+  all_told size own = count_same rows looks (are.size ∙ sym size) each
+    where
+      each : (i : ℕ) (row : Row) (look : Option Looked) → slice_get rows i ≡ Some row → slice_get looks i ≡ Some look → tells_one row ≡ has_replaced look
+      each i row look at look_at =
+          let low = slice_get_within rows i row at in
+          elim ((slice_get_cases lines i).1) [
+            | inl some ↦ told_so (desk_for workers some.0.node some.0.asks) look some.0.asks row.outcome (are.each i some.0 look row some.2 look_at at).tells (λ x is. own i some.0 x some.2 (look_at ∙ ap Some is))
+            | inr none ↦ absurd (let high = none.0 in omega (arith, low, high, are.size))
+          ]
 
   -- what the register at the end has of the lines, the rows tell of the chain that is told
   pub replacements : (now : RegisterState) (version : ℕ) (chain : Chain) (shelf cells : ℕ) → now.version ≡ version → now.chain ≡ chain → shelf ≡ cells → Replaced lines looks now shelf → Replacements played version chain cells

@@ -1,15 +1,18 @@
 //! Laws of a run whose nodes have closed. Each function does nothing, or calls laws that its own rests on: its contract is
 //! the law.
-ghost use Rattle.std.specs.Prelude.{◌≡◌, ◌==◌, ◌+◌, ◌++◌, ℕ, List, [], ◌∷◌, length, map, Option};
+ghost use Rattle.std.specs.Prelude.{◌≡◌, ◌==◌, ◌+◌, ◌++◌, ℕ, List, [], ◌∷◌, length, map, count_by, Option, is_some};
 ghost use Rattle.delos_types.specs.declared.entry.Entry.{Entry};
 ghost use Rattle.legal_journal.specs.declared.events.Event.{Event};
 ghost use Rattle.legal_journal.specs.Journal.{IsLegal, state_of, trim_of};
+ghost use Rattle.journal_faults.specs.Faults.{faults_in};
 ghost use Rattle.one_thread.specs.Alone.{AreOwn};
 ghost use Rattle.row_text.specs.declared.row.Row.{Row};
 ghost use Rattle.script_text.specs.declared.asks.NamedLine.{NamedLine};
 ghost use Rattle.fabric_core.specs.Fabric.{IsRegisterAsTold};
 ghost use Rattle.fitting_run.specs.declared.told.Told.{Told};
 ghost use Rattle.fitting_run.specs.Yard.{Shown};
+ghost use Rattle.fitting_run.specs.Replacements.{version_made};
+ghost use Rattle.course_ends.specs.Ends.{GoesTo};
 ghost use Rattle.fitting_run.specs.Fits.{ChainIsRegistered};
 ghost use Rattle.node_lines.specs.declared.lines.Looked.{Looked};
 ghost use Rattle.node_workers.specs.Workers.{MayRun};
@@ -65,6 +68,13 @@ pub fn each_session_has_ended<P: Rules, S: Replica>()
         → (h : HasClosed P.may P.floor P.shelf S.state S.spells lines journal counts looks log workers)
         → AreRows lines workers looks rows
         → SessionEnded (played_of lines rows looks) h.course.faults h.home s (end_of lines workers h.home h.course.when s) }
+{}
+
+/// Where no fault came, the chain goes from the first loglet to one as many behind it as rows tell that the last loglet was replaced.
+pub fn each_segment_is_told<P: Rules, S: Replica>()
+    ensures { (lines : List NamedLine) (rows : List Row) (journal : List Event) (counts : List ℕ) (looks : List (Option Looked)) (log : List Entry) (workers : List WorkerEnd)
+        → HasClosed P.may P.floor P.shelf S.state S.spells lines journal counts looks log workers → AreRows lines workers looks rows → faults_in journal ≡ []
+        → GoesTo (state_of journal).register.chain (count_by (λ r. is_some (version_made r.outcome)) rows) }
 {}
 
 /// A run whose nodes have closed has ended.

@@ -7,6 +7,7 @@ use Rattle.std.proofs.lemmas.Option.{slice_get_within}
 use Rattle.delos_types.specs.Spaces.{SpaceMap}
 use Rattle.delos_types.specs.declared.entry.Entry.{Entry}
 use Rattle.legal_journal.specs.declared.events.Event.{Event}
+use Rattle.legal_journal.specs.Sealing.{Unsealed}
 use Rattle.replica_api.specs.Replica.{Saved}
 use Rattle.script_text.specs.declared.asks.NamedLine.{NamedLine}
 use Rattle.one_thread.specs.Alone.{Since}
@@ -14,7 +15,7 @@ use Rattle.one_thread.specs.Seats.{SeatView, SeatOk, node_of}
 use Rattle.node_sessions.specs.declared.desk.Desk.{Desk}
 use Rattle.node_lines.specs.declared.lines.Looked.{Looked}
 use Rattle.node_lines.specs.Moving.{Moves}
-use Rattle.node_workers.specs.Workers.{Within, WorkerOk}
+use Rattle.node_workers.specs.Workers.{MayRun, Within, WorkerOk}
 use Rattle.node_workers.proofs.Widening.{seat_allowed}
 use Rattle.run_course.specs.Script.{AreLines}
 use Rattle.run_course.specs.Course.{CourseOk}
@@ -40,7 +41,7 @@ module _ {A : Type 0} (may : ℕ → Entry → Type 0) (floor : List Entry → �
       let ok = (h.each k w at).worker.ok in
       subst (λ n. WorkerOk may floor shelf state spells n counts journal (seat w) (desks w)) (sym ok.who_is) (subst (λ i. WorkerOk may floor shelf state spells (k + 1) counts i (seat w) (desks w)) h.journal_is ok)
 
-  module _ (k : ℕ) (journal' : List Event) (w w' : A) (at : slice_get workers k ≡ Some w) (since : Since (seat w).who journal journal') (moves : Moves (Within may counts) floor shelf (node_of (seat w) journal) (node_of (seat w') journal') []) (same : (seat w').node.outbox ≡ (seat w).node.outbox) (now : WorkerOk may floor shelf state spells (seat w).who counts journal' (seat w') (desks w')) (kept : desks w' ≡ desks w) where
+  module _ (run : MayRun may floor shelf) (k : ℕ) (journal' : List Event) (w w' : A) (at : slice_get workers k ≡ Some w) (since : Since (seat w).who journal journal') (still : Unsealed journal journal') (moves : Moves (Within may counts) floor shelf (node_of (seat w) journal) (node_of (seat w') journal') []) (same : (seat w').node.outbox ≡ (seat w).node.outbox) (now : WorkerOk may floor shelf state spells (seat w).who counts journal' (seat w') (desks w')) (kept : desks w' ≡ desks w) where
     who : (seat w).who ≡ k + 1
     who = (h.each k w at).worker.ok.who_is
 
@@ -52,8 +53,9 @@ module _ {A : Type 0} (may : ℕ → Entry → Type 0) (floor : List Entry → �
 
     done : NodeFinished may floor shelf state spells lines h.home (length workers) h.course counts looks (k + 1) from phase journal' (seat w') (desks w)
     done =
-        node_finished may floor shelf state spells lines h.home (length workers) h.course counts looks (k + 1) from phase (seat w) (seat w') (desks w) journal' (omega arith) there h.begins low h.ok (h.each k w at)
+        node_finished may floor shelf state spells run lines h.home (length workers) h.course counts looks (k + 1) from phase (seat w) (seat w') (desks w) journal' (omega arith) there h.begins low h.ok (h.each k w at)
         (subst (λ n. Since n h.course.journal journal') who (subst (λ i. Since (seat w).who i journal') (sym h.journal_is) since))
+        (subst (λ i. Unsealed i journal') (sym h.journal_is) still)
         (subst (λ i. Moves (Within may counts) floor shelf (node_of (seat w) i) (node_of (seat w') journal') []) (sym h.journal_is) moves) same
         (subst (λ n. WorkerOk may floor shelf state spells n counts journal' (seat w') (desks w)) who (subst (WorkerOk may floor shelf state spells (seat w).who counts journal' (seat w')) kept now))
 

@@ -1,11 +1,13 @@
 -- All nodes rest on as the chain is read, and the register opened again, by a user that is no node.
-use Rattle.std.proofs.Common.{◌≡◌, refl, sym, ap, ◌∙◌, subst, inl, inr, ℕ, ◌+◌, ◌≤◌, List, [], ◌∷◌, ◌++◌, Option, length, arith}
+use Rattle.std.proofs.Common.{◌≡◌, refl, sym, ap, ◌∙◌, subst, inl, inr, ℕ, ◌+◌, ◌≤◌, List, [], ◌∷◌, ◌++◌, Option, length, count_by, arith}
 use Rattle.delos_types.specs.Spaces.{SpaceMap}
 use Rattle.delos_types.specs.declared.entry.Entry.{Entry}
 use Rattle.legal_journal.specs.declared.events.Event.{Event}
 use Rattle.legal_journal.specs.declared.events.FabricCall.{FabricCall}
 use Rattle.legal_journal.specs.declared.events.FabricCall.TheVariants.{ReadChain, MendMeta}
-use Rattle.legal_journal.specs.Journal.{IsLegal}
+use Rattle.legal_journal.specs.Journal.{IsLegal, state_of}
+use Rattle.journal_faults.specs.Faults.{faults_in}
+use Rattle.unsealed_chain.specs.Unsealed.{IsUnsealed}
 use Rattle.fabric_core.specs.Fabric.{FabricView}
 use Rattle.replica_api.specs.Replica.{Saved}
 use Rattle.script_text.specs.declared.asks.NamedLine.{NamedLine}
@@ -15,11 +17,12 @@ use Rattle.node_sessions.specs.declared.desk.Desk.{Desk}
 use Rattle.node_lines.specs.declared.lines.Looked.{Looked}
 use Rattle.node_workers.specs.Workers.{Within}
 use Rattle.run_course.specs.Course.{Course, CourseOk, TurnOf}
+use Rattle.run_course.specs.Replacing.{has_replaced}
 use Rattle.run_course.proofs.Advance.{advanced, advance_still, turned}
 use Rattle.run_course.proofs.Waiting.{rests_on}
 use Rattle.node_crew.specs.Crews.{CrewRests}
 use Rattle.course_ends.specs.Reads.{AreReads}
-use Rattle.course_ends.proofs.Reading.{reads_legal, zero-apart}
+use Rattle.course_ends.proofs.Reading.{reads_legal, reads_unsealed, zero-apart}
 use Rattle.last_chain.specs.Last.{OpenedOnce, calls_of}
 
 -- What the register was asked
@@ -75,6 +78,7 @@ module _ {A : Type 0} (may : ℕ → Entry → Type 0) (floor : List Entry → �
 
   ok : CourseOk may floor shelf lines (length workers) then' counts looks
   ok = advance_still may floor shelf lines (length workers) h.course counts looks h.ok 1 [] (journal ++ more) more h.course.when counts seen within (omega arith) some (λ P store. omega arith)
+      (reads_unsealed may floor shelf journal more (count_by has_replaced looks) legal reads (subst (λ es. faults_in es ≡ [] → IsUnsealed (state_of es) (count_by has_replaced looks)) h.journal_is h.ok.unsealed))
 
   turn : TurnOf lines h.home 0 h.course then' counts counts looks looks
   turn = turned lines h.home 0 h.course [] (journal ++ more) h.course.when counts counts looks looks (record { more = more; seen = seen; own = own }) (λ s other. refl) (λ s other. refl) (λ s. omega arith) refl (λ i l at other. refl) (λ by none. refl)

@@ -8,6 +8,8 @@ use Rattle.delos_types.specs.declared.entry.Entry.{Entry}
 use Rattle.delos_types.specs.declared.cause.Cause.{Cause}
 use Rattle.legal_journal.specs.declared.events.Event.{Event}
 use Rattle.legal_journal.specs.Journal.{IsLegal, state_of, tail_of}
+use Rattle.unsealed_chain.specs.Unsealed.{IsUnsealed}
+use Rattle.unsealed_chain.proofs.Staying.{begins_unsealed}
 use Rattle.engine_api.specs.Acted.{asked_in}
 use Rattle.engine_api.specs.Order.{gap_from}
 use Rattle.engine_steps.specs.declared.layout.Kept.{Kept}
@@ -29,7 +31,7 @@ use Rattle.run_course.specs.Course.{Course, CourseOk}
 use Rattle.run_course.specs.Desks.{DeskAt}
 use Rattle.run_course.specs.Workers.{Rests}
 use Rattle.run_course.proofs.Lines.{at_get}
-use Rattle.run_course.proofs.Replacing.{replaced_none}
+use Rattle.run_course.proofs.Replacing.{none_counted, replaced_none}
 use Rattle.node_crew.specs.Crews.{CrewRests, CrewStands}
 use Rattle.crew_making.specs.Fresh.{IsFreshDesk, IsNewWorker, AreNewWorkers}
 
@@ -117,6 +119,7 @@ module _ (may : ℕ → Entry → Type 0) (floor : List Entry → ℕ) (shelf : 
     events = λ P store. let calm = nothing_failed (λ n. P) lines looks none in omega (arith, calm);
     nodes_are = tt;
     replaced = replaced_none lines looks (state_of []).register (length shelf) (λ i look at. at_get (λ look. look ≡ None) looks i look none at);
+    unsealed = λ calm. subst (IsUnsealed (state_of [])) (sym (none_counted looks (λ i look at. at_get (λ look. look ≡ None) looks i look none at))) begins_unsealed;
     ahead = λ i l at late. none_there lines looks i l size none at;
   }
     where

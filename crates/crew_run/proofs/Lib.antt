@@ -2,3 +2,4 @@ pub mod Registering
 pub mod Telling
 pub mod Seeing
 pub mod Running
+pub mod Lone

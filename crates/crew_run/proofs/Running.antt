@@ -133,6 +133,8 @@ run_told {A} {B} may floor shelf lines journal seat desks shows nodes workers ce
       fits = h.fits yard back told.register_is;
       answered = λ calm. h.calm yard back told.register_is calm;
       whole = λ calm. h.whole yard back calm;
+      extended = λ calm. h.extended yard back calm;
+      lone = h.lone yard back told.register_is;
       shelved = subst (λ (c : Chain). (k : ℕ) (d : Segment) → k < length c.segments → (slice_index_or c.segments k d).id < length cells) (sym h.chain)
           (λ k d lt. let low = shelved may floor shelf journal told.legal k d lt in omega (arith, low, size));
     }

@@ -33,42 +33,10 @@ use Rattle.run_course.proofs.Lines.{count-cons}
 use Rattle.course_ends.specs.Closing.{WorkerEnd, IsGivenBack}
 use Rattle.course_ends.specs.Reads.{AreReads}
 use Rattle.course_ends.proofs.Counting.{AreCounted}
+use Rattle.course_ends.proofs.Reading.{Same, reads_keep}
 use Rattle.crew_closing.specs.Finishing.{SeesAll}
 
--- Reads of the chain, where no write is in doubt
-
--- what the tail comes of is the same, and no write is in doubt
-record Same (a b : State) : Type 0 where
-  chain : b.register.chain ≡ a.register.chain
-  settled : b.register.asked ≡ None
-  cells : b.cells ≡ a.cells
-
-module _ (may : ℕ → Entry → Type 0) (floor : List Entry → ℕ) (shelf : List ℕ) where
-  read_step : (w : State) (cells who : ℕ) (answer : FabricAnswer) → w.register.asked ≡ None → IsAllowed w may floor cells who (move_of ReadChain answer) → Same w (after w who (move_of ReadChain answer))
-  read_step w cells who (At v c) none h =
-      ⊎_elim
-      (λ (same : (v ≡ w.register.version) × (c ≡ w.register.chain)). record { chain = same.1; settled = refl; cells = refl })
-      (λ (asked : (v ≡ w.register.version + 1) × (w.register.asked ≡ Some c)). absurd (let e : None ≡ Some c = sym none ∙ asked.1 in cc))
-      h.1
-  read_step w cells who Down none h = record { chain = refl; settled = none; cells = refl }
-  read_step w cells who answer none h = absurd h
-
-  mend_step : (w : State) (cells who word : ℕ) (answer : FabricAnswer) → w.register.asked ≡ None → IsAllowed w may floor cells who (move_of (MendMeta word) answer) → Same w (after w who (move_of (MendMeta word) answer))
-  mend_step w cells who word (Set b) none h = record { chain = refl; settled = none; cells = refl }
-  mend_step w cells who word answer none h = absurd h
-
-  one_step : (w : State) (cells who : ℕ) (call : FabricCall) (answer : FabricAnswer) → w.register.asked ≡ None → (call ≡ ReadChain) ⊎ ((word : ℕ) × (call ≡ MendMeta word)) → IsAllowed w may floor cells who (move_of call answer) → Same w (after w who (move_of call answer))
-  one_step w cells who call answer none (inl is) h =
-      subst (λ k. Same w (after w who (move_of k answer))) (sym is) (read_step w cells who answer none (subst (λ k. IsAllowed w may floor cells who (move_of k answer)) is h))
-  one_step w cells who call answer none (inr is) h =
-      subst (λ k. Same w (after w who (move_of k answer))) (sym is.1) (mend_step w cells who is.0 answer none (subst (λ k. IsAllowed w may floor cells who (move_of k answer)) is.1 h))
-
-  reads_keep : (w : State) (es : List Event) → w.register.asked ≡ None → AreReads es → IsLegalFrom w may floor shelf es → Same w (after_all w es)
-  reads_keep w [] none reads legal = record { chain = refl; settled = none; cells = refl }
-  reads_keep w (e ∷ es) none reads legal =
-      let one = one_step w (length shelf) e.who e.call e.answer none reads.0 legal.0.allowed in
-      let rest = reads_keep (after w e.who (move e)) es one.settled reads.1 legal.1 in
-      record { chain = rest.chain ∙ one.chain; settled = rest.settled; cells = rest.cells ∙ one.cells }
+-- Reads of the chain
 
 same_tail : (a b : State) → Same a b → tail_of b ≡ tail_of a
 same_tail a b s =
@@ -189,7 +157,7 @@ module _ (may : ℕ → Entry → Type 0) (floor : List Entry → ℕ) (shelf : 
         omega (arith, few, some, calm)
     none_first cause.Store cs is has = All-contains (λ c. c ≡ cause.Store → ⊥) (faults_in journal) cause.Store (no_store journal) has refl
 
-    none_told : faults_in journal ≡ []
+    pub none_told : faults_in journal ≡ []
     none_told = by (faults_in journal) refl
       where
         by : (l : List Cause) → faults_in journal ≡ l → faults_in journal ≡ []

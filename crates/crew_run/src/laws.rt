@@ -1,10 +1,11 @@
 //! Laws of what a run tells. Each function does nothing, or calls laws that its own rests on: its contract is the law.
-ghost use Rattle.std.specs.Prelude.{◌≡◌, ◌++◌, ◌≤◌, ℕ, List, length};
+ghost use Rattle.std.specs.Prelude.{◌≡◌, ◌++◌, ◌≤◌, ℕ, List, [], length};
 ghost use Rattle.delos_types.specs.declared.entry.Entry.{Entry};
 ghost use Rattle.delos_types.specs.declared.chain.Chain.{Chain};
 ghost use Rattle.register_api.specs.View.{RegisterView};
 ghost use Rattle.legal_journal.specs.declared.events.Event.{Event};
 ghost use Rattle.legal_journal.specs.Journal.{IsLegal, state_of, trim_of};
+ghost use Rattle.journal_faults.specs.Faults.{faults_in};
 ghost use Rattle.fabric_core.specs.Fabric.{FabricView, IsRegisterAsTold};
 ghost use Rattle.fabric_core.specs.Runs.{HasRegisterRun};
 ghost use Rattle.fabric_core.specs.Log.{virtual_tail};
@@ -34,6 +35,18 @@ pub fn the_chain_is_registered<P: Rules>()
         → IsRegisterAsTold (state_of f.journal).register v → HasRegisterRun f.journal v
         → o.version ≡ l.version → o.chain ≡ l.chain → o.down ≡ l.down → ChainIsRegistered o v }
 {}
+
+/// Where no fault was counted in the yard that comes back, the journal tells none.
+pub fn a_calm_journal_tells_no_fault<P: Rules>()
+    ensures { (journal : List Event) (workers : List WorkerEnd) (chain : Chain) (yard : Shown) → IsGivenBack P.may P.floor P.shelf journal workers chain yard → IsCalm yard
+        → faults_in journal ≡ [] }
+{
+    lacks_are_counted();
+    a_lack_has_a_fault();
+    refusals_are_counted();
+    register_faults_are_counted::<P>();
+    a_fault_names_a_cell::<P>();
+}
 
 /// Where no fault was counted in the yard that comes back, what was played as the nodes closed is the whole log, and a read
 /// of the chain since lets it end there still.

@@ -12,8 +12,12 @@ ghost use Rattle.course_ends.specs.Closing.{WorkerEnd, HasClosed};
 ghost use Rattle.crew_closing.specs.Finishing.{SeesAll};
 ghost use Rattle.crew_run.specs.Telling.{FitsGivenBack};
 
-use crate::laws::{a_calm_run_has_seen_all, the_chain_is_registered};
-use course_ends::laws::{reads_change_nothing, what_closed_can_be_told, what_closed_has_ended};
+use crate::laws::{
+    a_calm_journal_tells_no_fault, a_calm_run_has_seen_all, the_chain_is_registered,
+};
+use course_ends::laws::{
+    each_segment_is_told, reads_change_nothing, what_closed_can_be_told, what_closed_has_ended,
+};
 use crew_closing::close::{Closed, close};
 use crew_rows::rows::rows_of;
 use fate_words::chooser::Chooser;
@@ -58,6 +62,8 @@ fn tell_closed<L: Loglet, R: Register, K: Terms, S: Replica, C: Chooser>(
     what_closed_can_be_told::<By<K>, S>();
     reads_change_nothing::<By<K>, S>();
     what_closed_has_ended::<By<K>, S>();
+    each_segment_is_told::<By<K>, S>();
+    a_calm_journal_tells_no_fault::<By<K>>();
     what_ended_fits();
     a_calm_run_answers_all();
     the_chain_is_registered::<By<K>>();

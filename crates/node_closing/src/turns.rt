@@ -2,6 +2,7 @@
 ghost use Rattle.std.specs.Prelude.{◌≡◌, ◌≤◌, ℕ, List, [], length, IfOk, OnOk};
 ghost use Rattle.delos_types.specs.Spaces.{SpaceMap};
 ghost use Rattle.delos_types.specs.declared.entry.Entry.{Entry};
+ghost use Rattle.legal_journal.specs.Sealing.{SealsBy, Unsealed};
 ghost use Rattle.engine_laws.specs.State.{IsStateOf};
 ghost use Rattle.one_thread.specs.Alone.{Since};
 ghost use Rattle.one_thread.specs.Seats.{SeatOk, node_of};
@@ -39,6 +40,7 @@ fn finish_within<L: Loglet, R: Register, K: Terms, Q: Scope, S: Replica, C: Choo
     requires since { Q.since ≡ fabric.journal }
     ensures seat { SeatOk Q.sends K.floor K.shelf S.state S.spells result.fabric.journal result.seat }
     ensures since { Since result.seat.who Q.since result.fabric.journal }
+    ensures right { SealsBy (Q.seals result.seat.who) Q.since result.fabric.journal }
     ensures moves { OnOk result.answer (Moves Q.sends K.floor K.shelf (node_of seat fabric.journal) (node_of result.seat result.fabric.journal) []) }
     ensures plays { OnOk result.answer (Finishes (node_of seat fabric.journal) (node_of result.seat result.fabric.journal)) }
     ensures outbox { OnOk result.answer (result.seat.node.outbox ≡ seat.node.outbox) }
@@ -73,6 +75,7 @@ pub fn finish_worker<L: Loglet, R: Register, K: Terms, S: Replica, C: Chooser>(
     ensures cursor { IfOk result.answer (λ n. n ≡ result.worker.seat.node.replica.cursor) }
     ensures stands { SeatOk K.may K.floor K.shelf S.state S.spells result.fabric.journal result.worker.seat }
     ensures grows { Grows fabric.journal result.fabric.journal }
+    ensures unsealed { Unsealed fabric.journal result.fabric.journal }
 {
     let Worker { seat, desks } = worker;
     let Back {

@@ -1,23 +1,40 @@
 -- What comes of a line that replaces the last loglet of the log.
-use Rattle.std.specs.Prelude.{◌≡◌, ℕ, List, [], ◌∷◌, length}
+use Rattle.std.specs.Prelude.{◌≡◌, ℕ, false, List, [], ◌∷◌, length}
 use Rattle.delos_types.specs.declared.entry.Entry.{Entry}
 use Rattle.delos_types.specs.declared.cause.Cause.{Cause}
+use Rattle.legal_journal.specs.Sealing.{Unsealed}
+use Rattle.virtual_log.specs.Sealing.{SealsLast}
 use Rattle.base_engine.specs.Reading.{IsExtendedBy}
 use Rattle.base_engine.specs.Node.{NodeView}
 use Rattle.node_lines.specs.declared.lines.Looked.{Looked}
 use Rattle.node_lines.specs.declared.lines.Looked.TheVariants as looked
-use Rattle.node_lines.specs.Moving.{Moves}
+use Rattle.node_lines.specs.Moving.{is_store, Moves}
 
--- The last loglet was replaced as the log says, over a shelf of so many loglets; or the log failed.
+-- The last loglet was replaced as the log says, over a shelf of so many loglets; or the log failed, and not the disk.
 abbrev pub ExtendsSo : ℕ → NodeView → NodeView → List Cause → Looked → Type 0
 ExtendsSo cells old new others (looked.Extended x) =
     (others ≡ []) × IsExtendedBy cells old.who old.seen old.known new.known new.seen x
-ExtendsSo cells old new others (looked.Failed c) = others ≡ c ∷ []
+ExtendsSo cells old new others (looked.Failed c) = (others ≡ c ∷ []) × (is_store c ≡ false)
 ExtendsSo cells old new others (looked.Kept c) = ⊥
 ExtendsSo cells old new others (looked.Found after found) = ⊥
 
--- What waited was packed, and all that was outstanding was carried to its end. Then the last loglet was replaced, and nothing
--- else was done.
+-- What waited was packed, and all that was outstanding was carried to its end.
+pub record CarriesAll (may : ℕ → Entry → Type 0) (floor : List Entry → ℕ) (shelf : List ℕ) (old new : NodeView) : Type 0 where
+  pub moves : Moves may floor shelf old new []
+  pub none : new.outbox.entries ≡ []
+  pub kept : new.replica.kept ≡ []
+
+-- The last loglet was replaced, and nothing else was done: whatever came of it, no Seal was begun, or one of the loglet that was
+-- the last one.
+pub record Replaces (may : ℕ → Entry → Type 0) (floor : List Entry → ℕ) (shelf : List ℕ) (old new : NodeView) (answer : Looked) : Type 0 where
+  pub others : List Cause
+  pub moves : Moves may floor shelf old new others
+  pub replica : new.replica ≡ old.replica
+  pub outbox : new.outbox ≡ old.outbox
+  pub extends : ExtendsSo (length shelf) old new others answer
+  pub seals : SealsLast old.who old.seen new.seen
+
+-- One after the other. No Seal was begun before the last loglet was replaced.
 pub record Extends (may : ℕ → Entry → Type 0) (floor : List Entry → ℕ) (shelf : List ℕ) (old new : NodeView) (answer : Looked) : Type 0 where
   pub others : List Cause
   pub moves : Moves may floor shelf old new others
@@ -25,6 +42,8 @@ pub record Extends (may : ℕ → Entry → Type 0) (floor : List Entry → ℕ)
   pub settles : Moves may floor shelf old settled []
   pub none : settled.outbox.entries ≡ []
   pub kept : settled.replica.kept ≡ []
+  pub unsealed : Unsealed old.seen settled.seen
   pub replica : new.replica ≡ settled.replica
   pub outbox : new.outbox ≡ settled.outbox
   pub extends : ExtendsSo (length shelf) settled new others answer
+  pub seals : SealsLast settled.who settled.seen new.seen

@@ -1,8 +1,8 @@
 //! What a node's own line asks of it: the last loglet of the log is replaced.
-ghost use Rattle.std.specs.Prelude.{◌≡◌, ◌≤◌, ℕ, List, [], length, IfOk};
+ghost use Rattle.std.specs.Prelude.{◌≤◌, ℕ, List, length, IfOk, OnOk};
 ghost use Rattle.delos_types.specs.declared.entry.Entry.{Entry};
 ghost use Rattle.node_lines.specs.Moving.{CanPack};
-ghost use Rattle.node_lines.specs.Extending.{Extends};
+ghost use Rattle.node_lines.specs.Extending.{CarriesAll, Replaces};
 
 use crate::lines::Looked;
 use crate::steps::{pack, settle};
@@ -15,20 +15,35 @@ use replica_api::replica::Replica;
 use std::alloc::AllocError;
 use virtual_log::log::VirtualLog;
 
-/// Lets the log go on in its next loglet, if it has one. What waits is packed, and all that is outstanding is carried to its end
-/// first. A session's cause doesn't keep it from being tried, and no session is given a cause by a fault of its own.
+/// What waits is packed, and all that is outstanding is carried to its end, so that the last loglet can be replaced. It is no
+/// part of `extend_log`, since it may not seal.
 ///
-/// Cost: that of a settling and of a replacement.
+/// Cost: that of a settling.
+pub fn settle_log<T: Turns, C: Chooser, R: Replica>(
+    node: &mut Node<VirtualLog<T, C>, R>,
+) -> Result<(), AllocError>
+    requires floor { (log : List Entry) → T.Law.floor log ≤ length log }
+    requires kept { CanPack node.old.replica.kept }
+    ensures carries { OnOk result (CarriesAll T.Law.may T.Law.floor T.Law.shelf node.old node.new) }
+{
+    pack(node)?;
+    match settle(node) {
+        Ok(()) => return Ok(()),
+        Err(fault) => return Err(fault),
+    }
+}
+
+/// Lets the log go on in its next loglet, if it has one. A session's cause doesn't keep it from being tried, and no session is
+/// given a cause by a fault of its own. It is for those alone who may seal.
+///
+/// Cost: that of a replacement.
 pub fn extend_log<T: Turns, C: Chooser, R: Replica>(
     node: &mut Node<VirtualLog<T, C>, R>,
 ) -> Result<Looked, AllocError>
     requires floor { (log : List Entry) → T.Law.floor log ≤ length log }
-    requires kept { CanPack node.old.replica.kept }
-    ensures extends { IfOk result (Extends T.Law.may T.Law.floor T.Law.shelf node.old node.new) }
-    ensures kept { IfOk result (λ l. node.new.replica.kept ≡ []) }
+    requires right { T.Law.seals node.old.who }
+    ensures replaces { IfOk result (Replaces T.Law.may T.Law.floor T.Law.shelf node.old node.new) }
 {
-    pack(node)?;
-    settle(node)?;
     match node.extend() {
         Ok(extension) => return Ok(Looked::Extended(extension)),
         Err(Fault::Because(cause)) => return Ok(Looked::Failed(cause)),

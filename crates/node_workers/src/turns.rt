@@ -4,6 +4,7 @@ ghost use Rattle.std.specs.Prelude.{◌≡◌, ◌<◌, ◌≤◌, ◌+◌, ◌^
 ghost use Rattle.delos_types.specs.Spaces.{SpaceMap};
 ghost use Rattle.delos_types.specs.declared.entry.Entry.{Entry};
 ghost use Rattle.table_core.specs.Spelling.{IsSpellable, command_length};
+ghost use Rattle.legal_journal.specs.Sealing.{Unsealed};
 ghost use Rattle.engine_api.specs.Packing.{packed, session_item};
 ghost use Rattle.engine_laws.specs.State.{IsStateOf};
 ghost use Rattle.node_sessions.specs.declared.desk.Desk.{Desk};
@@ -16,7 +17,9 @@ ghost use Rattle.node_lines.specs.Extending.{Extends};
 ghost use Rattle.node_lines.specs.Turns.{EndsTurn};
 ghost use Rattle.node_workers.specs.Workers.{WorkerOk, MayRun, LogsIt, Logs, Within, Grows, sent_of};
 
-use crate::within::{Back, end_within, extend_within, log_within, look_within, ready_within};
+use crate::within::{
+    Back, end_within, extend_within, log_within, look_within, ready_within, settle_within,
+};
 use crate::worker::Worker;
 use delos_types::cause::Cause;
 use delos_types::numbers::SessionId;
@@ -80,6 +83,7 @@ fn log_at<L: Loglet, R: Register, K: Terms, S: Replica, C: Chooser>(
     requires own { K.may seat.who (packed seat.who (session_item session (desk.old.asked + 1) command.now ∷ [])) }
     ensures stands { SeatOk K.may K.floor K.shelf S.state S.spells result.fabric.journal result.seat }
     ensures grows { Grows fabric.journal result.fabric.journal }
+    ensures unsealed { Unsealed fabric.journal result.fabric.journal }
     ensures since { OnOk result.answer (Since seat.who fabric.journal result.fabric.journal) }
     ensures seat { OnOk result.answer (SeatOk (Within K.may counts.new) K.floor K.shelf S.state S.spells result.fabric.journal result.seat) }
     ensures desk { OnOk result.answer (DeskOk (node_of result.seat result.fabric.journal) session desk.new) }
@@ -150,6 +154,7 @@ pub fn log_line<L: Loglet, R: Register, K: Terms, S: Replica, C: Chooser>(
     requires own { (d : Desk) → slice_get worker.desks.items session ≡ Some d → K.may worker.seat.who (packed worker.seat.who (session_item session (d.asked + 1) command.now ∷ [])) }
     ensures stands { SeatOk K.may K.floor K.shelf S.state S.spells result.fabric.journal result.worker.seat }
     ensures grows { Grows fabric.journal result.fabric.journal }
+    ensures unsealed { Unsealed fabric.journal result.fabric.journal }
     ensures since { OnOk result.answer (Since worker.seat.who fabric.journal result.fabric.journal) }
     ensures worker { OnOk result.answer (WorkerOk K.may K.floor K.shelf S.state S.spells worker.seat.who counts.new result.fabric.journal result.worker.seat result.worker.desks.items) }
     ensures logs { OnOk result.answer (Logs K.may K.floor K.shelf counts.old counts.new (node_of worker.seat fabric.journal) (node_of result.worker.seat result.fabric.journal) session worker.desks.items result.worker.desks.items) }
@@ -195,6 +200,7 @@ pub fn look_line<L: Loglet, R: Register, K: Terms, S: Replica, C: Chooser>(
     ensures desks { result.worker.desks ≡ worker.desks }
     ensures stands { SeatOk K.may K.floor K.shelf S.state S.spells result.fabric.journal result.worker.seat }
     ensures grows { Grows fabric.journal result.fabric.journal }
+    ensures unsealed { Unsealed fabric.journal result.fabric.journal }
     ensures since { IfOk result.answer (λ l. Since worker.seat.who fabric.journal result.fabric.journal) }
     ensures worker { IfOk result.answer (λ l. WorkerOk K.may K.floor K.shelf S.state S.spells worker.seat.who counts.now result.fabric.journal result.worker.seat result.worker.desks.items) }
     ensures looks { IfOk result.answer (λ l. (d : Desk) → slice_get worker.desks.items session ≡ Some d → Looks (Within K.may counts.now) K.floor K.shelf (node_of worker.seat fabric.journal) (node_of result.worker.seat result.fabric.journal) d query.now l) }
@@ -244,6 +250,21 @@ pub fn extend_line<L: Loglet, R: Register, K: Terms, S: Replica, C: Chooser>(
         seat,
         fabric,
         answer,
+    } = settle_within::<L, R, K, Brand, S, C>(fabric, seat, counts);
+    match answer {
+        Ok(()) => {}
+        Err(fault) => {
+            return Returned {
+                worker: Worker { seat, desks },
+                fabric,
+                answer: Err(fault),
+            };
+        }
+    }
+    let Back {
+        seat,
+        fabric,
+        answer,
     } = extend_within::<L, R, K, Brand, S, C>(fabric, seat, counts);
     match answer {
         Ok(looked) => {
@@ -274,6 +295,7 @@ pub fn end_phase<L: Loglet, R: Register, K: Terms, S: Replica, C: Chooser>(
     requires worker { WorkerOk K.may K.floor K.shelf S.state S.spells worker.seat.who counts.now fabric.journal worker.seat worker.desks.items }
     ensures stands { SeatOk K.may K.floor K.shelf S.state S.spells result.fabric.journal result.worker.seat }
     ensures grows { Grows fabric.journal result.fabric.journal }
+    ensures unsealed { Unsealed fabric.journal result.fabric.journal }
     ensures since { IfOk result.answer (λ f. Since worker.seat.who fabric.journal result.fabric.journal) }
     ensures worker { IfOk result.answer (λ f. WorkerOk K.may K.floor K.shelf S.state S.spells worker.seat.who counts.now result.fabric.journal result.worker.seat result.worker.desks.items) }
     ensures ends { IfOk result.answer (EndsTurn (Within K.may counts.now) K.floor K.shelf (node_of worker.seat fabric.journal) (node_of result.worker.seat result.fabric.journal) worker.desks.items result.worker.desks.items) }

@@ -3,6 +3,7 @@ ghost use Rattle.std.specs.Prelude.{◌≡◌, ◌<◌, ◌≤◌, ◌+◌, ◌^
 ghost use Rattle.delos_types.specs.Spaces.{SpaceMap};
 ghost use Rattle.delos_types.specs.declared.entry.Entry.{Entry};
 ghost use Rattle.legal_journal.specs.Journal.{IsLegal};
+ghost use Rattle.legal_journal.specs.Sealing.{SealsBy};
 ghost use Rattle.table_core.specs.Spelling.{IsSpellable, command_length};
 ghost use Rattle.engine_api.specs.Packing.{packed, session_item};
 ghost use Rattle.engine_laws.specs.State.{IsStateOf};
@@ -12,7 +13,7 @@ ghost use Rattle.one_thread.specs.Seats.{SeatOk, node_of};
 ghost use Rattle.node_lines.specs.Moving.{HandsIn, CanPack};
 ghost use Rattle.node_lines.specs.Desks.{DeskOk, DesksOk, IsBound, AreBound, MayJoin, KeepsFrom};
 ghost use Rattle.node_lines.specs.Lines.{Readies, Looks};
-ghost use Rattle.node_lines.specs.Extending.{Extends};
+ghost use Rattle.node_lines.specs.Extending.{CarriesAll, Replaces};
 ghost use Rattle.node_lines.specs.Turns.{EndsTurn};
 
 use delos_types::cause::Cause;
@@ -20,7 +21,7 @@ use fabric_core::fabric::Fabric;
 use fate_words::chooser::Chooser;
 use legal_journal::rules::Rules;
 use loglet_api::loglet::Loglet;
-use node_lines::extend::extend_log;
+use node_lines::extend::{extend_log, settle_log};
 use node_lines::lines::{Looked, log_command, look, make_ready};
 use node_lines::turn::end_turn;
 use node_sessions::desk::Desk;
@@ -66,6 +67,7 @@ pub fn log_within<L: Loglet, R: Register, K: Terms, Q: Scope, S: Replica, C: Cho
     requires join { MayJoin Q.sends seat.who seat.node.replica.origin }
     ensures seat { SeatOk Q.sends K.floor K.shelf S.state S.spells result.fabric.journal result.seat }
     ensures since { Since result.seat.who Q.since result.fabric.journal }
+    ensures right { SealsBy (Q.seals result.seat.who) Q.since result.fabric.journal }
     ensures hands { OnOk result.answer (HandsIn Q.sends K.floor K.shelf (node_of seat fabric.journal) (node_of result.seat result.fabric.journal) desk.old.session desk.old.sent) }
     ensures desk { OnOk result.answer (DeskOk (node_of result.seat result.fabric.journal) desk.old.session desk.new) }
     ensures counts { OnOk result.answer (desk.new ≡ record desk.old { asked = desk.old.asked + 1; sent = desk.old.sent + 1; answers = desk.new.answers }) }
@@ -99,6 +101,7 @@ pub fn ready_within<L: Loglet, R: Register, K: Terms, Q: Scope, S: Replica, C: C
     requires keeps { KeepsFrom Q.sends K.floor K.shelf seat.node.replica.cursor }
     ensures seat { SeatOk Q.sends K.floor K.shelf S.state S.spells result.fabric.journal result.seat }
     ensures since { Since result.seat.who Q.since result.fabric.journal }
+    ensures right { SealsBy (Q.seals result.seat.who) Q.since result.fabric.journal }
     ensures readies { IfOk result.answer (Readies Q.sends K.floor K.shelf (node_of seat fabric.journal) (node_of result.seat result.fabric.journal) desk.old desk.new) }
     ensures desk { OnOk result.answer (DeskOk (node_of result.seat result.fabric.journal) desk.old.session desk.new) }
 {
@@ -131,6 +134,7 @@ pub fn look_within<L: Loglet, R: Register, K: Terms, Q: Scope, S: Replica, C: Ch
     requires keeps { KeepsFrom Q.sends K.floor K.shelf seat.node.replica.cursor }
     ensures seat { SeatOk Q.sends K.floor K.shelf S.state S.spells result.fabric.journal result.seat }
     ensures since { Since result.seat.who Q.since result.fabric.journal }
+    ensures right { SealsBy (Q.seals result.seat.who) Q.since result.fabric.journal }
     ensures looks { IfOk result.answer (Looks Q.sends K.floor K.shelf (node_of seat fabric.journal) (node_of result.seat result.fabric.journal) desk.now query.now) }
 {
     let mut node = seat.wake::<L, R, K, Q>(fabric);
@@ -143,7 +147,33 @@ pub fn look_within<L: Loglet, R: Register, K: Terms, Q: Scope, S: Replica, C: Ch
     }
 }
 
-/// The last loglet of the log is replaced.
+/// All that the node was given is carried to its end, before the last loglet of the log is replaced.
+pub fn settle_within<L: Loglet, R: Register, K: Terms, Q: Scope, S: Replica, C: Chooser>(
+    fabric: Fabric<L, R, By<K>>,
+    seat: Seat<S, C>,
+    _counts: &[u64; 64],
+) -> Back<L, R, K, S, C, ()>
+    requires floor { (log : List Entry) → K.floor log ≤ length log }
+    requires seat { SeatOk Q.sends K.floor K.shelf S.state S.spells fabric.journal seat }
+    requires narrower { (who : ℕ) (e : Entry) → Q.sends who e → K.may who e }
+    requires since { Q.since ≡ fabric.journal }
+    requires kept { CanPack seat.node.replica.kept }
+    ensures seat { SeatOk Q.sends K.floor K.shelf S.state S.spells result.fabric.journal result.seat }
+    ensures since { Since result.seat.who Q.since result.fabric.journal }
+    ensures right { SealsBy (Q.seals result.seat.who) Q.since result.fabric.journal }
+    ensures carries { OnOk result.answer (CarriesAll Q.sends K.floor K.shelf (node_of seat fabric.journal) (node_of result.seat result.fabric.journal)) }
+{
+    let mut node = seat.wake::<L, R, K, Q>(fabric);
+    let answer = settle_log(&mut node);
+    let (seat, fabric) = rest(node);
+    Back {
+        seat,
+        fabric,
+        answer,
+    }
+}
+
+/// The last loglet of the log is replaced. Alone among what a worker does it asks that the scope lets it seal.
 pub fn extend_within<L: Loglet, R: Register, K: Terms, Q: Scope, S: Replica, C: Chooser>(
     fabric: Fabric<L, R, By<K>>,
     seat: Seat<S, C>,
@@ -153,10 +183,11 @@ pub fn extend_within<L: Loglet, R: Register, K: Terms, Q: Scope, S: Replica, C: 
     requires seat { SeatOk Q.sends K.floor K.shelf S.state S.spells fabric.journal seat }
     requires narrower { (who : ℕ) (e : Entry) → Q.sends who e → K.may who e }
     requires since { Q.since ≡ fabric.journal }
-    requires kept { CanPack seat.node.replica.kept }
+    requires right { Q.seals seat.who }
     ensures seat { SeatOk Q.sends K.floor K.shelf S.state S.spells result.fabric.journal result.seat }
     ensures since { Since result.seat.who Q.since result.fabric.journal }
-    ensures extends { IfOk result.answer (Extends Q.sends K.floor K.shelf (node_of seat fabric.journal) (node_of result.seat result.fabric.journal)) }
+    ensures right { SealsBy (Q.seals result.seat.who) Q.since result.fabric.journal }
+    ensures replaces { IfOk result.answer (Replaces Q.sends K.floor K.shelf (node_of seat fabric.journal) (node_of result.seat result.fabric.journal)) }
 {
     let mut node = seat.wake::<L, R, K, Q>(fabric);
     let answer = extend_log(&mut node);
@@ -186,6 +217,7 @@ pub fn end_within<L: Loglet, R: Register, K: Terms, Q: Scope, S: Replica, C: Cho
     requires bound { AreBound Q.sends desks.old.items }
     ensures seat { SeatOk Q.sends K.floor K.shelf S.state S.spells result.fabric.journal result.seat }
     ensures since { Since result.seat.who Q.since result.fabric.journal }
+    ensures right { SealsBy (Q.seals result.seat.who) Q.since result.fabric.journal }
     ensures ends { IfOk result.answer (EndsTurn Q.sends K.floor K.shelf (node_of seat fabric.journal) (node_of result.seat result.fabric.journal) desks.old.items desks.new.items) }
 {
     let mut node = seat.wake::<L, R, K, Q>(fabric);

@@ -12,6 +12,7 @@ use Rattle.legal_journal.specs.declared.events.Event.{Event}
 use Rattle.legal_journal.specs.Journal.{IsLegal, state_of, tail_of}
 use Rattle.legal_journal.proofs.Legal.{goes_on}
 use Rattle.journal_faults.specs.Faults.{fault_of, faults_in}
+use Rattle.unsealed_chain.specs.Unsealed.{IsUnsealed}
 use Rattle.script_text.specs.declared.asks.NamedLine.{NamedLine}
 use Rattle.fitting_run.specs.Faults.{lacks_store}
 use Rattle.one_thread.specs.Alone.{Since}
@@ -24,13 +25,13 @@ use Rattle.node_workers.specs.Workers.{Within, sent_of}
 use Rattle.run_laws.specs.Ended.{Fault, pays, most_faults}
 use Rattle.run_course.specs.Script.{failure_of_look, failed_looks}
 use Rattle.run_course.specs.Course.{Course, BeganAt, CourseOk, TurnOf}
-use Rattle.run_course.specs.Replacing.{Replaced}
+use Rattle.run_course.specs.Replacing.{Replaced, has_replaced}
 use Rattle.run_course.proofs.Lines.{count-cons}
 use Rattle.run_course.proofs.Replacing.{later, replaced_on}
 
 -- Counting
 
-count-append : {A : Type 0} (p : A → Bool) (xs ys : List A) → count_by p (xs ++ ys) ≡ count_by p xs + count_by p ys
+pub count-append : {A : Type 0} (p : A → Bool) (xs ys : List A) → count_by p (xs ++ ys) ≡ count_by p xs + count_by p ys
 count-append p xs ys = sum_by-append (λ x. cond (p x) 1 0) xs ys
 
 count-map : {A B : Type 0} (f : A → B) (p : B → Bool) (q : A → Bool) → ((x : A) → p (f x) ≡ q x) → (xs : List A) → count_by p (map f xs) ≡ count_by q xs
@@ -112,9 +113,10 @@ module _ (may : ℕ → Entry → Type 0) (floor : List Entry → ℕ) (shelf : 
     pub advance : 1 ≤ n → n ≤ nodes → length looks' ≡ length looks
         → ((P : Cause → Bool) → P cause.Store ≡ false → failed_looks (λ n. P) lines looks' + count_by P came ≤ failed_looks (λ n. P) lines looks + count_by P (faults_in more))
         → Replaced lines looks' (state_of journal).register (length shelf)
+        → (faults_in journal ≡ [] → IsUnsealed (state_of journal) (count_by has_replaced looks'))
         → ((i : ℕ) (l : NamedLine) → slice_get lines i ≡ Some l → c.phase < l.phase → slice_get looks' i ≡ Some None)
         → CourseOk may floor shelf lines nodes then' counts' looks'
-    advance least most size paid replaced ahead = record {
+    advance least most size paid replaced unsealed ahead = record {
       legal = legal;
       began = began;
       after = λ p high. tails_new c n came journal when p high;
@@ -131,6 +133,7 @@ module _ (may : ℕ → Entry → Type 0) (floor : List Entry → ℕ) (shelf : 
       nodes_are = all-append (λ (f : Fault). (1 ≤ f.node) × (f.node ≤ nodes)) c.faults (map (fault_at n c.phase) came) ok.nodes_are
           (came_here (λ (f : Fault). (1 ≤ f.node) × (f.node ≤ nodes)) n c.phase (λ k. (least, most)) came);
       replaced = replaced;
+      unsealed = unsealed;
       ahead = ahead;
     }
 
@@ -138,11 +141,12 @@ module _ (may : ℕ → Entry → Type 0) (floor : List Entry → ℕ) (shelf : 
   pub advance_still : (lines : List NamedLine) (nodes : ℕ) (c : Course) (counts : List ℕ) (looks : List (Option Looked)) → CourseOk may floor shelf lines nodes c counts looks → (n : ℕ) (came : List Cause) (journal more : List Event) (when : ℕ → ℕ) (counts' : List ℕ)
       → journal ≡ c.journal ++ more → IsLegal (Within may counts') floor shelf journal → 1 ≤ n → n ≤ nodes
       → ((P : Cause → Bool) → P cause.Store ≡ false → failed_looks (λ n. P) lines looks + count_by P came ≤ failed_looks (λ n. P) lines looks + count_by P (faults_in more))
+      → (faults_in journal ≡ [] → IsUnsealed (state_of journal) (count_by has_replaced looks))
       → CourseOk may floor shelf lines nodes (advanced c n came journal when) counts' looks
-  advance_still lines nodes c counts looks ok n came journal more when counts' seen legal least most paid =
+  advance_still lines nodes c counts looks ok n came journal more when counts' seen legal least most paid unsealed =
       advance lines nodes c counts looks ok n came journal more when counts' looks seen legal least most refl paid
       (replaced_on lines looks (state_of c.journal).register (state_of journal).register (length shelf) (later (Within may counts') floor shelf c.journal journal more seen legal) ok.replaced)
-      ok.ahead
+      unsealed ok.ahead
 
 -- It is a part of a turn of node n.
 pub turned : (lines : List NamedLine) (home : ℕ → ℕ) (n : ℕ) (c : Course) (came : List Cause) (journal : List Event) (when : ℕ → ℕ) (counts counts' : List ℕ) (looks looks' : List (Option Looked))

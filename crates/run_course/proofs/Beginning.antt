@@ -37,6 +37,7 @@ course_begins may floor shelf lines nodes c counts looks sent ok = record {
   events = ok.events;
   nodes_are = ok.nodes_are;
   replaced = ok.replaced;
+  unsealed = ok.unsealed;
   ahead = λ i l at high. ok.ahead i l at (omega (arith, high));
 }
   where

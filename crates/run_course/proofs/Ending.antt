@@ -12,6 +12,7 @@ use Rattle.legal_journal.specs.Journal.{IsLegal}
 use Rattle.virtual_log.specs.Holding.{Holds}
 use Rattle.engine_api.specs.Acted.{asked_in}
 use Rattle.engine_api.specs.Order.{gap_from}
+use Rattle.legal_journal.specs.Sealing.{Unsealed}
 use Rattle.replica_api.specs.Replica.{Saved, saved_in}
 use Rattle.base_engine.specs.declared.outbox.Given.{Given}
 use Rattle.base_engine.specs.Following.{IsStateAt}
@@ -38,11 +39,13 @@ use Rattle.run_laws.specs.Ended.{CameTo, rank_in, session_in}
 use Rattle.run_laws.proofs.Members.{Among, among-right}
 use Rattle.run_course.specs.Script.{AreLines, BeginsAt}
 use Rattle.run_course.specs.Course.{Course, CourseOk, TurnOf}
+use Rattle.run_course.specs.Replacing.{has_replaced}
 use Rattle.run_course.specs.Desks.{DeskAt, HasActed, IsUpTo, LoggedSo, PlayedSo, WasEnded}
 use Rattle.run_course.specs.Workers.{TurnEnded, WorkerAt}
 use Rattle.run_course.proofs.Lines.{of_session}
 use Rattle.run_course.proofs.Ranks.{home_is, logs_rank, node_is_home, rank_counts, rank_later, rank_low}
 use Rattle.run_course.proofs.Advance.{advance_still, advanced, stores_counted, tails_new, turned}
+use Rattle.run_course.proofs.Unsealing.{still_unsealed}
 use Rattle.run_course.proofs.Growing.{DeskGrew, DeskOfOld, Grown, came_grows, ended_grows, grown_of, played_grows}
 use Rattle.run_course.proofs.Coming.{came_at, cause_came, given_among, given_then}
 use Rattle.run_course.proofs.Fronts.{front_low}
@@ -107,7 +110,7 @@ became mid failed d d' h = ⊎_elim
 none_some : {A : Type 0} (a : A) → None ≡ Some a → ⊥
 none_some a e = cc
 
-module _ (may : ℕ → Entry → Type 0) (floor : List Entry → ℕ) (shelf : List ℕ) (state : List Entry → SpaceMap → Type 0) (spells : List ℕ → Saved → Type 0) (run : MayRun may floor shelf) (lines : List NamedLine) (home : ℕ → ℕ) (nodes : ℕ) (c : Course) (counts : List ℕ) (looks : List (Option Looked)) (n from to : ℕ) (failed : Option Cause) (seat seat' : SeatView) (desks desks' : List Desk) (journal : List Event) (are : AreLines lines home nodes) (least : 1 ≤ n) (most : n ≤ nodes) (over : BeginsAt lines to (c.phase + 1)) (ok : CourseOk may floor shelf lines nodes c counts looks) (worker : WorkerAt may floor shelf state spells lines home c counts looks n from to c.phase seat desks) (since : Since n c.journal journal) (does : EndsTurn (Within may counts) floor shelf (node_of seat c.journal) (node_of seat' journal) desks desks' failed) (now : WorkerOk may floor shelf state spells n counts journal seat' desks') where
+module _ (may : ℕ → Entry → Type 0) (floor : List Entry → ℕ) (shelf : List ℕ) (state : List Entry → SpaceMap → Type 0) (spells : List ℕ → Saved → Type 0) (run : MayRun may floor shelf) (lines : List NamedLine) (home : ℕ → ℕ) (nodes : ℕ) (c : Course) (counts : List ℕ) (looks : List (Option Looked)) (n from to : ℕ) (failed : Option Cause) (seat seat' : SeatView) (desks desks' : List Desk) (journal : List Event) (are : AreLines lines home nodes) (least : 1 ≤ n) (most : n ≤ nodes) (over : BeginsAt lines to (c.phase + 1)) (ok : CourseOk may floor shelf lines nodes c counts looks) (worker : WorkerAt may floor shelf state spells lines home c counts looks n from to c.phase seat desks) (since : Since n c.journal journal) (still : Unsealed c.journal journal) (does : EndsTurn (Within may counts) floor shelf (node_of seat c.journal) (node_of seat' journal) desks desks' failed) (now : WorkerOk may floor shelf state spells n counts journal seat' desks') where
   abbrev came : List Cause
   came = causes_of does.ends.moves.goes.given (failure_in failed)
 
@@ -145,6 +148,7 @@ module _ (may : ℕ → Entry → Type 0) (floor : List Entry → ℕ) (shelf : 
   course_ok : CourseOk may floor shelf lines nodes then' counts looks
   course_ok = advance_still may floor shelf lines nodes c counts looks ok n came journal does.ends.moves.goes.spends.more when' counts seen_more now.ok.node.legal least most
       (λ P store. let e = does.ends.moves.goes.spends.events P store in omega (arith, e))
+      (still_unsealed may floor shelf run counts c.journal journal (count_by has_replaced looks) now.ok.node.legal still ok.unsealed)
 
   -- the desk of before
   was : (s : ℕ) (d' : Desk) → slice_get desks' s ≡ Some d' → (d : Desk) × (slice_get desks s ≡ Some d) × ClosesIt does.mid failed d d'

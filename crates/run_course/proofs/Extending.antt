@@ -1,9 +1,15 @@
 -- A line had its node replace the last loglet of the log.
-use Rattle.std.proofs.Common.{◌≡◌, sym, ap, subst, ℕ, ◌+◌, ◌≤◌, false, List, Option, Some, None, map, length, slice_get, slice_set, arith}
+use Rattle.std.proofs.Common.{◌≡◌, refl, sym, ap, ◌∙◌, subst, ℕ, ◌+◌, ◌≤◌, false, cond, not, List, [], ◌∷◌, ◌++◌, Option, Some, None, map, length, count_by, slice_get, slice_set, arith}
 use Rattle.delos_types.specs.Spaces.{SpaceMap}
 use Rattle.delos_types.specs.declared.entry.Entry.{Entry}
+use Rattle.delos_types.specs.declared.cause.Cause.{Cause}
 use Rattle.legal_journal.specs.declared.events.Event.{Event}
 use Rattle.legal_journal.specs.Journal.{state_of}
+use Rattle.journal_faults.specs.Faults.{faults_in}
+use Rattle.unsealed_chain.specs.Unsealed.{IsUnsealed}
+use Rattle.unsealed_chain.proofs.Staying.{calm_parts}
+use Rattle.virtual_log.specs.declared.extend.Extension.{Extension}
+use Rattle.virtual_log.specs.declared.extend.Extension.TheVariants.{Extended, Moved, NoSpare}
 use Rattle.replica_api.specs.Replica.{Saved}
 use Rattle.script_text.specs.declared.line.Admin.{Admin}
 use Rattle.script_text.specs.declared.asks.NamedLine.{NamedLine}
@@ -15,18 +21,24 @@ use Rattle.one_thread.specs.Seats.{SeatView, node_of}
 use Rattle.node_sessions.specs.declared.desk.Desk.{Desk}
 use Rattle.node_lines.specs.declared.lines.Looked.{Looked}
 use Rattle.node_lines.specs.declared.lines.Looked.TheVariants as looked
+use Rattle.node_lines.specs.Moving.{is_store}
 use Rattle.node_lines.specs.Extending.{Extends, ExtendsSo}
-use Rattle.node_workers.specs.Workers.{Within, WorkerOk}
+use Rattle.node_workers.specs.Workers.{MayRun, Within, WorkerOk}
+use Rattle.worker_laws.specs.Extending.{made}
 use Rattle.worker_laws.proofs.Lone.{lone_extension}
+use Rattle.worker_laws.proofs.Sealing.{lone_once}
 use Rattle.run_course.specs.Script.{AreLines}
 use Rattle.run_course.specs.Course.{Course, CourseOk}
 use Rattle.run_course.specs.Desks.{IsOfNode, PlayedSo}
+use Rattle.run_course.specs.Replacing.{AsksNode, has_replaced}
 use Rattle.run_course.specs.Workers.{LineWent, WorkerAt}
-use Rattle.run_course.proofs.Advance.{advanced, failed_of}
-use Rattle.run_course.proofs.Replacing.{LooksOn}
+use Rattle.run_course.proofs.Lines.{count-cons}
+use Rattle.run_course.proofs.Advance.{advanced, count-append, failed_of}
+use Rattle.run_course.proofs.Replacing.{LooksOn, count_set}
+use Rattle.run_course.proofs.Unsealing.{same_trim}
 use Rattle.run_course.proofs.Playing.{line_went}
 
-module _ (may : ℕ → Entry → Type 0) (floor : List Entry → ℕ) (shelf : List ℕ) (state : List Entry → SpaceMap → Type 0) (spells : List ℕ → Saved → Type 0) (lines : List NamedLine) (home : ℕ → ℕ) (nodes : ℕ) (c : Course) (counts : List ℕ) (looks : List (Option Looked)) (n from i : ℕ) (line : NamedLine) (admin : Admin) (look : Looked) (seat seat' : SeatView) (desks : List Desk) (journal : List Event) (are : AreLines lines home nodes) (least : 1 ≤ n) (most : n ≤ nodes) (at : slice_get lines i ≡ Some line) (node : line.node ≡ n) (phase : line.phase ≡ c.phase) (asks_is : line.asks ≡ asks.Admin admin) (ok : CourseOk may floor shelf lines nodes c counts looks) (worker : WorkerAt may floor shelf state spells lines home c counts looks n from i c.phase seat desks) (since : Since n c.journal journal) (does : Extends (Within may counts) floor shelf (node_of seat c.journal) (node_of seat' journal) look) (now : WorkerOk may floor shelf state spells n counts journal seat' desks) where
+module _ (may : ℕ → Entry → Type 0) (floor : List Entry → ℕ) (shelf : List ℕ) (state : List Entry → SpaceMap → Type 0) (spells : List ℕ → Saved → Type 0) (run : MayRun may floor shelf) (lines : List NamedLine) (home : ℕ → ℕ) (nodes : ℕ) (c : Course) (counts : List ℕ) (looks : List (Option Looked)) (n from i : ℕ) (line : NamedLine) (admin : Admin) (look : Looked) (seat seat' : SeatView) (desks : List Desk) (journal : List Event) (are : AreLines lines home nodes) (least : 1 ≤ n) (most : n ≤ nodes) (at : slice_get lines i ≡ Some line) (node : line.node ≡ n) (phase : line.phase ≡ c.phase) (asks_is : line.asks ≡ asks.Admin admin) (ok : CourseOk may floor shelf lines nodes c counts looks) (worker : WorkerAt may floor shelf state spells lines home c counts looks n from i c.phase seat desks) (since : Since n c.journal journal) (does : Extends (Within may counts) floor shelf (node_of seat c.journal) (node_of seat' journal) look) (now : WorkerOk may floor shelf state spells n counts journal seat' desks) where
   abbrev then' : Course
   then' = advanced c n (map (λ g. g.cause) does.moves.goes.given) journal c.when
 
@@ -37,7 +49,7 @@ module _ (may : ℕ → Entry → Type 0) (floor : List Entry → ℕ) (shelf : 
   paid_is : (x : Looked) → So x → does.others ≡ failed_of x
   paid_is (looked.Found after found) h = absurd h
   paid_is (looked.Kept k) h = absurd h
-  paid_is (looked.Failed k) h = h
+  paid_is (looked.Failed k) h = h.0
   paid_is (looked.Extended x) h = h.0
 
   of_node : (x : Looked) → So x → IsOfNode x
@@ -55,6 +67,45 @@ module _ (may : ℕ → Entry → Type 0) (floor : List Entry → ℕ) (shelf : 
       (subst (Extends (Within may counts) floor shelf (node_of seat c.journal) (node_of seat' journal)) is does)
       (subst (λ w. Since w c.journal journal) (sym worker.ok.who_is) since)
 
+  own : (x : Extension) → look ≡ looked.Extended x → AsksNode line.asks
+  own x is = subst AsksNode (sym asks_is) tt
+
+  not_yet : slice_get looks i ≡ Some None
+  not_yet = worker.waiting i line (omega arith) at node
+
+  -- a log that failed told a fault
+  no_failure : (k : Cause) → does.others ≡ k ∷ [] → is_store k ≡ false → faults_in journal ≡ [] → ⊥
+  no_failure k is apart calm =
+      let spends = does.moves.goes.spends in
+      let told = spends.events (λ x. not (is_store x)) refl in
+      let none = ap (count_by (λ x. not (is_store x))) (calm_parts c.journal journal spends.more spends.seen calm).1 in
+      let all = count-append (λ x. not (is_store x)) (map (λ g. g.cause) does.moves.goes.given) does.others in
+      let same = ap (count_by (λ x. not (is_store x))) is in
+      let one = count-cons (λ x. not (is_store x)) k [] in
+      let here : ◌≡◌ {A = ℕ} (cond (not (is_store k)) 1 0) 1 = ap {B = ℕ} (λ b. cond (not b) 1 0) apart in
+      omega (arith, told, none, all, same, one, here)
+
+  -- it replaced one, or none
+  made_is : (x : Extension) → made x ≡ cond (has_replaced (Some (looked.Extended x))) 1 0
+  made_is (Extended version start) = refl
+  made_is (Moved version) = refl
+  made_is NoSpare = refl
+
+  by_look : (x : Looked) → look ≡ x → So x → faults_in journal ≡ [] → IsUnsealed (state_of journal) (count_by has_replaced looks + cond (has_replaced (Some x)) 1 0)
+  by_look (looked.Found after found) is h calm = absurd h
+  by_look (looked.Kept k) is h calm = absurd h
+  by_look (looked.Failed k) is h calm = absurd (no_failure k h.0 h.1 calm)
+  by_look (looked.Extended x) is h calm =
+      let spends = does.moves.goes.spends in
+      let was = ok.unsealed (calm_parts c.journal journal spends.more spends.seen calm).0 in
+      subst (λ k. IsUnsealed (state_of journal) (count_by has_replaced looks + k)) (made_is x)
+      (lone_once (Within may counts) floor shelf (node_of seat c.journal) (node_of seat' journal) x (count_by has_replaced looks)
+      (subst (Extends (Within may counts) floor shelf (node_of seat c.journal) (node_of seat' journal)) is does) (subst (λ w. Since w c.journal journal) (sym worker.ok.who_is) since)
+      (same_trim may floor shelf run counts c.journal journal spends.more spends.seen now.ok.node.legal) was calm)
+
+  unsealed : faults_in journal ≡ [] → IsUnsealed (state_of journal) (count_by has_replaced (slice_set looks i (Some look)))
+  unsealed calm = subst (IsUnsealed (state_of journal)) (sym (count_set looks i (Some look) not_yet)) (by_look look refl does.extends calm)
+
   line_played : PlayedSo lines then' c.phase seat'.node.replica.cursor n desks (slice_set looks i (Some look)) i line.phase line.asks
   line_played = subst (PlayedSo lines then' c.phase seat'.node.replica.cursor n desks (slice_set looks i (Some look)) i line.phase) (sym asks_is)
       (look, set_same looks i (Some look) None (worker.waiting i line (omega arith) at node), of_node look does.extends)
@@ -62,4 +113,4 @@ module _ (may : ℕ → Entry → Type 0) (floor : List Entry → ℕ) (shelf : 
   pub line_extended : LineWent may floor shelf state spells lines home nodes c counts counts looks (slice_set looks i (Some look)) n from (i + 1) journal seat' desks
   line_extended =
       line_went may floor shelf state spells lines home nodes c counts looks n from i line look seat seat' desks journal are least most at node phase unlogged ok worker since does.others does.moves
-      (paid_is look does.extends) on now line_played
+      (paid_is look does.extends) on own unsealed now line_played

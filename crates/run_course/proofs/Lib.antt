@@ -3,6 +3,7 @@ pub mod Passing
 pub mod Lines
 pub mod Ranks
 pub mod Replacing
+pub mod Unsealing
 pub mod Advance
 pub mod Growing
 pub mod Coming

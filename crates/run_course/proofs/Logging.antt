@@ -7,6 +7,7 @@ use Rattle.delos_types.specs.declared.entry.Entry.{Entry}
 use Rattle.delos_types.specs.declared.cause.Cause.{Cause}
 use Rattle.table_core.specs.declared.command.Command.{Command}
 use Rattle.legal_journal.specs.declared.events.Event.{Event}
+use Rattle.legal_journal.specs.Sealing.{Unsealed}
 use Rattle.replica_api.specs.Replica.{Saved}
 use Rattle.script_text.specs.declared.line.Session.{Session}
 use Rattle.script_text.specs.declared.asks.NamedLine.{NamedLine}
@@ -18,20 +19,22 @@ use Rattle.one_thread.specs.Seats.{SeatView, node_of}
 use Rattle.node_sessions.specs.declared.desk.Desk.{Desk}
 use Rattle.node_lines.specs.declared.lines.Looked.{Looked}
 use Rattle.node_lines.specs.Moving.{IsQuiet, causes_of}
-use Rattle.node_workers.specs.Workers.{Logs, WorkerOk, sent_of}
+use Rattle.node_workers.specs.Workers.{Logs, MayRun, WorkerOk, sent_of}
 use Rattle.run_laws.specs.Ended.{IsAtHome, session_in}
 use Rattle.run_laws.proofs.Members.{among-right, contained-among}
 use Rattle.run_laws.proofs.Placing.{same_some}
 use Rattle.run_course.specs.Script.{AreLines, asked_by}
 use Rattle.run_course.specs.Course.{Course, CourseOk, TurnOf}
 use Rattle.run_course.specs.Desks.{DeskAt, LoggedSo, PlayedSo}
+use Rattle.run_course.specs.Replacing.{has_replaced}
 use Rattle.run_course.specs.Workers.{LineWent, WorkerAt}
 use Rattle.run_course.proofs.Lines.{asked_more, asked_none, asked_one, at_get, phase_before, rank_is}
 use Rattle.run_course.proofs.Advance.{advance_still, advanced, stores_counted, turned}
+use Rattle.run_course.proofs.Unsealing.{still_unsealed}
 use Rattle.run_course.proofs.Growing.{DeskGrew, DeskOfOld, Grown, desk_same, ended_grows, grown_of, halted_grows, played_grows}
 use Rattle.run_course.proofs.Coming.{came_at, given_among, given_then}
 
-module _ (may : ℕ → Entry → Type 0) (floor : List Entry → ℕ) (shelf : List ℕ) (state : List Entry → SpaceMap → Type 0) (spells : List ℕ → Saved → Type 0) (lines : List NamedLine) (home : ℕ → ℕ) (nodes : ℕ) (c : Course) (counts counts' : List ℕ) (looks : List (Option Looked)) (n from i : ℕ) (line : NamedLine) (session : Session) (rank : ℕ) (command : Command) (seat seat' : SeatView) (desks desks' : List Desk) (journal : List Event) (are : AreLines lines home nodes) (least : 1 ≤ n) (most : n ≤ nodes) (at : slice_get lines i ≡ Some line) (node : line.node ≡ n) (phase : line.phase ≡ c.phase) (asks_is : line.asks ≡ asks.Logged session rank command) (ok : CourseOk may floor shelf lines nodes c counts looks) (worker : WorkerAt may floor shelf state spells lines home c counts looks n from i c.phase seat desks) (since : Since n c.journal journal) (logs : Logs may floor shelf counts counts' (node_of seat c.journal) (node_of seat' journal) session.id desks desks') (now : WorkerOk may floor shelf state spells n counts' journal seat' desks') where
+module _ (may : ℕ → Entry → Type 0) (floor : List Entry → ℕ) (shelf : List ℕ) (state : List Entry → SpaceMap → Type 0) (spells : List ℕ → Saved → Type 0) (run : MayRun may floor shelf) (lines : List NamedLine) (home : ℕ → ℕ) (nodes : ℕ) (c : Course) (counts counts' : List ℕ) (looks : List (Option Looked)) (n from i : ℕ) (line : NamedLine) (session : Session) (rank : ℕ) (command : Command) (seat seat' : SeatView) (desks desks' : List Desk) (journal : List Event) (are : AreLines lines home nodes) (least : 1 ≤ n) (most : n ≤ nodes) (at : slice_get lines i ≡ Some line) (node : line.node ≡ n) (phase : line.phase ≡ c.phase) (asks_is : line.asks ≡ asks.Logged session rank command) (ok : CourseOk may floor shelf lines nodes c counts looks) (worker : WorkerAt may floor shelf state spells lines home c counts looks n from i c.phase seat desks) (since : Since n c.journal journal) (still : Unsealed c.journal journal) (logs : Logs may floor shelf counts counts' (node_of seat c.journal) (node_of seat' journal) session.id desks desks') (now : WorkerOk may floor shelf state spells n counts' journal seat' desks') where
   here : (t : ℕ) → (session.id == t) ≡ true → session.id ≡ t
   here t e = grind (arith, nat_tests, e)
 
@@ -47,6 +50,7 @@ module _ (may : ℕ → Entry → Type 0) (floor : List Entry → ℕ) (shelf : 
   course_ok : CourseOk may floor shelf lines nodes then' counts' looks
   course_ok = advance_still may floor shelf lines nodes c counts looks ok n came journal logs.logs.goes.spends.more c.when counts' logs.logs.goes.spends.seen now.ok.node.legal least most
       (λ P store. let e = logs.logs.goes.spends.events P store in omega (arith, e))
+      (still_unsealed may floor shelf run counts' c.journal journal (count_by has_replaced looks) now.ok.node.legal still ok.unsealed)
 
   at_home : home session.id ≡ n
   at_home = sym (subst (IsAtHome home line.node) asks_is (at_get (λ (l : NamedLine). IsAtHome home l.node l.asks) lines i line are.at_home at)) ∙ node

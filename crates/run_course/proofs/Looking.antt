@@ -1,5 +1,5 @@
 -- A line looked at the table at its node.
-use Rattle.std.proofs.Common.{◌≡◌, refl, sym, ap, ◌∙◌, subst, ◌⊎◌, inl, inr, ⊎_elim, ℕ, ◌+◌, ◌<◌, ◌≤◌, false, List, Option, Some, None, IsSome, map, length, slice_get, slice_set, arith}
+use Rattle.std.proofs.Common.{◌≡◌, refl, sym, ap, ◌∙◌, subst, ◌⊎◌, inl, inr, ⊎_elim, ℕ, ◌+◌, ◌<◌, ◌≤◌, false, List, [], Option, Some, None, IsSome, map, length, count_by, slice_get, slice_set, arith}
 use Rattle.std.specs.List.{AllByRecursion}
 use Rattle.std.proofs.lemmas.Bool.{cases_lt}
 use Rattle.delos_types.specs.Spaces.{SpaceMap}
@@ -9,6 +9,10 @@ use Rattle.table_core.specs.declared.command.Query.{Query}
 use Rattle.table_core.specs.declared.command.Found.{Found}
 use Rattle.legal_journal.specs.declared.events.Event.{Event}
 use Rattle.legal_journal.specs.Journal.{state_of}
+use Rattle.journal_faults.specs.Faults.{faults_in}
+use Rattle.legal_journal.specs.Sealing.{Unsealed}
+use Rattle.unsealed_chain.specs.Unsealed.{IsUnsealed}
+use Rattle.virtual_log.specs.declared.extend.Extension.{Extension}
 use Rattle.engine_api.specs.Acted.{asked_in}
 use Rattle.engine_api.specs.Order.{gap_from}
 use Rattle.replica_api.specs.Replica.{Saved}
@@ -31,6 +35,7 @@ use Rattle.run_laws.proofs.Placing.{same_some}
 use Rattle.run_course.specs.Script.{AreLines, BeginsAt, asked_by}
 use Rattle.run_course.specs.Course.{Course, CourseOk}
 use Rattle.run_course.specs.Desks.{DeskAt, LogsBefore, LookedSo, PlayedSo, SawSo, WasStopped}
+use Rattle.run_course.specs.Replacing.{AsksNode, has_replaced}
 use Rattle.run_course.specs.Workers.{LineWent, WorkerAt}
 use Rattle.run_course.proofs.Lines.{asked_more, asked_there, logs_before}
 use Rattle.run_course.proofs.Advance.{advanced, failed_of, tails_new, tails_old}
@@ -38,9 +43,10 @@ use Rattle.run_course.proofs.Growing.{Grown, came_grows}
 use Rattle.run_course.proofs.Coming.{cause_came}
 use Rattle.run_course.proofs.Fronts.{front_low}
 use Rattle.run_course.proofs.Replacing.{LooksOn}
+use Rattle.run_course.proofs.Unsealing.{count_same, still_unsealed}
 use Rattle.run_course.proofs.Playing as playing
 
-module _ (may : ℕ → Entry → Type 0) (floor : List Entry → ℕ) (shelf : List ℕ) (state : List Entry → SpaceMap → Type 0) (spells : List ℕ → Saved → Type 0) (run : MayRun may floor shelf) (lines : List NamedLine) (home : ℕ → ℕ) (nodes : ℕ) (c : Course) (counts : List ℕ) (looks : List (Option Looked)) (n from i : ℕ) (line : NamedLine) (session : Session) (query : Query) (desk : Desk) (look : Looked) (seat seat' : SeatView) (desks : List Desk) (journal : List Event) (are : AreLines lines home nodes) (least : 1 ≤ n) (most : n ≤ nodes) (begins : BeginsAt lines from c.phase) (at : slice_get lines i ≡ Some line) (node : line.node ≡ n) (phase : line.phase ≡ c.phase) (asks_is : line.asks ≡ asks.Look session query) (ok : CourseOk may floor shelf lines nodes c counts looks) (worker : WorkerAt may floor shelf state spells lines home c counts looks n from i c.phase seat desks) (since : Since n c.journal journal) (desk_at : slice_get desks session.id ≡ Some desk) (does : Looks (Within may counts) floor shelf (node_of seat c.journal) (node_of seat' journal) desk query look) (now : WorkerOk may floor shelf state spells n counts journal seat' desks) where
+module _ (may : ℕ → Entry → Type 0) (floor : List Entry → ℕ) (shelf : List ℕ) (state : List Entry → SpaceMap → Type 0) (spells : List ℕ → Saved → Type 0) (run : MayRun may floor shelf) (lines : List NamedLine) (home : ℕ → ℕ) (nodes : ℕ) (c : Course) (counts : List ℕ) (looks : List (Option Looked)) (n from i : ℕ) (line : NamedLine) (session : Session) (query : Query) (desk : Desk) (look : Looked) (seat seat' : SeatView) (desks : List Desk) (journal : List Event) (are : AreLines lines home nodes) (least : 1 ≤ n) (most : n ≤ nodes) (begins : BeginsAt lines from c.phase) (at : slice_get lines i ≡ Some line) (node : line.node ≡ n) (phase : line.phase ≡ c.phase) (asks_is : line.asks ≡ asks.Look session query) (ok : CourseOk may floor shelf lines nodes c counts looks) (worker : WorkerAt may floor shelf state spells lines home c counts looks n from i c.phase seat desks) (since : Since n c.journal journal) (still : Unsealed c.journal journal) (desk_at : slice_get desks session.id ≡ Some desk) (does : Looks (Within may counts) floor shelf (node_of seat c.journal) (node_of seat' journal) desk query look) (now : WorkerOk may floor shelf state spells n counts journal seat' desks) where
   abbrev came : List Cause
   came = map (λ g. g.cause) does.moves.goes.given
 
@@ -63,14 +69,29 @@ module _ (may : ℕ → Entry → Type 0) (floor : List Entry → ℕ) (shelf : 
   on : LooksOn (length shelf) (state_of c.journal).register (state_of journal).register look
   on x is = absurd (subst (LooksSo (node_of seat c.journal) (node_of seat' journal) desk query does.others) is does.looks)
 
+  own : (x : Extension) → look ≡ looked.Extended x → AsksNode line.asks
+  own x is = absurd (subst (LooksSo (node_of seat c.journal) (node_of seat' journal) desk query does.others) is does.looks)
+
+  -- a read replaces nothing
+  none_replaced : (x : Looked) → LooksSo (node_of seat c.journal) (node_of seat' journal) desk query does.others x → has_replaced (Some x) ≡ false
+  none_replaced (looked.Found after found) h = refl
+  none_replaced (looked.Kept k) h = refl
+  none_replaced (looked.Failed k) h = refl
+  none_replaced (looked.Extended x) h = absurd h
+
+  unsealed : faults_in journal ≡ [] → IsUnsealed (state_of journal) (count_by has_replaced looks')
+  unsealed calm =
+      subst (IsUnsealed (state_of journal)) (sym (count_same looks i look not_yet (none_replaced look does.looks)))
+      (still_unsealed may floor shelf run counts c.journal journal (count_by has_replaced looks) now.ok.node.legal still ok.unsealed calm)
+
   unlogged : (s : ℕ) → logs_for s line ≡ false
   unlogged s = ap (is_of s) asks_is
 
   grown : Grown may floor shelf c then'
-  grown = playing.grown may floor shelf state spells lines home nodes c counts looks n from i line look seat seat' desks journal are least most at node phase unlogged ok worker since does.others does.moves (paid_is look does.looks) on now
+  grown = playing.grown may floor shelf state spells lines home nodes c counts looks n from i line look seat seat' desks journal are least most at node phase unlogged ok worker since does.others does.moves (paid_is look does.looks) on own unsealed now
 
   all_given : AllByRecursion (λ g. CameTo then'.faults g.cause n c.phase) seat'.node.outbox.given
-  all_given = playing.all_given may floor shelf state spells lines home nodes c counts looks n from i line look seat seat' desks journal are least most at node phase unlogged ok worker since does.others does.moves (paid_is look does.looks) on now
+  all_given = playing.all_given may floor shelf state spells lines home nodes c counts looks n from i line look seat seat' desks journal are least most at node phase unlogged ok worker since does.others does.moves (paid_is look does.looks) on own unsealed now
 
   -- The line
 
@@ -147,4 +168,4 @@ module _ (may : ℕ → Entry → Type 0) (floor : List Entry → ℕ) (shelf : 
       (look, set_same looks i (Some look) None not_yet, λ d get. subst (λ x. LookedSo lines then' seat'.node.replica.cursor n x i line.phase session.id query look) (same_some desk d (sym desk_at ∙ get)) (looked_so look does.looks))
 
   pub line_looked : LineWent may floor shelf state spells lines home nodes c counts counts looks looks' n from (i + 1) journal seat' desks
-  line_looked = playing.line_went may floor shelf state spells lines home nodes c counts looks n from i line look seat seat' desks journal are least most at node phase unlogged ok worker since does.others does.moves (paid_is look does.looks) on now line_played
+  line_looked = playing.line_went may floor shelf state spells lines home nodes c counts looks n from i line look seat seat' desks journal are least most at node phase unlogged ok worker since does.others does.moves (paid_is look does.looks) on own unsealed now line_played

@@ -15,7 +15,7 @@ use Rattle.worker_laws.proofs.Chains.{last_within, started_stays}
 use Rattle.script_text.specs.declared.asks.NamedLine.{NamedLine}
 use Rattle.node_lines.specs.declared.lines.Looked.{Looked}
 use Rattle.node_lines.specs.declared.lines.Looked.TheVariants as looked
-use Rattle.run_course.specs.Replacing.{AreApart, CameSo, GoesBefore, Replaced, StandsSo, has_replaced}
+use Rattle.run_course.specs.Replacing.{AreApart, AsksNode, CameSo, GoesBefore, Replaced, StandsSo, has_replaced}
 use Rattle.run_course.proofs.Lines.{count-cons}
 
 -- Later
@@ -49,6 +49,7 @@ stands_on old new cells NoSpare l h = omega (arith, h, l.last, l.within)
 pub replaced_on : (lines : List NamedLine) (looks : List (Option Looked)) (old new : RegisterState) (cells : ℕ) → IsLater old new cells → Replaced lines looks old cells → Replaced lines looks new cells
 replaced_on lines looks old new cells l r = record {
   each = λ i x at. stands_on old new cells x l (r.each i x at);
+  asked = r.asked;
   ids = omega (arith, r.ids, l.last);
   apart = r.apart;
   order = r.order;
@@ -56,7 +57,7 @@ replaced_on lines looks old new cells l r = record {
 
 -- None was played
 
-none_counted : (looks : List (Option Looked)) → ((i : ℕ) (k : Option Looked) → slice_get looks i ≡ Some k → k ≡ None) → count_by has_replaced looks ≡ 0
+pub none_counted : (looks : List (Option Looked)) → ((i : ℕ) (k : Option Looked) → slice_get looks i ≡ Some k → k ≡ None) → count_by has_replaced looks ≡ 0
 none_counted [] each = refl
 none_counted (k ∷ looks) each =
     let a = count-cons has_replaced k looks in
@@ -70,6 +71,7 @@ no_look a e = cc
 pub replaced_none : (lines : List NamedLine) (looks : List (Option Looked)) (now : RegisterState) (cells : ℕ) → ((i : ℕ) (k : Option Looked) → slice_get looks i ≡ Some k → k ≡ None) → Replaced lines looks now cells
 replaced_none lines looks now cells none = record {
   each = λ i x at. absurd (never i x at);
+  asked = λ i l x is at. absurd (never i x at);
   ids = let e = none_counted looks none in omega (arith, e);
   apart = λ i j x y at then' low. absurd (never i x at);
   order = λ i j l m x y is is' at then' low behind. absurd (never i x at);
@@ -80,7 +82,7 @@ replaced_none lines looks now cells none = record {
 
 -- One more line
 
-count_set : (looks : List (Option Looked)) (i : ℕ) (k : Option Looked) → slice_get looks i ≡ Some None → count_by has_replaced (slice_set looks i k) ≡ count_by has_replaced looks + cond (has_replaced k) 1 0
+pub count_set : (looks : List (Option Looked)) (i : ℕ) (k : Option Looked) → slice_get looks i ≡ Some None → count_by has_replaced (slice_set looks i k) ≡ count_by has_replaced looks + cond (has_replaced k) 1 0
 count_set [] i k none = absurd (cc)
 count_set (m ∷ looks) zero k none =
     let a = count-cons has_replaced k looks in
@@ -141,21 +143,24 @@ module _ (old new : RegisterState) (cells : ℕ) (on : IsLater old new cells) wh
   one_more (looked.Extended (Moved v)) so = omega (arith, on.last)
   one_more (looked.Extended NoSpare) so = omega (arith, on.last)
 
-  module _ (lines : List NamedLine) (looks : List (Option Looked)) (i : ℕ) (line : NamedLine) (look : Looked) (at : slice_get lines i ≡ Some line) (not_yet : slice_get looks i ≡ Some None) (r : Replaced lines looks old cells) (so : LooksOn cells old new look)
+  module _ (lines : List NamedLine) (looks : List (Option Looked)) (i : ℕ) (line : NamedLine) (look : Looked) (at : slice_get lines i ≡ Some line) (not_yet : slice_get looks i ≡ Some None) (r : Replaced lines looks old cells) (so : LooksOn cells old new look) (own : (x : Extension) → look ≡ looked.Extended x → AsksNode line.asks)
       (behind : (j : ℕ) (m : NamedLine) → slice_get lines j ≡ Some m → i < j → (line.phase < m.phase) ⊎ (line.node ≡ m.node) → slice_get looks j ≡ Some None) where
     abbrev looks' : List (Option Looked)
     looks' = slice_set looks i (Some look)
 
     -- it was so before, or is that of this line
-    came : (j : ℕ) (x : Extension) → CameSo looks' j x → CameSo looks j x ⊎ ((j ≡ i) × ExtendedSo cells old new x)
-    came j x h = ⊎_elim (λ (low : j < i). other (λ same. absurd (omega (arith, low, same))))
+    found : (j : ℕ) (x : Extension) → CameSo looks' j x → CameSo looks j x ⊎ ((j ≡ i) × (look ≡ looked.Extended x))
+    found j x h = ⊎_elim (λ (low : j < i). other (λ same. absurd (omega (arith, low, same))))
         (λ (high : i ≤ j). ⊎_elim (λ (above : i < j). other (λ same. absurd (omega (arith, above, same))))
-        (λ (upto : j ≤ i). let same : j ≡ i = omega (arith, high, upto) in inr (same, so x (same_look look (looked.Extended x) (sym (set_same looks i (Some look) None not_yet) ∙ (ap (slice_get looks') (sym same) ∙ h)))))
+        (λ (upto : j ≤ i). let same : j ≡ i = omega (arith, high, upto) in inr (same, same_look look (looked.Extended x) (sym (set_same looks i (Some look) None not_yet) ∙ (ap (slice_get looks') (sym same) ∙ h))))
         (cases_lt i j))
         (cases_lt j i)
       where
-        other : j ≢ i → CameSo looks j x ⊎ ((j ≡ i) × ExtendedSo cells old new x)
+        other : j ≢ i → CameSo looks j x ⊎ ((j ≡ i) × (look ≡ looked.Extended x))
         other apart = inl (sym (set_other looks i j (Some look) apart) ∙ h)
+
+    came : (j : ℕ) (x : Extension) → CameSo looks' j x → CameSo looks j x ⊎ ((j ≡ i) × ExtendedSo cells old new x)
+    came j x h = ⊎_elim (λ (was : CameSo looks j x). inl was) (λ (now : (j ≡ i) × (look ≡ looked.Extended x)). inr (now.0, so x now.1)) (found j x h)
 
     each : (j : ℕ) (x : Extension) → CameSo looks' j x → StandsSo new cells x
     each j x h = ⊎_elim (λ (was : CameSo looks j x). stands_on old new cells x on (r.each j x was))
@@ -185,9 +190,14 @@ module _ (old new : RegisterState) (cells : ℕ) (on : IsLater old new cells) wh
             played e = cc
         by (inr a) (inr b) = absurd (omega (arith, a.0, b.0, low))
 
+    asked : (j : ℕ) (l : NamedLine) (x : Extension) → slice_get lines j ≡ Some l → CameSo looks' j x → AsksNode l.asks
+    asked j l x is h = ⊎_elim (λ (was : CameSo looks j x). r.asked j l x is was)
+        (λ (now : (j ≡ i) × (look ≡ looked.Extended x)). subst (λ (m : NamedLine). AsksNode m.asks) (same_line line l (slice_get lines j) (ap (slice_get lines) now.0 ∙ at) is) (own x now.1)) (found j x h)
+
     pub replaced_then : Replaced lines looks' new cells
     replaced_then = record {
       each = each;
+      asked = asked;
       ids = let e = count_set looks i (Some look) not_yet in let more = one_more look so in omega (arith, e, more, r.ids);
       apart = apart;
       order = order;

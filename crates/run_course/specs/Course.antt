@@ -1,5 +1,5 @@
 -- What has happened in a run over nodes.
-use Rattle.std.specs.Prelude.{◌≡◌, ℕ, ◌+◌, ◌<◌, ◌≤◌, ◌==◌, Bool, false, List, ◌++◌, length, count_by, slice_get, Option, Some, None}
+use Rattle.std.specs.Prelude.{◌≡◌, ℕ, ◌+◌, ◌<◌, ◌≤◌, ◌==◌, Bool, false, List, [], ◌++◌, length, count_by, slice_get, Option, Some, None}
 use Rattle.std.specs.List.{AllByRecursion}
 use Rattle.delos_types.specs.declared.entry.Entry.{Entry}
 use Rattle.delos_types.specs.declared.cause.Cause.{Cause}
@@ -7,13 +7,14 @@ use Rattle.delos_types.specs.declared.cause.Cause.TheVariants as cause
 use Rattle.legal_journal.specs.declared.events.Event.{Event}
 use Rattle.legal_journal.specs.Journal.{IsLegal, state_of, tail_of}
 use Rattle.journal_faults.specs.Faults.{faults_in}
+use Rattle.unsealed_chain.specs.Unsealed.{IsUnsealed}
 use Rattle.script_text.specs.declared.asks.NamedLine.{NamedLine}
 use Rattle.node_lines.specs.declared.lines.Looked.{Looked}
 use Rattle.one_thread.specs.Alone.{AreOwn}
 use Rattle.node_workers.specs.Workers.{Within, sent_of}
 use Rattle.run_laws.specs.Ended.{Fault}
 use Rattle.run_course.specs.Script.{asked_before, failed_looks}
-use Rattle.run_course.specs.Replacing.{Replaced}
+use Rattle.run_course.specs.Replacing.{Replaced, has_replaced}
 
 -- All events so far; the present phase; the tails at which phases began, of those to come the present tail; the faults that came,
 -- but for those of reads' own looks; and the phases in which sessions were stopped, of those that were.
@@ -45,6 +46,8 @@ pub record CourseOk (may : ℕ → Entry → Type 0) (floor : List Entry → ℕ
   pub events : (P : Cause → Bool) → P cause.Store ≡ false → failed_looks (λ n. P) lines looks + count_by (λ f. P f.cause) c.faults ≤ count_by P (faults_in c.journal)
   pub nodes_are : AllByRecursion (λ f. (1 ≤ f.node) × (f.node ≤ nodes)) c.faults
   pub replaced : Replaced lines looks (state_of c.journal).register (length shelf)
+  -- where no fault came, the chain has one loglet more than lines replaced one, and the last isn't sealed
+  pub unsealed : faults_in c.journal ≡ [] → IsUnsealed (state_of c.journal) (count_by has_replaced looks)
   -- no line of a phase to come was played
   pub ahead : (i : ℕ) (l : NamedLine) → slice_get lines i ≡ Some l → c.phase < l.phase → slice_get looks i ≡ Some None
 

@@ -6,6 +6,8 @@ use Rattle.virtual_log.specs.declared.extend.Extension.{Extension}
 use Rattle.virtual_log.specs.declared.extend.Extension.TheVariants.{Extended, Moved, NoSpare}
 use Rattle.worker_laws.specs.Extending.{HasStarted}
 use Rattle.script_text.specs.declared.asks.NamedLine.{NamedLine}
+use Rattle.script_text.specs.declared.asks.Asks.{Asks}
+use Rattle.script_text.specs.declared.asks.Asks.TheVariants as asks
 use Rattle.node_lines.specs.declared.lines.Looked.{Looked}
 use Rattle.node_lines.specs.declared.lines.Looked.TheVariants as looked
 
@@ -35,9 +37,17 @@ abbrev pub has_replaced : Option Looked → Bool
 has_replaced (Some (looked.Extended (Extended version start))) = true
 has_replaced look = false
 
+-- it is asked of a node itself
+abbrev pub AsksNode : Asks → Type 0
+AsksNode (asks.Admin a) = Unit {0}
+AsksNode (asks.Logged s r command) = ⊥
+AsksNode (asks.Look s query) = ⊥
+
 -- Of all lines that were played, by the register at present.
 pub record Replaced (lines : List NamedLine) (looks : List (Option Looked)) (now : RegisterState) (cells : ℕ) : Type 0 where
   pub each : (i : ℕ) (x : Extension) → CameSo looks i x → StandsSo now cells x
+  -- no line replaced the last loglet that didn't ask its node to
+  pub asked : (i : ℕ) (l : NamedLine) (x : Extension) → slice_get lines i ≡ Some l → CameSo looks i x → AsksNode l.asks
   -- each replacement took an id of its own
   pub ids : count_by has_replaced looks ≤ last_id now.chain
   pub apart : (i j : ℕ) (x y : Extension) → CameSo looks i x → CameSo looks j y → i < j → AreApart x y

@@ -8,6 +8,7 @@ ghost use Rattle.script_text.specs.declared.asks.NamedLine.{NamedLine};
 ghost use Rattle.script_text.specs.declared.line.Session.{Session};
 ghost use Rattle.script_text.specs.declared.line.Admin.{Admin};
 ghost use Rattle.script_text.specs.declared.asks.Asks.TheVariants as asks;
+ghost use Rattle.legal_journal.specs.Sealing.{Unsealed};
 ghost use Rattle.one_thread.specs.Alone.{Since};
 ghost use Rattle.one_thread.specs.Seats.{SeatView, node_of};
 ghost use Rattle.node_sessions.specs.declared.desk.Desk.{Desk};
@@ -54,7 +55,7 @@ pub fn a_command_is_logged<P: Rules, S: Replica>()
         → slice_get lines i ≡ Some line → line.node ≡ n → line.phase ≡ c.phase → line.asks ≡ asks.Logged session rank command
         → CourseOk P.may P.floor P.shelf lines nodes c counts looks
         → WorkerAt P.may P.floor P.shelf S.state S.spells lines home c counts looks n from i c.phase seat desks
-        → Since n c.journal journal
+        → Since n c.journal journal → Unsealed c.journal journal
         → Logs P.may P.floor P.shelf counts counts' (node_of seat c.journal) (node_of seat' journal) session.id desks desks'
         → WorkerOk P.may P.floor P.shelf S.state S.spells n counts' journal seat' desks'
         → LineWent P.may P.floor P.shelf S.state S.spells lines home nodes c counts counts' looks looks n from (i + 1) journal seat' desks' }
@@ -67,7 +68,7 @@ pub fn a_read_has_looked<P: Rules, S: Replica>()
         → slice_get lines i ≡ Some line → line.node ≡ n → line.phase ≡ c.phase → line.asks ≡ asks.Look session query
         → CourseOk P.may P.floor P.shelf lines nodes c counts looks
         → WorkerAt P.may P.floor P.shelf S.state S.spells lines home c counts looks n from i c.phase seat desks
-        → Since n c.journal journal
+        → Since n c.journal journal → Unsealed c.journal journal
         → slice_get desks session.id ≡ Some desk
         → Looks (Within P.may counts) P.floor P.shelf (node_of seat c.journal) (node_of seat' journal) desk query look
         → WorkerOk P.may P.floor P.shelf S.state S.spells n counts journal seat' desks
@@ -93,7 +94,7 @@ pub fn a_phase_has_ended<P: Rules, S: Replica>()
         → AreLines lines home nodes → 1 ≤ n → n ≤ nodes → BeginsAt lines from c.phase → BeginsAt lines to (c.phase + 1)
         → CourseOk P.may P.floor P.shelf lines nodes c counts looks
         → WorkerAt P.may P.floor P.shelf S.state S.spells lines home c counts looks n from to c.phase seat desks
-        → Since n c.journal journal
+        → Since n c.journal journal → Unsealed c.journal journal
         → EndsTurn (Within P.may counts) P.floor P.shelf (node_of seat c.journal) (node_of seat' journal) desks desks' failed
         → WorkerOk P.may P.floor P.shelf S.state S.spells n counts journal seat' desks'
         → TurnEnded P.may P.floor P.shelf S.state S.spells lines home nodes c counts looks n to journal seat' desks' }
@@ -125,7 +126,7 @@ pub fn a_node_finishes<P: Rules, S: Replica>()
         → AreLines lines home nodes → 1 ≤ n → n ≤ nodes → BeginsAt lines from done → done ≤ c.phase + 1
         → CourseOk P.may P.floor P.shelf lines nodes c counts looks
         → Rests P.may P.floor P.shelf S.state S.spells lines home c counts looks n from done seat desks
-        → Since n c.journal journal
+        → Since n c.journal journal → Unsealed c.journal journal
         → Moves (Within P.may counts) P.floor P.shelf (node_of seat c.journal) (node_of seat' journal) [] → seat'.node.outbox ≡ seat.node.outbox
         → WorkerOk P.may P.floor P.shelf S.state S.spells n counts journal seat' desks
         → NodeFinished P.may P.floor P.shelf S.state S.spells lines home nodes c counts looks n from done journal seat' desks }

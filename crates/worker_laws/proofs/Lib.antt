@@ -2,3 +2,4 @@ pub mod Staying
 pub mod Bounding
 pub mod Chains
 pub mod Lone
+pub mod Sealing

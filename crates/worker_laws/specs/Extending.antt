@@ -23,3 +23,9 @@ abbrev pub ExtendedSo : ℕ → RegisterState → RegisterState → Extension �
 ExtendedSo cells old new (Extended version start) = GoesFurther old new version start
 ExtendedSo cells old new NoSpare = last_id new.chain + 1 ≡ cells
 ExtendedSo cells old new (Moved version) = ⊥
+
+-- how many loglets it made the last one
+abbrev pub made : Extension → ℕ
+made (Extended version start) = 1
+made (Moved version) = 0
+made NoSpare = 0

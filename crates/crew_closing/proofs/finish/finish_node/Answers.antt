@@ -31,7 +31,7 @@ returns-clause-rests g c =
     on_ok4 q.result.answer q.ensures.since q.ensures.moves q.ensures.outbox q.ensures.worker (λ since moves same now. (
       c.requires.rests.0,
       subst (λ l. CrewRests p.may p.floor p.shelf r.state r.spells a._lines.now (length a._lines.now) c.requires.rests.0 q.result.fabric.journal a.crew.counts a.crew.looks.items (λ w. w.seat) (λ w. w.desks.items) l) (sym items)
-          (crew_finished p.may p.floor p.shelf r.state r.spells a._lines.now (λ w. w.seat) (λ w. w.desks.items) a.crew.workers.items (length a._lines.now) c.requires.rests.0 a.crew.fabric.journal a.crew.counts a.crew.looks.items c.requires.rests.1 a.k q.result.fabric.journal w q.result.worker at since moves same now
+          (crew_finished p.may p.floor p.shelf r.state r.spells a._lines.now (λ w. w.seat) (λ w. w.desks.items) a.crew.workers.items (length a._lines.now) c.requires.rests.0 a.crew.fabric.journal a.crew.counts a.crew.looks.items c.requires.rests.1 c.requires.run a.k q.result.fabric.journal w q.result.worker at since q.ensures.unsealed moves same now
           (ap (λ d. d.items) q.ensures.desks)),
     ))
 

@@ -19,4 +19,4 @@ invariant-loop-k g l = record {
 }
 
 abbrev pub ghosts-seat_within : goal.ghosts-seat_within
-ghosts-seat_within g a = record { sends = Within g.K.Terms.may a._counts.now; since = a.fabric.journal }
+ghosts-seat_within g a = record { sends = Within g.K.Terms.may a._counts.now; seals = λ _. ⊥; since = a.fabric.journal }

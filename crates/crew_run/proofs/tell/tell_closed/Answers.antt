@@ -1,7 +1,11 @@
-use Rattle.std.proofs.Common.{◌≡◌, refl, sym, ◌∙◌, subst, List, map}
-use Rattle.std.specs.Prelude.{IfOk, OnOk}
+use Rattle.std.proofs.Common.{◌≡◌, refl, sym, ◌∙◌, subst, true, List, length, count_by, map}
+use Rattle.std.specs.Prelude.{not, is_some, IfOk, OnOk}
+use Rattle.std.specs.List.{list_all}
+use Rattle.delos_types.specs.declared.chain.Chain.{Chain}
 use Rattle.legal_journal.specs.Journal.{IsLegal}
 use Rattle.fitting_run.specs.Yard.{Shown}
+use Rattle.fitting_run.specs.Replacements.{version_made, version_found}
+use Rattle.course_ends.specs.Ends.{GoesTo}
 use Rattle.fitting_run.specs.declared.told.Told.{Told}
 use Rattle.run_laws.specs.Ended.{RunEnded}
 use Rattle.fabric_core.specs.Fabric.{IsRegisterAsTold}
@@ -12,6 +16,7 @@ use Rattle.course_ends.specs.Rows.{AreRows, CanTell}
 use Rattle.fitting_run.specs.Fits.{Fits}
 use Rattle.crew_closing.specs.Finishing.{SeesAll}
 use Rattle.last_chain.specs.Last.{AsksOnce, IsLast}
+use Rattle.crew_run.proofs.Lone.{all_lone}
 use Rattle.crew_run.proofs.Telling.{stands_on, own_more, reads_asked}
 use Rattle.crew_run.proofs.tell.tell_closed.Goals as goal
 
@@ -59,6 +64,11 @@ returns-in-Ok-Ok-clause-told g c =
           (subst (λ n. SeesAll early (λ (w : WorkerEnd). w.seat) ends n) (sym h.1) c.requires.sees) h.2.front reads
           (subst (λ l. journal.trim_of (journal.state_of l) ≡ 0) asks.seen trim)
           (subst (λ l. IsGivenBack p.may p.floor p.shelf l ends o.chain yard) asks.seen back) quiet;
+      extended = λ yard back quiet.
+          subst (λ (k : Chain). GoesTo k (count_by (λ r. is_some (version_made r.outcome)) o.rows)) (sym last.told)
+          (c.each_segment_is_told.ensures lines o.rows new w.counts w.looks.items h.0 ends closed rows' (c.a_calm_journal_tells_no_fault.ensures new ends o.chain yard back quiet));
+      lone = λ yard back told. let e = ended yard back told in
+          subst (λ rs. list_all (λ r. not (is_some (version_found r.outcome))) rs ≡ true) (sym e.1.rows) (all_lone o.version o.chain (length yard.cells) (played_of lines o.rows w.looks.items) e.1.replacements.each);
       fits = λ yard back told. let e = ended yard back told in subst (λ l. Fits l o yard) e.0 (c.what_ended_fits.ensures (played_of lines o.rows w.looks.items) o yard e.1);
       calm = λ yard back told quiet. c.a_calm_run_answers_all.ensures (played_of lines o.rows w.looks.items) o yard (ended yard back told).1 quiet;
     }

@@ -1,5 +1,6 @@
 use Rattle.std.proofs.Common.{[], subst}
 use Rattle.std.specs.Prelude.{OnOk}
+use Rattle.legal_journal.proofs.Sealing.{unsealed_by}
 use Rattle.one_thread.specs.Seats.{node_of}
 use Rattle.node_lines.specs.Moving.{Moves}
 use Rattle.node_workers.specs.Workers.{Within}
@@ -26,3 +27,9 @@ pub returns-in-Err-clause-stands : goal.returns-in-Err-clause-stands
 returns-in-Err-clause-stands g c =
     let p = g.K.Terms in
     seat_allowed p.may c.args.counts.now p.floor p.shelf g.S.Replica.state g.S.Replica.spells c.finish_within-seat.result.fabric.journal c.finish_within-seat.result.seat c.finish_within-seat.ensures.seat
+
+pub returns-in-Ok-clause-unsealed : goal.returns-in-Ok-clause-unsealed
+returns-in-Ok-clause-unsealed g c = unsealed_by _ _ c.finish_within-seat.ensures.right
+
+pub returns-in-Err-clause-unsealed : goal.returns-in-Err-clause-unsealed
+returns-in-Err-clause-unsealed g c = unsealed_by _ _ c.finish_within-seat.ensures.right

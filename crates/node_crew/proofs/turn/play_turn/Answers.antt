@@ -1,5 +1,6 @@
 use Rattle.std.proofs.Common.{◌≡◌, sym, ◌∙◌, subst, ◌+◌}
 use Rattle.std.specs.Prelude.{IfOk, OnOk}
+use Rattle.legal_journal.specs.Sealing.{Unsealed}
 use Rattle.one_thread.specs.Alone.{Since}
 use Rattle.one_thread.specs.Seats.{node_of}
 use Rattle.node_lines.specs.Turns.{EndsTurn}
@@ -42,11 +43,12 @@ returns-in-Ok-answer-clause-goes g c = λ home nodes course u ends.
     let over = subst (λ n. BeginsAt a.lines.now a.to (n + 1)) (sym w.turn.phase) ends in
     let since = subst (λ x. IfOk x (λ f. Since seat.who mid new)) c.in-Ok-answer.is e.ensures.since in
     let since' = subst (λ j. Since a.node j new) (sym w.journal_is) (subst (λ k. Since k mid new) who since) in
+    let still = subst (λ j. Unsealed j new) (sym w.journal_is) e.ensures.unsealed in
     let does = subst (λ x. IfOk x (EndsTurn (Within p.may counts) p.floor p.shelf (node_of seat mid) (node_of seat' new) desks desks')) c.in-Ok-answer.is e.ensures.ends in
     let does' = subst (λ j. EndsTurn (Within p.may counts) p.floor p.shelf (node_of seat j) (node_of seat' new) desks desks' c.in-Ok-answer._failed) (sym w.journal_is) does in
     let now = subst (λ x. IfOk x (λ f. WorkerOk p.may p.floor p.shelf r.state r.spells seat.who counts new seat' desks')) c.in-Ok-answer.is e.ensures.worker in
     let now' = subst (λ k. WorkerOk p.may p.floor p.shelf r.state r.spells k counts new seat' desks') who now in
-    let t = phase_ended p.may p.floor p.shelf r.state r.spells c.requires.run a.lines.now home nodes w.course counts looks a.node a.from a.to c.in-Ok-answer._failed seat seat' desks desks' new u.lines_are u.least u.most over w.ok w.worker since' does' now' in
+    let t = phase_ended p.may p.floor p.shelf r.state r.spells c.requires.run a.lines.now home nodes w.course counts looks a.node a.from a.to c.in-Ok-answer._failed seat seat' desks desks' new u.lines_are u.least u.most over w.ok w.worker since' still does' now' in
     record {
       course = t.course;
       journal_is = t.journal_is;

@@ -2,6 +2,7 @@ use Rattle.std.proofs.Common.{subst}
 use Rattle.std.specs.Prelude.{IfOk}
 use Rattle.one_thread.specs.Seats.{node_of}
 use Rattle.node_lines.specs.Turns.{EndsTurn}
+use Rattle.legal_journal.proofs.Sealing.{unsealed_by}
 use Rattle.node_workers.specs.Workers.{Within}
 use Rattle.node_workers.proofs.Working.{keeps_within, are_bound, worker_ends}
 use Rattle.node_workers.proofs.turns.end_phase.Goals as goal
@@ -28,3 +29,9 @@ returns-in-Ok-clause-worker g c =
     let is_it = c.end_within-seat.new.desks.items in
     let ends = subst (λ x. IfOk x (EndsTurn (Within p.may c.args.counts.now) p.floor p.shelf (node_of a c.args.fabric.journal) (node_of b now) was is_it)) c.in-Ok.is c.end_within-seat.ensures.ends in
     worker_ends p.may p.floor p.shelf c.requires.run r.state r.spells a.who c.args.counts.now c.args.fabric.journal now a b was is_it c.in-Ok.failed c.requires.worker c.end_within-seat.ensures.seat ends
+
+pub returns-in-Ok-clause-unsealed : goal.returns-in-Ok-clause-unsealed
+returns-in-Ok-clause-unsealed g c = unsealed_by _ _ c.end_within-seat.ensures.right
+
+pub returns-in-Err-clause-unsealed : goal.returns-in-Err-clause-unsealed
+returns-in-Err-clause-unsealed g c = unsealed_by _ _ c.end_within-seat.ensures.right

@@ -13,6 +13,7 @@ use Rattle.node_lines.specs.Desks.{DeskOk, MayJoin}
 use Rattle.node_lines.specs.Lines.{Readies}
 use Rattle.node_lines.proofs.Moving.{rank_elsewhere}
 use Rattle.node_lines.proofs.Sessions.{own_under}
+use Rattle.legal_journal.proofs.Sealing.{unsealed_by, unsealed_both}
 use Rattle.node_workers.specs.Workers.{Within, LogsIt, sent_of}
 use Rattle.node_workers.proofs.Joining.{within-join, within-one}
 use Rattle.node_workers.proofs.Widening.{within-more, seat_wider, seat_allowed, grows-since, grows-both}
@@ -154,3 +155,17 @@ returns-in-Ok-answer-clause-grows g c =
 pub returns-in-Err-answer-clause-grows : goal.returns-in-Err-answer-clause-grows
 returns-in-Err-answer-clause-grows g c =
     grows-both c.args.fabric.journal c.ready_within-seat.result.fabric.journal c.log_within-seat.result.fabric.journal (grows-since _ _ _ c.ready_within-seat.ensures.since) (grows-since _ _ _ c.log_within-seat.ensures.since)
+
+pub returns-in-Err-clause-unsealed : goal.returns-in-Err-clause-unsealed
+returns-in-Err-clause-unsealed g c = unsealed_by _ _ c.ready_within-seat.ensures.right
+
+pub returns-then-not-ready-clause-unsealed : goal.returns-then-not-ready-clause-unsealed
+returns-then-not-ready-clause-unsealed g c = unsealed_by _ _ c.ready_within-seat.ensures.right
+
+pub returns-in-Ok-answer-clause-unsealed : goal.returns-in-Ok-answer-clause-unsealed
+returns-in-Ok-answer-clause-unsealed g c =
+    unsealed_both c.args.fabric.journal c.ready_within-seat.result.fabric.journal c.log_within-seat.result.fabric.journal (unsealed_by _ _ c.ready_within-seat.ensures.right) (unsealed_by _ _ c.log_within-seat.ensures.right)
+
+pub returns-in-Err-answer-clause-unsealed : goal.returns-in-Err-answer-clause-unsealed
+returns-in-Err-answer-clause-unsealed g c =
+    unsealed_both c.args.fabric.journal c.ready_within-seat.result.fabric.journal c.log_within-seat.result.fabric.journal (unsealed_by _ _ c.ready_within-seat.ensures.right) (unsealed_by _ _ c.log_within-seat.ensures.right)

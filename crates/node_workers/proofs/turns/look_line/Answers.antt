@@ -6,6 +6,7 @@ use Rattle.one_thread.specs.Seats.{node_of}
 use Rattle.node_lines.specs.Desks.{DeskOk, IsBound}
 use Rattle.node_lines.specs.Lines.{Looks}
 use Rattle.node_lines.proofs.Turning.{same_at}
+use Rattle.legal_journal.proofs.Sealing.{unsealed_by}
 use Rattle.node_workers.specs.Workers.{Within}
 use Rattle.node_workers.proofs.Working.{keeps_within, worker_moves}
 use Rattle.node_workers.proofs.turns.look_line.Goals as goal
@@ -62,3 +63,9 @@ returns-in-Ok-clause-looks g c = λ other there.
     let at : slice_get xs s ≡ Some d = subst (λ k. slice_get xs k ≡ Some d) e (slice_get_read xs (length xs) c.from-i.result d refl (omega (arith, c.requires.worker.size, c.number.ensures.range, e)) c.index.ensures) in
     let looks = subst (λ x. IfOk x (Looks (Within p.may c.args.counts.now) p.floor p.shelf (node_of a c.args.fabric.journal) (node_of b now) d c.args.query.now)) c.in-Ok.is c.look_within-seat.ensures.looks in
     subst (λ (x : Desk). Looks (Within p.may c.args.counts.now) p.floor p.shelf (node_of a c.args.fabric.journal) (node_of b now) x c.args.query.now c.in-Ok.looked) (same_at xs s d other at there) looks
+
+pub returns-in-Ok-clause-unsealed : goal.returns-in-Ok-clause-unsealed
+returns-in-Ok-clause-unsealed g c = unsealed_by _ _ c.look_within-seat.ensures.right
+
+pub returns-in-Err-clause-unsealed : goal.returns-in-Err-clause-unsealed
+returns-in-Err-clause-unsealed g c = unsealed_by _ _ c.look_within-seat.ensures.right
