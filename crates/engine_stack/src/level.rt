@@ -28,7 +28,7 @@ pub fn level(
     ensures beginning { beginning space.new ≡ beginning space.old }
 {
     let mut items = items;
-    let mut outs = VecDeque::new(alloc);
+    let mut outs = VecDeque::with_capacity(alloc, items.len())?;
     while let Some(x) = items.pop_front() {
         up_one(engine, alloc, space, x, &mut outs, told)?;
     }

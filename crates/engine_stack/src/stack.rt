@@ -250,8 +250,8 @@ fn place_items(alloc: Global, pos: u64, items: ItemList) -> Result<VecDeque<Risi
     requires { length items ≤ 16 }
     ensures { IfOk result (λ rising. rising.items ≡ placed_items pos 0 items) }
 {
-    let mut rising = VecDeque::new(alloc);
     let mut items = items.into_vec();
+    let mut rising = VecDeque::with_capacity(alloc, items.len())?;
     while let Some(item) = items.pop() {
         let sub = items.len() as u16;
         let place = Place { pos, sub };
@@ -272,7 +272,7 @@ fn rise(
     ensures kept { map (λ e. kept e) engines.new.items ≡ map (λ e. kept e) engines.old.items }
     ensures beginning { beginning space.new ≡ beginning space.old }
 {
-    let mut told = Vec::new(alloc);
+    let mut told = Vec::with_capacity(alloc, items.len())?;
     let mut items = items;
     for k in 1..engines.len() {
         items = level(&mut engines[k], alloc, space, items, &mut told)?;
@@ -304,7 +304,7 @@ fn sink(
 fn acted(alloc: Global, told: Vec<Told>) -> Result<Vec<Acted>, AllocError>
     ensures { IfOk result (λ acted. acted.items ≡ acted_in told.items) }
 {
-    let mut acted = Vec::new(alloc);
+    let mut acted = Vec::with_capacity(alloc, told.len())?;
     for t in told {
         let Told { place, item, reply } = t;
         let Some((session, rank)) = session_word(&item) else {

@@ -67,7 +67,7 @@ pub fn set_number(
     ensures err { OnErr result (contents space.new ≡ contents space.old) }
     ensures beginning { beginning space.new ≡ beginning space.old }
 {
-    let mut bytes = Vec::new(alloc);
+    let mut bytes = Vec::with_capacity(alloc, 8)?;
     put_u64(&mut bytes, number)?;
     set(space, kind, key, bytes.as_slice())
 }
@@ -78,7 +78,7 @@ pub fn last_key(alloc: Global, session: SessionId) -> Result<Vec<u8>, AllocError
     ensures key { IfOk result (λ key. key.items ≡ layout.last_key session) }
     ensures short { IfOk result (λ key. length key.items < 2 ^ 16) }
 {
-    let mut key = Vec::new(alloc);
+    let mut key = Vec::with_capacity(alloc, 3)?;
     key.push(LAST)?;
     put_u16(&mut key, session.number())?;
     Ok(key)
@@ -90,7 +90,7 @@ pub fn reply_key(alloc: Global, session: SessionId, rank: Rank) -> Result<Vec<u8
     ensures key { IfOk result (λ key. key.items ≡ layout.reply_key session rank) }
     ensures short { IfOk result (λ key. length key.items < 2 ^ 16) }
 {
-    let mut key = Vec::new(alloc);
+    let mut key = Vec::with_capacity(alloc, 4)?;
     key.push(REPLY)?;
     put_u16(&mut key, session.number())?;
     key.push((rank.number() % 64) as u8)?;
@@ -103,7 +103,7 @@ pub fn held_key(alloc: Global, session: SessionId, rank: u64) -> Result<Vec<u8>,
     ensures key { IfOk result (λ key. key.items ≡ layout.held_key session rank) }
     ensures short { IfOk result (λ key. length key.items < 2 ^ 16) }
 {
-    let mut key = Vec::new(alloc);
+    let mut key = Vec::with_capacity(alloc, 11)?;
     key.push(HELD)?;
     put_u16(&mut key, session.number())?;
     put_u64(&mut key, rank)?;
@@ -119,7 +119,7 @@ pub fn slot_text(
 ) -> Result<Vec<u8>, AllocError>
     ensures { IfOk result (λ slot. slot.items ≡ layout.slot_text place rank reply.now) }
 {
-    let mut slot = Vec::new(alloc);
+    let mut slot = Vec::with_capacity(alloc, 18 + reply.len())?;
     put_u64(&mut slot, rank.number())?;
     put_u64(&mut slot, place.pos)?;
     put_u16(&mut slot, place.sub)?;

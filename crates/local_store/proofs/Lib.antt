@@ -1,3 +1,4 @@
+pub mod Heads
 pub mod SlotLaws
 pub mod Keeping
 pub mod Seeking

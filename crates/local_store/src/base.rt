@@ -8,7 +8,7 @@ ghost use Rattle.store_records.specs.Format.{IsSpellableChange};
 ghost use Rattle.local_store.specs.declared.key.SpaceKey.{SpaceKey};
 ghost use Rattle.local_store.specs.Slots.{held, slot_of, value_in, changes_of, key_pair, key_cmp, AreShort, AreFit, HaveRoom};
 
-use crate::key::{Slots, SpaceKey};
+use crate::key::{Slots, SpaceKey, space_key};
 use delos_types::bytes::Bytes;
 use std::alloc::{AllocError, Global};
 use store_records::Change;
@@ -73,7 +73,11 @@ impl Base {
     }
 
     /// Makes these changes, one after another; some of them where memory runs out.
-    pub(crate) fn change_all(&mut self, changes: Vec<Change>) -> Result<(), AllocError>
+    pub(crate) fn change_all(
+        &mut self,
+        alloc: Global,
+        changes: Vec<Change>,
+    ) -> Result<(), AllocError>
         requires fit { AllByRecursion IsSpellableChange changes.items }
         requires old { AreShort self.old.slots.entries }
         ensures ok { OnOk result (held self.new.slots.entries ≡ applied (held self.old.slots.entries) changes.items) }
@@ -81,7 +85,8 @@ impl Base {
     {
         for change in changes {
             let Change { kind, key, value } = change;
-            self.set(SpaceKey { kind, key }, value)?;
+            let key = space_key(alloc, kind, key.as_slice())?;
+            self.set(key, value)?;
         }
         Ok(())
     }

@@ -2,6 +2,7 @@
 ghost use Rattle.std.specs.Prelude.{◌≡◌, IfOk};
 ghost use Rattle.std.specs.Option.{option_copied};
 
+use crate::key_text::KeyText;
 use delos_types::bytes::Bytes;
 use std::alloc::{AllocError, Global};
 use std::collections::BTreeMap;
@@ -10,7 +11,7 @@ use std::collections::BTreeMap;
 #[derive(PartialEq, Eq, PartialOrd, Ord, Drop)]
 pub(crate) struct SpaceKey {
     pub(crate) kind: u8,
-    pub(crate) key: Bytes,
+    pub(crate) key: KeyText,
 }
 
 impl Clone for SpaceKey {
@@ -32,7 +33,7 @@ pub(crate) type Slots = BTreeMap<SpaceKey, Option<Bytes>>;
 pub(crate) fn space_key(alloc: Global, kind: u8, key: &[u8]) -> Result<SpaceKey, AllocError>
     ensures { IfOk result (λ made. made ≡ record { kind = kind; key = key.now }) }
 {
-    let key = Bytes::from_slice(alloc, key)?;
+    let key = KeyText::from_slice(alloc, key)?;
     Ok(SpaceKey { kind, key })
 }
 
@@ -45,6 +46,19 @@ pub(crate) fn copied(value: Option<&Bytes>) -> Result<Option<Bytes>, AllocError>
         Some(value) => {
             let value = value.clone()?;
             Ok(Some(value))
+        }
+    }
+}
+
+/// The bytes of a key, if there is one.
+pub(crate) fn copied_key(alloc: Global, key: Option<&KeyText>) -> Result<Option<Bytes>, AllocError>
+    ensures { IfOk result (λ made. made ≡ option_copied key.entry) }
+{
+    match key {
+        None => Ok(None),
+        Some(key) => {
+            let key = Bytes::from_slice(alloc, key.as_slice())?;
+            Ok(Some(key))
         }
     }
 }

@@ -10,6 +10,7 @@
 mod base;
 mod fault;
 mod key;
+mod key_text;
 mod replay;
 mod seek;
 mod spell;

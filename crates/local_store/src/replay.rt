@@ -29,7 +29,7 @@ pub(crate) fn replay<D: Disk>(alloc: Global, journal: &Journal<D>) -> Result<(Ba
             return Err(OpenFault::BadRecord { index });
         }
         cursor = commit.cursor;
-        base.change_all(commit.changes.into_vec())?;
+        base.change_all(alloc, commit.changes.into_vec())?;
     }
     Ok((base, cursor))
 }

@@ -4,6 +4,7 @@ ghost use Rattle.std.specs.Option.{option_copied};
 ghost use Rattle.local_store.specs.Slots.{first_shown, slot_of, lesser_of};
 
 use crate::key::{Slots, SpaceKey};
+use crate::key_text::KeyText;
 use delos_types::bytes::Bytes;
 use std::collections::btree_map::Range;
 
@@ -14,7 +15,7 @@ pub(crate) fn first_shown<'a>(
     run: Range<'a, SpaceKey, Option<Bytes>>,
     kind: u8,
     others: &Slots,
-) -> Option<&'a Bytes>
+) -> Option<&'a KeyText>
     ensures { option_copied result ≡ first_shown kind (λ q. is_some (slot_of others.now.entries q)) run.entry }
 {
     for (key, slot) in run {
@@ -29,7 +30,10 @@ pub(crate) fn first_shown<'a>(
 }
 
 /// The lesser of two keys, if there is one.
-pub(crate) fn lesser<'a>(one: Option<&'a Bytes>, other: Option<&'a Bytes>) -> Option<&'a Bytes>
+pub(crate) fn lesser<'a>(
+    one: Option<&'a KeyText>,
+    other: Option<&'a KeyText>,
+) -> Option<&'a KeyText>
     ensures { option_copied result ≡ lesser_of (option_copied one.entry) (option_copied other.entry) }
 {
     match (one, other) {

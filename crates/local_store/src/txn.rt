@@ -6,7 +6,7 @@ ghost use Rattle.local_store.specs.Slots.{slot_of, value_in};
 ghost use Rattle.local_store.specs.View.{contents_of};
 
 use crate::base::Base;
-use crate::key::{Slots, SpaceKey, copied, space_key};
+use crate::key::{Slots, SpaceKey, copied, copied_key, space_key};
 use crate::seek::{first_shown, lesser};
 use delos_types::bytes::Bytes;
 use delos_types::space::Space;
@@ -96,7 +96,7 @@ impl Space for Txn {
         let none = Slots::new(self.alloc);
         let kept = first_shown(self.base.slots.range(&start..), kind, &self.changes);
         let set = first_shown(self.changes.range(&start..), kind, &none);
-        copied(lesser(kept, set))
+        copied_key(self.alloc, lesser(kept, set))
     }
 
     /// Cost: O(log c) comparisons in a transaction of c changes, and copies of the key and the value.

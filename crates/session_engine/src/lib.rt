@@ -9,17 +9,16 @@ ghost use Rattle.engine_steps.specs.Layout.{held_of};
 ghost use Rattle.engine_steps.specs.Steps.{opening, Frees, Acts, RankStep, SessionUp, waits, RepliesAt};
 ghost use Rattle.engine_steps.specs.Words.{under};
 
-use delos_types::bytes::Bytes;
+mod keys;
+
+use crate::keys::{held, held_key, last_key, last_rank, reply_key, set_number};
 use delos_types::entry::Entry;
 use delos_types::item::{Item, ItemList};
 use delos_types::numbers::{NodeId, Rank, SessionId};
 use delos_types::place::Place;
 use delos_types::space::Space;
 use engine_steps::engine::{Down, Engine, Up};
-use engine_steps::layout::{
-    CLEAN_KEY, SESSION, held, held_key, is_holding, last_key, last_rank, reply_key, set,
-    set_number, slot_text,
-};
+use engine_steps::layout::{CLEAN_KEY, SESSION, is_holding, set, slot_text};
 use engine_steps::words::{ranked_item, session_word};
 use std::alloc::{AllocError, Global};
 
@@ -81,7 +80,7 @@ fn take(alloc: Global, space: &mut dyn Space, place: Place, item: &Item) -> Resu
     ensures step { IfOk result (λ up. SessionUp (contents space.old) place item.now up (contents space.new)) }
     ensures beginning { beginning space.new ≡ beginning space.old }
 {
-    note_clean(alloc, space, place)?;
+    note_clean(space, place)?;
     match session_word(item) {
         None => Ok(Up::Pass(ItemList::new(alloc))),
         Some((session, rank)) => {
@@ -97,7 +96,7 @@ fn take(alloc: Global, space: &mut dyn Space, place: Place, item: &Item) -> Resu
 }
 
 // Where the first item of an entry finds no rank waiting, the entries before it are clean.
-fn note_clean(alloc: Global, space: &mut dyn Space, place: Place) -> Result<(), AllocError>
+fn note_clean(space: &mut dyn Space, place: Place) -> Result<(), AllocError>
     ensures step { OnOk result (contents space.new ≡ opening (contents space.old) place) }
     ensures beginning { beginning space.new ≡ beginning space.old }
 {
@@ -108,7 +107,7 @@ fn note_clean(alloc: Global, space: &mut dyn Space, place: Place) -> Result<(), 
     if holding {
         return Ok(());
     }
-    set_number(alloc, space, SESSION, &CLEAN_KEY, place.pos)
+    set_number(space, &CLEAN_KEY, place.pos)
 }
 
 fn at_rank(
@@ -121,12 +120,12 @@ fn at_rank(
     ensures step { IfOk result (λ up. RankStep (contents space.old) session rank payload.now up (contents space.new)) }
     ensures beginning { beginning space.new ≡ beginning space.old }
 {
-    let last = last_rank(alloc, space, session)?;
+    let last = last_rank(space, session)?;
     if rank <= last {
         return Ok(Up::Stop);
     }
     if rank - last > 1 {
-        hold(alloc, space, session, rank, payload)?;
+        hold(space, session, rank, payload)?;
         return Ok(Up::Stop);
     }
     act(alloc, space, session, rank)
@@ -134,7 +133,6 @@ fn at_rank(
 
 // Keeps the payload of a later rank, unless one is kept already.
 fn hold(
-    alloc: Global,
     space: &mut dyn Space,
     session: SessionId,
     rank: u64,
@@ -143,12 +141,12 @@ fn hold(
     ensures step { OnOk result (contents space.new ≡ waits (contents space.old) session rank payload.now (held_of (contents space.old) session rank)) }
     ensures beginning { beginning space.new ≡ beginning space.old }
 {
-    match held(alloc, space, session, rank)? {
+    match held(space, session, rank)? {
         Some(_) => return Ok(()),
         None => {}
     }
-    let key = held_key(alloc, session, rank)?;
-    set(space, SESSION, key.as_slice(), payload)
+    let key = held_key(session, rank);
+    set(space, SESSION, &key, payload)
 }
 
 // The rank acts, and those behind it that waited.
@@ -163,8 +161,8 @@ fn act(
 {
     let mut freed = ItemList::new(alloc);
     let last = free(alloc, space, session, rank, &mut freed)?;
-    let key = last_key(alloc, session)?;
-    set_number(alloc, space, SESSION, key.as_slice(), last)?;
+    let key = last_key(session);
+    set_number(space, &key, last)?;
     Ok(Up::Pass(freed))
 }
 
@@ -182,11 +180,11 @@ fn free(
     let mut last = rank;
     while last < u64::MAX {
         let next = last + 1;
-        match held(alloc, space, session, next)? {
+        match held(space, session, next)? {
             None => break,
             Some(payload) => {
-                let key = held_key(alloc, session, next)?;
-                space.del(SESSION, key.as_slice())?;
+                let key = held_key(session, next);
+                space.del(SESSION, &key)?;
                 let item = ranked_item(alloc, session, next, payload)?;
                 out.push(item)?;
                 last = next;
@@ -224,7 +222,7 @@ fn put_reply(
     ensures step { OnOk result (RepliesAt (contents space.old) place (Some (content.Session session rank None)) reply.now (contents space.new)) }
     ensures beginning { beginning space.new ≡ beginning space.old }
 {
-    let key = reply_key(alloc, session, rank)?;
+    let key = reply_key(session, rank);
     let slot = slot_text(alloc, place, rank, reply)?;
-    set(space, SESSION, key.as_slice(), slot.as_slice())
+    set(space, SESSION, &key, slot.as_slice())
 }

@@ -15,4 +15,4 @@ pub mod laws;
 pub mod spell;
 
 pub use change::{Change, Changes, Commit};
-pub use spell::{put_change, put_head, read_commit};
+pub use spell::{put_change, put_change_of, put_head, read_commit};

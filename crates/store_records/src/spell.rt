@@ -33,9 +33,24 @@ pub fn put_change(
     ensures text { OnOk result (out.new.items ≡ out.old.items ++ change_bytes (record { kind = kind; key = key.now; value = option_copied value.entry })) }
     ensures fits { IsSpellableChange (record { kind = kind; key = key.now; value = option_copied value.entry }) }
 {
+    put_change_of(out, kind, key.as_slice(), value)
+}
+
+/// The same, of a key whose bytes are kept elsewhere.
+pub fn put_change_of(
+    out: &mut Vec<u8>,
+    kind: u8,
+    key: &[u8],
+    value: Option<&Bytes>,
+) -> Result<(), AllocError>
+    requires key { length key.now < 2 ^ 16 }
+    requires value { IfSome (option_copied value) (λ v. length v < 2 ^ 32) }
+    ensures text { OnOk result (out.new.items ≡ out.old.items ++ change_bytes (record { kind = kind; key = key.now; value = option_copied value.entry })) }
+    ensures fits { IsSpellableChange (record { kind = kind; key = key.now; value = option_copied value.entry }) }
+{
     out.push(kind)?;
     put_u16(out, key.len() as u16)?;
-    out.extend_from_slice(key.as_slice())?;
+    out.extend_from_slice(key)?;
     put_value(out, value)
 }
 

@@ -34,7 +34,7 @@ is_sorted-keys [] h = tt
 is_sorted-keys (e ∷ es) h = both _ _ (below_all-keys e.0 es h.0) (is_sorted-keys es h.1)
 
 -- sorted entries are those of the map that they make
-entries-from_entries : (es : Entries) → IsStrictlySortedBy text_cmp (keys_of es) → entries (from_entries {R = text_cmp} es) ≡ es
+pub entries-from_entries : (es : Entries) → IsStrictlySortedBy text_cmp (keys_of es) → entries (from_entries {R = text_cmp} es) ≡ es
 entries-from_entries es h =
     let sorted = is_sorted-keys es h in
     ap entries (same_map nat_list_cmp_total exact_bytes (from_entries es) (from_sorted es) (λ q. get-from_entries nat_list_cmp_total es q ∙ sym (get-from_sorted text_cmp es q sorted)))

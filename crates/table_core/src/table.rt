@@ -1,5 +1,5 @@
 // The table in memory.
-ghost use Rattle.std.specs.Prelude.{◌≡◌, IfOk, OnOk, OnErr};
+ghost use Rattle.std.specs.Prelude.{◌≡◌, ◌<◌, ◌^◌, length, IfOk, OnOk, OnErr};
 ghost use Rattle.std.specs.Option.{option_copied};
 ghost use Rattle.std.specs.FinMap as map;
 ghost use Rattle.table_core.specs.Table.{Acts, key_of};
@@ -10,7 +10,7 @@ use crate::decide::{Change, Decision, decide};
 use delos_types::bytes::Bytes;
 use std::alloc::{AllocError, Global};
 use std::collections::BTreeMap;
-use std::collections::btree_map::Range;
+use std::collections::btree_map::{Iter, Range};
 use std::marker::Model;
 
 /// A map from keys to values, both of them texts of bytes, in byte order of the keys.
@@ -58,6 +58,14 @@ impl Table {
             return Ok(Pairs::from_vec(Vec::new(alloc)));
         }
         copies(alloc, self.entries.range(low..high))
+    }
+
+    /// All keys in byte order, with their values. Nothing is copied.
+    pub fn iter(&self) -> Iter<'_, Bytes, Bytes>
+        ensures entries { result ≡ map.entries self.now }
+        ensures fits { length result < 2 ^ 63 }
+    {
+        self.entries.iter()
     }
 
     /// What the table answers to a read, at the cost of `get` and a copy, or of `scan`.

@@ -3,4 +3,4 @@ use Rattle.session_engine.proofs.FreesSoFar.{acted}
 use Rattle.session_engine.proofs.act.Goals as goal
 
 pub returns-clause-step : goal.returns-clause-step
-returns-clause-step g c = acted _ _ _ _ _ _ _ _ _ _ c.new-freed.ensures c.in_ok-last.ensures.step c.in_ok-set_number.ensures.ok (c.as_slice.ensures.value ∙ c.in_ok-key.ensures.key) refl
+returns-clause-step g c = acted _ _ _ _ _ _ _ _ _ _ c.new-freed.ensures c.in_ok-last.ensures.step c.in_ok-set_number.ensures.ok c.last_key-key.ensures refl

@@ -1,4 +1,4 @@
-use Rattle.std.proofs.Common.{◌≡◌, IfOk, ℕ, Bool, false, Option, subst, sym, ap, ◌∙◌}
+use Rattle.std.proofs.Common.{◌≡◌, IfOk, Bool, false, Option, subst, sym, ap, ◌∙◌}
 use Rattle.std.specs.Prelude.{is_some, unwrap_or}
 use Rattle.std.specs.Option.{option_copied}
 use Rattle.std.specs.Arc.{arc_value}
@@ -35,4 +35,4 @@ returns c =
     least_changed m base changes key kept set (λ q. get-applied changes c.self.invariant.ordered (held base) q ∙ ap (λ (r : Option Text). unwrap_or (slot_of changes q) r) (get-held base q)) first second in
     let value : option_copied c.lesser.result ≡ least_key_from (contents_of c.args.self.now) c.args.kind c.args.key.now =
     c.lesser.ensures ∙ least_is m key (lesser_of kept set) least ∙ ap (λ (t : TxnView). least_key_from (contents_of t) c.args.kind c.args.key.now) c.self.view_is in
-    subst (λ (v : Option Text). IfOk c.copied.result (λ found. found ≡ v)) value c.copied.ensures
+    subst (λ (v : Option Text). IfOk c.copied_key.result (λ found. found ≡ v)) value c.copied_key.ensures

@@ -1,0 +1,72 @@
+-- Texts whose first eight bytes spell different numbers are in the order of these.
+use Rattle.std.proofs.Common.{◌≡◌, ℕ, zero, suc, ◌+◌, ◌*◌, ◌^◌, ◌<◌, ◌≤◌, List, [], ◌∷◌, refl, ap, ◌∙◌, arith, lit<, mul-le-mul_right, pow-suc}
+use Rattle.std.proofs.lemmas.Cmp.{by_ranked, ranked}
+use Rattle.std.specs.Cmp.Lexicographic.{slice_cmp, nat_list_cmp_total}
+use Rattle.std.specs.Ordering.{nat_cmp, ordering_then, ordering_reverse}
+use Rattle.std.specs.declared.cmp.Ordering.{Ordering}
+use Rattle.std.specs.declared.cmp.Ordering.TheVariants.{Less, Greater}
+use Rattle.delos_types.specs.Numbers.{IsBytes, u64_of}
+use Rattle.local_store.specs.Heads.{HasHead}
+
+-- the first so many bytes as one number, the highest first, with zeros behind a shorter text
+abbrev head : ℕ → List ℕ → ℕ
+head zero xs = 0
+head (suc n) [] = 0
+head (suc n) (x ∷ xs) = x * 256 ^ n + head n xs
+
+u64_head : (xs : List ℕ) → u64_of xs ≡ head 8 xs
+unfolding u64_of
+u64_head [] = refl
+u64_head (a ∷ []) = omega arith
+u64_head (a ∷ b ∷ []) = omega arith
+u64_head (a ∷ b ∷ c ∷ []) = omega arith
+u64_head (a ∷ b ∷ c ∷ d ∷ []) = omega arith
+u64_head (a ∷ b ∷ c ∷ d ∷ e ∷ []) = omega arith
+u64_head (a ∷ b ∷ c ∷ d ∷ e ∷ f ∷ []) = omega arith
+u64_head (a ∷ b ∷ c ∷ d ∷ e ∷ f ∷ g ∷ []) = omega arith
+u64_head (a ∷ b ∷ c ∷ d ∷ e ∷ f ∷ g ∷ h ∷ xs) = omega arith
+
+power_positive : (n : ℕ) → 0 < 256 ^ n
+power_positive zero = lit< tt
+power_positive (suc n) = rw (pow-suc 256 n) (omega (arith, power_positive n))
+
+head_small : (n : ℕ) (xs : List ℕ) → IsBytes xs → head n xs < 256 ^ n
+head_small zero xs s = lit< tt
+head_small (suc n) [] s = power_positive (suc n)
+head_small (suc n) (x ∷ xs) s =
+    let rest = head_small n xs (λ i. s (suc i)) in
+    let byte : x < 256 = s 0 in
+    let low : x ≤ 255 = omega (arith, byte) in
+    let first : x * 256 ^ n ≤ 255 * 256 ^ n = mul-le-mul_right (256 ^ n) low in
+    rw (pow-suc 256 n) (omega (arith, rest, first))
+
+-- the first number decides, or else the rest
+above : (x y p h k : ℕ) → y < x → k < p → x * p + h < y * p + k → ⊥
+above x y p h k lt small less =
+    let next : y + 1 ≤ x = omega (arith, lt) in
+    let far : (y + 1) * p ≤ x * p = mul-le-mul_right p next in
+    omega (arith, far, small, less)
+
+less_heads : (n : ℕ) (a b : List ℕ) → IsBytes a → IsBytes b → head n a < head n b → slice_cmp nat_cmp a b ≡ Less
+less_heads zero a b s t h = absurd (omega (arith, h))
+less_heads (suc n) [] [] s t h = absurd (omega (arith, h))
+less_heads (suc n) [] (y ∷ b) s t h = refl
+less_heads (suc n) (x ∷ a) [] s t h = absurd (omega (arith, h))
+less_heads (suc n) (x ∷ a) (y ∷ b) s t h =
+    by_ranked (x < y) (x ≡ y) (y < x) (nat_cmp x y) (ranked x y (nat_cmp x y) refl)
+    (λ is lt. ap (λ (o : Ordering). ordering_then o (slice_cmp nat_cmp a b)) is)
+    (λ is eq.
+    let same : x * 256 ^ n ≡ y * 256 ^ n = ap (λ (k : ℕ). k * 256 ^ n) eq in
+    let rest : head n a < head n b = omega (arith, h, same) in
+    ap (λ (o : Ordering). ordering_then o (slice_cmp nat_cmp a b)) is ∙ less_heads n a b (λ i. s (suc i)) (λ i. t (suc i)) rest)
+    (λ is gt. absurd (above x y (256 ^ n) (head n a) (head n b) gt (head_small n b (λ i. t (suc i))) h))
+
+pub less_by_head : (a b : List ℕ) (m k : ℕ) → HasHead m a → HasHead k b → m < k → slice_cmp nat_cmp a b ≡ Less
+less_by_head a b m k first second lt =
+    let one : m ≡ head 8 a = first.value ∙ u64_head a in
+    let other : k ≡ head 8 b = second.value ∙ u64_head b in
+    less_heads 8 a b first.bytes second.bytes (omega (arith, one, other, lt))
+
+pub greater_by_head : (a b : List ℕ) (m k : ℕ) → HasHead m a → HasHead k b → k < m → slice_cmp nat_cmp a b ≡ Greater
+greater_by_head a b m k first second lt =
+    nat_list_cmp_total.antisymm a b ∙ ap ordering_reverse (less_by_head b a k m second first lt)
