@@ -7,6 +7,8 @@ mod disks;
 #[cfg(test)]
 mod fitting;
 #[cfg(test)]
+mod made;
+#[cfg(test)]
 mod own;
 #[cfg(test)]
 mod replacing;

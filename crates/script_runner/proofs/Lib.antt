@@ -2,3 +2,4 @@ pub mod Homes
 pub mod ScriptLines
 pub mod Shelves
 pub mod Outside
+pub mod Made

@@ -1,20 +1,28 @@
 -- What was read of a source, and what is composed of it.
 use Rattle.std.proofs.Common.{◌≡◌, ◌<◌, ◌≤◌, ◌∙◌, ℕ, Bool, true, false, if◌then◌else◌, List, [], ◌∷◌, ◌++◌, length, map, slice_set, take, Option, Some, None, Result, Ok, Err, refl, sym, ap, subst, arith, inl, inr}
+use Rattle.std.specs.Prelude.{IfOk, IfSome}
+use Rattle.std.specs.declared.alloc.AllocError.{AllocError}
 use Rattle.std.proofs.lemmas.Bool.{cases_lt, and_parts}
 use Rattle.std.proofs.lemmas.List.{take_at, take_all}
 use Rattle.outside_ends.specs.Sources.{LeavesBehind}
 use Rattle.outside_ends.specs.Whole.{IsFront, ReadsUpTo}
 use Rattle.script_text.specs.declared.line.Line.{Line}
 use Rattle.script_text.specs.declared.script.BadLine.{BadLine}
+use Rattle.script_text.specs.declared.asks.NamedLine.{NamedLine}
 use Rattle.script_text.specs.Lines.{lines_of}
 use Rattle.script_text.specs.Refusal.{refusal_text}
-use Rattle.script_text.specs.Script.{script_of}
+use Rattle.script_text.specs.Script.{script_of, ReadsScript}
 use Rattle.script_text.specs.Spelling.{IsScript}
 use Rattle.script_words.specs.declared.plan.Plan.{Plan}
+use Rattle.script_words.specs.declared.plan.Task.{Task}
+use Rattle.script_words.specs.declared.plan.Task.TheVariants as task
+use Rattle.made_script.specs.Made.{made_lines, made_text}
 use Rattle.fitting_run.specs.declared.told.Told.{Told}
 use Rattle.script_runner.specs.declared.ended.Status.TheVariants as status
-use Rattle.script_runner.specs.declared.run.Composed.{Composed}
-use Rattle.script_runner.specs.Composed.{ComposesRun, IsComposedScript}
+use Rattle.script_runner.specs.declared.compose.Composed.{Composed}
+use Rattle.script_runner.specs.declared.compose.Failure.{Failure}
+use Rattle.crew_run.specs.Running.{RunTold}
+use Rattle.script_runner.specs.Composed.{ComposesRun, IsComposedScript, Tells}
 use Rattle.row_text.specs.declared.row.Row.{Row}
 use Rattle.row_text.specs.declared.row.Outcome.{Outcome}
 use Rattle.row_text.specs.declared.row.Outcome.TheVariants as out
@@ -22,7 +30,7 @@ use Rattle.script_runner.specs.declared.ended.Status.{Status}
 use Rattle.fitting_run.specs.Answered.{is_open}
 use Rattle.fitting_run.specs.Yard.{Shown}
 use Rattle.fitting_run.specs.Calm.{IsCalm, is_answered, all_answered}
-use Rattle.script_runner.specs.Ends.{Ran, IsRefused, IsAllOf, IsFrontOf, read_limit, text_of, any_open, ComposesScript, Composes}
+use Rattle.script_runner.specs.Ends.{IsPlan, Ran, ComesFrom, IsRefused, IsAllOf, IsFrontOf, read_limit, text_of, any_open, ComposesScript, Composes, IsRun}
 
 front_of : (limit : ℕ) (all bytes : List ℕ) (after : Option (List ℕ)) → length bytes ≡ limit → LeavesBehind all after bytes → bytes ≡ take limit all
 front_of limit all bytes None len h = absurd h
@@ -44,18 +52,17 @@ front-read None after bytes came within = tt
 front-read (Some all) after bytes came within = sym (front_is read_limit all bytes after came within)
 
 pub composes-refusal : (plan : Plan) (left after : Option (List ℕ)) (yard : Shown) (c : Composed) (bytes : List ℕ) (bad : BadLine)
-    → ReadsUpTo read_limit left after bytes → length bytes ≤ read_limit → script_of plan.nodes bytes ≡ Err bad
+    → plan.task ≡ task.Run → ReadsUpTo read_limit left after bytes → length bytes ≤ read_limit → script_of plan.nodes bytes ≡ Err bad
     → (c.status ≡ status.BadLine) × (c.told ≡ None) × (c.text ≡ refusal_text bad) → IsComposedScript plan left yard c
-composes-refusal plan left after yard c bytes bad came within read is =
-    rw (is.0, is.1, is.2) (bad, record { bytes = bytes; front = front-read left after bytes came within; refused = read }, refl)
+composes-refusal plan left after yard c bytes bad run came within read is =
+    rw (is.0, is.1, is.2) (bad, record { read = run; bytes = bytes; front = front-read left after bytes came within; refused = read }, refl)
 
-pub composes-run : (plan : Plan) (left after : Option (List ℕ)) (yard : Shown) (c : Composed) (bytes : List ℕ) (script : List Line)
-    → ReadsUpTo read_limit left after bytes → length bytes ≤ 1048576 → IsScript plan.nodes bytes script
-    → ComposesRun plan script yard c → IsComposedScript plan left yard c
-composes-run plan left after yard c bytes script came short read run = decide (any_open run.told.rows) refl
+composes-script : (plan : Plan) (left : Option (List ℕ)) (yard : Shown) (c : Composed) (bytes : List ℕ) (script : List Line)
+    → IsPlan plan → ComesFrom plan.task plan left bytes script → IsScript plan.nodes bytes script → ComposesRun plan script yard c → IsComposedScript plan left yard c
+composes-script plan left yard c bytes script sound comes read run = decide (any_open run.told.rows) refl
   where
     ran : Ran plan left yard run.told
-    ran = record { bytes = bytes; all = all-read left after bytes came short; script = script; spelled = read; fits = run.ran.fits; answered = run.ran.answered; whole = run.ran.whole }
+    ran = record { plan_is = sound; bytes = bytes; script = script; comes = comes; spelled = read; fits = run.ran.fits; answered = run.ran.answered; whole = run.ran.whole; extended = run.ran.extended; lone = run.ran.lone; shelved = run.ran.shelved; shelf = run.shelf }
 
     decide : (b : Bool) → any_open run.told.rows ≡ b → IsComposedScript plan left yard c
     decide true e =
@@ -64,6 +71,23 @@ composes-run plan left after yard c bytes script came short read run = decide (a
     decide false e =
         let is : c.status ≡ status.Done = run.tells.status_is ∙ ap (λ (b : Bool). if b then status.Open else status.Done) e in
         rw (is, run.tells.is, run.tells.text) (ran, refl, e)
+
+pub composes-run : (plan : Plan) (left after : Option (List ℕ)) (yard : Shown) (c : Composed) (bytes : List ℕ) (script : List Line)
+    → IsPlan plan → plan.task ≡ task.Run → ReadsUpTo read_limit left after bytes → length bytes ≤ 1048576 → IsScript plan.nodes bytes script
+    → ComposesRun plan script yard c → IsComposedScript plan left yard c
+composes-run plan left after yard c bytes script sound run came short read ran =
+    composes-script plan left yard c bytes script sound (subst (λ (t : Task). ComesFrom t plan left bytes script) (sym run) (all-read left after bytes came short)) read ran
+
+-- what is read of a spelled script is that script
+pub read-same : (lines script : List Line) → ReadsScript (Ok script) (Ok lines) → script ≡ lines
+read-same lines script e = cc
+
+pub composes-made : (plan : Plan) (left : Option (List ℕ)) (yard : Shown) (c : Composed) (count : ℕ)
+    → IsPlan plan → plan.task ≡ task.Make count → IsScript plan.nodes (made_text plan.seed count plan.nodes) (made_lines plan.seed count plan.nodes)
+    → ComposesRun plan (made_lines plan.seed count plan.nodes) yard c → IsComposedScript plan left yard c
+composes-made plan left yard c count sound make read ran =
+    composes-script plan left yard c (made_text plan.seed count plan.nodes) (made_lines plan.seed count plan.nodes) sound
+    (subst (λ (t : Task). ComesFrom t plan left (made_text plan.seed count plan.nodes) (made_lines plan.seed count plan.nodes)) (sym make) (refl, refl)) read ran
 
 -- an open row has no answer of its own
 none-open : (rows : List Row) → all_answered rows ≡ true → any_open rows ≡ false
@@ -94,3 +118,31 @@ calm-closed words left yard status.BadWords told text h calm e = cc
 calm-closed words left yard status.SourceFault told text h calm e = cc
 calm-closed words left yard status.SinkFault told text h calm e = cc
 calm-closed words left yard status.Memory told text h calm e = cc
+
+-- what a script told is composed of it, if memory sufficed
+pub composes-told : (plan : Plan) (script : List Line) (lines : List NamedLine) (yard : Shown) (answer : Result Composed Failure) (told : Result Told AllocError)
+    → lines ≡ lines_of script → length yard.cells ≡ length plan.shelf → IfOk answer (λ c. IfOk told (Tells plan lines c)) → IfOk answer (λ c. (t : Told) × (told ≡ Ok t))
+    → IfOk told (RunTold lines yard) → IfOk answer (ComposesRun plan script yard)
+composes-told plan script lines yard (Err e) told same size tells some ran = tt
+composes-told plan script lines yard (Ok c) (Err e) same size tells some ran = absurd (none some.1)
+  where
+    none : Err e ≡ Ok some.0 → ⊥
+    none h = cc
+composes-told plan script lines yard (Ok c) (Ok t) same size tells some ran = record {
+  told = t;
+  tells = subst (λ ls. Tells plan ls c t) same tells;
+  ran = subst (λ ls. RunTold ls yard t) same ran;
+  shelf = size;
+}
+
+-- what is told is a run of the words' plan
+pub told-composed : (words : List (List ℕ)) (left : Option (List ℕ)) (yard : Shown) (end : Status) (told : Option Told) (text : List ℕ)
+    → Composes words left yard end told text → IfSome told (λ t. IsRun words left yard t)
+told-composed words left yard end None text h = tt
+told-composed words left yard status.Done (Some told) text h = record { plan = h.0; planned = h.1; ran = h.2.0 }
+told-composed words left yard status.Open (Some told) text h = record { plan = h.0; planned = h.1; ran = h.2.0 }
+told-composed words left yard status.BadLine (Some told) text h = absurd h.2
+told-composed words left yard status.BadWords (Some told) text h = absurd h.2
+told-composed words left yard status.SourceFault (Some told) text h = absurd h.2
+told-composed words left yard status.SinkFault (Some told) text h = absurd h.2
+told-composed words left yard status.Memory (Some told) text h = absurd h.2

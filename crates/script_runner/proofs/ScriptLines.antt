@@ -87,6 +87,9 @@ ranked before (line.Barrier ∷ ls) =
     let l : Line = line.Barrier in
     subst (λ b. are_ranked b (lines_after (before ++ l ∷ []) ls) ≡ true) (one_more before l ∙ append-nil (lines_of before)) (ranked (before ++ l ∷ []) ls)
 
+pub all_ranked : (ls : List Line) → are_ranked [] (lines_of ls) ≡ true
+all_ranked ls = ranked [] ls
+
 -- Phases
 
 earlier : (m n : ℕ) (ls : List NamedLine) → m ≤ n → are_in_phase n ls ≡ true → are_in_phase m ls ≡ true

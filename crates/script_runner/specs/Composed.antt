@@ -1,12 +1,13 @@
 -- What a composed text says.
-use Rattle.std.specs.Prelude.{◌≡◌, ℕ, List, Option, Some, if◌then◌else◌}
+use Rattle.std.specs.Prelude.{◌≡◌, ℕ, List, length, Option, Some, if◌then◌else◌}
 use Rattle.script_text.specs.declared.line.Line.{Line}
+use Rattle.script_text.specs.declared.asks.NamedLine.{NamedLine}
 use Rattle.script_text.specs.Lines.{lines_of}
 use Rattle.script_words.specs.declared.plan.Plan.{Plan}
 use Rattle.fitting_run.specs.declared.told.Told.{Told}
 use Rattle.script_runner.specs.declared.ended.Status.{Status}
 use Rattle.script_runner.specs.declared.ended.Status.TheVariants as status
-use Rattle.script_runner.specs.declared.run.Composed.{Composed}
+use Rattle.script_runner.specs.declared.compose.Composed.{Composed}
 use Rattle.crew_run.specs.Running.{RunTold}
 use Rattle.fitting_run.specs.Yard.{Shown}
 use Rattle.script_runner.specs.Ends.{Composes, ComposesScript, any_open, text_of}
@@ -15,17 +16,18 @@ use Rattle.script_runner.specs.Ends.{Composes, ComposesScript, any_open, text_of
 abbrev pub status_of : Told → Status
 status_of told = if any_open told.rows then status.Open else status.Done
 
--- this was told, and it has this status and this text
-pub record Tells (plan : Plan) (c : Composed) (told : Told) : Type 0 where
+-- this was told of these lines, and it has this status and this text
+pub record Tells (plan : Plan) (lines : List NamedLine) (c : Composed) (told : Told) : Type 0 where
   pub is : c.told ≡ Some told
   pub status_is : c.status ≡ status_of told
-  pub text : c.text ≡ text_of plan told
+  pub text : c.text ≡ text_of plan lines told
 
 -- a script was run, and what it told is composed
 pub record ComposesRun (plan : Plan) (script : List Line) (yard : Shown) (c : Composed) : Type 0 where
   pub told : Told
-  pub tells : Tells plan c told
+  pub tells : Tells plan (lines_of script) c told
   pub ran : RunTold (lines_of script) yard told
+  pub shelf : length yard.cells ≡ length plan.shelf
 
 abbrev pub IsComposedScript : Plan → Option (List ℕ) → Shown → Composed → Type 0
 IsComposedScript plan left yard c = ComposesScript plan left yard c.status c.told c.text

@@ -1,6 +1,6 @@
 -- How a run ends: what stands behind each status.
-use Rattle.std.specs.Prelude.{◌≡◌, ℕ, Bool, true, false, List, [], ◌∷◌, Option, Some, None, Result, Ok, Err, map, take}
-use Rattle.std.specs.List.{list_any}
+use Rattle.std.specs.Prelude.{◌≡◌, ◌<◌, ℕ, Bool, true, false, not, List, [], ◌∷◌, length, count_by, All, Option, Some, None, is_some, Result, Ok, Err, map, take}
+use Rattle.std.specs.List.{list_all, list_any}
 use Rattle.fabric_core.specs.Log.{virtual_tail}
 use Rattle.outside_ends.specs.Sinks.{Gains}
 use Rattle.outside_ends.specs.Whole.{GainsFront}
@@ -12,16 +12,23 @@ use Rattle.script_text.specs.Lines.{lines_of}
 use Rattle.script_text.specs.Refusal.{refusal_text}
 use Rattle.script_text.specs.Script.{script_of}
 use Rattle.script_text.specs.Spelling.{IsScript}
+use Rattle.script_text.specs.declared.asks.NamedLine.{NamedLine}
 use Rattle.script_words.specs.declared.plan.Plan.{Plan}
+use Rattle.script_words.specs.declared.plan.Task.{Task}
+use Rattle.script_words.specs.declared.plan.Task.TheVariants as task
 pub use Rattle.script_words.specs.Plans.{IsPlan}
 use Rattle.script_words.specs.Plans.{plan_of, bad_words_text}
 use Rattle.script_words.specs.Shelf.{kind_name}
 use Rattle.fitting_run.specs.declared.told.Told.{Told}
+use Rattle.made_script.specs.Made.{made_lines, made_text}
+use Rattle.run_totals.specs.Totals.{totals_of, totals_text}
 use Rattle.script_runner.specs.declared.ended.Status.{Status}
 use Rattle.script_runner.specs.declared.ended.Status.TheVariants as status
 use Rattle.fitting_run.specs.Answered.{is_open}
 use Rattle.fitting_run.specs.Yard.{Shown}
 use Rattle.fitting_run.specs.Fits.{Fits}
+use Rattle.fitting_run.specs.Replacements.{version_made, version_found}
+use Rattle.course_ends.specs.Ends.{GoesTo}
 use Rattle.fitting_run.specs.Calm.{IsCalm, all_answered}
 
 -- how many bytes of a source are read at most: one more than a script may have
@@ -42,23 +49,44 @@ abbrev pub IsFrontOf : Option (List ℕ) → List ℕ → Type 0
 IsFrontOf None bytes = Unit {0}
 IsFrontOf (Some all) bytes = take read_limit all ≡ bytes
 
--- The run theorem: the script is all that the source had left; what is told fits it and the yard that comes back; and where no
--- fault was counted there, every line has its own answer, and the run saw the whole log.
+-- where a script comes from: it is all that the source had left, or made of the plan's seed
+abbrev pub ComesFrom : Task → Plan → Option (List ℕ) → List ℕ → List Line → Type 0
+ComesFrom task.Run plan left bytes script = IsAllOf left bytes
+ComesFrom (task.Make count) plan left bytes script = (bytes ≡ made_text plan.seed count plan.nodes) × (script ≡ made_lines plan.seed count plan.nodes)
+
+-- The run theorem: the script is all that the source had left, or the one that was to be made; what is told fits it and the yard
+-- that comes back; no row says that another node extended the chain; and where no fault was counted there, every line has its own
+-- answer, the run saw the whole log, and the chain goes on just as often as rows say.
 pub record Ran (plan : Plan) (left : Option (List ℕ)) (yard : Shown) (told : Told) : Type 0 where
+  pub plan_is : IsPlan plan
   pub bytes : List ℕ
-  pub all : IsAllOf left bytes
   pub script : List Line
+  pub comes : ComesFrom plan.task plan left bytes script
   pub spelled : IsScript plan.nodes bytes script
   pub fits : Fits (lines_of script) told yard
   pub answered : IsCalm yard → all_answered told.rows ≡ true
   pub whole : IsCalm yard → told.end ≡ virtual_tail told.chain yard.cells
+  -- the chain has a loglet of the shelf for each row that says that a line extended it, and the first one
+  pub extended : IsCalm yard → GoesTo told.chain (count_by (λ r. is_some (version_made r.outcome)) told.rows)
+  pub lone : list_all (λ r. not (is_some (version_found r.outcome))) told.rows ≡ true
+  pub shelved : All (λ s. s.id < length yard.cells) told.chain.segments
+  pub shelf : length yard.cells ≡ length plan.shelf
 
--- the text of what is told, over the plan's shelf
-abbrev pub text_of : Plan → Told → List ℕ
-text_of plan told = output told.rows told.end told.version told.chain told.down (map kind_name plan.shelf)
+-- the text of rows and chain, over the plan's shelf
+abbrev pub rows_text : Plan → Told → List ℕ
+rows_text plan told = output told.rows told.end told.version told.chain told.down (map kind_name plan.shelf)
+
+-- the text of what is told of these lines, by what was to be done
+abbrev pub text_by : Task → Plan → List NamedLine → Told → List ℕ
+text_by task.Run plan lines told = rows_text plan told
+text_by (task.Make count) plan lines told = totals_text (totals_of lines told)
+
+abbrev pub text_of : Plan → List NamedLine → Told → List ℕ
+text_of plan lines told = text_by plan.task plan lines told
 
 -- a line of the source's bytes breaks a rule, the first line and its first rule
 pub record IsRefused (plan : Plan) (left : Option (List ℕ)) (bad : BadLine) : Type 0 where
+  pub read : plan.task ≡ task.Run
   pub bytes : List ℕ
   pub front : IsFrontOf left bytes
   pub refused : script_of plan.nodes bytes ≡ Err bad
@@ -66,8 +94,8 @@ pub record IsRefused (plan : Plan) (left : Option (List ℕ)) (bad : BadLine) : 
 -- What is to be put, and which status it has once it is put whole: what a script told, whose rows are or aren't
 -- all answered, or its first bad line ..
 abbrev pub ComposesScript : Plan → Option (List ℕ) → Shown → Status → Option Told → List ℕ → Type 0
-ComposesScript plan left yard status.Done (Some told) text = Ran plan left yard told × (text ≡ text_of plan told) × (any_open told.rows ≡ false)
-ComposesScript plan left yard status.Open (Some told) text = Ran plan left yard told × (text ≡ text_of plan told) × (any_open told.rows ≡ true)
+ComposesScript plan left yard status.Done (Some told) text = (ran : Ran plan left yard told) × (text ≡ text_of plan (lines_of ran.script) told) × (any_open told.rows ≡ false)
+ComposesScript plan left yard status.Open (Some told) text = (ran : Ran plan left yard told) × (text ≡ text_of plan (lines_of ran.script) told) × (any_open told.rows ≡ true)
 ComposesScript plan left yard status.BadLine None text = (bad : BadLine) × IsRefused plan left bad × (text ≡ refusal_text bad)
 ComposesScript plan left yard end told text = ⊥
 
@@ -89,14 +117,23 @@ pub record PutsFront (words : List (List ℕ)) (left before after : Option (List
   pub composed : Composes words left yard end told text
   pub front : GainsFront before after text
 
--- the words are taken, and the bytes that the source has left are a script
-pub record CanRun (words : List (List ℕ)) (left : Option (List ℕ)) : Type 0 where
-  pub plan : Plan
-  pub planned : plan_of words ≡ Some plan
+-- the bytes that the source has left are a script
+pub record IsReadable (nodes : ℕ) (left : Option (List ℕ)) : Type 0 where
   pub all : List ℕ
   pub told : left ≡ Some all
   pub script : List Line
-  pub read : script_of plan.nodes (take read_limit all) ≡ Ok script
+  pub read : script_of nodes (take read_limit all) ≡ Ok script
+
+-- there is a script: one that is made always is
+abbrev pub HasScript : Task → ℕ → Option (List ℕ) → Type 0
+HasScript task.Run nodes left = IsReadable nodes left
+HasScript (task.Make count) nodes left = Unit {0}
+
+-- the words are taken, and there is a script
+pub record CanRun (words : List (List ℕ)) (left : Option (List ℕ)) : Type 0 where
+  pub plan : Plan
+  pub planned : plan_of words ≡ Some plan
+  pub script : HasScript plan.task plan.nodes left
 
 -- what is told is a run of the words' plan
 pub record IsRun (words : List (List ℕ)) (left : Option (List ℕ)) (yard : Shown) (told : Told) : Type 0 where

@@ -1,5 +1,6 @@
 pub mod Fresh
 pub mod Playing
 pub mod Ends
+pub mod Made
 pub mod Composed
 pub mod Codes

@@ -1,7 +1,6 @@
 //! A script is run over any loglets, register, engines and disks.
 ghost use Rattle.std.specs.Prelude.{◌≡◌, ◌<◌, ◌≤◌, IfOk, length, map};
 ghost use Rattle.register_api.specs.View as view;
-ghost use Rattle.script_text.specs.Lines.{lines_of};
 ghost use Rattle.crew_run.specs.Running.{RunTold};
 ghost use Rattle.script_runner.specs.Fresh.{AreFresh, AreFreshKits, shown};
 ghost use Rattle.script_runner.specs.Playing.{CanPlay};
@@ -16,8 +15,7 @@ use loglet_api::loglet::Loglet;
 use node_opening::closing::close_all;
 use node_opening::opening::open_all;
 use register_api::Register;
-use script_text::asks::named_lines;
-use script_text::script::Script;
+use script_text::asks::NamedLine;
 use std::alloc::{AllocError, Global};
 
 /// What a script told, if memory sufficed, and what it was run over.
@@ -30,7 +28,7 @@ pub struct Played<L: Loglet, R: Register, E: Layers, D: Disk, C: Chooser> {
 pub fn play<L: Loglet, R: Register, E: Layers, D: Disk, C: Chooser>(
     alloc: Global,
     yard: Yard<L, R, E, D, C>,
-    script: Script,
+    lines: &[NamedLine],
 ) -> Played<L, R, E, D, C>
     requires cells { AreFresh (map L.view yard.shelf.items) }
     requires register { view.IsFresh (R.view yard.register) }
@@ -38,8 +36,8 @@ pub fn play<L: Loglet, R: Register, E: Layers, D: Disk, C: Chooser>(
     requires least { 0 < length yard.shelf.items }
     requires most { length yard.shelf.items ≤ 64 }
     requires eight { length yard.nodes.items ≤ 8 }
-    requires script { CanPlay (length yard.nodes.items) (lines_of script) }
-    ensures told { IfOk result.told (RunTold (lines_of script) (shown L.view R.view (λ k. (D.view k.disk).faults) result.yard.shelf.items result.yard.register result.yard.nodes.items)) }
+    requires script { CanPlay (length yard.nodes.items) lines.now }
+    ensures told { IfOk result.told (RunTold lines.now (shown L.view R.view (λ k. (D.view k.disk).faults) result.yard.shelf.items result.yard.register result.yard.nodes.items)) }
     ensures shelf { length result.yard.shelf.items ≡ length yard.shelf.items }
 {
     let Yard {
@@ -48,19 +46,6 @@ pub fn play<L: Loglet, R: Register, E: Layers, D: Disk, C: Chooser>(
         nodes: kits,
     } = yard;
     let mut kits = kits;
-    let lines = match named_lines(alloc, script) {
-        Ok(lines) => lines,
-        Err(fault) => {
-            return Played {
-                yard: Yard {
-                    shelf,
-                    register,
-                    nodes: kits,
-                },
-                told: Err(fault),
-            };
-        }
-    };
     match open_all(alloc, &mut kits) {
         Ok(nodes) => {
             let Ran {
@@ -68,7 +53,7 @@ pub fn play<L: Loglet, R: Register, E: Layers, D: Disk, C: Chooser>(
                 register,
                 nodes,
                 told,
-            } = run_lines(alloc, shelf, register, nodes, lines.as_slice());
+            } = run_lines(alloc, shelf, register, nodes, lines);
             close_all(nodes, &mut kits);
             return Played {
                 yard: Yard {

@@ -1,244 +1,29 @@
 //! The top call: a script's bytes in, its rows and the chain out.
-ghost use Rattle.std.specs.Prelude.{◌≡◌, ◌≢◌, ◌<◌, ℕ, List, IfOk, IfSome, All, length, map, string_bytes};
+ghost use Rattle.std.specs.Prelude.{◌≡◌, ◌≢◌, IfSome, map, string_bytes};
 ghost use Rattle.outside_ends.specs.Faults.{Rose};
-ghost use Rattle.script_text.specs.Lines.{lines_of};
-ghost use Rattle.script_text.specs.Refusal.{refusal_text};
-ghost use Rattle.script_text.specs.Spelling.{IsScript};
-ghost use Rattle.script_words.specs.Plans.{bad_words_text};
 ghost use Rattle.fitting_run.specs.Calm.{IsCalm};
-ghost use Rattle.script_runner.specs.Composed.{ComposesRun, IsComposed, IsComposedScript, Tells, status_of};
-ghost use Rattle.script_runner.specs.Ends.{IsPlan, PutsWhole, PutsFront, CanRun, text_of, any_open, IsRun};
-ghost use Rattle.script_runner.specs.Fresh.{IsFreshFor, IsFreshYard, shown};
+ghost use Rattle.script_runner.specs.Ends.{PutsWhole, PutsFront, CanRun, IsRun};
+ghost use Rattle.script_runner.specs.Made.{CountsWhatWasMade};
+ghost use Rattle.script_runner.specs.Fresh.{IsFreshYard, shown};
 
+use crate::compose::{Composed, Failure, Worked, compose};
 use crate::ended::{Ended, Status};
-use crate::over::{Played, play};
 use crate::yard::Yard;
-use delos_types::bytes::Bytes;
 use disk_model::Disk;
 use fate_words::chooser::Chooser;
-use fitting_run::fitting::is_open;
-use fitting_run::told::Told;
 use local_replica::layers::Layers;
 use loglet_api::loglet::Loglet;
+use made_script::laws::its_lines_log_amounts;
 use outside_ends::sink::Sink;
 use outside_ends::source::Source;
-use outside_ends::whole::{ReadError, put_whole, read_up_to};
+use outside_ends::whole::put_whole;
 use register_api::Register;
-use row_text::render::render;
-use row_text::row::Rows;
-use script_text::refusal::refusal_text;
-use script_text::script::{BadLine, ParseError, Script, parse};
-use script_words::plan::{Plan, WordsError, bad_words_text, read_words};
-use std::alloc::{AllocError, Global};
+use run_totals::laws::{adds_sum_up, answered_runs_act_whole};
+use std::alloc::Global;
 
-/// How many bytes of a source are read at most: one more than a script may have.
-const READ_LIMIT: usize = 1_048_577;
-
-/// What is to be put, and how the run ends once it is.
-#[derive(Drop)]
-struct Composed {
-    status: Status,
-    told: Option<Told>,
-    text: Bytes,
-}
-
-/// Why nothing is to be put.
-#[derive(Clone, Copy, PartialEq, Eq, Debug)]
-enum Failure {
-    Memory,
-    Source,
-}
-
-impl From<AllocError> for Failure {
-    ghost use Rattle.script_runner.specs.declared.run.Failure.TheVariants.{Memory};
-
-    ghost from_gives = { λ _ e. e ≡ Memory };
-
-    fn from(_: AllocError) -> Self {
-        Failure::Memory
-    }
-}
-
-/// What is to be put, or why nothing is, and what was worked on.
-struct Worked<L: Loglet, R: Register, E: Layers, D: Disk, C: Chooser> {
-    yard: Yard<L, R, E, D, C>,
-    answer: Result<Composed, Failure>,
-}
-
-/// Whether some row is open.
-fn any_open(rows: &Rows) -> bool
-    ensures { result ≡ any_open rows.now }
-{
-    rows.as_slice().iter().any(|row| is_open(&row.outcome))
-}
-
-/// The status that the text of a run has once it is put whole.
-fn status_of(told: &Told) -> Status
-    ensures { result ≡ status_of told.now }
-{
-    if any_open(&told.rows) {
-        Status::Open
-    } else {
-        Status::Done
-    }
-}
-
-/// The text of what was told, over the shelf that the plan names.
-fn told_text(alloc: Global, plan: &Plan, told: &Told) -> Result<Bytes, AllocError>
-    requires { All (λ s. s.id < length plan.now.shelf) told.now.chain.segments }
-    ensures { IfOk result (λ text. text ≡ text_of plan.now told.now) }
-{
-    let kinds = plan.shelf.names(alloc)?;
-    render(
-        alloc,
-        &told.rows,
-        told.end,
-        told.version,
-        &told.chain,
-        told.down,
-        kinds.as_slice(),
-    )
-}
-
-/// The text of what was told, if memory sufficed.
-fn compose_told(
-    alloc: Global,
-    plan: &Plan,
-    told: Result<Told, AllocError>,
-) -> Result<Composed, Failure>
-    requires { IfOk told (λ t. All (λ s. s.id < length plan.now.shelf) t.chain.segments) }
-    ensures ok { IfOk result (λ c. IfOk told (Tells plan.now c)) }
-    ensures told { IfOk result (λ c. (t : Told) × (told ≡ Ok t)) }
-    ensures source { result ≢ Err Failure.Source }
-{
-    let told = told?;
-    let text = told_text(alloc, plan, &told)?;
-    let status = status_of(&told);
-    Ok(Composed {
-        status,
-        told: Some(told),
-        text,
-    })
-}
-
-/// Runs a script, and makes the text of what it told.
-fn compose_run<L: Loglet, R: Register, E: Layers, D: Disk, C: Chooser>(
-    alloc: Global,
-    plan: &Plan,
-    script: Script,
-    yard: Yard<L, R, E, D, C>,
-) -> Worked<L, R, E, D, C>
-    requires fresh { IsFreshFor (λ k. E.kinds k.engines) (λ k. E.waiting k.engines) (λ k. D.view k.disk) plan.now (map L.view yard.shelf.items) (R.view yard.register) yard.nodes.items }
-    requires plan { IsPlan plan.now }
-    requires spelled { (bytes : List ℕ) × IsScript plan.now.nodes bytes script }
-    ensures ok { IfOk result.answer (ComposesRun plan.now script (shown L.view R.view (λ k. (D.view k.disk).faults) result.yard.shelf.items result.yard.register result.yard.nodes.items)) }
-    ensures source { result.answer ≢ Err Failure.Source }
-{
-    let Played { yard, told } = play(alloc, yard, script);
-    let answer = compose_told(alloc, plan, told);
-    Worked { yard, answer }
-}
-
-/// The text of a bad line.
-fn compose_refusal(alloc: Global, bad: BadLine) -> Result<Composed, Failure>
-    ensures ok { IfOk result (λ c. (c.status ≡ Status.BadLine) × (c.told ≡ None) × (c.text ≡ refusal_text bad)) }
-    ensures source { result ≢ Err Failure.Source }
-{
-    let text = refusal_text(alloc, bad)?;
-    Ok(Composed {
-        status: Status::BadLine,
-        told: None,
-        text,
-    })
-}
-
-/// The text for words that are not taken.
-fn compose_bad_words(alloc: Global) -> Result<Composed, Failure>
-    ensures ok { IfOk result (λ c. (c.status ≡ Status.BadWords) × (c.told ≡ None) × (c.text ≡ bad_words_text)) }
-    ensures source { result ≢ Err Failure.Source }
-{
-    let text = Bytes::from_slice(alloc, bad_words_text())?;
-    Ok(Composed {
-        status: Status::BadWords,
-        told: None,
-        text,
-    })
-}
-
-/// Reads the script, runs it, and makes the text.
-fn compose_script<L: Loglet, R: Register, E: Layers, D: Disk, C: Chooser, S: Source>(
-    alloc: Global,
-    plan: &Plan,
-    source: &mut S,
-    yard: Yard<L, R, E, D, C>,
-) -> Worked<L, R, E, D, C>
-    requires fresh { IsFreshFor (λ k. E.kinds k.engines) (λ k. E.waiting k.engines) (λ k. D.view k.disk) plan.now (map L.view yard.shelf.items) (R.view yard.register) yard.nodes.items }
-    requires plan { IsPlan plan.now }
-    ensures ok { IfOk result.answer (IsComposedScript plan.now (S.left source.old) (shown L.view R.view (λ k. (D.view k.disk).faults) result.yard.shelf.items result.yard.register result.yard.nodes.items)) }
-    ensures source { result.answer ≡ Err Failure.Source → Rose (S.counted source.old) (S.counted source.new) }
-{
-    let bytes = match read_up_to(alloc, source, READ_LIMIT) {
-        Ok(bytes) => bytes,
-        Err(ReadError::Memory) => {
-            return Worked {
-                yard,
-                answer: Err(Failure::Memory),
-            };
-        }
-        Err(ReadError::Failed) => {
-            return Worked {
-                yard,
-                answer: Err(Failure::Source),
-            };
-        }
-    };
-    match parse(alloc, bytes.as_slice(), plan.nodes) {
-        Ok(script) => return compose_run(alloc, plan, script, yard),
-        Err(ParseError::Bad(bad)) => {
-            return Worked {
-                yard,
-                answer: compose_refusal(alloc, bad),
-            };
-        }
-        Err(ParseError::Memory) => {
-            return Worked {
-                yard,
-                answer: Err(Failure::Memory),
-            };
-        }
-    }
-}
-
-/// Takes the words, and composes what they ask for.
-fn compose<L: Loglet, R: Register, E: Layers, D: Disk, C: Chooser, S: Source>(
-    alloc: Global,
-    words: &[String],
-    source: &mut S,
-    yard: Yard<L, R, E, D, C>,
-) -> Worked<L, R, E, D, C>
-    requires fresh { IsFreshYard (λ k. E.kinds k.engines) (λ k. E.waiting k.engines) (λ k. D.view k.disk) (map string_bytes words.now) (map L.view yard.shelf.items) (R.view yard.register) yard.nodes.items }
-    ensures ok { IfOk result.answer (IsComposed (map string_bytes words.now) (S.left source.old) (shown L.view R.view (λ k. (D.view k.disk).faults) result.yard.shelf.items result.yard.register result.yard.nodes.items)) }
-    ensures source { result.answer ≡ Err Failure.Source → Rose (S.counted source.old) (S.counted source.new) }
-{
-    match read_words(alloc, words) {
-        Ok(plan) => return compose_script(alloc, &plan, source, yard),
-        Err(WordsError::BadWords) => {
-            return Worked {
-                yard,
-                answer: compose_bad_words(alloc),
-            };
-        }
-        Err(WordsError::Memory) => {
-            return Worked {
-                yard,
-                answer: Err(Failure::Memory),
-            };
-        }
-    }
-}
-
-/// Runs the script that the source has left, as the words say, and puts the text of its rows and
-/// of the chain. The text is whole before any of it is put.
+/// Does what the words say. `run` runs the script that the source has left, and puts the text of its rows and of the chain.
+/// `make` makes a script of a seed and runs it, and puts four lines that count over its rows; of the source it takes nothing. The
+/// text is whole before any of it is put.
 ///
 /// The yard has as many loglets and nodes as the words say, all fresh: loglets of any kind and room, of which the first is the
 /// chain's open segment; the register of the chain; and for each node its five engines, an empty disk, and what chooses for it. It
@@ -260,6 +45,10 @@ pub fn run<H, L: Loglet, R: Register, E: Layers, D: Disk, C: Chooser, S: Source,
     // What is told fits the script and the yard that comes back.
     ensures told { let back = shown L.view R.view (λ k. (D.view k.disk).faults) result.yard.shelf.items result.yard.register result.yard.nodes.items in IfSome result.told (λ t. IsRun (map string_bytes words.now) (S.left source.old) back t) }
 
+    // A script that was made has as many commands as the words say. Where no row is open all of them acted, and the table's sum is
+    // that of their amounts; where no fault was counted, each line that extends the chain did, until the shelf had no loglet left.
+    ensures made { let back = shown L.view R.view (λ k. (D.view k.disk).faults) result.yard.shelf.items result.yard.register result.yard.nodes.items in IfSome result.told (CountsWhatWasMade (map string_bytes words.now) back) }
+
     // With status 0 the text of what was told was put, and no row of it is open; with 1 some row is
     // open; with 2 the text of the first bad line was put, with 3 that the words are bad; with 5 a
     // front of one of these.
@@ -280,6 +69,9 @@ pub fn run<H, L: Loglet, R: Register, E: Layers, D: Disk, C: Chooser, S: Source,
     ensures complete { CanRun (map string_bytes words.now) (S.left source.old) → result.status ≢ Status.BadWords × (result.status ≢ Status.BadLine) }
     ensures calm { IsCalm (shown L.view R.view (λ k. (D.view k.disk).faults) result.yard.shelf.items result.yard.register result.yard.nodes.items) → result.status ≢ Status.Open }
 {
+    its_lines_log_amounts();
+    answered_runs_act_whole();
+    adds_sum_up();
     let Worked { yard, answer } = compose(alloc, words, source, yard);
     match answer {
         Ok(composed) => {

@@ -2,6 +2,7 @@
 use Rattle.std.proofs.Common.{◌≡◌, ◌==◌, ◌<◌, ◌≤◌, ◌^◌, ◌+◌, ℕ, Bool, true, false, cond, List, [], ◌∷◌, ◌++◌, length, map, drop, get_or, nat_le, ◌&&◌, leb-true, Option, Some, None, Result, Ok, Err, refl, sym, ap, subst, ◌∙◌, append_assoc, arith, inl, inr, codes}
 use Rattle.std.specs.Prelude.{option_map, option_and_then, ◌≢◌, nat_lt, IfOk}
 use Rattle.std.specs.List.{slice_split}
+use Rattle.std.specs.Str.{bytes_eq}
 use Rattle.std.specs.Str.Parse.{ParsesUnsigned, digits_value, without_leading_plus}
 use Rattle.std.specs.Borrow.{Bor}
 use Rattle.std.proofs.lemmas.List.{drop_more}
@@ -22,7 +23,9 @@ use Rattle.script_words.specs.declared.plan.Plan.{Plan}
 use Rattle.script_words.specs.declared.plan.WordsError.{WordsError}
 use Rattle.script_words.specs.Shelf.{kind_of as kind_named, all_kinds, kinds_of}
 use Rattle.script_words.specs.App.{the_app}
-use Rattle.script_words.specs.Plans.{told_words, number_of, number_in, is_taken, node_count, plan_in, plan_of, IsPlan, Reads}
+use Rattle.script_words.specs.declared.plan.Task.{Task}
+use Rattle.script_words.specs.declared.plan.Task.TheVariants.{Run, Make}
+use Rattle.script_words.specs.Plans.{told_words, number_of, number_in, is_taken, node_count, line_count, task_in, lines_in, plan_in, plan_of, IsPlan, IsTask, Reads}
 
 pub told_some : (ws : List Text) → 0 < length ws → told_words ws ≡ codes "delos_sim" ∷ ws
 told_some [] some = absurd (omega arith)
@@ -143,26 +146,46 @@ shelf_some (Some text) ks e = go (nat_lt 64 (length (slice_split (λ b. b == 44)
         let low : length words ≤ 64 = grind (arith, nat_tests) in
         (some_kinds words ks (omega (arith, length-slice_split (λ b. b == 44) text)) h, omega (arith, size, low))
 
-abbrev built : ℕ → ℕ → List Kind → Plan
-built n s ks = record { nodes = n; seed = s; shelf = ks }
+few_lines : (n : ℕ) (t : Bool) (task : Task) → (nat_le 1 n && nat_le n 15000) ≡ t → option_map (λ (k : ℕ). Make k) (cond t (Some n) None) ≡ Some task → IsTask task
+few_lines n false task is h = absurd cc
+few_lines n true task is h =
+    let both = and_parts (nat_le 1 n) (nat_le n 15000) is in
+    subst IsTask (same (Make n) task h) (leb-true 1 n both.0, leb-true n 15000 both.1)
 
-counted : (n : ℕ) (t : Bool) (s : Option ℕ) (o : Option Text) (shelf : Option (List Kind)) (plan : Plan) → (nat_le 1 n && nat_le n 8) ≡ t → option_and_then kinds_of o ≡ shelf
-    → option_and_then (λ nodes. option_and_then (λ seed. option_map (λ ks. built nodes seed ks) shelf) s) (cond t (Some n) None) ≡ Some plan → IsPlan plan
-counted n false s o shelf plan is from h = absurd cc
-counted n true None o shelf plan is from h = absurd cc
-counted n true (Some k) o None plan is from h = absurd cc
-counted n true (Some k) o (Some ks) plan is from h =
+made_sized : (o : Option ℕ) (task : Task) → option_map (λ (k : ℕ). Make k) (option_and_then line_count o) ≡ Some task → IsTask task
+made_sized None task h = absurd cc
+made_sized (Some n) task h = few_lines n (nat_le 1 n && nat_le n 15000) task refl h
+
+task_sized : (t : Bool) (rows : List Row) (task : Task) → cond t (option_map (λ (k : ℕ). Make k) (lines_in rows)) (Some Run) ≡ Some task → IsTask task
+task_sized true rows task h = made_sized (number_in (codes "lines") rows) task h
+task_sized false rows task h = subst IsTask (same Run task h) tt
+
+abbrev built : ℕ → ℕ → List Kind → Task → Plan
+built n s ks task = record { nodes = n; seed = s; shelf = ks; task = task }
+
+abbrev planned : Option ℕ → Option ℕ → Option (List Kind) → Option Task → Option Plan
+planned nodes seed shelf task = option_and_then (λ n. option_and_then (λ s. option_and_then (λ ks. option_map (λ x. built n s ks x) task) shelf) seed) nodes
+
+counted : (n : ℕ) (t : Bool) (s : Option ℕ) (o : Option Text) (shelf : Option (List Kind)) (task : Option Task) (plan : Plan) → (nat_le 1 n && nat_le n 8) ≡ t → option_and_then kinds_of o ≡ shelf
+    → ((x : Task) → task ≡ Some x → IsTask x) → planned (cond t (Some n) None) s shelf task ≡ Some plan → IsPlan plan
+counted n false s o shelf task plan is from tasks h = absurd cc
+counted n true None o shelf task plan is from tasks h = absurd cc
+counted n true (Some k) o None task plan is from tasks h = absurd cc
+counted n true (Some k) o (Some ks) None plan is from tasks h = absurd cc
+counted n true (Some k) o (Some ks) (Some x) plan is from tasks h =
     let both = and_parts (nat_le 1 n) (nat_le n 8) is in
-    subst IsPlan (same (built n k ks) plan h) (record { nodes = (leb-true 1 n both.0, leb-true n 8 both.1); shelf = shelf_some o ks from })
+    subst IsPlan (same (built n k ks x) plan h) (record { nodes = (leb-true 1 n both.0, leb-true n 8 both.1); shelf = shelf_some o ks from; task = tasks x refl })
 
-options_sized : (n s : Option ℕ) (o : Option Text) (plan : Plan)
-    → option_and_then (λ nodes. option_and_then (λ seed. option_map (λ ks. built nodes seed ks) (option_and_then kinds_of o)) s) (option_and_then node_count n) ≡ Some plan → IsPlan plan
-options_sized None s o plan e = absurd cc
-options_sized (Some n) s o plan e = counted n (nat_le 1 n && nat_le n 8) s o (option_and_then kinds_of o) plan refl refl e
+options_sized : (n s : Option ℕ) (o : Option Text) (task : Option Task) (plan : Plan) → ((x : Task) → task ≡ Some x → IsTask x)
+    → planned (option_and_then node_count n) s (option_and_then kinds_of o) task ≡ Some plan → IsPlan plan
+options_sized None s o task plan tasks e = absurd cc
+options_sized (Some n) s o task plan tasks e = counted n (nat_le 1 n && nat_le n 8) s o (option_and_then kinds_of o) task plan refl refl tasks e
 
 plan_sized : (o : Option (Text × List Row)) (plan : Plan) → plan_in o ≡ Some plan → IsPlan plan
 plan_sized None plan e = absurd cc
-plan_sized (Some p) plan e = options_sized (number_in (codes "nodes") p.1) (number_in (codes "seed") p.1) (first_of (codes "shelf") p.1) plan e
+plan_sized (Some p) plan e =
+    options_sized (number_in (codes "nodes") p.1) (number_in (codes "seed") p.1) (first_of (codes "shelf") p.1) (task_in p.0 p.1) plan
+    (λ x h. task_sized (bytes_eq p.0 (codes "make")) p.1 x h) e
 
 taken_plan : (t : Bool) (o : Option (Text × List Row)) (plan : Plan) → cond t (plan_in o) None ≡ Some plan → IsPlan plan
 taken_plan true o plan e = plan_sized o plan e

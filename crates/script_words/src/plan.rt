@@ -1,7 +1,7 @@
 //! What the words of the command line ask for.
 ghost use Rattle.std.specs.Prelude.{◌≡◌, ◌≢◌, ◌∷◌, IfOk, List, Option, codes, map, string_bytes, option_map};
 ghost use Rattle.clap.specs.Words.{found_of, rows_of, subcommand_rows_of, first_of, one_of, kind_of};
-ghost use Rattle.script_words.specs.Plans.{Reads, Matches, IsPlan, told_words, number_in, nodes_in, shelf_in, run_in, plan_in, plan_of, bad_words_text};
+ghost use Rattle.script_words.specs.Plans.{Reads, Matches, IsPlan, told_words, number_in, nodes_in, lines_in, task_in, shelf_in, options_in, plan_in, plan_of, bad_words_text};
 
 use crate::command::the_command;
 use crate::shelf::{Shelf, kinds_of};
@@ -9,15 +9,26 @@ use clap::error::ErrorKind;
 use clap::{ArgMatches, Error};
 use std::alloc::{AllocError, Global};
 
-/// A run: how many nodes it has, from which seed its chances come, and over which shelf.
+/// What is done with the nodes.
+#[derive(Clone, Copy, Debug, PartialEq, Eq)]
+pub enum Task {
+    /// The script that the source has left is run, and its rows are written.
+    Run,
+    /// A script of so many logged lines, 1 to 15,000, is made and run, and its rows are counted.
+    Make { lines: u16 },
+}
+
+/// A run: how many nodes it has, from which seed its script is made if it is, over which shelf it goes, and
+/// what is done.
 #[derive(Drop, Debug)]
 pub struct Plan {
     /// 1 to 8.
     pub nodes: u8,
-    /// Nothing is left to chance yet.
+    /// Of a script that is made; nothing else is left to chance yet.
     pub seed: u32,
     /// 1 to 64 loglets.
     pub shelf: Shelf,
+    pub task: Task,
 }
 
 /// Why the words have no plan.
@@ -95,24 +106,58 @@ fn shelf_in(alloc: Global, matches: &ArgMatches<'_>) -> Result<Shelf, WordsError
     }
 }
 
-// The plan of the options of `run`.
-fn run_in(alloc: Global, matches: &ArgMatches<'_>) -> Result<Plan, WordsError>
-    ensures { Reads result (run_in (rows_of (found_of matches.now))) }
+// How many logged lines a made script has: 1 to 15,000.
+fn lines_in(matches: &ArgMatches<'_>) -> Option<u16>
+    ensures { result ≡ lines_in (rows_of (found_of matches.now)) }
+{
+    match number_in(matches, "lines") {
+        Some(n) => {
+            if 1 <= n && n <= 15000 {
+                Some(n as u16)
+            } else {
+                None
+            }
+        }
+        None => None,
+    }
+}
+
+// What the subcommand of this name does.
+fn task_in(name: &str, matches: &ArgMatches<'_>) -> Option<Task>
+    ensures { result ≡ task_in name.now (rows_of (found_of matches.now)) }
+{
+    if name == "make" {
+        let lines = lines_in(matches)?;
+        Some(Task::Make { lines })
+    } else {
+        Some(Task::Run)
+    }
+}
+
+// The plan of the options of the subcommand of this name.
+fn options_in(alloc: Global, name: &str, matches: &ArgMatches<'_>) -> Result<Plan, WordsError>
+    ensures { Reads result (options_in name.now (rows_of (found_of matches.now))) }
 {
     let nodes = nodes_in(matches).ok_or(WordsError::BadWords)?;
     let seed = number_in(matches, "seed").ok_or(WordsError::BadWords)?;
     let shelf = shelf_in(alloc, matches)?;
-    Ok(Plan { nodes, seed, shelf })
+    let task = task_in(name, matches).ok_or(WordsError::BadWords)?;
+    Ok(Plan {
+        nodes,
+        seed,
+        shelf,
+        task,
+    })
 }
 
 // The plan of the subcommand.
 fn plan_in(alloc: Global, matches: &ArgMatches<'_>) -> Result<Plan, WordsError>
     ensures { Reads result (plan_in (subcommand_rows_of matches.now)) }
 {
-    let Some((_, inner)) = matches.subcommand() else {
+    let Some((name, inner)) = matches.subcommand() else {
         return Err(WordsError::BadWords);
     };
-    run_in(alloc, inner)
+    options_in(alloc, name, inner)
 }
 
 // What a failed parse comes to.

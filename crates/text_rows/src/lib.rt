@@ -12,6 +12,8 @@ mod engines;
 #[cfg(test)]
 mod entries;
 #[cfg(test)]
+mod made;
+#[cfg(test)]
 mod replies;
 #[cfg(test)]
 mod rows;

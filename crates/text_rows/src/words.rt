@@ -1,5 +1,5 @@
 //! Words that have a plan, and words that aren't taken.
-use script_words::plan::{Plan, WordsError, bad_words_text, read_words};
+use script_words::plan::{Plan, Task, WordsError, bad_words_text, read_words};
 use script_words::shelf::Kind;
 use std::alloc::{AllocError, Global};
 use std::process::Abort;
@@ -13,7 +13,7 @@ fn read(alloc: Global, words: &[&str]) -> Result<Result<Plan, WordsError>, Alloc
     Ok(read_words(alloc, owned.as_slice()))
 }
 
-/// The words have a plan for so many nodes, of this seed, whose shelf has these names.
+/// The words have a plan to do this with so many nodes, of this seed, whose shelf has these names.
 fn has_plan(
     rt: &impl Abort,
     alloc: Global,
@@ -21,10 +21,11 @@ fn has_plan(
     nodes: u8,
     seed: u32,
     shelf: &str,
+    task: Task,
 ) -> Result<(), Fail> {
     match read(alloc, words)? {
         Ok(plan) => {
-            assert_eq!(rt; (plan.nodes, plan.seed), (nodes, seed));
+            assert_eq!(rt; (plan.nodes, plan.seed, plan.task), (nodes, seed, task));
             let names = plan.shelf.names(alloc)?;
             assert_eq!(rt; names.join(alloc, ",")?.as_str(), shelf);
         }
@@ -60,7 +61,42 @@ fn words_that_have_a_plan(rt: HostRuntime) -> Result<(), Fail> {
         (&["run", "--seed=-0"], 1, 0, usual),
     ];
     for (words, nodes, seed, shelf) in rows {
-        has_plan(&rt, alloc, words, nodes, seed, shelf)?;
+        has_plan(&rt, alloc, words, nodes, seed, shelf, Task::Run)?;
+    }
+    Ok(())
+}
+
+#[test]
+fn words_that_make_a_script(rt: HostRuntime) -> Result<(), Fail> {
+    let alloc = rt.alloc();
+    let usual = "file,native3,striped2,native5";
+    // The words, how many nodes, the seed, how many lines, and the shelf.
+    let rows = [
+        (&["make", "--seed", "1", "--lines", "3"][..], 1, 1, 3, usual),
+        (
+            &[
+                "make",
+                "--lines=15000",
+                "--nodes",
+                "4",
+                "--seed=0",
+                "--shelf=native3",
+            ],
+            4,
+            0,
+            15000,
+            "native3",
+        ),
+        (
+            &["make", "--seed", "4294967295", "--lines", "1"],
+            1,
+            4294967295,
+            1,
+            usual,
+        ),
+    ];
+    for (words, nodes, seed, lines, shelf) in rows {
+        has_plan(&rt, alloc, words, nodes, seed, shelf, Task::Make { lines })?;
     }
     Ok(())
 }
@@ -96,6 +132,13 @@ fn bad_words(rt: HostRuntime) -> Result<(), Fail> {
         &["run", "--seed", "x"],
         &["run", "--seed", ""],
         &["run", "--faults"],
+        &["run", "--lines", "3"],
+        &["make", "--seed", "1"],
+        &["make", "--lines", "3"],
+        &["make", "--seed", "1", "--lines", "0"],
+        &["make", "--seed", "1", "--lines", "15001"],
+        &["make", "--seed", "4294967296", "--lines", "3"],
+        &["make", "--seed", "1", "--lines", "3", "--faults"],
         &["run", "--faults=yes"],
         &["--help"],
         &["-h"],

@@ -16,6 +16,7 @@ run-status-requires g c = λ plan planned. record {
 pub returns-clause-stands : goal.returns-clause-stands
 returns-clause-stands g c = stands_over _ _ _ _ _ _ (record {
   told = c.run-status.ensures.told;
+  made = c.run-status.ensures.made;
   done = c.run-status.ensures.done;
   some_open = c.run-status.ensures.«open»;
   bad_line = c.run-status.ensures.bad_line;

@@ -1,0 +1,5 @@
+pub mod Ranges
+pub mod Steps
+pub mod Asking
+pub mod Homes
+pub mod Spelled

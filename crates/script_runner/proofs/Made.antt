@@ -1,0 +1,291 @@
+-- What came of a script that was made, by the laws of made scripts and of totals.
+use Rattle.std.proofs.Common.{◌≡◌, refl, sym, ap, ◌∙◌, subst, ℕ, zero, suc, pos, negsuc, ◌+◌, ◌<◌, ◌≤◌, ◌/◌, ◌==◌, Bool, true, false, cond, List, [], ◌∷◌, length, min, map, arith, zero-add, Option, Some, None}
+use Rattle.std.specs.Prelude.{count_by, is_some, not, filter, fold, ◌+ℤ◌, All, sum_by, IfSome}
+use Rattle.std.specs.List.{AllByRecursion, list_all, zip}
+use Rattle.std.proofs.lemmas.Int.{ints}
+use Rattle.std.proofs.lemmas.Bool.{and_parts}
+use Rattle.std.proofs.lemmas.Bool.Decides.{nat_tests}
+use Rattle.std.proofs.lemmas.List.Sums.{sum_by-cons}
+use Rattle.delos_types.specs.declared.chain.Segment.{Segment}
+use Rattle.delos_types.specs.declared.chain.Chain.{Chain}
+use Rattle.chain_map.specs.Chain.{last_of_segments, last_id}
+use Rattle.table_core.specs.declared.command.Command.TheVariants.{Put, Del, Cas, Add}
+use Rattle.script_text.specs.declared.line.Admin.TheVariants.{Extend}
+use Rattle.script_text.specs.declared.asks.NamedLine.{NamedLine}
+use Rattle.script_text.specs.declared.asks.Asks.{Asks}
+use Rattle.script_text.specs.declared.asks.Asks.TheVariants as asks
+use Rattle.script_text.specs.Lines.{lines_of}
+use Rattle.script_words.specs.declared.plan.Plan.{Plan}
+use Rattle.script_words.specs.declared.plan.Task.{Task}
+use Rattle.script_words.specs.declared.plan.Task.TheVariants as task
+use Rattle.script_words.specs.Plans.{IsTask, plan_of}
+use Rattle.row_text.specs.declared.row.Row.{Row}
+use Rattle.row_text.specs.declared.row.Outcome.{Outcome}
+use Rattle.row_text.specs.declared.row.Outcome.TheVariants as out
+use Rattle.fitting_run.specs.declared.told.Told.{Told}
+use Rattle.fitting_run.specs.Tests.{◌⇒◌}
+use Rattle.fitting_run.specs.declared.answered.Answered.{Answered}
+use Rattle.fitting_run.specs.Answered.{logs, has_row}
+use Rattle.fitting_run.specs.Outcomes.{OneRowEach, answers, is_row_of}
+use Rattle.fitting_run.specs.Replacements.{version_made, version_found, lacks_spare, is_spent}
+use Rattle.fitting_run.specs.Calm.{IsCalm, is_answered, all_answered}
+use Rattle.fitting_run.specs.Yard.{Shown}
+use Rattle.fitting_run.specs.Fits.{Fits}
+use Rattle.made_script.specs.Made.{made_lines, amounts}
+use Rattle.made_script.specs.Asked.{logs_something, extends, asks_to_extend, added, added_by, AddsOrExtends}
+use Rattle.run_totals.specs.Totals.{commands_in, acted_in, table_told, sum_of_table}
+use Rattle.run_totals.specs.Adds.{amounts_in, amount_asked, AsksSmallAdd, AreSmallAdds}
+use Rattle.course_ends.specs.Ends.{GoesTo}
+use Rattle.script_runner.specs.declared.ended.Status.{Status}
+use Rattle.script_runner.specs.declared.ended.Status.TheVariants as status
+use Rattle.script_runner.specs.Ends.{Ran, ComesFrom, any_open, Composes}
+use Rattle.script_runner.specs.Made.{CountsMade, CountsWhatWasMade, lines_made}
+use Rattle.script_runner.proofs.ScriptLines.{count_by-append, all_ranked}
+
+-- The same lines are counted
+
+abbrev once : Bool → ℕ
+once b = cond b 1 0
+
+one : (b c : Bool) → b ≡ c → once b ≡ once c
+one b c e = ap once e
+
+same_count : {A : Type 0} (p q : A → Bool) → ((x : A) → p x ≡ q x) → (xs : List A) → count_by p xs ≡ count_by q xs
+same_count p q e [] = refl
+same_count p q e (x ∷ xs) =
+    count_by-append p (x ∷ []) xs ∙ ap (λ n. n + count_by p xs) (zero-add (cond (p x) 1 0) ∙ one (p x) (q x) (e x) ∙ sym (zero-add (cond (q x) 1 0)))
+    ∙ ap (λ n. count_by q (x ∷ []) + n) (same_count p q e xs) ∙ sym (count_by-append q (x ∷ []) xs)
+
+logs_same : (a : Asks) (l : NamedLine) → l.asks ≡ a → logs l.asks ≡ logs_something l
+logs_same (asks.Logged s r c) l e = rw e refl
+logs_same (asks.Look s q) l e = rw e refl
+logs_same (asks.Admin a) l e = rw e refl
+
+pub commands_same : (lines : List NamedLine) → commands_in lines ≡ count_by logs_something lines
+commands_same lines = same_count (λ l. logs l.asks) logs_something (λ l. logs_same l.asks l refl) lines
+
+-- What all of them add
+
+all_from : {A : Type 0} (P : A → Type 0) (xs : List A) → All P xs → AllByRecursion P xs
+all_from P [] h = tt
+all_from P (x ∷ xs) h = (h 0 x (omega arith), all_from P xs (λ k d low. h (suc k) d (omega (arith, low))))
+
+small_at : (a : Asks) → AddsOrExtends a → AsksSmallAdd a
+small_at (asks.Logged s r (Add k z)) h = h
+small_at (asks.Logged s r (Put k v)) h = absurd h
+small_at (asks.Logged s r (Del k)) h = absurd h
+small_at (asks.Logged s r (Cas k o n)) h = absurd h
+small_at (asks.Look s q) h = tt
+small_at (asks.Admin a) h = tt
+
+all_small : (lines : List NamedLine) → AllByRecursion (λ l. AddsOrExtends l.asks) lines → AllByRecursion (λ l. AsksSmallAdd l.asks) lines
+all_small [] h = tt
+all_small (l ∷ ls) h = (small_at l.asks h.0, all_small ls h.1)
+
+added_to : (n : ℕ) (a : Asks) → AddsOrExtends a → pos n +ℤ amount_asked a ≡ pos (n + added_by a)
+added_to n (asks.Logged s r (Add k (pos m))) h = omega (arith, ints)
+added_to n (asks.Logged s r (Add k (negsuc m))) h = absurd (omega (arith, ints, h.0))
+added_to n (asks.Logged s r (Put k v)) h = absurd h
+added_to n (asks.Logged s r (Del k)) h = absurd h
+added_to n (asks.Logged s r (Cas k o v)) h = absurd h
+added_to n (asks.Look s q) h = absurd h
+added_to n (asks.Admin Extend) h = omega (arith, ints)
+
+adds_from : (n : ℕ) (lines : List NamedLine) → AllByRecursion (λ l. AddsOrExtends l.asks) lines → fold (λ s l. s +ℤ amount_asked l.asks) (pos n) lines ≡ pos (n + sum_by added lines)
+adds_from n [] h = let e : n ≡ n + 0 = omega arith in ap (λ (k : ℕ). pos k) e
+adds_from n (l ∷ ls) h =
+    let rest : (n + added l) + sum_by added ls ≡ n + sum_by added (l ∷ ls) = omega (arith, sum_by-cons added l ls) in
+    ap (λ z. fold (λ s x. s +ℤ amount_asked x.asks) z ls) (added_to n l.asks h.0) ∙ adds_from (n + added l) ls h.1 ∙ ap (λ k. pos k) rest
+
+adds_all : (lines : List NamedLine) → AllByRecursion (λ l. AddsOrExtends l.asks) lines → amounts_in lines ≡ pos (sum_by added lines)
+adds_all lines h = adds_from 0 lines h ∙ ap (λ k. pos k) (zero-add (sum_by added lines))
+
+-- Lines that extend the chain
+
+abbrev has_made : Row → Bool
+has_made r = is_some (version_made r.outcome)
+
+abbrev has_spent : Row → Bool
+has_spent r = lacks_spare r.outcome
+
+has_one : (a : Asks) → has_row a ≡ true
+has_one (asks.Logged s r c) = refl
+has_one (asks.Look s q) = refl
+has_one (asks.Admin a) = refl
+
+first_row : (l : NamedLine) (ls : List NamedLine) → filter (λ x. has_row x.asks) ls ≡ ls → filter (λ x. has_row x.asks) (l ∷ ls) ≡ l ∷ ls
+first_row l ls rest =
+    let kept : filter (λ x. has_row x.asks) (l ∷ ls) ≡ l ∷ filter (λ x. has_row x.asks) ls =
+    ap (λ (b : Bool). cond b (l ∷ filter (λ x. has_row x.asks) ls) (filter (λ x. has_row x.asks) ls)) (has_one l.asks) in
+    kept ∙ ap (λ xs. l ∷ xs) rest
+
+every_row : (lines : List NamedLine) → filter (λ l. has_row l.asks) lines ≡ lines
+every_row [] = refl
+every_row (l ∷ ls) = first_row l ls (every_row ls)
+
+-- a line that extends was answered by a segment more, or found no loglet to spare
+one_row : (a : Asks) (o : Outcome) → answers a o ≡ true → is_answered o ≡ true → not (is_some (version_found o)) ≡ true
+    → cond (asks_to_extend a) 1 0 ≡ cond (is_some (version_made o)) 1 0 + cond (lacks_spare o) 1 0
+one_row (asks.Logged t r d) (out.Placed p reply late) kind own lone = refl
+one_row (asks.Logged t r d) (out.Read after found) kind own lone = absurd cc
+one_row (asks.Logged t r d) (out.Extended v s) kind own lone = absurd cc
+one_row (asks.Logged t r d) (out.Moved v) kind own lone = absurd cc
+one_row (asks.Logged t r d) out.NoSpare kind own lone = absurd cc
+one_row (asks.Logged t r d) (out.Alive n) kind own lone = absurd cc
+one_row (asks.Logged t r d) (out.Trimmed n) kind own lone = absurd cc
+one_row (asks.Logged t r d) out.Retired kind own lone = absurd cc
+one_row (asks.Logged t r d) (out.Open c) kind own lone = absurd cc
+one_row (asks.Look t q) (out.Placed p reply late) kind own lone = absurd cc
+one_row (asks.Look t q) (out.Read after found) kind own lone = refl
+one_row (asks.Look t q) (out.Extended v s) kind own lone = absurd cc
+one_row (asks.Look t q) (out.Moved v) kind own lone = absurd cc
+one_row (asks.Look t q) out.NoSpare kind own lone = absurd cc
+one_row (asks.Look t q) (out.Alive n) kind own lone = absurd cc
+one_row (asks.Look t q) (out.Trimmed n) kind own lone = absurd cc
+one_row (asks.Look t q) out.Retired kind own lone = absurd cc
+one_row (asks.Look t q) (out.Open c) kind own lone = absurd cc
+one_row (asks.Admin Extend) (out.Placed p reply late) kind own lone = absurd cc
+one_row (asks.Admin Extend) (out.Read after found) kind own lone = absurd cc
+one_row (asks.Admin Extend) (out.Extended v s) kind own lone = refl
+one_row (asks.Admin Extend) (out.Moved v) kind own lone = absurd cc
+one_row (asks.Admin Extend) out.NoSpare kind own lone = refl
+one_row (asks.Admin Extend) (out.Alive n) kind own lone = absurd cc
+one_row (asks.Admin Extend) (out.Trimmed n) kind own lone = absurd cc
+one_row (asks.Admin Extend) out.Retired kind own lone = absurd cc
+one_row (asks.Admin Extend) (out.Open c) kind own lone = absurd cc
+
+-- the lines with their rows
+abbrev pair_of : NamedLine × Row → Answered
+pair_of x = record { line = x.0; row = x.1 }
+
+abbrev pairs : List NamedLine → List Row → List Answered
+pairs lines rows = map pair_of (zip lines rows)
+
+abbrev unmoved : List Row → Bool
+unmoved rows = list_all (λ r. not (is_some (version_found r.outcome))) rows
+
+tally : (lines : List NamedLine) (rows : List Row) → length rows ≡ length lines → list_all is_row_of (pairs lines rows) ≡ true → all_answered rows ≡ true → unmoved rows ≡ true
+    → count_by extends lines ≡ count_by has_made rows + count_by has_spent rows
+tally [] [] size kinds own lone = refl
+tally [] (r ∷ rs) size kinds own lone = absurd (omega (arith, size))
+tally (l ∷ ls) [] size kinds own lone = absurd (omega (arith, size))
+tally (l ∷ ls) (r ∷ rs) size kinds own lone =
+    let row = and_parts (is_row_of (pair_of (l, r))) (list_all is_row_of (pairs ls rs)) kinds in
+    let mine = and_parts (is_answered r.outcome) (all_answered rs) own in
+    let still = and_parts (not (is_some (version_found r.outcome))) (unmoved rs) lone in
+    let kind = (and_parts _ (answers l.asks r.outcome) row.0).1 in
+    let here = one_row l.asks r.outcome kind mine.0 still.0 in
+    let rest = tally ls rs (omega (arith, size)) row.1 mine.1 still.1 in
+    omega (arith, here, rest, sum_by-cons (λ x. cond (extends x) 1 0) l ls, sum_by-cons (λ x. cond (has_made x) 1 0) r rs, sum_by-cons (λ x. cond (has_spent x) 1 0) r rs)
+
+-- where a line found no loglet to spare, the last segment is of the last one
+spent_first : (chain : Chain) (shelf : ℕ) (x : Bool) → (x ⇒ (last_id chain + 1 == shelf)) ≡ true → (once x ≡ 0 → last_id chain + 1 ≡ shelf) → last_id chain + 1 ≡ shelf
+spent_first chain shelf true here rest = let full : (last_id chain + 1 == shelf) ≡ true = here in grind (arith, nat_tests)
+spent_first chain shelf false here rest = rest refl
+
+spent : (chain : Chain) (shelf : ℕ) (lines : List NamedLine) (rows : List Row) → length rows ≡ length lines → list_all (is_spent chain shelf) (pairs lines rows) ≡ true
+    → 0 < count_by has_spent rows → last_id chain + 1 ≡ shelf
+spent chain shelf [] [] size all some = absurd (omega (arith, some))
+spent chain shelf [] (r ∷ rs) size all some = absurd (omega (arith, size))
+spent chain shelf (l ∷ ls) [] size all some = absurd (omega (arith, size))
+spent chain shelf (l ∷ ls) (r ∷ rs) size all some =
+    let parts = and_parts (is_spent chain shelf (pair_of (l, r))) (list_all (is_spent chain shelf) (pairs ls rs)) all in
+    spent_first chain shelf (has_spent r) parts.0
+    (λ none. spent chain shelf ls rs (omega (arith, size)) parts.1 (omega (arith, some, none, sum_by-cons (λ x. cond (has_spent x) 1 0) r rs)))
+
+-- the last segment is one of them
+last_within : (n : ℕ) (ss : List Segment) → AllByRecursion (λ s. s.id < n) ss → 0 < length ss → (last_of_segments ss).id < n
+last_within n [] all some = absurd (omega (arith, some))
+last_within n (s ∷ []) all some = all.0
+last_within n (s ∷ t ∷ ts) all some = last_within n (t ∷ ts) all.1 (omega arith)
+
+least_is : (g shelf made found_none all last : ℕ) → g ≡ made + 1 → last ≡ made → last < shelf → all ≡ made + found_none → (0 < found_none → last + 1 ≡ shelf) → g ≡ min shelf (1 + all)
+least_is g shelf made zero all last size is low sum none = omega (arith, size, is, low, sum)
+least_is g shelf made (suc k) all last size is low sum none = let full = none (omega arith) in omega (arith, size, is, low, sum, full)
+
+-- where every line has its own answer, each line that extends the chain did, until the shelf had no loglet left
+segments_made : (lines : List NamedLine) (told : Told) (yard : Shown) (shelf : ℕ) → length yard.cells ≡ shelf → Fits lines told yard → all_answered told.rows ≡ true → unmoved told.rows ≡ true
+    → GoesTo told.chain (count_by has_made told.rows) → All (λ s. s.id < length yard.cells) told.chain.segments → length told.chain.segments ≡ min shelf (1 + count_by extends lines)
+segments_made lines told yard shelf cells fits own lone goes within =
+    let size : length told.rows ≡ length lines = fits.one_row_each.as_many ∙ ap length (every_row lines) in
+    let kinds : list_all is_row_of (pairs lines told.rows) ≡ true = subst (λ (ls : List NamedLine). list_all is_row_of (pairs ls told.rows) ≡ true) (every_row lines) fits.one_row_each.each in
+    let full : list_all (is_spent told.chain (length yard.cells)) (pairs lines told.rows) ≡ true =
+    subst (λ (ls : List NamedLine). list_all (is_spent told.chain (length yard.cells)) (pairs ls told.rows) ≡ true) (every_row lines) fits.replacements.last in
+    let low = last_within (length yard.cells) told.chain.segments (all_from (λ s. s.id < length yard.cells) told.chain.segments within) (omega (arith, goes.segments)) in
+    least_is (length told.chain.segments) shelf (count_by has_made told.rows) (count_by has_spent told.rows) (count_by extends lines) (last_id told.chain)
+    goes.segments goes.last (omega (arith, low, cells)) (tally lines told.rows size kinds own lone)
+    (λ some. spent told.chain (length yard.cells) lines told.rows size full some ∙ cells)
+
+-- All of it
+
+abbrev pub LogsSoMany : ℕ → ℕ → ℕ → Type 0
+LogsSoMany seed count nodes = count_by logs_something (lines_of (made_lines seed count nodes)) ≡ count
+
+abbrev pub ExtendsSoOften : ℕ → ℕ → ℕ → Type 0
+ExtendsSoOften seed count nodes = count_by extends (lines_of (made_lines seed count nodes)) ≡ (count + 49) / 100
+
+abbrev pub AddsAlone : ℕ → ℕ → ℕ → Type 0
+AddsAlone seed count nodes = All (λ l. AddsOrExtends l.asks) (lines_of (made_lines seed count nodes))
+
+abbrev pub AddsSoMuch : ℕ → ℕ → ℕ → Type 0
+AddsSoMuch seed count nodes = sum_by added (lines_of (made_lines seed count nodes)) ≡ amounts seed count
+
+abbrev pub ActsWhole : Type 0
+ActsWhole = (lines : List NamedLine) (o : Told) → OneRowEach lines o.rows → any_open o.rows ≡ false → acted_in o.rows ≡ commands_in lines
+
+abbrev pub SumsUp : Type 0
+SumsUp = (lines : List NamedLine) (o : Told) → AreSmallAdds lines → OneRowEach lines o.rows → acted_in o.rows ≡ commands_in lines → sum_of_table (table_told lines o) ≡ amounts_in lines
+
+-- the laws of made scripts and of totals
+pub record Laws : Type 0 where
+  pub logged : (seed count nodes : ℕ) → LogsSoMany seed count nodes
+  pub extended : (seed count nodes : ℕ) → ExtendsSoOften seed count nodes
+  pub adds : (seed count nodes : ℕ) → AddsAlone seed count nodes
+  pub sum : (seed count nodes : ℕ) → AddsSoMuch seed count nodes
+  pub whole : ActsWhole
+  pub sums : SumsUp
+
+counts_lines : Laws → (plan : Plan) (count : ℕ) (yard : Shown) (told : Told) → count ≤ 15000 → Fits (lines_made plan count) told yard
+    → (IsCalm yard → length told.chain.segments ≡ min (length plan.shelf) (1 + count_by extends (lines_made plan count))) → CountsMade plan count yard told
+counts_lines laws plan count yard told few fits grown =
+    let lines = lines_made plan count in
+    let each = all_from (λ (l : NamedLine). AddsOrExtends l.asks) lines (laws.adds plan.seed count plan.nodes) in
+    let so_many : commands_in lines ≡ count = commands_same lines ∙ laws.logged plan.seed count plan.nodes in
+    let all : any_open told.rows ≡ false → acted_in told.rows ≡ commands_in lines = laws.whole lines told fits.one_row_each in
+    let small : AreSmallAdds lines = record { ranked = all_ranked (made_lines plan.seed count plan.nodes); small = all_small lines each; few = omega (arith, so_many, few) } in
+    record {
+      commands = so_many;
+      acted = λ none. all none ∙ so_many;
+      sum = λ none. laws.sums lines told small fits.one_row_each (all none) ∙ (adds_all lines each ∙ ap (λ k. pos k) (laws.sum plan.seed count plan.nodes));
+      segments = λ calm. grown calm ∙ ap (λ k. min (length plan.shelf) (1 + k)) (laws.extended plan.seed count plan.nodes);
+    }
+
+-- of a run of what was made
+counts_made : Laws → (plan : Plan) (count : ℕ) (left : Option (List ℕ)) (yard : Shown) (told : Told) → plan.task ≡ task.Make count → Ran plan left yard told → CountsMade plan count yard told
+counts_made laws plan count left yard told make ran =
+    let comes = subst (λ (t : Task). ComesFrom t plan left ran.bytes ran.script) make ran.comes in
+    let few = subst IsTask make ran.plan_is.task in
+    let lines : lines_of ran.script ≡ lines_made plan count = ap lines_of comes.1 in
+    counts_lines laws plan count yard told few.1 (subst (λ ls. Fits ls told yard) lines ran.fits)
+    (λ calm. segments_made (lines_of ran.script) told yard (length plan.shelf) ran.shelf ran.fits (ran.answered calm) ran.lone (ran.extended calm) ran.shelved
+    ∙ ap (λ ls. min (length plan.shelf) (1 + count_by extends ls)) lines)
+
+of_plan : Laws → (words : List (List ℕ)) (left : Option (List ℕ)) (yard : Shown) (told : Told) (plan : Plan) → plan_of words ≡ Some plan → Ran plan left yard told → CountsWhatWasMade words yard told
+of_plan laws words left yard told plan is ran other count planned make =
+    let same : plan ≡ other = the_same plan other (sym is ∙ planned) in
+    counts_made laws other count left yard told make (subst (λ (p : Plan). Ran p left yard told) same ran)
+  where
+    the_same : (x y : Plan) → Some x ≡ Some y → x ≡ y
+    the_same x y e = cc
+
+-- of what was composed
+pub counts_composed : Laws → (words : List (List ℕ)) (left : Option (List ℕ)) (yard : Shown) (end : Status) (told : Option Told) (text : List ℕ)
+    → Composes words left yard end told text → IfSome told (CountsWhatWasMade words yard)
+counts_composed laws words left yard end None text h = tt
+counts_composed laws words left yard status.Done (Some told) text h = of_plan laws words left yard told h.0 h.1 h.2.0
+counts_composed laws words left yard status.Open (Some told) text h = of_plan laws words left yard told h.0 h.1 h.2.0
+counts_composed laws words left yard status.BadLine (Some told) text h = absurd h.2
+counts_composed laws words left yard status.BadWords (Some told) text h = absurd h.2
+counts_composed laws words left yard status.SourceFault (Some told) text h = absurd h.2
+counts_composed laws words left yard status.SinkFault (Some told) text h = absurd h.2
+counts_composed laws words left yard status.Memory (Some told) text h = absurd h.2

@@ -1,0 +1,322 @@
+//! What is to be put: a script is read or made and run, and the text of what it told is made whole.
+ghost use Rattle.std.specs.Prelude.{◌≡◌, ◌≢◌, ◌<◌, ℕ, List, Option, IfOk, All, length, map, string_bytes};
+ghost use Rattle.outside_ends.specs.Faults.{Rose};
+ghost use Rattle.script_text.specs.declared.line.Line.{Line};
+ghost use Rattle.script_text.specs.Lines.{lines_of};
+ghost use Rattle.script_text.specs.Refusal.{refusal_text};
+ghost use Rattle.script_text.specs.Spelling.{IsScript};
+ghost use Rattle.script_words.specs.Plans.{bad_words_text};
+ghost use Rattle.script_words.specs.declared.plan.Task.TheVariants as task;
+ghost use Rattle.script_runner.specs.Composed.{ComposesRun, IsComposed, IsComposedScript, Tells, status_of};
+ghost use Rattle.script_runner.specs.Ends.{IsPlan, rows_text, text_of, any_open};
+ghost use Rattle.script_runner.specs.Fresh.{IsFreshFor, IsFreshYard, shown};
+
+use crate::ended::Status;
+use crate::over::{Played, play};
+use crate::yard::Yard;
+use delos_types::bytes::Bytes;
+use disk_model::Disk;
+use fate_words::chooser::Chooser;
+use fitting_run::fitting::is_open;
+use fitting_run::told::Told;
+use local_replica::layers::Layers;
+use loglet_api::loglet::Loglet;
+use made_script::laws::a_made_script_is_one;
+use made_script::make::make_script;
+use outside_ends::source::Source;
+use outside_ends::whole::{ReadError, read_up_to};
+use register_api::Register;
+use row_text::render::render;
+use row_text::row::Rows;
+use run_totals::counting::totals;
+use run_totals::text::totals_text;
+use script_text::asks::{NamedLine, named_lines};
+use script_text::refusal::refusal_text;
+use script_text::script::{BadLine, ParseError, Script, parse};
+use script_words::plan::{Plan, Task, WordsError, bad_words_text, read_words};
+use std::alloc::{AllocError, Global};
+
+/// How many bytes of a source are read at most: one more than a script may have.
+const READ_LIMIT: usize = 1_048_577;
+
+/// What is to be put, and how the run ends once it is.
+#[derive(Drop)]
+pub struct Composed {
+    pub status: Status,
+    pub told: Option<Told>,
+    pub text: Bytes,
+}
+
+/// Why nothing is to be put.
+#[derive(Clone, Copy, PartialEq, Eq, Debug)]
+pub enum Failure {
+    Memory,
+    Source,
+}
+
+impl From<AllocError> for Failure {
+    ghost use Rattle.script_runner.specs.declared.compose.Failure.TheVariants.{Memory};
+
+    ghost from_gives = { λ _ e. e ≡ Memory };
+
+    fn from(_: AllocError) -> Self {
+        Failure::Memory
+    }
+}
+
+/// What is to be put, or why nothing is, and what was worked on.
+pub struct Worked<L: Loglet, R: Register, E: Layers, D: Disk, C: Chooser> {
+    pub yard: Yard<L, R, E, D, C>,
+    pub answer: Result<Composed, Failure>,
+}
+
+/// Whether some row is open.
+fn any_open(rows: &Rows) -> bool
+    ensures { result ≡ any_open rows.now }
+{
+    rows.as_slice().iter().any(|row| is_open(&row.outcome))
+}
+
+/// The status that the text of a run has once it is put whole.
+fn status_of(told: &Told) -> Status
+    ensures { result ≡ status_of told.now }
+{
+    if any_open(&told.rows) {
+        Status::Open
+    } else {
+        Status::Done
+    }
+}
+
+/// The text of the rows and of the chain, over the shelf that the plan names.
+fn rows_text(alloc: Global, plan: &Plan, told: &Told) -> Result<Bytes, AllocError>
+    requires { All (λ s. s.id < length plan.now.shelf) told.now.chain.segments }
+    ensures { IfOk result (λ text. text ≡ rows_text plan.now told.now) }
+{
+    let kinds = plan.shelf.names(alloc)?;
+    render(
+        alloc,
+        &told.rows,
+        told.end,
+        told.version,
+        &told.chain,
+        told.down,
+        kinds.as_slice(),
+    )
+}
+
+/// The text of what was told of these lines: its rows and the chain, or what came of a made script.
+fn told_text(
+    alloc: Global,
+    plan: &Plan,
+    lines: &[NamedLine],
+    told: &Told,
+) -> Result<Bytes, AllocError>
+    requires { All (λ s. s.id < length plan.now.shelf) told.now.chain.segments }
+    ensures { IfOk result (λ text. text ≡ text_of plan.now lines.now told.now) }
+{
+    match plan.task {
+        Task::Run => rows_text(alloc, plan, told),
+        Task::Make { .. } => {
+            let totals = totals(alloc, lines, told)?;
+            totals_text(alloc, &totals)
+        }
+    }
+}
+
+/// The text of what was told of these lines, if memory sufficed.
+fn compose_told(
+    alloc: Global,
+    plan: &Plan,
+    lines: &[NamedLine],
+    told: Result<Told, AllocError>,
+) -> Result<Composed, Failure>
+    requires { IfOk told (λ t. All (λ s. s.id < length plan.now.shelf) t.chain.segments) }
+    ensures ok { IfOk result (λ c. IfOk told (Tells plan.now lines.now c)) }
+    ensures told { IfOk result (λ c. (t : Told) × (told ≡ Ok t)) }
+    ensures source { result ≢ Err Failure.Source }
+{
+    let told = told?;
+    let text = told_text(alloc, plan, lines, &told)?;
+    let status = status_of(&told);
+    Ok(Composed {
+        status,
+        told: Some(told),
+        text,
+    })
+}
+
+/// Runs a script, and makes the text of what it told.
+fn compose_run<L: Loglet, R: Register, E: Layers, D: Disk, C: Chooser>(
+    alloc: Global,
+    plan: &Plan,
+    script: Script,
+    yard: Yard<L, R, E, D, C>,
+) -> Worked<L, R, E, D, C>
+    requires fresh { IsFreshFor (λ k. E.kinds k.engines) (λ k. E.waiting k.engines) (λ k. D.view k.disk) plan.now (map L.view yard.shelf.items) (R.view yard.register) yard.nodes.items }
+    requires plan { IsPlan plan.now }
+    requires spelled { (bytes : List ℕ) × IsScript plan.now.nodes bytes script }
+    ensures ok { IfOk result.answer (ComposesRun plan.now script (shown L.view R.view (λ k. (D.view k.disk).faults) result.yard.shelf.items result.yard.register result.yard.nodes.items)) }
+    ensures source { result.answer ≢ Err Failure.Source }
+{
+    let lines = match named_lines(alloc, script) {
+        Ok(lines) => lines,
+        Err(_) => {
+            return Worked {
+                yard,
+                answer: Err(Failure::Memory),
+            };
+        }
+    };
+    let asked = lines.as_slice();
+    let Played { yard, told } = play(alloc, yard, asked);
+    let answer = compose_told(alloc, plan, asked, told);
+    Worked { yard, answer }
+}
+
+/// The text of a bad line.
+fn compose_refusal(alloc: Global, bad: BadLine) -> Result<Composed, Failure>
+    ensures ok { IfOk result (λ c. (c.status ≡ Status.BadLine) × (c.told ≡ None) × (c.text ≡ refusal_text bad)) }
+    ensures source { result ≢ Err Failure.Source }
+{
+    let text = refusal_text(alloc, bad)?;
+    Ok(Composed {
+        status: Status::BadLine,
+        told: None,
+        text,
+    })
+}
+
+/// The text for words that are not taken.
+fn compose_bad_words(alloc: Global) -> Result<Composed, Failure>
+    ensures ok { IfOk result (λ c. (c.status ≡ Status.BadWords) × (c.told ≡ None) × (c.text ≡ bad_words_text)) }
+    ensures source { result ≢ Err Failure.Source }
+{
+    let text = Bytes::from_slice(alloc, bad_words_text())?;
+    Ok(Composed {
+        status: Status::BadWords,
+        told: None,
+        text,
+    })
+}
+
+/// Reads the script of the source, runs it, and makes the text.
+fn compose_script<L: Loglet, R: Register, E: Layers, D: Disk, C: Chooser, S: Source>(
+    alloc: Global,
+    plan: &Plan,
+    source: &mut S,
+    yard: Yard<L, R, E, D, C>,
+) -> Worked<L, R, E, D, C>
+    requires fresh { IsFreshFor (λ k. E.kinds k.engines) (λ k. E.waiting k.engines) (λ k. D.view k.disk) plan.now (map L.view yard.shelf.items) (R.view yard.register) yard.nodes.items }
+    requires plan { IsPlan plan.now }
+    requires run { plan.now.task ≡ task.Run }
+    ensures ok { IfOk result.answer (IsComposedScript plan.now (S.left source.old) (shown L.view R.view (λ k. (D.view k.disk).faults) result.yard.shelf.items result.yard.register result.yard.nodes.items)) }
+    ensures source { result.answer ≡ Err Failure.Source → Rose (S.counted source.old) (S.counted source.new) }
+{
+    let bytes = match read_up_to(alloc, source, READ_LIMIT) {
+        Ok(bytes) => bytes,
+        Err(ReadError::Memory) => {
+            return Worked {
+                yard,
+                answer: Err(Failure::Memory),
+            };
+        }
+        Err(ReadError::Failed) => {
+            return Worked {
+                yard,
+                answer: Err(Failure::Source),
+            };
+        }
+    };
+    match parse(alloc, bytes.as_slice(), plan.nodes) {
+        Ok(script) => return compose_run(alloc, plan, script, yard),
+        Err(ParseError::Bad(bad)) => {
+            return Worked {
+                yard,
+                answer: compose_refusal(alloc, bad),
+            };
+        }
+        Err(ParseError::Memory) => {
+            return Worked {
+                yard,
+                answer: Err(Failure::Memory),
+            };
+        }
+    }
+}
+
+/// Makes a script of so many commands, runs it, and makes the text.
+fn compose_made<L: Loglet, R: Register, E: Layers, D: Disk, C: Chooser>(
+    alloc: Global,
+    plan: &Plan,
+    count: u16,
+    yard: Yard<L, R, E, D, C>,
+) -> Worked<L, R, E, D, C>
+    requires fresh { IsFreshFor (λ k. E.kinds k.engines) (λ k. E.waiting k.engines) (λ k. D.view k.disk) plan.now (map L.view yard.shelf.items) (R.view yard.register) yard.nodes.items }
+    requires plan { IsPlan plan.now }
+    requires make { plan.now.task ≡ task.Make count }
+    ensures ok { (left : Option (List ℕ)) → IfOk result.answer (IsComposedScript plan.now left (shown L.view R.view (λ k. (D.view k.disk).faults) result.yard.shelf.items result.yard.register result.yard.nodes.items)) }
+    ensures source { result.answer ≢ Err Failure.Source }
+{
+    a_made_script_is_one();
+    let Ok(bytes) = make_script(alloc, plan.seed, count, plan.nodes) else {
+        return Worked {
+            yard,
+            answer: Err(Failure::Memory),
+        };
+    };
+    // No line of it is bad, so where it isn't read memory ran out.
+    let Ok(script) = parse(alloc, bytes.as_slice(), plan.nodes) else {
+        return Worked {
+            yard,
+            answer: Err(Failure::Memory),
+        };
+    };
+    compose_run(alloc, plan, script, yard)
+}
+
+/// Does what the plan says, and makes the text.
+fn compose_task<L: Loglet, R: Register, E: Layers, D: Disk, C: Chooser, S: Source>(
+    alloc: Global,
+    plan: &Plan,
+    source: &mut S,
+    yard: Yard<L, R, E, D, C>,
+) -> Worked<L, R, E, D, C>
+    requires fresh { IsFreshFor (λ k. E.kinds k.engines) (λ k. E.waiting k.engines) (λ k. D.view k.disk) plan.now (map L.view yard.shelf.items) (R.view yard.register) yard.nodes.items }
+    requires plan { IsPlan plan.now }
+    ensures ok { IfOk result.answer (IsComposedScript plan.now (S.left source.old) (shown L.view R.view (λ k. (D.view k.disk).faults) result.yard.shelf.items result.yard.register result.yard.nodes.items)) }
+    ensures source { result.answer ≡ Err Failure.Source → Rose (S.counted source.old) (S.counted source.new) }
+{
+    match plan.task {
+        Task::Run => return compose_script(alloc, plan, source, yard),
+        Task::Make { lines } => return compose_made(alloc, plan, lines, yard),
+    }
+}
+
+/// Takes the words, and composes what they ask for.
+pub fn compose<L: Loglet, R: Register, E: Layers, D: Disk, C: Chooser, S: Source>(
+    alloc: Global,
+    words: &[String],
+    source: &mut S,
+    yard: Yard<L, R, E, D, C>,
+) -> Worked<L, R, E, D, C>
+    requires fresh { IsFreshYard (λ k. E.kinds k.engines) (λ k. E.waiting k.engines) (λ k. D.view k.disk) (map string_bytes words.now) (map L.view yard.shelf.items) (R.view yard.register) yard.nodes.items }
+    ensures ok { IfOk result.answer (IsComposed (map string_bytes words.now) (S.left source.old) (shown L.view R.view (λ k. (D.view k.disk).faults) result.yard.shelf.items result.yard.register result.yard.nodes.items)) }
+    ensures source { result.answer ≡ Err Failure.Source → Rose (S.counted source.old) (S.counted source.new) }
+{
+    match read_words(alloc, words) {
+        Ok(plan) => return compose_task(alloc, &plan, source, yard),
+        Err(WordsError::BadWords) => {
+            return Worked {
+                yard,
+                answer: compose_bad_words(alloc),
+            };
+        }
+        Err(WordsError::Memory) => {
+            return Worked {
+                yard,
+                answer: Err(Failure::Memory),
+            };
+        }
+    }
+}
