@@ -1,24 +1,28 @@
 #!/bin/sh
-# instructions.sh PROGRAM: how many instructions PROGRAM, the built delos_sim, takes for a command, on scripts of 1,000, 5,000 and 15,000
-# logged lines, by callgrind; those of an empty script are left out. They are the same in each run but for some hundreds, whatever else the machine does.
+# instructions.sh PROGRAM: how many instructions PROGRAM, the built delos_sim, takes for a command of `run` and of `make`, at 1,000, 5,000 and
+# 15,000 logged lines, by callgrind; those of a run that does as little as can be are left out. They are the same in each run but for some
+# hundreds, whatever else the machine does.
 set -eu
 program=$1
 folder=$(mktemp -d)
 trap 'rm -r "$folder"' EXIT
 . "$(dirname "$0")/lines.sh"
 
-# count SHELF NODES FILE: the instructions of a run
+# count FILE WORD..: the instructions of a run
 count() {
-    valgrind --tool=callgrind --callgrind-out-file="$folder/calls" "$program" run --shelf "$1" --nodes "$2" < "$3" 2> "$folder/told" > "$folder/text"
+    file=$1
+    shift
+    valgrind --tool=callgrind --callgrind-out-file="$folder/calls" "$program" "$@" < "$file" 2> "$folder/told" > "$folder/text"
     awk '/ refs:/ { gsub(",", "", $NF); print $NF }' "$folder/told"
 }
 
-# row SHELF NODES LINES FILE EMPTY: one row
+# row COMMAND SHELF NODES LINES FILE LEAST EMPTY: one row
 row() {
-    all=$(($(count "$1" "$2" "$4") - $(count "$1" "$2" "$5")))
-    echo "| $1 | $2 | $3 | $all | $((all / $3)) |"
+    # shellcheck disable=SC2046 # the words are split here
+    all=$(($(count "$5" $(words "$1" "$2" "$3" "$4")) - $(count "$7" $(words "$1" "$2" "$3" "$6"))))
+    echo "| $1 | $2 | $3 | $4 | $all | $((all / $4)) |"
 }
 
-echo "| shelf | nodes | lines | instructions | a command |"
-echo "|---|---|---|---|---|"
-each_row row
+echo "| command | shelf | nodes | lines | instructions | a command |"
+echo "|---|---|---|---|---|---|"
+each_row row file native3 striped2

@@ -1,4 +1,6 @@
-# Read by the scripts that measure runs.
+# Read by the scripts that measure runs. Each says in $program what is measured, and makes the folder $folder.
+
+default_shelf=file,native3,striped2,native5
 
 # script LINES NODES: the lines of a script. Each node has a session of its own, whose lines add to one of sixteen keys; nodes take lines
 # in turn, and every hundredth line is followed by a barrier.
@@ -12,15 +14,31 @@ script() {
     }'
 }
 
-# each_row MEASURE: calls `MEASURE SHELF NODES LINES FILE EMPTY` for each row of the tables here: FILE has the script of so many lines,
-# and EMPTY has none. Both stand in $folder.
+# words COMMAND SHELF NODES LINES: the words of the command line
+words() {
+    case $1 in
+        run) echo "run --shelf $2 --nodes $3" ;;
+        make) echo "make --seed 1 --lines $4 --shelf $2 --nodes $3" ;;
+    esac
+}
+
+# each_row MEASURE SHELF..: calls `MEASURE COMMAND SHELF NODES LINES FILE LEAST EMPTY` for each row of a table over these shelves: FILE is what
+# the program reads, which is the script of so many lines for `run`, and nothing for `make`. The least that the command can do has
+# LEAST lines, and reads EMPTY.
 each_row() {
+    measure=$1
+    shift
     : > "$folder/empty"
-    for shelf in file native3 striped2; do
-        for nodes in 1 4 8; do
-            for n in 1000 5000 15000; do
-                script "$n" "$nodes" > "$folder/script"
-                "$1" "$shelf" "$nodes" "$n" "$folder/script" "$folder/empty"
+    for command in run make; do
+        for shelf in "$@"; do
+            for nodes in 1 4 8; do
+                for n in 1000 5000 15000; do
+                    case $command in
+                        run) script "$n" "$nodes" > "$folder/script"; least=0 ;;
+                        make) : > "$folder/script"; least=1 ;;
+                    esac
+                    "$measure" "$command" "$shelf" "$nodes" "$n" "$folder/script" "$least" "$folder/empty"
+                done
             done
         done
     done
