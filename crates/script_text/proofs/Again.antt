@@ -14,7 +14,7 @@ use Rattle.script_text.specs.declared.line.Session.{Session}
 use Rattle.script_text.specs.declared.line.Line.{Line}
 use Rattle.script_text.specs.declared.line.Line.TheVariants as line
 use Rattle.script_text.specs.declared.line.Admin.{Admin}
-use Rattle.script_text.specs.declared.line.Admin.TheVariants.{Extend}
+use Rattle.script_text.specs.declared.line.Admin.TheVariants.{Extend, Alive}
 use Rattle.script_text.specs.declared.line.Ask.{Ask}
 use Rattle.script_text.specs.declared.line.Ask.TheVariants.{Log, Look}
 use Rattle.script_text.specs.Gives.{◌>>=◌}
@@ -144,6 +144,7 @@ plain_session nodes n s a few f = (plain_on, (plain_node nodes n few f.0, (plain
 
 plain_admin : (a : Admin) → Plain (admin_name a)
 plain_admin Extend = literal (codes "extend") refl
+plain_admin Alive = literal (codes "alive") refl
 
 -- ---- fields
 
@@ -193,6 +194,7 @@ session_again nodes b after n s (Look (Scan low high)) few f at =
 admin_again : (nodes : ℕ) (b : Before) (n : ℕ) (a : Admin) → nodes ≤ 8 → IsNode nodes n
     → (form_of (line_words (line.Admin n a)) >>= λ f. line_in nodes b (line_words (line.Admin n a)) f) ≡ Ok (line.Admin n a, b)
 admin_again nodes b n Extend few is = rw (node_again nodes n few is) refl
+admin_again nodes b n Alive few is = rw (node_again nodes n few is) refl
 
 by_words_again : (nodes : ℕ) (b after : Before) (l : Line) → nodes ≤ 8 → LineFits nodes l → Follows b l after
     → (form_of (line_words l) >>= λ f. line_in nodes b (line_words l) f) ≡ Ok (l, after)

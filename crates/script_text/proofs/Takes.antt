@@ -411,12 +411,18 @@ session_means ws f on not_admin e =
     let v = bind_ok (verb_of (word ws 3)) (λ v. Ok (form.Session v)) f t.1 in
     leaf ws (form.Session v.0) f (record { on = on; not_admin = not_admin; verb_is = verb_means (word ws 3) v.0 v.1 }) v.2
 
+admin_leaf : (w : Word) (a b : Admin) → w ≡ admin_name a → done a ≡ Ok b → w ≡ admin_name b
+admin_leaf w a b h e = subst (λ (x : Admin). w ≡ admin_name x) (ok_is a b e) h
+
+admin_named : (w : Word) (a : Admin) → admin_of w ≡ Ok a → w ≡ admin_name a
+admin_named w a = cased (bytes_eq w (codes "extend")) _ _ a (w ≡ admin_name a) (λ y. admin_leaf w admin.Extend a (same_bytes _ _ y))
+    (λ t. cased (bytes_eq w (codes "alive")) _ _ a (w ≡ admin_name a) (λ y. admin_leaf w admin.Alive a (same_bytes _ _ y))
+    (λ t1. refused rule.Word a (w ≡ admin_name a)))
+
 admin_means : (ws : List Word) (f : Form) → word ws 0 ≡ codes "on" → admin_form ws ≡ Ok f → Means ws f
 admin_means ws f on e =
     let a = bind_ok (admin_of (word ws 2)) (λ a. Ok (form.Admin a)) f e in
-    let t = taken_then (bytes_eq (word ws 2) (codes "extend")) rule.Word (Ok admin.Extend) a.0 a.1 in
-    let named : word ws 2 ≡ admin_name a.0 = subst (λ (b : Admin). word ws 2 ≡ admin_name b) (ok_is admin.Extend a.0 t.1) (same_bytes (word ws 2) (codes "extend") t.0) in
-    leaf ws (form.Admin a.0) f (record { on = on; admin_is = named }) a.2
+    leaf ws (form.Admin a.0) f (record { on = on; admin_is = admin_named (word ws 2) a.0 a.1 }) a.2
 
 on_means : (ws : List Word) (f : Form) → word ws 0 ≡ codes "on" → on_form ws ≡ Ok f → Means ws f
 on_means ws f on e =

@@ -30,7 +30,8 @@ is_admin_word w = bytes_eq w (codes "extend") || (bytes_eq w (codes "alive") || 
 
 -- what the word of an admin line asks, of those that a line may have
 abbrev pub admin_of : Word → Result Admin Rule
-admin_of w = if bytes_eq w (codes "extend") then Ok admin.Extend else Err rule.Word
+admin_of w = if bytes_eq w (codes "extend") then Ok admin.Extend
+    else (if bytes_eq w (codes "alive") then Ok admin.Alive else Err rule.Word)
 
 -- `on N` and a word of admin lines
 abbrev pub admin_form : List Word → Result Form Rule

@@ -46,6 +46,8 @@ fn admin_of(word: &[u8]) -> Result<Admin, Fault>
 {
     if word == b"extend".as_slice() {
         Ok(Admin::Extend)
+    } else if word == b"alive".as_slice() {
+        Ok(Admin::Alive)
     } else {
         Err(Fault::Breaks(Rule::Word))
     }

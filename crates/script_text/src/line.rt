@@ -99,6 +99,8 @@ pub enum Ask {
 pub enum Admin {
     /// The chain is to go on in another loglet.
     Extend,
+    /// The node is to report how much of the log it needs no more.
+    Alive,
 }
 
 /// A line of a script.

@@ -45,6 +45,8 @@ fn lines_are_taken(rt: HostRuntime) {
         ),
         (b"on n1 stop get stop\non n1 break put break mend", 1, 2),
         (b"on n1 extend", 1, 1),
+        (b"on n1 alive", 1, 1),
+        (b"on n2 alive\n\non n1 alive\non n2 alive", 2, 4),
         (
             b"on n8 extend\nbarrier\n\non n1 extend\non n1 extend\n",
             8,
@@ -141,11 +143,20 @@ fn fields_stand_in_their_places(rt: HostRuntime) -> Result<(), Fail> {
 #[test]
 fn admin_lines_are_read(rt: HostRuntime) {
     let alloc = rt.alloc();
-    let script = script(&rt, alloc, b"on n2 extend\non n1 a get x", 2);
+    let script = script(&rt, alloc, b"on n2 extend\non n1 alive\non n1 a get x", 2);
     match script.lines() {
-        [Line::Admin { node, admin }, Line::Session { session, .. }] => {
+        [
+            Line::Admin { node, admin },
+            Line::Admin {
+                node: other,
+                admin: second,
+            },
+            Line::Session { session, .. },
+        ] => {
             assert_eq!(rt; node.number(), 2);
             assert_eq!(rt; *admin, Admin::Extend);
+            assert_eq!(rt; other.number(), 1);
+            assert_eq!(rt; *second, Admin::Alive);
             assert_eq!(rt; session.id.number(), 0);
         }
         _ => panic!(rt; "other lines"),
@@ -186,8 +197,11 @@ fn one_rule_is_broken(rt: HostRuntime) {
         (b"on n1 extends", 1, 1, Rule::Word),
         (b"on n1 Extend", 1, 1, Rule::Word),
         (b"extend", 1, 1, Rule::Word),
-        (b"on n1 alive", 1, 1, Rule::Word),
-        (b"on n1 alive x", 1, 1, Rule::Word),
+        (b"on alive", 1, 1, Rule::Word),
+        (b"on n1 alives", 1, 1, Rule::Word),
+        (b"on n1 Alive", 1, 1, Rule::Word),
+        (b"alive", 1, 1, Rule::Word),
+        (b"on n1 trim", 1, 1, Rule::Word),
         (b"on n1 trim get x", 1, 1, Rule::Word),
         (b"on n1 retire put x 1", 1, 1, Rule::Word),
         (b"stop n1 1", 1, 1, Rule::Word),
@@ -206,6 +220,8 @@ fn one_rule_is_broken(rt: HostRuntime) {
         (b"on n1 a scan x", 1, 1, Rule::Count),
         (b"on n1 extend x", 1, 1, Rule::Count),
         (b"on n1 extend get x", 1, 1, Rule::Count),
+        (b"on n1 alive x", 1, 1, Rule::Count),
+        (b"on n1 alive get x", 1, 1, Rule::Count),
         (b"on n2 a get x", 1, 1, Rule::Node),
         (b"on n0 a get x", 1, 1, Rule::Node),
         (b"on n9 a get x", 8, 1, Rule::Node),
@@ -215,6 +231,8 @@ fn one_rule_is_broken(rt: HostRuntime) {
         (b"on n9 extend", 8, 1, Rule::Node),
         (b"on n2 extend", 1, 1, Rule::Node),
         (b"on a extend", 1, 1, Rule::Node),
+        (b"on n2 alive", 1, 1, Rule::Node),
+        (b"on a alive", 1, 1, Rule::Node),
         (b"on n1 A get x", 1, 1, Rule::Session),
         (b"on n1 a-b get x", 1, 1, Rule::Session),
         (b"on n1 abcdefghijklmnopq get x", 1, 1, Rule::Session),
@@ -247,7 +265,8 @@ fn the_least_line_and_its_first_rule_are_told(rt: HostRuntime) {
         (b"what  is this", 1, Rule::Spaces),
         (b"on n9 A get x y", 1, Rule::Count),
         (b"on n9 extend x", 1, Rule::Count),
-        (b"on n1 extend\non n9 extend\non n1 alive", 2, Rule::Node),
+        (b"on n9 alive x", 1, Rule::Count),
+        (b"on n1 extend\non n9 alive\non n1 trim", 2, Rule::Node),
         (
             b"on n9 A add kkkkkkkkkkkkkkkkkkkkkkkkkkkkkkkkkkkkkkkkkkkkkkkkkkkkkkkkkkkkkkkkk -0",
             1,
