@@ -50,10 +50,15 @@ sessions_among placed = filter_map (λ p. session_of p.content) placed
 abbrev pub sessions_in : Entry → List ℕ
 sessions_in e = sessions_among (unpack 0 e)
 
+-- a cause is given to these sessions, where there is one
+abbrev pub given_to : List ℕ → Cause → List Given
+given_to [] cause = []
+given_to (s ∷ ss) cause = record { sessions = s ∷ ss; cause = cause } ∷ []
+
 -- an entry that failed gives its cause to all its sessions
 abbrev pub gives : Entry → Fate → List Given
 gives e (Landed pos) = []
-gives e (Lost cause) = record { sessions = sessions_in e; cause = cause } ∷ []
+gives e (Lost cause) = given_to (sessions_in e) cause
 
 -- the first cause stays
 abbrev pub first_of : Option Cause → Fate → Option Cause

@@ -23,9 +23,10 @@ is_member_in m node = not (layout.has_left_in m node)
 abbrev pub least_of : ℕ → SpaceMap → ℕ
 least_of nodes m = least (map (layout.reported_of m) (filter (is_member_in m) (numbers 1 nodes)))
 
--- entries that led to a space may be trimmed up to the least position in it, as far as they go
+-- entries that led to a space may be trimmed up to the lesser of its trim point and the least position in it, as far as
+-- they go
 abbrev pub IsFloor : (List Entry → SpaceMap → Type 0) → (List Entry → ℕ) → ℕ → Type 0
-IsFloor state floor nodes = (log : List Entry) (m : SpaceMap) → state log m → min (length log) (least_of nodes m) ≤ floor log
+IsFloor state floor nodes = (log : List Entry) (m : SpaceMap) → state log m → min (length log) (min (layout.trim_of m) (least_of nodes m)) ≤ floor log
 
 -- by each legal journal, the log shows what it holds, or did before it was trimmed
 abbrev pub ShowsAll : (ℕ → Entry → Type 0) → (List Entry → ℕ) → List ℕ → (List Event → ℕ → Entry → Type 0) → Type 0

@@ -68,7 +68,7 @@ impl<L: SharedLog, R: Replica> Node<L, R> {
     pub fn new(alloc: Global, nodes: u8, log: L, replica: R) -> Self
         requires nodes { nodes ≤ 8 }
 
-        // The log's rules allow a trim up to the least position of a member.
+        // The log's rules allow a trim up to the trim point, but not past the least position of a member.
         requires floor { IsFloor R.state L.Law.floor nodes }
         requires legal { IsLegal L.Law.may L.Law.floor L.Law.shelf (L.seen log) }
         requires empty { R.state [] (R.shows replica).contents }

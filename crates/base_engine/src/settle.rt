@@ -1,9 +1,9 @@
 //! Outstanding entries are carried to their end, one after another.
-ghost use Rattle.std.specs.Prelude.{◌≡◌, ◌<◌, ◌≤◌, ◌+◌, ℕ, [], ◌∷◌, ◌++◌, All, length, drop, None, IfErr, OnOk, OnErr, vec_len, vec_capacity};
+ghost use Rattle.std.specs.Prelude.{◌≡◌, ◌<◌, ◌≤◌, ◌+◌, ℕ, [], ◌++◌, All, length, drop, None, IfErr, OnOk, OnErr, vec_len, vec_capacity};
 ghost use Rattle.delos_types.specs.declared.cause.Cause.{Cause};
 ghost use Rattle.legal_journal.specs.Journal.{IsLegal};
 ghost use Rattle.virtual_log.specs.Turning.{Later};
-ghost use Rattle.base_engine.specs.Settling.{view_of, Carried, Settled, MaySend, Lost, first_of, Answers, Failing};
+ghost use Rattle.base_engine.specs.Settling.{view_of, Carried, Settled, MaySend, Lost, first_of, given_to, Answers, Failing};
 
 use crate::fault::{Fault, told};
 use crate::outbox::{Given, Outbox, SessionList};
@@ -50,16 +50,27 @@ fn lose(outbox: &mut Outbox, sessions: SessionList, cause: Cause)
     requires some { 0 < length outbox.old.entries.items }
     requires room { vec_len outbox.old.given < vec_capacity outbox.old.given }
     ensures entries { outbox.new.entries.items ≡ drop 1 outbox.old.entries.items }
-    ensures given { outbox.new.given.items ≡ outbox.old.given.items ++ record { sessions = sessions; cause = cause } ∷ [] }
+    ensures given { outbox.new.given.items ≡ outbox.old.given.items ++ given_to sessions cause }
     ensures unsettled { outbox.new.unsettled ≡ first_of outbox.old.unsettled (Lost cause) }
 {
     let _lost = outbox.entries.remove(0);
-    let Ok(()) = outbox.given.push(Given { sessions, cause }) else {
-        unreachable!()
-    };
+    give(&mut outbox.given, sessions, cause);
     if outbox.unsettled.is_none() {
         outbox.unsettled = Some(cause);
     }
+}
+
+// These sessions are given the cause. An entry of no session gives its cause to nobody.
+fn give(given: &mut Vec<Given>, sessions: SessionList, cause: Cause)
+    requires room { vec_len given.old < vec_capacity given.old }
+    ensures given { given.new.items ≡ given.old.items ++ given_to sessions cause }
+{
+    if sessions.as_slice().is_empty() {
+        return;
+    }
+    let Ok(()) = given.push(Given { sessions, cause }) else {
+        unreachable!()
+    };
 }
 
 /// Carries all outstanding entries to their end. Without memory the rest are outstanding still.

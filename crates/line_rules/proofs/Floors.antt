@@ -1,4 +1,4 @@
--- The least of the positions that members reported.
+-- Up to where a log may be trimmed.
 use Rattle.std.proofs.Common.{◌≡◌, refl, ap, ◌∙◌, ℕ, Bool, true, false, cond, List, [], ◌∷◌, None, arith}
 use Rattle.std.specs.Prelude.{map, filter, filter_map, not}
 use Rattle.std.specs.List.{AllByRecursion, cons_option}
@@ -7,32 +7,25 @@ use Rattle.delos_types.specs.declared.entry.Entry.{Entry}
 use Rattle.engine_api.specs.declared.content.Content.{Content}
 use Rattle.engine_api.specs.declared.content.Placed.{Placed}
 use Rattle.engine_api.specs.Acted.{unpack_all}
-use Rattle.engine_api.specs.Members.{greatest, least, report_of, has_left, is_member, position_of}
+use Rattle.engine_api.specs.Members.{greatest, least, has_left, is_member, position_of, trim_asked, trim_point}
 use Rattle.engine_api.specs.Order.{numbers}
 use Rattle.engine_steps.specs.Layout.{reported_of}
 use Rattle.engine_laws.specs.State.{IsStateOf}
 use Rattle.base_engine.specs.Trimming.{is_member_in, least_of, IsFloor}
 use Rattle.line_rules.specs.Rules.{least_in, floor_of}
 
--- Where none was reported
+-- Where no trim is asked for
 
--- nobody reports a position there
+-- nobody asks for a trim there
 abbrev pub Silent : Content → Type 0
-Silent c = (node : ℕ) → report_of node c ≡ None
+Silent c = trim_asked c ≡ None
 
-pub position-silent : (ps : List Placed) (node : ℕ) → AllByRecursion (λ p. Silent p.content) ps → position_of ps node ≡ 0
-position-silent [] node h = refl
-position-silent (p ∷ ps) node h = ap (λ o. greatest (cons_option o (filter_map (λ (q : Placed). report_of node q.content) ps))) (h.0 node) ∙ position-silent ps node h.1
-
-least-zero : (f : ℕ → ℕ) (ns : List ℕ) → ((n : ℕ) → f n ≡ 0) → least (map f ns) ≡ 0
-least-zero f [] z = refl
-least-zero f (n ∷ []) z = z n
-least-zero f (n ∷ m ∷ ns) z = let own = z n in omega arith
+point-silent : (ps : List Placed) → AllByRecursion (λ p. Silent p.content) ps → trim_point ps ≡ 0
+point-silent [] h = refl
+point-silent (p ∷ ps) h = ap (λ o. greatest (cons_option o (filter_map (λ (q : Placed). trim_asked q.content) ps))) h.0 ∙ point-silent ps h.1
 
 pub floor-silent : (nodes : ℕ) (log : List Entry) → AllByRecursion (λ p. Silent p.content) (unpack_all 0 log) → floor_of nodes log ≡ 0
-floor-silent nodes log h =
-    let none : least_in nodes log ≡ 0 = least-zero (position_of (unpack_all 0 log)) (filter (is_member (unpack_all 0 log)) (numbers 1 nodes)) (λ n. position-silent (unpack_all 0 log) n h) in
-    omega arith
+floor-silent nodes log h = let none = point-silent (unpack_all 0 log) h in omega (arith, none)
 
 -- In a space that is the state of a log
 
@@ -56,4 +49,7 @@ least-in_state nodes log m s =
     (λ n member. s.members.reported n (not_left (has_left placed n) member)))
 
 pub floor-least : (nodes : ℕ) (state : List Entry → SpaceMap → Type 0) → ((log : List Entry) (m : SpaceMap) → state log m → IsStateOf log m) → IsFloor state (floor_of nodes) nodes
-floor-least nodes state is log m s = let same = least-in_state nodes log m (is log m s) in omega arith
+floor-least nodes state is log m s =
+    let same = least-in_state nodes log m (is log m s) in
+    let point = (is log m s).trim in
+    omega (arith, same, point)

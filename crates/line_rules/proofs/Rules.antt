@@ -1,5 +1,5 @@
 -- What may be appended, and what stands in a log of it.
-use Rattle.std.proofs.Common.{◌≡◌, refl, sym, subst, ℕ, zero, suc, ◌<◌, ◌≤◌, ◌^◌, List, [], ◌∷◌, ◌++◌, Option, Some, length, arith}
+use Rattle.std.proofs.Common.{◌≡◌, refl, sym, subst, ◌⊎◌, inl, inr, ℕ, zero, suc, ◌<◌, ◌≤◌, ◌^◌, List, [], ◌∷◌, ◌++◌, Option, Some, None, length, arith}
 use Rattle.std.specs.Prelude.{slice_get, All, Contains}
 use Rattle.std.specs.List.{AllByRecursion, cons_option}
 use Rattle.delos_types.specs.declared.entry.Entry.{Entry}
@@ -12,8 +12,9 @@ use Rattle.engine_api.specs.declared.content.Content.TheVariants.{Session, Alive
 use Rattle.engine_api.specs.declared.content.Placed.{Placed}
 use Rattle.engine_api.specs.Items.{content_of, unpack}
 use Rattle.engine_api.specs.Acted.{Asked, unpack_all, asked_in}
-use Rattle.engine_api.specs.Packing.{packed, session_item, IsProposable}
-use Rattle.engine_api.proofs.Packed.{content_of-session, proposable-session}
+use Rattle.engine_api.specs.Packing.{packed, session_item, alive_item, IsProposable}
+use Rattle.engine_api.proofs.Packed.{content_of-session, content_of-alive, proposable-session, proposable-alive}
+use Rattle.script_text.specs.declared.line.Admin.TheVariants as admin
 use Rattle.script_text.specs.declared.asks.NamedLine.{NamedLine}
 use Rattle.script_text.specs.declared.asks.Asks.{Asks}
 use Rattle.script_text.specs.declared.asks.Asks.TheVariants as asks
@@ -24,6 +25,7 @@ use Rattle.shown_log.proofs.Untrimmed.{none_trimmed}
 use Rattle.line_rules.specs.Rules.{LogsRank, IsLineOf, may_of, AreOfLines, IsAskedBy, floor_of}
 use Rattle.line_rules.proofs.Contents.{all-contained, unpack_all-has, to_packed, one, joined, appearances-has}
 use Rattle.line_rules.proofs.Floors.{Silent, floor-silent}
+use Rattle.line_rules.proofs.Reports.{IsNumber, alive_number, alive_unpack}
 
 module _ (lines : List NamedLine) where
   -- A line's command
@@ -40,6 +42,21 @@ module _ (lines : List NamedLine) where
         items = to_packed (IsLineOf lines line.node) line.node (item ∷ []) (one (IsLineOf lines line.node) item (proposable-session session.id rank command known low small spelled short))
             (subst (λ o. AllByRecursion (IsLineOf lines line.node) (cons_option o [])) (sym says) (has, tt));
       }
+
+  -- A node's report
+
+  -- A node whose number has no spelling makes an entry without items.
+  pub report_sent : (at : ℕ) (line : NamedLine) → slice_get lines at ≡ Some line → line.asks ≡ asks.Admin admin.Alive → (position : ℕ) → position < 2 ^ 64 → may_of lines line.node (packed line.node (alive_item line.node position ∷ []))
+  report_sent at line is asked position small = record { own = refl; items = by (alive_number line.node position) }
+    where
+      by : IsNumber line.node ⊎ (content_of (alive_item line.node position) ≡ None) → AllByRecursion (λ p. IsLineOf lines line.node p.content) (unpack 0 (packed line.node (alive_item line.node position ∷ [])))
+      by (inl known) =
+          let item = alive_item line.node position in
+          let says : content_of item ≡ Some (Alive line.node position) = content_of-alive line.node position known.0 known.1 small in
+          let has : IsLineOf lines line.node (Alive line.node position) = (refl, record { at = at; line = line; is = is; node = refl; asks = asked }) in
+          to_packed (IsLineOf lines line.node) line.node (item ∷ []) (one (IsLineOf lines line.node) item (proposable-alive line.node position known.0 known.1 small))
+          (subst (λ o. AllByRecursion (IsLineOf lines line.node) (cons_option o [])) (sym says) (has, tt))
+      by (inr none) = subst (AllByRecursion (λ p. IsLineOf lines line.node p.content)) (sym (alive_unpack line.node position none)) tt
 
   -- Items that are packed together
 
@@ -69,10 +86,10 @@ module _ (lines : List NamedLine) where
   of_lines (e ∷ es) h = (with_who h.0.0 (unpack 0 e) h.0.1.items, of_lines es h.1)
 
   silent : (c : Content) → IsLine c → Silent c
-  silent (Session s r c) h node = refl
-  silent (Alive n position) h node = absurd h.1
-  silent (Leave n) h node = absurd h.1
-  silent (Trim position) h node = absurd h.1
+  silent (Session s r c) h = refl
+  silent (Alive n position) h = refl
+  silent (Leave n) h = absurd h.1
+  silent (Trim position) h = absurd h.1
 
   all_silent : (ps : List Placed) → AllByRecursion (λ p. IsLine p.content) ps → AllByRecursion (λ p. Silent p.content) ps
   all_silent [] h = tt
@@ -84,7 +101,7 @@ module _ (lines : List NamedLine) where
   logs_this : (a : Asks) (place : Place) (s r : ℕ) (c : Option Command) → LogsRank a s r c → LogsThis a (record { place = place; session = s; rank = r; command = c })
   logs_this (asks.Logged session rank command) place s r c h = h
   logs_this (asks.Look session query) place s r c h = absurd h
-  logs_this (asks.Admin admin) place s r c h = absurd h
+  logs_this (asks.Admin a) place s r c h = absurd h
 
   pub asked_by : (log : List Entry) → AreOfLines lines log → (x : Asked) → Contains (asked_in 0 log) x → IsAskedBy lines x
   asked_by log h x among = all-contained (IsAskedBy lines) (asked_in 0 log) x

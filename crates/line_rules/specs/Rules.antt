@@ -7,7 +7,8 @@ use Rattle.engine_api.specs.declared.content.Content.{Content}
 use Rattle.engine_api.specs.declared.content.Content.TheVariants.{Session, Alive, Leave, Trim}
 use Rattle.engine_api.specs.Items.{unpack}
 use Rattle.engine_api.specs.Acted.{Asked, unpack_all}
-use Rattle.engine_api.specs.Members.{least_position}
+use Rattle.engine_api.specs.Members.{least_position, trim_point}
+use Rattle.script_text.specs.declared.line.Admin.TheVariants as admin
 use Rattle.script_text.specs.declared.asks.NamedLine.{NamedLine}
 use Rattle.script_text.specs.declared.asks.Asks.{Asks}
 use Rattle.script_text.specs.declared.asks.Asks.TheVariants as asks
@@ -27,14 +28,22 @@ pub record HasLine (lines : List NamedLine) (who session rank : ℕ) (command : 
   pub node : line.node ≡ who
   pub logs : LogsRank line.asks session rank command
 
--- it is a command, of a line of the node
+-- a line has the node report how much of the log it needs no more
+pub record HasReport (lines : List NamedLine) (who : ℕ) : Type 0 where
+  pub at : ℕ
+  pub line : NamedLine
+  pub is : slice_get lines at ≡ Some line
+  pub node : line.node ≡ who
+  pub asks : line.asks ≡ asks.Admin admin.Alive
+
+-- it is a command, of a line of the node, or a report of the node itself, for which a line asks
 abbrev pub IsLineOf : List NamedLine → ℕ → Content → Type 0
 IsLineOf lines who (Session s r c) = HasLine lines who s r c
-IsLineOf lines who (Alive node position) = ⊥
+IsLineOf lines who (Alive node position) = (node ≡ who) × HasReport lines who
 IsLineOf lines who (Leave node) = ⊥
 IsLineOf lines who (Trim position) = ⊥
 
--- the entry is the node's own, and each item of it a command of a line there
+-- the entry is the node's own, and each item of it what a line there asks
 pub record HoldsLines (lines : List NamedLine) (who : ℕ) (e : Entry) : Type 0 where
   pub own : e.origin ≡ who
   pub items : AllByRecursion (λ p. IsLineOf lines who p.content) (unpack 0 e)
@@ -51,9 +60,10 @@ AreOfLines lines log = AllByRecursion (λ e. (who : ℕ) × may_of lines who e) 
 abbrev pub least_in : ℕ → List Entry → ℕ
 least_in nodes log = least_position nodes (unpack_all 0 log)
 
--- up to where a log may be trimmed: that position, as far as the log goes
+-- up to where a log may be trimmed: that position, or the greatest below which it asks for a trim, if that is less, as far
+-- as the log goes
 abbrev pub floor_of : ℕ → List Entry → ℕ
-floor_of nodes log = min (length log) (least_in nodes log)
+floor_of nodes log = min (length log) (min (trim_point (unpack_all 0 log)) (least_in nodes log))
 
 -- a line asks for this command
 pub record IsAskedBy (lines : List NamedLine) (x : Asked) : Type 0 where

@@ -141,6 +141,15 @@ module _ (may : ℕ → Entry → Type 0) (floor : List Entry → ℕ) (shelf : 
         (rank_elsewhere s t (sent + 1) (content_of item) own other) h (still_in old t q));
   }
 
+  -- an item of no session goes down
+  pub moves-plain : (old new : NodeView) (item : Item) → CanPack old.replica.kept → IsProposable item → Keeps may floor shelf old new → ((s : ℕ) → rank_under s (content_of item) ≡ None)
+      → Sent Holds old.who old.seen old.outbox (λ packed. Queues old.replica.origin old.replica.kept item packed new.replica.kept) new.seen new.outbox → Moves may floor shelf old new []
+  moves-plain old new item can fine k none h = record {
+    goes = goes-settled old new h.mid k h.settled (ap (λ (o : OutboxView). o.given) h.is_with ∙ given_of h.mid h.packed) (packs-queued old.replica.origin old.replica.kept new.replica.kept item h.packed fine h.out);
+    stays = λ s sent free g. sent_other may floor shelf low old.who old.replica.origin s sent old.seen new.seen old.outbox new.outbox old.replica.kept new.replica.kept item k.later.legal free can.each fine (none s) h g;
+    quiet = λ s q. quiet_in new s (sent_still old.who old.replica.origin s old.seen new.seen old.outbox new.outbox old.replica.kept new.replica.kept item can.each fine (none s) h (still_in old s q));
+  }
+
   -- One call after another
 
   pub keeps-both : (old mid new : NodeView) → Keeps may floor shelf old mid → Keeps may floor shelf mid new → Keeps may floor shelf old new

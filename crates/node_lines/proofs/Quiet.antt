@@ -15,7 +15,7 @@ use Rattle.engine_api.specs.Packing.{packed, IsProposable, IsBatch}
 use Rattle.engine_api.proofs.Packed.{unpack-packed}
 use Rattle.replica_api.specs.Replica.{Queues, Flushes}
 use Rattle.base_engine.specs.declared.outbox.Given.{Given}
-use Rattle.base_engine.specs.Settling.{OutboxView, Fate, Landed, Lost, Settles, Settled, gives, first_of, sessions_among, has_session, cause_in}
+use Rattle.base_engine.specs.Settling.{OutboxView, Fate, Landed, Lost, Settles, Settled, gives, given_to, first_of, sessions_among, sessions_in, has_session, cause_in}
 use Rattle.base_engine.specs.Proposing.{Sent, with_entry}
 use Rattle.node_sessions.specs.UnderWay.{rank_under, ranks_in}
 use Rattle.node_sessions.proofs.Ranks.{ranks-append, ranks-other}
@@ -32,9 +32,13 @@ none-append s (x ∷ xs) ys h k = by (has_session s x.sessions) (λ n. none-appe
     by true rest n = absurd (cc)
     by false rest n = rest n
 
+given-none : (s : ℕ) (ss : List ℕ) (c : Cause) → has_session s ss ≡ false → cause_in s (given_to ss c) ≡ None
+given-none s [] c h = refl
+given-none s (t ∷ ts) c h = ap (λ b. cond b (Some c) None) h
+
 gives-none : (s : ℕ) (e : Entry) (f : Fate) → HasNoneOf s e → cause_in s (gives e f) ≡ None
 gives-none s e (Landed pos) h = refl
-gives-none s e (Lost c) h = ap (λ b. cond b (Some c) None) h
+gives-none s e (Lost c) h = given-none s (sessions_in e) c h
 
 settles-none : (who s : ℕ) (old new : List Event) (done : List Entry) (given : List Given) (before after : Option Cause) → Settles Holds who old done new given before after → All (HasNoneOf s) done → cause_in s given ≡ None
 settles-none who s old new [] given before after h all = ap (cause_in s) h.1

@@ -19,7 +19,7 @@ use Rattle.virtual_log.specs.Holding.{Holds}
 use Rattle.base_engine.specs.declared.fault.Fault.TheVariants.{Because}
 use Rattle.base_engine.specs.declared.outbox.Given.{Given}
 use Rattle.base_engine.specs.Causes.{HasEventOf, Blames}
-use Rattle.base_engine.specs.Settling.{Fate, Landed, Lost, Meets, Settles, Settled, gives, OutboxView}
+use Rattle.base_engine.specs.Settling.{Fate, Landed, Lost, Meets, Settles, Settled, gives, given_to, sessions_in, OutboxView}
 use Rattle.base_engine.specs.Settling as settling
 use Rattle.node_sessions.proofs.Settling.{Extends}
 use Rattle.journal_faults.specs.Faults.{fault_of, faults_in}
@@ -129,7 +129,11 @@ spends-settles who old new (e ∷ es) given before after a h =
   where
     met : (f : Fate) → Meets Holds who old e f h.0 → Spends old h.0 a a (map (λ x. x.cause) (gives e f))
     met (Landed pos) m = spends-none old h.0 a a (meets-extends who old h.0 e (Landed pos) m) (omega arith)
-    met (Lost c) m = spends-event who old h.0 c a a (omega arith) m
+    met (Lost c) m = gave (sessions_in e)
+      where
+        gave : (ss : List ℕ) → Spends old h.0 a a (map (λ x. x.cause) (given_to ss c))
+        gave [] = spends-none old h.0 a a (meets-extends who old h.0 e (Lost c) m) (omega arith)
+        gave (s ∷ ss) = spends-event who old h.0 c a a (omega arith) m
 
 pub spends-settled : (who : ℕ) (old new : List Event) (was is : OutboxView) (a : ℕ) (h : Settled Holds who old was new is) → Spends old new a a (map (λ g. g.cause) h.given)
 spends-settled who old new was is a h =

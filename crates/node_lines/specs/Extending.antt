@@ -17,6 +17,7 @@ ExtendsSo cells old new others (looked.Extended x) =
 ExtendsSo cells old new others (looked.Failed c) = (others ≡ c ∷ []) × (is_store c ≡ false)
 ExtendsSo cells old new others (looked.Kept c) = ⊥
 ExtendsSo cells old new others (looked.Found after found) = ⊥
+ExtendsSo cells old new others (looked.Reported position) = ⊥
 
 -- What waited was packed, and all that was outstanding was carried to its end.
 pub record CarriesAll (may : ℕ → Entry → Type 0) (floor : List Entry → ℕ) (shelf : List ℕ) (old new : NodeView) : Type 0 where

@@ -2,4 +2,5 @@ pub mod Moving
 pub mod Desks
 pub mod Lines
 pub mod Extending
+pub mod Reporting
 pub mod Turns

@@ -1,6 +1,6 @@
 //! A node's calls, with what they keep of all its sessions. A fault of the log or the disk isn't an error here: it gives its
 //! cause to sessions, or is answered. The one error is want of memory.
-ghost use Rattle.std.specs.Prelude.{◌≡◌, ◌≤◌, ◌+◌, ℕ, List, [], ◌∷◌, ◌++◌, length, IfOk, OnOk, Some};
+ghost use Rattle.std.specs.Prelude.{◌≡◌, ◌≤◌, ◌+◌, ℕ, List, [], ◌∷◌, ◌++◌, length, IfOk, OnOk, None, Some};
 ghost use Rattle.delos_types.specs.declared.entry.Entry.{Entry};
 ghost use Rattle.legal_journal.specs.Journal.{IsLegal};
 ghost use Rattle.virtual_log.specs.Turning.{IsAbove};
@@ -8,7 +8,8 @@ ghost use Rattle.engine_api.specs.Items.{content_of};
 ghost use Rattle.engine_api.specs.Packing.{IsProposable, packed};
 ghost use Rattle.base_engine.specs.Following.{Follows, IsAt};
 ghost use Rattle.virtual_log.specs.Holding.{Holds};
-ghost use Rattle.base_engine.specs.Proposing.{IsNear};
+ghost use Rattle.replica_api.specs.Replica.{Flushes};
+ghost use Rattle.base_engine.specs.Proposing.{Sent, IsNear};
 ghost use Rattle.node_sessions.specs.UnderWay.{rank_under};
 ghost use Rattle.node_lines.specs.Moving.{Moves, HandsIn, CanPack, failure_of};
 
@@ -41,6 +42,7 @@ pub fn pack<T: Turns, C: Chooser, R: Replica>(
     ensures moves { OnOk result (Moves T.Law.may T.Law.floor T.Law.shelf node.old node.new []) }
     ensures kept { OnOk result (node.new.replica.kept ≡ []) }
     ensures replica { OnOk result (node.new.replica ≡ record node.old.replica { kept = [] }) }
+    ensures sent { OnOk result (Sent Holds node.old.who node.old.seen node.old.outbox (λ packed. Flushes node.old.replica.origin node.old.replica.kept packed node.new.replica.kept) node.new.seen node.new.outbox) }
 {
     match node.flush() {
         Ok(()) => return Ok(()),
@@ -55,6 +57,7 @@ pub fn settle<T: Turns, C: Chooser, R: Replica>(
     requires floor { (log : List Entry) → T.Law.floor log ≤ length log }
     ensures moves { OnOk result (Moves T.Law.may T.Law.floor T.Law.shelf node.old node.new []) }
     ensures none { OnOk result (node.new.outbox.entries ≡ []) }
+    ensures unsettled { OnOk result (node.new.outbox.unsettled ≡ None) }
     ensures replica { node.new.replica ≡ node.old.replica }
 {
     match node.settle_all() {

@@ -8,7 +8,7 @@ use Rattle.engine_api.specs.Acted.{unpack_all}
 use Rattle.engine_api.specs.Members.{least, has_left, is_member, position_of, least_position}
 use Rattle.engine_api.specs.Order.{numbers}
 use Rattle.engine_laws.specs.State.{IsStateOf, Views}
-use Rattle.engine_steps.specs.Layout.{reported_of}
+use Rattle.engine_steps.specs.Layout.{reported_of, trim_of}
 use Rattle.base_engine.specs.Trimming.{is_member_in, least_of, IsFloor}
 use Rattle.node_rows.specs.Resting.{least_of_two}
 
@@ -31,7 +31,7 @@ same_reports (n ∷ ns) placed m v = by_left (same_reports ns placed m v) (has_l
 pub floor_is : IsFloor IsStateOf least_of_two 2
 floor_is log m s =
     let e : least_of 2 m ≡ least_position 2 (unpack_all 0 log) = ap least (same_reports (numbers 1 2) (unpack_all 0 log) m s.members) in
-    subst (λ n. min (length log) (least_of 2 m) ≤ min (length log) n) e (omega arith)
+    subst (λ n. min (length log) (min (trim_of m) (least_of 2 m)) ≤ min (length log) n) e (omega arith)
 
 pub floor_within : (log : List Entry) → least_of_two log ≤ length log
 floor_within log = omega arith

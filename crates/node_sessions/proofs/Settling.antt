@@ -18,7 +18,7 @@ use Rattle.engine_api.specs.Items.{unpack}
 use Rattle.engine_api.specs.Acted.{appearances, appearance_of}
 use Rattle.engine_api.specs.Order.{first_of}
 use Rattle.base_engine.specs.declared.outbox.Given.{Given}
-use Rattle.base_engine.specs.Settling.{OutboxView, Fate, Landed, Lost, Meets, Settles, Settled, gives, first_of as first_cause, session_of, sessions_among, sessions_in, has_session, cause_in}
+use Rattle.base_engine.specs.Settling.{OutboxView, Fate, Landed, Lost, Meets, Settles, Settled, gives, given_to, first_of as first_cause, session_of, sessions_among, sessions_in, has_session, cause_in}
 use Rattle.one_thread.proofs.Bounds.{stands_below}
 use Rattle.node_sessions.specs.UnderWay.{Among, HasRank, IsHeld, HasLanded, Waits, IsUnderWay, IsGiven}
 
@@ -69,6 +69,11 @@ none-rest s (x ∷ xs) ys h = by (has_session s x.sessions) (none-rest s xs ys) 
     by true rest k = absurd (cc)
     by false rest k = rest k
 
+-- a session to which a cause was given has it
+given-has : (s : ℕ) (ss : List ℕ) (c : Cause) → has_session s ss ≡ true → cause_in s (given_to ss c) ≡ Some c
+given-has s [] c h = true_not_false (sym h)
+given-has s (t ∷ ts) c h = ap (λ b. cond b (Some c) None) h
+
 -- Moments
 
 abbrev pub Extends : List Event → List Event → Type 0
@@ -115,7 +120,7 @@ module _ (may : ℕ → Entry → Type 0) (floor : List Entry → ℕ) (shelf : 
   -- an entry that gave a session of its no cause landed
   met_held : (who s : ℕ) (old new : List Event) (e : Entry) (f : Fate) → IsLegal may floor shelf new → has_session s (sessions_in e) ≡ true → cause_in s (gives e f) ≡ None → Meets Holds who old e f new → IsHeld new e
   met_held who s old new e (Landed pos) legal own none h = record { pos = pos; held = h.1; below = stands_below may floor shelf low new pos e legal h.0 }
-  met_held who s old new e (Lost c) legal own none h = absurd (let given : Some c ≡ None = sym (ap (λ b. cond b (Some c) None) own) ∙ none in cc)
+  met_held who s old new e (Lost c) legal own none h = absurd (let given : Some c ≡ None = sym (given-has s (sessions_in e) c own) ∙ none in cc)
 
   -- Of entries that were settled without a cause for s, each with a rank of s is held.
   pub settled_held : (who s r : ℕ) (old new : List Event) (done : List Entry) (given : List Given) (before after : Option Cause) (e : Entry) → IsLegal may floor shelf new → cause_in s given ≡ None

@@ -85,3 +85,7 @@ within-one may counts who s r item fine allowed own other low = (allowed, λ t q
         let k : Among q (r ∷ []) = subst (λ o. Among q (cons_option o [])) (ap (λ x. rank_under x (content_of item)) (sym same) ∙ own) h in
         ⊎_elim (λ (x : r ≡ q). subst (λ x. q ≤ sent_of counts x) same (omega (arith, low, x))) (λ x. absurd x) k
     by_session t q false e h = absurd (subst (λ o. Among q (cons_option o [])) (other t e) h)
+
+-- so may an item of no session
+pub within-plain : (may : ℕ → Entry → Type 0) (counts : List ℕ) (who : ℕ) (item : Item) → IsProposable item → may who (packed who (item ∷ [])) → ((t : ℕ) → rank_under t (content_of item) ≡ None) → Within may counts who (packed who (item ∷ []))
+within-plain may counts who item fine allowed none = (allowed, λ t q h. absurd (subst (λ o. Among q (cons_option o [])) (none t) (packed-rank who t q (item ∷ []) (one item fine) h)))

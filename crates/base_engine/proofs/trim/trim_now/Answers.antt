@@ -2,6 +2,7 @@ use Rattle.std.proofs.Common.{◌≡◌, ◌<◌, ◌^◌, ◌∙◌, ◌++◌, 
 use Rattle.std.specs.Prelude.{All}
 use Rattle.engine_api.specs.Packing.{packed}
 use Rattle.engine_steps.specs.Words.{under}
+use Rattle.virtual_log.proofs.OneTurn.{later_trans}
 use Rattle.base_engine.specs.Causes.{Blames}
 use Rattle.base_engine.specs.Settling.{MaySend}
 use Rattle.base_engine.specs.Trimming.{HasLanded, TrimsBelow}
@@ -45,6 +46,12 @@ push_through-requires-clause-waits g c = λ some.
     subst (λ x. p.may x (packed v.origin v.kept)) (sym e.who)
     (subst (λ o. p.may w (packed o v.kept)) (sym e.origin)
     (subst (λ k. p.may w (packed a.origin k)) (sym e.kept) (c.requires.waits (λ none. some (e.kept ∙ none)))))
+
+pub returns-in-Err-push_through-clause-later : goal.returns-in-Err-push_through-clause-later
+returns-in-Err-push_through-clause-later g c =
+    let p = g.L.Law.Rules in
+    let t = g.L.SharedLog in
+    later_trans p.may p.floor p.shelf (t.seen c.args.log.now) (t.seen c.find_least.new.log) (t.seen c.push_through.new.log) c.find_least.ensures.later c.push_through.ensures.later
 
 pub returns-in-Err-push_through-clause-any_crash : goal.returns-in-Err-push_through-clause-any_crash
 returns-in-Err-push_through-clause-any_crash g c =

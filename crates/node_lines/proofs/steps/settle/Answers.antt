@@ -13,3 +13,7 @@ pub returns-in-Err-Because-clause-moves : goal.returns-in-Err-Because-clause-mov
 returns-in-Err-Because-clause-moves g c =
     let p = g.T.Law.Rules in
     moves-settle p.may p.floor p.shelf c.requires.floor c.args.node.now c.settle_all.new.self (Some c.in-Err-Because.field-0-0) c.in-Err-Because.ensures.keeps c.in-Err-Because.ensures.replica (subst (λ f. Failing Holds c.args.node.now.who c.args.node.now.seen c.args.node.now.outbox f c.settle_all.new.self.seen c.settle_all.new.self.outbox) c.in-Err-Because.field-0-is c.in-Err-Because.ensures.failing).settled
+
+pub returns-in-Err-Because-clause-unsettled : goal.returns-in-Err-Because-clause-unsettled
+returns-in-Err-Because-clause-unsettled g c =
+    (subst (λ f. Failing Holds c.args.node.now.who c.args.node.now.seen c.args.node.now.outbox f c.settle_all.new.self.seen c.settle_all.new.self.outbox) c.in-Err-Because.field-0-is c.in-Err-Because.ensures.failing).answered

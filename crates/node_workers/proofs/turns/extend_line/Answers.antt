@@ -3,7 +3,7 @@ use Rattle.std.specs.Prelude.{IfOk, OnOk}
 use Rattle.legal_journal.proofs.Sealing.{unsealed_by}
 use Rattle.one_thread.specs.Alone.{Since}
 use Rattle.one_thread.specs.Seats.{node_of}
-use Rattle.node_lines.specs.Extending.{CarriesAll, Replaces, Extends}
+use Rattle.node_lines.specs.Extending.{CarriesAll, Replaces}
 use Rattle.node_lines.proofs.Moving.{moves-both}
 use Rattle.node_workers.specs.Workers.{Within}
 use Rattle.node_workers.proofs.Widening.{seat_allowed, grows-since, grows-both}

@@ -1,0 +1,242 @@
+-- A report goes down alone, and is appended, or fails and gives no session its cause.
+use Rattle.std.proofs.Common.{◌≡◌, refl, sym, ap, ◌∙◌, subst, ℕ, ◌≤◌, cond, Bool, true, false, List, [], ◌∷◌, ◌++◌, Option, Some, None, length, arith, append-nil}
+use Rattle.std.specs.Prelude.{◌==◌}
+use Rattle.std.specs.List.{cons_option}
+use Rattle.std.proofs.lemmas.List.Elements.{All-nil, All-cons}
+use Rattle.delos_types.specs.Spaces.{SpaceMap}
+use Rattle.delos_types.specs.declared.entry.Entry.{Entry}
+use Rattle.delos_types.specs.declared.item.Header.{Header}
+use Rattle.delos_types.specs.declared.item.Item.{Item}
+use Rattle.delos_types.specs.declared.cause.Cause.{Cause}
+use Rattle.legal_journal.specs.declared.events.Event.{Event}
+use Rattle.virtual_log.specs.Holding.{Holds}
+use Rattle.engine_api.specs.declared.content.Content.{Content}
+use Rattle.engine_api.specs.declared.content.Content.TheVariants as content
+use Rattle.engine_api.specs.Items.{content_in, content_of, content_under, placed_from, unpack}
+use Rattle.engine_api.specs.Packing.{packed, alive_item, IsProposable, IsBatch}
+use Rattle.engine_api.proofs.Packed.{unpack-packed}
+use Rattle.engine_laws.specs.State.{IsStateOf}
+use Rattle.engine_steps.specs.Layout.{clean_of}
+use Rattle.engine_steps.specs.Words.{under_in}
+use Rattle.replica_api.specs.Replica.{ReplicaView, Queues, Flushes, saved_in}
+use Rattle.base_engine.specs.declared.outbox.Given.{Given}
+use Rattle.base_engine.specs.Causes.{HasEventOf}
+use Rattle.base_engine.specs.Following.{IsStateAt}
+use Rattle.base_engine.specs.Settling.{OutboxView, Fate, Landed, Lost, Meets, Settles, Settled, Answers, gives, given_to, first_of, session_of, sessions_among, sessions_in}
+use Rattle.base_engine.specs.Proposing.{Sent, with_entry, IsNear, IsNearAt}
+use Rattle.base_engine.specs.Trimming.{IsAppended}
+use Rattle.base_engine.specs.Node.{NodeView, Keeps}
+use Rattle.node_sessions.specs.UnderWay.{rank_under}
+use Rattle.node_sessions.proofs.Settling.{Extends}
+use Rattle.node_lines.specs.Moving.{CanPack, Goes, Moves}
+use Rattle.node_lines.specs.Reporting.{IsPlain, LaysDown, Tells, HasTold}
+use Rattle.node_lines.proofs.Moving.{moves-both, moves-settle}
+use Rattle.node_lines.proofs.Spending.{spends-none, spends-both, spends-event}
+use Rattle.node_lines.proofs.Ending.{Ended, all, cursor_is, upward}
+
+-- An item of no session
+
+near-content : (m : SpaceMap) (c : Content) → session_of c ≡ None → IsNearAt m (Some c)
+near-content m (content.Session s r x) h = absurd (cc)
+near-content m (content.Alive n p) h = tt
+near-content m (content.Leave n) h = tt
+near-content m (content.Trim p) h = tt
+
+rank-content : (s : ℕ) (c : Content) → session_of c ≡ None → rank_under s (Some c) ≡ None
+rank-content s (content.Session t r x) h = absurd (cc)
+rank-content s (content.Alive n p) h = refl
+rank-content s (content.Leave n) h = refl
+rank-content s (content.Trim p) h = refl
+
+-- it is near, whatever was applied
+pub plain-near : (m : SpaceMap) (item : Item) → IsPlain item → IsNear m item
+plain-near m item p = by item.headers p.says
+  where
+    by_kind : (o : Option Content) → o ≡ Some p.content → (b : Bool) → IsNearAt m (cond b o None)
+    by_kind o says true = subst (IsNearAt m) (sym says) (near-content m p.content p.none)
+    by_kind o says false = tt
+
+    by : (hs : List Header) → content_in hs item.payload ≡ Some p.content → IsNearAt m (under_in 2 hs item.payload)
+    by [] says = tt
+    by (h ∷ []) says = by_kind (content_under h item.payload) says (h.kind == 2)
+    by (h ∷ k ∷ hs) says = tt
+
+pub plain-rank : (item : Item) → IsPlain item → (s : ℕ) → rank_under s (content_of item) ≡ None
+plain-rank item p s = ap (rank_under s) p.says ∙ rank-content s p.content p.none
+
+alone : (item : Item) → IsProposable item → IsBatch (item ∷ [])
+alone item fine = record { some = omega arith; few = omega arith; each = All-cons IsProposable item [] fine (All-nil IsProposable) }
+
+-- its entry is of no session
+pub plain-sessions : (origin : ℕ) (item : Item) → IsProposable item → IsPlain item → sessions_in (packed origin (item ∷ [])) ≡ []
+plain-sessions origin item fine p =
+    ap sessions_among (unpack-packed origin (item ∷ []) 0 (alone item fine))
+    ∙ (ap (λ o. sessions_among (placed_from 0 0 (cons_option o []))) p.says ∙ ap (λ o. cons_option o []) p.none)
+
+pub pack-none : (kept : List Item) → kept ≡ [] → CanPack kept
+pack-none kept none = subst CanPack (sym none) (record { each = All-nil IsProposable; few = omega arith })
+
+-- the node may append its report
+pub may_tell : (may : ℕ → Entry → Type 0) (old synced : NodeView) (number position : ℕ) (item : Item) → synced.who ≡ old.who → synced.replica.origin ≡ old.replica.origin → item ≡ alive_item number position → number ≡ old.replica.origin
+    → may old.who (packed old.replica.origin (alive_item old.replica.origin position ∷ [])) → may synced.who (packed synced.replica.origin (item ∷ []))
+may_tell may old synced number position item who origin says own allowed =
+    subst (λ w. may w (packed synced.replica.origin (item ∷ []))) (sym who)
+    (subst (λ o. may old.who (packed o (item ∷ []))) (sym origin)
+    (subst (λ i. may old.who (packed old.replica.origin (i ∷ []))) (sym (says ∙ ap (λ n. alive_item n position) own)) allowed))
+
+-- Nothing was outstanding, so nothing was settled.
+nothing-settled : (who : ℕ) (old new : List Event) (was is : OutboxView) → was.entries ≡ [] → Settled Holds who old was new is → (is.entries ≡ []) × (is.unsettled ≡ was.unsettled)
+nothing-settled who old new was is none h = by h.done h.given h.all h.fates
+  where
+    by : (done : List Entry) (given : List Given) → was.entries ≡ done ++ is.entries → Settles Holds who old done h.moment given was.unsettled is.unsettled → (is.entries ≡ []) × (is.unsettled ≡ was.unsettled)
+    by [] given all fates = (sym all ∙ none, fates.2)
+    by (e ∷ es) given all fates = absurd (let no : [] ≡ e ∷ (es ++ is.entries) = sym none ∙ all in cc)
+
+-- The one outstanding entry met its fate.
+record MetOne (who : ℕ) (old : List Event) (was : OutboxView) (e : Entry) (new : List Event) (is : OutboxView) : Type 0 where
+  pub fate : Fate
+  pub mid : List Event
+  pub met : Meets Holds who old e fate mid
+  pub gained : is.given ≡ was.given ++ gives e fate
+  pub unsettled : is.unsettled ≡ first_of was.unsettled fate
+  pub on : Extends mid new
+
+met-one : (who : ℕ) (old new : List Event) (was is : OutboxView) (e : Entry) → was.entries ≡ e ∷ [] → is.entries ≡ [] → Settled Holds who old was new is → MetOne who old was e new is
+met-one who old new was is e one none h = by h.done h.given h.all h.gained h.fates
+  where
+    heads : (x y : Entry) → x ∷ [] ≡ y ∷ [] → x ≡ y
+    heads x y same = cc
+
+    by : (done : List Entry) (given : List Given) → was.entries ≡ done ++ is.entries → is.given ≡ was.given ++ given → Settles Holds who old done h.moment given was.unsettled is.unsettled → MetOne who old was e new is
+    by [] given all gained fates = absurd (let no : e ∷ [] ≡ [] = sym one ∙ (all ∙ none) in cc)
+    by (x ∷ []) given all gained fates =
+        let same : x ≡ e = heads x e (sym (all ∙ ap (λ l. x ∷ l) none) ∙ one) in
+        let rest = fates.5 in
+        record {
+          fate = fates.1;
+          mid = fates.0;
+          met = subst (λ y. Meets Holds who old y fates.1 fates.0) same fates.3;
+          gained = gained ∙ ap (λ l. was.given ++ l) (fates.4 ∙ (ap (λ l. gives x fates.1 ++ l) rest.1 ∙ (append-nil (gives x fates.1) ∙ ap (λ y. gives y fates.1) same)));
+          unsettled = rest.2;
+          on = subst (λ l. Extends l new) rest.0 h.rest;
+        }
+    by (x ∷ y ∷ ys) given all gained fates = absurd (let no : e ∷ [] ≡ x ∷ (y ∷ (ys ++ is.entries)) = sym one ∙ all in cc)
+
+module _ (may : ℕ → Entry → Type 0) (floor : List Entry → ℕ) (shelf : List ℕ) (low : (log : List Entry) → floor log ≤ length log) where
+  -- an item went down and was packed
+  pub lays-down : (old mid new : NodeView) (item : Item) → Moves may floor shelf old mid [] → Moves may floor shelf mid new [] → old.outbox.entries ≡ [] → old.replica.kept ≡ [] → new.replica.kept ≡ []
+      → Sent Holds old.who old.seen old.outbox (λ p. Queues old.replica.origin old.replica.kept item p mid.replica.kept) mid.seen mid.outbox
+      → Sent Holds mid.who mid.seen mid.outbox (λ p. Flushes mid.replica.origin mid.replica.kept p new.replica.kept) new.seen new.outbox → LaysDown may floor shelf old new item
+  lays-down old mid new item first then none kept empty s f = record {
+    moves = moves-both may floor shelf low old mid new [] [] first then;
+    entries = flushed.0;
+    unsettled = flushed.1;
+    kept = empty;
+  }
+    where
+      queued : (mid.outbox.entries ≡ []) × (mid.outbox.unsettled ≡ old.outbox.unsettled) × (mid.replica.kept ≡ item ∷ [])
+      queued = by s.packed s.is_with s.out (nothing-settled old.who old.seen mid.seen old.outbox s.mid none s.settled)
+        where
+          by : (p : Option Entry) → mid.outbox ≡ with_entry s.mid p → Queues old.replica.origin old.replica.kept item p mid.replica.kept → (s.mid.entries ≡ []) × (s.mid.unsettled ≡ old.outbox.unsettled)
+              → (mid.outbox.entries ≡ []) × (mid.outbox.unsettled ≡ old.outbox.unsettled) × (mid.replica.kept ≡ item ∷ [])
+          by None with_is out is = (ap (λ (o : OutboxView). o.entries) with_is ∙ is.0, ap (λ (o : OutboxView). o.unsettled) with_is ∙ is.1, out.0 ∙ ap (λ k. k ++ item ∷ []) kept)
+          by (Some e) with_is out is = absurd (let z : length old.replica.kept ≡ 0 = ap length kept in omega (arith, out.0, z))
+
+      flushed : (new.outbox.entries ≡ packed old.replica.origin (item ∷ []) ∷ []) × (new.outbox.unsettled ≡ old.outbox.unsettled)
+      flushed = by f.packed f.is_with f.out (nothing-settled mid.who mid.seen new.seen mid.outbox f.mid queued.0 f.settled)
+        where
+          by : (p : Option Entry) → new.outbox ≡ with_entry f.mid p → Flushes mid.replica.origin mid.replica.kept p new.replica.kept → (f.mid.entries ≡ []) × (f.mid.unsettled ≡ mid.outbox.unsettled)
+              → (new.outbox.entries ≡ packed old.replica.origin (item ∷ []) ∷ []) × (new.outbox.unsettled ≡ old.outbox.unsettled)
+          by None with_is out is = absurd (let no : [] ≡ item ∷ [] = sym out.0 ∙ queued.2 in cc)
+          by (Some e) with_is out is =
+              let entry : e ≡ packed old.replica.origin (item ∷ []) = out.1.entry ∙ (ap (λ o. packed o mid.replica.kept) first.goes.keeps.origin ∙ ap (packed old.replica.origin) queued.2) in
+              (ap (λ (o : OutboxView). o.entries) with_is ∙ (ap (λ es. es ++ e ∷ []) is.0 ∙ ap (λ x. x ∷ []) entry), ap (λ (o : OutboxView). o.unsettled) with_is ∙ (is.1 ∙ queued.1))
+
+  -- its entry failed, which gives no session the cause
+  moves-lost : (old new : NodeView) (e : Entry) (cause : Cause) → Keeps may floor shelf old new → new.replica ≡ old.replica → old.outbox.entries ≡ e ∷ [] → sessions_in e ≡ [] → old.outbox.unsettled ≡ None
+      → Answers Holds old.who old.seen old.outbox (Some cause) new.seen new.outbox → Moves may floor shelf old new (cause ∷ [])
+  moves-lost old new e cause k same one silent calm a = record { goes = by m.fate m.met m.gained (m.unsettled ∙ ap (λ o. first_of o m.fate) calm); stays = plain.stays; quiet = plain.quiet }
+    where
+      plain : Moves may floor shelf old new []
+      plain = moves-settle may floor shelf low old new (Some cause) k same a.settled
+
+      m : MetOne old.who old.seen old.outbox e new.seen (record { entries = new.outbox.entries; given = new.outbox.given; unsettled = Some cause })
+      m = met-one old.who old.seen new.seen old.outbox (record { entries = new.outbox.entries; given = new.outbox.given; unsettled = Some cause }) e one a.none a.settled
+
+      same_cause : (x y : Cause) → Some x ≡ Some y → y ≡ x
+      same_cause x y h = cc
+
+      by : (fate : Fate) → Meets Holds old.who old.seen e fate m.mid → new.outbox.given ≡ old.outbox.given ++ gives e fate → Some cause ≡ first_of None fate → Goes may floor shelf old new (cause ∷ [])
+      by (Landed pos) met gained says = absurd (cc)
+      by (Lost x) met gained says = record {
+        keeps = k;
+        given = [];
+        gained = gained ∙ ap (λ l. old.outbox.given ++ l) (ap (λ ss. given_to ss x) silent);
+        spends = spends-both old.seen m.mid new.seen old.replica.faults old.replica.faults new.replica.faults (cause ∷ []) []
+            (spends-event old.who old.seen m.mid cause old.replica.faults old.replica.faults (omega arith) (subst (λ c. HasEventOf old.who old.seen c m.mid) (same_cause cause x says) met))
+            (spends-none m.mid new.seen old.replica.faults new.replica.faults m.on k.counts);
+        packs = plain.goes.packs;
+      }
+
+  pub tells-lost : (old mid new : NodeView) (item : Item) (cause : Cause) → IsProposable item → IsPlain item → LaysDown may floor shelf old mid item → old.outbox.unsettled ≡ None → Keeps may floor shelf mid new → new.replica ≡ mid.replica
+      → Answers Holds mid.who mid.seen mid.outbox (Some cause) new.seen new.outbox → Tells may floor shelf old new item (Some cause)
+  tells-lost old mid new item cause fine p lays calm k same a = record {
+    moves = moves-both may floor shelf low old mid new [] (cause ∷ []) lays.moves
+        (moves-lost mid new (packed old.replica.origin (item ∷ [])) cause k same lays.entries (plain-sessions old.replica.origin item fine p) (lays.unsettled ∙ calm) a);
+    none = a.none;
+    kept = ap (λ (r : ReplicaView). r.kept) same ∙ lays.kept;
+    landed = λ none. absurd (cc);
+  }
+
+  pub tells-landed : (old mid new : NodeView) (item : Item) → LaysDown may floor shelf old mid item → old.outbox.unsettled ≡ None → Keeps may floor shelf mid new → new.replica ≡ mid.replica
+      → Answers Holds mid.who mid.seen mid.outbox None new.seen new.outbox → Tells may floor shelf old new item None
+  tells-landed old mid new item lays calm k same a = record {
+    moves = moves-both may floor shelf low old mid new [] [] lays.moves (moves-settle may floor shelf low mid new None k same a.settled);
+    none = a.none;
+    kept = ap (λ (r : ReplicaView). r.kept) same ∙ lays.kept;
+    landed = λ none. by m.fate m.met (m.unsettled ∙ ap (λ o. first_of o m.fate) (lays.unsettled ∙ calm));
+  }
+    where
+      e : Entry
+      e = packed old.replica.origin (item ∷ [])
+
+      m : MetOne mid.who mid.seen mid.outbox e new.seen (record { entries = new.outbox.entries; given = new.outbox.given; unsettled = None })
+      m = met-one mid.who mid.seen new.seen mid.outbox (record { entries = new.outbox.entries; given = new.outbox.given; unsettled = None }) e lays.entries a.none a.settled
+
+      by : (fate : Fate) → Meets Holds mid.who mid.seen e fate m.mid → None ≡ first_of None fate → IsAppended Holds old.who old.seen e new.seen
+      by (Landed pos) met says = record {
+        before = mid.seen;
+        since = (lays.moves.goes.keeps.later.more, lays.moves.goes.keeps.later.seen);
+        position = pos;
+        after = m.mid;
+        met = subst (λ w. Meets Holds w mid.seen e (Landed pos) m.mid) lays.moves.goes.keeps.who met;
+        rest = m.on;
+      }
+      by (Lost x) met says = absurd (cc)
+
+  -- what was reported is clean in the state at a tail
+  pub has_told : (old packed' settled synced new : NodeView) (tail : ℕ) → Ended may floor shelf old packed' settled synced tail → (state : List Entry → SpaceMap → Type 0) → ((log : List Entry) (m : SpaceMap) → state log m → IsStateOf log m)
+      → IsStateAt Holds state synced.seen (saved_in synced.replica) → (number position : ℕ) (item : Item) → position ≡ clean_of synced.replica.contents synced.replica.cursor → item ≡ alive_item number position → number ≡ old.replica.origin
+      → IsProposable item → content_of item ≡ Some (content.Alive number position) → Tells may floor shelf synced new item None → HasTold old new position
+  has_told old packed' settled synced new tail e state means at number position item is made own fine says tells = record {
+    log = at.log;
+    synced = synced.seen;
+    since = (k.later.more, k.later.seen);
+    front = at.front;
+    from = omega (arith, upward may floor shelf low old packed' settled synced tail e, cursor_is may floor shelf low old packed' settled synced tail e, at.size);
+    within = omega (arith, at.size, tells.moves.goes.keeps.forward);
+    clean = is ∙ (ap (clean_of synced.replica.contents) (sym at.size) ∙ (means at.log synced.replica.contents at.led).clean);
+    says = ap (λ i. unpack 0 (packed old.replica.origin (i ∷ []))) (sym reported) ∙ (said ∙ ap (λ n. placed_from 0 0 (content.Alive n position ∷ [])) own);
+    landed = subst (λ w. IsAppended Holds w synced.seen (packed old.replica.origin (alive_item old.replica.origin position ∷ [])) new.seen) k.who
+        (subst (λ o. IsAppended Holds synced.who synced.seen (packed o (alive_item old.replica.origin position ∷ [])) new.seen) k.origin
+        (subst (λ i. IsAppended Holds synced.who synced.seen (packed synced.replica.origin (i ∷ [])) new.seen) reported (tells.landed refl)));
+  }
+    where
+      k : Keeps may floor shelf old synced
+      k = (all may floor shelf low old packed' settled synced tail e).goes.keeps
+
+      reported : item ≡ alive_item old.replica.origin position
+      reported = made ∙ ap (λ n. alive_item n position) own
+
+      said : unpack 0 (packed old.replica.origin (item ∷ [])) ≡ placed_from 0 0 (content.Alive number position ∷ [])
+      said = unpack-packed old.replica.origin (item ∷ []) 0 (alone item fine) ∙ ap (λ o. placed_from 0 0 (cons_option o [])) says
