@@ -1,38 +1,68 @@
 -- A run whose nodes have closed has ended.
-use Rattle.std.proofs.Common.{◌≡◌, refl, sym, ap, ◌∙◌, subst, ℕ, suc, ◌≤◌, true, List, [], ◌∷◌, Some, map, length, take, slice_get, Option, Contains, arith}
+use Rattle.std.proofs.Common.{◌≡◌, refl, sym, ap, ◌∙◌, subst, ⊎_elim, ℕ, suc, ◌<◌, ◌≤◌, ◌==◌, ◌&&◌, true, List, [], ◌∷◌, Some, is_some, map, length, take, drop, slice_get, Option, Contains, arith, eq-eqb, take-append-drop}
 use Rattle.std.specs.List.{AllByRecursion}
-use Rattle.std.proofs.lemmas.List.{length-map}
+use Rattle.std.proofs.lemmas.Bool.{and_from}
+use Rattle.std.proofs.lemmas.List.{length-map, length-take}
+use Rattle.std.proofs.lemmas.Option.{slice_get_within}
 use Rattle.delos_types.specs.Spaces.{SpaceMap}
 use Rattle.delos_types.specs.declared.entry.Entry.{Entry}
 use Rattle.legal_journal.specs.declared.events.Event.{Event}
-use Rattle.legal_journal.specs.Journal.{state_of, tail_of, trim_of}
-use Rattle.engine_api.specs.Acted.{Asked, asked_in}
-use Rattle.engine_api.specs.Order.{is_clean}
+use Rattle.legal_journal.specs.Journal.{log_at, state_of, tail_of, trim_of}
+use Rattle.legal_journal.proofs.Log.{slice_get_front}
+use Rattle.virtual_log.specs.Holding.{Holds}
+use Rattle.virtual_log.proofs.Holding.{holds_stands}
+use Rattle.engine_api.specs.declared.content.Content.TheVariants as content
+use Rattle.engine_api.specs.declared.content.Placed.{Placed}
+use Rattle.engine_api.specs.Acted.{Asked, asked_in, unpack_all}
+use Rattle.engine_api.specs.Order.{first_of, is_clean}
 use Rattle.replica_api.specs.Replica.{Saved}
+use Rattle.script_text.specs.declared.line.Admin.TheVariants.{Alive}
 use Rattle.script_text.specs.declared.asks.NamedLine.{NamedLine}
+use Rattle.script_text.specs.declared.asks.Asks.{Asks}
+use Rattle.script_text.specs.declared.asks.Asks.TheVariants as asks
+use Rattle.row_text.specs.declared.row.Outcome.TheVariants as out
 use Rattle.fabric_core.specs.Fabric.{IsRegisterAsTold}
+use Rattle.fabric_core.specs.Log.{virtual_log, virtual_tail}
 use Rattle.fitting_run.specs.declared.told.Told.{Told}
 use Rattle.fitting_run.specs.Fits.{ChainIsRegistered}
-use Rattle.fitting_run.specs.Lines.{are_in_phase, are_ranked}
+use Rattle.fitting_run.specs.Lines.{are_in_phase, are_ranked, is_of}
 use Rattle.fitting_run.specs.Yard.{Shown}
+use Rattle.one_thread.proofs.Bounds.{stands_below}
 use Rattle.one_thread.proofs.Moments.{held_sent}
+use Rattle.node_sessions.specs.UnderWay.{HasRank}
+use Rattle.node_sessions.proofs.Catching.{appears_in}
 use Rattle.node_lines.specs.declared.lines.Looked.{Looked}
 use Rattle.node_workers.specs.Workers.{MayRun}
 use Rattle.worker_laws.proofs.Bounding.{front_below}
 use Rattle.line_rules.specs.Rules.{AreOfLines, may_of}
 use Rattle.line_rules.proofs.Rules.{asked_by}
-use Rattle.run_laws.specs.Ended.{AllAfter, FaultsCame, IsAtHome, IsOfLine, LineEnded, LogStands, LogsThis, Played, Replacements, RunEnded, SessionEnded}
+use Rattle.run_laws.specs.Ended.{AllAfter, FaultsCame, IsAtHome, IsOfEarlier, IsOfLine, LineEnded, LogStands, LogsThis, Played, Replacements, RunEnded, SessionEnded, rank_in}
+use Rattle.run_laws.proofs.Members.{among-found, contained-among}
 use Rattle.run_course.specs.Replacing.{Replaced}
 use Rattle.course_ends.specs.Closing.{HasClosed, IsGivenBack, WorkerEnd}
 use Rattle.course_ends.specs.Ends.{end_of}
-use Rattle.course_ends.specs.Rows.{AreRows, played_of}
-use Rattle.course_ends.proofs.Turns.{all_lines, lines_are, rows_are, turn_of}
+use Rattle.course_ends.specs.Rows.{AreRows, desk_for, played_of}
+use Rattle.course_ends.proofs.Turns.{all_lines, lines_are, rows_are, turn_is, turn_of}
+use Rattle.course_ends.proofs.Lines.{early_line, report_played}
+use Rattle.course_ends.proofs.Reports.{alive_is, says_all}
 use Rattle.course_ends.proofs.Replacements.{replacements}
 
 -- what holds of the element at each place holds of each
 each_there : {A : Type 0} (P : A → Type 0) (xs : List A) → ((i : ℕ) (x : A) → slice_get xs i ≡ Some x → P x) → AllByRecursion P xs
 each_there P [] h = tt
 each_there P (x ∷ xs) h = (h 0 x refl, each_there P xs (λ i y at. h (suc i) y at))
+
+-- a command of the list is found there by its session and its rank
+appears : (xs : List Asked) (x : Asked) → Contains xs x → is_some (first_of xs x.session x.rank) ≡ true
+appears xs x has =
+    let found = among-found (λ (y : Asked). (y.session == x.session) && (y.rank == x.rank)) xs x (contained-among xs x has) (and_from (x.session == x.session) (x.rank == x.rank) (eq-eqb x.session x.session refl) (eq-eqb x.rank x.rank refl)) in
+    ap is_some found.1
+
+-- the line that logs this is its session's, and has its rank
+logs_so : (a : Asks) (x : Asked) → LogsThis a x → (is_of x.session a ≡ true) × (rank_in a ≡ x.rank)
+logs_so (asks.Logged s r command) x h = (eq-eqb s.id x.session (sym h.0), sym h.1)
+logs_so (asks.Look s query) x h = absurd h
+logs_so (asks.Admin a) x h = absurd h
 
 none_clean : (log : List Entry) → is_clean (λ s. 1) (asked_in 0 (take 0 log)) ≡ true
 none_clean [] = refl
@@ -49,11 +79,54 @@ module _ (may : ℕ → Entry → Type 0) (floor : List Entry → ℕ) (shelf : 
   of_lines : AreOfLines lines log
   of_lines = each_there (λ (e : Entry). (who : ℕ) × may_of lines who e) log (λ pos e at. let sent = held_sent may floor shelf journal pos e back.legal (h.front pos e at) in (sent.0, mine sent.0 e sent.1))
 
+  -- an entry of the log's first ones is that of the log
+  first_is : (n pos : ℕ) (e : Entry) → slice_get (take n log) pos ≡ Some e → slice_get log pos ≡ Some e
+  first_is n pos e at = subst (λ l. slice_get l pos ≡ Some e) (take-append-drop n log) (slice_get_front (take n log) (drop n log) pos e at)
+
+  first_of_lines : (n : ℕ) → AreOfLines lines (take n log)
+  first_of_lines n = each_there (λ (e : Entry). (who : ℕ) × may_of lines who e) (take n log) (λ pos e at. let sent = held_sent may floor shelf journal pos e back.legal (h.front pos e (first_is n pos e at)) in (sent.0, mine sent.0 e sent.1))
+
+  -- what stood there when a phase began is of a line of an earlier one
+  early : (phase : ℕ) (x : Asked) → Contains (asked_in 0 (take (h.course.tails phase) log)) x → IsOfEarlier played phase x
+  early phase x has =
+      let n = h.course.tails phase in
+      let k = asked_by lines (take n log) (first_of_lines n) x has in
+      let t = turn_of played k.at k.line (ap (λ ls. slice_get ls k.at) played_lines ∙ k.is) in
+      let logs = logs_so k.line.asks x k.logs in
+      let there = appears_in (λ who e. ⊥) (λ l. 0) [] x.session x.rank 0 (take n log) (appears (asked_in 0 (take n log)) x has) in
+      let within = slice_get_within (take n log) there.0 there.1 there.2 in
+      let size = length-take n log in
+      let before : k.line.phase < phase =
+      early_line may floor shelf state spells run lines journal counts looks log workers h k.at k.line x.session phase there.0 there.1 k.is logs.0 (first_is n there.0 there.1 there.2)
+      (subst (λ r. HasRank x.session r there.1) (sym logs.1) there.3) (omega (arith, within, size)) in
+      record {
+        at = k.at;
+        turn = t.0;
+        is = t.1;
+        logs = subst (λ (l : NamedLine). LogsThis l.asks x) (sym t.2) k.logs;
+        early = subst (λ (l : NamedLine). l.phase < phase) (sym t.2) before;
+      }
+
   sent : (x : Asked) → Contains (asked_in 0 log) x → IsOfLine played x
   sent x has =
       let k = asked_by lines log of_lines x has in
       let t = turn_of played k.at k.line (ap (λ ls. slice_get ls k.at) played_lines ∙ k.is) in
       record { at = k.at; turn = t.0; is = t.1; logs = subst (λ (l : NamedLine). LogsThis l.asks x) (sym t.2) k.logs }
+
+  -- each report that a row tells stands in the log
+  reported : (i : ℕ) (t : Played) (clean : ℕ) → slice_get played i ≡ Some t → t.row.outcome ≡ out.Alive clean → o.chain.trim ≡ 0
+      → Contains (map (λ (p : Placed). p.content) (unpack_all 0 (virtual_log o.chain yard.cells 0 (virtual_tail o.chain yard.cells)))) (content.Alive t.line.node clean)
+  reported i t clean at is none =
+      let k = turn_is lines o.rows looks i t at in
+      let row = are.each i k.line k.look k.row k.line_at k.look_at k.row_at in
+      let alive = alive_is (desk_for workers k.line.node k.line.asks) k.look k.line.asks k.row.outcome clean row.tells (sym (ap (λ (y : Played). y.row.outcome) k.is) ∙ is) in
+      let r = (report_played may floor shelf state spells run lines journal counts looks log workers h i k.line k.line_at Alive alive.0 clean (k.look_at ∙ ap Some alive.1)).stands in
+      let stands = holds_stands may floor shelf journal r.at r.entry back.legal (subst (λ j. Holds j r.at r.entry) h.journal_is r.held) in
+      let shown : log_at (state_of journal) r.at ≡ Some r.entry = ⊎_elim (λ (trimmed : r.at < trim_of (state_of journal)). absurd (omega (arith, trimmed, untrimmed))) (λ (s : log_at (state_of journal) r.at ≡ Some r.entry). s) stands in
+      let low = stands_below may floor shelf run.low journal r.at r.entry back.legal stands in
+      let there = says_all (state_of journal).register.chain yard.cells r.at r.entry (content.Alive k.line.node clean) (omega (arith, low, back.tail)) (back.shows r.at (omega (arith, untrimmed)) ∙ shown) r.says in
+      subst (λ n. Contains (map (λ (p : Placed). p.content) (unpack_all 0 (virtual_log o.chain yard.cells 0 (virtual_tail o.chain yard.cells)))) (content.Alive n clean)) (sym (ap (λ (y : Played). y.line.node) k.is))
+      (subst (λ c. Contains (map (λ (p : Placed). p.content) (unpack_all 0 (virtual_log c yard.cells 0 (virtual_tail c yard.cells)))) (content.Alive k.line.node clean)) (sym back.chain_is) there)
 
   below : length log ≤ tail_of (state_of journal)
   below = front_below may floor shelf run.low journal log back.legal h.front
@@ -83,9 +156,11 @@ module _ (may : ℕ → Entry → Type 0) (floor : List Entry → ℕ) (shelf : 
       stands = subst (λ k. LogStands log k yard.cells) (sym back.chain_is)
           (stands below (omega (arith, untrimmed)) (subst (λ n. is_clean (λ s. 1) (asked_in 0 (take n log)) ≡ true) (sym untrimmed) (none_clean log)));
       sent = sent;
+      early = early;
       lines = lines_ended;
       sessions = sessions_ended;
       replacements = replaced;
+      reported = reported;
       came = came;
       registered = registered;
     }

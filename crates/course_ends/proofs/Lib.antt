@@ -2,6 +2,7 @@ pub mod Counting
 pub mod Turns
 pub mod Sessions
 pub mod Placing
+pub mod Reports
 pub mod Lines
 pub mod Replacements
 pub mod Ending

@@ -25,7 +25,7 @@ use Rattle.engine_laws.specs.State.{acts_in}
 use Rattle.replica_api.specs.Replica.{Saved}
 use Rattle.base_engine.specs.Reading.{IsFront}
 use Rattle.script_text.specs.declared.line.Admin.{Admin}
-use Rattle.script_text.specs.declared.line.Admin.TheVariants.{Extend}
+use Rattle.script_text.specs.declared.line.Admin.TheVariants.{Extend, Alive}
 use Rattle.script_text.specs.declared.asks.NamedLine.{NamedLine}
 use Rattle.script_text.specs.declared.asks.Asks.{Asks}
 use Rattle.script_text.specs.declared.asks.Asks.TheVariants as asks
@@ -39,16 +39,18 @@ use Rattle.one_thread.proofs.Widening.{legal_wider}
 use Rattle.kept_replies.specs.Told.{IsTold}
 use Rattle.node_sessions.specs.declared.desk.Desk.{Desk}
 use Rattle.node_sessions.specs.Desks.{ActedSo, AreAllAnswers}
+use Rattle.node_sessions.specs.UnderWay.{HasRank}
 use Rattle.node_sessions.proofs.Catching.{acted_sent}
 use Rattle.node_lines.specs.declared.lines.Looked.{Looked}
 use Rattle.node_lines.specs.declared.lines.Looked.TheVariants as looked
 use Rattle.node_workers.specs.Workers.{MayRun, Within, sent_of}
 use Rattle.worker_laws.proofs.Bounding.{tail_bounds}
-use Rattle.run_laws.specs.Ended.{AllAfter, CameOf, CameTo, HasLooked, IsLeft, IsAtHome, IsPlaced, IsStoppedBy, IsUnread, LineEnded, Played, SessionEnd, act_of_rank, rank_in, session_in}
+use Rattle.run_laws.specs.Ended.{AllAfter, CameOf, CameTo, HasLooked, HasReported, IsLeft, IsAtHome, IsPlaced, IsStoppedBy, IsUnread, LineEnded, Played, SessionEnd, act_of_rank, rank_in, session_in}
 use Rattle.run_laws.proofs.Fronts.{front-acts}
 use Rattle.run_laws.proofs.Members.{all-at, found-among}
 use Rattle.run_laws.proofs.Placing.{is_rank}
 use Rattle.run_course.specs.Script.{asked_before, asked_by, failure_of_look, logs_at}
+use Rattle.run_course.specs.Reporting.{IsReport, ReportedSo}
 use Rattle.run_course.specs.Desks.{HasActed, IsOfNode, IsUpTo, LoggedSo, LogsBefore, LookedSo, PlayedSo, SawSo, WasStopped}
 use Rattle.run_course.proofs.Lines.{asked_home, at_get, count-cons, phase_before}
 use Rattle.run_course.proofs.Ranks.{node_is_home, rank_counts, rank_low}
@@ -58,6 +60,7 @@ use Rattle.course_ends.specs.Ends.{answered_of, desk_in, desks_at}
 use Rattle.course_ends.proofs.Turns.{all_after, any_map, count_map, lines_are, map_take, some_at, turn_is}
 use Rattle.course_ends.proofs.Sessions.{AtHome, HasDesk, at_home, ends_so, has_desk, stopped_first, the_end}
 use Rattle.course_ends.proofs.Placing.{acted_below, acted_on, acts_low, acts_not, appeared_by, fronts_agree}
+use Rattle.course_ends.proofs.Reports.{has_reported, report_within}
 
 -- Counting
 
@@ -106,6 +109,8 @@ answers_so None look (asks.Admin Extend) (out.Extended version start) t = refl
 answers_so None look (asks.Admin Extend) (out.Moved version) t = refl
 answers_so None look (asks.Admin Extend) out.NoSpare t = refl
 answers_so None look (asks.Admin Extend) (out.Open cause) t = refl
+answers_so None look (asks.Admin Alive) (out.Alive clean) t = refl
+answers_so None look (asks.Admin Alive) (out.Open cause) t = refl
 answers_so d look a o t = absurd t
 
 same_some : {A : Type 0} (x y : A) → Some x ≡ Some y → x ≡ y
@@ -139,6 +144,39 @@ module _ (may : ℕ → Entry → Type 0) (floor : List Entry → ℕ) (shelf : 
   begins_so s n l was upto =
       let short : length l ≤ length log = let a = n.closed.short in omega (arith, a, upto) in
       (short, fronts_agree may floor shelf h.course.journal l log legal was front short)
+
+  -- no command of a phase or a later one was sent when that phase began
+  sent_before : (i : ℕ) (l : NamedLine) (s phase : ℕ) → slice_get lines i ≡ Some l → logs_for s l ≡ true → phase ≤ l.phase → asked_before lines s phase < rank_in l.asks
+  sent_before i l s phase at logs late =
+      let before = few_before (logs_for s) (λ m. logs_for s m && nat_lt m.phase phase) lines i each in
+      let home = asked_home lines h.home (length workers) h.lines_are s i in
+      let node = node_is_home lines h.home (length workers) h.lines_are i s l at logs in
+      let rank = rank_counts lines h.home (length workers) h.lines_are (h.home s) i s l at node logs in
+      omega (arith, before, home, rank)
+    where
+      each : (j : ℕ) (m : NamedLine) → slice_get lines j ≡ Some m → (logs_for s m && nat_lt m.phase phase) ≡ true → (logs_for s m ≡ true) × (j < i)
+      each j m there e =
+          let parts = and_parts (logs_for s m) (nat_lt m.phase phase) e in (
+            parts.0,
+            ⊎_elim (λ (before : j < i). before)
+                (λ (behind : i ≤ j).
+                let up = phase_before lines h.home (length workers) h.lines_are i j l m at there behind in
+                absurd (let low : m.phase < phase = grind (arith, nat_tests, parts.1) in omega (arith, low, up, late)))
+                (cases_lt j i),
+          )
+
+  -- what stood in the log when a phase began is logged by a line of an earlier one
+  pub early_line : (i : ℕ) (l : NamedLine) (s phase pos : ℕ) (e : Entry) → slice_get lines i ≡ Some l → logs_for s l ≡ true → slice_get log pos ≡ Some e → HasRank s (rank_in l.asks) e → pos < h.course.tails phase → l.phase < phase
+  early_line i l s phase pos e at logs there has low = ⊎_elim (λ (early : l.phase < phase). early)
+      (λ (late : phase ≤ l.phase).
+      let began = h.ok.began phase (let over = h.over i l at in omega (arith, over, late)) in
+      let sent = began.sent s in
+      let before = sent_before i l s phase at logs late in
+      let above : sent_of began.counts s < rank_in l.asks = omega (arith, sent, before) in
+      let held = subst (λ j. Holds j pos e) began.seen (front pos e there) in
+      let high = tail_bounds may floor shelf run.low began.counts began.early began.more s (rank_in l.asks) pos e began.legal (subst (IsLegal may floor shelf) began.seen legal) held has above in
+      absurd (omega (arith, high, low, began.tail_is)))
+      (cases_lt l.phase phase)
 
   -- A line that logs a command
 
@@ -179,21 +217,7 @@ module _ (may : ℕ → Entry → Type 0) (floor : List Entry → ℕ) (shelf : 
 
     -- no command of then or later was sent when its phase began
     sent_later : asked_before lines s l.phase < r
-    sent_later =
-        let before = few_before (logs_for s) (λ m. logs_for s m && nat_lt m.phase l.phase) lines i each in
-        let home = asked_home lines h.home (length workers) h.lines_are s i in
-        omega (arith, before, home, rank_is)
-      where
-        each : (j : ℕ) (m : NamedLine) → slice_get lines j ≡ Some m → (logs_for s m && nat_lt m.phase l.phase) ≡ true → (logs_for s m ≡ true) × (j < i)
-        each j m there e =
-            let parts = and_parts (logs_for s m) (nat_lt m.phase l.phase) e in (
-              parts.0,
-              ⊎_elim (λ (before : j < i). before)
-                  (λ (behind : i ≤ j).
-                  let up = phase_before lines h.home (length workers) h.lines_are i j l m at there behind in
-                  absurd (let low : m.phase < l.phase = grind (arith, nat_tests, parts.1) in omega (arith, low, up)))
-                  (cases_lt j i),
-            )
+    sent_later = let k = sent_before i l s l.phase at logs (omega arith) in omega (arith, k, rank)
 
     module _ (so : LoggedSo h.course h.course.phase n.worker.seat.node.replica.cursor d.was l.phase s r) where
       -- it acted by the end of its phase, where it isn't above what was answered
@@ -296,9 +320,9 @@ module _ (may : ℕ → Entry → Type 0) (floor : List Entry → ℕ) (shelf : 
 
   -- A line that was played
 
-  -- what a node itself was asked came to
-  abbrev CameOfNode : ℕ → Type 0
-  CameOfNode i = (look : Looked) × (slice_get looks i ≡ Some (Some look)) × IsOfNode look
+  -- what the node of a line was asked itself came to
+  abbrev CameOfNode : ℕ → NamedLine → Admin → Type 0
+  CameOfNode i l a = (look : Looked) × (slice_get looks i ≡ Some (Some look)) × IsOfNode a look × ReportedSo h.course.journal (h.course.tails l.phase) (length log) l.node look
 
   own_home : (node : ℕ) (a : Asks) → IsAtHome h.home node a → IsSome (session_asking a) → node ≡ h.home (session_in a)
   own_home node (asks.Logged s r command) at some = at
@@ -310,6 +334,7 @@ module _ (may : ℕ → Entry → Type 0) (floor : List Entry → ℕ) (shelf : 
   of_table s n d i phase query (looked.Kept cause) so = tt
   of_table s n d i phase query (looked.Failed cause) so = tt
   of_table s n d i phase query (looked.Extended x) so = so
+  of_table s n d i phase query (looked.Reported position) so = so
 
   module _ (i : ℕ) (l : NamedLine) (line_at : slice_get lines i ≡ Some l) where
     -- at its session's desk, if it has one
@@ -342,7 +367,7 @@ module _ (may : ℕ → Entry → Type 0) (floor : List Entry → ℕ) (shelf : 
     desk_is (asks.Admin a) is some = absurd (cc)
 
     -- at its node
-    node_played : (a : Admin) → l.asks ≡ asks.Admin a → CameOfNode i
+    node_played : (a : Admin) → l.asks ≡ asks.Admin a → CameOfNode i l a
     node_played a is =
         let there = at_get (λ (m : NamedLine). (1 ≤ m.node) × (m.node ≤ length workers)) lines i l h.lines_are.nodes_are line_at in
         let low = there.0 in
@@ -350,8 +375,22 @@ module _ (may : ℕ → Entry → Type 0) (floor : List Entry → ℕ) (shelf : 
         let w = some_at workers (l.node - 1) (omega (arith, low, high)) in
         let same : l.node ≡ l.node - 1 + 1 = omega (arith, low) in
         let k = h.each (l.node - 1) w.0 w.1 in
+        let so =
         subst (PlayedSo lines h.course h.course.phase w.0.seat.node.replica.cursor (l.node - 1 + 1) k.was looks i l.phase) is
-        (k.rests.worker.played i l (slice_get_within lines i l line_at) line_at same)
+        (k.rests.worker.played i l (slice_get_within lines i l line_at) line_at same) in (
+          so.0,
+          so.1,
+          so.2,
+          subst (λ n. ReportedSo h.course.journal (h.course.tails l.phase) (length log) n so.0) (sym same)
+              (report_within h.course.journal (h.course.tails l.phase) w.0.seat.node.replica.cursor (length log) (l.node - 1 + 1) so.0 k.short so.3),
+        )
+
+    -- what it reported, if it did
+    pub report_played : (a : Admin) → l.asks ≡ asks.Admin a → (clean : ℕ) → slice_get looks i ≡ Some (Some (looked.Reported clean)) → IsReport h.course.journal (h.course.tails l.phase) (length log) l.node clean
+    report_played a is clean came =
+        let so = node_played a is in
+        let same : so.0 ≡ looked.Reported clean = same_some so.0 (looked.Reported clean) (same_some (Some so.0) (Some (looked.Reported clean)) (sym so.1 ∙ came)) in
+        subst (ReportedSo h.course.journal (h.course.tails l.phase) (length log) l.node) same so.3
 
     can_tell_so : (a : Asks) (is : l.asks ≡ a) (look : Option Looked) → slice_get looks i ≡ Some look → TellsIt (desk_for workers l.node a) look a
     can_tell_so (asks.Logged s r command) is look look_at =
@@ -515,12 +554,18 @@ module _ (may : ℕ → Entry → Type 0) (floor : List Entry → ℕ) (shelf : 
 
       -- a line that asks its node itself
       module _ (admin : Admin) (is : l.asks ≡ asks.Admin admin) where
+        reported : (clean : ℕ) → look ≡ Some (looked.Reported clean) → HasReported log h.course.tails l.phase clean
+        reported clean t =
+            has_reported may floor shelf h.course.journal log h.course.tails l.phase l.node clean legal front (report_played i l line_at admin is clean (look_at ∙ ap Some t))
+
         node_came : (a : Admin) (o : Outcome) → Tells None look (asks.Admin a) o → CameOf log h.course.tails h.course.faults ends (take i played) turn (asks.Admin a) o
         node_came Extend (out.Extended version start) t = tt
         node_came Extend (out.Moved version) t = tt
         node_came Extend out.NoSpare t = tt
         node_came Extend (out.Open cause) t = ap failure_of_look t
-        node_came Extend o t = absurd t
+        node_came Alive (out.Alive clean) t = reported clean t
+        node_came Alive (out.Open cause) t = ap failure_of_look t
+        node_came a o t = absurd t
 
         ended_at_node : LineEnded log h.course.tails h.course.faults ends (take i played) turn
         ended_at_node = record {

@@ -4,7 +4,7 @@ use Rattle.delos_types.specs.declared.place.Place.{Place}
 use Rattle.table_core.specs.declared.command.Reply.{Reply}
 use Rattle.engine_steps.specs.declared.layout.Kept.{Kept}
 use Rattle.engine_steps.specs.Replies.{reply_text}
-use Rattle.script_text.specs.declared.line.Admin.TheVariants.{Extend}
+use Rattle.script_text.specs.declared.line.Admin.TheVariants.{Extend, Alive}
 use Rattle.script_text.specs.declared.asks.NamedLine.{NamedLine}
 use Rattle.script_text.specs.declared.asks.Asks.{Asks}
 use Rattle.script_text.specs.declared.asks.Asks.TheVariants as asks
@@ -55,6 +55,8 @@ Tells None look (asks.Admin Extend) (out.Extended version start) = look ≡ Some
 Tells None look (asks.Admin Extend) (out.Moved version) = look ≡ Some (looked.Extended (Moved version))
 Tells None look (asks.Admin Extend) out.NoSpare = look ≡ Some (looked.Extended NoSpare)
 Tells None look (asks.Admin Extend) (out.Open cause) = look ≡ Some (looked.Failed cause)
+Tells None look (asks.Admin Alive) (out.Alive clean) = look ≡ Some (looked.Reported clean)
+Tells None look (asks.Admin Alive) (out.Open cause) = look ≡ Some (looked.Failed cause)
 Tells desk look asked answered = ⊥
 
 pub record IsRowOf (l : NamedLine) (d : Option Desk) (look : Option Looked) (row : Row) : Type 0 where
@@ -73,12 +75,13 @@ IsOfTable (looked.Found after found) = Unit {0}
 IsOfTable (looked.Kept cause) = Unit {0}
 IsOfTable (looked.Failed cause) = Unit {0}
 IsOfTable (looked.Extended extension) = ⊥
+IsOfTable (looked.Reported position) = ⊥
 
 -- A logged command is answered, or its session was stopped; a read was played, and so was what a node itself was asked.
 abbrev pub TellsIt : Option Desk → Option Looked → Asks → Type 0
 TellsIt (Some d) look (asks.Logged s r command) = (1 ≤ r) × ((r ≤ length d.answers.items) ⊎ IsSome d.stopped)
 TellsIt (Some d) (Some look) (asks.Look s query) = IsOfTable look
-TellsIt None (Some look) (asks.Admin a) = IsOfNode look
+TellsIt None (Some look) (asks.Admin a) = IsOfNode a look
 TellsIt desk look asked = ⊥
 
 -- what the row of line i is told by: the desk of its session at its node, and what its own look came to

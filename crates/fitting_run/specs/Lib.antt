@@ -6,6 +6,7 @@ pub mod Reads
 pub mod Yard
 pub mod Faults
 pub mod Replacements
+pub mod Reports
 pub mod Fits
 pub mod Calm
 pub mod Lines

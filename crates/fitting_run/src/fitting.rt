@@ -35,13 +35,13 @@ fn same_session(a: &Answered, b: &Answered) -> bool
     }
 }
 
-fn before_barrier(a: &Answered, b: &Answered) -> bool
+pub(crate) fn before_barrier(a: &Answered, b: &Answered) -> bool
     ensures { result ≡ answers_of.before_barrier a.now b.now }
 {
     a.line.phase < b.line.phase
 }
 
-fn logs(asked: &Asks) -> bool
+pub(crate) fn logs(asked: &Asks) -> bool
     ensures { result ≡ answers_of.logs asked.now }
 {
     match asked {
@@ -51,7 +51,7 @@ fn logs(asked: &Asks) -> bool
     }
 }
 
-fn place_on_time(outcome: &Outcome) -> Option<Place>
+pub(crate) fn place_on_time(outcome: &Outcome) -> Option<Place>
     ensures { result ≡ answers_of.place_on_time outcome.now }
 {
     match outcome {
@@ -105,6 +105,7 @@ fn answers(asked: &Asks, outcome: &Outcome) -> bool
             Asks::Admin(Admin::Extend),
             Outcome::Extended { .. } | Outcome::Moved { .. } | Outcome::NoSpare,
         ) => true,
+        (Asks::Admin(Admin::Alive), Outcome::Alive { .. }) => true,
         (_, Outcome::Open { .. }) => true,
         _ => false,
     }

@@ -3,10 +3,11 @@
 //!
 //! - `answered`: lines with their rows.
 //! - `told`: what a run tells.
-//! - `fitting`: the tests, as programs; `replacing`: those of replacements of the loglet.
+//! - `fitting`: the tests, as programs; `replacing`: those of replacements of the loglet; `reporting`: those of what nodes report.
 #![tactic(auto)]
 
 pub mod answered;
 pub mod fitting;
 pub mod replacing;
+pub mod reporting;
 pub mod told;

@@ -1,5 +1,5 @@
 -- A line had its node replace the last loglet of the log.
-use Rattle.std.proofs.Common.{◌≡◌, refl, sym, ap, ◌∙◌, subst, ℕ, ◌+◌, ◌≤◌, false, cond, not, List, [], ◌∷◌, ◌++◌, Option, Some, None, map, length, count_by, slice_get, slice_set, arith}
+use Rattle.std.proofs.Common.{◌≡◌, refl, sym, ap, subst, ℕ, ◌+◌, ◌≤◌, false, cond, not, List, [], ◌∷◌, Option, Some, None, map, length, count_by, slice_get, slice_set, arith}
 use Rattle.delos_types.specs.Spaces.{SpaceMap}
 use Rattle.delos_types.specs.declared.entry.Entry.{Entry}
 use Rattle.delos_types.specs.declared.cause.Cause.{Cause}
@@ -11,7 +11,7 @@ use Rattle.unsealed_chain.proofs.Staying.{calm_parts}
 use Rattle.virtual_log.specs.declared.extend.Extension.{Extension}
 use Rattle.virtual_log.specs.declared.extend.Extension.TheVariants.{Extended, Moved, NoSpare}
 use Rattle.replica_api.specs.Replica.{Saved}
-use Rattle.script_text.specs.declared.line.Admin.{Admin}
+use Rattle.script_text.specs.declared.line.Admin.TheVariants.{Extend}
 use Rattle.script_text.specs.declared.asks.NamedLine.{NamedLine}
 use Rattle.script_text.specs.declared.asks.Asks.TheVariants as asks
 use Rattle.fitting_run.specs.Lines.{is_of, logs_for}
@@ -31,6 +31,7 @@ use Rattle.run_course.specs.Script.{AreLines}
 use Rattle.run_course.specs.Course.{Course, CourseOk}
 use Rattle.run_course.specs.Desks.{IsOfNode, PlayedSo}
 use Rattle.run_course.specs.Replacing.{AsksNode, has_replaced}
+use Rattle.run_course.specs.Reporting.{ReportedSo}
 use Rattle.run_course.specs.Workers.{LineWent, WorkerAt}
 use Rattle.run_course.proofs.Lines.{count-cons}
 use Rattle.run_course.proofs.Advance.{advanced, count-append, failed_of}
@@ -38,7 +39,7 @@ use Rattle.run_course.proofs.Replacing.{LooksOn, count_set}
 use Rattle.run_course.proofs.Unsealing.{same_trim}
 use Rattle.run_course.proofs.Playing.{line_went}
 
-module _ (may : ℕ → Entry → Type 0) (floor : List Entry → ℕ) (shelf : List ℕ) (state : List Entry → SpaceMap → Type 0) (spells : List ℕ → Saved → Type 0) (run : MayRun may floor shelf) (lines : List NamedLine) (home : ℕ → ℕ) (nodes : ℕ) (c : Course) (counts : List ℕ) (looks : List (Option Looked)) (n from i : ℕ) (line : NamedLine) (admin : Admin) (look : Looked) (seat seat' : SeatView) (desks : List Desk) (journal : List Event) (are : AreLines lines home nodes) (least : 1 ≤ n) (most : n ≤ nodes) (at : slice_get lines i ≡ Some line) (node : line.node ≡ n) (phase : line.phase ≡ c.phase) (asks_is : line.asks ≡ asks.Admin admin) (ok : CourseOk may floor shelf lines nodes c counts looks) (worker : WorkerAt may floor shelf state spells lines home c counts looks n from i c.phase seat desks) (since : Since n c.journal journal) (does : Extends (Within may counts) floor shelf (node_of seat c.journal) (node_of seat' journal) look) (now : WorkerOk may floor shelf state spells n counts journal seat' desks) where
+module _ (may : ℕ → Entry → Type 0) (floor : List Entry → ℕ) (shelf : List ℕ) (state : List Entry → SpaceMap → Type 0) (spells : List ℕ → Saved → Type 0) (run : MayRun may floor shelf) (lines : List NamedLine) (home : ℕ → ℕ) (nodes : ℕ) (c : Course) (counts : List ℕ) (looks : List (Option Looked)) (n from i : ℕ) (line : NamedLine) (look : Looked) (seat seat' : SeatView) (desks : List Desk) (journal : List Event) (are : AreLines lines home nodes) (least : 1 ≤ n) (most : n ≤ nodes) (at : slice_get lines i ≡ Some line) (node : line.node ≡ n) (phase : line.phase ≡ c.phase) (asks_is : line.asks ≡ asks.Admin Extend) (ok : CourseOk may floor shelf lines nodes c counts looks) (worker : WorkerAt may floor shelf state spells lines home c counts looks n from i c.phase seat desks) (since : Since n c.journal journal) (does : Extends (Within may counts) floor shelf (node_of seat c.journal) (node_of seat' journal) look) (now : WorkerOk may floor shelf state spells n counts journal seat' desks) where
   abbrev then' : Course
   then' = advanced c n (map (λ g. g.cause) does.moves.goes.given) journal c.when
 
@@ -51,12 +52,22 @@ module _ (may : ℕ → Entry → Type 0) (floor : List Entry → ℕ) (shelf : 
   paid_is (looked.Kept k) h = absurd h
   paid_is (looked.Failed k) h = h.0
   paid_is (looked.Extended x) h = h.0
+  paid_is (looked.Reported position) h = absurd h
 
-  of_node : (x : Looked) → So x → IsOfNode x
+  of_node : (x : Looked) → So x → IsOfNode Extend x
   of_node (looked.Found after found) h = h
   of_node (looked.Kept k) h = h
   of_node (looked.Failed k) h = tt
   of_node (looked.Extended x) h = tt
+  of_node (looked.Reported position) h = h
+
+  -- it reported nothing
+  none_reported : (x : Looked) → So x → ReportedSo journal (then'.tails line.phase) seat'.node.replica.cursor n x
+  none_reported (looked.Found after found) h = tt
+  none_reported (looked.Kept k) h = tt
+  none_reported (looked.Failed k) h = tt
+  none_reported (looked.Extended x) h = tt
+  none_reported (looked.Reported position) h = absurd h
 
   unlogged : (s : ℕ) → logs_for s line ≡ false
   unlogged s = ap (is_of s) asks_is
@@ -102,13 +113,14 @@ module _ (may : ℕ → Entry → Type 0) (floor : List Entry → ℕ) (shelf : 
       (lone_once (Within may counts) floor shelf (node_of seat c.journal) (node_of seat' journal) x (count_by has_replaced looks)
       (subst (Extends (Within may counts) floor shelf (node_of seat c.journal) (node_of seat' journal)) is does) (subst (λ w. Since w c.journal journal) (sym worker.ok.who_is) since)
       (same_trim may floor shelf run counts c.journal journal spends.more spends.seen now.ok.node.legal) was calm)
+  by_look (looked.Reported position) is h calm = absurd h
 
   unsealed : faults_in journal ≡ [] → IsUnsealed (state_of journal) (count_by has_replaced (slice_set looks i (Some look)))
   unsealed calm = subst (IsUnsealed (state_of journal)) (sym (count_set looks i (Some look) not_yet)) (by_look look refl does.extends calm)
 
   line_played : PlayedSo lines then' c.phase seat'.node.replica.cursor n desks (slice_set looks i (Some look)) i line.phase line.asks
   line_played = subst (PlayedSo lines then' c.phase seat'.node.replica.cursor n desks (slice_set looks i (Some look)) i line.phase) (sym asks_is)
-      (look, set_same looks i (Some look) None (worker.waiting i line (omega arith) at node), of_node look does.extends)
+      (look, set_same looks i (Some look) None (worker.waiting i line (omega arith) at node), of_node look does.extends, none_reported look does.extends)
 
   pub line_extended : LineWent may floor shelf state spells lines home nodes c counts counts looks (slice_set looks i (Some look)) n from (i + 1) journal seat' desks
   line_extended =

@@ -25,6 +25,7 @@ use Rattle.run_laws.specs.Ended.{CameTo, Fault, session_in}
 use Rattle.run_laws.proofs.Members.{among-left, contained-among, contains-among}
 use Rattle.run_course.specs.Script.{asked_by}
 use Rattle.run_course.specs.Course.{Course, CourseOk, TurnOf}
+use Rattle.run_course.specs.Reporting.{IsReport, ReportedSo}
 use Rattle.run_course.specs.Desks.{HasActed, IsHalted, IsUpTo, LoggedSo, LogsIn, LookedSo, PlayedSo, SawSo, WasEnded, WasStopped}
 use Rattle.run_course.proofs.Advance.{tail_rises}
 
@@ -94,8 +95,11 @@ module _ (may : ℕ → Entry → Type 0) (floor : List Entry → ℕ) (shelf : 
       legal = legal_wider (Within may counts') may floor shelf (λ who e h. h.0) c'.journal ok'.legal
 
   module _ (c c' : Course) (g : Grown may floor shelf c c') where
+    held_grows : (pos : ℕ) (e : Entry) → Holds c.journal pos e → Holds c'.journal pos e
+    held_grows pos e h = subst (λ l. Holds l pos e) (sym g.seen) (held_stays may floor shelf c.journal g.more pos e (subst (IsLegal may floor shelf) g.seen g.legal) h)
+
     pub front_grows : (log : List Entry) → IsFront Holds c.journal log → IsFront Holds c'.journal log
-    front_grows log h = λ pos e at. subst (λ l. Holds l pos e) (sym g.seen) (held_stays may floor shelf c.journal g.more pos e (subst (IsLegal may floor shelf) g.seen g.legal) (h pos e at))
+    front_grows log h = λ pos e at. held_grows pos e (h pos e at)
 
     pub came_grows : (k : Cause) (node phase : ℕ) → CameTo c.faults k node phase → CameTo c'.faults k node phase
     came_grows k node phase h = record {
@@ -159,6 +163,29 @@ module _ (may : ℕ → Entry → Type 0) (floor : List Entry → ℕ) (shelf : 
     looked_grows lines cursor cursor' n d d' i phase s query (looked.Kept cause) low up k (inr h) = inr (h.0, came_grows cause n phase h.1)
     looked_grows lines cursor cursor' n d d' i phase s query (looked.Failed cause) low up k h = tt
     looked_grows lines cursor cursor' n d d' i phase s query (looked.Extended x) low up k h = h
+    looked_grows lines cursor cursor' n d d' i phase s query (looked.Reported position) low up k h = h
+
+    report_grows : (cursor cursor' n phase position : ℕ) → phase ≤ c.phase → cursor ≤ cursor' → IsReport c.journal (c.tails phase) cursor n position → IsReport c'.journal (c'.tails phase) cursor' n position
+    report_grows cursor cursor' n phase position low up h = record {
+      log = h.log;
+      front = front_grows h.log h.front;
+      from = omega (arith, h.from, g.tails phase low);
+      within = omega (arith, h.within, up);
+      clean = h.clean;
+      stands = record {
+        at = h.stands.at;
+        entry = h.stands.entry;
+        held = held_grows h.stands.at h.stands.entry h.stands.held;
+        says = h.stands.says;
+      };
+    }
+
+    reported_grows : (cursor cursor' n phase : ℕ) (look : Looked) → phase ≤ c.phase → cursor ≤ cursor' → ReportedSo c.journal (c.tails phase) cursor n look → ReportedSo c'.journal (c'.tails phase) cursor' n look
+    reported_grows cursor cursor' n phase (looked.Found after found) low up h = tt
+    reported_grows cursor cursor' n phase (looked.Kept cause) low up h = tt
+    reported_grows cursor cursor' n phase (looked.Failed cause) low up h = tt
+    reported_grows cursor cursor' n phase (looked.Extended x) low up h = tt
+    reported_grows cursor cursor' n phase (looked.Reported position) low up h = report_grows cursor cursor' n phase position low up h
 
     pub played_grows : (lines : List NamedLine) (done done' cursor cursor' n : ℕ) (desks desks' : List Desk) (looks looks' : List (Option Looked)) (i phase : ℕ) (a : Asks) → phase ≤ c.phase → (phase < done' → phase < done) → cursor ≤ cursor'
         → slice_get looks' i ≡ slice_get looks i → DeskOfOld c c' desks desks' (session_in a) → PlayedSo lines c done cursor n desks looks i phase a → PlayedSo lines c' done' cursor' n desks' looks' i phase a
@@ -172,7 +199,7 @@ module _ (may : ℕ → Entry → Type 0) (floor : List Entry → ℕ) (shelf : 
           let o = old d' at in
           looked_grows lines cursor cursor' n o.0 d' i phase s.id query h.0 low up o.2 (h.2 o.0 o.1),
     )
-    played_grows lines done done' cursor cursor' n desks desks' looks looks' i phase (asks.Admin a) low ended up same old h = (h.0, same ∙ h.1, h.2)
+    played_grows lines done done' cursor cursor' n desks desks' looks looks' i phase (asks.Admin a) low ended up same old h = (h.0, same ∙ h.1, h.2, reported_grows cursor cursor' n phase h.0 low up h.3)
 
     -- a session that was stopped in an earlier phase
     pub ended_grows : (lines : List NamedLine) (n done done' s : ℕ) (d d' : Desk) (a : ℕ) → done ≤ done' → d.answered ≡ Some a → DeskGrew c c' s d d' → WasEnded lines c n done s d a → WasEnded lines c' n done' s d' a

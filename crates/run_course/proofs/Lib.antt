@@ -12,6 +12,7 @@ pub mod Logging
 pub mod Playing
 pub mod Looking
 pub mod Extending
+pub mod Reporting
 pub mod Asking
 pub mod Joining
 pub mod Waiting

@@ -12,6 +12,8 @@ use Rattle.engine_api.specs.Acted.{asked_in, table_after}
 use Rattle.engine_api.specs.Order.{gap_from}
 use Rattle.engine_laws.specs.State.{acts_in}
 use Rattle.base_engine.specs.Reading.{IsFront}
+use Rattle.script_text.specs.declared.line.Admin.{Admin}
+use Rattle.script_text.specs.declared.line.Admin.TheVariants.{Extend, Alive}
 use Rattle.script_text.specs.declared.asks.NamedLine.{NamedLine}
 use Rattle.script_text.specs.declared.asks.Asks.{Asks}
 use Rattle.script_text.specs.declared.asks.Asks.TheVariants as asks
@@ -22,6 +24,7 @@ use Rattle.node_lines.specs.declared.lines.Looked.TheVariants as looked
 use Rattle.node_workers.specs.Workers.{sent_of}
 use Rattle.run_laws.specs.Ended.{CameTo, rank_in}
 use Rattle.run_course.specs.Script.{asked_by}
+use Rattle.run_course.specs.Reporting.{ReportedSo}
 use Rattle.run_course.specs.Course.{Course}
 
 -- Lines that were played
@@ -73,20 +76,22 @@ LookedSo lines c cursor n d i phase s query (looked.Found after found) = SawSo l
 LookedSo lines c cursor n d i phase s query (looked.Kept cause) = WasStopped c d phase s cause ⊎ (LogsBefore lines i s phase × CameTo c.faults cause n phase)
 LookedSo lines c cursor n d i phase s query (looked.Failed cause) = Unit {0}
 LookedSo lines c cursor n d i phase s query (looked.Extended extension) = ⊥
+LookedSo lines c cursor n d i phase s query (looked.Reported position) = ⊥
 
--- the last loglet was replaced, or couldn't be, or the log failed
-abbrev pub IsOfNode : Looked → Type 0
-IsOfNode (looked.Extended extension) = Unit {0}
-IsOfNode (looked.Failed cause) = Unit {0}
-IsOfNode (looked.Found after found) = ⊥
-IsOfNode (looked.Kept cause) = ⊥
+-- the last loglet was replaced, or couldn't be, or the node reported, as it was asked; or the log failed, or the disk
+abbrev pub IsOfNode : Admin → Looked → Type 0
+IsOfNode Extend (looked.Extended extension) = Unit {0}
+IsOfNode Extend (looked.Failed cause) = Unit {0}
+IsOfNode Alive (looked.Reported position) = Unit {0}
+IsOfNode Alive (looked.Failed cause) = Unit {0}
+IsOfNode admin look = ⊥
 
 -- line i was played, at the desk of its session, or at the node itself
 abbrev pub PlayedSo : List NamedLine → Course → ℕ → ℕ → ℕ → List Desk → List (Option Looked) → ℕ → ℕ → Asks → Type 0
 PlayedSo lines c done cursor n desks looks i phase (asks.Logged s r command) = (d : Desk) → slice_get desks s.id ≡ Some d → LoggedSo c done cursor d phase s.id r
 PlayedSo lines c done cursor n desks looks i phase (asks.Look s query) =
     (look : Looked) × (slice_get looks i ≡ Some (Some look)) × ((d : Desk) → slice_get desks s.id ≡ Some d → LookedSo lines c cursor n d i phase s.id query look)
-PlayedSo lines c done cursor n desks looks i phase (asks.Admin a) = (look : Looked) × (slice_get looks i ≡ Some (Some look)) × IsOfNode look
+PlayedSo lines c done cursor n desks looks i phase (asks.Admin a) = (look : Looked) × (slice_get looks i ≡ Some (Some look)) × IsOfNode a look × ReportedSo c.journal (c.tails phase) cursor n look
 
 -- Sessions
 

@@ -1,5 +1,6 @@
 pub mod Script
 pub mod Replacing
+pub mod Reporting
 pub mod Course
 pub mod Desks
 pub mod Workers

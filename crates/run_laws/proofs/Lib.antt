@@ -24,3 +24,5 @@ pub mod Looks
 pub mod Counts
 pub mod Calm
 pub mod Replacing
+pub mod Clean
+pub mod Reporting

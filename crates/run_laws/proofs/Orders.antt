@@ -58,7 +58,7 @@ higher-place_le log a b m n session rank =
 
 -- Tails
 
-tails-rise : (tails : ℕ → ℕ) → ((phase : ℕ) → tails phase ≤ tails (phase + 1)) → (n m : ℕ) → n ≤ m → tails n ≤ tails m
+pub tails-rise : (tails : ℕ → ℕ) → ((phase : ℕ) → tails phase ≤ tails (phase + 1)) → (n m : ℕ) → n ≤ m → tails n ≤ tails m
 tails-rise tails rise n zero low = let is : n ≡ 0 = omega (arith, low) in subst (λ k. tails n ≤ tails k) is (omega arith)
 tails-rise tails rise n (suc m) low =
     elim (cases_lt m n) [

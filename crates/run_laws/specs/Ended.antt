@@ -12,13 +12,15 @@ use Rattle.table_core.specs.declared.command.Reply.{Reply}
 use Rattle.table_core.specs.Find.{find_in}
 use Rattle.loglet_api.specs.View.{LogletView}
 use Rattle.engine_api.specs.declared.act.Act.{Act}
-use Rattle.engine_api.specs.Acted.{Asked, asked_in, table_after}
+use Rattle.engine_api.specs.declared.content.Content.TheVariants as content
+use Rattle.engine_api.specs.Acted.{Asked, asked_in, table_after, unpack_all}
+use Rattle.engine_api.specs.Members.{clean_position}
 use Rattle.engine_api.specs.Order.{gap_from, is_clean}
 use Rattle.engine_laws.specs.State.{acts_in}
 use Rattle.chain_map.specs.Chain.{last_id}
 use Rattle.log_acts.specs.Order.{acts_below}
 use Rattle.fabric_core.specs.Log.{virtual_tail, virtual_log, has_no_gap}
-use Rattle.script_text.specs.declared.line.Admin.TheVariants.{Extend}
+use Rattle.script_text.specs.declared.line.Admin.TheVariants.{Extend, Alive}
 use Rattle.script_text.specs.declared.asks.NamedLine.{NamedLine}
 use Rattle.script_text.specs.declared.asks.Asks.{Asks}
 use Rattle.script_text.specs.declared.asks.Asks.TheVariants as asks
@@ -71,6 +73,14 @@ pub record IsOfLine (played : List Played) (x : Asked) : Type 0 where
   pub is : slice_get played at ≡ Some turn
   pub logs : LogsThis turn.line.asks x
 
+-- the line of an earlier phase that logs this
+pub record IsOfEarlier (played : List Played) (phase : ℕ) (x : Asked) : Type 0 where
+  pub at : ℕ
+  pub turn : Played
+  pub is : slice_get played at ≡ Some turn
+  pub logs : LogsThis turn.line.asks x
+  pub early : turn.line.phase < phase
+
 -- The log as far as it was played: the loglets have all of it that isn't trimmed, and what was trimmed was clean.
 pub record LogStands (log : List Entry) (chain : Chain) (cells : List LogletView) : Type 0 where
   pub whole : has_no_gap chain cells ≡ true
@@ -105,6 +115,13 @@ pub record HasLooked (log : List Entry) (tails : ℕ → ℕ) (before : List Pla
   pub from : tails phase ≤ after
   pub upto : after ≤ tails (phase + 1)
 
+-- so many entries are clean of a front of the log that reaches the phase's first tail
+pub record HasReported (log : List Entry) (tails : ℕ → ℕ) (phase clean : ℕ) : Type 0 where
+  pub upto : ℕ
+  pub within : upto ≤ length log
+  pub from : tails phase ≤ upto
+  pub is : clean ≡ clean_position (take upto log)
+
 -- a fault of this cause came to the node in the phase
 pub record CameTo (faults : List Fault) (cause : Cause) (node phase : ℕ) : Type 0 where
   pub fault : Fault
@@ -130,6 +147,7 @@ CameOf log tails faults ends before t (asks.Logged s r c) (out.Open cause) = IsL
 CameOf log tails faults ends before t (asks.Look s q) (out.Read after found) = HasLooked log tails before t.line.phase s.id q after found
 CameOf log tails faults ends before t (asks.Look s q) (out.Open cause) = IsUnread faults (ends s.id) before t s.id cause
 CameOf log tails faults ends before t (asks.Admin a) (out.Open cause) = t.paid ≡ Some cause
+CameOf log tails faults ends before t (asks.Admin Alive) (out.Alive clean) = HasReported log tails t.line.phase clean
 -- what these rows say is said of all of them at once, below
 CameOf log tails faults ends before t (asks.Admin Extend) (out.Extended version start) = Unit {0}
 CameOf log tails faults ends before t (asks.Admin Extend) (out.Moved version) = Unit {0}
@@ -265,7 +283,12 @@ pub record RunEnded (played : List Played) (o : Told) (yard : Shown) : Type 0 wh
   pub stands : LogStands log o.chain yard.cells
   -- each command in the log is a line's
   pub sent : (x : Asked) → Contains (asked_in 0 log) x → IsOfLine played x
+  -- and where it stood there when a phase began, of an earlier phase
+  pub early : (phase : ℕ) (x : Asked) → Contains (asked_in 0 (take (tails phase) log)) x → IsOfEarlier played phase x
   pub lines : AllAfter (LineEnded log tails faults ends) [] played
+  -- where nothing is trimmed, each report of a node stands in the log that the loglets have
+  pub reported : (i : ℕ) (t : Played) (clean : ℕ) → slice_get played i ≡ Some t → t.row.outcome ≡ out.Alive clean → o.chain.trim ≡ 0
+      → Contains (map (λ p. p.content) (unpack_all 0 (virtual_log o.chain yard.cells 0 (virtual_tail o.chain yard.cells)))) (content.Alive t.line.node clean)
   pub sessions : (s : ℕ) → SessionEnded played faults home s (ends s)
   pub replacements : Replacements played o.version o.chain (length yard.cells)
   pub came : FaultsCame played faults yard
