@@ -2,7 +2,7 @@
 ghost use Rattle.std.specs.Prelude.{◌≡◌, ◌≤◌, ◌⊎◌, ℕ, IfOk, IsSome, None, Option, Some, true, length, map};
 ghost use Rattle.table_core.specs.declared.command.Command.{Command};
 ghost use Rattle.table_core.specs.declared.command.Query.{Query};
-ghost use Rattle.script_text.specs.declared.line.Admin.TheVariants.{Extend};
+ghost use Rattle.script_text.specs.declared.line.Admin.TheVariants.{Extend, Alive};
 ghost use Rattle.script_text.specs.declared.line.Session.{Session};
 ghost use Rattle.script_text.specs.declared.asks.Asks.TheVariants as asks;
 ghost use Rattle.fitting_run.specs.Answered.{session_asking};
@@ -30,7 +30,8 @@ use virtual_log::extend::Extension;
 
 /// The rows of all lines, in their order. A command that its desk has an answer of is placed there, `late` where its rank is above
 /// those that were answered as its session was stopped; any other is open, by the cause of that. A read tells what it looked
-/// at, or why it didn't. What a node itself was asked tells what became of the last loglet, or why the log failed.
+/// at, or why it didn't. What a node itself was asked tells what became of the last loglet, or what the node reported, or why the
+/// log or its disk failed.
 ///
 /// Cost: constant for each line, beside the copy of what it tells.
 pub fn rows_of<S: Replica, C: Chooser>(
@@ -103,6 +104,7 @@ fn outcome_of<S: Replica, C: Chooser>(
         }
         Asks::Look { .. } => look_outcome(alloc, look),
         Asks::Admin(Admin::Extend) => Ok(extend_outcome(look)),
+        Asks::Admin(Admin::Alive) => Ok(report_outcome(look)),
     }
 }
 
@@ -172,12 +174,13 @@ fn look_outcome(alloc: Global, look: &Option<Looked>) -> Result<Outcome, AllocEr
         Looked::Kept(cause) => Ok(Outcome::Open { cause: *cause }),
         Looked::Failed(cause) => Ok(Outcome::Open { cause: *cause }),
         Looked::Extended(_) => unreachable!(),
+        Looked::Reported(_) => unreachable!(),
     }
 }
 
 /// What becomes of a replacement of the last loglet.
 fn extend_outcome(look: &Option<Looked>) -> Outcome
-    requires { (looked : Looked) × (look.now ≡ Some looked) × IsOfNode looked }
+    requires { (looked : Looked) × (look.now ≡ Some looked) × IsOfNode Extend looked }
     ensures { Tells None look.now (asks.Admin Extend) result }
 {
     let Some(look) = look else { unreachable!() };
@@ -186,6 +189,7 @@ fn extend_outcome(look: &Option<Looked>) -> Outcome
         Looked::Failed(cause) => Outcome::Open { cause: *cause },
         Looked::Found { .. } => unreachable!(),
         Looked::Kept(_) => unreachable!(),
+        Looked::Reported(_) => unreachable!(),
     }
 }
 
@@ -197,5 +201,20 @@ fn extended(extension: Extension) -> Outcome
         Extension::Extended { version, start } => Outcome::Extended { version, start },
         Extension::Moved { version } => Outcome::Moved { version },
         Extension::NoSpare => Outcome::NoSpare,
+    }
+}
+
+/// What becomes of a report.
+fn report_outcome(look: &Option<Looked>) -> Outcome
+    requires { (looked : Looked) × (look.now ≡ Some looked) × IsOfNode Alive looked }
+    ensures { Tells None look.now (asks.Admin Alive) result }
+{
+    let Some(look) = look else { unreachable!() };
+    match look {
+        Looked::Reported(clean) => Outcome::Alive { clean: *clean },
+        Looked::Failed(cause) => Outcome::Open { cause: *cause },
+        Looked::Found { .. } => unreachable!(),
+        Looked::Kept(_) => unreachable!(),
+        Looked::Extended(_) => unreachable!(),
     }
 }

@@ -24,7 +24,8 @@ use fabric_core::fabric::Parts;
 use fate_words::chooser::Chooser;
 use fitting_run::told::Told;
 use line_rules::laws::{
-    a_log_of_lines_trims_nothing, lines_are_sent, lines_may_run, the_floor_is_the_least,
+    a_log_of_lines_trims_nothing, lines_are_sent, lines_may_run, reports_are_sent,
+    the_floor_is_the_least,
 };
 use loglet_api::loglet::Loglet;
 use one_thread::terms::Terms;
@@ -133,6 +134,7 @@ pub fn run_lines<L: Loglet, R: Register, S: Replica, C: Chooser>(
     lines_may_run();
     a_log_of_lines_trims_nothing();
     lines_are_sent();
+    reports_are_sent();
     the_floor_is_the_least::<S>();
     know_all(cells.as_slice());
     run_by::<L, R, Brand, S, C>(alloc, cells, register, nodes, lines)

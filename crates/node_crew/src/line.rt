@@ -5,6 +5,7 @@ ghost use Rattle.delos_types.specs.declared.entry.Entry.{Entry};
 ghost use Rattle.engine_laws.specs.State.{IsStateOf};
 ghost use Rattle.one_thread.specs.Seats.{SeatOk};
 ghost use Rattle.script_text.specs.declared.asks.NamedLine.{NamedLine};
+ghost use Rattle.script_text.specs.declared.asks.Asks.TheVariants as asks;
 ghost use Rattle.node_lines.specs.declared.lines.Looked.{Looked};
 ghost use Rattle.node_workers.specs.Workers.{WorkerOk, MayRun, Grows};
 ghost use Rattle.run_course.specs.Course.{Course};
@@ -14,7 +15,7 @@ use fabric_core::fabric::Fabric;
 use fate_words::chooser::Chooser;
 use loglet_api::loglet::Loglet;
 use node_lines::lines::Looked;
-use node_workers::turns::{Returned, extend_line, log_line, look_line};
+use node_workers::turns::{Returned, extend_line, log_line, look_line, report_line};
 use node_workers::worker::Worker;
 use one_thread::terms::{By, Terms};
 use register_api::Register;
@@ -58,8 +59,47 @@ fn keep_look<L: Loglet, R: Register, K: Terms, S: Replica, C: Chooser>(
     }
 }
 
-/// Plays line `i`, which is the worker's: a command is handed in, and what a read or a replacement of the last loglet came to
-/// stands in `looks` then.
+/// Plays line `i`, which asks this of the worker's node itself: what it came to stands in `looks` then.
+fn play_admin<L: Loglet, R: Register, K: Terms, S: Replica, C: Chooser>(
+    alloc: Global,
+    fabric: Fabric<L, R, By<K>>,
+    worker: Worker<S, C>,
+    counts: &[u64; 64],
+    looks: &mut Vec<Option<Looked>>,
+    i: usize,
+    line: &NamedLine,
+    admin: Admin,
+) -> Returned<L, R, K, S, C, ()>
+    requires run { MayRun K.may K.floor K.shelf }
+    requires state { (log : List Entry) (m : SpaceMap) → S.state log m → IsStateOf log m }
+    requires worker { WorkerOk K.may K.floor K.shelf S.state S.spells worker.seat.who counts.now fabric.journal worker.seat worker.desks.items }
+    requires node { line.now.node ≡ worker.seat.who }
+    requires asked { line.now.asks ≡ asks.Admin admin }
+    requires sends { CanSend K.may worker.seat.who (asks.Admin admin) }
+    requires there { i < length looks.old.items }
+
+    // The run goes on.
+    ensures goes { (lines : List NamedLine) (home : ℕ → ℕ) (nodes : ℕ) (c : Course) (from : ℕ) → slice_get lines i ≡ Some line.now → line.now.node ≡ worker.seat.who → line.now.phase ≡ c.phase
+        → IsUnderWay K.may K.floor K.shelf S.state S.spells lines home nodes c counts.now looks.old.items worker.seat.who from i fabric.journal worker.seat worker.desks.items
+        → OnOk result.answer (LineWent K.may K.floor K.shelf S.state S.spells lines home nodes c counts.now counts.now looks.old.items looks.new.items worker.seat.who from (i + 1) result.fabric.journal result.worker.seat result.worker.desks.items) }
+    ensures stands { SeatOk K.may K.floor K.shelf S.state S.spells result.fabric.journal result.worker.seat }
+    ensures grows { Grows fabric.journal result.fabric.journal }
+    ensures who { OnOk result.answer (result.worker.seat.who ≡ worker.seat.who) }
+{
+    match admin {
+        Admin::Extend => {
+            let looked = extend_line(fabric, worker, counts);
+            return keep_look(looked, looks, i);
+        }
+        Admin::Alive => {
+            let looked = report_line(alloc, fabric, worker, counts, line.node);
+            return keep_look(looked, looks, i);
+        }
+    }
+}
+
+/// Plays line `i`, which is the worker's: a command is handed in, and what a read, a report or a replacement of the last loglet
+/// came to stands in `looks` then.
 pub fn play_line<L: Loglet, R: Register, K: Terms, S: Replica, C: Chooser>(
     alloc: Global,
     fabric: Fabric<L, R, By<K>>,
@@ -72,6 +112,7 @@ pub fn play_line<L: Loglet, R: Register, K: Terms, S: Replica, C: Chooser>(
     requires run { MayRun K.may K.floor K.shelf }
     requires state { (log : List Entry) (m : SpaceMap) → S.state log m → IsStateOf log m }
     requires worker { WorkerOk K.may K.floor K.shelf S.state S.spells worker.seat.who counts.old fabric.journal worker.seat worker.desks.items }
+    requires node { line.now.node ≡ worker.seat.who }
     requires next { IsNext counts.old worker.desks.items line.now.asks }
     requires sends { CanSend K.may worker.seat.who line.now.asks }
     requires there { i < length looks.old.items }
@@ -98,9 +139,8 @@ pub fn play_line<L: Loglet, R: Register, K: Terms, S: Replica, C: Chooser>(
             let looked = look_line(fabric, worker, counts, session.id, query);
             return keep_look(looked, looks, i);
         }
-        Asks::Admin(Admin::Extend) => {
-            let looked = extend_line(fabric, worker, counts);
-            return keep_look(looked, looks, i);
+        Asks::Admin(admin) => {
+            return play_admin(alloc, fabric, worker, counts, looks, i, line, *admin);
         }
     }
 }

@@ -13,4 +13,6 @@ mod own;
 #[cfg(test)]
 mod replacing;
 #[cfg(test)]
+mod reporting;
+#[cfg(test)]
 mod tests;

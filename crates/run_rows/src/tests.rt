@@ -201,6 +201,48 @@ fn replacements_and_their_texts(rt: HostRuntime) -> Result<(), Fail> {
     Ok(())
 }
 
+// A node reports how many of the log's first entries are clean in its state, by an entry of its own.
+#[test]
+fn reports_and_their_texts(rt: HostRuntime) -> Result<(), Fail> {
+    let alloc = rt.alloc();
+    let rows = [
+        (
+            FILE_RUN,
+            &b"on n1 alive\non n1 alive\n"[..],
+            &b"1 n1 alive 0\n2 n1 alive 1\nend 2\nchain v=1 trim=0\nseg 0 file 0 open\n"[..],
+        ),
+        // What waits goes down before it.
+        (
+            FILE_RUN,
+            b"on n1 a put x 1\non n1 alive\non n1 a get x\n",
+            b"1 a @0.0 ok\n2 n1 alive 1\n3 a >2 = 1\nend 2\nchain v=1 trim=0\nseg 0 file 0 open\n",
+        ),
+        (
+            &["run", "--nodes", "2", "--shelf", "striped2"],
+            b"on n1 a put x 1\nbarrier\non n2 alive\non n1 alive\nbarrier\non n2 b get x\n",
+            b"1 a @0.0 ok\n3 n2 alive 2\n4 n1 alive 1\n6 b >3 = 1\nend 3\nchain v=1 trim=0\nseg 0 striped2 0 open\n",
+        ),
+        (
+            &["run", "--shelf", "file,native3"],
+            b"on n1 a put x 1\non n1 extend\non n1 a put y 2\non n1 alive\n",
+            b"1 a @0.0 ok\n2 n1 extended v=2 at 1\n3 a @1.0 ok\n4 n1 alive 2\nend 3\nchain v=2 trim=0\nseg 0 file 0 1\nseg 1 native3 1 open\n",
+        ),
+    ];
+    for (words, script, text) in rows {
+        ends_with(&rt, alloc, words, script, &CALM, 0, text)?;
+    }
+    // A report that finds no room is open, and stops no session.
+    ends_with(
+        &rt,
+        alloc,
+        FILE_RUN,
+        b"on n1 a put x 1\non n1 alive\non n1 a get x\n",
+        &SMALL,
+        1,
+        b"1 a @0.0 ok\n2 n1 open full 0\n3 a >1 = 1\nend 1\nchain v=1 trim=0\nseg 0 file 0 open\n",
+    )
+}
+
 // Of seventeen commands sixteen stand in one entry, and the last in the next.
 #[test]
 fn an_entry_takes_sixteen_commands(rt: HostRuntime) -> Result<(), Fail> {
@@ -228,8 +270,9 @@ fn an_entry_takes_sixteen_commands(rt: HostRuntime) -> Result<(), Fail> {
 fn bad_lines(rt: HostRuntime) -> Result<(), Fail> {
     let alloc = rt.alloc();
     let rows = [
-        (&b"on n1 alive\n"[..], &b"line 1: word\n"[..]),
+        (&b"on n1 trim\n"[..], &b"line 1: word\n"[..]),
         (b"on n1 extend x\n", b"line 1: count\n"),
+        (b"on n1 alive x\n", b"line 1: count\n"),
         (b"on n2 extend\n", b"line 1: node\n"),
         (b"on n1 a put x 1\n\non n2 a get x\n", b"line 3: node\n"),
         (b"on n1 a add c -0\nwhat\n", b"line 1: number\n"),

@@ -5,12 +5,10 @@ use Rattle.node_sessions.specs.declared.desk.Desk.{Desk}
 use Rattle.one_thread.specs.Alone.{Since}
 use Rattle.one_thread.specs.Seats.{node_of}
 use Rattle.node_lines.specs.Lines.{Looks}
-use Rattle.node_lines.specs.Extending.{Extends}
 use Rattle.node_workers.specs.Workers.{WorkerOk, Within, Logs}
 use Rattle.run_course.specs.Workers.{LineWent}
 use Rattle.run_course.proofs.Logging.{line_logged}
 use Rattle.run_course.proofs.Looking.{line_looked}
-use Rattle.run_course.proofs.Extending.{line_extended}
 use Rattle.node_crew.proofs.Ok.{on_ok, on_ok3}
 use Rattle.node_crew.proofs.line.play_line.Goals as goal
 
@@ -72,44 +70,6 @@ pub returns-in-Look-clause-who : goal.returns-in-Look-clause-who
 returns-in-Look-clause-who g c =
     let q = c.look_line-looked in
     let k = c.keep_look in
-    on_ok k.result.answer k.ensures.looks (λ kept.
-    let p = g.K.Terms in
-    let r = g.S.Replica in
-    let now = subst (λ x. IfOk x (λ l. WorkerOk p.may p.floor p.shelf r.state r.spells c.args.worker.seat.who c.args.counts.now q.result.fabric.journal q.result.worker.seat q.result.worker.desks.items)) kept.1 q.ensures.worker in
-    ap (λ x. x.seat.who) k.ensures.worker ∙ now.who_is)
-
-pub returns-in-Admin-Extend-clause-goes : goal.returns-in-Admin-Extend-clause-goes
-returns-in-Admin-Extend-clause-goes g c = λ lines home nodes course from at node phase u.
-    let p = g.K.Terms in
-    let r = g.S.Replica in
-    let w = c.args.worker in
-    let counts = c.args.counts.now in
-    let looks = c.args.looks.now.items in
-    let q = c.extend_line-looked in
-    let k = c.keep_look-in-Admin-Extend in
-    let new = q.result.fabric.journal in
-    let seat = q.result.worker.seat in
-    let same = q.ensures.desks in
-    on_ok k.result.answer k.ensures.looks (λ kept.
-    let look = kept.0 in
-    let since : Since w.seat.who c.args.fabric.journal new = subst (λ x. IfOk x (λ l. Since w.seat.who c.args.fabric.journal new)) kept.1 q.ensures.since in
-    let now : WorkerOk p.may p.floor p.shelf r.state r.spells w.seat.who counts new seat q.result.worker.desks.items =
-    subst (λ x. IfOk x (λ l. WorkerOk p.may p.floor p.shelf r.state r.spells w.seat.who counts new seat q.result.worker.desks.items)) kept.1 q.ensures.worker in
-    let now' : WorkerOk p.may p.floor p.shelf r.state r.spells w.seat.who counts new seat w.desks.items = subst (λ ds. WorkerOk p.may p.floor p.shelf r.state r.spells w.seat.who counts new seat ds.items) same now in
-    let extends = subst (λ x. IfOk x (Extends (Within p.may counts) p.floor p.shelf (node_of w.seat c.args.fabric.journal) (node_of seat new))) kept.1 q.ensures.extends in
-    let went = line_extended p.may p.floor p.shelf r.state r.spells c.requires.run lines home nodes course counts looks w.seat.who from c.args.i c.args.line.now c.in-Admin-Extend.field-0 look w.seat seat w.desks.items new
-    u.lines_are u.least u.most at node phase c.in-Admin-Extend.is u.ok u.worker
-    (subst (λ j. Since w.seat.who j new) (sym u.journal_is) since)
-    (subst (λ j. Extends (Within p.may counts) p.floor p.shelf (node_of w.seat j) (node_of seat new) look) (sym u.journal_is) extends) now' in
-    subst (λ l. LineWent p.may p.floor p.shelf r.state r.spells lines home nodes course counts counts looks l w.seat.who from (c.args.i + 1) k.result.fabric.journal k.result.worker.seat k.result.worker.desks.items) (sym kept.2)
-    (subst (λ x. LineWent p.may p.floor p.shelf r.state r.spells lines home nodes course counts counts looks (slice_set looks c.args.i (Some look)) w.seat.who from (c.args.i + 1) k.result.fabric.journal x.seat x.desks.items) (sym k.ensures.worker)
-    (subst (λ f. LineWent p.may p.floor p.shelf r.state r.spells lines home nodes course counts counts looks (slice_set looks c.args.i (Some look)) w.seat.who from (c.args.i + 1) f.journal seat q.result.worker.desks.items) (sym k.ensures.fabric)
-    (subst (λ ds. LineWent p.may p.floor p.shelf r.state r.spells lines home nodes course counts counts looks (slice_set looks c.args.i (Some look)) w.seat.who from (c.args.i + 1) new seat ds.items) (sym same) went))))
-
-pub returns-in-Admin-Extend-clause-who : goal.returns-in-Admin-Extend-clause-who
-returns-in-Admin-Extend-clause-who g c =
-    let q = c.extend_line-looked in
-    let k = c.keep_look-in-Admin-Extend in
     on_ok k.result.answer k.ensures.looks (λ kept.
     let p = g.K.Terms in
     let r = g.S.Replica in

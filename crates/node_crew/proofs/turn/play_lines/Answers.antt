@@ -46,6 +46,11 @@ play_line-played-requires-clause-next g c =
     let own = eqb-true line.node a.node (sym c.eq.ensures ∙ c.if-eq.true) in
     line_next p.may p.floor p.shelf r.state r.spells a.lines.now t.home t.nodes w.course l.counts l.looks.items a.node a.from l.i line l.fabric.journal l.worker.seat l.worker.desks.items at own u
 
+pub play_line-played-requires-clause-node : goal.play_line-played-requires-clause-node
+play_line-played-requires-clause-node g c =
+    let l = c.loop-i in
+    eqb-true c.index-lines-i.result.node c.args.node (sym c.eq.ensures ∙ c.if-eq.true) ∙ sym l.invariant.who
+
 pub play_line-played-requires-clause-sends : goal.play_line-played-requires-clause-sends
 play_line-played-requires-clause-sends g c =
     let a = c.args in
