@@ -1,9 +1,10 @@
 #!/bin/sh
-# run.sh [PROGRAM [RUNS]]: commands a second, peak memory and growth of PROGRAM, which is delos_sim as it is built; without PROGRAM it is built
-# here. Both `run` and `make` are measured, at 1,000, 5,000 and 15,000 logged lines, over four shelves, with 1, 4 and 8 nodes.
+# run.sh [PROGRAM [RUNS [ROUNDS]]]: commands a second, peak memory and growth of PROGRAM, which is delos_sim as it is built; without PROGRAM it
+# is built here. Both `run` and `make` are measured, at 1,000, 5,000 and 15,000 logged lines, over four shelves, with 1, 4 and 8 nodes.
 #
-# A time is that of a whole process: the least of the runs, less the least of as many that do as little as can be: an empty script, or a made
-# one of one line. Growth is the time of a line, as a ratio of that in the first row of the same shelf and nodes.
+# A time is that of a whole process: the least of the runs of all rounds, less the least of as many that do as little as can be: an empty
+# script, or a made one of one line. Each round measures every row, so that a while in which the machine is slow spoils no row. Growth is the
+# time of a line, as a ratio of that in the first row of the same command, shelf and nodes.
 #
 # The table goes to standard output and to bench/results/rates.md, and a plot of it to bench/results/rates.svg.
 set -eu
@@ -15,6 +16,7 @@ if [ $# -eq 0 ]; then
 fi
 program=$1
 runs=${2:-5}
+rounds=${3:-3}
 folder=$(mktemp -d)
 trap 'rm -r "$folder"' EXIT
 . "$here/../times.sh"
@@ -33,22 +35,42 @@ peak() {
     cat "$folder/peak"
 }
 
-# row COMMAND SHELF NODES LINES FILE LEAST EMPTY: one row
-row() {
+# measured COMMAND SHELF NODES LINES FILE LEAST EMPTY: what one round measures of a row
+measured() {
     all=$(words "$1" "$2" "$3" "$4")
     none=$(words "$1" "$2" "$3" "$6")
     # shellcheck disable=SC2086 # the words are split here
-    time=$(($(least "$5" $all) - $(least "$7" $none)))
-    [ "$4" -eq 1000 ] && first=$time
-    growth=$(awk -v t="$time" -v n="$4" -v f="$first" 'BEGIN { printf "%.2f", t / n * 1000 / f }')
-    # shellcheck disable=SC2086
-    echo "| $1 | $2 | $3 | $4 | $time | $(($4 * 1000000 / time)) | $(peak "$5" $all) | $growth |"
+    echo "$1 $2 $3 $4 $(least "$5" $all) $(least "$7" $none) $(peak "$5" $all)"
 }
+
+# rows: the table of what all rounds measured, in the order of the first
+rows() {
+    awk '
+        {
+            row = $1 " | " $2 " | " $3 " | " $4
+            if (!(row in time)) { order[++count] = row; group[row] = $1 " " $2 " " $3; lines[row] = $4; time[row] = $5; least[row] = $6 }
+            if ($5 < time[row]) time[row] = $5
+            if ($6 < least[row]) least[row] = $6
+            if ($7 > peak[row]) peak[row] = $7
+        }
+        END {
+            for (i = 1; i <= count; i++) {
+                row = order[i]
+                took = time[row] - least[row]
+                if (!(group[row] in first)) first[group[row]] = took / lines[row]
+                printf "| %s | %d | %d | %d | %.2f |\n", row, took, lines[row] * 1000000 / took, peak[row], took / lines[row] / first[group[row]]
+            }
+        }' "$folder/measured"
+}
+
+for _ in $(seq "$rounds"); do
+    each_row measured file native3 striped2 "$default_shelf" >> "$folder/measured"
+done
 
 table() {
     echo "| command | shelf | nodes | lines | microseconds | commands a second | peak KiB | growth |"
     echo "|---|---|---|---|---|---|---|---|"
-    each_row row file native3 striped2 "$default_shelf"
+    rows
 }
 
 mkdir -p "$here/../results"
