@@ -1,9 +1,11 @@
 -- What holds of the lines of every script.
-use Rattle.std.specs.Prelude.{◌≡◌, ℕ, ◌+◌, ◌≤◌, ◌==◌, nat_le, ◌&&◌, Bool, true, false, List, [], ◌∷◌, ◌++◌, count_by}
+use Rattle.std.specs.Prelude.{ℕ, ◌+◌, ◌≤◌, ◌==◌, nat_le, ◌&&◌, Bool, true, false, not, List, [], ◌∷◌, ◌++◌, count_by}
 use Rattle.table_core.specs.Spelling.{IsSpellable, command_length}
 use Rattle.script_text.specs.declared.asks.NamedLine.{NamedLine}
 use Rattle.script_text.specs.declared.asks.Asks.{Asks}
 use Rattle.script_text.specs.declared.asks.Asks.TheVariants as asks
+use Rattle.script_text.specs.declared.line.Admin.TheVariants.{Retire}
+use Rattle.fitting_run.specs.Tests.{◌⇒◌, each_pair}
 
 -- the line logs a command of the session
 abbrev pub is_of : ℕ → Asks → Bool
@@ -28,6 +30,19 @@ are_ranked before (l ∷ ls) = has_rank before l.asks && are_ranked (before ++ l
 abbrev pub are_in_phase : ℕ → List NamedLine → Bool
 are_in_phase phase [] = true
 are_in_phase phase (l ∷ ls) = nat_le phase l.phase && are_in_phase l.phase ls
+
+-- the node is to leave
+abbrev pub asks_to_leave : Asks → Bool
+asks_to_leave (asks.Admin Retire) = true
+asks_to_leave asked = false
+
+-- where the line asks its node to leave, the later one names another
+abbrev pub names_another : NamedLine → NamedLine → Bool
+names_another l later = asks_to_leave l.asks ⇒ not (l.node == later.node)
+
+-- no line names a node that an earlier line asks to leave
+abbrev pub are_not_retired : List NamedLine → Bool
+are_not_retired lines = each_pair names_another lines
 
 -- an entry may hold the command
 abbrev pub CanLog : Asks → Type 0

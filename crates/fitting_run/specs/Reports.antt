@@ -1,4 +1,4 @@
--- What nodes report of the log: how many of its first entries are clean.
+-- What nodes report of the log: how many of its first entries are clean; and that they leave.
 use Rattle.std.specs.Prelude.{◌≡◌, ℕ, Bool, true, false, ◌&&◌, ◌==◌, nat_lt, nat_le, List, Option, Some, None}
 use Rattle.std.specs.List.{list_all, list_any}
 use Rattle.delos_types.specs.declared.chain.Chain.{Chain}
@@ -6,6 +6,7 @@ use Rattle.loglet_api.specs.View.{LogletView}
 use Rattle.engine_api.specs.declared.content.Content.{Content}
 use Rattle.engine_api.specs.declared.content.Content.TheVariants.{Alive}
 use Rattle.engine_api.specs.Acted.{unpack_all}
+use Rattle.engine_api.specs.Members.{has_left}
 use Rattle.fabric_core.specs.Log.{virtual_tail, virtual_log}
 use Rattle.row_text.specs.declared.row.Outcome.{Outcome}
 use Rattle.row_text.specs.declared.row.Outcome.TheVariants as out
@@ -44,8 +45,20 @@ stands_in_log chain cells b =
     where_some (reported b.row.outcome) (λ d.
     (chain.trim == 0) ⇒ list_any (λ p. says_alive b.line.node d p.content) (unpack_all chain.trim (virtual_log chain cells chain.trim (virtual_tail chain cells))))
 
--- What nodes were answered that were asked to report.
+-- the node left, as the row says
+abbrev pub is_retired : Outcome → Bool
+is_retired out.Retired = true
+is_retired other = false
+
+-- where nothing is trimmed, the log has that the node leaves, up to its tail
+abbrev pub has_leave : Chain → List LogletView → Answered → Bool
+has_leave chain cells b =
+    is_retired b.row.outcome
+    ⇒ ((chain.trim == 0) ⇒ has_left (unpack_all chain.trim (virtual_log chain cells chain.trim (virtual_tail chain cells))) b.line.node)
+
+-- What nodes were answered that were asked to report, or to leave.
 pub record ReportsStand (told : List Answered) (chain : Chain) (cells : List LogletView) (end : ℕ) : Type 0 where
   pub within : list_all (is_within end) told ≡ true
   pub all : list_all (reports_all told) told ≡ true
   pub stand : list_all (stands_in_log chain cells) told ≡ true
+  pub left : list_all (has_leave chain cells) told ≡ true

@@ -4,10 +4,12 @@
 //! - `answered`: lines with their rows.
 //! - `told`: what a run tells.
 //! - `fitting`: the tests, as programs; `replacing`: those of replacements of the loglet; `reporting`: those of what nodes report.
+//! - `laws`: a law of the lines of every script.
 #![tactic(auto)]
 
 pub mod answered;
 pub mod fitting;
+pub mod laws;
 pub mod replacing;
 pub mod reporting;
 pub mod told;

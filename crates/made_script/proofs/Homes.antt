@@ -18,7 +18,7 @@ homes_to zero = []
 homes_to (suc m) = homes_to m ++ home (session_of (suc m)) (suc m) ∷ []
 
 abbrev pub seen_to : ℕ → Before
-seen_to m = record { homes = homes_to m }
+seen_to m = record { homes = homes_to m; retired = [] }
 
 pub homes_none : homes_to 0 ≡ []
 unfolding homes_to
@@ -74,7 +74,7 @@ next-one m few =
       absent m (suc m) (omega arith),
       id,
       omega arith,
-      ap (λ (n : ℕ). let b : Before = record { homes = homes_to m ++ home (session n (session_of (suc m)).name) (suc m) ∷ [] } in b) id,
+      ap (λ (n : ℕ). let b : Before = record { homes = homes_to m ++ home (session n (session_of (suc m)).name) (suc m) ∷ []; retired = [] } in b) id,
     )
 
 -- the session of an earlier one is at home

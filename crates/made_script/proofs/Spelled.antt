@@ -14,7 +14,7 @@ use Rattle.std.proofs.Math.Nat.{mod-lt}
 use Rattle.script_text.specs.declared.line.Line.{Line}
 use Rattle.script_text.specs.declared.line.Line.TheVariants as line
 use Rattle.script_text.specs.declared.line.Admin.TheVariants.{Extend}
-use Rattle.script_text.specs.Seen.{Before, nothing_yet}
+use Rattle.script_text.specs.Seen.{Before, nothing_yet, is_retired}
 use Rattle.script_text.specs.Script.{RawLine, raw_line, raw_lines, lines_in}
 use Rattle.script_text.specs.Spelling.{spell, is_print, LineFits, Follows, SpellsFrom, IsScript}
 use Rattle.script_text.proofs.Numbers.{number_prints}
@@ -118,12 +118,12 @@ one-line : (nodes : ℕ) (b after : Before) (n at : ℕ) (l : Line) (rest : List
 one-line nodes b after n at l rest place number short fits follows others =
     (place, number, after, record { spelled = refl; short = short; fits = fits; follows = follows }, others)
 
-before-command : (t : Bool) (nodes : ℕ) (b : Before) (n at : ℕ) (rest : List Line) → 1 ≤ nodes → at + 13 ≤ 1048576 → n ≤ 20000
+before-command : (t : Bool) (nodes : ℕ) (b : Before) (n at : ℕ) (rest : List Line) → is_retired b 1 ≡ false → 1 ≤ nodes → at + 13 ≤ 1048576 → n ≤ 20000
     → ((m to : ℕ) → m ≡ n + cond t 1 0 → to ≤ at + 13 → SpelledFrom nodes b m to rest) → SpelledFrom nodes b n at (cond t (line.Admin 1 Extend ∷ []) [] ++ rest)
-before-command true nodes b n at rest least place number others =
-    one-line nodes b b n at (line.Admin 1 Extend) rest place number (omega arith) (record { least = omega arith; most = least }) refl
+before-command true nodes b n at rest there least place number others =
+    one-line nodes b b n at (line.Admin 1 Extend) rest place number (omega arith) (record { least = omega arith; most = least }) (there, refl)
     (others (n + 1) (at + 13) refl (omega arith))
-before-command false nodes b n at rest least place number others = others n at (omega arith) (omega arith)
+before-command false nodes b n at rest there least place number others = others n at (omega arith) (omega arith)
 
 behind-command : (t : Bool) (nodes : ℕ) (b : Before) (n at : ℕ) (rest : List Line) → at + 8 ≤ 1048576 → n ≤ 20000
     → ((m to : ℕ) → m ≡ n + cond t 1 0 → to ≤ at + 8 → SpelledFrom nodes b m to rest) → SpelledFrom nodes b n at (cond t (line.Barrier ∷ []) [] ++ rest)
@@ -131,13 +131,13 @@ behind-command true nodes b n at rest place number others =
     one-line nodes b b n at line.Barrier rest place number (omega arith) tt refl (others (n + 1) (at + 8) refl (omega arith))
 behind-command false nodes b n at rest place number others = others n at (omega arith) (omega arith)
 
-around-command : (nodes : ℕ) (b after : Before) (i n at : ℕ) (command : Line) (rest : List Line) → 1 ≤ nodes → at + 41 ≤ 1048576 → n + 2 ≤ 20000
+around-command : (nodes : ℕ) (b after : Before) (i n at : ℕ) (command : Line) (rest : List Line) → is_retired b 1 ≡ false → 1 ≤ nodes → at + 41 ≤ 1048576 → n + 2 ≤ 20000
     → length (spell command) ≤ 19 → LineFits nodes command → Follows b command after
     → ((m to : ℕ) → m ≡ n + cond (i % 100 == 51) 1 0 + 1 + cond (i % 100 == 0) 1 0 → to ≤ at + 41 → SpelledFrom nodes after m to rest)
     → SpelledFrom nodes b n at (lines_around i command ++ rest)
-around-command nodes b after i n at command rest least place number short fits follows others =
+around-command nodes b after i n at command rest there least place number short fits follows others =
     subst (SpelledFrom nodes b n at) (sym (append_assoc (lines_before i) (command ∷ lines_behind i) rest))
-    (before-command (i % 100 == 51) nodes b n at (command ∷ (lines_behind i ++ rest)) least (omega arith) (omega arith)
+    (before-command (i % 100 == 51) nodes b n at (command ∷ (lines_behind i ++ rest)) there least (omega arith) (omega arith)
     (λ k from ek lk.
     one-line nodes b after k from command (lines_behind i ++ rest) (omega arith) (at-most-one (i % 100 == 51) k ek) (omega arith) fits follows
     (behind-command (i % 100 == 0) nodes after (k + 1) (from + (length (spell command) + 1)) rest (omega arith) (one-more (i % 100 == 51) k ek)
@@ -175,10 +175,10 @@ spelled-from seed nodes (suc count) i n at least most few line place =
     let cents : amount_at seed (i + 1) < 100 = omega arith in
     around-command nodes (seen_to (min i nodes)) (seen_to (min (i + 1) nodes)) (i + 1) n at
     (add_line (node_at nodes (i + 1)) (key_at seed (i + 1)) (amount_at seed (i + 1)))
-    (flat_map (lines_at seed nodes) (range_with_len (i + 1 + 1) count)) least (omega arith) (omega arith)
+    (flat_map (lines_at seed nodes) (range_with_len (i + 1 + 1) count)) refl least (omega arith) (omega arith)
     (length-command (node_at nodes (i + 1)) (key_at seed (i + 1)) (amount_at seed (i + 1)) small cents)
     (command-fits nodes (node_at nodes (i + 1)) (key_at seed (i + 1)) (amount_at seed (i + 1)) most (omega arith) (omega (arith, turn)) small cents)
-    (belongs nodes i least most)
+    (refl, belongs nodes i least most)
     (λ m to em lm. spelled-from seed nodes count (i + 1) m to least most (omega arith) (line_after-next i n m line em) (omega arith))
 
 made-ends : (seed count nodes : ℕ) → All HasNoEnd (made_lines seed count nodes)
@@ -196,7 +196,7 @@ pub made-script : (seed count nodes : ℕ) → 1 ≤ nodes → nodes ≤ 8 → c
 unfolding made_text made_lines
 made-script seed count nodes least most few =
     let none : seen_to (min 0 nodes) ≡ nothing_yet =
-    ap seen_to (omega arith) ∙ ap (λ homes. let b : Before = record { homes = homes } in b) homes_none in
+    ap seen_to (omega arith) ∙ ap (λ homes. let b : Before = record { homes = homes; retired = [] } in b) homes_none in
     let spelled : SpelledFrom nodes (seen_to (min 0 nodes)) 1 0 (made_lines seed count nodes) =
     spelled-from seed nodes count 0 1 0 least most (omega arith) refl (omega arith) in
     let begun : SpelledFrom nodes nothing_yet 1 0 (made_lines seed count nodes) =

@@ -14,13 +14,13 @@ use Rattle.script_text.specs.declared.line.Session.{Session}
 use Rattle.script_text.specs.declared.line.Line.{Line}
 use Rattle.script_text.specs.declared.line.Line.TheVariants as line
 use Rattle.script_text.specs.declared.line.Admin.{Admin}
-use Rattle.script_text.specs.declared.line.Admin.TheVariants.{Extend, Alive}
+use Rattle.script_text.specs.declared.line.Admin.TheVariants.{Extend, Alive, Retire}
 use Rattle.script_text.specs.declared.line.Ask.{Ask}
 use Rattle.script_text.specs.declared.line.Ask.TheVariants.{Log, Look}
 use Rattle.script_text.specs.Gives.{◌>>=◌}
 use Rattle.script_text.specs.Words.{Word, is_empty, is_text_byte, words_of}
 use Rattle.script_text.specs.Fields.{node_of, is_name_byte, is_name, name_of, key_of, value_of}
-use Rattle.script_text.specs.Seen.{Before, nothing_yet, session, with_session, admit}
+use Rattle.script_text.specs.Seen.{Before, nothing_yet, session, is_retired, with_asked, with_session, admit}
 use Rattle.script_text.specs.Forms.{form_of, session_line, line_in, line_at}
 use Rattle.script_text.specs.Spelling.{node_name, ask_words, admin_name, line_words, spell, is_print, IsWord, IsNode, AskFits, LineFits, Belongs, Follows, Spells, SpellsFrom, IsScript}
 use Rattle.script_text.specs.Script.{RawLine, lines_in, lines_from, script_of}
@@ -145,6 +145,7 @@ plain_session nodes n s a few f = (plain_on, (plain_node nodes n few f.0, (plain
 plain_admin : (a : Admin) → Plain (admin_name a)
 plain_admin Extend = literal (codes "extend") refl
 plain_admin Alive = literal (codes "alive") refl
+plain_admin Retire = literal (codes "retire") refl
 
 -- ---- fields
 
@@ -167,40 +168,41 @@ value_again v h = let e : nat_lt 256 (length v) ≡ false = le-ltb _ _ h in rw e
 same_number : (n : ℕ) → (n == n) ≡ true
 same_number n = grind (arith, nat_tests)
 
-admit_again : (b after : Before) (n : ℕ) (s : Session) → Belongs b n s after → admit b n s.name ≡ Ok (s, after)
-admit_again b after n s (inl h) = rw (h.0, same_number n) (ap (λ (x : Before). Ok (s, x)) (sym h.1))
-admit_again b after n s (inr h) =
+admit_again : (b after : Before) (n : ℕ) (s : Session) → is_retired b n ≡ false → Belongs b n s after → admit b n s.name ≡ Ok (s, after)
+admit_again b after n s there (inl h) = rw (there, h.0, same_number n) (ap (λ (x : Before). Ok (s, x)) (sym h.1))
+admit_again b after n s there (inr h) =
     let room : nat_lt (length b.homes) 64 ≡ true = lt-ltb _ _ (omega (arith, h.1, h.2)) in
-    rw (h.0, room) (ap (λ (k : ℕ). Ok (session k s.name, with_session b n s.name)) (sym h.1) ∙ ap (λ (x : Before). Ok (s, x)) (sym h.3))
+    rw (there, h.0, room) (ap (λ (k : ℕ). Ok (session k s.name, with_session b n s.name)) (sym h.1) ∙ ap (λ (x : Before). Ok (s, x)) (sym h.3))
 
 -- ---- lines, by their words
 
-session_again : (nodes : ℕ) (b after : Before) (n : ℕ) (s : Session) (a : Ask) → nodes ≤ 8 → LineFits nodes (line.Session n s a) → Belongs b n s after
+session_again : (nodes : ℕ) (b after : Before) (n : ℕ) (s : Session) (a : Ask) → nodes ≤ 8 → LineFits nodes (line.Session n s a) → Follows b (line.Session n s a) after
     → (form_of (line_words (line.Session n s a)) >>= λ f. line_in nodes b (line_words (line.Session n s a)) f) ≡ Ok (line.Session n s a, after)
 unfolding session_line
 session_again nodes b after n s (Log (Put k v)) few f at =
-    rw (f.1.not_admin, node_again nodes n few f.0, name_again s.name f.1.letters, key_again k f.2.0.most_bytes, value_again v f.2.1.most_bytes, admit_again b after n s at) refl
+    rw (f.1.not_admin, node_again nodes n few f.0, name_again s.name f.1.letters, key_again k f.2.0.most_bytes, value_again v f.2.1.most_bytes, admit_again b after n s at.0 at.1) refl
 session_again nodes b after n s (Log (Del k)) few f at =
-    rw (f.1.not_admin, node_again nodes n few f.0, name_again s.name f.1.letters, key_again k f.2.most_bytes, admit_again b after n s at) refl
+    rw (f.1.not_admin, node_again nodes n few f.0, name_again s.name f.1.letters, key_again k f.2.most_bytes, admit_again b after n s at.0 at.1) refl
 session_again nodes b after n s (Log (Cas k old new)) few f at =
-    rw (f.1.not_admin, node_again nodes n few f.0, name_again s.name f.1.letters, key_again k f.2.0.most_bytes, value_again old f.2.1.most_bytes, value_again new f.2.2.most_bytes, admit_again b after n s at) refl
+    rw (f.1.not_admin, node_again nodes n few f.0, name_again s.name f.1.letters, key_again k f.2.0.most_bytes, value_again old f.2.1.most_bytes, value_again new f.2.2.most_bytes, admit_again b after n s at.0 at.1) refl
 session_again nodes b after n s (Log (Add k z)) few f at =
-    rw (f.1.not_admin, node_again nodes n few f.0, name_again s.name f.1.letters, number_again z f.2.1, key_again k f.2.0.most_bytes, admit_again b after n s at) refl
+    rw (f.1.not_admin, node_again nodes n few f.0, name_again s.name f.1.letters, number_again z f.2.1, key_again k f.2.0.most_bytes, admit_again b after n s at.0 at.1) refl
 session_again nodes b after n s (Look (Get k)) few f at =
-    rw (f.1.not_admin, node_again nodes n few f.0, name_again s.name f.1.letters, key_again k f.2.most_bytes, admit_again b after n s at) refl
+    rw (f.1.not_admin, node_again nodes n few f.0, name_again s.name f.1.letters, key_again k f.2.most_bytes, admit_again b after n s at.0 at.1) refl
 session_again nodes b after n s (Look (Scan low high)) few f at =
-    rw (f.1.not_admin, node_again nodes n few f.0, name_again s.name f.1.letters, key_again low f.2.0.most_bytes, key_again high f.2.1.most_bytes, admit_again b after n s at) refl
+    rw (f.1.not_admin, node_again nodes n few f.0, name_again s.name f.1.letters, key_again low f.2.0.most_bytes, key_again high f.2.1.most_bytes, admit_again b after n s at.0 at.1) refl
 
-admin_again : (nodes : ℕ) (b : Before) (n : ℕ) (a : Admin) → nodes ≤ 8 → IsNode nodes n
-    → (form_of (line_words (line.Admin n a)) >>= λ f. line_in nodes b (line_words (line.Admin n a)) f) ≡ Ok (line.Admin n a, b)
-admin_again nodes b n Extend few is = rw (node_again nodes n few is) refl
-admin_again nodes b n Alive few is = rw (node_again nodes n few is) refl
+admin_again : (nodes : ℕ) (b : Before) (n : ℕ) (a : Admin) → nodes ≤ 8 → IsNode nodes n → is_retired b n ≡ false
+    → (form_of (line_words (line.Admin n a)) >>= λ f. line_in nodes b (line_words (line.Admin n a)) f) ≡ Ok (line.Admin n a, with_asked b n a)
+admin_again nodes b n Extend few is there = rw (node_again nodes n few is, there) refl
+admin_again nodes b n Alive few is there = rw (node_again nodes n few is, there) refl
+admin_again nodes b n Retire few is there = rw (node_again nodes n few is, there) refl
 
 by_words_again : (nodes : ℕ) (b after : Before) (l : Line) → nodes ≤ 8 → LineFits nodes l → Follows b l after
     → (form_of (line_words l) >>= λ f. line_in nodes b (line_words l) f) ≡ Ok (l, after)
 by_words_again nodes b after line.Blank few f follows = ap (λ (x : Before). Ok (line.Blank, x)) (sym follows)
 by_words_again nodes b after (line.Session n s a) few f follows = session_again nodes b after n s a few f follows
-by_words_again nodes b after (line.Admin n a) few f follows = admin_again nodes b n a few f ∙ ap (λ (x : Before). Ok (line.Admin n a, x)) (sym follows)
+by_words_again nodes b after (line.Admin n a) few f follows = admin_again nodes b n a few f follows.0 ∙ ap (λ (x : Before). Ok (line.Admin n a, x)) (sym follows.1)
 by_words_again nodes b after line.Barrier few f follows = ap (λ (x : Before). Ok (line.Barrier, x)) (sym follows)
 
 words_of_line : (nodes : ℕ) (l : Line) → nodes ≤ 8 → LineFits nodes l → length (spell l) ≤ 512 → words_of (spell l) ≡ Ok (line_words l)

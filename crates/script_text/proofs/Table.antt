@@ -12,6 +12,7 @@ use Rattle.script_text.specs.declared.line.Rule.TheVariants as rule
 use Rattle.script_text.specs.declared.line.Line.{Line}
 use Rattle.script_text.specs.declared.line.Line.TheVariants as line
 use Rattle.script_text.specs.declared.line.Session.{Session}
+use Rattle.script_text.specs.declared.line.Admin.{Admin}
 use Rattle.script_text.specs.declared.line.Admin.TheVariants as admin
 use Rattle.script_text.specs.declared.line.Ask.{Ask}
 use Rattle.script_text.specs.declared.line.Ask.TheVariants as ask
@@ -26,8 +27,8 @@ use Rattle.script_text.specs.declared.script.ParseError.TheVariants as error
 use Rattle.script_text.specs.Gives.{◌>>=◌}
 use Rattle.script_text.specs.Words.{Word, is_empty, is_text_byte, split_words}
 use Rattle.script_text.specs.Fields.{is_node, node_number, node_of, is_name, name_of, number_from, number_of}
-use Rattle.script_text.specs.Seen.{Before, nothing_yet, session, home_of, with_session, admit, admit_at}
-use Rattle.script_text.specs.Forms.{word, form_of, verb_count, ask_of, session_line, line_in, line_at}
+use Rattle.script_text.specs.Seen.{Before, nothing_yet, session, is_retired, with_asked, home_of, with_session, admit, admit_at}
+use Rattle.script_text.specs.Forms.{word, form_of, verb_count, ask_of, session_line, admin_line, line_in, line_at}
 use Rattle.script_text.specs.Script.{RawLine, line_numbered, in_line, lines_in, lines_from, script_of, ReadsScript}
 use Rattle.script_text.specs.Rules.{form_begun, word_count, nodes_at, sessions_at, numbers_at, keys_at, values_at, words_in, some_word, has_other_count, is_elsewhere, is_too_many, first_broken, IsRefusedFrom, IsRefused}
 use Rattle.script_text.proofs.Takes.{taken_else, line_takes}
@@ -60,6 +61,16 @@ where_so false r read found h = refl
 has_to_be : {A B : Type 0} (t : Bool) (x : A) (r : Rule) (f : A → Result B Rule) (found : Option Rule) → told (f x) ≡ found → told (cond t (Ok x) (Err r) >>= f) ≡ cond (not t || false) (Some r) found
 has_to_be true x r f found h = h
 has_to_be false x r f found h = refl
+
+-- a word that may not be so
+is_not_to_be : {A B : Type 0} (t : Bool) (r : Rule) (read : Result A Rule) (f : A → Result B Rule) (found : Option Rule) → told (read >>= f) ≡ found
+    → told (cond t (Err r) read >>= f) ≡ cond (t || false) (Some r) found
+is_not_to_be true r read f found h = refl
+is_not_to_be false r read f found h = h
+
+may_not_be : {A : Type 0} (t : Bool) (r : Rule) (read : Result A Rule) (found : Option Rule) → told read ≡ found → told (cond t (Err r) read) ≡ cond (t || false) (Some r) found
+may_not_be true r read found h = refl
+may_not_be false r read found h = h
 
 -- ---- what is asked
 
@@ -119,18 +130,23 @@ ask_told verb.Scan ws g found h = two_keys (nat_lt 64 (length (word ws 4))) (nat
 -- the first rule that a line of the session at the node breaks
 abbrev sessions_broken : Before → ℕ → Word → Option Rule
 sessions_broken b node name =
-    cond (is_elsewhere (home_of b.homes name) node || false) (Some rule.Moved) (cond (is_too_many (home_of b.homes name) (length b.homes) || false) (Some rule.Sessions) None)
+    cond (is_retired b node || false) (Some rule.Retired)
+    (cond (is_elsewhere (home_of b.homes name) node || false) (Some rule.Moved) (cond (is_too_many (home_of b.homes name) (length b.homes) || false) (Some rule.Sessions) None))
 
 abbrev placed : ℕ → Ask → Session × Before → Result (Line × Before) Rule
 placed node a s = Ok (line.Session node s.0 a, s.1)
 
 admit_told : (b : Before) (node : ℕ) (name : Word) (a : Ask) → told (admit b node name >>= placed node a) ≡ sessions_broken b node name
-admit_told b node name a = go (home_of b.homes name)
+admit_told b node name a = is_not_to_be (is_retired b node) rule.Retired (admit_at b node name (home_of b.homes name)) (placed node a) _ (go (home_of b.homes name))
   where
     go : (o : Option Home) → told (admit_at b node name o >>= placed node a)
         ≡ cond (is_elsewhere o node || false) (Some rule.Moved) (cond (is_too_many o (length b.homes) || false) (Some rule.Sessions) None)
     go None = has_to_be (nat_lt (length b.homes) 64) (session (length b.homes) name, with_session b node name) rule.Sessions (placed node a) None refl
     go (Some h) = has_to_be (h.node == node) (h.session, b) rule.Moved (placed node a) None refl
+
+-- the first rule that a line breaks which asks the node itself
+admin_told : (b : Before) (node : ℕ) (a : Admin) → told (admin_line b node a) ≡ cond (is_retired b node || false) (Some rule.Retired) None
+admin_told b node a = let asked : Line × Before = (line.Admin node a, with_asked b node a) in may_not_be (is_retired b node) rule.Retired (Ok asked) None refl
 
 -- ---- lines of a form
 
@@ -143,8 +159,9 @@ form_broken nodes b ws f =
     (cond (some_word numbers_at (λ w. not (is_some (amount_of w))) ws (Some f)) (Some rule.Number)
     (cond (some_word keys_at (λ w. nat_lt 64 (length w)) ws (Some f)) (Some rule.Key)
     (cond (some_word values_at (λ w. nat_lt 256 (length w)) ws (Some f)) (Some rule.Value)
+    (cond (some_word nodes_at (λ w. is_retired b (node_number w)) ws (Some f)) (Some rule.Retired)
     (cond (some_word sessions_at (λ w. is_elsewhere (home_of b.homes w) (node_number (word ws 1))) ws (Some f)) (Some rule.Moved)
-    (cond (some_word sessions_at (λ w. is_too_many (home_of b.homes w) (length b.homes)) ws (Some f)) (Some rule.Sessions) None)))))))
+    (cond (some_word sessions_at (λ w. is_too_many (home_of b.homes w) (length b.homes)) ws (Some f)) (Some rule.Sessions) None))))))))
 
 same_count : (v : Verb) → word_count (form.Session v) ≡ verb_count v
 same_count verb.Put = refl
@@ -180,8 +197,8 @@ in_told nodes b ws form.Blank none = rw none refl
 in_told nodes b ws form.Barrier none = where_so (length ws == 1) rule.Count (Ok (line.Barrier, b)) None (λ e. refl)
 in_told nodes b ws (form.Session v) none = session_told nodes b ws v
 in_told nodes b ws (form.Admin a) none =
-    where_so (length ws == 3) rule.Count (node_of nodes (word ws 1) >>= λ node. Ok (line.Admin node a, b)) _
-    (λ e. has_to_be (is_node nodes (word ws 1)) (node_number (word ws 1)) rule.Node (λ node. Ok (line.Admin node a, b)) None refl)
+    where_so (length ws == 3) rule.Count (node_of nodes (word ws 1) >>= λ node. admin_line b node a) _
+    (λ e. has_to_be (is_node nodes (word ws 1)) (node_number (word ws 1)) rule.Node (λ node. admin_line b node a) _ (admin_told b (node_number (word ws 1)) a))
 
 -- ---- forms
 
@@ -193,47 +210,51 @@ FindsForm ws (Err r) found = (found ≡ None) × (r ≡ rule.Word)
 few_words : (ws : List Word) → nat_lt (length ws) 3 ≡ true → nat_lt (length ws) 4 ≡ false → ⊥
 few_words ws a b = grind (arith, nat_tests)
 
--- by the tests of the words: none, `barrier`, `on`, fewer than three, `extend`, `alive`, another word of an admin line, fewer than
--- four, and the verbs
-forms_found : (ws : List Word) (none bar on two ext alive other three p d c a g s : Bool) → (none ≡ true → (length ws == 0) ≡ true) → (two ≡ true → three ≡ false → ⊥) →
+-- by the tests of the words: none, `barrier`, `on`, fewer than three, `extend`, `alive`, `trim`, `retire`, fewer than four, and
+-- the verbs
+forms_found : (ws : List Word) (none bar on two ext alive trim leave three p d c a g s : Bool) → (none ≡ true → (length ws == 0) ≡ true)
+    → (two ≡ true → three ≡ false → ⊥) →
     FindsForm ws
     (cond none (Ok form.Blank) (cond bar (Ok form.Barrier) (cond on (cond two (Err rule.Word)
-    (cond (ext || (alive || other)) (cond ext (Ok admin.Extend) (cond alive (Ok admin.Alive) (Err rule.Word)) >>= λ x. Ok (form.Admin x))
+    (cond (ext || (alive || (trim || leave))) (cond ext (Ok admin.Extend) (cond alive (Ok admin.Alive) (cond leave (Ok admin.Retire) (Err rule.Word))) >>= λ x. Ok (form.Admin x))
     (cond three (Err rule.Word)
     (cond p (Ok verb.Put) (cond d (Ok verb.Del) (cond c (Ok verb.Cas) (cond a (Ok verb.Add) (cond g (Ok verb.Get) (cond s (Ok verb.Scan) (Err rule.Word))))))
     >>= λ v. Ok (form.Session v))))) (Err rule.Word))))
     (cond none (Some form.Blank) (cond bar (Some form.Barrier)
     (cond (on && (not two && ext)) (Some (form.Admin admin.Extend))
     (cond (on && (not two && alive)) (Some (form.Admin admin.Alive))
-    (cond (on && (not three && (not (ext || (alive || other)) && p))) (Some (form.Session verb.Put))
-    (cond (on && (not three && (not (ext || (alive || other)) && d))) (Some (form.Session verb.Del))
-    (cond (on && (not three && (not (ext || (alive || other)) && c))) (Some (form.Session verb.Cas))
-    (cond (on && (not three && (not (ext || (alive || other)) && a))) (Some (form.Session verb.Add))
-    (cond (on && (not three && (not (ext || (alive || other)) && g))) (Some (form.Session verb.Get))
-    (cond (on && (not three && (not (ext || (alive || other)) && s))) (Some (form.Session verb.Scan)) None))))))))))
-forms_found ws true bar on two ext alive other three p d c a g s empty few = (refl, empty refl)
-forms_found ws false true on two ext alive other three p d c a g s empty few = (refl, tt)
-forms_found ws false false false two ext alive other three p d c a g s empty few = (refl, refl)
-forms_found ws false false true true ext alive other true p d c a g s empty few = (refl, refl)
-forms_found ws false false true true ext alive other false p d c a g s empty few = absurd (few refl refl)
-forms_found ws false false true false true alive other three p d c a g s empty few = (refl, tt)
-forms_found ws false false true false false true other three p d c a g s empty few = (refl, tt)
-forms_found ws false false true false false false true true p d c a g s empty few = (refl, refl)
-forms_found ws false false true false false false true false p d c a g s empty few = (refl, refl)
-forms_found ws false false true false false false false true p d c a g s empty few = (refl, refl)
-forms_found ws false false true false false false false false true d c a g s empty few = (refl, tt)
-forms_found ws false false true false false false false false false true c a g s empty few = (refl, tt)
-forms_found ws false false true false false false false false false false true a g s empty few = (refl, tt)
-forms_found ws false false true false false false false false false false false true g s empty few = (refl, tt)
-forms_found ws false false true false false false false false false false false false true s empty few = (refl, tt)
-forms_found ws false false true false false false false false false false false false false true empty few = (refl, tt)
-forms_found ws false false true false false false false false false false false false false false empty few = (refl, refl)
+    (cond (on && (not two && leave)) (Some (form.Admin admin.Retire))
+    (cond (on && (not three && (not (ext || (alive || (trim || leave))) && p))) (Some (form.Session verb.Put))
+    (cond (on && (not three && (not (ext || (alive || (trim || leave))) && d))) (Some (form.Session verb.Del))
+    (cond (on && (not three && (not (ext || (alive || (trim || leave))) && c))) (Some (form.Session verb.Cas))
+    (cond (on && (not three && (not (ext || (alive || (trim || leave))) && a))) (Some (form.Session verb.Add))
+    (cond (on && (not three && (not (ext || (alive || (trim || leave))) && g))) (Some (form.Session verb.Get))
+    (cond (on && (not three && (not (ext || (alive || (trim || leave))) && s))) (Some (form.Session verb.Scan)) None)))))))))))
+forms_found ws true bar on two ext alive trim leave three p d c a g s empty few = (refl, empty refl)
+forms_found ws false true on two ext alive trim leave three p d c a g s empty few = (refl, tt)
+forms_found ws false false false two ext alive trim leave three p d c a g s empty few = (refl, refl)
+forms_found ws false false true true ext alive trim leave true p d c a g s empty few = (refl, refl)
+forms_found ws false false true true ext alive trim leave false p d c a g s empty few = absurd (few refl refl)
+forms_found ws false false true false true alive trim leave three p d c a g s empty few = (refl, tt)
+forms_found ws false false true false false true trim leave three p d c a g s empty few = (refl, tt)
+forms_found ws false false true false false false true true three p d c a g s empty few = (refl, tt)
+forms_found ws false false true false false false false true three p d c a g s empty few = (refl, tt)
+forms_found ws false false true false false false true false true p d c a g s empty few = (refl, refl)
+forms_found ws false false true false false false true false false p d c a g s empty few = (refl, refl)
+forms_found ws false false true false false false false false true p d c a g s empty few = (refl, refl)
+forms_found ws false false true false false false false false false true d c a g s empty few = (refl, tt)
+forms_found ws false false true false false false false false false false true c a g s empty few = (refl, tt)
+forms_found ws false false true false false false false false false false false true a g s empty few = (refl, tt)
+forms_found ws false false true false false false false false false false false false true g s empty few = (refl, tt)
+forms_found ws false false true false false false false false false false false false false true s empty few = (refl, tt)
+forms_found ws false false true false false false false false false false false false false false true empty few = (refl, tt)
+forms_found ws false false true false false false false false false false false false false false false empty few = (refl, refl)
 
 form_found : (ws : List Word) → FindsForm ws (form_of ws) (form_begun ws)
 form_found ws =
     forms_found ws (length ws == 0) (bytes_eq (word ws 0) (codes "barrier")) (bytes_eq (word ws 0) (codes "on")) (nat_lt (length ws) 3)
-    (bytes_eq (word ws 2) (codes "extend")) (bytes_eq (word ws 2) (codes "alive")) (bytes_eq (word ws 2) (codes "trim") || bytes_eq (word ws 2) (codes "retire"))
-    (nat_lt (length ws) 4)
+    (bytes_eq (word ws 2) (codes "extend")) (bytes_eq (word ws 2) (codes "alive")) (bytes_eq (word ws 2) (codes "trim"))
+    (bytes_eq (word ws 2) (codes "retire")) (nat_lt (length ws) 4)
     (bytes_eq (word ws 3) (codes "put")) (bytes_eq (word ws 3) (codes "del")) (bytes_eq (word ws 3) (codes "cas"))
     (bytes_eq (word ws 3) (codes "add")) (bytes_eq (word ws 3) (codes "get")) (bytes_eq (word ws 3) (codes "scan"))
     (λ e. e) (few_words ws)
@@ -270,7 +291,7 @@ text_told nodes b text =
     spaces_told text (slice_split (λ c. c == 32) text) (is_empty text) (λ ws. form_of ws >>= λ f. line_in nodes b ws f) (λ ws. words_broken nodes b ws (form_begun ws))
     (λ ws. formed_told nodes b ws (form_of ws) (form_begun ws) (form_found ws))))
 
--- the table's rules, the last nine of which are about a form
+-- the table's rules, the last ten of which are about a form
 by_form : (nodes n at : ℕ) (b : Before) (r : RawLine) (o : Option Form) → words_broken nodes b (words_in r.text) o
     ≡ cond (not (is_some o)) (Some rule.Word) (cond (has_other_count (words_in r.text) o) (Some rule.Count)
     (cond (some_word nodes_at (λ w. not (is_node nodes w)) (words_in r.text) o) (Some rule.Node)
@@ -278,8 +299,9 @@ by_form : (nodes n at : ℕ) (b : Before) (r : RawLine) (o : Option Form) → wo
     (cond (some_word numbers_at (λ w. not (is_some (amount_of w))) (words_in r.text) o) (Some rule.Number)
     (cond (some_word keys_at (λ w. nat_lt 64 (length w)) (words_in r.text) o) (Some rule.Key)
     (cond (some_word values_at (λ w. nat_lt 256 (length w)) (words_in r.text) o) (Some rule.Value)
+    (cond (some_word nodes_at (λ w. is_retired b (node_number w)) (words_in r.text) o) (Some rule.Retired)
     (cond (some_word sessions_at (λ w. is_elsewhere (home_of b.homes w) (node_number (word (words_in r.text) 1))) (words_in r.text) o) (Some rule.Moved)
-    (cond (some_word sessions_at (λ w. is_too_many (home_of b.homes w) (length b.homes)) (words_in r.text) o) (Some rule.Sessions) None))))))))
+    (cond (some_word sessions_at (λ w. is_too_many (home_of b.homes w) (length b.homes)) (words_in r.text) o) (Some rule.Sessions) None)))))))))
 by_form nodes n at b r None = refl
 by_form nodes n at b r (Some f) = refl
 

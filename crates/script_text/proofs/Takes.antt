@@ -27,8 +27,8 @@ use Rattle.script_text.specs.declared.seen.Home.{Home}
 use Rattle.script_text.specs.Gives.{◌>>=◌}
 use Rattle.script_text.specs.Words.{Word, is_empty, is_text_byte, split_words, words_of}
 use Rattle.script_text.specs.Fields.{is_node, node_of, is_name, name_of, number_of, key_of, value_of}
-use Rattle.script_text.specs.Seen.{Before, session, home, is_named, home_of, with_session, admit, admit_at, admit_new}
-use Rattle.script_text.specs.Forms.{word, is_admin_word, admin_of, admin_form, verb_of, session_form, on_form, form_of, having, verb_count, ask_of, session_line, line_in, line_at}
+use Rattle.script_text.specs.Seen.{Before, session, home, is_named, is_retired, with_asked, home_of, with_session, admit, admit_at, admit_new}
+use Rattle.script_text.specs.Forms.{word, is_admin_word, admin_of, admin_form, verb_of, session_form, on_form, form_of, having, verb_count, ask_of, session_line, admin_line, line_in, line_at}
 use Rattle.script_text.specs.Rules.{verb_name}
 use Rattle.script_text.proofs.Numbers.{number_takes}
 use Rattle.script_text.specs.Spelling.{node_name, ask_words, admin_name, line_words, is_print, IsWord, IsNode, IsSessionName, AskFits, LineFits, Belongs, Follows, Spells}
@@ -213,8 +213,10 @@ admit_at_takes b n name (Some h) x is e =
     subst (λ (y : Session × Before). Admits b n name y.0 y.1) (ok_is (h.session, b) x a.1)
     (record { name_is = named; belongs = inl (found, refl) })
 
-pub admit_takes : (b : Before) (n : ℕ) (name : Word) (x : Session × Before) → admit b n name ≡ Ok x → Admits b n name x.0 x.1
-admit_takes b n name x e = admit_at_takes b n name (home_of b.homes name) x refl e
+pub admit_takes : (b : Before) (n : ℕ) (name : Word) (x : Session × Before) → admit b n name ≡ Ok x → (is_retired b n ≡ false) × Admits b n name x.0 x.1
+admit_takes b n name x e =
+    let a = taken_else (is_retired b n) rule.Retired (admit_at b n name (home_of b.homes name)) x e in
+    (a.0, admit_at_takes b n name (home_of b.homes name) x refl a.1)
 
 -- ---- lines
 
@@ -320,10 +322,10 @@ name_is_session w name same letters not_admin = record { letters = letters; not_
 
 -- words that are those of a session's line spell it
 by_session : (nodes n : ℕ) (b after : Before) (text : List ℕ) (ws : List Word) (v : Verb) (s : Session) (a : Ask) → Cut text ws → length ws ≡ verb_count v → word ws 0 ≡ codes "on"
-    → word ws 1 ≡ node_name n → word ws 2 ≡ s.name → tabulate (word ws) 3 (verb_count v - 3) ≡ ask_words a → LineFits nodes (line.Session n s a) → Belongs b n s after
+    → word ws 1 ≡ node_name n → word ws 2 ≡ s.name → tabulate (word ws) 3 (verb_count v - 3) ≡ ask_words a → LineFits nodes (line.Session n s a) → Follows b (line.Session n s a) after
     → Spells nodes b text (line.Session n s a) after
-by_session nodes n b after text ws v s a cut len on node name words fits belongs =
-    by_words nodes b after text ws (line.Session n s a) cut (so_many ws (verb_count v) len ∙ begun v (word ws) (codes "on") (node_name n) s.name (ask_words a) on node name words) fits belongs
+by_session nodes n b after text ws v s a cut len on node name words fits follows =
+    by_words nodes b after text ws (line.Session n s a) cut (so_many ws (verb_count v) len ∙ begun v (word ws) (codes "on") (node_name n) s.name (ask_words a) on node name words) fits follows
 
 pub session_takes : (nodes : ℕ) (b : Before) (text : List ℕ) (ws : List Word) (v : Verb) (x : Line × Before) → Cut text ws → IsOn ws v → session_line nodes b ws v ≡ Ok x → Spells nodes b text x.0 x.1
 unfolding session_line
@@ -337,9 +339,9 @@ session_takes nodes b text ws v x cut on e =
     let tm = name_takes (word ws 2) m.0 m.1 in
     let ta = ask_takes text ws v a.0 cut h.0 on.verb_is a.1 in
     let ts = admit_takes b n.0 m.0 s.0 s.1 in
-    let name : IsSessionName s.0.0.name = subst IsSessionName (sym ts.name_is) (name_is_session (word ws 2) m.0 tm.0 tm.1 on.not_admin) in
+    let name : IsSessionName s.0.0.name = subst IsSessionName (sym ts.1.name_is) (name_is_session (word ws 2) m.0 tm.0 tm.1 on.not_admin) in
     subst (λ (z : Line × Before). Spells nodes b text z.0 z.1) (ok_is (line.Session n.0 s.0.0 a.0, s.0.1) x s.2)
-    (by_session nodes n.0 b s.0.1 text ws v s.0.0 a.0 cut h.0 on.on tn.0 (tm.0 ∙ sym ts.name_is) ta.words (tn.1, name, ta.fits) ts.belongs)
+    (by_session nodes n.0 b s.0.1 text ws v s.0.0 a.0 cut h.0 on.on tn.0 (tm.0 ∙ sym ts.1.name_is) ta.words (tn.1, name, ta.fits) (ts.0, ts.1.belongs))
 
 pub blank_takes : (nodes : ℕ) (b : Before) (text : List ℕ) (ws : List Word) (x : Line × Before) → Cut text ws → length ws ≡ 0 → Ok (line.Blank, b) ≡ done x → Spells nodes b text x.0 x.1
 blank_takes nodes b text ws x cut none e =
@@ -364,15 +366,16 @@ pub record IsAdmin (ws : List Word) (a : Admin) : Type 0 where
   pub admin_is : word ws 2 ≡ admin_name a
 
 pub admin_takes : (nodes : ℕ) (b : Before) (text : List ℕ) (ws : List Word) (a : Admin) (x : Line × Before) → Cut text ws → IsAdmin ws a
-    → having 3 ws (node_of nodes (word ws 1) >>= λ node. Ok (line.Admin node a, b)) ≡ Ok x → Spells nodes b text x.0 x.1
+    → having 3 ws (node_of nodes (word ws 1) >>= λ node. admin_line b node a) ≡ Ok x → Spells nodes b text x.0 x.1
 admin_takes nodes b text ws a x cut on e =
-    let h = having_ok 3 ws (node_of nodes (word ws 1) >>= λ node. Ok (line.Admin node a, b)) x e in
-    let n = bind_ok (node_of nodes (word ws 1)) (λ node. Ok (line.Admin node a, b)) x h.1 in
+    let h = having_ok 3 ws (node_of nodes (word ws 1) >>= λ node. admin_line b node a) x e in
+    let n = bind_ok (node_of nodes (word ws 1)) (λ node. admin_line b node a) x h.1 in
     let tn = node_takes nodes n.0 (word ws 1) n.1 in
-    let y : Line × Before = (line.Admin n.0 a, b) in
+    let y : Line × Before = (line.Admin n.0 a, with_asked b n.0 a) in
+    let there = taken_else (is_retired b n.0) rule.Retired (Ok y) x n.2 in
     let words : ws ≡ line_words y.0 =
     so_many ws 3 h.0 ∙ three (word ws 0) (word ws 1) (word ws 2) (codes "on") (node_name n.0) (admin_name a) on.on tn.0 on.admin_is in
-    subst (λ (z : Line × Before). Spells nodes b text z.0 z.1) (ok_is y x n.2) (by_words nodes b y.1 text ws y.0 cut words tn.1 refl)
+    subst (λ (z : Line × Before). Spells nodes b text z.0 z.1) (ok_is y x there.1) (by_words nodes b y.1 text ws y.0 cut words tn.1 (there.0, refl))
 
 -- ---- forms
 
@@ -417,7 +420,8 @@ admin_leaf w a b h e = subst (λ (x : Admin). w ≡ admin_name x) (ok_is a b e) 
 admin_named : (w : Word) (a : Admin) → admin_of w ≡ Ok a → w ≡ admin_name a
 admin_named w a = cased (bytes_eq w (codes "extend")) _ _ a (w ≡ admin_name a) (λ y. admin_leaf w admin.Extend a (same_bytes _ _ y))
     (λ t. cased (bytes_eq w (codes "alive")) _ _ a (w ≡ admin_name a) (λ y. admin_leaf w admin.Alive a (same_bytes _ _ y))
-    (λ t1. refused rule.Word a (w ≡ admin_name a)))
+    (λ t1. cased (bytes_eq w (codes "retire")) _ _ a (w ≡ admin_name a) (λ y. admin_leaf w admin.Retire a (same_bytes _ _ y))
+    (λ t2. refused rule.Word a (w ≡ admin_name a))))
 
 admin_means : (ws : List Word) (f : Form) → word ws 0 ≡ codes "on" → admin_form ws ≡ Ok f → Means ws f
 admin_means ws f on e =

@@ -18,7 +18,7 @@ use Rattle.script_text.specs.declared.forms.Form.TheVariants as form
 use Rattle.script_text.specs.Gives.{◌>>=◌}
 use Rattle.script_text.specs.Words.{Word, words_of}
 use Rattle.script_text.specs.Fields.{node_of, name_of, number_of, key_of, value_of}
-use Rattle.script_text.specs.Seen.{Before, admit}
+use Rattle.script_text.specs.Seen.{Before, is_retired, with_asked, admit}
 
 -- the word at an index, which begins at 0
 abbrev pub word : List Word → ℕ → Word
@@ -31,7 +31,8 @@ is_admin_word w = bytes_eq w (codes "extend") || (bytes_eq w (codes "alive") || 
 -- what the word of an admin line asks, of those that a line may have
 abbrev pub admin_of : Word → Result Admin Rule
 admin_of w = if bytes_eq w (codes "extend") then Ok admin.Extend
-    else (if bytes_eq w (codes "alive") then Ok admin.Alive else Err rule.Word)
+    else (if bytes_eq w (codes "alive") then Ok admin.Alive
+    else (if bytes_eq w (codes "retire") then Ok admin.Retire else Err rule.Word))
 
 -- `on N` and a word of admin lines
 abbrev pub admin_form : List Word → Result Form Rule
@@ -114,6 +115,10 @@ session_line nodes seen ws v = having (verb_count v) ws (do
   s ← admit seen node name
   Ok (line.Session node s.0 asked, s.1))
 
+-- a line that asks a node itself, which no earlier line makes leave
+abbrev pub admin_line : Before → ℕ → Admin → Result (Line × Before) Rule
+admin_line seen node a = if is_retired seen node then Err rule.Retired else Ok (line.Admin node a, with_asked seen node a)
+
 -- a line of a form
 abbrev pub line_in : ℕ → Before → List Word → Form → Result (Line × Before) Rule
 line_in nodes seen ws form.Blank = Ok (line.Blank, seen)
@@ -121,7 +126,7 @@ line_in nodes seen ws form.Barrier = having 1 ws (Ok (line.Barrier, seen))
 line_in nodes seen ws (form.Session v) = session_line nodes seen ws v
 line_in nodes seen ws (form.Admin a) = having 3 ws (do
   node ← node_of nodes (word ws 1)
-  Ok (line.Admin node a, seen))
+  admin_line seen node a)
 
 -- a line, after the lines so far, or the first rule that it breaks
 unfoldable pub line_at : ℕ → Before → List ℕ → Result (Line × Before) Rule

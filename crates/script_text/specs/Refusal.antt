@@ -18,6 +18,7 @@ rule_text rule.Session = codes "session"
 rule_text rule.Number = codes "number"
 rule_text rule.Key = codes "key"
 rule_text rule.Value = codes "value"
+rule_text rule.Retired = codes "retired"
 rule_text rule.Moved = codes "moved"
 rule_text rule.Sessions = codes "sessions"
 

@@ -15,7 +15,7 @@ use Rattle.script_text.specs.declared.seen.Home.{Home}
 use Rattle.script_text.specs.declared.script.BadLine.{BadLine}
 use Rattle.script_text.specs.Words.{Word, is_empty, is_text_byte}
 use Rattle.script_text.specs.Fields.{is_node, node_number, is_name}
-use Rattle.script_text.specs.Seen.{Before, nothing_yet, home_of}
+use Rattle.script_text.specs.Seen.{Before, nothing_yet, is_retired, home_of}
 use Rattle.script_text.specs.Forms.{word, is_admin_word}
 use Rattle.script_text.specs.Script.{RawLine, lines_in}
 use Rattle.script_text.specs.Spelling.{Spells, admin_name}
@@ -40,8 +40,8 @@ begins ws (form.Session v) = bytes_eq (word ws 0) (codes "on")
 begins ws (form.Admin a) = bytes_eq (word ws 0) (codes "on") && (not (nat_lt (length ws) 3) && bytes_eq (word ws 2) (admin_name a))
 
 abbrev pub forms : List Form
-forms = form.Blank ∷ form.Barrier ∷ form.Admin admin.Extend ∷ form.Admin admin.Alive ∷ form.Session verb.Put ∷ form.Session verb.Del ∷ form.Session verb.Cas
-    ∷ form.Session verb.Add ∷ form.Session verb.Get ∷ form.Session verb.Scan ∷ []
+forms = form.Blank ∷ form.Barrier ∷ form.Admin admin.Extend ∷ form.Admin admin.Alive ∷ form.Admin admin.Retire ∷ form.Session verb.Put ∷ form.Session verb.Del
+    ∷ form.Session verb.Cas ∷ form.Session verb.Add ∷ form.Session verb.Get ∷ form.Session verb.Scan ∷ []
 
 -- the form that the words begin
 abbrev pub form_begun : List Word → Option Form
@@ -108,7 +108,7 @@ abbrev pub is_too_many : Option Home → ℕ → Bool
 is_too_many None count = not (nat_lt count 64)
 is_too_many (Some h) count = false
 
--- The n-th line, which stands after `at` bytes and after the sessions so far, breaks the rule.
+-- The n-th line, which stands after `at` bytes and after what was said so far, breaks the rule.
 abbrev pub breaks : ℕ → Before → ℕ → ℕ → RawLine → Rule → Bool
 breaks nodes seen n at r rule.ScriptTooLong = nat_lt 1048576 (at + r.size)
 breaks nodes seen n at r rule.TooManyLines = nat_lt 20000 n
@@ -122,6 +122,7 @@ breaks nodes seen n at r rule.Session = some_word sessions_at (λ w. not (is_nam
 breaks nodes seen n at r rule.Number = some_word numbers_at (λ w. not (is_some (amount_of w))) (words_in r.text) (form_begun (words_in r.text))
 breaks nodes seen n at r rule.Key = some_word keys_at (λ w. nat_lt 64 (length w)) (words_in r.text) (form_begun (words_in r.text))
 breaks nodes seen n at r rule.Value = some_word values_at (λ w. nat_lt 256 (length w)) (words_in r.text) (form_begun (words_in r.text))
+breaks nodes seen n at r rule.Retired = some_word nodes_at (λ w. is_retired seen (node_number w)) (words_in r.text) (form_begun (words_in r.text))
 breaks nodes seen n at r rule.Moved =
     some_word sessions_at (λ w. is_elsewhere (home_of seen.homes w) (node_number (word (words_in r.text) 1))) (words_in r.text) (form_begun (words_in r.text))
 breaks nodes seen n at r rule.Sessions =
@@ -130,7 +131,7 @@ breaks nodes seen n at r rule.Sessions =
 -- the rules in their order
 abbrev pub rules : List Rule
 rules = rule.ScriptTooLong ∷ rule.TooManyLines ∷ rule.TooLong ∷ rule.Byte ∷ rule.Spaces ∷ rule.Word ∷ rule.Count ∷ rule.Node ∷ rule.Session
-    ∷ rule.Number ∷ rule.Key ∷ rule.Value ∷ rule.Moved ∷ rule.Sessions ∷ []
+    ∷ rule.Number ∷ rule.Key ∷ rule.Value ∷ rule.Retired ∷ rule.Moved ∷ rule.Sessions ∷ []
 
 -- the first rule that the line breaks, if it breaks one
 unfoldable pub first_broken : ℕ → Before → ℕ → ℕ → RawLine → Option Rule

@@ -11,13 +11,13 @@ use Rattle.script_text.specs.declared.line.Session.{Session}
 use Rattle.script_text.specs.declared.line.Line.{Line}
 use Rattle.script_text.specs.declared.line.Line.TheVariants as line
 use Rattle.script_text.specs.declared.line.Admin.{Admin}
-use Rattle.script_text.specs.declared.line.Admin.TheVariants.{Extend, Alive}
+use Rattle.script_text.specs.declared.line.Admin.TheVariants.{Extend, Alive, Retire}
 use Rattle.script_text.specs.declared.line.Ask.{Ask}
 use Rattle.script_text.specs.declared.line.Ask.TheVariants.{Log, Look}
 use Rattle.script_text.specs.Words.{Word}
 use Rattle.script_text.specs.Fields.{is_name}
 use Rattle.script_text.specs.Forms.{is_admin_word}
-use Rattle.script_text.specs.Seen.{Before, nothing_yet, home, home_of, with_session}
+use Rattle.script_text.specs.Seen.{Before, nothing_yet, home, is_retired, with_asked, home_of, with_session}
 use Rattle.script_text.specs.Script.{RawLine, lines_in}
 
 -- `n` and the node's digit
@@ -41,6 +41,7 @@ ask_words (Look q) = query_words q
 abbrev pub admin_name : Admin → Word
 admin_name Extend = codes "extend"
 admin_name Alive = codes "alive"
+admin_name Retire = codes "retire"
 
 -- the words of a line
 abbrev pub line_words : Line → List Word
@@ -103,8 +104,10 @@ abbrev pub Belongs : Before → ℕ → Session → Before → Type 0
 Belongs b n s after = ((home_of b.homes s.name ≡ Some (home s n)) × (after ≡ b))
     ⊎ ((home_of b.homes s.name ≡ None) × (s.id ≡ length b.homes) × (s.id < 64) × (after ≡ with_session b n s.name))
 
+-- no earlier line makes the node leave that it names
 abbrev pub Follows : Before → Line → Before → Type 0
-Follows b (line.Session n s a) after = Belongs b n s after
+Follows b (line.Session n s a) after = (is_retired b n ≡ false) × Belongs b n s after
+Follows b (line.Admin n a) after = (is_retired b n ≡ false) × (after ≡ with_asked b n a)
 Follows b _ after = after ≡ b
 
 -- a line's text spells it

@@ -48,6 +48,8 @@ fn admin_of(word: &[u8]) -> Result<Admin, Fault>
         Ok(Admin::Extend)
     } else if word == b"alive".as_slice() {
         Ok(Admin::Alive)
+    } else if word == b"retire".as_slice() {
+        Ok(Admin::Retire)
     } else {
         Err(Fault::Breaks(Rule::Word))
     }
@@ -207,7 +209,7 @@ fn line_in(
                 return Err(Fault::Breaks(Rule::Count));
             }
             let node = node_at(nodes, words.get(1))?;
-            Ok(Line::Admin { node, admin })
+            seen.ask(node, admin)
         }
     }
 }

@@ -34,6 +34,8 @@ pub enum Rule {
     Key,
     /// A value has more than 256 bytes.
     Value,
+    /// An earlier line makes this node leave.
+    Retired,
     /// An earlier line has this session at another node.
     Moved,
     /// The line names a 65th session.
@@ -101,6 +103,8 @@ pub enum Admin {
     Extend,
     /// The node is to report how much of the log it needs no more.
     Alive,
+    /// The node is to leave.
+    Retire,
 }
 
 /// A line of a script.

@@ -25,6 +25,7 @@ pub fn rule_text(rule: Rule) -> &'static str
         Rule::Number => "number",
         Rule::Key => "key",
         Rule::Value => "value",
+        Rule::Retired => "retired",
         Rule::Moved => "moved",
         Rule::Sessions => "sessions",
     }

@@ -47,6 +47,12 @@ fn lines_are_taken(rt: HostRuntime) {
         (b"on n1 extend", 1, 1),
         (b"on n1 alive", 1, 1),
         (b"on n2 alive\n\non n1 alive\non n2 alive", 2, 4),
+        (b"on n1 retire", 1, 1),
+        (
+            b"on n1 a get x\non n1 retire\nbarrier\non n2 b get y\non n2 retire",
+            2,
+            5,
+        ),
         (
             b"on n8 extend\nbarrier\n\non n1 extend\non n1 extend\n",
             8,
@@ -143,7 +149,8 @@ fn fields_stand_in_their_places(rt: HostRuntime) -> Result<(), Fail> {
 #[test]
 fn admin_lines_are_read(rt: HostRuntime) {
     let alloc = rt.alloc();
-    let script = script(&rt, alloc, b"on n2 extend\non n1 alive\non n1 a get x", 2);
+    let text = b"on n2 extend\non n1 alive\non n2 retire\non n1 a get x";
+    let script = script(&rt, alloc, text.as_slice(), 2);
     match script.lines() {
         [
             Line::Admin { node, admin },
@@ -151,12 +158,18 @@ fn admin_lines_are_read(rt: HostRuntime) {
                 node: other,
                 admin: second,
             },
+            Line::Admin {
+                node: leaver,
+                admin: third,
+            },
             Line::Session { session, .. },
         ] => {
             assert_eq!(rt; node.number(), 2);
             assert_eq!(rt; *admin, Admin::Extend);
             assert_eq!(rt; other.number(), 1);
             assert_eq!(rt; *second, Admin::Alive);
+            assert_eq!(rt; leaver.number(), 2);
+            assert_eq!(rt; *third, Admin::Retire);
             assert_eq!(rt; session.id.number(), 0);
         }
         _ => panic!(rt; "other lines"),
@@ -203,7 +216,10 @@ fn one_rule_is_broken(rt: HostRuntime) {
         (b"alive", 1, 1, Rule::Word),
         (b"on n1 trim", 1, 1, Rule::Word),
         (b"on n1 trim get x", 1, 1, Rule::Word),
-        (b"on n1 retire put x 1", 1, 1, Rule::Word),
+        (b"on retire", 1, 1, Rule::Word),
+        (b"on n1 retired", 1, 1, Rule::Word),
+        (b"on n1 Retire", 1, 1, Rule::Word),
+        (b"retire", 1, 1, Rule::Word),
         (b"stop n1 1", 1, 1, Rule::Word),
         (b"break 0 1 1", 1, 1, Rule::Word),
         (b"mend meta", 1, 1, Rule::Word),
@@ -222,6 +238,8 @@ fn one_rule_is_broken(rt: HostRuntime) {
         (b"on n1 extend get x", 1, 1, Rule::Count),
         (b"on n1 alive x", 1, 1, Rule::Count),
         (b"on n1 alive get x", 1, 1, Rule::Count),
+        (b"on n1 retire x", 1, 1, Rule::Count),
+        (b"on n1 retire put x 1", 1, 1, Rule::Count),
         (b"on n2 a get x", 1, 1, Rule::Node),
         (b"on n0 a get x", 1, 1, Rule::Node),
         (b"on n9 a get x", 8, 1, Rule::Node),
@@ -233,6 +251,8 @@ fn one_rule_is_broken(rt: HostRuntime) {
         (b"on a extend", 1, 1, Rule::Node),
         (b"on n2 alive", 1, 1, Rule::Node),
         (b"on a alive", 1, 1, Rule::Node),
+        (b"on n2 retire", 1, 1, Rule::Node),
+        (b"on a retire", 1, 1, Rule::Node),
         (b"on n1 A get x", 1, 1, Rule::Session),
         (b"on n1 a-b get x", 1, 1, Rule::Session),
         (b"on n1 abcdefghijklmnopq get x", 1, 1, Rule::Session),
@@ -244,6 +264,17 @@ fn one_rule_is_broken(rt: HostRuntime) {
         (b"on n1 a add c 1.0", 1, 1, Rule::Number),
         (b"on n1 a add c 9223372036854775808", 1, 1, Rule::Number),
         (b"on n1 a add c -9223372036854775809", 1, 1, Rule::Number),
+        (b"on n1 retire\non n1 a get x", 1, 2, Rule::Retired),
+        (b"on n1 retire\non n1 a put x 1", 1, 2, Rule::Retired),
+        (b"on n1 retire\non n1 extend", 1, 2, Rule::Retired),
+        (b"on n1 retire\n\nbarrier\non n1 alive", 1, 4, Rule::Retired),
+        (b"on n1 retire\non n1 retire", 1, 2, Rule::Retired),
+        (
+            b"on n1 retire\non n2 retire\non n3 alive\non n2 a get x",
+            3,
+            4,
+            Rule::Retired,
+        ),
         (b"on n1 a get x\non n2 a get x", 2, 2, Rule::Moved),
     ];
     for (text, nodes, n, rule) in rows {
@@ -267,6 +298,24 @@ fn the_least_line_and_its_first_rule_are_told(rt: HostRuntime) {
         (b"on n9 extend x", 1, Rule::Count),
         (b"on n9 alive x", 1, Rule::Count),
         (b"on n1 extend\non n9 alive\non n1 trim", 2, Rule::Node),
+        (b"on n1 retire\non n9 retire", 2, Rule::Node),
+        (b"on n1 retire\non n1 retire x", 2, Rule::Count),
+        (b"on n1 retire\non n1 A get x", 2, Rule::Session),
+        (
+            b"on n1 retire\non n1 a get kkkkkkkkkkkkkkkkkkkkkkkkkkkkkkkkkkkkkkkkkkkkkkkkkkkkkkkkkkkkkkkkk",
+            2,
+            Rule::Key,
+        ),
+        (
+            b"on n1 a get x\non n2 retire\non n2 a get x",
+            3,
+            Rule::Retired,
+        ),
+        (
+            b"on n1 a get x\non n1 retire\non n2 a get x",
+            3,
+            Rule::Moved,
+        ),
         (
             b"on n9 A add kkkkkkkkkkkkkkkkkkkkkkkkkkkkkkkkkkkkkkkkkkkkkkkkkkkkkkkkkkkkkkkkk -0",
             1,
@@ -460,5 +509,6 @@ fn refusals_are_told(rt: HostRuntime) -> Result<(), Fail> {
     let text = refusal_text(alloc, bad)?;
     assert_eq!(rt; text.as_slice(), b"line 20001: too many lines\n".as_slice());
     assert_eq!(rt; rule_text(Rule::Word), "word");
+    assert_eq!(rt; rule_text(Rule::Retired), "retired");
     Ok(())
 }
