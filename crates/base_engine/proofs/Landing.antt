@@ -74,7 +74,7 @@ settles_on : (holds : List Event → ℕ → Entry → Type 0) (who : ℕ) (old 
 settles_on holds who old new [] given before after s = ([], s.0 ∙ sym (append-nil old))
 settles_on holds who old new (e ∷ es) given before after s = on_on old s.0 new (meets_on holds who old e s.1 s.0 s.3) (settles_on holds who s.0 new es s.2 (first_of before s.1) after s.5)
 
-calm_before : (now : Option Cause) (fate : Fate) → first_of now fate ≡ None → (now ≡ None) × ((pos : ℕ) × (fate ≡ Landed pos))
+pub calm_before : (now : Option Cause) (fate : Fate) → first_of now fate ≡ None → (now ≡ None) × ((pos : ℕ) × (fate ≡ Landed pos))
 calm_before None (Landed pos) h = (refl, (pos, refl))
 calm_before None (Lost x) h = absurd (cc)
 calm_before (Some x) fate h = absurd (cc)

@@ -1,5 +1,5 @@
 -- Outstanding entries meet their fates one after another.
-use Rattle.std.proofs.Common.{◌≡◌, ℕ, suc, ◌<◌, List, [], ◌∷◌, ◌++◌, length, drop, Option, Some, None, refl, sym, ap, ◌∙◌, subst, arith}
+use Rattle.std.proofs.Common.{◌≡◌, ℕ, suc, ◌<◌, ◌≤◌, List, [], ◌∷◌, ◌++◌, length, drop, Option, Some, None, refl, sym, ap, ◌∙◌, subst, arith}
 use Rattle.std.specs.Prelude.{slice_index_or, remove, All}
 use Rattle.std.proofs.lemmas.List.{append_assoc, append-nil}
 use Rattle.delos_types.specs.declared.entry.Entry.{Entry}
@@ -7,7 +7,7 @@ use Rattle.delos_types.specs.declared.cause.Cause.{Cause}
 use Rattle.legal_journal.specs.declared.events.Event.{Event}
 use Rattle.virtual_log.specs.Turning.{Later}
 use Rattle.base_engine.specs.declared.outbox.Given.{Given}
-use Rattle.base_engine.specs.Settling.{OutboxView, Fate, Landed, Meets, gives, first_of, Carried, Settles, Settled}
+use Rattle.base_engine.specs.Settling.{OutboxView, Fate, Landed, Meets, Lost, gives, first_of, Carried, Settles, Settled, Lands, LandsOldest}
 
 -- one more at the end
 pub settles_push : (holds : List Event → ℕ → Entry → Type 0) (who : ℕ) (old mid new : List Event) (done : List Entry) (given : List Given) (before now : Option Cause) (e : Entry) (fate : Fate)
@@ -37,6 +37,41 @@ one_more holds who old mid new was now is h k = record {
   fates = subst (λ o. Settles holds who old (h.done ++ k.entry ∷ []) new (h.given ++ gives k.entry k.fate) was.unsettled o) (sym k.unsettled)
       (settles_push holds who old mid new h.done h.given was.unsettled now.unsettled k.entry k.fate h.fates k.met);
 }
+
+-- Entries that were appended stay below what is known further on.
+lands_known : (holds : List Event → ℕ → Entry → Type 0) (who : ℕ) (old new : List Event) (es : List Entry) (known known' : ℕ) → known ≤ known' → Lands holds who old es new known → Lands holds who old es new known'
+lands_known holds who old new [] known known' more h = h
+lands_known holds who old new (e ∷ es) known known' more h = (h.0, h.1, h.2, omega (arith, h.3, more), lands_known holds who h.0 new es known known' more h.4)
+
+lands_push : (holds : List Event → ℕ → Entry → Type 0) (who : ℕ) (old mid new : List Event) (done : List Entry) (known : ℕ) (e : Entry) (pos : ℕ) → Lands holds who old done mid known → Meets holds who mid e (Landed pos) new → pos < known
+    → Lands holds who old (done ++ e ∷ []) new known
+lands_push holds who old mid new [] known e pos s m within = (new, pos, subst (λ l. Meets holds who l e (Landed pos) new) s m, within, refl)
+lands_push holds who old mid new (x ∷ xs) known e pos s m within = (s.0, s.1, s.2, s.3, lands_push holds who s.0 mid new xs known e pos s.4 m within)
+
+-- while the loop runs, where none failed
+pub record LandedSoFar (holds : List Event → ℕ → Entry → Type 0) (who : ℕ) (old : List Event) (was : List Entry) (new : List Event) (is : List Entry) (known : ℕ) : Type 0 where
+  pub done : List Entry
+  pub all : was ≡ done ++ is
+  pub lands : Lands holds who old done new known
+
+pub landed_none : (holds : List Event → ℕ → Entry → Type 0) (who : ℕ) (old : List Event) (was : List Entry) (known : ℕ) → LandedSoFar holds who old was old was known
+landed_none holds who old was known = record { done = []; all = refl; lands = refl }
+
+pub landed_more : (holds : List Event → ℕ → Entry → Type 0) (who : ℕ) (old mid new : List Event) (was now is : List Entry) (known known' : ℕ) → LandedSoFar holds who old was mid now known → known ≤ known' → LandsOldest holds who mid now new is known'
+    → LandedSoFar holds who old was new is known'
+landed_more holds who old mid new was now is known known' h more k = record {
+  done = h.done ++ k.entry ∷ [];
+  all = h.all ∙ ap (λ x. h.done ++ x) k.oldest ∙ sym (append_assoc h.done (k.entry ∷ []) is);
+  lands = lands_push holds who old mid new h.done known' k.entry k.position (lands_known holds who old mid h.done known known' more h.lands) k.met k.within;
+}
+
+pub landed_all : (holds : List Event → ℕ → Entry → Type 0) (who : ℕ) (old new : List Event) (was is : List Entry) (known : ℕ) → LandedSoFar holds who old was new is known → is ≡ [] → Lands holds who old was new known
+landed_all holds who old new was is known h none = subst (λ es. Lands holds who old es new known) (sym (h.all ∙ ap (λ x. h.done ++ x) none ∙ append-nil h.done)) h.lands
+
+-- where one failed there is a cause
+pub never_calm : (o : Option Cause) (x : Cause) → first_of o (Lost x) ≡ None → ⊥
+never_calm None x h = absurd (cc)
+never_calm (Some y) x h = absurd (cc)
 
 pub settled_then : (holds : List Event → ℕ → Entry → Type 0) (who : ℕ) (old mid new : List Event) (was now is : OutboxView) → SoFar holds who old was mid now → is ≡ now → ((more : List Event) × (new ≡ mid ++ more)) → Settled holds who old was new is
 settled_then holds who old mid new was now is h same on =

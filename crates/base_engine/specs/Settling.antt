@@ -1,5 +1,5 @@
 -- What becomes of outstanding entries, and which causes that gives.
-use Rattle.std.specs.Prelude.{◌≡◌, ℕ, Bool, true, false, ◌==◌, if◌then◌else◌, List, [], ◌∷◌, ◌++◌, Option, Some, None, filter_map}
+use Rattle.std.specs.Prelude.{◌≡◌, ◌<◌, ℕ, Bool, true, false, ◌==◌, if◌then◌else◌, List, [], ◌∷◌, ◌++◌, Option, Some, None, filter_map}
 use Rattle.delos_types.specs.declared.entry.Entry.{Entry}
 use Rattle.delos_types.specs.Spelling.{IsSpellable}
 use Rattle.delos_types.specs.declared.cause.Cause.{Cause}
@@ -81,6 +81,20 @@ Settles holds who old [] new given before after = (new ≡ old) × (given ≡ []
 Settles holds who old (e ∷ es) new given before after =
     (mid : List Event) × (fate : Fate) × (rest : List Given)
     × Meets holds who old e fate mid × (given ≡ gives e fate ++ rest) × Settles holds who mid es new rest (first_of before fate) after
+
+-- Each entry in turn was appended, from moment to moment, at a position that is known then.
+abbrev pub Lands : (List Event → ℕ → Entry → Type 0) → ℕ → List Event → List Entry → List Event → ℕ → Type 0
+Lands holds who old [] new known = new ≡ old
+Lands holds who old (e ∷ es) new known =
+    (mid : List Event) × (pos : ℕ) × Meets holds who old e (Landed pos) mid × (pos < known) × Lands holds who mid es new known
+
+-- the oldest entry was
+pub record LandsOldest (holds : List Event → ℕ → Entry → Type 0) (who : ℕ) (old : List Event) (was : List Entry) (new : List Event) (is : List Entry) (known : ℕ) : Type 0 where
+  pub entry : Entry
+  pub position : ℕ
+  pub oldest : was ≡ entry ∷ is
+  pub met : Meets holds who old entry (Landed position) new
+  pub within : position < known
 
 -- who may append this entry
 pub record MaySend (may : ℕ → Entry → Type 0) (who : ℕ) (e : Entry) : Type 0 where

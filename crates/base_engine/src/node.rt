@@ -9,7 +9,7 @@ ghost use Rattle.virtual_log.specs.Sealing.{SealsLast};
 ghost use Rattle.base_engine.specs.Causes.{Blames};
 ghost use Rattle.base_engine.specs.Following.{Follows, IsFound, Reaches, IsAt, EndsBy};
 ghost use Rattle.replica_api.specs.Replica.{SpellsOne, Survives, Flushes, Queues};
-ghost use Rattle.base_engine.specs.Settling.{view_of, Settled, Answers, Failing, cause_in};
+ghost use Rattle.base_engine.specs.Settling.{view_of, Settled, Lands, Answers, Failing, cause_in};
 ghost use Rattle.base_engine.specs.Proposing.{Sent, Proposed, Refused, IsNear};
 ghost use Rattle.base_engine.specs.Node.{NodeView, NodeOk, Keeps};
 ghost use Rattle.base_engine.specs.Querying.{found_in};
@@ -249,6 +249,9 @@ impl<L: SharedLog, R: Replica> Node<L, R> {
         ensures keeps { Keeps L.Law.may L.Law.floor L.Law.shelf self.old self.new }
         ensures replica { self.new.replica ≡ self.old.replica }
         ensures calm { OnOk result (Answers L.holds self.old.who self.old.seen self.old.outbox None self.new.seen self.new.outbox) }
+
+        // With Ok all of them were appended, at positions that are known.
+        ensures landed { OnOk result (Lands L.holds self.old.who self.old.seen self.old.outbox.entries self.new.seen self.new.known) }
         ensures failing { IfErr result (λ f. Failing L.holds self.old.who self.old.seen self.old.outbox f self.new.seen self.new.outbox) }
     {
         settle_all(self.alloc, &mut self.log, &mut self.outbox)

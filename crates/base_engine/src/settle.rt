@@ -3,7 +3,7 @@ ghost use Rattle.std.specs.Prelude.{◌≡◌, ◌<◌, ◌≤◌, ◌+◌, ℕ,
 ghost use Rattle.delos_types.specs.declared.cause.Cause.{Cause};
 ghost use Rattle.legal_journal.specs.Journal.{IsLegal};
 ghost use Rattle.virtual_log.specs.Turning.{Later};
-ghost use Rattle.base_engine.specs.Settling.{view_of, Carried, Settled, MaySend, Lost, first_of, given_to, Answers, Failing};
+ghost use Rattle.base_engine.specs.Settling.{view_of, Carried, Settled, Lands, LandsOldest, MaySend, Lost, first_of, given_to, Answers, Failing};
 
 use crate::fault::{Fault, told};
 use crate::outbox::{Given, Outbox, SessionList};
@@ -25,6 +25,7 @@ pub fn carry_oldest<L: SharedLog>(
     ensures who { L.who log.new ≡ L.who log.old }
     ensures known { L.reaches log.old ≤ L.reaches log.new }
     ensures carried { OnOk result (Carried L.holds (L.who log.old) (L.seen log.old) (view_of outbox.old) (L.seen log.new) (view_of outbox.new)) }
+    ensures landed { OnOk result (outbox.new.unsettled ≡ None → LandsOldest L.holds (L.who log.old) (L.seen log.old) outbox.old.entries.items (L.seen log.new) outbox.new.entries.items (L.reaches log.new)) }
     ensures same { OnErr result (view_of outbox.new ≡ view_of outbox.old) }
     ensures may { All (λ e. MaySend L.Law.may (L.who log.new) e) outbox.new.entries.items }
 {
@@ -85,6 +86,7 @@ pub fn carry_all<L: SharedLog>(
     ensures who { L.who log.new ≡ L.who log.old }
     ensures known { L.reaches log.old ≤ L.reaches log.new }
     ensures settled { Settled L.holds (L.who log.old) (L.seen log.old) (view_of outbox.old) (L.seen log.new) (view_of outbox.new) }
+    ensures landed { OnOk result (outbox.new.unsettled ≡ None → Lands L.holds (L.who log.old) (L.seen log.old) outbox.old.entries.items (L.seen log.new) (L.reaches log.new)) }
     ensures none { OnOk result (outbox.new.entries.items ≡ []) }
     ensures may { All (λ e. MaySend L.Law.may (L.who log.new) e) outbox.new.entries.items }
 {
@@ -107,6 +109,7 @@ pub fn settle_all<L: SharedLog>(
     ensures who { L.who log.new ≡ L.who log.old }
     ensures known { L.reaches log.old ≤ L.reaches log.new }
     ensures calm { OnOk result (Answers L.holds (L.who log.old) (L.seen log.old) (view_of outbox.old) None (L.seen log.new) (view_of outbox.new)) }
+    ensures landed { OnOk result (Lands L.holds (L.who log.old) (L.seen log.old) outbox.old.entries.items (L.seen log.new) (L.reaches log.new)) }
     ensures failing { IfErr result (λ f. Failing L.holds (L.who log.old) (L.seen log.old) (view_of outbox.old) f (L.seen log.new) (view_of outbox.new)) }
     ensures may { All (λ e. MaySend L.Law.may (L.who log.new) e) outbox.new.entries.items }
     ensures few { length outbox.new.entries.items ≤ 4 }

@@ -2,6 +2,7 @@ pub mod Spending
 pub mod Quiet
 pub mod Moving
 pub mod Reporting
+pub mod Leaving
 pub mod Desks
 pub mod Fronts
 pub mod Ending

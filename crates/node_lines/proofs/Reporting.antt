@@ -22,14 +22,13 @@ use Rattle.replica_api.specs.Replica.{ReplicaView, Queues, Flushes, saved_in}
 use Rattle.base_engine.specs.declared.outbox.Given.{Given}
 use Rattle.base_engine.specs.Causes.{HasEventOf}
 use Rattle.base_engine.specs.Following.{IsStateAt}
-use Rattle.base_engine.specs.Settling.{OutboxView, Fate, Landed, Lost, Meets, Settles, Settled, Answers, gives, given_to, first_of, session_of, sessions_among, sessions_in}
+use Rattle.base_engine.specs.Settling.{OutboxView, Fate, Landed, Lost, Meets, Settles, Settled, Lands, Answers, gives, given_to, first_of, session_of, sessions_among, sessions_in}
 use Rattle.base_engine.specs.Proposing.{Sent, with_entry, IsNear, IsNearAt}
-use Rattle.base_engine.specs.Trimming.{IsAppended}
 use Rattle.base_engine.specs.Node.{NodeView, Keeps}
 use Rattle.node_sessions.specs.UnderWay.{rank_under}
 use Rattle.node_sessions.proofs.Settling.{Extends}
 use Rattle.node_lines.specs.Moving.{CanPack, Goes, Moves}
-use Rattle.node_lines.specs.Reporting.{IsPlain, LaysDown, Tells, HasTold}
+use Rattle.node_lines.specs.Reporting.{IsPlain, LaysDown, IsAppendedWithin, Tells, HasTold}
 use Rattle.node_lines.proofs.Moving.{moves-both, moves-settle}
 use Rattle.node_lines.proofs.Spending.{spends-none, spends-both, spends-event}
 use Rattle.node_lines.proofs.Ending.{Ended, all, cursor_is, upward}
@@ -76,13 +75,26 @@ plain-sessions origin item fine p =
 pub pack-none : (kept : List Item) → kept ≡ [] → CanPack kept
 pack-none kept none = subst CanPack (sym none) (record { each = All-nil IsProposable; few = omega arith })
 
--- the node may append its report
-pub may_tell : (may : ℕ → Entry → Type 0) (old synced : NodeView) (number position : ℕ) (item : Item) → synced.who ≡ old.who → synced.replica.origin ≡ old.replica.origin → item ≡ alive_item number position → number ≡ old.replica.origin
-    → may old.who (packed old.replica.origin (alive_item old.replica.origin position ∷ [])) → may synced.who (packed synced.replica.origin (item ∷ []))
-may_tell may old synced number position item who origin says own allowed =
+-- the node may append what it tells
+pub may_tell : (may : ℕ → Entry → Type 0) (old synced : NodeView) (item said : Item) → synced.who ≡ old.who → synced.replica.origin ≡ old.replica.origin → item ≡ said
+    → may old.who (packed old.replica.origin (said ∷ [])) → may synced.who (packed synced.replica.origin (item ∷ []))
+may_tell may old synced item said who origin is allowed =
     subst (λ w. may w (packed synced.replica.origin (item ∷ []))) (sym who)
     (subst (λ o. may old.who (packed o (item ∷ []))) (sym origin)
-    (subst (λ i. may old.who (packed old.replica.origin (i ∷ []))) (sym (says ∙ ap (λ n. alive_item n position) own)) allowed))
+    (subst (λ i. may old.who (packed old.replica.origin (i ∷ []))) (sym is) allowed))
+
+-- its entry says so, and nothing else
+pub says_alone : (origin : ℕ) (item said : Item) (c : Content) → IsProposable item → content_of item ≡ Some c → item ≡ said → unpack 0 (packed origin (said ∷ [])) ≡ placed_from 0 0 (c ∷ [])
+says_alone origin item said c fine says is =
+    ap (λ i. unpack 0 (packed origin (i ∷ []))) (sym is) ∙ (unpack-packed origin (item ∷ []) 0 (alone item fine) ∙ ap (λ o. placed_from 0 0 (cons_option o [])) says)
+
+-- it was appended as the node's own
+pub appended_own : (old synced : NodeView) (new : List Event) (known : ℕ) (item said : Item) → synced.who ≡ old.who → synced.replica.origin ≡ old.replica.origin → item ≡ said
+    → IsAppendedWithin synced.who synced.seen (packed synced.replica.origin (item ∷ [])) new known → IsAppendedWithin old.who synced.seen (packed old.replica.origin (said ∷ [])) new known
+appended_own old synced new known item said who origin is h =
+    subst (λ w. IsAppendedWithin w synced.seen (packed old.replica.origin (said ∷ [])) new known) who
+    (subst (λ o. IsAppendedWithin synced.who synced.seen (packed o (said ∷ [])) new known) origin
+    (subst (λ i. IsAppendedWithin synced.who synced.seen (packed synced.replica.origin (i ∷ [])) new known) is h))
 
 -- Nothing was outstanding, so nothing was settled.
 nothing-settled : (who : ℕ) (old new : List Event) (was is : OutboxView) → was.entries ≡ [] → Settled Holds who old was new is → (is.entries ≡ []) × (is.unsettled ≡ was.unsettled)
@@ -185,34 +197,33 @@ module _ (may : ℕ → Entry → Type 0) (floor : List Entry → ℕ) (shelf : 
         (moves-lost mid new (packed old.replica.origin (item ∷ [])) cause k same lays.entries (plain-sessions old.replica.origin item fine p) (lays.unsettled ∙ calm) a);
     none = a.none;
     kept = ap (λ (r : ReplicaView). r.kept) same ∙ lays.kept;
-    landed = λ none. absurd (cc);
+    appended = λ none. absurd (cc);
   }
 
-  pub tells-landed : (old mid new : NodeView) (item : Item) → LaysDown may floor shelf old mid item → old.outbox.unsettled ≡ None → Keeps may floor shelf mid new → new.replica ≡ mid.replica
-      → Answers Holds mid.who mid.seen mid.outbox None new.seen new.outbox → Tells may floor shelf old new item None
-  tells-landed old mid new item lays calm k same a = record {
+  pub tells-landed : (old mid new : NodeView) (item : Item) → LaysDown may floor shelf old mid item → Keeps may floor shelf mid new → new.replica ≡ mid.replica → Answers Holds mid.who mid.seen mid.outbox None new.seen new.outbox
+      → Lands Holds mid.who mid.seen mid.outbox.entries new.seen new.known → Tells may floor shelf old new item None
+  tells-landed old mid new item lays k same a landed = record {
     moves = moves-both may floor shelf low old mid new [] [] lays.moves (moves-settle may floor shelf low mid new None k same a.settled);
     none = a.none;
     kept = ap (λ (r : ReplicaView). r.kept) same ∙ lays.kept;
-    landed = λ none. by m.fate m.met (m.unsettled ∙ ap (λ o. first_of o m.fate) (lays.unsettled ∙ calm));
+    appended = λ none. record {
+      landed = record {
+        before = mid.seen;
+        since = (lays.moves.goes.keeps.later.more, lays.moves.goes.keeps.later.seen);
+        position = one.1;
+        after = one.0;
+        met = subst (λ w. Meets Holds w mid.seen e (Landed one.1) one.0) lays.moves.goes.keeps.who one.2;
+        rest = ([], one.4 ∙ sym (append-nil one.0));
+      };
+      within = one.3;
+    };
   }
     where
       e : Entry
       e = packed old.replica.origin (item ∷ [])
 
-      m : MetOne mid.who mid.seen mid.outbox e new.seen (record { entries = new.outbox.entries; given = new.outbox.given; unsettled = None })
-      m = met-one mid.who mid.seen new.seen mid.outbox (record { entries = new.outbox.entries; given = new.outbox.given; unsettled = None }) e lays.entries a.none a.settled
-
-      by : (fate : Fate) → Meets Holds mid.who mid.seen e fate m.mid → None ≡ first_of None fate → IsAppended Holds old.who old.seen e new.seen
-      by (Landed pos) met says = record {
-        before = mid.seen;
-        since = (lays.moves.goes.keeps.later.more, lays.moves.goes.keeps.later.seen);
-        position = pos;
-        after = m.mid;
-        met = subst (λ w. Meets Holds w mid.seen e (Landed pos) m.mid) lays.moves.goes.keeps.who met;
-        rest = m.on;
-      }
-      by (Lost x) met says = absurd (cc)
+      one : Lands Holds mid.who mid.seen (e ∷ []) new.seen new.known
+      one = subst (λ es. Lands Holds mid.who mid.seen es new.seen new.known) lays.entries landed
 
   -- what was reported is clean in the state at a tail
   pub has_told : (old packed' settled synced new : NodeView) (tail : ℕ) → Ended may floor shelf old packed' settled synced tail → (state : List Entry → SpaceMap → Type 0) → ((log : List Entry) (m : SpaceMap) → state log m → IsStateOf log m)
@@ -226,10 +237,8 @@ module _ (may : ℕ → Entry → Type 0) (floor : List Entry → ℕ) (shelf : 
     from = omega (arith, upward may floor shelf low old packed' settled synced tail e, cursor_is may floor shelf low old packed' settled synced tail e, at.size);
     within = omega (arith, at.size, tells.moves.goes.keeps.forward);
     clean = is ∙ (ap (clean_of synced.replica.contents) (sym at.size) ∙ (means at.log synced.replica.contents at.led).clean);
-    says = ap (λ i. unpack 0 (packed old.replica.origin (i ∷ []))) (sym reported) ∙ (said ∙ ap (λ n. placed_from 0 0 (content.Alive n position ∷ [])) own);
-    landed = subst (λ w. IsAppended Holds w synced.seen (packed old.replica.origin (alive_item old.replica.origin position ∷ [])) new.seen) k.who
-        (subst (λ o. IsAppended Holds synced.who synced.seen (packed o (alive_item old.replica.origin position ∷ [])) new.seen) k.origin
-        (subst (λ i. IsAppended Holds synced.who synced.seen (packed synced.replica.origin (i ∷ [])) new.seen) reported (tells.landed refl)));
+    says = says_alone old.replica.origin item (alive_item old.replica.origin position) (content.Alive number position) fine says reported ∙ ap (λ n. placed_from 0 0 (content.Alive n position ∷ [])) own;
+    landed = (appended_own old synced new.seen new.known item (alive_item old.replica.origin position) k.who k.origin reported (tells.appended refl)).landed;
   }
     where
       k : Keeps may floor shelf old synced
@@ -237,6 +246,3 @@ module _ (may : ℕ → Entry → Type 0) (floor : List Entry → ℕ) (shelf : 
 
       reported : item ≡ alive_item old.replica.origin position
       reported = made ∙ ap (λ n. alive_item n position) own
-
-      said : unpack 0 (packed old.replica.origin (item ∷ [])) ≡ placed_from 0 0 (content.Alive number position ∷ [])
-      said = unpack-packed old.replica.origin (item ∷ []) 0 (alone item fine) ∙ ap (λ o. placed_from 0 0 (cons_option o [])) says

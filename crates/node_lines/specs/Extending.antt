@@ -18,6 +18,7 @@ ExtendsSo cells old new others (looked.Failed c) = (others ≡ c ∷ []) × (is_
 ExtendsSo cells old new others (looked.Kept c) = ⊥
 ExtendsSo cells old new others (looked.Found after found) = ⊥
 ExtendsSo cells old new others (looked.Reported position) = ⊥
+ExtendsSo cells old new others looked.Left = ⊥
 
 -- What waited was packed, and all that was outstanding was carried to its end.
 pub record CarriesAll (may : ℕ → Entry → Type 0) (floor : List Entry → ℕ) (shelf : List ℕ) (old new : NodeView) : Type 0 where

@@ -3,4 +3,5 @@ pub mod Desks
 pub mod Lines
 pub mod Extending
 pub mod Reporting
+pub mod Leaving
 pub mod Turns

@@ -67,6 +67,7 @@ LooksSo old new d query others (looked.Kept c) = (others ≡ []) × (((d.stopped
 LooksSo old new d query others (looked.Failed c) = (others ≡ c ∷ []) × (d.stopped ≡ None)
 LooksSo old new d query others (looked.Extended x) = ⊥
 LooksSo old new d query others (looked.Reported position) = ⊥
+LooksSo old new d query others looked.Left = ⊥
 
 pub record Looks (may : ℕ → Entry → Type 0) (floor : List Entry → ℕ) (shelf : List ℕ) (old new : NodeView) (d : Desk) (query : Query) (answer : Looked) : Type 0 where
   pub others : List Cause

@@ -1,5 +1,5 @@
 -- What comes of a line by which a node reports how much of the log it needs no more.
-use Rattle.std.specs.Prelude.{◌≡◌, ℕ, ◌≤◌, List, [], ◌∷◌, ◌++◌, length, Option, Some, None}
+use Rattle.std.specs.Prelude.{◌≡◌, ℕ, ◌<◌, ◌≤◌, List, [], ◌∷◌, ◌++◌, length, Option, Some, None}
 use Rattle.delos_types.specs.declared.entry.Entry.{Entry}
 use Rattle.delos_types.specs.declared.item.Item.{Item}
 use Rattle.delos_types.specs.declared.cause.Cause.{Cause}
@@ -33,12 +33,17 @@ pub record LaysDown (may : ℕ → Entry → Type 0) (floor : List Entry → ℕ
   pub unsettled : new.outbox.unsettled ≡ old.outbox.unsettled
   pub kept : new.replica.kept ≡ []
 
+-- the entry was appended, at a position that the node knows
+pub record IsAppendedWithin (who : ℕ) (old : List Event) (e : Entry) (new : List Event) (known : ℕ) : Type 0 where
+  pub landed : IsAppended Holds who old e new
+  pub within : landed.position < known
+
 -- The item's entry was appended; or it failed, and its cause is given to no session.
 pub record Tells (may : ℕ → Entry → Type 0) (floor : List Entry → ℕ) (shelf : List ℕ) (old new : NodeView) (item : Item) (failed : Option Cause) : Type 0 where
   pub moves : Moves may floor shelf old new (failure_in failed)
   pub none : new.outbox.entries ≡ []
   pub kept : new.replica.kept ≡ []
-  pub landed : failed ≡ None → IsAppended Holds old.who old.seen (packed old.replica.origin (item ∷ [])) new.seen
+  pub appended : failed ≡ None → IsAppendedWithin old.who old.seen (packed old.replica.origin (item ∷ [])) new.seen new.known
 
 -- The node had the state of a front of the log that reaches each tail that was there before; so many of its entries are
 -- clean; and an entry that says so, and nothing else, was appended after that.
@@ -60,6 +65,7 @@ ReportsSo old new others (looked.Failed c) = others ≡ c ∷ []
 ReportsSo old new others (looked.Kept c) = ⊥
 ReportsSo old new others (looked.Found after found) = ⊥
 ReportsSo old new others (looked.Extended x) = ⊥
+ReportsSo old new others looked.Left = ⊥
 
 -- All was carried to its end, and the node reported, or failed to.
 pub record Reports (may : ℕ → Entry → Type 0) (floor : List Entry → ℕ) (shelf : List ℕ) (old new : NodeView) (answer : Looked) : Type 0 where

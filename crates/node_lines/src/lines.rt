@@ -31,20 +31,22 @@ use table_core::command::{Command, Found, Query};
 use virtual_log::extend::Extension;
 use virtual_log::log::VirtualLog;
 
-/// What a line came to that asks for no command: a read, a replacement of the last loglet, or a report.
+/// What a line came to that asks for no command: a read, a replacement of the last loglet, a report, or a node's leave.
 #[derive(Drop)]
 pub enum Looked {
     /// The table after the log's first `after` entries answers so.
     Found { after: u64, found: Found },
     /// The session was stopped, or was given this cause.
     Kept(Cause),
-    /// The log or the disk failed so as the read looked for a tail or the node reported, or the log as its last loglet was
-    /// replaced.
+    /// The log or the disk failed so as the read looked for a tail, or the node reported or left, or the log as its last loglet
+    /// was replaced.
     Failed(Cause),
     /// The last loglet was replaced, by this node or by another, or there is no next one.
     Extended(Extension),
     /// The node reported that so many of the log's first entries are clean.
     Reported(u64),
+    /// The node left.
+    Left,
 }
 
 /// Why nothing more is tried for the session in this phase.

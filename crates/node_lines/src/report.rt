@@ -49,7 +49,7 @@ fn lay_down<T: Turns, C: Chooser, R: Replica>(
 
 /// Appends an entry of an item of no session, where nothing waits and nothing is outstanding. Answers why the log failed, if
 /// it did: no session is given that cause.
-fn tell<T: Turns, C: Chooser, R: Replica>(
+pub(crate) fn tell<T: Turns, C: Chooser, R: Replica>(
     node: &mut Node<VirtualLog<T, C>, R>,
     item: Item,
 ) -> Result<Option<Cause>, AllocError>

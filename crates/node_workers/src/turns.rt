@@ -5,7 +5,7 @@ ghost use Rattle.delos_types.specs.Spaces.{SpaceMap};
 ghost use Rattle.delos_types.specs.declared.entry.Entry.{Entry};
 ghost use Rattle.table_core.specs.Spelling.{IsSpellable, command_length};
 ghost use Rattle.legal_journal.specs.Sealing.{Unsealed};
-ghost use Rattle.engine_api.specs.Packing.{packed, session_item, alive_item};
+ghost use Rattle.engine_api.specs.Packing.{packed, session_item, alive_item, leave_item};
 ghost use Rattle.engine_laws.specs.State.{IsStateOf};
 ghost use Rattle.node_sessions.specs.declared.desk.Desk.{Desk};
 ghost use Rattle.one_thread.specs.Alone.{Since};
@@ -15,12 +15,13 @@ ghost use Rattle.node_lines.specs.Desks.{DeskOk};
 ghost use Rattle.node_lines.specs.Lines.{Looks};
 ghost use Rattle.node_lines.specs.Extending.{Extends};
 ghost use Rattle.node_lines.specs.Reporting.{Reports};
+ghost use Rattle.node_lines.specs.Leaving.{Leaves};
 ghost use Rattle.node_lines.specs.Turns.{EndsTurn};
 ghost use Rattle.node_workers.specs.Workers.{WorkerOk, MayRun, LogsIt, Logs, Within, Grows, sent_of};
 
 use crate::within::{
-    Back, end_within, extend_within, log_within, look_within, ready_within, report_within,
-    settle_within,
+    Back, end_within, extend_within, leave_within, log_within, look_within, ready_within,
+    report_within, settle_within,
 };
 use crate::worker::Worker;
 use delos_types::cause::Cause;
@@ -316,6 +317,52 @@ pub fn report_line<L: Loglet, R: Register, K: Terms, S: Replica, C: Chooser>(
         fabric,
         answer,
     } = report_within::<L, R, K, Brand, S, C>(alloc, fabric, seat, number, counts);
+    match answer {
+        Ok(looked) => {
+            return Returned {
+                worker: Worker { seat, desks },
+                fabric,
+                answer: Ok(looked),
+            };
+        }
+        Err(fault) => {
+            return Returned {
+                worker: Worker { seat, desks },
+                fabric,
+                answer: Err(fault),
+            };
+        }
+    }
+}
+
+/// A line by which a node leaves. It is of no session, and no session's cause keeps it from being tried.
+pub fn leave_line<L: Loglet, R: Register, K: Terms, S: Replica, C: Chooser>(
+    alloc: Global,
+    fabric: Fabric<L, R, By<K>>,
+    worker: Worker<S, C>,
+    counts: &[u64; 64],
+    number: NodeId,
+) -> Returned<L, R, K, S, C, Looked>
+    requires run { MayRun K.may K.floor K.shelf }
+    requires worker { WorkerOk K.may K.floor K.shelf S.state S.spells worker.seat.who counts.now fabric.journal worker.seat worker.desks.items }
+    requires number { worker.seat.who ≡ number }
+    requires own { K.may worker.seat.who (packed worker.seat.who (leave_item worker.seat.who ∷ [])) }
+    ensures desks { result.worker.desks ≡ worker.desks }
+    ensures stands { SeatOk K.may K.floor K.shelf S.state S.spells result.fabric.journal result.worker.seat }
+    ensures grows { Grows fabric.journal result.fabric.journal }
+    ensures unsealed { Unsealed fabric.journal result.fabric.journal }
+    ensures since { IfOk result.answer (λ l. Since worker.seat.who fabric.journal result.fabric.journal) }
+    ensures worker { IfOk result.answer (λ l. WorkerOk K.may K.floor K.shelf S.state S.spells worker.seat.who counts.now result.fabric.journal result.worker.seat result.worker.desks.items) }
+    ensures leaves { IfOk result.answer (λ l. Leaves (Within K.may counts.now) K.floor K.shelf (node_of worker.seat fabric.journal) (node_of result.worker.seat result.fabric.journal) l) }
+{
+    // A leave is spelled with the numbers of nodes alone.
+    prove!(number.number() <= 8);
+    let Worker { seat, desks } = worker;
+    let Back {
+        seat,
+        fabric,
+        answer,
+    } = leave_within::<L, R, K, Brand, S, C>(alloc, fabric, seat, number, counts);
     match answer {
         Ok(looked) => {
             return Returned {

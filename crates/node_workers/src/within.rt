@@ -5,7 +5,7 @@ ghost use Rattle.delos_types.specs.declared.entry.Entry.{Entry};
 ghost use Rattle.legal_journal.specs.Journal.{IsLegal};
 ghost use Rattle.legal_journal.specs.Sealing.{SealsBy};
 ghost use Rattle.table_core.specs.Spelling.{IsSpellable, command_length};
-ghost use Rattle.engine_api.specs.Packing.{packed, session_item, alive_item};
+ghost use Rattle.engine_api.specs.Packing.{packed, session_item, alive_item, leave_item};
 ghost use Rattle.engine_laws.specs.State.{IsStateOf};
 ghost use Rattle.base_engine.specs.Settling.{cause_in};
 ghost use Rattle.one_thread.specs.Alone.{Since};
@@ -15,6 +15,7 @@ ghost use Rattle.node_lines.specs.Desks.{DeskOk, DesksOk, IsBound, AreBound, May
 ghost use Rattle.node_lines.specs.Lines.{Readies, Looks};
 ghost use Rattle.node_lines.specs.Extending.{CarriesAll, Replaces};
 ghost use Rattle.node_lines.specs.Reporting.{Reports};
+ghost use Rattle.node_lines.specs.Leaving.{Leaves};
 ghost use Rattle.node_lines.specs.Turns.{EndsTurn};
 
 use delos_types::cause::Cause;
@@ -24,6 +25,7 @@ use fate_words::chooser::Chooser;
 use legal_journal::rules::Rules;
 use loglet_api::loglet::Loglet;
 use node_lines::extend::{extend_log, settle_log};
+use node_lines::leave::leave;
 use node_lines::lines::{Looked, log_command, look, make_ready};
 use node_lines::report::report;
 use node_lines::turn::end_turn;
@@ -226,6 +228,37 @@ pub fn report_within<L: Loglet, R: Register, K: Terms, Q: Scope, S: Replica, C: 
 {
     let mut node = seat.wake::<L, R, K, Q>(fabric);
     let answer = report(alloc, &mut node, number);
+    let (seat, fabric) = rest(node);
+    Back {
+        seat,
+        fabric,
+        answer,
+    }
+}
+
+/// The node leaves.
+pub fn leave_within<L: Loglet, R: Register, K: Terms, Q: Scope, S: Replica, C: Chooser>(
+    alloc: Global,
+    fabric: Fabric<L, R, By<K>>,
+    seat: Seat<S, C>,
+    number: NodeId,
+    _counts: &[u64; 64],
+) -> Back<L, R, K, S, C, Looked>
+    requires floor { (log : List Entry) → K.floor log ≤ length log }
+    requires seat { SeatOk Q.sends K.floor K.shelf S.state S.spells fabric.journal seat }
+    requires narrower { (who : ℕ) (e : Entry) → Q.sends who e → K.may who e }
+    requires since { Q.since ≡ fabric.journal }
+    requires kept { CanPack seat.node.replica.kept }
+    requires keeps { KeepsFrom Q.sends K.floor K.shelf seat.node.replica.cursor }
+    requires number { number ≡ seat.node.replica.origin }
+    requires own { Q.sends seat.who (packed seat.node.replica.origin (leave_item seat.node.replica.origin ∷ [])) }
+    ensures seat { SeatOk Q.sends K.floor K.shelf S.state S.spells result.fabric.journal result.seat }
+    ensures since { Since result.seat.who Q.since result.fabric.journal }
+    ensures right { SealsBy (Q.seals result.seat.who) Q.since result.fabric.journal }
+    ensures leaves { IfOk result.answer (Leaves Q.sends K.floor K.shelf (node_of seat fabric.journal) (node_of result.seat result.fabric.journal)) }
+{
+    let mut node = seat.wake::<L, R, K, Q>(fabric);
+    let answer = leave(alloc, &mut node, number);
     let (seat, fabric) = rest(node);
     Back {
         seat,

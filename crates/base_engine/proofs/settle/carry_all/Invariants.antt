@@ -1,8 +1,8 @@
-use Rattle.std.proofs.Common.{◌≡◌, ◌≤◌, length}
+use Rattle.std.proofs.Common.{◌≡◌, ◌≤◌, None, length}
 use Rattle.std.specs.Prelude.{All}
 use Rattle.virtual_log.specs.Turning.{Later}
 use Rattle.base_engine.specs.Settling.{view_of, MaySend}
-use Rattle.base_engine.proofs.Settling.{SoFar}
+use Rattle.base_engine.proofs.Settling.{SoFar, LandedSoFar}
 use Rattle.base_engine.proofs.settle.carry_all.Given as goal
 
 abbrev pub invariant-entry : goal.invariant-entry
@@ -14,6 +14,7 @@ invariant-entry g l =
       who : t.who l.log ≡ t.who l.fn.log;
       known : t.reaches l.fn.log ≤ t.reaches l.log;
       may : All (λ e. MaySend p.may (t.who l.log) e) l.outbox.entries.items;
+      landed : l.outbox.unsettled ≡ None → LandedSoFar t.holds (t.who l.fn.log) (t.seen l.fn.log) l.fn.outbox.entries.items (t.seen l.log) l.outbox.entries.items (t.reaches l.log);
       sofar : SoFar t.holds (t.who l.fn.log) (t.seen l.fn.log) (view_of l.fn.outbox) (t.seen l.log) (view_of l.outbox);
     }
 

@@ -1,9 +1,9 @@
-use Rattle.std.proofs.Common.{◌∙◌, sym, subst}
+use Rattle.std.proofs.Common.{◌∙◌, sym, subst, arith}
 use Rattle.std.proofs.lemmas.List.{append-nil}
 use Rattle.virtual_log.proofs.OneTurn.{later_refl}
 use Rattle.delos_types.specs.declared.entry.Entry.{Entry}
 use Rattle.base_engine.specs.Settling.{Landed, MaySend}
-use Rattle.base_engine.proofs.Settling.{head_rest, head_drop, all_tail_by, first_landed}
+use Rattle.base_engine.proofs.Settling.{head_rest, head_drop, all_tail_by, first_landed, never_calm}
 use Rattle.base_engine.proofs.settle.carry_oldest.Goals as goal
 
 pub returns-in_err-sessions-clause-later : goal.returns-in_err-sessions-clause-later
@@ -24,6 +24,19 @@ returns-in-Ok-clause-carried g c =
       gained = c.reserve.ensures.items ∙ sym (append-nil c.args.outbox.now.given.items);
       unsettled = first_landed c.args.outbox.now.unsettled c.in-Ok.field-0;
     }
+
+pub returns-in-Ok-clause-landed : goal.returns-in-Ok-clause-landed
+returns-in-Ok-clause-landed g c = λ calm.
+    record {
+      entry = c.index-2.result.now;
+      position = c.in-Ok.field-0;
+      oldest = head_rest c.args.outbox.now.entries.items c.remove-landed.new.self.items c.index-2.result.now c.requires.some c.index-2.ensures c.remove-landed.ensures.items;
+      met = (c.in-Ok.ensures.stands, c.in-Ok.ensures.held, c.in-Ok.ensures.above);
+      within = omega (arith, c.in-Ok.ensures.known);
+    }
+
+pub returns-in-Because-clause-landed : goal.returns-in-Because-clause-landed
+returns-in-Because-clause-landed g c = λ calm. absurd (never_calm c.args.outbox.now.unsettled c.in-Because.cause (sym c.lose.ensures.unsettled ∙ calm))
 
 pub returns-in-Because-clause-may : goal.returns-in-Because-clause-may
 returns-in-Because-clause-may g c =

@@ -1,5 +1,6 @@
 use Rattle.std.proofs.Common.{refl, ap, ◌∙◌, subst, ◌^◌, ◌<◌, [], ◌∷◌, None, Some, arith}
 use Rattle.engine_api.specs.declared.content.Content.TheVariants as content
+use Rattle.engine_api.specs.Packing.{alive_item}
 use Rattle.base_engine.specs.Settling.{OutboxView}
 use Rattle.replica_api.specs.Replica.{ReplicaView}
 use Rattle.node_lines.specs.Moving.{Moves, failure_of}
@@ -41,7 +42,7 @@ tell-requires-clause-own g c =
     let k = (moves-both p.may p.floor p.shelf c.requires.floor old then' new [] [] (moves-both p.may p.floor p.shelf c.requires.floor old c.pack.new.node then' [] [] c.in_ok-pack.ensures.moves c.in_ok-settle.ensures.moves) last).goes.keeps in
     let position = c.in_ok-position-in-At.position in
     let small : position < 2 ^ 64 = omega arith in
-    may_tell p.may old new c.args.number position c.in_ok-item-in-At.item k.who k.origin c.in_ok-item-in-At.ensures.item c.requires.number (c.requires.own position small)
+    may_tell p.may old new c.in_ok-item-in-At.item (alive_item old.replica.origin position) k.who k.origin (c.in_ok-item-in-At.ensures.item ∙ ap (λ n. alive_item n position) c.requires.number) (c.requires.own position small)
 
 pub returns-in-None : goal.returns-in-None
 returns-in-None g c =

@@ -9,7 +9,7 @@ returns-in-Ok g c =
     let p = g.T.Law.Rules in
     let e = c.in-Ok.ensures in
     record {
-      tells = tells-landed p.may p.floor p.shelf c.requires.floor c.args.node.now c.lay_down.new.node c.settle_all.new.self c.args.item c.in_ok-lay_down.ensures.lays c.requires.unsettled e.keeps e.replica e.calm;
+      tells = tells-landed p.may p.floor p.shelf c.requires.floor c.args.node.now c.lay_down.new.node c.settle_all.new.self c.args.item c.in_ok-lay_down.ensures.lays e.keeps e.replica e.calm e.landed;
     }
 
 pub returns-in-Err-Because : goal.returns-in-Err-Because
