@@ -11,12 +11,13 @@ use Rattle.legal_journal.specs.Journal.{log_at, state_of, tail_of, trim_of}
 use Rattle.legal_journal.proofs.Log.{slice_get_front}
 use Rattle.virtual_log.specs.Holding.{Holds}
 use Rattle.virtual_log.proofs.Holding.{holds_stands}
+use Rattle.engine_api.specs.declared.content.Content.{Content}
 use Rattle.engine_api.specs.declared.content.Content.TheVariants as content
 use Rattle.engine_api.specs.declared.content.Placed.{Placed}
 use Rattle.engine_api.specs.Acted.{Asked, asked_in, unpack_all}
 use Rattle.engine_api.specs.Order.{first_of, is_clean}
 use Rattle.replica_api.specs.Replica.{Saved}
-use Rattle.script_text.specs.declared.line.Admin.TheVariants.{Alive}
+use Rattle.script_text.specs.declared.line.Admin.TheVariants.{Alive, Retire}
 use Rattle.script_text.specs.declared.asks.NamedLine.{NamedLine}
 use Rattle.script_text.specs.declared.asks.Asks.{Asks}
 use Rattle.script_text.specs.declared.asks.Asks.TheVariants as asks
@@ -39,12 +40,13 @@ use Rattle.line_rules.proofs.Rules.{asked_by}
 use Rattle.run_laws.specs.Ended.{AllAfter, FaultsCame, IsAtHome, IsOfEarlier, IsOfLine, LineEnded, LogStands, LogsThis, Played, Replacements, RunEnded, SessionEnded, rank_in}
 use Rattle.run_laws.proofs.Members.{among-found, contained-among}
 use Rattle.run_course.specs.Replacing.{Replaced}
+use Rattle.run_course.specs.Reporting.{StandsThere}
 use Rattle.course_ends.specs.Closing.{HasClosed, IsGivenBack, WorkerEnd}
 use Rattle.course_ends.specs.Ends.{end_of}
 use Rattle.course_ends.specs.Rows.{AreRows, desk_for, played_of}
 use Rattle.course_ends.proofs.Turns.{all_lines, lines_are, rows_are, turn_is, turn_of}
-use Rattle.course_ends.proofs.Lines.{early_line, report_played}
-use Rattle.course_ends.proofs.Reports.{alive_is, says_all}
+use Rattle.course_ends.proofs.Lines.{early_line, leave_played, report_played}
+use Rattle.course_ends.proofs.Reports.{alive_is, retired_is, says_all}
 use Rattle.course_ends.proofs.Replacements.{replacements}
 
 -- what holds of the element at each place holds of each
@@ -113,20 +115,36 @@ module _ (may : ℕ → Entry → Type 0) (floor : List Entry → ℕ) (shelf : 
       let t = turn_of played k.at k.line (ap (λ ls. slice_get ls k.at) played_lines ∙ k.is) in
       record { at = k.at; turn = t.0; is = t.1; logs = subst (λ (l : NamedLine). LogsThis l.asks x) (sym t.2) k.logs }
 
+  -- the log that the loglets have says so
+  abbrev Says : Content → Type 0
+  Says c = Contains (map (λ (p : Placed). p.content) (unpack_all 0 (virtual_log o.chain yard.cells 0 (virtual_tail o.chain yard.cells)))) c
+
+  -- what stands in the log stands in theirs
+  shown_there : (c : Content) → StandsThere h.course.journal c → Says c
+  shown_there c r =
+      let stands = holds_stands may floor shelf journal r.at r.entry back.legal (subst (λ j. Holds j r.at r.entry) h.journal_is r.held) in
+      let shown : log_at (state_of journal) r.at ≡ Some r.entry = ⊎_elim (λ (trimmed : r.at < trim_of (state_of journal)). absurd (omega (arith, trimmed, untrimmed))) (λ (s : log_at (state_of journal) r.at ≡ Some r.entry). s) stands in
+      let low = stands_below may floor shelf run.low journal r.at r.entry back.legal stands in
+      subst (λ k. Contains (map (λ (p : Placed). p.content) (unpack_all 0 (virtual_log k yard.cells 0 (virtual_tail k yard.cells)))) c) (sym back.chain_is)
+      (says_all (state_of journal).register.chain yard.cells r.at r.entry c (omega (arith, low, back.tail)) (back.shows r.at (omega (arith, untrimmed)) ∙ shown) r.says)
+
   -- each report that a row tells stands in the log
-  reported : (i : ℕ) (t : Played) (clean : ℕ) → slice_get played i ≡ Some t → t.row.outcome ≡ out.Alive clean → o.chain.trim ≡ 0
-      → Contains (map (λ (p : Placed). p.content) (unpack_all 0 (virtual_log o.chain yard.cells 0 (virtual_tail o.chain yard.cells)))) (content.Alive t.line.node clean)
+  reported : (i : ℕ) (t : Played) (clean : ℕ) → slice_get played i ≡ Some t → t.row.outcome ≡ out.Alive clean → o.chain.trim ≡ 0 → Says (content.Alive t.line.node clean)
   reported i t clean at is none =
       let k = turn_is lines o.rows looks i t at in
       let row = are.each i k.line k.look k.row k.line_at k.look_at k.row_at in
       let alive = alive_is (desk_for workers k.line.node k.line.asks) k.look k.line.asks k.row.outcome clean row.tells (sym (ap (λ (y : Played). y.row.outcome) k.is) ∙ is) in
-      let r = (report_played may floor shelf state spells run lines journal counts looks log workers h i k.line k.line_at Alive alive.0 clean (k.look_at ∙ ap Some alive.1)).stands in
-      let stands = holds_stands may floor shelf journal r.at r.entry back.legal (subst (λ j. Holds j r.at r.entry) h.journal_is r.held) in
-      let shown : log_at (state_of journal) r.at ≡ Some r.entry = ⊎_elim (λ (trimmed : r.at < trim_of (state_of journal)). absurd (omega (arith, trimmed, untrimmed))) (λ (s : log_at (state_of journal) r.at ≡ Some r.entry). s) stands in
-      let low = stands_below may floor shelf run.low journal r.at r.entry back.legal stands in
-      let there = says_all (state_of journal).register.chain yard.cells r.at r.entry (content.Alive k.line.node clean) (omega (arith, low, back.tail)) (back.shows r.at (omega (arith, untrimmed)) ∙ shown) r.says in
-      subst (λ n. Contains (map (λ (p : Placed). p.content) (unpack_all 0 (virtual_log o.chain yard.cells 0 (virtual_tail o.chain yard.cells)))) (content.Alive n clean)) (sym (ap (λ (y : Played). y.line.node) k.is))
-      (subst (λ c. Contains (map (λ (p : Placed). p.content) (unpack_all 0 (virtual_log c yard.cells 0 (virtual_tail c yard.cells)))) (content.Alive k.line.node clean)) (sym back.chain_is) there)
+      let r = report_played may floor shelf state spells run lines journal counts looks log workers h i k.line k.line_at Alive alive.0 clean (k.look_at ∙ ap Some alive.1) in
+      subst (λ n. Says (content.Alive n clean)) (sym (ap (λ (y : Played). y.line.node) k.is)) (shown_there (content.Alive k.line.node clean) r.stands)
+
+  -- and so does each leave
+  left : (i : ℕ) (t : Played) → slice_get played i ≡ Some t → t.row.outcome ≡ out.Retired → o.chain.trim ≡ 0 → Says (content.Leave t.line.node)
+  left i t at is none =
+      let k = turn_is lines o.rows looks i t at in
+      let row = are.each i k.line k.look k.row k.line_at k.look_at k.row_at in
+      let retired = retired_is (desk_for workers k.line.node k.line.asks) k.look k.line.asks k.row.outcome row.tells (sym (ap (λ (y : Played). y.row.outcome) k.is) ∙ is) in
+      let r = leave_played may floor shelf state spells run lines journal counts looks log workers h i k.line k.line_at Retire retired.0 (k.look_at ∙ ap Some retired.1) in
+      subst (λ n. Says (content.Leave n)) (sym (ap (λ (y : Played). y.line.node) k.is)) (shown_there (content.Leave k.line.node) r.stands)
 
   below : length log ≤ tail_of (state_of journal)
   below = front_below may floor shelf run.low journal log back.legal h.front
@@ -161,6 +179,7 @@ module _ (may : ℕ → Entry → Type 0) (floor : List Entry → ℕ) (shelf : 
       sessions = sessions_ended;
       replacements = replaced;
       reported = reported;
+      left = left;
       came = came;
       registered = registered;
     }

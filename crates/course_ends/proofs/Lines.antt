@@ -25,7 +25,7 @@ use Rattle.engine_laws.specs.State.{acts_in}
 use Rattle.replica_api.specs.Replica.{Saved}
 use Rattle.base_engine.specs.Reading.{IsFront}
 use Rattle.script_text.specs.declared.line.Admin.{Admin}
-use Rattle.script_text.specs.declared.line.Admin.TheVariants.{Extend, Alive}
+use Rattle.script_text.specs.declared.line.Admin.TheVariants.{Extend, Alive, Retire}
 use Rattle.script_text.specs.declared.asks.NamedLine.{NamedLine}
 use Rattle.script_text.specs.declared.asks.Asks.{Asks}
 use Rattle.script_text.specs.declared.asks.Asks.TheVariants as asks
@@ -51,6 +51,7 @@ use Rattle.run_laws.proofs.Members.{all-at, found-among}
 use Rattle.run_laws.proofs.Placing.{is_rank}
 use Rattle.run_course.specs.Script.{asked_before, asked_by, failure_of_look, logs_at}
 use Rattle.run_course.specs.Reporting.{IsReport, ReportedSo}
+use Rattle.run_course.specs.Leaving.{IsLeave, LeftSo}
 use Rattle.run_course.specs.Desks.{HasActed, IsOfNode, IsUpTo, LoggedSo, LogsBefore, LookedSo, PlayedSo, SawSo, WasStopped}
 use Rattle.run_course.proofs.Lines.{asked_home, at_get, count-cons, phase_before}
 use Rattle.run_course.proofs.Ranks.{node_is_home, rank_counts, rank_low}
@@ -60,7 +61,7 @@ use Rattle.course_ends.specs.Ends.{answered_of, desk_in, desks_at}
 use Rattle.course_ends.proofs.Turns.{all_after, any_map, count_map, lines_are, map_take, some_at, turn_is}
 use Rattle.course_ends.proofs.Sessions.{AtHome, HasDesk, at_home, ends_so, has_desk, stopped_first, the_end}
 use Rattle.course_ends.proofs.Placing.{acted_below, acted_on, acts_low, acts_not, appeared_by, fronts_agree}
-use Rattle.course_ends.proofs.Reports.{has_reported, report_within}
+use Rattle.course_ends.proofs.Reports.{has_reported, leave_within, report_within}
 
 -- Counting
 
@@ -111,6 +112,8 @@ answers_so None look (asks.Admin Extend) out.NoSpare t = refl
 answers_so None look (asks.Admin Extend) (out.Open cause) t = refl
 answers_so None look (asks.Admin Alive) (out.Alive clean) t = refl
 answers_so None look (asks.Admin Alive) (out.Open cause) t = refl
+answers_so None look (asks.Admin Retire) out.Retired t = refl
+answers_so None look (asks.Admin Retire) (out.Open cause) t = refl
 answers_so d look a o t = absurd t
 
 same_some : {A : Type 0} (x y : A) → Some x ≡ Some y → x ≡ y
@@ -322,7 +325,7 @@ module _ (may : ℕ → Entry → Type 0) (floor : List Entry → ℕ) (shelf : 
 
   -- what the node of a line was asked itself came to
   abbrev CameOfNode : ℕ → NamedLine → Admin → Type 0
-  CameOfNode i l a = (look : Looked) × (slice_get looks i ≡ Some (Some look)) × IsOfNode a look × ReportedSo h.course.journal (h.course.tails l.phase) (length log) l.node look
+  CameOfNode i l a = (look : Looked) × (slice_get looks i ≡ Some (Some look)) × IsOfNode a look × ReportedSo h.course.journal (h.course.tails l.phase) (length log) l.node look × LeftSo h.course.journal (length log) l.node look
 
   own_home : (node : ℕ) (a : Asks) → IsAtHome h.home node a → IsSome (session_asking a) → node ≡ h.home (session_in a)
   own_home node (asks.Logged s r command) at some = at
@@ -335,6 +338,7 @@ module _ (may : ℕ → Entry → Type 0) (floor : List Entry → ℕ) (shelf : 
   of_table s n d i phase query (looked.Failed cause) so = tt
   of_table s n d i phase query (looked.Extended x) so = so
   of_table s n d i phase query (looked.Reported position) so = so
+  of_table s n d i phase query looked.Left so = so
 
   module _ (i : ℕ) (l : NamedLine) (line_at : slice_get lines i ≡ Some l) where
     -- at its session's desk, if it has one
@@ -383,6 +387,7 @@ module _ (may : ℕ → Entry → Type 0) (floor : List Entry → ℕ) (shelf : 
           so.2,
           subst (λ n. ReportedSo h.course.journal (h.course.tails l.phase) (length log) n so.0) (sym same)
               (report_within h.course.journal (h.course.tails l.phase) w.0.seat.node.replica.cursor (length log) (l.node - 1 + 1) so.0 k.short so.3),
+          subst (λ n. LeftSo h.course.journal (length log) n so.0) (sym same) (leave_within h.course.journal w.0.seat.node.replica.cursor (length log) (l.node - 1 + 1) so.0 k.short so.4),
         )
 
     -- what it reported, if it did
@@ -391,6 +396,13 @@ module _ (may : ℕ → Entry → Type 0) (floor : List Entry → ℕ) (shelf : 
         let so = node_played a is in
         let same : so.0 ≡ looked.Reported clean = same_some so.0 (looked.Reported clean) (same_some (Some so.0) (Some (looked.Reported clean)) (sym so.1 ∙ came)) in
         subst (ReportedSo h.course.journal (h.course.tails l.phase) (length log) l.node) same so.3
+
+    -- and that it left, if it did
+    pub leave_played : (a : Admin) → l.asks ≡ asks.Admin a → slice_get looks i ≡ Some (Some looked.Left) → IsLeave h.course.journal (length log) l.node
+    leave_played a is came =
+        let so = node_played a is in
+        let same : so.0 ≡ looked.Left = same_some so.0 looked.Left (same_some (Some so.0) (Some looked.Left) (sym so.1 ∙ came)) in
+        subst (LeftSo h.course.journal (length log) l.node) same so.4
 
     can_tell_so : (a : Asks) (is : l.asks ≡ a) (look : Option Looked) → slice_get looks i ≡ Some look → TellsIt (desk_for workers l.node a) look a
     can_tell_so (asks.Logged s r command) is look look_at =
@@ -565,6 +577,8 @@ module _ (may : ℕ → Entry → Type 0) (floor : List Entry → ℕ) (shelf : 
         node_came Extend (out.Open cause) t = ap failure_of_look t
         node_came Alive (out.Alive clean) t = reported clean t
         node_came Alive (out.Open cause) t = ap failure_of_look t
+        node_came Retire out.Retired t = tt
+        node_came Retire (out.Open cause) t = ap failure_of_look t
         node_came a o t = absurd t
 
         ended_at_node : LineEnded log h.course.tails h.course.faults ends (take i played) turn

@@ -1,4 +1,4 @@
--- What nodes reported, once the run has ended.
+-- What nodes reported, and that they left, once the run has ended.
 use Rattle.std.proofs.Common.{◌≡◌, refl, sym, ap, ◌∙◌, subst, inl, inr, ⊎_elim, ℕ, zero, suc, ◌+◌, ◌-◌, ◌<◌, ◌≤◌, List, [], ◌∷◌, Option, Some, None, map, length, Contains, arith}
 use Rattle.std.specs.Prelude.{filter_map}
 use Rattle.std.specs.List.{cons_option}
@@ -19,7 +19,7 @@ use Rattle.engine_api.specs.declared.content.Placed.{Placed}
 use Rattle.engine_api.specs.Items.{contents_of, items_of, placed_at, placed_from, unpack}
 use Rattle.engine_api.specs.Acted.{unpack_all}
 use Rattle.engine_api.specs.Members.{clean_position}
-use Rattle.script_text.specs.declared.line.Admin.TheVariants.{Extend, Alive}
+use Rattle.script_text.specs.declared.line.Admin.TheVariants.{Extend, Alive, Retire}
 use Rattle.script_text.specs.declared.asks.Asks.{Asks}
 use Rattle.script_text.specs.declared.asks.Asks.TheVariants as asks
 use Rattle.row_text.specs.declared.row.Outcome.{Outcome}
@@ -30,6 +30,7 @@ use Rattle.node_lines.specs.declared.lines.Looked.TheVariants as looked
 use Rattle.run_laws.specs.Ended.{HasReported}
 use Rattle.run_laws.proofs.Members.{Among}
 use Rattle.run_course.specs.Reporting.{IsReport, ReportedSo}
+use Rattle.run_course.specs.Leaving.{LeftSo}
 use Rattle.course_ends.specs.Rows.{Tells}
 use Rattle.course_ends.proofs.Placing.{fronts_agree}
 
@@ -91,6 +92,8 @@ alive_is None look (asks.Admin Extend) out.NoSpare clean t e = absurd (cc)
 alive_is None look (asks.Admin Extend) (out.Open cause) clean t e = absurd (cc)
 alive_is None look (asks.Admin Alive) (out.Alive d) clean t e = let same : d ≡ clean = cc in (refl, t ∙ ap (λ n. Some (looked.Reported n)) same)
 alive_is None look (asks.Admin Alive) (out.Open cause) clean t e = absurd (cc)
+alive_is None look (asks.Admin Retire) out.Retired clean t e = absurd (cc)
+alive_is None look (asks.Admin Retire) (out.Open cause) clean t e = absurd (cc)
 alive_is d look a o clean t e = absurd t
 
 -- what is within what a node has applied is within what has been applied further
@@ -107,6 +110,7 @@ report_within journal tail cursor cursor' node (looked.Reported position) up h =
   clean = h.clean;
   stands = h.stands;
 }
+report_within journal tail cursor cursor' node looked.Left up h = tt
 
 -- it tells of a front of the log as far as it was played
 pub has_reported : (may : ℕ → Entry → Type 0) (floor : List Entry → ℕ) (shelf : List ℕ) (journal : List Event) (log : List Entry) (tails : ℕ → ℕ) (phase node clean : ℕ) → IsLegal may floor shelf journal → IsFront Holds journal log → IsReport journal (tails phase) (length log) node clean
@@ -117,3 +121,30 @@ has_reported may floor shelf journal log tails phase node clean legal front r = 
   from = r.from;
   is = r.clean ∙ ap clean_position (fronts_agree may floor shelf journal r.log log legal r.front front r.within);
 }
+
+-- A leave
+
+-- a row that tells one answers a line that asked for it, and came to it
+pub retired_is : (d : Option Desk) (look : Option Looked) (a : Asks) (o : Outcome) → Tells d look a o → o ≡ out.Retired → (a ≡ asks.Admin Retire) × (look ≡ Some looked.Left)
+retired_is (Some d) look (asks.Logged s r command) (out.Placed place reply late) t e = absurd (cc)
+retired_is (Some d) look (asks.Logged s r command) (out.Open cause) t e = absurd (cc)
+retired_is (Some d) look (asks.Look s query) (out.Read after answer) t e = absurd (cc)
+retired_is (Some d) look (asks.Look s query) (out.Open cause) t e = absurd (cc)
+retired_is None look (asks.Admin Extend) (out.Extended version start) t e = absurd (cc)
+retired_is None look (asks.Admin Extend) (out.Moved version) t e = absurd (cc)
+retired_is None look (asks.Admin Extend) out.NoSpare t e = absurd (cc)
+retired_is None look (asks.Admin Extend) (out.Open cause) t e = absurd (cc)
+retired_is None look (asks.Admin Alive) (out.Alive clean) t e = absurd (cc)
+retired_is None look (asks.Admin Alive) (out.Open cause) t e = absurd (cc)
+retired_is None look (asks.Admin Retire) out.Retired t e = (refl, t)
+retired_is None look (asks.Admin Retire) (out.Open cause) t e = absurd (cc)
+retired_is d look a o t e = absurd t
+
+-- what is within what a node has applied is within what has been applied further
+pub leave_within : (journal : List Event) (cursor cursor' node : ℕ) (look : Looked) → cursor ≤ cursor' → LeftSo journal cursor node look → LeftSo journal cursor' node look
+leave_within journal cursor cursor' node (looked.Found after found) up h = tt
+leave_within journal cursor cursor' node (looked.Kept cause) up h = tt
+leave_within journal cursor cursor' node (looked.Failed cause) up h = tt
+leave_within journal cursor cursor' node (looked.Extended x) up h = tt
+leave_within journal cursor cursor' node (looked.Reported position) up h = tt
+leave_within journal cursor cursor' node looked.Left up h = record { stands = h.stands; within = omega (arith, h.within, up) }

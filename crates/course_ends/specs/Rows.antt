@@ -4,7 +4,7 @@ use Rattle.delos_types.specs.declared.place.Place.{Place}
 use Rattle.table_core.specs.declared.command.Reply.{Reply}
 use Rattle.engine_steps.specs.declared.layout.Kept.{Kept}
 use Rattle.engine_steps.specs.Replies.{reply_text}
-use Rattle.script_text.specs.declared.line.Admin.TheVariants.{Extend, Alive}
+use Rattle.script_text.specs.declared.line.Admin.TheVariants.{Extend, Alive, Retire}
 use Rattle.script_text.specs.declared.asks.NamedLine.{NamedLine}
 use Rattle.script_text.specs.declared.asks.Asks.{Asks}
 use Rattle.script_text.specs.declared.asks.Asks.TheVariants as asks
@@ -57,6 +57,8 @@ Tells None look (asks.Admin Extend) out.NoSpare = look ≡ Some (looked.Extended
 Tells None look (asks.Admin Extend) (out.Open cause) = look ≡ Some (looked.Failed cause)
 Tells None look (asks.Admin Alive) (out.Alive clean) = look ≡ Some (looked.Reported clean)
 Tells None look (asks.Admin Alive) (out.Open cause) = look ≡ Some (looked.Failed cause)
+Tells None look (asks.Admin Retire) out.Retired = look ≡ Some looked.Left
+Tells None look (asks.Admin Retire) (out.Open cause) = look ≡ Some (looked.Failed cause)
 Tells desk look asked answered = ⊥
 
 pub record IsRowOf (l : NamedLine) (d : Option Desk) (look : Option Looked) (row : Row) : Type 0 where
@@ -76,6 +78,7 @@ IsOfTable (looked.Kept cause) = Unit {0}
 IsOfTable (looked.Failed cause) = Unit {0}
 IsOfTable (looked.Extended extension) = ⊥
 IsOfTable (looked.Reported position) = ⊥
+IsOfTable looked.Left = ⊥
 
 -- A logged command is answered, or its session was stopped; a read was played, and so was what a node itself was asked.
 abbrev pub TellsIt : Option Desk → Option Looked → Asks → Type 0

@@ -2,7 +2,7 @@
 ghost use Rattle.std.specs.Prelude.{◌≡◌, ◌≤◌, ◌⊎◌, ℕ, IfOk, IsSome, None, Option, Some, true, length, map};
 ghost use Rattle.table_core.specs.declared.command.Command.{Command};
 ghost use Rattle.table_core.specs.declared.command.Query.{Query};
-ghost use Rattle.script_text.specs.declared.line.Admin.TheVariants.{Extend, Alive};
+ghost use Rattle.script_text.specs.declared.line.Admin.TheVariants.{Extend, Alive, Retire};
 ghost use Rattle.script_text.specs.declared.line.Session.{Session};
 ghost use Rattle.script_text.specs.declared.asks.Asks.TheVariants as asks;
 ghost use Rattle.fitting_run.specs.Answered.{session_asking};
@@ -105,6 +105,7 @@ fn outcome_of<S: Replica, C: Chooser>(
         Asks::Look { .. } => look_outcome(alloc, look),
         Asks::Admin(Admin::Extend) => Ok(extend_outcome(look)),
         Asks::Admin(Admin::Alive) => Ok(report_outcome(look)),
+        Asks::Admin(Admin::Retire) => Ok(leave_outcome(look)),
     }
 }
 
@@ -175,6 +176,7 @@ fn look_outcome(alloc: Global, look: &Option<Looked>) -> Result<Outcome, AllocEr
         Looked::Failed(cause) => Ok(Outcome::Open { cause: *cause }),
         Looked::Extended(_) => unreachable!(),
         Looked::Reported(_) => unreachable!(),
+        Looked::Left => unreachable!(),
     }
 }
 
@@ -190,6 +192,7 @@ fn extend_outcome(look: &Option<Looked>) -> Outcome
         Looked::Found { .. } => unreachable!(),
         Looked::Kept(_) => unreachable!(),
         Looked::Reported(_) => unreachable!(),
+        Looked::Left => unreachable!(),
     }
 }
 
@@ -216,5 +219,22 @@ fn report_outcome(look: &Option<Looked>) -> Outcome
         Looked::Found { .. } => unreachable!(),
         Looked::Kept(_) => unreachable!(),
         Looked::Extended(_) => unreachable!(),
+        Looked::Left => unreachable!(),
+    }
+}
+
+/// What becomes of a node's leaving.
+fn leave_outcome(look: &Option<Looked>) -> Outcome
+    requires { (looked : Looked) × (look.now ≡ Some looked) × IsOfNode Retire looked }
+    ensures { Tells None look.now (asks.Admin Retire) result }
+{
+    let Some(look) = look else { unreachable!() };
+    match look {
+        Looked::Left => Outcome::Retired,
+        Looked::Failed(cause) => Outcome::Open { cause: *cause },
+        Looked::Found { .. } => unreachable!(),
+        Looked::Kept(_) => unreachable!(),
+        Looked::Extended(_) => unreachable!(),
+        Looked::Reported(_) => unreachable!(),
     }
 }

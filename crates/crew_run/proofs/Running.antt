@@ -18,12 +18,12 @@ use Rattle.legal_journal.specs.Journal.{IsLegal, state_of}
 use Rattle.legal_journal.proofs.Log.{HasStart}
 use Rattle.legal_journal.proofs.Sound.{current}
 use Rattle.legal_journal.proofs.Legal.{sound}
-use Rattle.engine_api.specs.Packing.{packed, session_item, alive_item}
+use Rattle.engine_api.specs.Packing.{packed, session_item, alive_item, leave_item}
 use Rattle.replica_api.specs.Replica.{ReplicaView}
 use Rattle.script_text.specs.declared.asks.NamedLine.{NamedLine}
 use Rattle.script_text.specs.declared.asks.Asks.{Asks}
 use Rattle.script_text.specs.declared.asks.Asks.TheVariants as asks
-use Rattle.script_text.specs.declared.line.Admin.TheVariants.{Extend, Alive}
+use Rattle.script_text.specs.declared.line.Admin.TheVariants.{Extend, Alive, Retire}
 use Rattle.script_text.specs.declared.line.Session.{Session}
 use Rattle.fitting_run.specs.Lines.{CanLog}
 use Rattle.fitting_run.specs.Faults.{disk_faults}
@@ -90,8 +90,9 @@ pub sends_all : (lines : List NamedLine) (home : ℕ → ℕ) (nodes : ℕ) → 
     → session.id ≤ 63 → 1 ≤ rank → rank < 2 ^ 64 → IsSpellable command → command_length command ≤ 984 → may_of lines line.node (packed line.node (session_item session.id rank command ∷ [])))
     → ((at : ℕ) (line : NamedLine) → slice_get lines at ≡ Some line → line.asks ≡ asks.Admin Alive
     → (position : ℕ) → position < 2 ^ 64 → may_of lines line.node (packed line.node (alive_item line.node position ∷ [])))
+    → ((at : ℕ) (line : NamedLine) → slice_get lines at ≡ Some line → line.asks ≡ asks.Admin Retire → may_of lines line.node (packed line.node (leave_item line.node ∷ [])))
     → MaySendAll (may_of lines) lines
-sends_all lines home nodes are can law report i l at = by l.asks refl
+sends_all lines home nodes are can law report leave i l at = by l.asks refl
   where
     by : (a : Asks) → l.asks ≡ a → CanSend (may_of lines) l.node a
     by (asks.Logged s r c) is =
@@ -107,6 +108,7 @@ sends_all lines home nodes are can law report i l at = by l.asks refl
     by (asks.Look s q) is = tt
     by (asks.Admin Extend) is = tt
     by (asks.Admin Alive) is = report i l at is
+    by (asks.Admin Retire) is = leave i l at is
 
 -- All of it
 

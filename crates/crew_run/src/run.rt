@@ -24,7 +24,7 @@ use fabric_core::fabric::Parts;
 use fate_words::chooser::Chooser;
 use fitting_run::told::Told;
 use line_rules::laws::{
-    a_log_of_lines_trims_nothing, lines_are_sent, lines_may_run, reports_are_sent,
+    a_log_of_lines_trims_nothing, leaves_are_sent, lines_are_sent, lines_may_run, reports_are_sent,
     the_floor_is_the_least,
 };
 use loglet_api::loglet::Loglet;
@@ -135,6 +135,7 @@ pub fn run_lines<L: Loglet, R: Register, S: Replica, C: Chooser>(
     a_log_of_lines_trims_nothing();
     lines_are_sent();
     reports_are_sent();
+    leaves_are_sent();
     the_floor_is_the_least::<S>();
     know_all(cells.as_slice());
     run_by::<L, R, Brand, S, C>(alloc, cells, register, nodes, lines)

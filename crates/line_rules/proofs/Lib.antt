@@ -1,4 +1,4 @@
 pub mod Contents
 pub mod Floors
-pub mod Reports
 pub mod Rules
+pub mod Views

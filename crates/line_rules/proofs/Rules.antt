@@ -12,8 +12,8 @@ use Rattle.engine_api.specs.declared.content.Content.TheVariants.{Session, Alive
 use Rattle.engine_api.specs.declared.content.Placed.{Placed}
 use Rattle.engine_api.specs.Items.{content_of, unpack}
 use Rattle.engine_api.specs.Acted.{Asked, unpack_all, asked_in}
-use Rattle.engine_api.specs.Packing.{packed, session_item, alive_item, IsProposable}
-use Rattle.engine_api.proofs.Packed.{content_of-session, content_of-alive, proposable-session, proposable-alive}
+use Rattle.engine_api.specs.Packing.{packed, session_item, alive_item, leave_item, IsProposable}
+use Rattle.engine_api.proofs.Packed.{content_of-session, content_of-alive, content_of-leave, proposable-session, proposable-alive, proposable-leave}
 use Rattle.script_text.specs.declared.line.Admin.TheVariants as admin
 use Rattle.script_text.specs.declared.asks.NamedLine.{NamedLine}
 use Rattle.script_text.specs.declared.asks.Asks.{Asks}
@@ -25,7 +25,7 @@ use Rattle.shown_log.proofs.Untrimmed.{none_trimmed}
 use Rattle.line_rules.specs.Rules.{LogsRank, IsLineOf, may_of, AreOfLines, IsAskedBy, floor_of}
 use Rattle.line_rules.proofs.Contents.{all-contained, unpack_all-has, to_packed, one, joined, appearances-has}
 use Rattle.line_rules.proofs.Floors.{Silent, floor-silent}
-use Rattle.line_rules.proofs.Reports.{IsNumber, alive_number, alive_unpack}
+use Rattle.line_rules.proofs.Views.{IsNumber, view, view_number, view_unpack}
 
 module _ (lines : List NamedLine) where
   -- A line's command
@@ -43,20 +43,27 @@ module _ (lines : List NamedLine) where
             (subst (λ o. AllByRecursion (IsLineOf lines line.node) (cons_option o [])) (sym says) (has, tt));
       }
 
-  -- A node's report
+  -- What a node tells of itself
 
   -- A node whose number has no spelling makes an entry without items.
-  pub report_sent : (at : ℕ) (line : NamedLine) → slice_get lines at ≡ Some line → line.asks ≡ asks.Admin admin.Alive → (position : ℕ) → position < 2 ^ 64 → may_of lines line.node (packed line.node (alive_item line.node position ∷ []))
-  report_sent at line is asked position small = record { own = refl; items = by (alive_number line.node position) }
+  view_sent : (who tag position : ℕ) (c : Content) → (IsNumber who → content_of (view tag who position) ≡ Some c) → (IsNumber who → IsProposable (view tag who position)) → IsLineOf lines who c → may_of lines who (packed who (view tag who position ∷ []))
+  view_sent who tag position c says fine has = record { own = refl; items = by (view_number tag who position) }
     where
-      by : IsNumber line.node ⊎ (content_of (alive_item line.node position) ≡ None) → AllByRecursion (λ p. IsLineOf lines line.node p.content) (unpack 0 (packed line.node (alive_item line.node position ∷ [])))
+      by : IsNumber who ⊎ (content_of (view tag who position) ≡ None) → AllByRecursion (λ p. IsLineOf lines who p.content) (unpack 0 (packed who (view tag who position ∷ [])))
       by (inl known) =
-          let item = alive_item line.node position in
-          let says : content_of item ≡ Some (Alive line.node position) = content_of-alive line.node position known.0 known.1 small in
-          let has : IsLineOf lines line.node (Alive line.node position) = (refl, record { at = at; line = line; is = is; node = refl; asks = asked }) in
-          to_packed (IsLineOf lines line.node) line.node (item ∷ []) (one (IsLineOf lines line.node) item (proposable-alive line.node position known.0 known.1 small))
-          (subst (λ o. AllByRecursion (IsLineOf lines line.node) (cons_option o [])) (sym says) (has, tt))
-      by (inr none) = subst (AllByRecursion (λ p. IsLineOf lines line.node p.content)) (sym (alive_unpack line.node position none)) tt
+          to_packed (IsLineOf lines who) who (view tag who position ∷ []) (one (IsLineOf lines who) (view tag who position) (fine known))
+          (subst (λ o. AllByRecursion (IsLineOf lines who) (cons_option o [])) (sym (says known)) (has, tt))
+      by (inr none) = subst (AllByRecursion (λ p. IsLineOf lines who p.content)) (sym (view_unpack tag who position none)) tt
+
+  pub report_sent : (at : ℕ) (line : NamedLine) → slice_get lines at ≡ Some line → line.asks ≡ asks.Admin admin.Alive → (position : ℕ) → position < 2 ^ 64 → may_of lines line.node (packed line.node (alive_item line.node position ∷ []))
+  report_sent at line is asked position small =
+      view_sent line.node 1 position (Alive line.node position) (λ known. content_of-alive line.node position known.0 known.1 small) (λ known. proposable-alive line.node position known.0 known.1 small)
+      (refl, record { at = at; line = line; is = is; node = refl; asks = asked })
+
+  pub leave_sent : (at : ℕ) (line : NamedLine) → slice_get lines at ≡ Some line → line.asks ≡ asks.Admin admin.Retire → may_of lines line.node (packed line.node (leave_item line.node ∷ []))
+  leave_sent at line is asked =
+      view_sent line.node 2 0 (Leave line.node) (λ known. content_of-leave line.node known.0 known.1) (λ known. proposable-leave line.node known.0 known.1)
+      (refl, record { at = at; line = line; is = is; node = refl; asks = asked })
 
   -- Items that are packed together
 
@@ -88,7 +95,7 @@ module _ (lines : List NamedLine) where
   silent : (c : Content) → IsLine c → Silent c
   silent (Session s r c) h = refl
   silent (Alive n position) h = refl
-  silent (Leave n) h = absurd h.1
+  silent (Leave n) h = refl
   silent (Trim position) h = absurd h.1
 
   all_silent : (ps : List Placed) → AllByRecursion (λ p. IsLine p.content) ps → AllByRecursion (λ p. Silent p.content) ps

@@ -8,6 +8,7 @@ use Rattle.engine_api.specs.declared.content.Content.TheVariants.{Session, Alive
 use Rattle.engine_api.specs.Items.{unpack}
 use Rattle.engine_api.specs.Acted.{Asked, unpack_all}
 use Rattle.engine_api.specs.Members.{least_position, trim_point}
+use Rattle.script_text.specs.declared.line.Admin.{Admin}
 use Rattle.script_text.specs.declared.line.Admin.TheVariants as admin
 use Rattle.script_text.specs.declared.asks.NamedLine.{NamedLine}
 use Rattle.script_text.specs.declared.asks.Asks.{Asks}
@@ -28,19 +29,27 @@ pub record HasLine (lines : List NamedLine) (who session rank : ℕ) (command : 
   pub node : line.node ≡ who
   pub logs : LogsRank line.asks session rank command
 
--- a line has the node report how much of the log it needs no more
-pub record HasReport (lines : List NamedLine) (who : ℕ) : Type 0 where
+-- a line asks this of the node itself
+pub record HasAsked (lines : List NamedLine) (who : ℕ) (what : Admin) : Type 0 where
   pub at : ℕ
   pub line : NamedLine
   pub is : slice_get lines at ≡ Some line
   pub node : line.node ≡ who
-  pub asks : line.asks ≡ asks.Admin admin.Alive
+  pub asks : line.asks ≡ asks.Admin what
 
--- it is a command, of a line of the node, or a report of the node itself, for which a line asks
+-- a line has the node report how much of the log it needs no more
+abbrev pub HasReport : List NamedLine → ℕ → Type 0
+HasReport lines who = HasAsked lines who admin.Alive
+
+-- a line has the node leave
+abbrev pub HasLeave : List NamedLine → ℕ → Type 0
+HasLeave lines who = HasAsked lines who admin.Retire
+
+-- it is a command, of a line of the node, or the node's own report or leave, for which a line asks
 abbrev pub IsLineOf : List NamedLine → ℕ → Content → Type 0
 IsLineOf lines who (Session s r c) = HasLine lines who s r c
 IsLineOf lines who (Alive node position) = (node ≡ who) × HasReport lines who
-IsLineOf lines who (Leave node) = ⊥
+IsLineOf lines who (Leave node) = (node ≡ who) × HasLeave lines who
 IsLineOf lines who (Trim position) = ⊥
 
 -- the entry is the node's own, and each item of it what a line there asks

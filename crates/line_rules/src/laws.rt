@@ -4,14 +4,14 @@ ghost use Rattle.delos_types.specs.Spaces.{SpaceMap};
 ghost use Rattle.delos_types.specs.declared.entry.Entry.{Entry};
 ghost use Rattle.table_core.specs.declared.command.Command.{Command};
 ghost use Rattle.table_core.specs.Spelling.{IsSpellable, command_length};
-ghost use Rattle.engine_api.specs.Packing.{packed, session_item, alive_item};
+ghost use Rattle.engine_api.specs.Packing.{packed, session_item, alive_item, leave_item};
 ghost use Rattle.engine_api.specs.Acted.{Asked, asked_in};
 ghost use Rattle.engine_laws.specs.State.{IsStateOf};
 ghost use Rattle.base_engine.specs.Trimming.{IsFloor};
 ghost use Rattle.node_workers.specs.Workers.{MayRun};
 ghost use Rattle.script_text.specs.declared.asks.NamedLine.{NamedLine};
 ghost use Rattle.script_text.specs.declared.line.Session.{Session};
-ghost use Rattle.script_text.specs.declared.line.Admin.TheVariants.{Alive};
+ghost use Rattle.script_text.specs.declared.line.Admin.TheVariants.{Alive, Retire};
 ghost use Rattle.script_text.specs.declared.asks.Asks.TheVariants as asks;
 ghost use Rattle.line_rules.specs.Rules.{may_of, floor_of, AreOfLines, IsAskedBy};
 
@@ -39,6 +39,12 @@ pub fn lines_are_sent()
 pub fn reports_are_sent()
     ensures { (lines : List NamedLine) (at : ℕ) (line : NamedLine) → slice_get lines at ≡ Some line → line.asks ≡ asks.Admin Alive
         → (position : ℕ) → position < 2 ^ 64 → may_of lines line.node (packed line.node (alive_item line.node position ∷ [])) }
+{}
+
+/// Where a line asks its node to leave, the node may append that it does, in an entry of its own.
+pub fn leaves_are_sent()
+    ensures { (lines : List NamedLine) (at : ℕ) (line : NamedLine) → slice_get lines at ≡ Some line → line.asks ≡ asks.Admin Retire
+        → may_of lines line.node (packed line.node (leave_item line.node ∷ [])) }
 {}
 
 /// Where a space is the state of the log that led to it, the log may be trimmed up to the trim point in the space, or the least

@@ -15,7 +15,7 @@ use fabric_core::fabric::Fabric;
 use fate_words::chooser::Chooser;
 use loglet_api::loglet::Loglet;
 use node_lines::lines::Looked;
-use node_workers::turns::{Returned, extend_line, log_line, look_line, report_line};
+use node_workers::turns::{Returned, extend_line, leave_line, log_line, look_line, report_line};
 use node_workers::worker::Worker;
 use one_thread::terms::{By, Terms};
 use register_api::Register;
@@ -93,6 +93,10 @@ fn play_admin<L: Loglet, R: Register, K: Terms, S: Replica, C: Chooser>(
         }
         Admin::Alive => {
             let looked = report_line(alloc, fabric, worker, counts, line.node);
+            return keep_look(looked, looks, i);
+        }
+        Admin::Retire => {
+            let looked = leave_line(alloc, fabric, worker, counts, line.node);
             return keep_look(looked, looks, i);
         }
     }

@@ -181,6 +181,7 @@ failed_of (looked.Kept k) = []
 failed_of (looked.Failed k) = k ∷ []
 failed_of (looked.Extended x) = []
 failed_of (looked.Reported position) = []
+failed_of looked.Left = []
 
 look_pays : (by : Cause → Bool) (look : Looked) → count_by (pays by) (failure_of_look (Some look) ∷ []) ≡ count_by by (failed_of look)
 look_pays by (looked.Found after found) = refl
@@ -188,6 +189,7 @@ look_pays by (looked.Kept k) = refl
 look_pays by (looked.Failed k) = refl
 look_pays by (looked.Extended x) = refl
 look_pays by (looked.Reported position) = refl
+look_pays by looked.Left = refl
 
 -- a line's look, where it hadn't looked yet
 pub failed_set : (by : ℕ → Cause → Bool) (lines : List NamedLine) (looks : List (Option Looked)) (i : ℕ) (l : NamedLine) (look : Looked) → slice_get lines i ≡ Some l → slice_get looks i ≡ Some None

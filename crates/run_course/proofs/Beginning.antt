@@ -80,6 +80,7 @@ module _ (c : Course) where
   looked_then lines cursor n d i phase s query (looked.Failed cause) h = tt
   looked_then lines cursor n d i phase s query (looked.Extended x) h = h
   looked_then lines cursor n d i phase s query (looked.Reported position) h = h
+  looked_then lines cursor n d i phase s query looked.Left h = h
 
   played_then : (lines : List NamedLine) (done cursor n : ℕ) (desks : List Desk) (looks : List (Option Looked)) (i phase : ℕ) (a : Asks) → PlayedSo lines c done cursor n desks looks i phase a → PlayedSo lines (next_phase c) done cursor n desks looks i phase a
   played_then lines done cursor n desks looks i phase (asks.Logged s r command) h = λ d at. logged_then done cursor d phase s.id r (h d at)

@@ -32,6 +32,7 @@ use Rattle.run_course.specs.Course.{Course, CourseOk}
 use Rattle.run_course.specs.Desks.{IsOfNode, PlayedSo}
 use Rattle.run_course.specs.Replacing.{AsksNode, has_replaced}
 use Rattle.run_course.specs.Reporting.{ReportedSo}
+use Rattle.run_course.specs.Leaving.{LeftSo}
 use Rattle.run_course.specs.Workers.{LineWent, WorkerAt}
 use Rattle.run_course.proofs.Lines.{count-cons}
 use Rattle.run_course.proofs.Advance.{advanced, count-append, failed_of}
@@ -53,6 +54,7 @@ module _ (may : ℕ → Entry → Type 0) (floor : List Entry → ℕ) (shelf : 
   paid_is (looked.Failed k) h = h.0
   paid_is (looked.Extended x) h = h.0
   paid_is (looked.Reported position) h = absurd h
+  paid_is looked.Left h = absurd h
 
   of_node : (x : Looked) → So x → IsOfNode Extend x
   of_node (looked.Found after found) h = h
@@ -60,6 +62,7 @@ module _ (may : ℕ → Entry → Type 0) (floor : List Entry → ℕ) (shelf : 
   of_node (looked.Failed k) h = tt
   of_node (looked.Extended x) h = tt
   of_node (looked.Reported position) h = h
+  of_node looked.Left h = h
 
   -- it reported nothing
   none_reported : (x : Looked) → So x → ReportedSo journal (then'.tails line.phase) seat'.node.replica.cursor n x
@@ -68,6 +71,16 @@ module _ (may : ℕ → Entry → Type 0) (floor : List Entry → ℕ) (shelf : 
   none_reported (looked.Failed k) h = tt
   none_reported (looked.Extended x) h = tt
   none_reported (looked.Reported position) h = absurd h
+  none_reported looked.Left h = tt
+
+  -- nor did it leave
+  none_left : (x : Looked) → So x → LeftSo journal seat'.node.replica.cursor n x
+  none_left (looked.Found after found) h = tt
+  none_left (looked.Kept k) h = tt
+  none_left (looked.Failed k) h = tt
+  none_left (looked.Extended x) h = tt
+  none_left (looked.Reported position) h = tt
+  none_left looked.Left h = absurd h
 
   unlogged : (s : ℕ) → logs_for s line ≡ false
   unlogged s = ap (is_of s) asks_is
@@ -114,13 +127,14 @@ module _ (may : ℕ → Entry → Type 0) (floor : List Entry → ℕ) (shelf : 
       (subst (Extends (Within may counts) floor shelf (node_of seat c.journal) (node_of seat' journal)) is does) (subst (λ w. Since w c.journal journal) (sym worker.ok.who_is) since)
       (same_trim may floor shelf run counts c.journal journal spends.more spends.seen now.ok.node.legal) was calm)
   by_look (looked.Reported position) is h calm = absurd h
+  by_look looked.Left is h calm = absurd h
 
   unsealed : faults_in journal ≡ [] → IsUnsealed (state_of journal) (count_by has_replaced (slice_set looks i (Some look)))
   unsealed calm = subst (IsUnsealed (state_of journal)) (sym (count_set looks i (Some look) not_yet)) (by_look look refl does.extends calm)
 
   line_played : PlayedSo lines then' c.phase seat'.node.replica.cursor n desks (slice_set looks i (Some look)) i line.phase line.asks
   line_played = subst (PlayedSo lines then' c.phase seat'.node.replica.cursor n desks (slice_set looks i (Some look)) i line.phase) (sym asks_is)
-      (look, set_same looks i (Some look) None (worker.waiting i line (omega arith) at node), of_node look does.extends, none_reported look does.extends)
+      (look, set_same looks i (Some look) None (worker.waiting i line (omega arith) at node), of_node look does.extends, none_reported look does.extends, none_left look does.extends)
 
   pub line_extended : LineWent may floor shelf state spells lines home nodes c counts counts looks (slice_set looks i (Some look)) n from (i + 1) journal seat' desks
   line_extended =

@@ -9,6 +9,8 @@ use Rattle.table_core.specs.declared.command.Found.{Found}
 use Rattle.legal_journal.specs.declared.events.Event.{Event}
 use Rattle.legal_journal.specs.Journal.{IsLegal}
 use Rattle.virtual_log.specs.Holding.{Holds}
+use Rattle.engine_api.specs.declared.content.Content.{Content}
+use Rattle.engine_api.specs.declared.content.Content.TheVariants as content
 use Rattle.base_engine.specs.Holding.{held_stays}
 use Rattle.base_engine.specs.Reading.{IsFront}
 use Rattle.base_engine.specs.declared.outbox.Given.{Given}
@@ -25,7 +27,8 @@ use Rattle.run_laws.specs.Ended.{CameTo, Fault, session_in}
 use Rattle.run_laws.proofs.Members.{among-left, contained-among, contains-among}
 use Rattle.run_course.specs.Script.{asked_by}
 use Rattle.run_course.specs.Course.{Course, CourseOk, TurnOf}
-use Rattle.run_course.specs.Reporting.{IsReport, ReportedSo}
+use Rattle.run_course.specs.Reporting.{IsReport, ReportedSo, StandsThere}
+use Rattle.run_course.specs.Leaving.{LeftSo}
 use Rattle.run_course.specs.Desks.{HasActed, IsHalted, IsUpTo, LoggedSo, LogsIn, LookedSo, PlayedSo, SawSo, WasEnded, WasStopped}
 use Rattle.run_course.proofs.Advance.{tail_rises}
 
@@ -164,6 +167,10 @@ module _ (may : ℕ → Entry → Type 0) (floor : List Entry → ℕ) (shelf : 
     looked_grows lines cursor cursor' n d d' i phase s query (looked.Failed cause) low up k h = tt
     looked_grows lines cursor cursor' n d d' i phase s query (looked.Extended x) low up k h = h
     looked_grows lines cursor cursor' n d d' i phase s query (looked.Reported position) low up k h = h
+    looked_grows lines cursor cursor' n d d' i phase s query looked.Left low up k h = h
+
+    abbrev stands_grows : (x : Content) → StandsThere c.journal x → StandsThere c'.journal x
+    stands_grows x h = record { at = h.at; entry = h.entry; held = held_grows h.at h.entry h.held; says = h.says }
 
     report_grows : (cursor cursor' n phase position : ℕ) → phase ≤ c.phase → cursor ≤ cursor' → IsReport c.journal (c.tails phase) cursor n position → IsReport c'.journal (c'.tails phase) cursor' n position
     report_grows cursor cursor' n phase position low up h = record {
@@ -172,12 +179,7 @@ module _ (may : ℕ → Entry → Type 0) (floor : List Entry → ℕ) (shelf : 
       from = omega (arith, h.from, g.tails phase low);
       within = omega (arith, h.within, up);
       clean = h.clean;
-      stands = record {
-        at = h.stands.at;
-        entry = h.stands.entry;
-        held = held_grows h.stands.at h.stands.entry h.stands.held;
-        says = h.stands.says;
-      };
+      stands = stands_grows (content.Alive n position) h.stands;
     }
 
     reported_grows : (cursor cursor' n phase : ℕ) (look : Looked) → phase ≤ c.phase → cursor ≤ cursor' → ReportedSo c.journal (c.tails phase) cursor n look → ReportedSo c'.journal (c'.tails phase) cursor' n look
@@ -186,6 +188,15 @@ module _ (may : ℕ → Entry → Type 0) (floor : List Entry → ℕ) (shelf : 
     reported_grows cursor cursor' n phase (looked.Failed cause) low up h = tt
     reported_grows cursor cursor' n phase (looked.Extended x) low up h = tt
     reported_grows cursor cursor' n phase (looked.Reported position) low up h = report_grows cursor cursor' n phase position low up h
+    reported_grows cursor cursor' n phase looked.Left low up h = tt
+
+    left_grows : (cursor cursor' n : ℕ) (look : Looked) → cursor ≤ cursor' → LeftSo c.journal cursor n look → LeftSo c'.journal cursor' n look
+    left_grows cursor cursor' n (looked.Found after found) up h = tt
+    left_grows cursor cursor' n (looked.Kept cause) up h = tt
+    left_grows cursor cursor' n (looked.Failed cause) up h = tt
+    left_grows cursor cursor' n (looked.Extended x) up h = tt
+    left_grows cursor cursor' n (looked.Reported position) up h = tt
+    left_grows cursor cursor' n looked.Left up h = record { stands = stands_grows (content.Leave n) h.stands; within = omega (arith, h.within, up) }
 
     pub played_grows : (lines : List NamedLine) (done done' cursor cursor' n : ℕ) (desks desks' : List Desk) (looks looks' : List (Option Looked)) (i phase : ℕ) (a : Asks) → phase ≤ c.phase → (phase < done' → phase < done) → cursor ≤ cursor'
         → slice_get looks' i ≡ slice_get looks i → DeskOfOld c c' desks desks' (session_in a) → PlayedSo lines c done cursor n desks looks i phase a → PlayedSo lines c' done' cursor' n desks' looks' i phase a
@@ -199,7 +210,7 @@ module _ (may : ℕ → Entry → Type 0) (floor : List Entry → ℕ) (shelf : 
           let o = old d' at in
           looked_grows lines cursor cursor' n o.0 d' i phase s.id query h.0 low up o.2 (h.2 o.0 o.1),
     )
-    played_grows lines done done' cursor cursor' n desks desks' looks looks' i phase (asks.Admin a) low ended up same old h = (h.0, same ∙ h.1, h.2, reported_grows cursor cursor' n phase h.0 low up h.3)
+    played_grows lines done done' cursor cursor' n desks desks' looks looks' i phase (asks.Admin a) low ended up same old h = (h.0, same ∙ h.1, h.2, reported_grows cursor cursor' n phase h.0 low up h.3, left_grows cursor cursor' n h.0 up h.4)
 
     -- a session that was stopped in an earlier phase
     pub ended_grows : (lines : List NamedLine) (n done done' s : ℕ) (d d' : Desk) (a : ℕ) → done ≤ done' → d.answered ≡ Some a → DeskGrew c c' s d d' → WasEnded lines c n done s d a → WasEnded lines c' n done' s d' a

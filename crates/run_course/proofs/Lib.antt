@@ -12,7 +12,9 @@ pub mod Logging
 pub mod Playing
 pub mod Looking
 pub mod Extending
+pub mod Telling
 pub mod Reporting
+pub mod Leaving
 pub mod Asking
 pub mod Joining
 pub mod Waiting

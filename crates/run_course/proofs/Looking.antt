@@ -66,6 +66,7 @@ module _ (may : ℕ → Entry → Type 0) (floor : List Entry → ℕ) (shelf : 
   paid_is (looked.Failed k) h = h.0
   paid_is (looked.Extended x) h = absurd h
   paid_is (looked.Reported position) h = absurd h
+  paid_is looked.Left h = absurd h
 
   on : LooksOn (length shelf) (state_of c.journal).register (state_of journal).register look
   on x is = absurd (subst (LooksSo (node_of seat c.journal) (node_of seat' journal) desk query does.others) is does.looks)
@@ -80,6 +81,7 @@ module _ (may : ℕ → Entry → Type 0) (floor : List Entry → ℕ) (shelf : 
   none_replaced (looked.Failed k) h = refl
   none_replaced (looked.Extended x) h = absurd h
   none_replaced (looked.Reported position) h = absurd h
+  none_replaced looked.Left h = absurd h
 
   unsealed : faults_in journal ≡ [] → IsUnsealed (state_of journal) (count_by has_replaced looks')
   unsealed calm =
@@ -165,6 +167,7 @@ module _ (may : ℕ → Entry → Type 0) (floor : List Entry → ℕ) (shelf : 
   looked_so (looked.Failed k) h = tt
   looked_so (looked.Extended x) h = h
   looked_so (looked.Reported position) h = h
+  looked_so looked.Left h = h
 
   line_played : PlayedSo lines then' c.phase seat'.node.replica.cursor n desks looks' i line.phase line.asks
   line_played = subst (PlayedSo lines then' c.phase seat'.node.replica.cursor n desks looks' i line.phase) (sym asks_is)

@@ -143,6 +143,7 @@ module _ (old new : RegisterState) (cells : ℕ) (on : IsLater old new cells) wh
   one_more (looked.Extended (Moved v)) so = omega (arith, on.last)
   one_more (looked.Extended NoSpare) so = omega (arith, on.last)
   one_more (looked.Reported position) so = omega (arith, on.last)
+  one_more looked.Left so = omega (arith, on.last)
 
   module _ (lines : List NamedLine) (looks : List (Option Looked)) (i : ℕ) (line : NamedLine) (look : Looked) (at : slice_get lines i ≡ Some line) (not_yet : slice_get looks i ≡ Some None) (r : Replaced lines looks old cells) (so : LooksOn cells old new look) (own : (x : Extension) → look ≡ looked.Extended x → AsksNode line.asks)
       (behind : (j : ℕ) (m : NamedLine) → slice_get lines j ≡ Some m → i < j → (line.phase < m.phase) ⊎ (line.node ≡ m.node) → slice_get looks j ≡ Some None) where

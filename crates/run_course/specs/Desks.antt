@@ -13,7 +13,7 @@ use Rattle.engine_api.specs.Order.{gap_from}
 use Rattle.engine_laws.specs.State.{acts_in}
 use Rattle.base_engine.specs.Reading.{IsFront}
 use Rattle.script_text.specs.declared.line.Admin.{Admin}
-use Rattle.script_text.specs.declared.line.Admin.TheVariants.{Extend, Alive}
+use Rattle.script_text.specs.declared.line.Admin.TheVariants.{Extend, Alive, Retire}
 use Rattle.script_text.specs.declared.asks.NamedLine.{NamedLine}
 use Rattle.script_text.specs.declared.asks.Asks.{Asks}
 use Rattle.script_text.specs.declared.asks.Asks.TheVariants as asks
@@ -25,6 +25,7 @@ use Rattle.node_workers.specs.Workers.{sent_of}
 use Rattle.run_laws.specs.Ended.{CameTo, rank_in}
 use Rattle.run_course.specs.Script.{asked_by}
 use Rattle.run_course.specs.Reporting.{ReportedSo}
+use Rattle.run_course.specs.Leaving.{LeftSo}
 use Rattle.run_course.specs.Course.{Course}
 
 -- Lines that were played
@@ -77,13 +78,16 @@ LookedSo lines c cursor n d i phase s query (looked.Kept cause) = WasStopped c d
 LookedSo lines c cursor n d i phase s query (looked.Failed cause) = Unit {0}
 LookedSo lines c cursor n d i phase s query (looked.Extended extension) = ⊥
 LookedSo lines c cursor n d i phase s query (looked.Reported position) = ⊥
+LookedSo lines c cursor n d i phase s query looked.Left = ⊥
 
--- the last loglet was replaced, or couldn't be, or the node reported, as it was asked; or the log failed, or the disk
+-- the last loglet was replaced, or couldn't be, or the node reported, or left, as it was asked; or the log failed, or the disk
 abbrev pub IsOfNode : Admin → Looked → Type 0
 IsOfNode Extend (looked.Extended extension) = Unit {0}
 IsOfNode Extend (looked.Failed cause) = Unit {0}
 IsOfNode Alive (looked.Reported position) = Unit {0}
 IsOfNode Alive (looked.Failed cause) = Unit {0}
+IsOfNode Retire looked.Left = Unit {0}
+IsOfNode Retire (looked.Failed cause) = Unit {0}
 IsOfNode admin look = ⊥
 
 -- line i was played, at the desk of its session, or at the node itself
@@ -91,7 +95,8 @@ abbrev pub PlayedSo : List NamedLine → Course → ℕ → ℕ → ℕ → List
 PlayedSo lines c done cursor n desks looks i phase (asks.Logged s r command) = (d : Desk) → slice_get desks s.id ≡ Some d → LoggedSo c done cursor d phase s.id r
 PlayedSo lines c done cursor n desks looks i phase (asks.Look s query) =
     (look : Looked) × (slice_get looks i ≡ Some (Some look)) × ((d : Desk) → slice_get desks s.id ≡ Some d → LookedSo lines c cursor n d i phase s.id query look)
-PlayedSo lines c done cursor n desks looks i phase (asks.Admin a) = (look : Looked) × (slice_get looks i ≡ Some (Some look)) × IsOfNode a look × ReportedSo c.journal (c.tails phase) cursor n look
+PlayedSo lines c done cursor n desks looks i phase (asks.Admin a) =
+    (look : Looked) × (slice_get looks i ≡ Some (Some look)) × IsOfNode a look × ReportedSo c.journal (c.tails phase) cursor n look × LeftSo c.journal cursor n look
 
 -- Sessions
 

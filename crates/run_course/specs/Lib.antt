@@ -1,6 +1,7 @@
 pub mod Script
 pub mod Replacing
 pub mod Reporting
+pub mod Leaving
 pub mod Course
 pub mod Desks
 pub mod Workers

@@ -45,6 +45,7 @@ failure_of_look (Some (looked.Found after found)) = None
 failure_of_look (Some (looked.Kept cause)) = None
 failure_of_look (Some (looked.Extended extension)) = None
 failure_of_look (Some (looked.Reported position)) = None
+failure_of_look (Some looked.Left) = None
 failure_of_look (Some (looked.Failed cause)) = Some cause
 
 -- how many lines failed so by such causes

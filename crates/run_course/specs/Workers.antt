@@ -5,8 +5,8 @@ use Rattle.delos_types.specs.Spaces.{SpaceMap}
 use Rattle.delos_types.specs.declared.entry.Entry.{Entry}
 use Rattle.replica_api.specs.Replica.{Saved}
 use Rattle.table_core.specs.Spelling.{IsSpellable, command_length}
-use Rattle.engine_api.specs.Packing.{packed, session_item, alive_item}
-use Rattle.script_text.specs.declared.line.Admin.TheVariants.{Extend, Alive}
+use Rattle.engine_api.specs.Packing.{packed, session_item, alive_item, leave_item}
+use Rattle.script_text.specs.declared.line.Admin.TheVariants.{Extend, Alive, Retire}
 use Rattle.script_text.specs.declared.asks.NamedLine.{NamedLine}
 use Rattle.script_text.specs.declared.asks.Asks.{Asks}
 use Rattle.script_text.specs.declared.asks.Asks.TheVariants as asks
@@ -75,12 +75,13 @@ pub record IsUnderWay (may : ℕ → Entry → Type 0) (floor : List Entry → �
   pub ok : CourseOk may floor shelf lines nodes c counts looks
   pub worker : WorkerAt may floor shelf state spells lines home c counts looks n from at c.phase seat desks
 
--- what the line logs, or has its node report, the node may append
+-- what the line logs, or has its node tell of itself, the node may append
 abbrev pub CanSend : (ℕ → Entry → Type 0) → ℕ → Asks → Type 0
 CanSend may who (asks.Logged s r command) = IsSpellable command × (command_length command ≤ 984) × may who (packed who (session_item s.id r command ∷ []))
 CanSend may who (asks.Look s query) = Unit {0}
 CanSend may who (asks.Admin Extend) = Unit {0}
 CanSend may who (asks.Admin Alive) = (position : ℕ) → position < 2 ^ 64 → may who (packed who (alive_item who position ∷ []))
+CanSend may who (asks.Admin Retire) = may who (packed who (leave_item who ∷ []))
 
 -- at the desk of its session the command is the next
 pub record IsNextAt (counts : List ℕ) (s r : ℕ) (d : Desk) : Type 0 where

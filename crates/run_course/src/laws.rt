@@ -6,7 +6,7 @@ ghost use Rattle.table_core.specs.declared.command.Query.{Query};
 ghost use Rattle.legal_journal.specs.declared.events.Event.{Event};
 ghost use Rattle.script_text.specs.declared.asks.NamedLine.{NamedLine};
 ghost use Rattle.script_text.specs.declared.line.Session.{Session};
-ghost use Rattle.script_text.specs.declared.line.Admin.TheVariants.{Extend, Alive};
+ghost use Rattle.script_text.specs.declared.line.Admin.TheVariants.{Extend, Alive, Retire};
 ghost use Rattle.script_text.specs.declared.asks.Asks.TheVariants as asks;
 ghost use Rattle.legal_journal.specs.Sealing.{Unsealed};
 ghost use Rattle.one_thread.specs.Alone.{Since};
@@ -16,6 +16,7 @@ ghost use Rattle.node_lines.specs.declared.lines.Looked.{Looked};
 ghost use Rattle.node_lines.specs.Lines.{Looks};
 ghost use Rattle.node_lines.specs.Extending.{Extends};
 ghost use Rattle.node_lines.specs.Reporting.{Reports};
+ghost use Rattle.node_lines.specs.Leaving.{Leaves};
 ghost use Rattle.node_lines.specs.Moving.{Moves};
 ghost use Rattle.node_lines.specs.Turns.{EndsTurn};
 ghost use Rattle.node_workers.specs.Workers.{WorkerOk, MayRun, Logs, Within, sent_of};
@@ -98,6 +99,19 @@ pub fn a_node_reports<P: Rules, S: Replica>()
         → WorkerAt P.may P.floor P.shelf S.state S.spells lines home c counts looks n from i c.phase seat desks
         → Since n c.journal journal → Unsealed c.journal journal
         → Reports (Within P.may counts) P.floor P.shelf (node_of seat c.journal) (node_of seat' journal) look
+        → WorkerOk P.may P.floor P.shelf S.state S.spells n counts journal seat' desks
+        → LineWent P.may P.floor P.shelf S.state S.spells lines home nodes c counts counts looks (slice_set looks i (Some look)) n from (i + 1) journal seat' desks }
+{}
+
+/// A line had its node leave.
+pub fn a_node_leaves<P: Rules, S: Replica>()
+    ensures { MayRun P.may P.floor P.shelf → (lines : List NamedLine) (home : ℕ → ℕ) (nodes : ℕ) (c : Course) (counts : List ℕ) (looks : List (Option Looked)) (n from i : ℕ) (line : NamedLine) (look : Looked) (seat seat' : SeatView) (desks : List Desk) (journal : List Event)
+        → AreLines lines home nodes → 1 ≤ n → n ≤ nodes → BeginsAt lines from c.phase
+        → slice_get lines i ≡ Some line → line.node ≡ n → line.phase ≡ c.phase → line.asks ≡ asks.Admin Retire
+        → CourseOk P.may P.floor P.shelf lines nodes c counts looks
+        → WorkerAt P.may P.floor P.shelf S.state S.spells lines home c counts looks n from i c.phase seat desks
+        → Since n c.journal journal → Unsealed c.journal journal
+        → Leaves (Within P.may counts) P.floor P.shelf (node_of seat c.journal) (node_of seat' journal) look
         → WorkerOk P.may P.floor P.shelf S.state S.spells n counts journal seat' desks
         → LineWent P.may P.floor P.shelf S.state S.spells lines home nodes c counts counts looks (slice_set looks i (Some look)) n from (i + 1) journal seat' desks }
 {}

@@ -1,4 +1,5 @@
--- What nodes report of the log: where each command of earlier phases is placed in its phase, a report is above them all.
+-- What nodes report of the log: where each command of earlier phases is placed in its phase, a report is above them all. And
+-- that nodes leave.
 use Rattle.std.proofs.Common.{◌≡◌, refl, sym, ap, ◌∙◌, subst, inl, inr, ℕ, suc, ◌+◌, ◌<◌, ◌≤◌, Bool, true, false, ◌&&◌, ◌==◌, List, [], ◌∷◌, Option, Some, None, length, map, take, is_some, slice_get, nat_lt, nat_le, arith, le-leb, lt-ltb, ltb-true, eq-eqb, eqb-true, length-take-le}
 use Rattle.std.specs.List.{AllByRecursion, list_all, list_any}
 use Rattle.std.proofs.lemmas.Bool.{and_from, and_parts, both_ways, or_left, or_right}
@@ -9,10 +10,10 @@ use Rattle.engine_api.specs.declared.act.Act.{Act}
 use Rattle.engine_api.specs.declared.content.Content.TheVariants as content
 use Rattle.engine_api.specs.declared.content.Placed.{Placed}
 use Rattle.engine_api.specs.Acted.{Asked, asked_in, unpack_all}
-use Rattle.engine_api.specs.Members.{clean_at, clean_position}
+use Rattle.engine_api.specs.Members.{clean_at, clean_position, is_leave_of, has_left}
 use Rattle.engine_api.specs.Order.{gap_from, is_clean}
 use Rattle.fabric_core.specs.Log.{virtual_tail, virtual_log}
-use Rattle.script_text.specs.declared.line.Admin.TheVariants.{Extend, Alive}
+use Rattle.script_text.specs.declared.line.Admin.TheVariants.{Extend, Alive, Retire}
 use Rattle.script_text.specs.declared.asks.Asks.{Asks}
 use Rattle.script_text.specs.declared.asks.Asks.TheVariants as asks
 use Rattle.row_text.specs.declared.row.Outcome.{Outcome}
@@ -21,7 +22,7 @@ use Rattle.fitting_run.specs.declared.answered.Answered.{Answered}
 use Rattle.fitting_run.specs.declared.told.Told.{Told}
 use Rattle.fitting_run.specs.Answered.{before_barrier, is_logged, is_placed_on_time, logs, on_time, place_on_time}
 use Rattle.fitting_run.specs.Fits.{told_of}
-use Rattle.fitting_run.specs.Reports.{ReportsStand, is_done, is_within, lies_below, reported, reports_all, says_alive, stands_in_log}
+use Rattle.fitting_run.specs.Reports.{ReportsStand, has_leave, is_done, is_retired, is_within, lies_below, reported, reports_all, says_alive, stands_in_log}
 use Rattle.fitting_run.specs.Tests.{◌⇒◌}
 use Rattle.fitting_run.specs.Yard.{Shown}
 use Rattle.log_acts.proofs.Pairs.{all-imply}
@@ -47,6 +48,7 @@ has-reported log tails faults ends before t (asks.Admin Alive) (out.Alive clean)
     let same : clean ≡ d = cc in
     subst (HasReported log tails t.line.phase) same h
 has-reported log tails faults ends before t (asks.Admin Extend) (out.Alive clean) d h e = absurd h
+has-reported log tails faults ends before t (asks.Admin Retire) (out.Alive clean) d h e = absurd h
 has-reported log tails faults ends before t (asks.Logged s r c) (out.Alive clean) d h e = absurd h
 has-reported log tails faults ends before t (asks.Look s q) (out.Alive clean) d h e = absurd h
 has-reported log tails faults ends before t a o d h e = absurd (nothing d e)
@@ -83,6 +85,18 @@ has-item node d (p ∷ ps) m =
       | inl same ↦ or_left first rest (ap (says_alive node d) same ∙ and_from (node == node) (d == d) (eq-eqb node node refl) (eq-eqb d d refl))
       | inr later ↦ or_right first rest (has-item node d ps later)
     ]
+
+has-leave_item : (node : ℕ) (ps : List Placed) → Among (map (λ p. p.content) ps) (content.Leave node) → has_left ps node ≡ true
+has-leave_item node [] m = absurd m
+has-leave_item node (p ∷ ps) m =
+    elim m [
+      | inl same ↦ or_left (is_leave_of node p.content) (has_left ps node) (ap (is_leave_of node) same ∙ eq-eqb node node refl)
+      | inr later ↦ or_right (is_leave_of node p.content) (has_left ps node) (has-leave_item node ps later)
+    ]
+
+is-left : (o : Outcome) → is_retired o ≡ true → o ≡ out.Retired
+is-left out.Retired e = refl
+is-left o e = absurd (both_ways false refl e)
 
 is-alive : (o : Outcome) (d : ℕ) → reported o ≡ Some d → o ≡ out.Alive d
 is-alive (out.Alive clean) d e = cc
@@ -214,6 +228,18 @@ module _ (played : List Played) (o : Told) (yard : Shown) (e : RunEnded played o
       subst (λ n. list_any (λ (p : Placed). says_alive t.line.node d p.content) (log n) ≡ true) (sym trim)
       (has-item t.line.node d (log 0) (contained-among (map (λ (p : Placed). p.content) (log 0)) (content.Alive t.line.node d) stands))))
 
+  -- and that the node leaves
+  left-in-log : (t : Played) → Among played t → has_leave o.chain yard.cells (tell t) ≡ true
+  left-in-log t m =
+      implies-from (is_retired t.row.outcome) _ (λ is.
+      implies-from (o.chain.trim == 0) _ (λ none.
+      let trim : o.chain.trim ≡ 0 = eqb-true o.chain.trim 0 none in
+      let place = among-at played t m in
+      let log = λ (n : ℕ). unpack_all n (virtual_log o.chain yard.cells n (virtual_tail o.chain yard.cells)) in
+      let stands = e.left place.0 t place.1 (is-left t.row.outcome is) trim in
+      subst (λ n. has_left (log n) t.line.node ≡ true) (sym trim)
+      (has-leave_item t.line.node (log 0) (contained-among (map (λ (p : Placed). p.content) (log 0)) (content.Leave t.line.node) stands))))
+
   each-reports : (test : Answered → Bool) → ((t : Played) → Reports t → test (tell t) ≡ true) → list_all test (map tell played) ≡ true
   each-reports test f = all-test tell test played (all-imply Reports (λ t. test (tell t) ≡ true) played f all_reported)
 
@@ -222,6 +248,7 @@ module _ (played : List Played) (o : Told) (yard : Shown) (e : RunEnded played o
     within = each-reports (is_within o.end) within-end;
     all = each-reports (reports_all (map tell played)) covers;
     stand = all-test tell (stands_in_log o.chain yard.cells) played (all-of (λ (t : Played). stands_in_log o.chain yard.cells (tell t) ≡ true) played in-log);
+    left = all-test tell (has_leave o.chain yard.cells) played (all-of (λ (t : Played). has_leave o.chain yard.cells (tell t) ≡ true) played left-in-log);
   }
 
 pub reports-stand : (played : List Played) (o : Told) (yard : Shown) → RunEnded played o yard → ReportsStand (told_of (map (λ t. t.line) played) o) o.chain yard.cells o.end

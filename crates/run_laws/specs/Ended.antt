@@ -20,7 +20,7 @@ use Rattle.engine_laws.specs.State.{acts_in}
 use Rattle.chain_map.specs.Chain.{last_id}
 use Rattle.log_acts.specs.Order.{acts_below}
 use Rattle.fabric_core.specs.Log.{virtual_tail, virtual_log, has_no_gap}
-use Rattle.script_text.specs.declared.line.Admin.TheVariants.{Extend, Alive}
+use Rattle.script_text.specs.declared.line.Admin.TheVariants.{Extend, Alive, Retire}
 use Rattle.script_text.specs.declared.asks.NamedLine.{NamedLine}
 use Rattle.script_text.specs.declared.asks.Asks.{Asks}
 use Rattle.script_text.specs.declared.asks.Asks.TheVariants as asks
@@ -152,6 +152,7 @@ CameOf log tails faults ends before t (asks.Admin Alive) (out.Alive clean) = Has
 CameOf log tails faults ends before t (asks.Admin Extend) (out.Extended version start) = Unit {0}
 CameOf log tails faults ends before t (asks.Admin Extend) (out.Moved version) = Unit {0}
 CameOf log tails faults ends before t (asks.Admin Extend) out.NoSpare = Unit {0}
+CameOf log tails faults ends before t (asks.Admin Retire) out.Retired = Unit {0}
 CameOf log tails faults ends before t asked answered = ⊥
 
 -- the session of the line; what is asked of a node itself is of none
@@ -289,6 +290,9 @@ pub record RunEnded (played : List Played) (o : Told) (yard : Shown) : Type 0 wh
   -- where nothing is trimmed, each report of a node stands in the log that the loglets have
   pub reported : (i : ℕ) (t : Played) (clean : ℕ) → slice_get played i ≡ Some t → t.row.outcome ≡ out.Alive clean → o.chain.trim ≡ 0
       → Contains (map (λ p. p.content) (unpack_all 0 (virtual_log o.chain yard.cells 0 (virtual_tail o.chain yard.cells)))) (content.Alive t.line.node clean)
+  -- and so does each leave
+  pub left : (i : ℕ) (t : Played) → slice_get played i ≡ Some t → t.row.outcome ≡ out.Retired → o.chain.trim ≡ 0
+      → Contains (map (λ p. p.content) (unpack_all 0 (virtual_log o.chain yard.cells 0 (virtual_tail o.chain yard.cells)))) (content.Leave t.line.node)
   pub sessions : (s : ℕ) → SessionEnded played faults home s (ends s)
   pub replacements : Replacements played o.version o.chain (length yard.cells)
   pub came : FaultsCame played faults yard

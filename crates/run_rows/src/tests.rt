@@ -243,6 +243,28 @@ fn reports_and_their_texts(rt: HostRuntime) -> Result<(), Fail> {
     )
 }
 
+// A node leaves by an entry of its own, and other nodes go on.
+#[test]
+fn nodes_that_leave_and_their_texts(rt: HostRuntime) -> Result<(), Fail> {
+    let alloc = rt.alloc();
+    let rows = [
+        (
+            FILE_RUN,
+            &b"on n1 a put x 1\non n1 retire\n"[..],
+            &b"1 a @0.0 ok\n2 n1 retired\nend 2\nchain v=1 trim=0\nseg 0 file 0 open\n"[..],
+        ),
+        (
+            &["run", "--nodes", "2", "--shelf", "file"],
+            b"on n1 a put x 1\nbarrier\non n2 retire\nbarrier\non n1 alive\non n1 a get x\n",
+            b"1 a @0.0 ok\n3 n2 retired\n5 n1 alive 2\n6 a >3 = 1\nend 3\nchain v=1 trim=0\nseg 0 file 0 open\n",
+        ),
+    ];
+    for (words, script, text) in rows {
+        ends_with(&rt, alloc, words, script, &CALM, 0, text)?;
+    }
+    Ok(())
+}
+
 // Of seventeen commands sixteen stand in one entry, and the last in the next.
 #[test]
 fn an_entry_takes_sixteen_commands(rt: HostRuntime) -> Result<(), Fail> {
@@ -273,6 +295,7 @@ fn bad_lines(rt: HostRuntime) -> Result<(), Fail> {
         (&b"on n1 trim\n"[..], &b"line 1: word\n"[..]),
         (b"on n1 extend x\n", b"line 1: count\n"),
         (b"on n1 alive x\n", b"line 1: count\n"),
+        (b"on n1 retire\n\non n1 a put x 1\n", b"line 3: retired\n"),
         (b"on n2 extend\n", b"line 1: node\n"),
         (b"on n1 a put x 1\n\non n2 a get x\n", b"line 3: node\n"),
         (b"on n1 a add c -0\nwhat\n", b"line 1: number\n"),

@@ -7,13 +7,15 @@ use Rattle.std.proofs.lemmas.Option.{slice_get_within}
 use Rattle.script_text.specs.declared.line.Line.{Line}
 use Rattle.script_text.specs.declared.line.Line.TheVariants as line
 use Rattle.script_text.specs.declared.line.Session.{Session}
+use Rattle.script_text.specs.declared.line.Admin.{Admin}
+use Rattle.script_text.specs.declared.line.Admin.TheVariants.{Extend, Alive, Retire}
 use Rattle.script_text.specs.declared.line.Ask.{Ask}
 use Rattle.script_text.specs.declared.line.Ask.TheVariants as ask
 use Rattle.script_text.specs.declared.asks.NamedLine.{NamedLine}
 use Rattle.script_text.specs.declared.asks.Asks.{Asks}
 use Rattle.script_text.specs.declared.asks.Asks.TheVariants as asks
 use Rattle.script_text.specs.declared.seen.Home.{Home}
-use Rattle.script_text.specs.Seen.{Before, nothing_yet, home, home_of, is_named, with_session}
+use Rattle.script_text.specs.Seen.{Before, nothing_yet, home, home_of, is_named, with_asked, with_session}
 use Rattle.script_text.specs.Script.{RawLine, lines_in}
 use Rattle.script_text.specs.Spelling.{IsScript, IsNode, Belongs, SpellsFrom}
 use Rattle.script_text.specs.Lines.{lines_of, lines_after}
@@ -65,7 +67,7 @@ known_home nodes b after n s ok found same =
 
 new_home : (nodes : ℕ) (b after : Before) (n : ℕ) (s : Session) → AreHomes nodes b.homes → IsNode nodes n → s.id ≡ length b.homes → s.id < 64 → after ≡ with_session b n s.name → IsHome nodes b after n s
 new_home nodes b after n s ok node number low same =
-    let added : after ≡ record { homes = b.homes ++ home s n ∷ [] } = same ∙ ap (λ k. with_one (home (record { id = k; name = s.name }) n)) (sym number) in
+    let added : after ≡ record { homes = b.homes ++ home s n ∷ []; retired = b.retired } = same ∙ ap (λ k. with_one (home (record { id = k; name = s.name }) n)) (sym number) in
     subst (λ (x : Before). IsHome nodes b x n s) (sym added) (record {
       are = record {
         few = omega (arith, length-append b.homes (home s n ∷ []), number, low);
@@ -83,7 +85,7 @@ new_home nodes b after n s ok node number low same =
     })
   where
     with_one : Home → Before
-    with_one h = record { homes = b.homes ++ h ∷ [] }
+    with_one h = record { homes = b.homes ++ h ∷ []; retired = b.retired }
 
 belongs : (nodes : ℕ) (b after : Before) (n : ℕ) (s : Session) → AreHomes nodes b.homes → IsNode nodes n → Belongs b n s after → IsHome nodes b after n s
 belongs nodes b after n s ok node (inl h) = known_home nodes b after n s ok h.0 h.1
@@ -123,18 +125,24 @@ one_more nodes early late l lines keep least most there h = record {
 same_homes : (nodes : ℕ) (b after : Before) → after ≡ b → AreHomes nodes b.homes → AreHomes nodes after.homes × Keep b.homes after.homes
 same_homes nodes b after same ok = subst (λ (x : Before). AreHomes nodes x.homes × Keep b.homes x.homes) (sym same) (ok, λ i h e. e)
 
+-- what is asked of a node itself moves nobody
+asked_homes : (nodes : ℕ) (b after : Before) (n : ℕ) (a : Admin) → after ≡ with_asked b n a → AreHomes nodes b.homes → AreHomes nodes after.homes × Keep b.homes after.homes
+asked_homes nodes b after n Extend same ok = same_homes nodes b after same ok
+asked_homes nodes b after n Alive same ok = same_homes nodes b after same ok
+asked_homes nodes b after n Retire same ok = subst (λ (x : Before). AreHomes nodes x.homes × Keep b.homes x.homes) (sym same) (ok, λ i h e. e)
+
 at_home : (nodes : ℕ) (b : Before) (n at : ℕ) (rs : List RawLine) (before ls : List Line) → AreHomes nodes b.homes → SpellsFrom nodes b n at rs ls → HaveHomes nodes b.homes (lines_after before ls)
 at_home nodes b n at [] before [] ok h = record { homes = b.homes; are = ok; keep = λ i x e. e; each = tt }
 at_home nodes b n at (r ∷ rs) before (line.Session node t (ask.Log c) ∷ ls) ok h =
-    let is = belongs nodes b h.2 node t ok h.3.fits.0 h.3.follows in
+    let is = belongs nodes b h.2 node t ok h.3.fits.0 h.3.follows.1 in
     one_more nodes b.homes h.2.homes _ _ is.keep h.3.fits.0.least h.3.fits.0.most (λ homes keep. (home t node, keep t.id (home t node) is.there, refl))
     (at_home nodes h.2 (n + 1) (at + r.size) rs (before ++ line.Session node t (ask.Log c) ∷ []) ls is.are h.4)
 at_home nodes b n at (r ∷ rs) before (line.Session node t (ask.Look q) ∷ ls) ok h =
-    let is = belongs nodes b h.2 node t ok h.3.fits.0 h.3.follows in
+    let is = belongs nodes b h.2 node t ok h.3.fits.0 h.3.follows.1 in
     one_more nodes b.homes h.2.homes _ _ is.keep h.3.fits.0.least h.3.fits.0.most (λ homes keep. (home t node, keep t.id (home t node) is.there, refl))
     (at_home nodes h.2 (n + 1) (at + r.size) rs (before ++ line.Session node t (ask.Look q) ∷ []) ls is.are h.4)
 at_home nodes b n at (r ∷ rs) before (line.Admin node a ∷ ls) ok h =
-    let is = same_homes nodes b h.2 h.3.follows ok in
+    let is = asked_homes nodes b h.2 node a h.3.follows.1 ok in
     one_more nodes b.homes h.2.homes _ _ is.1 h.3.fits.least h.3.fits.most (λ homes keep. tt)
     (at_home nodes h.2 (n + 1) (at + r.size) rs (before ++ line.Admin node a ∷ []) ls is.0 h.4)
 at_home nodes b n at (r ∷ rs) before (line.Blank ∷ ls) ok h =

@@ -10,7 +10,7 @@ use Rattle.delos_types.specs.declared.chain.Segment.{Segment}
 use Rattle.delos_types.specs.declared.chain.Chain.{Chain}
 use Rattle.chain_map.specs.Chain.{last_of_segments, last_id}
 use Rattle.table_core.specs.declared.command.Command.TheVariants.{Put, Del, Cas, Add}
-use Rattle.script_text.specs.declared.line.Admin.TheVariants.{Extend, Alive}
+use Rattle.script_text.specs.declared.line.Admin.TheVariants.{Extend, Alive, Retire}
 use Rattle.script_text.specs.declared.asks.NamedLine.{NamedLine}
 use Rattle.script_text.specs.declared.asks.Asks.{Asks}
 use Rattle.script_text.specs.declared.asks.Asks.TheVariants as asks
@@ -91,6 +91,7 @@ added_to n (asks.Logged s r (Cas k o v)) h = absurd h
 added_to n (asks.Look s q) h = absurd h
 added_to n (asks.Admin Extend) h = omega (arith, ints)
 added_to n (asks.Admin Alive) h = absurd h
+added_to n (asks.Admin Retire) h = absurd h
 
 adds_from : (n : ℕ) (lines : List NamedLine) → AllByRecursion (λ l. AddsOrExtends l.asks) lines → fold (λ s l. s +ℤ amount_asked l.asks) (pos n) lines ≡ pos (n + sum_by added lines)
 adds_from n [] h = let e : n ≡ n + 0 = omega arith in ap (λ (k : ℕ). pos k) e
@@ -163,6 +164,15 @@ one_row (asks.Admin Alive) (out.Alive n) kind own lone = refl
 one_row (asks.Admin Alive) (out.Trimmed n) kind own lone = absurd cc
 one_row (asks.Admin Alive) out.Retired kind own lone = absurd cc
 one_row (asks.Admin Alive) (out.Open c) kind own lone = absurd cc
+one_row (asks.Admin Retire) (out.Placed p reply late) kind own lone = absurd cc
+one_row (asks.Admin Retire) (out.Read after found) kind own lone = absurd cc
+one_row (asks.Admin Retire) (out.Extended v s) kind own lone = absurd cc
+one_row (asks.Admin Retire) (out.Moved v) kind own lone = absurd cc
+one_row (asks.Admin Retire) out.NoSpare kind own lone = absurd cc
+one_row (asks.Admin Retire) (out.Alive n) kind own lone = absurd cc
+one_row (asks.Admin Retire) (out.Trimmed n) kind own lone = absurd cc
+one_row (asks.Admin Retire) out.Retired kind own lone = refl
+one_row (asks.Admin Retire) (out.Open c) kind own lone = absurd cc
 
 -- the lines with their rows
 abbrev pair_of : NamedLine × Row → Answered

@@ -9,4 +9,4 @@ pub run_by-requires-clause-none_trimmed : goal.run_by-requires-clause-none_trimm
 run_by-requires-clause-none_trimmed g c = λ log h. c.a_log_of_lines_trims_nothing.ensures c.args.lines.now (length c.args.nodes.items) log h
 
 pub run_by-requires-clause-sends : goal.run_by-requires-clause-sends
-run_by-requires-clause-sends g c = sends_all c.args.lines.now c.requires.lines.0 (length c.args.nodes.items) c.requires.lines.1 c.requires.spelled (c.lines_are_sent.ensures c.args.lines.now) (c.reports_are_sent.ensures c.args.lines.now)
+run_by-requires-clause-sends g c = sends_all c.args.lines.now c.requires.lines.0 (length c.args.nodes.items) c.requires.lines.1 c.requires.spelled (c.lines_are_sent.ensures c.args.lines.now) (c.reports_are_sent.ensures c.args.lines.now) (c.leaves_are_sent.ensures c.args.lines.now)

@@ -1,0 +1,112 @@
+-- A line had its node append what the node tells of itself.
+use Rattle.std.proofs.Common.{◌≡◌, refl, sym, ap, ◌∙◌, subst, ℕ, ◌+◌, ◌≤◌, false, List, [], ◌∷◌, ◌++◌, Option, Some, None, map, count_by, slice_get, slice_set, Contains, length, arith, append_assoc}
+use Rattle.std.proofs.lemmas.List.Elements.{Contains-push}
+use Rattle.delos_types.specs.Spaces.{SpaceMap}
+use Rattle.delos_types.specs.declared.cause.Cause.{Cause}
+use Rattle.delos_types.specs.declared.entry.Entry.{Entry}
+use Rattle.legal_journal.specs.declared.events.Event.{Event}
+use Rattle.legal_journal.specs.Journal.{IsLegal, state_of}
+use Rattle.legal_journal.specs.Sealing.{Unsealed}
+use Rattle.journal_faults.specs.Faults.{faults_in}
+use Rattle.unsealed_chain.specs.Unsealed.{IsUnsealed}
+use Rattle.virtual_log.specs.Holding.{Holds}
+use Rattle.virtual_log.specs.declared.extend.Extension.{Extension}
+use Rattle.engine_api.specs.declared.content.Content.{Content}
+use Rattle.engine_api.specs.declared.content.Placed.{Placed}
+use Rattle.engine_api.specs.Items.{placed_from, unpack}
+use Rattle.replica_api.specs.Replica.{Saved}
+use Rattle.base_engine.specs.Holding.{held_stays}
+use Rattle.base_engine.specs.Trimming.{IsAppended}
+use Rattle.base_engine.proofs.Landing.{On, on_on}
+use Rattle.script_text.specs.declared.line.Admin.{Admin}
+use Rattle.script_text.specs.declared.asks.NamedLine.{NamedLine}
+use Rattle.script_text.specs.declared.asks.Asks.TheVariants as asks
+use Rattle.fitting_run.specs.Lines.{is_of, logs_for}
+use Rattle.fabric_core.proofs.Marks.{set_same}
+use Rattle.one_thread.specs.Alone.{Since}
+use Rattle.one_thread.specs.Seats.{SeatView, node_of}
+use Rattle.node_sessions.specs.declared.desk.Desk.{Desk}
+use Rattle.node_lines.specs.declared.lines.Looked.{Looked}
+use Rattle.node_lines.specs.declared.lines.Looked.TheVariants as looked
+use Rattle.node_lines.specs.Moving.{Moves}
+use Rattle.node_workers.specs.Workers.{MayRun, Within, WorkerOk}
+use Rattle.run_course.specs.Script.{AreLines}
+use Rattle.run_course.specs.Course.{Course, CourseOk}
+use Rattle.run_course.specs.Desks.{IsOfNode, PlayedSo}
+use Rattle.run_course.specs.Leaving.{LeftSo}
+use Rattle.run_course.specs.Replacing.{AsksNode, has_replaced}
+use Rattle.run_course.specs.Reporting.{ReportedSo, StandsThere}
+use Rattle.run_course.specs.Workers.{LineWent, WorkerAt}
+use Rattle.run_course.proofs.Advance.{advanced, failed_of}
+use Rattle.run_course.proofs.Replacing.{LooksOn}
+use Rattle.run_course.proofs.Unsealing.{count_same, still_unsealed}
+use Rattle.run_course.proofs.Playing.{line_went}
+
+-- The entry
+
+module _ (may : ℕ → Entry → Type 0) (floor : List Entry → ℕ) (shelf : List ℕ) (who : ℕ) (early seen : List Event) (e : Entry) (legal : IsLegal may floor shelf seen) (landed : IsAppended Holds who early e seen) where
+  pub held_now : (front : List Event) → On front seen → (pos : ℕ) (x : Entry) → Holds front pos x → Holds seen pos x
+  held_now front on pos x h = subst (λ l. Holds l pos x) (sym on.1) (held_stays may floor shelf front on.0 pos x (subst (IsLegal may floor shelf) on.1 legal) h)
+
+  landed_on : On landed.before landed.after
+  landed_on =
+      let turn = landed.met.2.first in
+      (turn.others ++ turn.event ∷ turn.rest, turn.seen ∙ append_assoc landed.before turn.others (turn.event ∷ turn.rest))
+
+  early_on : On early seen
+  early_on = on_on early landed.before seen landed.since (on_on landed.before landed.after seen landed_on landed.rest)
+
+  -- what was held before it was appended is held still
+  pub held_still : (pos : ℕ) (x : Entry) → Holds early pos x → Holds seen pos x
+  held_still pos x h = held_now early early_on pos x h
+
+  -- what it says stands in the log
+  abbrev pub stands_now : (c : Content) → unpack 0 e ≡ placed_from 0 0 (c ∷ []) → StandsThere seen c
+  stands_now c says = record {
+    at = landed.position;
+    entry = e;
+    held = held_now landed.after landed.rest landed.position e landed.met.1;
+    says = subst (λ ps. Contains (map (λ (p : Placed). p.content) ps) c) (sym says) (Contains-push [] c);
+  }
+
+-- The line
+
+none_replaced : (x : Looked) → ((e : Extension) → x ≡ looked.Extended e → ⊥) → has_replaced (Some x) ≡ false
+none_replaced (looked.Found after found) none = refl
+none_replaced (looked.Kept k) none = refl
+none_replaced (looked.Failed k) none = refl
+none_replaced (looked.Extended e) none = absurd (none e refl)
+none_replaced (looked.Reported position) none = refl
+none_replaced looked.Left none = refl
+
+module _ (may : ℕ → Entry → Type 0) (floor : List Entry → ℕ) (shelf : List ℕ) (state : List Entry → SpaceMap → Type 0) (spells : List ℕ → Saved → Type 0) (run : MayRun may floor shelf) (lines : List NamedLine) (home : ℕ → ℕ) (nodes : ℕ) (c : Course) (counts : List ℕ) (looks : List (Option Looked)) (n from i : ℕ) (line : NamedLine) (admin : Admin) (look : Looked) (seat seat' : SeatView) (desks : List Desk) (journal : List Event) (are : AreLines lines home nodes) (least : 1 ≤ n) (most : n ≤ nodes) (at : slice_get lines i ≡ Some line) (node : line.node ≡ n) (phase : line.phase ≡ c.phase) (asks_is : line.asks ≡ asks.Admin admin) (ok : CourseOk may floor shelf lines nodes c counts looks) (worker : WorkerAt may floor shelf state spells lines home c counts looks n from i c.phase seat desks) (since : Since n c.journal journal) (still : Unsealed c.journal journal) (others : List Cause) (moves : Moves (Within may counts) floor shelf (node_of seat c.journal) (node_of seat' journal) others) (now : WorkerOk may floor shelf state spells n counts journal seat' desks) where
+  abbrev then' : Course
+  then' = advanced c n (map (λ g. g.cause) moves.goes.given) journal c.when
+
+  unlogged : (s : ℕ) → logs_for s line ≡ false
+  unlogged s = ap (is_of s) asks_is
+
+  not_yet : slice_get looks i ≡ Some None
+  not_yet = worker.waiting i line (omega arith) at node
+
+  -- what it came to is known, and it replaced nothing
+  module _ (none : (x : Extension) → look ≡ looked.Extended x → ⊥) (paid_is : others ≡ failed_of look) (of_node : IsOfNode admin look) (reported : ReportedSo journal (then'.tails line.phase) seat'.node.replica.cursor n look) (left : LeftSo journal seat'.node.replica.cursor n look) where
+    on : LooksOn (length shelf) (state_of c.journal).register (state_of journal).register look
+    on x is = absurd (none x is)
+
+    own : (x : Extension) → look ≡ looked.Extended x → AsksNode line.asks
+    own x is = absurd (none x is)
+
+    unsealed : faults_in journal ≡ [] → IsUnsealed (state_of journal) (count_by has_replaced (slice_set looks i (Some look)))
+    unsealed calm =
+        subst (IsUnsealed (state_of journal)) (sym (count_same looks i look not_yet (none_replaced look none)))
+        (still_unsealed may floor shelf run counts c.journal journal (count_by has_replaced looks) now.ok.node.legal still ok.unsealed calm)
+
+    line_played : PlayedSo lines then' c.phase seat'.node.replica.cursor n desks (slice_set looks i (Some look)) i line.phase line.asks
+    line_played = subst (PlayedSo lines then' c.phase seat'.node.replica.cursor n desks (slice_set looks i (Some look)) i line.phase) (sym asks_is)
+        (look, set_same looks i (Some look) None not_yet, of_node, reported, left)
+
+    pub line_told : LineWent may floor shelf state spells lines home nodes c counts counts looks (slice_set looks i (Some look)) n from (i + 1) journal seat' desks
+    line_told =
+        line_went may floor shelf state spells lines home nodes c counts looks n from i line look seat seat' desks journal are least most at node phase unlogged ok worker since others moves paid_is on own unsealed now
+        line_played
