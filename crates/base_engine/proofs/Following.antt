@@ -116,7 +116,7 @@ module _ (holds : List Event → ℕ → Entry → Type 0) (state : List Entry �
 
 -- As the journal goes on
 
-module _ (may : ℕ → Entry → Type 0) (floor : List Entry → ℕ) (shelf : List ℕ) (holds : List Event → ℕ → Entry → Type 0) (state : List Entry → SpaceMap → Type 0) (spells : List ℕ → Saved → Type 0) (holding : Stays may floor shelf holds) where
+module _ (may : ℕ → Entry → Type 0) (floor : List Entry → ℕ → Type 0) (shelf : List ℕ) (holds : List Event → ℕ → Entry → Type 0) (state : List Entry → SpaceMap → Type 0) (spells : List ℕ → Saved → Type 0) (holding : Stays may floor shelf holds) where
   state_later : (old new : List Event) (s : Saved) → Later may floor shelf old new → IsStateAt holds state old s → IsStateAt holds state new s
   state_later old new s later h = record {
     log = h.log;
@@ -206,7 +206,7 @@ pub known_more : (a b : ℕ) (v : ReplicaView) → a ≤ b → IsKnown a v → I
 known_more a b v le h = record { now = omega (arith, h.now); asked = λ s is. omega (arith, h.asked s is) }
 
 -- a position that was above stays so
-pub above_later : (may : ℕ → Entry → Type 0) (floor : List Entry → ℕ) (shelf : List ℕ) (who pos : ℕ) (old mid new : List Event) → IsAbove who old pos mid → Later may floor shelf mid new → IsAbove who old pos new
+pub above_later : (may : ℕ → Entry → Type 0) (floor : List Entry → ℕ → Type 0) (shelf : List ℕ) (who pos : ℕ) (old mid new : List Event) → IsAbove who old pos mid → Later may floor shelf mid new → IsAbove who old pos new
 above_later may floor shelf who pos old mid new h later = record {
   first = record {
     others = f.others;

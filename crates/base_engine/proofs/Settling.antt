@@ -99,7 +99,7 @@ settled_on holds who old mid new was is h on = record {
 pub no_more : (es : List Event) → (more : List Event) × (es ≡ es ++ more)
 no_more es = ([], sym (append-nil es))
 
-pub more_of : (may : ℕ → Entry → Type 0) (floor : List Entry → ℕ) (shelf : List ℕ) (old new : List Event) → Later may floor shelf old new → (more : List Event) × (new ≡ old ++ more)
+pub more_of : (may : ℕ → Entry → Type 0) (floor : List Entry → ℕ → Type 0) (shelf : List ℕ) (old new : List Event) → Later may floor shelf old new → (more : List Event) × (new ≡ old ++ more)
 more_of may floor shelf old new l = (l.more, l.seen)
 
 -- the head and the rest
@@ -124,7 +124,7 @@ first_landed (Some cause) pos = refl
 pub settled_one : (holds : List Event → ℕ → Entry → Type 0) (who : ℕ) (old new : List Event) (was is : OutboxView) → Carried holds who old was new is → Settled holds who old was new is
 settled_one holds who old new was is h = settled_then holds who old new new was is is (one_more holds who old old new was was is (none_yet holds who old was) h) refl (no_more new)
 
-pub settled_none : (holds : List Event → ℕ → Entry → Type 0) (may : ℕ → Entry → Type 0) (floor : List Entry → ℕ) (shelf : List ℕ) (who : ℕ) (old new : List Event) (was is : OutboxView) → is ≡ was → Later may floor shelf old new → Settled holds who old was new is
+pub settled_none : (holds : List Event → ℕ → Entry → Type 0) (may : ℕ → Entry → Type 0) (floor : List Entry → ℕ → Type 0) (shelf : List ℕ) (who : ℕ) (old new : List Event) (was is : OutboxView) → is ≡ was → Later may floor shelf old new → Settled holds who old was new is
 settled_none holds may floor shelf who old new was is same l = settled_then holds who old old new was was is (none_yet holds who old was) same (more_of may floor shelf old new l)
 
 pub settled_given : (holds : List Event → ℕ → Entry → Type 0) (who : ℕ) (old new : List Event) (was is : OutboxView) (given : List Given) → Settled holds who old was new is → given ≡ is.given → Settled holds who old was new (record { entries = is.entries; given = given; unsettled = is.unsettled })

@@ -74,13 +74,13 @@ has_now cells w pos e ok h = record {
   entry = (log_from (reach w.cells) (entries w.cells) w.register.chain pos e h).1;
 }
 
-module _ (may : ℕ → Entry → Type 0) (floor : List Entry → ℕ) (cells : ℕ) (low : (log : List Entry) → floor log ≤ length log) where
+module _ (may : ℕ → Entry → Type 0) (floor : List Entry → ℕ → Type 0) (cells : ℕ) (low : (log : List Entry) (n : ℕ) → floor log n → n ≤ length log) where
   -- a chain that may be written is trimmed no further than what was shown
   follows_low : (w : State) (c : Chain) → Filled w → MayFollow w floor cells w.register.chain c → (pos : ℕ) → pos < c.trim → (e : Entry) × (w.shown pos ≡ Some e)
   follows_low w c f (inl x) pos h = f.low pos (omega (arith, h, ap (λ (k : Chain). k.trim) x.is))
   follows_low w c f (inr x) pos h =
       let free = x.1 in
-      let inside : pos < length free.log = omega (arith, h, free.above, low free.log) in
+      let inside : pos < length free.log = omega (arith, h, low free.log c.trim free.free) in
       let e = there free.log pos inside in
       (e.0, free.shows pos inside ∙ e.1)
 
@@ -127,13 +127,13 @@ module _ (may : ℕ → Entry → Type 0) (floor : List Entry → ℕ) (cells : 
   step_filled w who Nothing ok f a = f
   step_filled w who Never ok f a = absurd a
 
-filled_on : (may : ℕ → Entry → Type 0) (floor : List Entry → ℕ) (shelf : List ℕ) (low : (log : List Entry) → floor log ≤ length log) (w : State) (es : List Event) → StateOk (length shelf) w → Filled w → IsLegalFrom w may floor shelf es → Filled (after_all w es)
+filled_on : (may : ℕ → Entry → Type 0) (floor : List Entry → ℕ → Type 0) (shelf : List ℕ) (low : (log : List Entry) (n : ℕ) → floor log n → n ≤ length log) (w : State) (es : List Event) → StateOk (length shelf) w → Filled w → IsLegalFrom w may floor shelf es → Filled (after_all w es)
 filled_on may floor shelf low w [] ok f h = f
 filled_on may floor shelf low w (e ∷ es) ok f h =
     filled_on may floor shelf low (after w e.who (move e)) es (step_ok may floor (length shelf) w e.who (move e) ok h.0.allowed).0 (step_filled may floor (length shelf) low w e.who (move e) ok f h.0.allowed) h.1
 
 -- what is held is shown, or was before it was trimmed
-pub shows_all : (may : ℕ → Entry → Type 0) (floor : List Entry → ℕ) (shelf : List ℕ) → ((log : List Entry) → floor log ≤ length log) → ShowsAll may floor shelf Holds
+pub shows_all : (may : ℕ → Entry → Type 0) (floor : List Entry → ℕ → Type 0) (shelf : List ℕ) → ((log : List Entry) (n : ℕ) → floor log n → n ≤ length log) → ShowsAll may floor shelf Holds
 shows_all may floor shelf low = λ seen pos e legal h.
     let w = state_of seen in
     let f = filled_on may floor shelf low start seen (start_ok (length shelf) legal.least legal.most) start_filled legal.steps in
@@ -145,7 +145,7 @@ shows_all may floor shelf low = λ seen pos e legal h.
     ⊎_elim before (λ at. f.now pos e at) (holds_stands may floor shelf seen pos e legal h)
 
 -- each position below the tail is held
-pub held_below : (may : ℕ → Entry → Type 0) (floor : List Entry → ℕ) (shelf : List ℕ) → ((log : List Entry) → floor log ≤ length log) → (seen : List Event) (pos : ℕ) → IsLegal may floor shelf seen → pos < tail_of (state_of seen) → (e : Entry) × Holds seen pos e
+pub held_below : (may : ℕ → Entry → Type 0) (floor : List Entry → ℕ → Type 0) (shelf : List ℕ) → ((log : List Entry) (n : ℕ) → floor log n → n ≤ length log) → (seen : List Event) (pos : ℕ) → IsLegal may floor shelf seen → pos < tail_of (state_of seen) → (e : Entry) × Holds seen pos e
 held_below may floor shelf low seen pos legal below = by_test (nat_lt pos (trim_of w)) refl
   where
     w : State

@@ -12,7 +12,7 @@ use Rattle.base_engine.specs.Following.{KeepsTail, EndsBy}
 pub keeps_same : (who pos : ℕ) (a : List Event) → KeepsTail who pos a a
 keeps_same who pos a low alone = refl
 
-module _ (may : ℕ → Entry → Type 0) (floor : List Entry → ℕ) (shelf : List ℕ) (who pos : ℕ) (a b c : List Event) (first : Later may floor shelf a b) (second : Later may floor shelf b c) where
+module _ (may : ℕ → Entry → Type 0) (floor : List Entry → ℕ → Type 0) (shelf : List ℕ) (who pos : ℕ) (a b c : List Event) (first : Later may floor shelf a b) (second : Later may floor shelf b c) where
   -- it stays over two steps, of which the second starts no lower
   pub keeps_on : (next : ℕ) → pos ≤ next → KeepsTail who pos a b → KeepsTail who next b c → KeepsTail who pos a c
   keeps_on next up f g low alone =

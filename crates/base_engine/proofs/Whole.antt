@@ -12,15 +12,13 @@ use Rattle.base_engine.specs.Reading.{IsFront}
 use Rattle.base_engine.specs.Following.{Follows, IsKnown}
 use Rattle.base_engine.specs.Settling.{MaySend}
 use Rattle.base_engine.specs.Node.{NodeView, NodeOk}
-use Rattle.base_engine.specs.Trimming.{IsFloor}
 
-module _ (may : ℕ → Entry → Type 0) (floor : List Entry → ℕ) (shelf : List ℕ) (holds : List Event → ℕ → Entry → Type 0) (state : List Entry → SpaceMap → Type 0) (spells : List ℕ → Saved → Type 0) where
+module _ (may : ℕ → Entry → Type 0) (floor : List Entry → ℕ → Type 0) (shelf : List ℕ) (holds : List Event → ℕ → Entry → Type 0) (state : List Entry → SpaceMap → Type 0) (spells : List ℕ → Saved → Type 0) where
   -- its entries and what waits are as they were
   pub ok_same : (old new : NodeView) → NodeOk may floor shelf holds state spells old → IsLegal may floor shelf new.seen → new.who ≡ old.who → Follows holds state spells new.seen new.replica → IsKnown new.known new.replica
       → new.outbox.entries ≡ old.outbox.entries → new.replica.kept ≡ old.replica.kept → new.replica.origin ≡ old.replica.origin → new.nodes ≡ old.nodes → NodeOk may floor shelf holds state spells new
   ok_same old new ok legal who follows bounded entries kept origin nodes = record {
     eight = subst (λ n. n ≤ 8) (sym nodes) ok.eight;
-    floor_is = subst (IsFloor state floor) (sym nodes) ok.floor_is;
     legal = legal;
     follows = follows;
     bounded = bounded;
@@ -31,11 +29,10 @@ module _ (may : ℕ → Entry → Type 0) (floor : List Entry → ℕ) (shelf : 
         (subst (λ k. may old.who (packed old.replica.origin k)) (sym kept) (ok.waiting (λ none. some (kept ∙ none)))));
   }
 
-  pub ok_waiting : (old new : NodeView) → new.nodes ≤ 8 → IsFloor state floor new.nodes → IsLegal may floor shelf new.seen → Follows holds state spells new.seen new.replica → IsKnown new.known new.replica → All (λ e. MaySend may new.who e) new.outbox.entries → length new.outbox.entries ≤ 4
+  pub ok_waiting : (old new : NodeView) → new.nodes ≤ 8 → IsLegal may floor shelf new.seen → Follows holds state spells new.seen new.replica → IsKnown new.known new.replica → All (λ e. MaySend may new.who e) new.outbox.entries → length new.outbox.entries ≤ 4
       → new.who ≡ old.who → new.replica.origin ≡ old.replica.origin → (new.replica.kept ≢ [] → may old.who (packed old.replica.origin new.replica.kept)) → NodeOk may floor shelf holds state spells new
-  ok_waiting old new eight floor_is legal follows bounded own few who origin waiting = record {
+  ok_waiting old new eight legal follows bounded own few who origin waiting = record {
     eight = eight;
-    floor_is = floor_is;
     legal = legal;
     follows = follows;
     bounded = bounded;

@@ -8,7 +8,6 @@ use Rattle.legal_journal.specs.Journal.{IsLegal}
 use Rattle.virtual_log.specs.Turning.{Later}
 use Rattle.replica_api.specs.Replica.{Saved, ReplicaView}
 use Rattle.base_engine.specs.Following.{Follows, IsKnown}
-use Rattle.base_engine.specs.Trimming.{IsFloor}
 use Rattle.base_engine.specs.Settling.{OutboxView, MaySend}
 
 -- by whom its events are, how many nodes there are, the journal as far as it was seen, how much of the log it knows, its
@@ -30,9 +29,8 @@ pub record RestedView : Type 0 where
 abbrev pub awake : RestedView → ℕ → List Event → ℕ → NodeView
 awake r who seen known = record { who = who; nodes = r.nodes; seen = seen; known = known; replica = r.replica; outbox = r.outbox }
 
-pub record NodeOk (may : ℕ → Entry → Type 0) (floor : List Entry → ℕ) (shelf : List ℕ) (holds : List Event → ℕ → Entry → Type 0) (state : List Entry → SpaceMap → Type 0) (spells : List ℕ → Saved → Type 0) (n : NodeView) : Type 0 where
+pub record NodeOk (may : ℕ → Entry → Type 0) (floor : List Entry → ℕ → Type 0) (shelf : List ℕ) (holds : List Event → ℕ → Entry → Type 0) (state : List Entry → SpaceMap → Type 0) (spells : List ℕ → Saved → Type 0) (n : NodeView) : Type 0 where
   pub eight : n.nodes ≤ 8
-  pub floor_is : IsFloor state floor n.nodes
   pub legal : IsLegal may floor shelf n.seen
   pub follows : Follows holds state spells n.seen n.replica
   pub bounded : IsKnown n.known n.replica
@@ -41,7 +39,7 @@ pub record NodeOk (may : ℕ → Entry → Type 0) (floor : List Entry → ℕ) 
   pub waiting : n.replica.kept ≢ [] → may n.who (packed n.replica.origin n.replica.kept)
 
 -- What each call keeps: who it is, what was seen, and that neither the cursor nor the count of faults falls.
-pub record Keeps (may : ℕ → Entry → Type 0) (floor : List Entry → ℕ) (shelf : List ℕ) (old new : NodeView) : Type 0 where
+pub record Keeps (may : ℕ → Entry → Type 0) (floor : List Entry → ℕ → Type 0) (shelf : List ℕ) (old new : NodeView) : Type 0 where
   pub who : new.who ≡ old.who
   pub nodes : new.nodes ≡ old.nodes
   pub origin : new.replica.origin ≡ old.replica.origin

@@ -1,9 +1,11 @@
 //! A node.
 ghost use Rattle.std.specs.Prelude.{◌≡◌, ◌≢◌, ◌<◌, ◌^◌, ◌≤◌, ◌+◌, ℕ, List, None, Some, [], ◌∷◌, ◌++◌, false, IfOk, OnOk, OnErr, IfErr, length};
+ghost use Rattle.delos_types.specs.declared.entry.Entry.{Entry};
 ghost use Rattle.disk_model.specs.Crash.{AnyCrash};
 ghost use Rattle.engine_api.specs.Packing.{IsProposable, packed, trim_item};
 ghost use Rattle.engine_steps.specs.Layout as layout;
 ghost use Rattle.legal_journal.specs.Journal.{IsLegal};
+ghost use Rattle.virtual_log.specs.Truncating.{IsPrefixTrimmed};
 ghost use Rattle.virtual_log.specs.Turning.{Later, IsAbove};
 ghost use Rattle.virtual_log.specs.Sealing.{SealsLast};
 ghost use Rattle.base_engine.specs.Causes.{Blames};
@@ -13,8 +15,8 @@ ghost use Rattle.base_engine.specs.Settling.{view_of, Settled, Lands, Answers, F
 ghost use Rattle.base_engine.specs.Proposing.{Sent, Proposed, Refused, IsNear};
 ghost use Rattle.base_engine.specs.Node.{NodeView, NodeOk, Keeps};
 ghost use Rattle.base_engine.specs.Querying.{found_in};
-ghost use Rattle.base_engine.specs.Reading.{IsExtendedBy};
-ghost use Rattle.base_engine.specs.Trimming.{least_of, IsFloor, ShowsAll, Trims};
+ghost use Rattle.base_engine.specs.Reading.{IsFront, IsExtendedBy};
+ghost use Rattle.base_engine.specs.Trimming.{least_of, trim_to, IsFloor, ShowsAll, Trims};
 
 use crate::fault::Fault;
 use crate::outbox::{Outbox, cause_of};
@@ -24,7 +26,7 @@ use crate::read::read;
 use crate::rest::Rested;
 use crate::settle::settle_all;
 use crate::shared_log::SharedLog;
-use crate::trim::{extend, least, trim_now};
+use crate::trim::{extend, least, trim_applied, trim_now};
 use delos_types::bytes::Bytes;
 use delos_types::cause::Cause;
 use delos_types::item::Item;
@@ -67,9 +69,6 @@ impl<L: SharedLog, R: Replica> Node<L, R> {
     /// One of so many nodes, whose replica has applied nothing. Makes no event, and takes no memory.
     pub fn new(alloc: Global, nodes: u8, log: L, replica: R) -> Self
         requires nodes { nodes ≤ 8 }
-
-        // The log's rules allow a trim up to the trim point, but not past the least position of a member.
-        requires floor { IsFloor R.state L.Law.floor nodes }
         requires legal { IsLegal L.Law.may L.Law.floor L.Law.shelf (L.seen log) }
         requires empty { R.state [] (R.shows replica).contents }
         requires start { (R.shows replica).cursor ≡ 0 }
@@ -316,6 +315,8 @@ impl<L: SharedLog, R: Replica> Node<L, R> {
     /// with all that is outstanding; plays the log as far as it is known, and trims it up to its trim point, but not past a
     /// member's position, nor past what was applied. Answers the trim.
     pub fn trim_now(&mut self) -> Result<u64, Fault>
+        // The log's rules allow a trim up to the trim point, but not past the least position of a member.
+        requires floor { IsFloor R.state L.Law.floor self.old.nodes }
         requires own { (position : ℕ) → position < 2 ^ 64 → L.Law.may self.old.who (packed self.old.replica.origin (self.old.replica.kept ++ trim_item position ∷ [])) }
 
         // By the log's rules it shows what it holds, or did before it was trimmed.
@@ -335,6 +336,26 @@ impl<L: SharedLog, R: Replica> Node<L, R> {
             &mut self.outbox,
             self.nodes,
         )
+    }
+
+    /// Trims the log to the lesser of its trim point and the least position of a member, in the state of what was applied,
+    /// but not past that. Answers the trim. Plays nothing, and gives nothing to sessions.
+    ///
+    /// Cost: two reads of the space for each node and one more, and a trim of each loglet.
+    pub fn trim_applied(&mut self) -> Result<u64, Fault>
+        requires shown { ShowsAll L.Law.may L.Law.floor L.Law.shelf L.holds }
+
+        // So much of what was applied the log's rules let go.
+        requires free { (log : List Entry) → IsFront L.holds self.old.seen log → length log ≡ self.old.replica.cursor → L.Law.floor log (trim_to self.old.nodes self.old.replica) }
+        ensures keeps { Keeps L.Law.may L.Law.floor L.Law.shelf self.old self.new }
+        ensures follows { Follows L.holds R.state R.spells self.new.seen self.new.replica }
+        ensures replica { self.new.replica ≡ self.old.replica }
+        ensures outbox { self.new.outbox ≡ self.old.outbox }
+        ensures known { self.new.known ≡ self.old.known }
+        ensures trims { IfOk result (λ trim. IsPrefixTrimmed self.old.who self.old.seen (trim_to self.old.nodes self.old.replica) trim self.new.seen) }
+        ensures blames { IfErr result (λ f. Blames self.old.who self.old.seen self.old.replica.faults f self.new.seen self.new.replica.faults) }
+    {
+        trim_applied(&mut self.log, &self.replica, self.nodes)
     }
 
     /// Gives the log out, until `Rested::wake`. Makes no event, and takes no memory.

@@ -1,5 +1,5 @@
 //! The virtual log as the log that nodes share, over whatever turns.
-ghost use Rattle.std.specs.Prelude.{◌≤◌, List, length};
+ghost use Rattle.std.specs.Prelude.{◌≤◌, ℕ, List, length};
 ghost use Rattle.delos_types.specs.declared.entry.Entry.{Entry};
 ghost use Rattle.virtual_log.specs.Holding.{Holds};
 ghost use Rattle.base_engine.specs.Holding.{held_stays};
@@ -56,5 +56,5 @@ impl<T: Turns, C: Chooser> SharedLog for VirtualLog<T, C> {
 /// Where the rules allow no trim past the entries that they are asked of, a virtual log shows what it holds, or did before
 /// it was trimmed. Does nothing: its contract is the law.
 pub fn what_is_held_is_shown<P: Rules>()
-    ensures { ((log : List Entry) → P.floor log ≤ length log) → ShowsAll P.may P.floor P.shelf Holds }
+    ensures { ((log : List Entry) (n : ℕ) → P.floor log n → n ≤ length log) → ShowsAll P.may P.floor P.shelf Holds }
 {}

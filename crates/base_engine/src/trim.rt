@@ -1,15 +1,17 @@
 //! The log goes on in its next loglet, and is trimmed up to where no member needs it.
-ghost use Rattle.std.specs.Prelude.{◌≡◌, ◌≢◌, ◌<◌, ◌≤◌, ◌^◌, ℕ, [], ◌∷◌, ◌++◌, None, All, length, min, unwrap_or, IfOk, IfErr, OnOk};
+ghost use Rattle.std.specs.Prelude.{◌≡◌, ◌≢◌, ◌<◌, ◌≤◌, ◌^◌, ℕ, List, [], ◌∷◌, ◌++◌, None, All, length, min, unwrap_or, IfOk, IfErr, OnOk};
 ghost use Rattle.std.specs.Option.{option_map};
+ghost use Rattle.delos_types.specs.declared.entry.Entry.{Entry};
 ghost use Rattle.disk_model.specs.Crash.{AnyCrash};
 ghost use Rattle.engine_api.specs.Packing.{IsProposable, packed, trim_item};
 ghost use Rattle.engine_steps.specs.Words.{under};
 ghost use Rattle.legal_journal.specs.Journal.{IsLegal};
+ghost use Rattle.virtual_log.specs.Truncating.{IsPrefixTrimmed};
 ghost use Rattle.virtual_log.specs.Turning.{Later};
 ghost use Rattle.virtual_log.specs.Sealing.{SealsLast};
 ghost use Rattle.replica_api.specs.Replica.{SpellsOne};
 ghost use Rattle.base_engine.specs.Causes.{Blames};
-ghost use Rattle.base_engine.specs.Reading.{IsExtendedBy};
+ghost use Rattle.base_engine.specs.Reading.{IsFront, IsExtendedBy};
 ghost use Rattle.base_engine.specs.Following.{Follows, IsKnown, IsFound};
 ghost use Rattle.base_engine.specs.Settling.{view_of, MaySend};
 ghost use Rattle.base_engine.specs.Trimming.{least_of, trim_to, IsFloor, ShowsAll, IsLeastAtTail, HasLanded, TrimsBelow, Trims};
@@ -146,6 +148,35 @@ fn lowest<R: Replica>(replica: &R, nodes: u8) -> Result<u64, AllocError>
     Ok(replica.cursor().min(point.min(position)))
 }
 
+/// Trims the log to the lesser of its trim point and the least position of a member, in the state of what was applied, but
+/// not past that. Answers the trim.
+pub fn trim_applied<L: SharedLog, R: Replica>(
+    log: &mut L,
+    replica: &R,
+    nodes: u8,
+) -> Result<u64, Fault>
+    requires nodes { nodes ≤ 8 }
+    requires shown { ShowsAll L.Law.may L.Law.floor L.Law.shelf L.holds }
+    requires legal { IsLegal L.Law.may L.Law.floor L.Law.shelf (L.seen log.old) }
+    requires follows { Follows L.holds R.state R.spells (L.seen log.old) (R.shows replica.now) }
+    requires bounded { IsKnown (L.reaches log.old) (R.shows replica.now) }
+    requires free { (front : List Entry) → IsFront L.holds (L.seen log.old) front → length front ≡ (R.shows replica.now).cursor → L.Law.floor front (trim_to nodes (R.shows replica.now)) }
+    ensures later { Later L.Law.may L.Law.floor L.Law.shelf (L.seen log.old) (L.seen log.new) }
+    ensures who { L.who log.new ≡ L.who log.old }
+    ensures known { L.reaches log.new ≡ L.reaches log.old }
+    ensures blames { IfErr result (λ f. (faults faults' : ℕ) → Blames (L.who log.old) (L.seen log.old) faults f (L.seen log.new) faults') }
+    ensures trims { IfOk result (λ trim. IsPrefixTrimmed (L.who log.old) (L.seen log.old) (trim_to nodes (R.shows replica.now)) trim (L.seen log.new)) }
+{
+    let position = match lowest(replica, nodes) {
+        Ok(position) => position,
+        Err(_) => return Err(Fault::Memory),
+    };
+    match log.prefix_trim(position) {
+        Ok(trim) => return Ok(trim),
+        Err(fault) => return Err(told(fault)),
+    }
+}
+
 /// Plays the log as far as it is known, and trims it up to its trim point, but not past a member's position, nor past what
 /// was applied.
 fn trim_below<L: SharedLog, R: Replica>(
@@ -177,13 +208,9 @@ fn trim_below<L: SharedLog, R: Replica>(
         Ok(()) => {}
         Err(fault) => return Err(fault),
     }
-    let position = match lowest(replica, nodes) {
-        Ok(position) => position,
-        Err(_) => return Err(Fault::Memory),
-    };
-    match log.prefix_trim(position) {
+    match trim_applied(log, replica, nodes) {
         Ok(trim) => return Ok(trim),
-        Err(fault) => return Err(told(fault)),
+        Err(fault) => return Err(fault),
     }
 }
 

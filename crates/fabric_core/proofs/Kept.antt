@@ -71,7 +71,7 @@ map_same g [] i a b h k = refl
 map_same g (y ∷ ys) zero a b h k = let same : y ≡ b = cc in ap (λ n. n ∷ map g ys) (k ∙ ap g (sym same))
 map_same g (y ∷ ys) (suc i) a b h k = ap (λ l. g y ∷ l) (map_same g ys i a b h k)
 
-module _ (may : ℕ → Entry → Type 0) (floor : List Entry → ℕ) (shelf : List ℕ) where
+module _ (may : ℕ → Entry → Type 0) (floor : List Entry → ℕ → Type 0) (shelf : List ℕ) where
   pub legal_more : (j : List Event) (e : Event) → IsLegal may floor shelf j → MayHappen (state_of j) may floor shelf e → IsLegal may floor shelf (j ++ e ∷ [])
   legal_more j e h a = record { least = h.least; most = h.most; steps = IsLegalFrom-join may floor shelf start j (e ∷ []) h.steps (a, tt) }
 

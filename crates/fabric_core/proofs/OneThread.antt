@@ -12,7 +12,7 @@ nil : (xs : List Event) → xs ++ [] ≡ xs
 nil [] = refl
 nil (x ∷ xs) = ap (λ l. x ∷ l) (nil xs)
 
-module _ (may : ℕ → Entry → Type 0) (floor : List Entry → ℕ) (shelf : List ℕ) (who : ℕ) (old : List Event) (call : FabricCall) where
+module _ (may : ℕ → Entry → Type 0) (floor : List Entry → ℕ → Type 0) (shelf : List ℕ) (who : ℕ) (old : List Event) (call : FabricCall) where
   -- what may be called after any events of others may be called at once
   pub may_now : MayTurn may floor shelf who old call → IsLegal may floor shelf old → MayCall (state_of old) may floor shelf who call
   may_now may_turn legal =

@@ -41,7 +41,7 @@ fresh_as_told v f sound = record {
 no_mark : (t : ℕ) → slice_get {X = Bool} [] t ≢ Some true
 no_mark t e = absurd (cc)
 
-pub opened : (may : ℕ → Entry → Type 0) (floor : List Entry → ℕ) (shelf : List ℕ) {A B : Type 0} (view : A → LogletView) (items : B → List Bool) (cells : List A) (marks : List B) (register : RegisterView) → 0 < length cells → length cells ≤ 64 → map (λ v. v.servers) (map view cells) ≡ shelf → All (λ l. IsFresh (view l)) cells → All (λ l. IsSound (view l)) cells → register_view.IsFresh register → length marks ≡ length cells → All (λ m. items m ≡ []) marks → FabricOk may floor shelf (record { cells = map view cells; register = register; journal = [] }) (map items marks)
+pub opened : (may : ℕ → Entry → Type 0) (floor : List Entry → ℕ → Type 0) (shelf : List ℕ) {A B : Type 0} (view : A → LogletView) (items : B → List Bool) (cells : List A) (marks : List B) (register : RegisterView) → 0 < length cells → length cells ≤ 64 → map (λ v. v.servers) (map view cells) ≡ shelf → All (λ l. IsFresh (view l)) cells → All (λ l. IsSound (view l)) cells → register_view.IsFresh register → length marks ≡ length cells → All (λ m. items m ≡ []) marks → FabricOk may floor shelf (record { cells = map view cells; register = register; journal = [] }) (map items marks)
 opened may floor shelf view items cells marks register least most shelf_is fresh sound r count none =
     let size : length shelf ≡ length cells = sym (ap length shelf_is) ∙ (length-map (map view cells) (λ (v : LogletView). v.servers) ∙ length-map cells view) in record {
       legal = record { least = omega arith; most = omega arith; steps = tt };

@@ -23,7 +23,7 @@ use Rattle.fabric_core.proofs.Registers.{counted, current_is, given_told, writte
 use Rattle.fabric_core.proofs.Kept.{legal_more, state_more, has_run_same}
 use Rattle.fabric_core.proofs.Shelf.{adds_none}
 
-module _ (may : ℕ → Entry → Type 0) (floor : List Entry → ℕ) (shelf : List ℕ) (f : FabricView) (marks : List (List Bool)) (ok : FabricOk may floor shelf f marks) where
+module _ (may : ℕ → Entry → Type 0) (floor : List Entry → ℕ → Type 0) (shelf : List ℕ) (f : FabricView) (marks : List (List Bool)) (ok : FabricOk may floor shelf f marks) where
   state_ok : StateOk (length shelf) (state_of f.journal)
   state_ok = sound may floor shelf f.journal ok.legal
 

@@ -104,7 +104,7 @@ module _ (cells : ℕ) (w : State) (ok : StateOk cells w) (x : ℕ) (old : Chain
       by_test false t = grind (arith, nat_tests)
 
   -- a chain that may follow is one
-  pub may_stand : (floor : List Entry → ℕ) (c : Chain) → MayFollow w floor cells old c → is_chain c ≡ true
+  pub may_stand : (floor : List Entry → ℕ → Type 0) (c : Chain) → MayFollow w floor cells old c → is_chain c ≡ true
   may_stand floor c h =
       let was = chain_ok cells w x old ok given in
       ⊎_elim

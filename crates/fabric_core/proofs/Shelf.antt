@@ -83,7 +83,7 @@ marked_open (Some r) None m h k e = absurd e
 marked_open (Some r) (Some o) m h k e = refl
 
 -- a cell of the shelf is there, and has its marks
-module _ (may : ℕ → Entry → Type 0) (floor : List Entry → ℕ) (shelf : List ℕ) {A B : Type 0} (view : A → LogletView) (items : B → List Bool) (cells : List A) (marks : List B) (register : RegisterView) (journal : List Event) (ok : FabricOk may floor shelf (record { cells = map view cells; register = register; journal = journal }) (map items marks)) (i : ℕ) (low : i < length shelf) where
+module _ (may : ℕ → Entry → Type 0) (floor : List Entry → ℕ → Type 0) (shelf : List ℕ) {A B : Type 0} (view : A → LogletView) (items : B → List Bool) (cells : List A) (marks : List B) (register : RegisterView) (journal : List Event) (ok : FabricOk may floor shelf (record { cells = map view cells; register = register; journal = journal }) (map items marks)) (i : ℕ) (low : i < length shelf) where
   pub cell_within : i < length cells
   cell_within = omega (arith, ap length ok.shelf_is, length-map (map view cells) (λ (v : LogletView). v.servers), length-map cells view)
 
@@ -93,7 +93,7 @@ module _ (may : ℕ → Entry → Type 0) (floor : List Entry → ℕ) (shelf : 
       let k = ok.cells i d.0 d.1 in
       omega (arith, slice_get_within (map items marks) i k.here k.is, length-map marks items)
 
-module _ (may : ℕ → Entry → Type 0) (floor : List Entry → ℕ) (shelf : List ℕ) {A B : Type 0} (view : A → LogletView) (items : B → List Bool) (cells : List A) (marks : List B) (register : RegisterView) (journal : List Event) (ok : FabricOk may floor shelf (record { cells = map view cells; register = register; journal = journal }) (map items marks)) (i : ℕ) (a : A) (b : B) (at : slice_get cells i ≡ Some a) (marked : slice_get marks i ≡ Some b) (a' : A) (b' : B) (journal' : List Event) where
+module _ (may : ℕ → Entry → Type 0) (floor : List Entry → ℕ → Type 0) (shelf : List ℕ) {A B : Type 0} (view : A → LogletView) (items : B → List Bool) (cells : List A) (marks : List B) (register : RegisterView) (journal : List Event) (ok : FabricOk may floor shelf (record { cells = map view cells; register = register; journal = journal }) (map items marks)) (i : ℕ) (a : A) (b : B) (at : slice_get cells i ≡ Some a) (marked : slice_get marks i ≡ Some b) (a' : A) (b' : B) (journal' : List Event) where
   -- a marked ticket is open
   pub open_where_marked : (t : ℕ) → slice_get (items b) t ≡ Some true → IsOpen (view a) t
   open_where_marked t h =
@@ -184,7 +184,7 @@ own_stray who i word (Set true) steps h = refl
 own_stray who i word a steps h = absurd h
 
 -- an event of a cell's servers, which opens and closes no ticket
-module _ (may : ℕ → Entry → Type 0) (floor : List Entry → ℕ) (shelf : List ℕ) {A B : Type 0} (view : A → LogletView) (items : B → List Bool) (cells : List A) (marks : List B) (register : RegisterView) (journal : List Event) (ok : FabricOk may floor shelf (record { cells = map view cells; register = register; journal = journal }) (map items marks)) (i : ℕ) (low : i < length shelf) (a : A) (at : slice_get cells i ≡ Some a) (a' : A) (journal' : List Event) where
+module _ (may : ℕ → Entry → Type 0) (floor : List Entry → ℕ → Type 0) (shelf : List ℕ) {A B : Type 0} (view : A → LogletView) (items : B → List Bool) (cells : List A) (marks : List B) (register : RegisterView) (journal : List Event) (ok : FabricOk may floor shelf (record { cells = map view cells; register = register; journal = journal }) (map items marks)) (i : ℕ) (low : i < length shelf) (a : A) (at : slice_get cells i ≡ Some a) (a' : A) (journal' : List Event) where
   mark : (b : B) × (slice_get marks i ≡ Some b)
   mark = some_at marks i (marks_within may floor shelf view items cells marks register journal ok i low)
 

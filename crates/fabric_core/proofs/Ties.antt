@@ -77,7 +77,7 @@ module _ (views : List LogletView) (w : State) (pos : ℕ) where
           ∙ (rest
           ∙ sym (ap (λ t. cond t (slice_get (entries w.cells s.id) (pos - s.start)) (shown.entry_in (reach w.cells) (entries w.cells) ss pos)) b))
 
-module _ (may : ℕ → Entry → Type 0) (floor : List Entry → ℕ) (shelf : List ℕ) (f : FabricView) (marks : List (List Bool)) (ok : FabricOk may floor shelf f marks) where
+module _ (may : ℕ → Entry → Type 0) (floor : List Entry → ℕ → Type 0) (shelf : List ℕ) (f : FabricView) (marks : List (List Bool)) (ok : FabricOk may floor shelf f marks) where
   state_ok : StateOk (length shelf) (state_of f.journal)
   state_ok = sound may floor shelf f.journal ok.legal
 

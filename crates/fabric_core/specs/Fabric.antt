@@ -72,7 +72,7 @@ pub record CellOk (w : State) (i : ℕ) (journal : List Event) (v : LogletView) 
   pub ran : HasRun i journal v
 
 -- the journal is legal, each loglet's events are a run of it, and all is as the journal tells
-pub record FabricOk (may : ℕ → Entry → Type 0) (floor : List Entry → ℕ) (shelf : List ℕ) (f : FabricView) (marks : List (List Bool)) : Type 0 where
+pub record FabricOk (may : ℕ → Entry → Type 0) (floor : List Entry → ℕ → Type 0) (shelf : List ℕ) (f : FabricView) (marks : List (List Bool)) : Type 0 where
   pub legal : IsLegal may floor shelf f.journal
   pub shelf_is : map (λ v. v.servers) f.cells ≡ shelf
   pub cells : (i : ℕ) (v : LogletView) → slice_get f.cells i ≡ Some v → CellOk (state_of f.journal) i f.journal v (slice_get marks i)
@@ -86,7 +86,7 @@ pub record Adds (old : List Event) (who : ℕ) (call : FabricCall) (answer : Fab
   pub added : new ≡ old ++ own
 
 -- A call adds its event, and the journal stays legal; with Memory nothing changes, but as a Carry's event tells.
-pub record Keeps (may : ℕ → Entry → Type 0) (floor : List Entry → ℕ) (shelf : List ℕ) (old : FabricView) (who : ℕ) (call : FabricCall) (answer : FabricAnswer) (new : FabricView) : Type 0 where
+pub record Keeps (may : ℕ → Entry → Type 0) (floor : List Entry → ℕ → Type 0) (shelf : List ℕ) (old : FabricView) (who : ℕ) (call : FabricCall) (answer : FabricAnswer) (new : FabricView) : Type 0 where
   pub adds : Adds old.journal who call answer new.journal
   pub legal : IsLegal may floor shelf new.journal
   pub same : new.journal ≡ old.journal → new ≡ old

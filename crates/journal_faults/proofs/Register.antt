@@ -86,7 +86,7 @@ off_none fabric.Full (Begin i op) off may = refl
 off_none (fabric.Done (answers.NoQuorum u)) (Carry i t word) off may = refl
 off_none a c off may = refl
 
-all_own : (may : ℕ → Entry → Type 0) (floor : List Entry → ℕ) (shelf : List ℕ) (w : State) (events : List Event) → IsLegalFrom w may floor shelf events → count_by is_meta (faults_in events) ≡ count_by is_meta (faults_in (own events))
+all_own : (may : ℕ → Entry → Type 0) (floor : List Entry → ℕ → Type 0) (shelf : List ℕ) (w : State) (events : List Event) → IsLegalFrom w may floor shelf events → count_by is_meta (faults_in events) ≡ count_by is_meta (faults_in (own events))
 all_own may floor shelf w [] h = refl
 all_own may floor shelf w (e ∷ es) h = by (all_own may floor shelf (after w e.who (move e)) es h.1) (is_on_register e.call) refl
   where
@@ -97,7 +97,7 @@ all_own may floor shelf w (e ∷ es) h = by (all_own may floor shelf (after w e.
         let more = count-more is_meta e es in
         rw off (omega (arith, none, more, rest))
 
-pub all_counted : (may : ℕ → Entry → Type 0) (floor : List Entry → ℕ) (shelf : List ℕ) (events : List Event) (now : RegisterView) → IsLegal may floor shelf events → HasRegisterRun events now → min (count_by is_meta (faults_in events)) (2 ^ 64 - 1) ≤ now.faults
+pub all_counted : (may : ℕ → Entry → Type 0) (floor : List Entry → ℕ → Type 0) (shelf : List ℕ) (events : List Event) (now : RegisterView) → IsLegal may floor shelf events → HasRegisterRun events now → min (count_by is_meta (faults_in events)) (2 ^ 64 - 1) ≤ now.faults
 all_counted may floor shelf events now legal h =
     let k = own_counted events now h in
     let e = all_own may floor shelf start events legal.steps in

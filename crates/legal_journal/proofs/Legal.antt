@@ -86,7 +86,7 @@ start_ok cells h most = record {
   was_shown = λ pos e k. absurd (cc);
 }
 
-pub legal_ok : (may : ℕ → Entry → Type 0) (floor : List Entry → ℕ) (shelf : List ℕ) (w : State) (es : List Event) → StateOk (length shelf) w → IsLegalFrom w may floor shelf es → StateOk (length shelf) (after_all w es) × Continues w (after_all w es)
+pub legal_ok : (may : ℕ → Entry → Type 0) (floor : List Entry → ℕ → Type 0) (shelf : List ℕ) (w : State) (es : List Event) → StateOk (length shelf) w → IsLegalFrom w may floor shelf es → StateOk (length shelf) (after_all w es) × Continues w (after_all w es)
 legal_ok may floor shelf w [] ok h = (ok, continues_refl w)
 legal_ok may floor shelf w (e ∷ es) ok h =
     let one = step_ok may floor (length shelf) w e.who (move e) ok h.0.allowed in
@@ -97,23 +97,23 @@ pub after_all-append : (w : State) (xs ys : List Event) → after_all w (xs ++ y
 after_all-append w [] ys = refl
 after_all-append w (x ∷ xs) ys = after_all-append (after w x.who (move x)) xs ys
 
-pub IsLegalFrom-split : (may : ℕ → Entry → Type 0) (floor : List Entry → ℕ) (shelf : List ℕ) (w : State) (xs ys : List Event) → IsLegalFrom w may floor shelf (xs ++ ys) → IsLegalFrom w may floor shelf xs × IsLegalFrom (after_all w xs) may floor shelf ys
+pub IsLegalFrom-split : (may : ℕ → Entry → Type 0) (floor : List Entry → ℕ → Type 0) (shelf : List ℕ) (w : State) (xs ys : List Event) → IsLegalFrom w may floor shelf (xs ++ ys) → IsLegalFrom w may floor shelf xs × IsLegalFrom (after_all w xs) may floor shelf ys
 IsLegalFrom-split may floor shelf w [] ys h = (tt, h)
 IsLegalFrom-split may floor shelf w (x ∷ xs) ys h =
     let r = IsLegalFrom-split may floor shelf (after w x.who (move x)) xs ys h.1 in ((h.0, r.0), r.1)
 
-pub IsLegalFrom-join : (may : ℕ → Entry → Type 0) (floor : List Entry → ℕ) (shelf : List ℕ) (w : State) (xs ys : List Event) → IsLegalFrom w may floor shelf xs → IsLegalFrom (after_all w xs) may floor shelf ys → IsLegalFrom w may floor shelf (xs ++ ys)
+pub IsLegalFrom-join : (may : ℕ → Entry → Type 0) (floor : List Entry → ℕ → Type 0) (shelf : List ℕ) (w : State) (xs ys : List Event) → IsLegalFrom w may floor shelf xs → IsLegalFrom (after_all w xs) may floor shelf ys → IsLegalFrom w may floor shelf (xs ++ ys)
 IsLegalFrom-join may floor shelf w [] ys h k = k
 IsLegalFrom-join may floor shelf w (x ∷ xs) ys h k = (h.0, IsLegalFrom-join may floor shelf (after w x.who (move x)) xs ys h.1 k)
 
-pub sound : (may : ℕ → Entry → Type 0) (floor : List Entry → ℕ) (shelf : List ℕ) (es : List Event) → IsLegal may floor shelf es → StateOk (length shelf) (state_of es)
+pub sound : (may : ℕ → Entry → Type 0) (floor : List Entry → ℕ → Type 0) (shelf : List ℕ) (es : List Event) → IsLegal may floor shelf es → StateOk (length shelf) (state_of es)
 sound may floor shelf es h = (legal_ok may floor shelf start es (start_ok (length shelf) h.least h.most) h.steps).0
 
-pub legal_front : (may : ℕ → Entry → Type 0) (floor : List Entry → ℕ) (shelf : List ℕ) (xs ys : List Event) → IsLegal may floor shelf (xs ++ ys) → IsLegal may floor shelf xs
+pub legal_front : (may : ℕ → Entry → Type 0) (floor : List Entry → ℕ → Type 0) (shelf : List ℕ) (xs ys : List Event) → IsLegal may floor shelf (xs ++ ys) → IsLegal may floor shelf xs
 legal_front may floor shelf xs ys h = record { least = h.least; most = h.most; steps = (IsLegalFrom-split may floor shelf start xs ys h.steps).0 }
 
 -- The log goes on from any moment of a legal journal to any later one.
-pub goes_on : (may : ℕ → Entry → Type 0) (floor : List Entry → ℕ) (shelf : List ℕ) (xs ys : List Event) → IsLegal may floor shelf (xs ++ ys) → Continues (state_of xs) (state_of (xs ++ ys))
+pub goes_on : (may : ℕ → Entry → Type 0) (floor : List Entry → ℕ → Type 0) (shelf : List ℕ) (xs ys : List Event) → IsLegal may floor shelf (xs ++ ys) → Continues (state_of xs) (state_of (xs ++ ys))
 goes_on may floor shelf xs ys h =
     let parts = IsLegalFrom-split may floor shelf start xs ys h.steps in
     let ok = sound may floor shelf xs (legal_front may floor shelf xs ys h) in

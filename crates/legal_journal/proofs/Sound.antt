@@ -514,7 +514,7 @@ module _ (cells : ℕ) (w : State) (ok : StateOk cells w) where
   current_ok v c (inl x) = inl x
   current_ok v c (inr x) = inr (x.0, ok.asked c x.1)
 
-  follow_of : (floor : List Entry → ℕ) (c : Chain) → MayFollow w floor cells w.register.chain c → Follows (ends w.cells) cells w.register.chain c
+  follow_of : (floor : List Entry → ℕ → Type 0) (c : Chain) → MayFollow w floor cells w.register.chain c → Follows (ends w.cells) cells w.register.chain c
   follow_of floor c (inl x) = inl (extending (ends w.cells) cells w.register.chain c x)
   follow_of floor c (inr x) = inr (raising w.register.chain c x.0)
 
@@ -526,7 +526,7 @@ module _ (cells : ℕ) (w : State) (ok : StateOk cells w) where
       (λ v c h. ap (λ (f : ℕ → Option Chain). f v) given ∙ h)
       (λ v c h. inl (sym (ap (λ (f : ℕ → Option Chain). f v) given) ∙ h))
 
-  turns_ok : (floor : List Entry → ℕ) (who : ℕ) (m : RegisterMove) → RegisterAllowed w floor cells m → StateOk cells (after w who (OnRegister m)) × Continues w (after w who (OnRegister m))
+  turns_ok : (floor : List Entry → ℕ → Type 0) (who : ℕ) (m : RegisterMove) → RegisterAllowed w floor cells m → StateOk cells (after w who (OnRegister m)) × Continues w (after w who (OnRegister m))
   turns_ok floor who (Gives v c) a = known_ok v c (current_ok v c a.1)
   turns_ok floor who (Conflicts x v c) a = known_ok v c (current_ok v c a.1)
   turns_ok floor who (Writes x c v) a = known_ok v c (inr (omega arith, follow_of floor c a.2))
@@ -602,7 +602,7 @@ continues_refl w = record {
 }
 
 -- Each allowed move keeps what holds, and the log goes on.
-pub step_ok : (may : ℕ → Entry → Type 0) (floor : List Entry → ℕ) (cells : ℕ) (w : State) (who : ℕ) (m : Move) → StateOk cells w → IsAllowed w may floor cells who m → StateOk cells (after w who m) × Continues w (after w who m)
+pub step_ok : (may : ℕ → Entry → Type 0) (floor : List Entry → ℕ → Type 0) (cells : ℕ) (w : State) (who : ℕ) (m : Move) → StateOk cells w → IsAllowed w may floor cells who m → StateOk cells (after w who m) × Continues w (after w who m)
 step_ok may floor cells w who (OnCell i m) ok a =
     let new = cell_after who (w.cells i) m in
     cells_ok cells w (put w.cells i new) ok

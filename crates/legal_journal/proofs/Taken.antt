@@ -44,7 +44,7 @@ module _ (w : State) (may : ℕ → Entry → Type 0) (cells who by j t : ℕ) (
   }
   own_move (Misses u) a = record { own = own; carried = refl }
 
-own_step : (w : State) (may : ℕ → Entry → Type 0) (floor : List Entry → ℕ) (cells who by i t : ℕ) (r : Running) (m : Move) → by ≢ who → StateOk cells w → IsOwn (w.cells i) who t r → IsAllowed w may floor cells by m → Keeps ((after w by m).cells i) who t ((w.cells i).carried t) r
+own_step : (w : State) (may : ℕ → Entry → Type 0) (floor : List Entry → ℕ → Type 0) (cells who by i t : ℕ) (r : Running) (m : Move) → by ≢ who → StateOk cells w → IsOwn (w.cells i) who t r → IsAllowed w may floor cells by m → Keeps ((after w by m).cells i) who t ((w.cells i).carried t) r
 own_step w may floor cells who by i t r (OnCell j m) apart ok own a =
     put_cases (λ (c : CellState). Keeps c who t ((w.cells i).carried t) r) w.cells j (cell_after by (w.cells j) m) i
     (λ e. let at : IsOwn (w.cells j) who t r = subst (λ k. IsOwn (w.cells k) who t r) e own in
@@ -55,7 +55,7 @@ own_step w may floor cells who by i t r Nothing apart ok own a = record { own = 
 own_step w may floor cells who by i t r Never apart ok own a = absurd a
 
 -- events of others leave an own ticket open, and don't count
-pub own_stays : (w : State) (may : ℕ → Entry → Type 0) (floor : List Entry → ℕ) (shelf : List ℕ) (who i t : ℕ) (r : Running) (es : List Event) → AreOthers who es → StateOk (length shelf) w → IsLegalFrom w may floor shelf es → IsOwn (w.cells i) who t r → Keeps ((after_all w es).cells i) who t ((w.cells i).carried t) r
+pub own_stays : (w : State) (may : ℕ → Entry → Type 0) (floor : List Entry → ℕ → Type 0) (shelf : List ℕ) (who i t : ℕ) (r : Running) (es : List Event) → AreOthers who es → StateOk (length shelf) w → IsLegalFrom w may floor shelf es → IsOwn (w.cells i) who t r → Keeps ((after_all w es).cells i) who t ((w.cells i).carried t) r
 own_stays w may floor shelf who i t r [] apart ok legal own = record { own = own; carried = refl }
 own_stays w may floor shelf who i t r (e ∷ es) apart ok legal own =
     let one = own_step w may floor (length shelf) who e.who i t r (move e) apart.0 ok own legal.0.allowed in
@@ -63,7 +63,7 @@ own_stays w may floor shelf who i t r (e ∷ es) apart ok legal own =
     record { own = rest.own; carried = rest.carried ∙ one.carried }
 
 -- a turn with one own event: the moment before it, and what the event does there
-pub record Took (may : ℕ → Entry → Type 0) (floor : List Entry → ℕ) (shelf : List ℕ) (old others : List Event) (e : Event) (new : List Event) : Type 0 where
+pub record Took (may : ℕ → Entry → Type 0) (floor : List Entry → ℕ → Type 0) (shelf : List ℕ) (old others : List Event) (e : Event) (new : List Event) : Type 0 where
   pub ok : StateOk (length shelf) (state_of (old ++ others))
   pub before : Continues (state_of old) (state_of (old ++ others))
   pub legal_others : IsLegalFrom (state_of old) may floor shelf others
@@ -72,7 +72,7 @@ pub record Took (may : ℕ → Entry → Type 0) (floor : List Entry → ℕ) (s
   pub now_ok : StateOk (length shelf) (state_of new)
   pub goes : Continues (state_of (old ++ others)) (state_of new)
 
-pub took : (may : ℕ → Entry → Type 0) (floor : List Entry → ℕ) (shelf : List ℕ) (old others : List Event) (e : Event) (new : List Event) → IsLegal may floor shelf new → new ≡ (old ++ others) ++ e ∷ [] → Took may floor shelf old others e new
+pub took : (may : ℕ → Entry → Type 0) (floor : List Entry → ℕ → Type 0) (shelf : List ℕ) (old others : List Event) (e : Event) (new : List Event) → IsLegal may floor shelf new → new ≡ (old ++ others) ++ e ∷ [] → Took may floor shelf old others e new
 took may floor shelf old others e new legal is =
     let whole : IsLegal may floor shelf ((old ++ others) ++ e ∷ []) = subst (IsLegal may floor shelf) is legal in
     let front = legal_front may floor shelf (old ++ others) (e ∷ []) whole in

@@ -210,13 +210,13 @@ pub record Raises (old new : Chain) : Type 0 where
 abbrev pub Shows : (ℕ → Option Entry) → List Entry → Type 0
 Shows shown es = (i : ℕ) → i < length es → shown i ≡ slice_get es i
 
--- what the log shows has a beginning whose floor is no lower than n
-pub record IsFree (shown : ℕ → Option Entry) (floor : List Entry → ℕ) (n : ℕ) : Type 0 where
+-- what the log shows has a beginning that lets it be trimmed to n
+pub record IsFree (shown : ℕ → Option Entry) (floor : List Entry → ℕ → Type 0) (n : ℕ) : Type 0 where
   pub log : List Entry
   pub shows : Shows shown log
-  pub above : n ≤ floor log
+  pub free : floor log n
 
-abbrev pub MayFollow : State → (List Entry → ℕ) → ℕ → Chain → Chain → Type 0
+abbrev pub MayFollow : State → (List Entry → ℕ → Type 0) → ℕ → Chain → Chain → Type 0
 MayFollow w floor cells old new = Extends (ends w.cells) cells old new ⊎ (Raises old new × IsFree w.shown floor new.trim)
 
 -- what the register may tell: what is known, or that the write that faulted stands
@@ -256,7 +256,7 @@ CellAllowed w may cells who i (Answers t a) =
 CellAllowed w may cells who i (Drops t) = (r : Running) × IsOwn (w.cells i) who t r
 CellAllowed w may cells who i (Misses t) = (w.cells i).told.ops t ≡ None
 
-abbrev pub RegisterAllowed : State → (List Entry → ℕ) → ℕ → RegisterMove → Type 0
+abbrev pub RegisterAllowed : State → (List Entry → ℕ → Type 0) → ℕ → RegisterMove → Type 0
 RegisterAllowed w floor cells (Gives v c) = (w.register.down ≡ false) × IsCurrent w.register v c
 RegisterAllowed w floor cells (Conflicts x v c) =
     (w.register.down ≡ false) × IsCurrent w.register v c × (x ≢ v)
@@ -267,7 +267,7 @@ RegisterAllowed w floor cells (Faults x c) =
 RegisterAllowed w floor cells Fails = w.register.down ≡ true
 RegisterAllowed w floor cells (Mends b) = Unit {0}
 
-abbrev pub IsAllowed : State → (ℕ → Entry → Type 0) → (List Entry → ℕ) → ℕ → ℕ → Move → Type 0
+abbrev pub IsAllowed : State → (ℕ → Entry → Type 0) → (List Entry → ℕ → Type 0) → ℕ → ℕ → Move → Type 0
 IsAllowed w may floor cells who (OnCell i m) = CellAllowed w may cells who i m
 IsAllowed w may floor cells who (OnRegister m) = RegisterAllowed w floor cells m
 IsAllowed w may floor cells who Nothing = Unit {0}
@@ -291,18 +291,18 @@ Exists shelf (StopMeta n) = Unit {0}
 Exists shelf (MendMeta word) = Unit {0}
 
 -- the event may follow
-pub record MayHappen (w : State) (may : ℕ → Entry → Type 0) (floor : List Entry → ℕ) (shelf : List ℕ) (e : Event) : Type 0 where
+pub record MayHappen (w : State) (may : ℕ → Entry → Type 0) (floor : List Entry → ℕ → Type 0) (shelf : List ℕ) (e : Event) : Type 0 where
   pub there : Exists shelf e.call
   pub allowed : IsAllowed w may floor (length shelf) e.who (move e)
 
 -- each event may follow those before it
-abbrev pub IsLegalFrom : State → (ℕ → Entry → Type 0) → (List Entry → ℕ) → List ℕ → List Event → Type 0
+abbrev pub IsLegalFrom : State → (ℕ → Entry → Type 0) → (List Entry → ℕ → Type 0) → List ℕ → List Event → Type 0
 IsLegalFrom w may floor shelf [] = Unit {0}
 IsLegalFrom w may floor shelf (e ∷ es) =
     MayHappen w may floor shelf e × IsLegalFrom (after w e.who (move e)) may floor shelf es
 
 -- a journal over a shelf of 1 to 64 cells, each event of which may follow those before it
-pub record IsLegal (may : ℕ → Entry → Type 0) (floor : List Entry → ℕ) (shelf : List ℕ) (es : List Event) : Type 0 where
+pub record IsLegal (may : ℕ → Entry → Type 0) (floor : List Entry → ℕ → Type 0) (shelf : List ℕ) (es : List Event) : Type 0 where
   pub least : 0 < length shelf
   pub most : length shelf ≤ 64
   pub steps : IsLegalFrom start may floor shelf es

@@ -16,7 +16,7 @@ abbrev pub IsOwner : State → ℕ → ℕ → ℕ → Type 0
 IsOwner w who i t = (r : Running) → (w.cells i).told.ops t ≡ Some r → (w.cells i).owner t ≡ who
 
 -- who may ask for this
-abbrev pub MayAsk : State → (ℕ → Entry → Type 0) → (List Entry → ℕ) → ℕ → ℕ → FabricCall → Type 0
+abbrev pub MayAsk : State → (ℕ → Entry → Type 0) → (List Entry → ℕ → Type 0) → ℕ → ℕ → FabricCall → Type 0
 MayAsk w may floor cells who (Begin i op) = MayBegin w may cells who i op
 MayAsk w may floor cells who (Carry i t word) = IsOwner w who i t
 MayAsk w may floor cells who (Forget i t) = IsOwner w who i t
@@ -29,7 +29,7 @@ MayAsk w may floor cells who (StopMeta n) = Unit {0}
 MayAsk w may floor cells who (MendMeta word) = Unit {0}
 
 -- who may make this call
-pub record MayCall (w : State) (may : ℕ → Entry → Type 0) (floor : List Entry → ℕ) (shelf : List ℕ) (who : ℕ) (call : FabricCall) : Type 0 where
+pub record MayCall (w : State) (may : ℕ → Entry → Type 0) (floor : List Entry → ℕ → Type 0) (shelf : List ℕ) (who : ℕ) (call : FabricCall) : Type 0 where
   pub there : Exists shelf call
   pub asks : MayAsk w may floor (length shelf) who call
 
@@ -39,7 +39,7 @@ AreOthers who [] = Unit {0}
 AreOthers who (e ∷ es) = (e.who ≢ who) × AreOthers who es
 
 -- whatever legal events of others come before it
-abbrev pub MayTurn : (ℕ → Entry → Type 0) → (List Entry → ℕ) → List ℕ → ℕ → List Event → FabricCall → Type 0
+abbrev pub MayTurn : (ℕ → Entry → Type 0) → (List Entry → ℕ → Type 0) → List ℕ → ℕ → List Event → FabricCall → Type 0
 MayTurn may floor shelf who seen call =
     (others : List Event) → AreOthers who others → IsLegal may floor shelf (seen ++ others)
     → MayCall (state_of (seen ++ others)) may floor shelf who call
@@ -56,7 +56,7 @@ OwnEvents who call Memory own = own ≡ []
 OwnEvents who call answer own = own ≡ record { who = who; call = call; answer = answer } ∷ []
 
 -- what is seen after a turn: what was seen, events of others, and the own event; all of it is legal
-pub record IsTurn (may : ℕ → Entry → Type 0) (floor : List Entry → ℕ) (shelf : List ℕ) (who : ℕ) (old : List Event) (call : FabricCall) (answer : FabricAnswer) (new : List Event) : Type 0 where
+pub record IsTurn (may : ℕ → Entry → Type 0) (floor : List Entry → ℕ → Type 0) (shelf : List ℕ) (who : ℕ) (old : List Event) (call : FabricCall) (answer : FabricAnswer) (new : List Event) : Type 0 where
   pub others : List Event
   pub own : List Event
   pub apart : AreOthers who others

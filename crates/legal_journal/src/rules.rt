@@ -10,8 +10,8 @@ pub trait Rules {
     /// Who may seal a loglet.
     ghost seals: { ℕ → Type 0 };
 
-    /// Up to where the log may be trimmed, where it shows these entries from position 0 on.
-    ghost floor: { List Entry → ℕ };
+    /// To which positions the log may be trimmed, where it shows these entries from position 0 on.
+    ghost floor: { List Entry → ℕ → Type 0 };
 
     /// The numbers of servers of the cells.
     ghost shelf: { List ℕ };

@@ -61,7 +61,7 @@ alone_more who j now call answer h a =
           (by_more who (drop (who - 2) j) a.own (h.by l) (own_by who call answer a.own a.event));
     }
 
-module _ (may : ℕ → Entry → Type 0) (floor : List Entry → ℕ) (shelf : List ℕ) where
+module _ (may : ℕ → Entry → Type 0) (floor : List Entry → ℕ → Type 0) (shelf : List ℕ) where
   pub nothing_apart : (old new : List Event) → new ≡ old → IsLegal may floor shelf new → ActsApart may floor shelf old new
   nothing_apart old new is legal = record { others = []; apart = tt; seen = is ∙ nil old; legal = legal }
 

@@ -13,13 +13,13 @@ use Rattle.legal_journal.proofs.Cells.{put_same}
 use Rattle.legal_journal.proofs.Legal.{goes_on}
 
 -- any position may be trimmed
-pub any_free : (shown : ℕ → Option Entry) (n : ℕ) → n ≤ 2 ^ 38 → IsFree shown (λ _. 2 ^ 38) n
-any_free shown n h = record { log = []; shows = λ i l. absurd (omega (arith, l)); above = h }
+pub any_free : (shown : ℕ → Option Entry) (n : ℕ) → n ≤ 2 ^ 38 → IsFree shown (λ _ m. m ≤ 2 ^ 38) n
+any_free shown n h = record { log = []; shows = λ i l. absurd (omega (arith, l)); free = h }
 
 -- the first chain, which every journal gave, may be written with a higher trim
-pub may_raise_first : (may : ℕ → Entry → Type 0) (shelf : List ℕ) (who : ℕ) (old : List Event) (n : ℕ) (c d : Chain) → c ≡ first_chain → d ≡ dropped_below c n → 0 < n → n ≤ 2 ^ 38 → MayTurn may (λ _. 2 ^ 38) shelf who old (WriteChain 1 d)
+pub may_raise_first : (may : ℕ → Entry → Type 0) (shelf : List ℕ) (who : ℕ) (old : List Event) (n : ℕ) (c d : Chain) → c ≡ first_chain → d ≡ dropped_below c n → 0 < n → n ≤ 2 ^ 38 → MayTurn may (λ _ m. m ≤ 2 ^ 38) shelf who old (WriteChain 1 d)
 may_raise_first may shelf who old n c d first is up low others apart legal =
-    let on = goes_on may (λ _. 2 ^ 38) shelf [] (old ++ others) legal in
+    let on = goes_on may (λ _ m. m ≤ 2 ^ 38) shelf [] (old ++ others) legal in
     let trim : n ≡ d.trim = ap (λ (x : Chain). x.trim) (sym is) in
     let above : c.trim < n = omega (arith, up, ap (λ (x : Chain). x.trim) first) in
     record {

@@ -22,7 +22,7 @@ pub record IsAlone (who : ℕ) (journal : List Event) : Type 0 where
   pub by : 0 < who → AreBy who (drop (who - 2) journal)
 
 -- events of others than the first user were added
-pub record ActsApart (may : ℕ → Entry → Type 0) (floor : List Entry → ℕ) (shelf : List ℕ) (old new : List Event) : Type 0 where
+pub record ActsApart (may : ℕ → Entry → Type 0) (floor : List Entry → ℕ → Type 0) (shelf : List ℕ) (old new : List Event) : Type 0 where
   pub others : List Event
   pub apart : AreOthers 1 others
   pub seen : new ≡ old ++ others

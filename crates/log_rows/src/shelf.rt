@@ -29,13 +29,13 @@ use virtual_log::log::VirtualLog;
 pub struct Anyone;
 
 impl Rules for Anyone {
-    ghost use Rattle.std.specs.Prelude.{[], ◌∷◌};
+    ghost use Rattle.std.specs.Prelude.{[], ◌∷◌, ◌≤◌};
 
     ghost may = { λ _ _. Unit {0} };
 
     ghost seals = { λ _. Unit {0} };
 
-    ghost floor = { λ _. 0 };
+    ghost floor = { λ _ n. n ≤ 0 };
 
     ghost shelf = { 1 ∷ [] };
 }
@@ -45,13 +45,13 @@ impl Rules for Anyone {
 pub struct Free;
 
 impl Rules for Free {
-    ghost use Rattle.std.specs.Prelude.{[], ◌∷◌, ◌^◌};
+    ghost use Rattle.std.specs.Prelude.{[], ◌∷◌, ◌^◌, ◌≤◌};
 
     ghost may = { λ _ _. Unit {0} };
 
     ghost seals = { λ _. Unit {0} };
 
-    ghost floor = { λ _. 2 ^ 38 };
+    ghost floor = { λ _ n. n ≤ 2 ^ 38 };
 
     ghost shelf = { 1 ∷ 1 ∷ 1 ∷ [] };
 }

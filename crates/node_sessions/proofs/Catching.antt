@@ -90,7 +90,7 @@ some_at [] n h = absurd (omega arith)
 some_at (x ∷ xs) zero h = (x, refl)
 some_at (x ∷ xs) (suc n) h = some_at xs n (omega arith)
 
-module _ (may : ℕ → Entry → Type 0) (floor : List Entry → ℕ) (shelf : List ℕ) where
+module _ (may : ℕ → Entry → Type 0) (floor : List Entry → ℕ → Type 0) (shelf : List ℕ) where
   -- an entry that was held at a moment stands in a later front that reaches that moment's tail
   pub held_stands : (early seen : List Event) (log : List Entry) (e : Entry) → IsLegal may floor shelf seen → Extends early seen → tail_of (state_of early) ≤ length log → IsFront Holds seen log → IsHeld early e → (p : ℕ) × (slice_get log p ≡ Some e)
   held_stands early seen log e legal on reached front h =

@@ -33,7 +33,7 @@ none_queued : (a n : ℕ) → [] ≡ numbers a n → n ≡ 0
 none_queued a zero h = refl
 none_queued a (suc n) h = absurd (cc)
 
-module _ (may : ℕ → Entry → Type 0) (floor : List Entry → ℕ) (shelf : List ℕ) (low : (log : List Entry) → floor log ≤ length log) where
+module _ (may : ℕ → Entry → Type 0) (floor : List Entry → ℕ → Type 0) (shelf : List ℕ) (low : (log : List Entry) (n : ℕ) → floor log n → n ≤ length log) where
   -- All that a session asked was flushed and settled, and it was given no cause. In the state at a tail that was found then
   -- just that has acted.
   pub looks_whole : (who origin s sent tail : ℕ) (old flushed settled seen : List Event) (o was is : OutboxView) (cause : Option Cause) (kept kept' : List Item) (log : List Entry) → IsLegal may floor shelf seen

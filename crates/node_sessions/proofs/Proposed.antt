@@ -48,7 +48,7 @@ clears_tail cells w pos ok h =
     let x = h (last_segment w).id (last_segment w).start ok.last in
     omega (arith, x, open_tail cells w ok)
 
-module _ (may : ℕ → Entry → Type 0) (floor : List Entry → ℕ) (shelf : List ℕ) where
+module _ (may : ℕ → Entry → Type 0) (floor : List Entry → ℕ → Type 0) (shelf : List ℕ) where
   -- a tail that was found isn't below that of the moment before
   pub above_tail : (who pos : ℕ) (old new : List Event) → IsLegal may floor shelf new → IsAbove who old pos new → tail_of (state_of old) ≤ pos
   above_tail who pos old new legal h =
@@ -72,7 +72,7 @@ module _ (may : ℕ → Entry → Type 0) (floor : List Entry → ℕ) (shelf : 
       let reached = above_tail who tail early seen legal above in
       landed_acted may floor shelf early seen log s n legal (above_extends who tail early seen above) (omega (arith, reached, size)) front all
 
-module _ (may : ℕ → Entry → Type 0) (floor : List Entry → ℕ) (shelf : List ℕ) (low : (log : List Entry) → floor log ≤ length log) where
+module _ (may : ℕ → Entry → Type 0) (floor : List Entry → ℕ → Type 0) (shelf : List ℕ) (low : (log : List Entry) (n : ℕ) → floor log n → n ≤ length log) where
   -- The next command of a session isn't left out.
   not_far : (who s sent : ℕ) (old new : List Event) (was is : OutboxView) (v v' : ReplicaView) (item : Item) (log : List Entry) (c : Option Command) → IsLegal may floor shelf new → cause_in s is.given ≡ None → s ≤ 63
       → length v.kept ≤ 15 → under 2 item ≡ Some (Session s (sent + 1) c) → IsGiven old was.entries v.kept s sent

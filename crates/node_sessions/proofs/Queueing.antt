@@ -85,7 +85,7 @@ length-snoc : (xs : List Item) (x : Item) → length (xs ++ x ∷ []) ≡ length
 length-snoc [] x = refl
 length-snoc (y ∷ ys) x = ap suc (length-snoc ys x) ∙ (let e : suc (length ys + 1) ≡ length (y ∷ ys) + 1 = omega arith in e)
 
-module _ (may : ℕ → Entry → Type 0) (floor : List Entry → ℕ) (shelf : List ℕ) (low : (log : List Entry) → floor log ≤ length log) where
+module _ (may : ℕ → Entry → Type 0) (floor : List Entry → ℕ → Type 0) (shelf : List ℕ) (low : (log : List Entry) (n : ℕ) → floor log n → n ≤ length log) where
   -- The next command of a session went down, and the session was given no cause.
   pub sent_given : (who origin s sent : ℕ) (old new : List Event) (was is : OutboxView) (kept kept' : List Item) (item : Item) → IsLegal may floor shelf new → cause_in s is.given ≡ None
       → All IsProposable kept → IsProposable item → rank_under s (content_of item) ≡ Some (sent + 1)

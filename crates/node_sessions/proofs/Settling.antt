@@ -99,7 +99,7 @@ settles-extends who old new [] given before after h = ([], h.0 ∙ nil old)
 settles-extends who old new (e ∷ es) given before after h =
     extends-trans old h.0 new (meets-extends who old h.0 e h.1 h.3) (settles-extends who h.0 new es h.2 (first_cause before h.1) after h.5)
 
-module _ (may : ℕ → Entry → Type 0) (floor : List Entry → ℕ) (shelf : List ℕ) (low : (log : List Entry) → floor log ≤ length log) where
+module _ (may : ℕ → Entry → Type 0) (floor : List Entry → ℕ → Type 0) (shelf : List ℕ) (low : (log : List Entry) (n : ℕ) → floor log n → n ≤ length log) where
   -- what is held is held at every later moment
   pub held_later : (old new : List Event) (e : Entry) → IsLegal may floor shelf new → Extends old new → IsHeld old e → IsHeld new e
   held_later old new e legal on h =

@@ -31,14 +31,14 @@ use legal_journal::rules::Rules;
 
 /// Where entries were settled, and the session was given no cause, its commands are under way still.
 pub fn what_is_given_stays_given<P: Rules>()
-    ensures { ((log : List Entry) → P.floor log ≤ length log) → (who s sent : ℕ) (old new : List Event) (was is : OutboxView) (kept : List Item)
+    ensures { ((log : List Entry) (n : ℕ) → P.floor log n → n ≤ length log) → (who s sent : ℕ) (old new : List Event) (was is : OutboxView) (kept : List Item)
         → IsLegal P.may P.floor P.shelf new → cause_in s is.given ≡ None → Settled Holds who old was new is
         → IsGiven old was.entries kept s sent → IsGiven new is.entries kept s sent }
 {}
 
 /// Where all entries were settled, and the session was given no cause, what was under way has landed.
 pub fn what_is_settled_has_landed<P: Rules>()
-    ensures { ((log : List Entry) → P.floor log ≤ length log) → (who s r : ℕ) (old new : List Event) (was is : OutboxView)
+    ensures { ((log : List Entry) (n : ℕ) → P.floor log n → n ≤ length log) → (who s r : ℕ) (old new : List Event) (was is : OutboxView)
         → IsLegal P.may P.floor P.shelf new → cause_in s is.given ≡ None → is.entries ≡ [] → Settled Holds who old was new is
         → IsUnderWay old was.entries s r → HasLanded new s r }
 {}
@@ -46,11 +46,11 @@ pub fn what_is_settled_has_landed<P: Rules>()
 /// The session's next command went down: all of its commands so far are given. An item that is none of its commands
 /// changes nothing of that.
 pub fn what_goes_down_is_given<P: Rules>()
-    ensures own { ((log : List Entry) → P.floor log ≤ length log) → (who origin s sent : ℕ) (old new : List Event) (was is : OutboxView) (kept kept' : List Item) (item : Item)
+    ensures own { ((log : List Entry) (n : ℕ) → P.floor log n → n ≤ length log) → (who origin s sent : ℕ) (old new : List Event) (was is : OutboxView) (kept kept' : List Item) (item : Item)
         → IsLegal P.may P.floor P.shelf new → cause_in s is.given ≡ None → All IsProposable kept → IsProposable item → rank_under s (content_of item) ≡ Some (sent + 1)
         → Sent Holds who old was (λ packed. Queues origin kept item packed kept') new is
         → IsGiven old was.entries kept s sent → IsGiven new is.entries kept' s (sent + 1) }
-    ensures other { ((log : List Entry) → P.floor log ≤ length log) → (who origin s sent : ℕ) (old new : List Event) (was is : OutboxView) (kept kept' : List Item) (item : Item)
+    ensures other { ((log : List Entry) (n : ℕ) → P.floor log n → n ≤ length log) → (who origin s sent : ℕ) (old new : List Event) (was is : OutboxView) (kept kept' : List Item) (item : Item)
         → IsLegal P.may P.floor P.shelf new → cause_in s is.given ≡ None → All IsProposable kept → IsProposable item → rank_under s (content_of item) ≡ None
         → Sent Holds who old was (λ packed. Queues origin kept item packed kept') new is
         → IsGiven old was.entries kept s sent → IsGiven new is.entries kept' s sent }
@@ -58,7 +58,7 @@ pub fn what_goes_down_is_given<P: Rules>()
 
 /// What waited was packed: the session's commands are under way.
 pub fn what_is_flushed_is_given<P: Rules>()
-    ensures { ((log : List Entry) → P.floor log ≤ length log) → (who origin s sent : ℕ) (old new : List Event) (was is : OutboxView) (kept kept' : List Item)
+    ensures { ((log : List Entry) (n : ℕ) → P.floor log n → n ≤ length log) → (who origin s sent : ℕ) (old new : List Event) (was is : OutboxView) (kept kept' : List Item)
         → IsLegal P.may P.floor P.shelf new → cause_in s is.given ≡ None → All IsProposable kept → length kept ≤ 15
         → Sent Holds who old was (λ packed. Flushes origin kept packed kept') new is
         → IsGiven old was.entries kept s sent → IsGiven new is.entries kept' s sent }
@@ -80,7 +80,7 @@ pub fn what_has_acted_was_sent<P: Rules>()
 /// A session's next command was proposed, and the session was given no cause: it isn't left out, so all of its commands so
 /// far are given. The node's state is that of a front of the log, which isn't trimmed behind it.
 pub fn what_is_proposed_is_given<P: Rules>()
-    ensures { ((log : List Entry) → P.floor log ≤ length log) → (who s sent : ℕ) (old new : List Event) (was is : OutboxView) (v v' : ReplicaView) (item : Item) (log : List Entry) (c : Option Command)
+    ensures { ((log : List Entry) (n : ℕ) → P.floor log n → n ≤ length log) → (who s sent : ℕ) (old new : List Event) (was is : OutboxView) (v v' : ReplicaView) (item : Item) (log : List Entry) (c : Option Command)
         → IsLegal P.may P.floor P.shelf new → cause_in s is.given ≡ None → s ≤ 63 → All IsProposable v.kept → length v.kept ≤ 15
         → IsProposable item → under 2 item ≡ Some (Content.Session s (sent + 1) c) → rank_under s (content_of item) ≡ Some (sent + 1)
         → length log ≡ v'.cursor → IsFront Holds new log → IsStateOf log v'.contents → (IsTrimmed new v'.cursor → ⊥)
@@ -96,7 +96,7 @@ pub fn what_has_landed_is_found<P: Rules>()
 /// All that a session asked was flushed and settled, and it was given no cause: in the state at a tail that was found then
 /// just that has acted. So a read that looks there sees each earlier command of its session, and none of a later line.
 pub fn a_read_sees_its_session<P: Rules>()
-    ensures { ((log : List Entry) → P.floor log ≤ length log) → (who origin s sent tail : ℕ) (old flushed settled seen : List Event) (o was is : OutboxView) (cause : Option Cause) (kept kept' : List Item) (log : List Entry)
+    ensures { ((log : List Entry) (n : ℕ) → P.floor log n → n ≤ length log) → (who origin s sent tail : ℕ) (old flushed settled seen : List Event) (o was is : OutboxView) (cause : Option Cause) (kept kept' : List Item) (log : List Entry)
         → IsLegal P.may P.floor P.shelf seen → All IsProposable kept → length kept ≤ 15 → IsGiven old o.entries kept s sent
         → Sent Holds who old o (λ packed. Flushes origin kept packed kept') flushed was → Answers Holds who flushed was cause settled is → cause_in s is.given ≡ None
         → IsAbove who settled tail seen → length log ≡ tail → IsFront Holds seen log → ((user : ℕ) (e : Entry) (r : ℕ) → P.may user e → HasRank s r e → r ≤ sent)

@@ -49,7 +49,7 @@ some_at [] n h = absurd (omega arith)
 some_at (x ∷ xs) zero h = (x, refl)
 some_at (x ∷ xs) (suc n) h = some_at xs n (omega arith)
 
-module _ (may : ℕ → Entry → Type 0) (floor : List Entry → ℕ) (cells : ℕ) (low : (log : List Entry) → floor log ≤ length log) where
+module _ (may : ℕ → Entry → Type 0) (floor : List Entry → ℕ → Type 0) (cells : ℕ) (low : (log : List Entry) (n : ℕ) → floor log n → n ≤ length log) where
   follows_trimmed : (w : State) (c : Chain) → StateOk cells w → Trimmed w → MayFollow w floor cells w.register.chain c → c.trim ≤ tail_of w
   follows_trimmed w c ok t (inl x) = omega (arith, t.now, ap (λ (k : Chain). k.trim) x.is)
   follows_trimmed w c ok t (inr x) = by_number c.trim refl
@@ -58,7 +58,7 @@ module _ (may : ℕ → Entry → Type 0) (floor : List Entry → ℕ) (cells : 
       by_number zero is = omega (arith, is)
       by_number (suc n) is =
           let free = x.1 in
-          let inside : n < length free.log = omega (arith, is, free.above, low free.log) in
+          let inside : n < length free.log = omega (arith, is, low free.log c.trim free.free) in
           let e = some_at free.log n inside in
           ⊎_elim
           (λ (h : n < trim_of w). omega (arith, is, h, t.now))
@@ -96,12 +96,12 @@ module _ (may : ℕ → Entry → Type 0) (floor : List Entry → ℕ) (cells : 
   step_trimmed w who Nothing ok t a = t
   step_trimmed w who Never ok t a = absurd a
 
-all_trimmed : (may : ℕ → Entry → Type 0) (floor : List Entry → ℕ) (shelf : List ℕ) (low : (log : List Entry) → floor log ≤ length log) (w : State) (es : List Event) → StateOk (length shelf) w → Trimmed w → IsLegalFrom w may floor shelf es → Trimmed (after_all w es)
+all_trimmed : (may : ℕ → Entry → Type 0) (floor : List Entry → ℕ → Type 0) (shelf : List ℕ) (low : (log : List Entry) (n : ℕ) → floor log n → n ≤ length log) (w : State) (es : List Event) → StateOk (length shelf) w → Trimmed w → IsLegalFrom w may floor shelf es → Trimmed (after_all w es)
 all_trimmed may floor shelf low w [] ok t h = t
 all_trimmed may floor shelf low w (e ∷ es) ok t h =
     all_trimmed may floor shelf low (after w e.who (move e)) es (step_ok may floor (length shelf) w e.who (move e) ok h.0.allowed).0 (step_trimmed may floor (length shelf) low w e.who (move e) ok t h.0.allowed) h.1
 
-module _ (may : ℕ → Entry → Type 0) (floor : List Entry → ℕ) (shelf : List ℕ) (low : (log : List Entry) → floor log ≤ length log) where
+module _ (may : ℕ → Entry → Type 0) (floor : List Entry → ℕ → Type 0) (shelf : List ℕ) (low : (log : List Entry) (n : ℕ) → floor log n → n ≤ length log) where
   pub trim_below : (es : List Event) → IsLegal may floor shelf es → trim_of (state_of es) ≤ tail_of (state_of es)
   trim_below es legal = (all_trimmed may floor shelf low start es (start_ok (length shelf) legal.least legal.most) (record { now = omega arith; asked = λ c is. absurd (cc) }) legal.steps).now
 

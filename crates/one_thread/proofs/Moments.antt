@@ -49,7 +49,7 @@ module _ (may : ℕ → Entry → Type 0) where
   cell_sent w cells who i n (Drops t) e f a h = f i n e h
   cell_sent w cells who i n (Misses t) e f a h = f i n e h
 
-  step_sent : (w : State) (floor : List Entry → ℕ) (cells who : ℕ) (m : Move) → AllSent w → IsAllowed w may floor cells who m → AllSent (after w who m)
+  step_sent : (w : State) (floor : List Entry → ℕ → Type 0) (cells who : ℕ) (m : Move) → AllSent w → IsAllowed w may floor cells who m → AllSent (after w who m)
   step_sent w floor cells who (OnCell i m) f a = λ j n e h.
       put_cases (λ (c : CellState). slice_get c.entries n ≡ Some e → IsSent e) w.cells i (cell_after who (w.cells i) m) j
       (λ same k. cell_sent w cells who i n m e f a k)
@@ -58,18 +58,18 @@ module _ (may : ℕ → Entry → Type 0) where
   step_sent w floor cells who Nothing f a = f
   step_sent w floor cells who Never f a = f
 
-  all_sent : (floor : List Entry → ℕ) (shelf : List ℕ) (w : State) (es : List Event) → AllSent w → IsLegalFrom w may floor shelf es → AllSent (after_all w es)
+  all_sent : (floor : List Entry → ℕ → Type 0) (shelf : List ℕ) (w : State) (es : List Event) → AllSent w → IsLegalFrom w may floor shelf es → AllSent (after_all w es)
   all_sent floor shelf w [] f h = f
   all_sent floor shelf w (e ∷ es) f h = all_sent floor shelf (after w e.who (move e)) es (step_sent w floor (length shelf) e.who (move e) f h.0.allowed) h.1
 
   -- what a log holds was somebody's to append
-  pub held_sent : (floor : List Entry → ℕ) (shelf : List ℕ) (es : List Event) (pos : ℕ) (e : Entry) → IsLegal may floor shelf es → Holds es pos e → (who : ℕ) × may who e
+  pub held_sent : (floor : List Entry → ℕ → Type 0) (shelf : List ℕ) (es : List Event) (pos : ℕ) (e : Entry) → IsLegal may floor shelf es → Holds es pos e → (who : ℕ) × may who e
   held_sent floor shelf es pos e legal h =
       let w = state_of es in
       let f = found_in (reach w.cells) (entries w.cells) h.chain.segments pos e h.entry in
       all_sent floor shelf start es (λ i n x k. absurd (cc)) legal.steps f.segment.id _ e f.entry
 
-module _ (may : ℕ → Entry → Type 0) (floor : List Entry → ℕ) (shelf : List ℕ) (low : (log : List Entry) → floor log ≤ length log) where
+module _ (may : ℕ → Entry → Type 0) (floor : List Entry → ℕ → Type 0) (shelf : List ℕ) (low : (log : List Entry) (n : ℕ) → floor log n → n ≤ length log) where
   -- what a log holds below the tail of an earlier moment it held then
   pub held_before : (early late : List Event) (pos : ℕ) (e : Entry) → IsLegal may floor shelf (early ++ late) → pos < tail_of (state_of early) → Holds (early ++ late) pos e → Holds early pos e
   held_before early late pos e legal below h =

@@ -25,10 +25,11 @@ pub record Since (who : ℕ) (old new : List Event) : Type 0 where
   pub seen : new ≡ old ++ more
   pub own : AreOwn who more
 
--- The journal is legal by what the scope has, which the terms allow; each event since the scope began is who's; and a Seal was
+-- The journal is legal by what the scope has and how far it trims, which the terms allow; each event since the scope began is who's; and a Seal was
 -- begun since then only where the scope lets who seal.
-pub record IsAlone (may sends : ℕ → Entry → Type 0) (seals : ℕ → Type 0) (floor : List Entry → ℕ) (shelf : List ℕ) (since : List Event) (who : ℕ) (journal : List Event) : Type 0 where
-  pub legal : IsLegal sends floor shelf journal
+pub record IsAlone (may sends : ℕ → Entry → Type 0) (seals : ℕ → Type 0) (floor low : List Entry → ℕ → Type 0) (shelf : List ℕ) (since : List Event) (who : ℕ) (journal : List Event) : Type 0 where
+  pub legal : IsLegal sends low shelf journal
   pub narrower : (user : ℕ) (e : Entry) → sends user e → may user e
+  pub lower : (log : List Entry) (n : ℕ) → low log n → floor log n
   pub own : Since who since journal
   pub right : SealsBy (seals who) since journal

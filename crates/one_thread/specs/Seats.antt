@@ -22,7 +22,7 @@ abbrev pub node_of : SeatView → List Event → NodeView
 node_of s journal = awake s.node s.who journal s.log.known
 
 -- it can take the fabric with this journal
-pub record SeatOk (may : ℕ → Entry → Type 0) (floor : List Entry → ℕ) (shelf : List ℕ) (state : List Entry → SpaceMap → Type 0) (spells : List ℕ → Saved → Type 0) (journal : List Event) (s : SeatView) : Type 0 where
+pub record SeatOk (may : ℕ → Entry → Type 0) (floor : List Entry → ℕ → Type 0) (shelf : List ℕ) (state : List Entry → SpaceMap → Type 0) (spells : List ℕ → Saved → Type 0) (journal : List Event) (s : SeatView) : Type 0 where
   pub shelf_is : s.log.shelf_len ≡ length shelf
   pub goes_by : GoesBy (state_of journal) s.log.version s.log.chain s.log.known
   pub node : NodeOk may floor shelf Holds state spells (node_of s journal)

@@ -15,7 +15,7 @@ use register_api::Register;
 use std::marker::{Model, PhantomData};
 
 /// The fabric in the hands of one user. Since it has it, each event is its own, each entry that it appended is one that
-/// the scope has, and it began a Seal only if the scope lets it.
+/// the scope has, it trimmed the log only where the scope lets it, and it began a Seal only if the scope lets it.
 #[derive(Drop)]
 pub struct Alone<L: Loglet, R: Register, K: Terms, Q: Scope> {
     who: u32,
@@ -30,14 +30,15 @@ impl<L: Loglet, R: Register, K: Terms, Q: Scope> Model for Alone<L, R, K, Q> {
 
     ghost view = { λ a. record { who = a.who; cells = a.fabric.cells; register = a.fabric.register; journal = a.fabric.journal } };
 
-    ghost invariant = { λ a. IsAlone K.may Q.sends Q.seals K.floor K.shelf Q.since a.who a.fabric.journal };
+    ghost invariant = { λ a. IsAlone K.may Q.sends Q.seals K.floor Q.floor K.shelf Q.since a.who a.fabric.journal };
 }
 
 impl<L: Loglet, R: Register, K: Terms, Q: Scope> Alone<L, R, K, Q> {
     /// Takes the fabric. Makes no event, and takes no memory.
     pub fn new(who: u32, fabric: Fabric<L, R, By<K>>) -> Self
-        requires legal { IsLegal Q.sends K.floor K.shelf fabric.journal }
+        requires legal { IsLegal Q.sends Q.floor K.shelf fabric.journal }
         requires narrower { (who : ℕ) (e : Entry) → Q.sends who e → K.may who e }
+        requires lower { (log : List Entry) (n : ℕ) → Q.floor log n → K.floor log n }
         requires since { Q.since ≡ fabric.journal }
         ensures { result ≡ record { who = who; cells = fabric.cells; register = fabric.register; journal = fabric.journal } }
     {
@@ -58,7 +59,7 @@ impl<L: Loglet, R: Register, K: Terms, Q: Scope> Alone<L, R, K, Q> {
     /// Gives the fabric back. Makes no event, and takes no memory.
     pub fn into_fabric(self) -> Fabric<L, R, By<K>>
         ensures fabric { result ≡ record { cells = self.cells; register = self.register; journal = self.journal } }
-        ensures legal { IsLegal Q.sends K.floor K.shelf self.journal }
+        ensures legal { IsLegal Q.sends Q.floor K.shelf self.journal }
 
         // All events since it was taken are this user's.
         ensures since { Since self.who Q.since self.journal }

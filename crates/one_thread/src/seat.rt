@@ -48,8 +48,9 @@ impl<S: Replica, C: Chooser> Seat<S, C> {
         self,
         fabric: Fabric<L, R, By<K>>,
     ) -> Seated<L, R, K, Q, S, C>
-        requires ok { SeatOk Q.sends K.floor K.shelf S.state S.spells fabric.journal self }
+        requires ok { SeatOk Q.sends Q.floor K.shelf S.state S.spells fabric.journal self }
         requires narrower { (who : ℕ) (e : Entry) → Q.sends who e → K.may who e }
+        requires lower { (log : List Entry) (n : ℕ) → Q.floor log n → K.floor log n }
         requires since { Q.since ≡ fabric.journal }
         ensures { result ≡ node_of self fabric.journal }
     {
@@ -63,7 +64,7 @@ pub fn rest<L: Loglet, R: Register, K: Terms, Q: Scope, S: Replica, C: Chooser>(
     node: Seated<L, R, K, Q, S, C>,
 ) -> (Seat<S, C>, Fabric<L, R, By<K>>)
     ensures node { node_of result.0 result.1.journal ≡ node }
-    ensures ok { SeatOk Q.sends K.floor K.shelf S.state S.spells result.1.journal result.0 }
+    ensures ok { SeatOk Q.sends Q.floor K.shelf S.state S.spells result.1.journal result.0 }
 
     // All events within the scope are the node's.
     ensures since { Since result.0.who Q.since result.1.journal }

@@ -12,8 +12,8 @@ pub trait Terms {
     /// Who may append what.
     ghost may: { ℕ → Entry → Type 0 };
 
-    /// Up to where the log may be trimmed, where it shows these entries from position 0 on.
-    ghost floor: { List Entry → ℕ };
+    /// To which positions the log may be trimmed, where it shows these entries from position 0 on.
+    ghost floor: { List Entry → ℕ → Type 0 };
 
     /// The numbers of servers of the cells.
     ghost shelf: { List ℕ };
@@ -22,7 +22,7 @@ pub trait Terms {
 impl Terms for Brand {
     ghost may = { λ _ _. ⊥ };
 
-    ghost floor = { λ _. 0 };
+    ghost floor = { λ _ _. ⊥ };
 
     ghost shelf = { [] };
 }
@@ -51,6 +51,9 @@ pub trait Scope {
     /// Who may seal, up to its end.
     ghost seals: { ℕ → Type 0 };
 
+    /// To which positions the log is trimmed, up to its end, where it shows these entries from position 0 on.
+    ghost floor: { List Entry → ℕ → Type 0 };
+
     /// The journal as it begins.
     ghost since: { List Event };
 }
@@ -59,6 +62,8 @@ impl Scope for Brand {
     ghost sends = { λ _ _. ⊥ };
 
     ghost seals = { λ _. ⊥ };
+
+    ghost floor = { λ _ _. ⊥ };
 
     ghost since = { [] };
 }
@@ -75,7 +80,7 @@ impl<K: Terms, Q: Scope> Rules for Within<K, Q> {
 
     ghost seals = { Q.seals };
 
-    ghost floor = { K.floor };
+    ghost floor = { Q.floor };
 
     ghost shelf = { K.shelf };
 }

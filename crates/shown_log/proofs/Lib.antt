@@ -1,3 +1,2 @@
 mod Standing
-pub mod Untrimmed
 mod Fronts

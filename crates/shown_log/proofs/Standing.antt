@@ -33,7 +33,7 @@ read_on f log a (suc k) each end =
     let next : drop (a + 1) log ≡ drop (suc a) log = ap (λ i. drop i log) (add-one a) in
     rw (each a (omega arith) (omega arith), here.is, here.rest, more, next) refl
 
-module _ (may : ℕ → Entry → Type 0) (floor : List Entry → ℕ) (shelf : List ℕ) (seen : List Event) (legal : IsLegal may floor shelf seen) where
+module _ (may : ℕ → Entry → Type 0) (floor : List Entry → ℕ → Type 0) (shelf : List ℕ) (seen : List Event) (legal : IsLegal may floor shelf seen) where
   -- at a position that isn't trimmed a journal tells the entry of each front
   front_at : (log : List Entry) (pos : ℕ) → IsFront Holds seen log → trim_of (state_of seen) ≤ pos → pos < length log → log_at (state_of seen) pos ≡ slice_get log pos
   front_at log pos front up low =
@@ -44,7 +44,7 @@ module _ (may : ℕ → Entry → Type 0) (floor : List Entry → ℕ) (shelf : 
       (holds_stands may floor shelf seen pos here.element legal (front pos here.element here.is))
 
   -- where nothing is trimmed that wasn't shown, a front goes no further than the tail
-  pub front_below : ((log : List Entry) → floor log ≤ length log) → (log : List Entry) → IsFront Holds seen log → length log ≤ tail_of (state_of seen)
+  pub front_below : ((log : List Entry) (n : ℕ) → floor log n → n ≤ length log) → (log : List Entry) → IsFront Holds seen log → length log ≤ tail_of (state_of seen)
   front_below low log front = by_length (length log) refl
     where
       by_length : (n : ℕ) → length log ≡ n → length log ≤ tail_of (state_of seen)

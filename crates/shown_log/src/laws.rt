@@ -1,12 +1,11 @@
 //! Laws of the log that stands in the loglets. Each function does nothing: its contract is the law.
 ghost use Rattle.std.specs.Prelude.{◌≡◌, ◌≤◌, ◌++◌, ℕ, List, length, take, true};
-ghost use Rattle.std.specs.List.{AllByRecursion};
 ghost use Rattle.delos_types.specs.declared.entry.Entry.{Entry};
 ghost use Rattle.loglet_api.specs.View.{LogletView};
 ghost use Rattle.legal_journal.specs.declared.events.Event.{Event};
 ghost use Rattle.legal_journal.specs.Journal.{IsLegal, state_of, log_at, trim_of, tail_of};
 ghost use Rattle.fabric_core.specs.Log.{virtual_log_at, virtual_tail};
-ghost use Rattle.virtual_log.specs.Holding.{Holds, IsTrimmed};
+ghost use Rattle.virtual_log.specs.Holding.{Holds};
 ghost use Rattle.engine_api.specs.Acted.{asked_in};
 ghost use Rattle.engine_api.specs.Order.{is_clean};
 ghost use Rattle.base_engine.specs.Reading.{IsFront};
@@ -26,16 +25,8 @@ pub fn the_log_stands<P: Rules>()
 
 /// Where nothing is trimmed that wasn't shown, a front of the log goes no further than its tail.
 pub fn a_front_is_below_the_tail<P: Rules>()
-    ensures { ((log : List Entry) → P.floor log ≤ length log) → (seen : List Event) (log : List Entry) → IsLegal P.may P.floor P.shelf seen
+    ensures { ((log : List Entry) (n : ℕ) → P.floor log n → n ≤ length log) → (seen : List Event) (log : List Entry) → IsLegal P.may P.floor P.shelf seen
         → IsFront Holds seen log → length log ≤ tail_of (state_of seen) }
-{}
-
-/// Where no log that somebody may have made may be trimmed, nothing is.
-pub fn nothing_is_trimmed<P: Rules>()
-    ensures trim { ((log : List Entry) → AllByRecursion (λ e. (who : ℕ) × P.may who e) log → P.floor log ≡ 0)
-        → (seen : List Event) → IsLegal P.may P.floor P.shelf seen → trim_of (state_of seen) ≡ 0 }
-    ensures below { ((log : List Entry) → AllByRecursion (λ e. (who : ℕ) × P.may who e) log → P.floor log ≡ 0)
-        → (seen : List Event) (pos : ℕ) → IsLegal P.may P.floor P.shelf seen → IsTrimmed seen pos → ⊥ }
 {}
 
 /// A front of the log is one at every later moment.

@@ -2,7 +2,7 @@
 ghost use Rattle.std.specs.Prelude.{◌≡◌, ◌≢◌, ◌<◌, ◌≤◌, ◌+◌, ℕ, List, [], ◌++◌, count_by, Contains};
 ghost use Rattle.chain_map.specs.Chain.{last_id};
 ghost use Rattle.legal_journal.specs.declared.events.Event.{Event};
-ghost use Rattle.legal_journal.specs.Journal.{IsLegal, state_of, trim_of, ends};
+ghost use Rattle.legal_journal.specs.Journal.{IsLegal, state_of, ends};
 ghost use Rattle.journal_faults.specs.Faults.{faults_in};
 ghost use Rattle.legal_journal.specs.Sealing.{begins_seal, begins_seal_on};
 ghost use Rattle.unsealed_chain.specs.Unsealed.{IsUnsealed};
@@ -25,18 +25,18 @@ pub fn a_run_begins_unsealed()
     ensures { IsUnsealed (state_of []) 0 }
 {}
 
-/// Where no Seal is begun, nothing is trimmed and no fault comes, the chain stays as it is.
+/// Where no Seal is begun and no fault comes, the chain goes on in no other loglet.
 pub fn a_chain_stays<P: Rules>()
     ensures { (early more : List Event) (n : ℕ) → IsLegal P.may P.floor P.shelf (early ++ more) → IsUnsealed (state_of early) n
-        → count_by begins_seal more ≡ 0 → trim_of (state_of (early ++ more)) ≡ trim_of (state_of early) → faults_in more ≡ []
+        → count_by begins_seal more ≡ 0 → faults_in more ≡ []
         → IsUnsealed (state_of (early ++ more)) n }
 {}
 
-/// Where no Seal is begun behind the last loglet, nothing is trimmed, no fault comes, and the chain doesn't stay: it goes on in the
-/// next loglet, and no further.
+/// Where no Seal is begun behind the last loglet, no fault comes, and the last loglet isn't the same: the chain goes on in the next one,
+/// and no further.
 pub fn a_chain_goes_on_once<P: Rules>()
     ensures { (early more : List Event) (n : ℕ) → IsLegal P.may P.floor P.shelf (early ++ more) → IsUnsealed (state_of early) n
-        → ((i : ℕ) → n < i → count_by (begins_seal_on i) more ≡ 0) → trim_of (state_of (early ++ more)) ≡ trim_of (state_of early) → faults_in more ≡ []
+        → ((i : ℕ) → n < i → count_by (begins_seal_on i) more ≡ 0) → faults_in more ≡ []
         → last_id (state_of (early ++ more)).register.chain ≢ n
         → IsUnsealed (state_of (early ++ more)) (n + 1) }
 {}

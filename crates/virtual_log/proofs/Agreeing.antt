@@ -60,7 +60,7 @@ ends_before cells w v j u c x ok was inside low at =
         omega (arith, is, below.2)
 
 -- what is held at a position is one entry
-pub holds_agree : (may : ℕ → Entry → Type 0) (floor : List Entry → ℕ) (shelf : List ℕ) (es : List Event) (pos : ℕ) (e f : Entry) → IsLegal may floor shelf es → Holds es pos e → Holds es pos f → e ≡ f
+pub holds_agree : (may : ℕ → Entry → Type 0) (floor : List Entry → ℕ → Type 0) (shelf : List ℕ) (es : List Event) (pos : ℕ) (e f : Entry) → IsLegal may floor shelf es → Holds es pos e → Holds es pos f → e ≡ f
 holds_agree may floor shelf es pos e f legal h k = first (nat_lt x.segment.id y.segment.id) refl
   where
     w : State

@@ -45,7 +45,7 @@ unsealed_last cells w i s ok at unsealed = by_test (i == (last_segment w).id) re
 pub reach_below : (cells : ℕ) (w : State) (i s : ℕ) → StateOk cells w → w.starts i ≡ Some s → s + (w.cells i).told.reach ≤ tail_of w
 reach_below cells w i s ok at = last_clears cells w (tail_of w) ok (omega arith) i s at
 
-module _ (may : ℕ → Entry → Type 0) (floor : List Entry → ℕ) (shelf : List ℕ) where
+module _ (may : ℕ → Entry → Type 0) (floor : List Entry → ℕ → Type 0) (shelf : List ℕ) where
   pub may_append : (who : ℕ) (old : List Event) (i : ℕ) (e : Entry) → i < length shelf → may who e → IsSpellable e → MayTurn may floor shelf who old (Begin i (Append e))
   may_append who old i e l m s others apart now = record { there = l; asks = (s, m) }
 

@@ -38,7 +38,7 @@ same_last cells w v n c d ok given given' same =
     let start_is : (last_segment d).start ≡ (last_segment c).start = cc in
     segment_is (last_segment d) (last_segment c) (sym same) start_is (last_open (ends w.cells) h.id h.from d.segments h.joined ∙ sym (last_open (ends w.cells) g.id g.from c.segments g.joined))
 
-module _ (may : ℕ → Entry → Type 0) (floor : List Entry → ℕ) (shelf : List ℕ) (who : ℕ) (old : List Event) (v k t : ℕ) (c : Chain) (legal : IsLegal may floor shelf old) (goes : GoesBy (state_of old) v c k) (told : Contains ((state_of old).cells (last_segment c).id).ends t) where
+module _ (may : ℕ → Entry → Type 0) (floor : List Entry → ℕ → Type 0) (shelf : List ℕ) (who : ℕ) (old : List Event) (v k t : ℕ) (c : Chain) (legal : IsLegal may floor shelf old) (goes : GoesBy (state_of old) v c k) (told : Contains ((state_of old).cells (last_segment c).id).ends t) where
   pub fits_now : Fits (length shelf) c t
   fits_now = fits (length shelf) (state_of old) v t c (sound may floor shelf old legal) goes.given told
 
@@ -120,7 +120,7 @@ refusal_since who a b s z n new more is same w = record {
 }
 
 -- what the writes since a later moment came to, by a look at the chain before it
-pub closed_since : (may : ℕ → Entry → Type 0) (floor : List Entry → ℕ) (shelf : List ℕ) (who v : ℕ) (c : Chain) (old others a b new more : List Event) → IsLegal may floor shelf new → a ≡ (old ++ others) ++ record { who = who; call = ReadChain; answer = At v c } ∷ []
+pub closed_since : (may : ℕ → Entry → Type 0) (floor : List Entry → ℕ → Type 0) (shelf : List ℕ) (who v : ℕ) (c : Chain) (old others a b new more : List Event) → IsLegal may floor shelf new → a ≡ (old ++ others) ++ record { who = who; call = ReadChain; answer = At v c } ∷ []
     → b ≡ a ++ more → WroteNone who a b → (k k' v' : ℕ) (x : Extension) → Closes who b (last_segment c) k k' v' new x → IsClosed who a (last_segment c) k k' v' new x
 closed_since may floor shelf who v c old others a b new more legal look is quiet k k' v' (Extended n start) h = (written_since who a b (last_segment c) (last_segment c) n start new more is refl h.0, h.1, h.2)
 closed_since may floor shelf who v c old others a b new more legal look is quiet k k' v' (Moved n) h =

@@ -17,7 +17,7 @@ use Rattle.virtual_log.proofs.OneTurn.{later_continues}
 use Rattle.virtual_log.proofs.Appending.{reach_below}
 use Rattle.virtual_log.proofs.Replacing.{last_started, given_now}
 
-module _ (may : ℕ → Entry → Type 0) (floor : List Entry → ℕ) (shelf : List ℕ) where
+module _ (may : ℕ → Entry → Type 0) (floor : List Entry → ℕ → Type 0) (shelf : List ℕ) where
   -- the last segment of the chain started where the chain says
   pub last_there : (es : List Event) (v k : ℕ) (c : Chain) (s : Segment) → IsLegal may floor shelf es → GoesBy (state_of es) v c k → s ≡ last_segment c → (state_of es).starts s.id ≡ Some s.start
   last_there es v k c s legal g is =

@@ -59,7 +59,7 @@ some_below : (o : Option ℕ) (d pos : ℕ) → pos < unwrap_or o d → IfSome o
 some_below None d pos h = tt
 some_below (Some n) d pos h = h
 
-module _ (may : ℕ → Entry → Type 0) (floor : List Entry → ℕ) (shelf : List ℕ) where
+module _ (may : ℕ → Entry → Type 0) (floor : List Entry → ℕ → Type 0) (shelf : List ℕ) where
   -- what is held stays held
   pub holds_later : (a b : List Event) (pos : ℕ) (e : Entry) → IsLegal may floor shelf a → Continues (state_of a) (state_of b) → Holds a pos e → Holds b pos e
   holds_later a b pos e legal on h =

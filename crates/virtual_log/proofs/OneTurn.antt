@@ -28,7 +28,7 @@ pub nil : (xs : List Event) → xs ≡ xs ++ []
 nil [] = refl
 nil (x ∷ xs) = ap (λ l. x ∷ l) (nil xs)
 
-module _ (may : ℕ → Entry → Type 0) (floor : List Entry → ℕ) (shelf : List ℕ) (who : ℕ) (old new : List Event) where
+module _ (may : ℕ → Entry → Type 0) (floor : List Entry → ℕ → Type 0) (shelf : List ℕ) (who : ℕ) (old new : List Event) where
   pub look_ok : (v : ℕ) (c : Chain) → IsTurn may floor shelf who old ReadChain (At v c) new → Looked who old v c new
   look_ok v c t =
       let k = took may floor shelf old t.others _ new t.legal (t.seen ∙ ap (λ es. (old ++ t.others) ++ es) t.event) in record {
@@ -122,21 +122,21 @@ module _ (may : ℕ → Entry → Type 0) (floor : List Entry → ℕ) (shelf : 
   pub gone_cause : (x : ℕ) (d : Chain) → IsTurn may floor shelf who old (WriteChain x d) Down new → HasCause who old fault.Meta new
   gone_cause x d h = record { event = record { who = who; call = WriteChain x d; answer = Down }; is = (refl, tt); before = h.others; after = []; seen = h.seen ∙ ap (λ es. (old ++ h.others) ++ es) h.event }
 
-pub later_refl : (may : ℕ → Entry → Type 0) (floor : List Entry → ℕ) (shelf : List ℕ) (es : List Event) → IsLegal may floor shelf es → Later may floor shelf es es
+pub later_refl : (may : ℕ → Entry → Type 0) (floor : List Entry → ℕ → Type 0) (shelf : List ℕ) (es : List Event) → IsLegal may floor shelf es → Later may floor shelf es es
 later_refl may floor shelf es h = record { more = []; seen = nil es; legal = h }
 
-pub later_trans : (may : ℕ → Entry → Type 0) (floor : List Entry → ℕ) (shelf : List ℕ) (a b c : List Event) → Later may floor shelf a b → Later may floor shelf b c → Later may floor shelf a c
+pub later_trans : (may : ℕ → Entry → Type 0) (floor : List Entry → ℕ → Type 0) (shelf : List ℕ) (a b c : List Event) → Later may floor shelf a b → Later may floor shelf b c → Later may floor shelf a c
 later_trans may floor shelf a b c f g = record {
   more = f.more ++ g.more;
   seen = g.seen ∙ (ap (λ l. l ++ g.more) f.seen ∙ append_assoc a f.more g.more);
   legal = g.legal;
 }
 
-pub later_continues : (may : ℕ → Entry → Type 0) (floor : List Entry → ℕ) (shelf : List ℕ) (a b : List Event) → Later may floor shelf a b → Continues (state_of a) (state_of b)
+pub later_continues : (may : ℕ → Entry → Type 0) (floor : List Entry → ℕ → Type 0) (shelf : List ℕ) (a b : List Event) → Later may floor shelf a b → Continues (state_of a) (state_of b)
 later_continues may floor shelf a b h =
     subst (λ es. Continues (state_of a) (state_of es)) (sym h.seen) (goes_on may floor shelf a h.more (subst (IsLegal may floor shelf) h.seen h.legal))
 
-pub turn_later : (may : ℕ → Entry → Type 0) (floor : List Entry → ℕ) (shelf : List ℕ) (who : ℕ) (old : List Event) (call : FabricCall) (answer : FabricAnswer) (new : List Event) → IsTurn may floor shelf who old call answer new → Later may floor shelf old new
+pub turn_later : (may : ℕ → Entry → Type 0) (floor : List Entry → ℕ → Type 0) (shelf : List ℕ) (who : ℕ) (old : List Event) (call : FabricCall) (answer : FabricAnswer) (new : List Event) → IsTurn may floor shelf who old call answer new → Later may floor shelf old new
 turn_later may floor shelf who old call answer new t = record { more = t.others ++ t.own; seen = t.seen ∙ append_assoc old t.others t.own; legal = t.legal }
 
 pub own_by : (c : CellState) (a b t : ℕ) (r : Running) → a ≡ b → IsOwn c b t r → IsOwn c a t r

@@ -28,11 +28,11 @@ some_at (x ∷ xs) zero h = (x, refl)
 some_at (x ∷ xs) (suc i) h = some_at xs i (omega arith)
 
 -- what may be trimmed stays so
-pub free_later : (a b : State) (floor : List Entry → ℕ) (n : ℕ) → Continues a b → IsFree a.shown floor n → IsFree b.shown floor n
+pub free_later : (a b : State) (floor : List Entry → ℕ → Type 0) (n : ℕ) → Continues a b → IsFree a.shown floor n → IsFree b.shown floor n
 free_later a b floor n on f = record {
   log = f.log;
   shows = λ i l. let x = some_at f.log i l in on.shown i x.0 (f.shows i l ∙ x.1) ∙ sym x.1;
-  above = f.above;
+  free = f.free;
 }
 
 -- what was told by the own event of a read
@@ -45,7 +45,7 @@ looked_told who v c a b l = record {
   seen = l.seen;
 }
 
-module _ (may : ℕ → Entry → Type 0) (floor : List Entry → ℕ) (shelf : List ℕ) (who : ℕ) (old : List Event) (v k n : ℕ) (c : Chain) (legal : IsLegal may floor shelf old) (goes : GoesBy (state_of old) v c k) where
+module _ (may : ℕ → Entry → Type 0) (floor : List Entry → ℕ → Type 0) (shelf : List ℕ) (who : ℕ) (old : List Event) (v k n : ℕ) (c : Chain) (legal : IsLegal may floor shelf old) (goes : GoesBy (state_of old) v c k) where
   -- what is known lies below the ends of all shelves
   pub known_small : k ≤ 2 ^ 38
   known_small =

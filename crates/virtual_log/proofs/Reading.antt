@@ -112,7 +112,7 @@ there cells w v pos id index c e ok was p far h =
             (λ (z : p.segment.start + y.0 ≤ trim_of w). absurd (omega (arith, end, up)))
             (given.closed p.segment (p.segment.start + y.0) p.in_chain y.1)
 
-module _ (may : ℕ → Entry → Type 0) (floor : List Entry → ℕ) (shelf : List ℕ) where
+module _ (may : ℕ → Entry → Type 0) (floor : List Entry → ℕ → Type 0) (shelf : List ℕ) where
   pub got_ok : (who : ℕ) (old mid new : List Event) (v known pos id index t : ℕ) (c : Chain) (e : Entry) → IsLegal may floor shelf old → GoesBy (state_of old) v c known → pos < known → Place (state_of old) c pos id index → (first : Later may floor shelf old mid) → Later may floor shelf mid new → (o : Opened who old id (Read index) t mid) → Answered who mid id t (started ((state_of (old ++ o.first.others)).cells id).told (Read index)) (Got e) new → Stands (state_of old) pos e
   got_ok who old mid new v known pos id index t c e legal g low p first second o x =
       let m = moments may floor shelf who old mid new id p.segment.start t (Read index) (Got e) (started ((state_of (old ++ o.first.others)).cells id).told (Read index)) legal first second o x p.started in

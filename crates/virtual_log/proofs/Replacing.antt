@@ -64,7 +64,7 @@ pub record Conflicted (v t : ℕ) (c : Chain) (n : ℕ) (e : Chain) (new : List 
   pub told : Contains ((state_of new).cells (last_of_segments c.segments).id).ends t
   pub few : n ≤ 2 ^ 38 + 64
 
-module _ (may : ℕ → Entry → Type 0) (floor : List Entry → ℕ) (shelf : List ℕ) (who : ℕ) (old : List Event) (v : ℕ) (c d : Chain) (given : (state_of old).register.given v ≡ Some c) where
+module _ (may : ℕ → Entry → Type 0) (floor : List Entry → ℕ → Type 0) (shelf : List ℕ) (who : ℕ) (old : List Event) (v : ℕ) (c d : Chain) (given : (state_of old).register.given v ≡ Some c) where
   pub written_given : (n : ℕ) (new : List Event) → IsTurn may floor shelf who old (WriteChain v d) (Written n) new → (state_of new).register.given n ≡ Some d
   written_given n new h =
       let k = took may floor shelf old h.others _ new h.legal (h.seen ∙ ap (λ es. (old ++ h.others) ++ es) h.event) in
@@ -100,7 +100,7 @@ module _ (may : ℕ → Entry → Type 0) (floor : List Entry → ℕ) (shelf : 
       rises w m y l apart (inl x) = omega arith
       rises w m y l apart (inr x) = omega arith
 
-module _ (may : ℕ → Entry → Type 0) (floor : List Entry → ℕ) (shelf : List ℕ) (who : ℕ) (old : List Event) (v t : ℕ) (c d : Chain) (given : (state_of old).register.given v ≡ Some c) (told : Contains ((state_of old).cells (last_of_segments c.segments).id).ends t) (is : d ≡ extended c t) where
+module _ (may : ℕ → Entry → Type 0) (floor : List Entry → ℕ → Type 0) (shelf : List ℕ) (who : ℕ) (old : List Event) (v t : ℕ) (c d : Chain) (given : (state_of old).register.given v ≡ Some c) (told : Contains ((state_of old).cells (last_of_segments c.segments).id).ends t) (is : d ≡ extended c t) where
   pub may_write : IsLegal may floor shelf old → MayTurn may floor shelf who old (WriteChain v d)
   may_write legal others apart now =
       let goes = goes_on may floor shelf old others now in
@@ -131,12 +131,12 @@ module _ (may : ℕ → Entry → Type 0) (floor : List Entry → ℕ) (shelf : 
       }
 
 -- a chain that the register just gave
-pub given_now : (may : ℕ → Entry → Type 0) (floor : List Entry → ℕ) (shelf : List ℕ) (who v : ℕ) (c : Chain) (old new : List Event) → IsLegal may floor shelf new → Looked who old v c new → (state_of new).register.given v ≡ Some c
+pub given_now : (may : ℕ → Entry → Type 0) (floor : List Entry → ℕ → Type 0) (shelf : List ℕ) (who v : ℕ) (c : Chain) (old new : List Event) → IsLegal may floor shelf new → Looked who old v c new → (state_of new).register.given v ≡ Some c
 given_now may floor shelf who v c old new legal l =
     let w = state_of new in
     ap w.register.given (sym l.version_is) ∙ ((sound may floor shelf new legal).given ∙ ap (λ x. Some x) l.chain_is)
 
 -- the last segment of a chain that was just given is no earlier than one that started
-pub later_last : (may : ℕ → Entry → Type 0) (floor : List Entry → ℕ) (shelf : List ℕ) (who v i s : ℕ) (c : Chain) (old new : List Event) → IsLegal may floor shelf new → Looked who old v c new → (state_of new).starts i ≡ Some s → i ≤ (last_of_segments c.segments).id
+pub later_last : (may : ℕ → Entry → Type 0) (floor : List Entry → ℕ → Type 0) (shelf : List ℕ) (who v i s : ℕ) (c : Chain) (old new : List Event) → IsLegal may floor shelf new → Looked who old v c new → (state_of new).starts i ≡ Some s → i ≤ (last_of_segments c.segments).id
 later_last may floor shelf who v i s c old new legal l at =
     omega (arith, (sound may floor shelf new legal).ids i s at, ap (λ (x : Chain). (last_of_segments x.segments).id) l.chain_is)

@@ -36,7 +36,7 @@ says_then words who user a b c same f g = says_trans words who a b c f (subst (�
 pub says_on : (words others : ℕ → Bool) (who user : ℕ) (a b c : List Event) → others ≡ words → user ≡ who → SaysOnly words who a b → SaysOnly others user b c → SaysOnly words who a c
 says_on words others who user a b c are same f g = says_then words who user a b c same f (subst (λ w. SaysOnly w user b c) are g)
 
-module _ (may : ℕ → Entry → Type 0) (floor : List Entry → ℕ) (shelf : List ℕ) (who : ℕ) (old : List Event) where
+module _ (may : ℕ → Entry → Type 0) (floor : List Entry → ℕ → Type 0) (shelf : List ℕ) (who : ℕ) (old : List Event) where
   -- one turn
   pub turn_says : (words : ℕ → Bool) (call : FabricCall) (answer : FabricAnswer) (new : List Event) → IsTurn may floor shelf who old call answer new → HasWord words call → SaysOnly words who old new
   turn_says words call answer new t has = record {

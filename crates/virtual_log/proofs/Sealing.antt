@@ -73,7 +73,7 @@ seals_trans who a b c f g = record {
 pub seals_as : (who user : ℕ) (a b : List Event) → user ≡ who → SealsNone user a b → SealsNone who a b
 seals_as who user a b same h = subst (λ k. SealsNone k a b) same h
 
-module _ (may : ℕ → Entry → Type 0) (floor : List Entry → ℕ) (shelf : List ℕ) (who : ℕ) (old : List Event) where
+module _ (may : ℕ → Entry → Type 0) (floor : List Entry → ℕ → Type 0) (shelf : List ℕ) (who : ℕ) (old : List Event) where
   -- a turn that begins none
   pub turn_none : (call : FabricCall) (answer : FabricAnswer) (new : List Event) → IsTurn may floor shelf who old call answer new → is_seal call ≡ false → SealsNone who old new
   turn_none call answer new t other = record {

@@ -28,7 +28,7 @@ at_index [] i d h = absurd (omega arith)
 at_index (s ∷ ss) zero d h = refl
 at_index (s ∷ ss) (suc i) d h = at_index ss i d (omega arith)
 
-module _ (may : ℕ → Entry → Type 0) (floor : List Entry → ℕ) (shelf : List ℕ) where
+module _ (may : ℕ → Entry → Type 0) (floor : List Entry → ℕ → Type 0) (shelf : List ℕ) where
   pub may_trim : (who : ℕ) (old : List Event) (s : Segment) (n m : ℕ) → IsLegal may floor shelf old → (state_of old).starts s.id ≡ Some s.start → s.start < n → n ≤ trim_of (state_of old) → m ≡ length_below s n → MayTurn may floor shelf who old (Begin s.id (Trim m))
   may_trim who old s n m legal at below high is others apart now =
       let on = goes_on may floor shelf old others now in record {

@@ -30,7 +30,7 @@ write_append who [] ys h k = k
 write_append who (x ∷ xs) ys h k = (h.0, write_append who xs ys h.1 k)
 
 -- a turn whose event writes nothing
-pub turn_wrote : (may : ℕ → Entry → Type 0) (floor : List Entry → ℕ) (shelf : List ℕ) (who : ℕ) (old : List Event) (call : FabricCall) (answer : FabricAnswer) (new : List Event) → (t : IsTurn may floor shelf who old call answer new)
+pub turn_wrote : (may : ℕ → Entry → Type 0) (floor : List Entry → ℕ → Type 0) (shelf : List ℕ) (who : ℕ) (old : List Event) (call : FabricCall) (answer : FabricAnswer) (new : List Event) → (t : IsTurn may floor shelf who old call answer new)
     → t.own ≡ record { who = who; call = call; answer = answer } ∷ [] → chain_by (move_of call answer) ≡ None → WroteNone who old new
 turn_wrote may floor shelf who old call answer new t own none = record {
   more = t.others ++ record { who = who; call = call; answer = answer } ∷ [];
@@ -65,7 +65,7 @@ given_upto : (id : ℕ) (r : RegisterState) (v : ℕ) (c : Chain) → IsCurrent 
 given_upto id r v c (inl h) u = subst (λ (x : Chain). (last_segment x).id ≤ id) (sym h.1) u.chain
 given_upto id r v c (inr h) u = u.asked c h.1
 
-register_upto : (w : State) (floor : List Entry → ℕ) (cells id : ℕ) (m : RegisterMove) → RegisterAllowed w floor cells m → ((c : Chain) → chain_by (OnRegister m) ≡ Some c → (last_segment c).id ≤ id) → IsUpTo id w.register → IsUpTo id (register_after w.register m)
+register_upto : (w : State) (floor : List Entry → ℕ → Type 0) (cells id : ℕ) (m : RegisterMove) → RegisterAllowed w floor cells m → ((c : Chain) → chain_by (OnRegister m) ≡ Some c → (last_segment c).id ≤ id) → IsUpTo id w.register → IsUpTo id (register_after w.register m)
 register_upto w floor cells id (Gives v c) a low u = record { chain = given_upto id w.register v c a.1 u; asked = none_asked id }
 register_upto w floor cells id (Conflicts x v c) a low u = record { chain = given_upto id w.register v c a.1 u; asked = none_asked id }
 register_upto w floor cells id (Writes x c v) a low u = record { chain = low c refl; asked = none_asked id }
@@ -73,7 +73,7 @@ register_upto w floor cells id (Faults x c) a low u = record { chain = u.chain; 
 register_upto w floor cells id Fails a low u = u
 register_upto w floor cells id (Mends b) a low u = record { chain = u.chain; asked = u.asked }
 
-step_upto : (w : State) (may : ℕ → Entry → Type 0) (floor : List Entry → ℕ) (cells who id : ℕ) (m : Move) → IsAllowed w may floor cells who m → ((c : Chain) → chain_by m ≡ Some c → (last_segment c).id ≤ id) → IsUpTo id w.register → IsUpTo id (after w who m).register
+step_upto : (w : State) (may : ℕ → Entry → Type 0) (floor : List Entry → ℕ → Type 0) (cells who id : ℕ) (m : Move) → IsAllowed w may floor cells who m → ((c : Chain) → chain_by m ≡ Some c → (last_segment c).id ≤ id) → IsUpTo id w.register → IsUpTo id (after w who m).register
 step_upto w may floor cells who id (OnCell i m) a low u = u
 step_upto w may floor cells who id (OnRegister m) a low u = register_upto w floor cells id m a low u
 step_upto w may floor cells who id Nothing a low u = u
@@ -118,7 +118,7 @@ one_upto who id e own = by (chain_by (move e)) refl
         (λ (low : (last_segment d).id ≤ id). inr (same_by d h low))
         (cases_lt id (last_segment d).id)
 
-module _ (may : ℕ → Entry → Type 0) (floor : List Entry → ℕ) (shelf : List ℕ) (who : ℕ) where
+module _ (may : ℕ → Entry → Type 0) (floor : List Entry → ℕ → Type 0) (shelf : List ℕ) (who : ℕ) where
   -- where who wrote nothing, another wrote behind loglet id, or the chain goes no further
   all_upto : (id : ℕ) (w : State) (es : List Event) → IsLegalFrom w may floor shelf es → WriteNone who es → IsUpTo id w.register → HasAnothers who id es ⊎ IsUpTo id (after_all w es).register
   all_upto id w [] legal none u = inr u

@@ -31,6 +31,6 @@ Reads holds seen least m (Trimmed t) = (least < m) × IsTrimmed seen least
 Reads holds seen least m (Found pos e) = (least < m) × (IsTrimmed seen least ⊎ (pos ≡ least)) × holds seen pos e
 
 -- what a log holds it holds for good
-abbrev pub Stays : (ℕ → Entry → Type 0) → (List Entry → ℕ) → List ℕ → (List Event → ℕ → Entry → Type 0) → Type 0
+abbrev pub Stays : (ℕ → Entry → Type 0) → (List Entry → ℕ → Type 0) → List ℕ → (List Event → ℕ → Entry → Type 0) → Type 0
 Stays may floor shelf holds =
     (early more : List Event) (pos : ℕ) (e : Entry) → IsLegal may floor shelf (early ++ more) → holds early pos e → holds (early ++ more) pos e

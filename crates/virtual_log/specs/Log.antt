@@ -27,7 +27,7 @@ pub record GoesBy (w : State) (version : ℕ) (chain : Chain) (known : ℕ) : Ty
   pub given : w.register.given version ≡ Some chain
   pub reached : known ≤ (last_segment chain).start + (w.cells (last_segment chain).id).told.reach
 
-pub record LogOk (may : ℕ → Entry → Type 0) (floor : List Entry → ℕ) (shelf : List ℕ) (v : LogView) (shelf_len : ℕ) : Type 0 where
+pub record LogOk (may : ℕ → Entry → Type 0) (floor : List Entry → ℕ → Type 0) (shelf : List ℕ) (v : LogView) (shelf_len : ℕ) : Type 0 where
   pub count : shelf_len ≡ length shelf
   pub legal : IsLegal may floor shelf v.seen
   pub goes_by : GoesBy (state_of v.seen) v.version v.chain v.known

@@ -30,7 +30,7 @@ pub record Still (old new : State) : Type 0 where
   pub told : (i : ℕ) → (new.cells i).told ≡ (old.cells i).told
 
 -- what was seen before is still seen, and what is seen is legal
-pub record Later (may : ℕ → Entry → Type 0) (floor : List Entry → ℕ) (shelf : List ℕ) (old new : List Event) : Type 0 where
+pub record Later (may : ℕ → Entry → Type 0) (floor : List Entry → ℕ → Type 0) (shelf : List ℕ) (old new : List Event) : Type 0 where
   pub more : List Event
   pub seen : new ≡ old ++ more
   pub legal : IsLegal may floor shelf new

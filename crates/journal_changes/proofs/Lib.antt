@@ -1,0 +1,5 @@
+pub mod Changes
+mod Entries
+mod Others
+mod Places
+mod Trims
