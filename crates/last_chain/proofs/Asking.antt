@@ -94,7 +94,7 @@ asks_three who a b c d h k l =
 
 -- What the register gave.
 
-module _ (may : ℕ → Entry → Type 0) (floor : List Entry → ℕ) (shelf : List ℕ) where
+module _ (may : ℕ → Entry → Type 0) (floor : List Entry → ℕ → Type 0) (shelf : List ℕ) where
   joined : (journal : List Event) → IsLegal may floor shelf journal → is_chain (state_of journal).register.chain ≡ true
   joined journal legal =
       let ok = sound may floor shelf journal legal in

@@ -12,7 +12,7 @@ use Rattle.node_lines.proofs.Moving.{moves-sync}
 use Rattle.node_lines.proofs.Spending.{spends-none, spends-both, spends-blames}
 use Rattle.node_closing.specs.Finishing.{Reopens, Finishes}
 
-module _ (may : ℕ → Entry → Type 0) (floor : List Entry → ℕ) (shelf : List ℕ) where
+module _ (may : ℕ → Entry → Type 0) (floor : List Entry → ℕ → Type 0) (shelf : List ℕ) where
   pub stays_down : (old new : NodeView) (c : Cause) → Keeps may floor shelf old new → new.seen ≡ old.seen → new.replica.kept ≡ old.replica.kept → new.outbox ≡ old.outbox
       → Blames old.who old.seen old.replica.faults (Because c) new.seen new.replica.faults → Reopens old new
   stays_down old new c k seen kept outbox blames = record {
@@ -37,7 +37,7 @@ module _ (may : ℕ → Entry → Type 0) (floor : List Entry → ℕ) (shelf : 
     counts = omega (arith, k.counts, r.counts);
   }
 
-  module _ (low : (log : List Entry) → floor log ≤ length log) where
+  module _ (low : (log : List Entry) (n : ℕ) → floor log n → n ≤ length log) where
     pub moves_on : (old mid new : NodeView) → Reopens old mid → Keeps may floor shelf mid new → new.replica.kept ≡ mid.replica.kept → new.outbox ≡ mid.outbox → Moves may floor shelf old new []
     moves_on old mid new r k kept outbox =
         let on = keeps_on old mid new r k in

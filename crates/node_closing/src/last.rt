@@ -1,5 +1,5 @@
 //! A node's last calls.
-ghost use Rattle.std.specs.Prelude.{◌≡◌, ◌≤◌, List, [], length, IfOk, OnOk};
+ghost use Rattle.std.specs.Prelude.{◌≡◌, ◌≤◌, ℕ, List, [], length, IfOk, OnOk};
 ghost use Rattle.delos_types.specs.declared.entry.Entry.{Entry};
 ghost use Rattle.virtual_log.specs.Holding.{Holds};
 ghost use Rattle.base_engine.specs.Following.{Follows};
@@ -36,11 +36,12 @@ fn reopen<T: Turns, C: Chooser, R: Replica>(
 pub fn finish<T: Turns, C: Chooser, R: Replica>(
     node: &mut Node<VirtualLog<T, C>, R>,
 ) -> Result<u64, AllocError>
-    requires floor { (log : List Entry) → T.Law.floor log ≤ length log }
+    requires floor { (log : List Entry) (n : ℕ) → T.Law.floor log n → n ≤ length log }
     ensures moves { OnOk result (Moves T.Law.may T.Law.floor T.Law.shelf node.old node.new []) }
     ensures plays { OnOk result (Finishes node.old node.new) }
     ensures follows { OnOk result (Follows Holds R.state R.spells node.new.seen node.new.replica) }
     ensures outbox { OnOk result (node.new.outbox ≡ node.old.outbox) }
+    ensures kept { OnOk result (node.new.replica.kept ≡ node.old.replica.kept) }
     ensures cursor { IfOk result (λ n. n ≡ node.new.replica.cursor) }
 {
     reopen(node)?;

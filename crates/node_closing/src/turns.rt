@@ -3,11 +3,12 @@ ghost use Rattle.std.specs.Prelude.{◌≡◌, ◌≤◌, ℕ, List, [], length,
 ghost use Rattle.delos_types.specs.Spaces.{SpaceMap};
 ghost use Rattle.delos_types.specs.declared.entry.Entry.{Entry};
 ghost use Rattle.legal_journal.specs.Sealing.{SealsBy, Unsealed};
+ghost use Rattle.journal_changes.specs.Changes.{Adds};
 ghost use Rattle.engine_laws.specs.State.{IsStateOf};
 ghost use Rattle.one_thread.specs.Alone.{Since};
 ghost use Rattle.one_thread.specs.Seats.{SeatOk, node_of};
 ghost use Rattle.node_lines.specs.Moving.{Moves};
-ghost use Rattle.node_workers.specs.Workers.{WorkerOk, MayRun, Within, Grows};
+ghost use Rattle.node_workers.specs.Workers.{WorkerOk, MayRun, Within, Sends, IsOfSessions, Grows};
 ghost use Rattle.node_closing.specs.Finishing.{Finishes};
 ghost use Rattle.node_closing.specs.Taking.{CanTakeAll, TakesAll};
 
@@ -34,16 +35,18 @@ fn finish_within<L: Loglet, R: Register, K: Terms, Q: Scope, S: Replica, C: Choo
     seat: Seat<S, C>,
     _counts: &[u64; 64],
 ) -> Back<L, R, K, S, C, u64>
-    requires floor { (log : List Entry) → K.floor log ≤ length log }
-    requires seat { SeatOk Q.sends K.floor K.shelf S.state S.spells fabric.journal seat }
+    requires floor { (log : List Entry) (n : ℕ) → Q.floor log n → n ≤ length log }
+    requires lower { (log : List Entry) (n : ℕ) → Q.floor log n → K.floor log n }
+    requires seat { SeatOk Q.sends Q.floor K.shelf S.state S.spells fabric.journal seat }
     requires narrower { (who : ℕ) (e : Entry) → Q.sends who e → K.may who e }
     requires since { Q.since ≡ fabric.journal }
-    ensures seat { SeatOk Q.sends K.floor K.shelf S.state S.spells result.fabric.journal result.seat }
+    ensures seat { SeatOk Q.sends Q.floor K.shelf S.state S.spells result.fabric.journal result.seat }
     ensures since { Since result.seat.who Q.since result.fabric.journal }
     ensures right { SealsBy (Q.seals result.seat.who) Q.since result.fabric.journal }
-    ensures moves { OnOk result.answer (Moves Q.sends K.floor K.shelf (node_of seat fabric.journal) (node_of result.seat result.fabric.journal) []) }
+    ensures moves { OnOk result.answer (Moves Q.sends Q.floor K.shelf (node_of seat fabric.journal) (node_of result.seat result.fabric.journal) []) }
     ensures plays { OnOk result.answer (Finishes (node_of seat fabric.journal) (node_of result.seat result.fabric.journal)) }
     ensures outbox { OnOk result.answer (result.seat.node.outbox ≡ seat.node.outbox) }
+    ensures kept { OnOk result.answer (result.seat.node.replica.kept ≡ seat.node.replica.kept) }
     ensures cursor { IfOk result.answer (λ n. n ≡ result.seat.node.replica.cursor) }
 {
     let mut node = seat.wake::<L, R, K, Q>(fabric);
@@ -73,6 +76,7 @@ pub fn finish_worker<L: Loglet, R: Register, K: Terms, S: Replica, C: Chooser>(
     ensures plays { OnOk result.answer (Finishes (node_of worker.seat fabric.journal) (node_of result.worker.seat result.fabric.journal)) }
     ensures outbox { OnOk result.answer (result.worker.seat.node.outbox ≡ worker.seat.node.outbox) }
     ensures cursor { IfOk result.answer (λ n. n ≡ result.worker.seat.node.replica.cursor) }
+    ensures adds { OnOk result.answer (Adds IsOfSessions fabric.journal result.fabric.journal) }
     ensures stands { SeatOk K.may K.floor K.shelf S.state S.spells result.fabric.journal result.worker.seat }
     ensures grows { Grows fabric.journal result.fabric.journal }
     ensures unsealed { Unsealed fabric.journal result.fabric.journal }
@@ -108,13 +112,14 @@ fn take_within<L: Loglet, R: Register, K: Terms, Q: Scope, S: Replica, C: Choose
     desks: &mut Vec<Desk>,
     _counts: &[u64; 64],
 ) -> Back<L, R, K, S, C, ()>
+    requires lower { (log : List Entry) (n : ℕ) → Q.floor log n → K.floor log n }
     requires state { (log : List Entry) (m : SpaceMap) → S.state log m → IsStateOf log m }
-    requires seat { SeatOk Q.sends K.floor K.shelf S.state S.spells fabric.journal seat }
+    requires seat { SeatOk Q.sends Q.floor K.shelf S.state S.spells fabric.journal seat }
     requires narrower { (who : ℕ) (e : Entry) → Q.sends who e → K.may who e }
     requires since { Q.since ≡ fabric.journal }
     requires desks { CanTakeAll Q.sends (node_of seat fabric.journal) desks.old.items }
     ensures node { node_of result.seat result.fabric.journal ≡ node_of seat fabric.journal }
-    ensures seat { SeatOk Q.sends K.floor K.shelf S.state S.spells result.fabric.journal result.seat }
+    ensures seat { SeatOk Q.sends Q.floor K.shelf S.state S.spells result.fabric.journal result.seat }
     ensures takes { OnOk result.answer (TakesAll (node_of seat fabric.journal) desks.old.items desks.new.items) }
 {
     let node = seat.wake::<L, R, K, Q>(fabric);
@@ -135,10 +140,10 @@ pub fn take_answers<L: Loglet, R: Register, K: Terms, S: Replica, C: Chooser>(
     counts: &[u64; 64],
 ) -> Back<L, R, K, S, C, ()>
     requires state { (log : List Entry) (m : SpaceMap) → S.state log m → IsStateOf log m }
-    requires seat { SeatOk (Within K.may counts.now) K.floor K.shelf S.state S.spells fabric.journal seat }
+    requires seat { SeatOk (Sends K.may counts.now fabric.journal) K.floor K.shelf S.state S.spells fabric.journal seat }
     requires desks { CanTakeAll (Within K.may counts.now) (node_of seat fabric.journal) desks.old.items }
     ensures node { node_of result.seat result.fabric.journal ≡ node_of seat fabric.journal }
-    ensures seat { SeatOk (Within K.may counts.now) K.floor K.shelf S.state S.spells result.fabric.journal result.seat }
+    ensures seat { SeatOk (Sends K.may counts.now fabric.journal) K.floor K.shelf S.state S.spells result.fabric.journal result.seat }
     ensures takes { OnOk result.answer (TakesAll (node_of seat fabric.journal) desks.old.items desks.new.items) }
 {
     take_within::<L, R, K, Brand, S, C>(fabric, seat, desks, counts)

@@ -15,7 +15,7 @@ use Rattle.node_lines.specs.Moving.{Goes, StaysGiven, Moves}
 use Rattle.node_lines.specs.Desks.{HasAnswers, DeskOk}
 use Rattle.node_lines.proofs.Moving.{none-before}
 
-module _ (may : ℕ → Entry → Type 0) (floor : List Entry → ℕ) (shelf : List ℕ) (low : (log : List Entry) → floor log ≤ length log) where
+module _ (may : ℕ → Entry → Type 0) (floor : List Entry → ℕ → Type 0) (shelf : List ℕ) (low : (log : List Entry) (n : ℕ) → floor log n → n ≤ length log) where
   pub front_later : (old new : List Event) (log : List Entry) → IsLegal may floor shelf new → Extends old new → IsFront Holds old log → IsFront Holds new log
   front_later old new log legal on h = λ pos e at. subst (λ l. Holds l pos e) (sym on.1) (held_stays may floor shelf old on.0 pos e (subst (IsLegal may floor shelf) on.1 legal) (h pos e at))
 

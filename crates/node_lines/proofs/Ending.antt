@@ -10,12 +10,13 @@ use Rattle.legal_journal.specs.declared.events.Event.{Event}
 use Rattle.legal_journal.specs.Journal.{state_of, tail_of, IsLegal}
 use Rattle.legal_journal.proofs.Legal.{goes_on}
 use Rattle.virtual_log.specs.Holding.{Holds, IsTrimmed}
-use Rattle.virtual_log.specs.Turning.{IsAbove}
+use Rattle.virtual_log.specs.Turning.{IsAbove, OnlyOwn}
+use Rattle.virtual_log.proofs.Owning.{own_split}
 use Rattle.engine_api.specs.Acted.{asked_in}
 use Rattle.engine_api.specs.Order.{gap_from, numbers}
 use Rattle.engine_laws.specs.State.{IsStateOf}
 use Rattle.replica_api.specs.Replica.{saved_in}
-use Rattle.base_engine.specs.Following.{IsAt, IsStateAt}
+use Rattle.base_engine.specs.Following.{IsAt, IsStateAt, EndsBy}
 use Rattle.base_engine.specs.Querying.{found_in}
 use Rattle.base_engine.specs.Reading.{IsFront}
 use Rattle.base_engine.specs.Settling.{cause_in}
@@ -33,6 +34,7 @@ use Rattle.node_lines.specs.declared.steps.Synced.{Synced}
 use Rattle.node_lines.specs.declared.steps.Synced.TheVariants as synced'
 use Rattle.node_lines.specs.Moving.{Moves, failure_of}
 use Rattle.node_lines.specs.Desks.{DeskOk, IsBound, KeepsFrom}
+use Rattle.node_lines.specs.Measuring.{StandsAt}
 use Rattle.node_lines.specs.Lines.{LooksSo, Looks, HasActedTo, EndsPhase, stopped_by}
 use Rattle.node_lines.proofs.Moving.{moves-both, none-before}
 
@@ -47,7 +49,7 @@ given_landed seen s sent g r first last =
     ⊎_elim (λ (h : HasLanded seen s r). h) (λ w. absurd w.among) (g.under_way r first (omega (arith, last, none)))
 
 -- All was packed and settled, and then a tail was found and played to.
-pub record Ended (may : ℕ → Entry → Type 0) (floor : List Entry → ℕ) (shelf : List ℕ) (old packed settled new : NodeView) (tail : ℕ) : Type 0 where
+pub record Ended (may : ℕ → Entry → Type 0) (floor : List Entry → ℕ → Type 0) (shelf : List ℕ) (old packed settled new : NodeView) (tail : ℕ) : Type 0 where
   pub first : Moves may floor shelf old packed []
   pub next : Moves may floor shelf packed settled []
   pub none : settled.outbox.entries ≡ []
@@ -57,7 +59,7 @@ pub record Ended (may : ℕ → Entry → Type 0) (floor : List Entry → ℕ) (
   pub at : IsAt tail new.replica new.seen
   pub keeps : KeepsFrom may floor shelf old.replica.cursor
 
-module _ (may : ℕ → Entry → Type 0) (floor : List Entry → ℕ) (shelf : List ℕ) (low : (log : List Entry) → floor log ≤ length log) where
+module _ (may : ℕ → Entry → Type 0) (floor : List Entry → ℕ → Type 0) (shelf : List ℕ) (low : (log : List Entry) (n : ℕ) → floor log n → n ≤ length log) where
   module _ (old packed settled new : NodeView) (tail : ℕ) (e : Ended may floor shelf old packed settled new tail) where
     both : Moves may floor shelf old settled []
     both = moves-both may floor shelf low old packed settled [] [] e.first e.next
@@ -96,8 +98,26 @@ module _ (may : ℕ → Entry → Type 0) (floor : List Entry → ℕ) (shelf : 
         let found = above_tail may floor shelf settled.who tail settled.seen new.seen legal e.above in
         omega (arith, up, found)
 
-    pub ends_at : new.outbox.entries ≡ [] → new.replica.kept ≡ [] → EndsPhase may floor shelf old new None
-    ends_at none kept = record { moves = all; none = none; kept = kept; acted = λ f. acted }
+    -- where each event is its own, the log ends there
+    exact : settled.replica.cursor ≡ old.replica.cursor → EndsBy settled.who settled.replica.cursor settled.seen tail new.seen → EndsBy old.who old.replica.cursor old.seen new.replica.cursor new.seen
+    exact still by trim alone =
+        let k = both.goes.keeps in
+        let parts = own_split old.who old.seen settled.seen new.seen k.later.more e.last.goes.keeps.later.more k.later.seen e.last.goes.keeps.later.seen alone in
+        let ends = by (omega (arith, trim, still)) (subst (λ w. OnlyOwn w settled.seen new.seen) (sym k.who) parts.1) in
+        omega (arith, ends, cursor_is)
+
+    pub ends_at : new.outbox.entries ≡ [] → new.replica.kept ≡ [] → settled.replica.cursor ≡ old.replica.cursor → EndsBy settled.who settled.replica.cursor settled.seen tail new.seen → EndsPhase may floor shelf old new None
+    ends_at none kept still by = record { moves = all; none = none; kept = kept; acted = λ f. acted; exact = λ f. exact still by }
+
+    -- the node has the state of a front then
+    pub stands_at : (state : List Entry → SpaceMap → Type 0) → ((log : List Entry) (m : SpaceMap) → state log m → IsStateOf log m) → IsStateAt Holds state new.seen (saved_in new.replica) → StandsAt old new
+    stands_at state means at = record {
+      log = at.log;
+      front = at.front;
+      from = omega (arith, upward, cursor_is, at.size);
+      size = at.size;
+      led = means at.log new.replica.contents at.led;
+    }
 
     -- what a read answers then
     pub looks_at : (state : List Entry → SpaceMap → Type 0) (d : Desk) (query : Query) (found : Found) → ((log : List Entry) (m : SpaceMap) → state log m → IsStateOf log m)
@@ -134,7 +154,7 @@ length-numbers a zero = refl
 length-numbers a (suc n) = ap suc (length-numbers (a + 1) n)
 
 -- All was settled, and then a tail was found and played to.
-pub record CaughtUp (may : ℕ → Entry → Type 0) (floor : List Entry → ℕ) (shelf : List ℕ) (old settled new : NodeView) (tail : ℕ) : Type 0 where
+pub record CaughtUp (may : ℕ → Entry → Type 0) (floor : List Entry → ℕ → Type 0) (shelf : List ℕ) (old settled new : NodeView) (tail : ℕ) : Type 0 where
   pub first : Moves may floor shelf old settled []
   pub none : settled.outbox.entries ≡ []
   pub few : length settled.replica.kept ≤ 15
@@ -143,7 +163,7 @@ pub record CaughtUp (may : ℕ → Entry → Type 0) (floor : List Entry → ℕ
   pub at : IsAt tail new.replica new.seen
   pub keeps : KeepsFrom may floor shelf old.replica.cursor
 
-module _ (may : ℕ → Entry → Type 0) (floor : List Entry → ℕ) (shelf : List ℕ) (low : (log : List Entry) → floor log ≤ length log) where
+module _ (may : ℕ → Entry → Type 0) (floor : List Entry → ℕ → Type 0) (shelf : List ℕ) (low : (log : List Entry) (n : ℕ) → floor log n → n ≤ length log) where
   -- the next command of a session that has no cause is near
   pub near_after : (state : List Entry → SpaceMap → Type 0) (old settled new : NodeView) (tail s sent : ℕ) (answers : List Kept) → CaughtUp may floor shelf old settled new tail
       → IsStateAt Holds state new.seen (saved_in new.replica) → cause_in s new.outbox.given ≡ None → IsGiven old.seen old.outbox.entries old.replica.kept s sent

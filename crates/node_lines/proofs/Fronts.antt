@@ -64,7 +64,7 @@ answers-longer log more s answers h = record {
 }
 
 -- in each front of the log that is long enough
-pub answers_at : (may : ℕ → Entry → Type 0) (floor : List Entry → ℕ) (shelf : List ℕ) (seen : List Event) (c s : ℕ) (answers : List Kept) → IsLegal may floor shelf seen → HasAnswers seen c s answers
+pub answers_at : (may : ℕ → Entry → Type 0) (floor : List Entry → ℕ → Type 0) (shelf : List ℕ) (seen : List Event) (c s : ℕ) (answers : List Kept) → IsLegal may floor shelf seen → HasAnswers seen c s answers
     → InFront seen c (λ log. AreAnswers log s answers)
 answers_at may floor shelf seen c s answers legal h = λ log size front.
     subst (λ l. AreAnswers l s answers)

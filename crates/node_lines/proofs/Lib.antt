@@ -3,6 +3,11 @@ pub mod Quiet
 pub mod Moving
 pub mod Reporting
 pub mod Leaving
+pub mod Measuring
+pub mod Floors
+pub mod Raised
+pub mod Relaying
+pub mod Assembling
 pub mod Desks
 pub mod Fronts
 pub mod Ending

@@ -1,5 +1,5 @@
 -- What a node's calls keep of its sessions.
-use Rattle.std.proofs.Common.{◌≡◌, refl, sym, ap, ◌∙◌, subst, ℕ, ◌+◌, ◌≤◌, cond, Bool, true, false, List, [], ◌∷◌, ◌++◌, Option, Some, None, map, length, arith, append_assoc, append-nil}
+use Rattle.std.proofs.Common.{◌≡◌, ◌⊎◌, inl, inr, refl, sym, ap, ◌∙◌, subst, ℕ, ◌+◌, ◌≤◌, cond, Bool, true, false, List, [], ◌∷◌, ◌++◌, Option, Some, None, map, length, arith, append_assoc, append-nil}
 use Rattle.std.specs.Prelude.{◌==◌, All}
 use Rattle.std.proofs.lemmas.Bool.Decides.{nat_tests}
 use Rattle.std.proofs.lemmas.List.{map-append}
@@ -33,6 +33,11 @@ packs-flushed : (origin : ℕ) (kept kept' : List Item) (p : Option Entry) → F
 packs-flushed origin kept kept' None h c = subst CanPack (h.0 ∙ sym h.1) c
 packs-flushed origin kept kept' (Some e) h c = subst CanPack (sym h.2) (record { each = All-nil IsProposable; few = omega arith })
 
+-- an item that goes down waits then, or was packed with all that waited
+pub waits-queued : (origin : ℕ) (kept kept' : List Item) (item : Item) (p : Option Entry) → Queues origin kept item p kept' → (kept' ≡ kept ++ item ∷ []) ⊎ (kept' ≡ [])
+waits-queued origin kept kept' item None h = inl h.0
+waits-queued origin kept kept' item (Some e) h = inr h.2
+
 still_in : (n : NodeView) (s : ℕ) → IsQuiet n s → IsStill n.outbox n.replica.kept s
 still_in n s q = record { outstanding = q.outstanding; waiting = q.waiting; free = q.free }
 
@@ -55,7 +60,7 @@ rank_elsewhere s t r (Some (content.Leave n)) own other = refl
 rank_elsewhere s t r (Some (content.Trim p)) own other = refl
 rank_elsewhere s t r None own other = refl
 
-module _ (may : ℕ → Entry → Type 0) (floor : List Entry → ℕ) (shelf : List ℕ) (low : (log : List Entry) → floor log ≤ length log) where
+module _ (may : ℕ → Entry → Type 0) (floor : List Entry → ℕ → Type 0) (shelf : List ℕ) (low : (log : List Entry) (n : ℕ) → floor log n → n ≤ length log) where
   extends-of : (old new : NodeView) → Keeps may floor shelf old new → Extends old.seen new.seen
   extends-of old new k = (k.later.more, k.later.seen)
 

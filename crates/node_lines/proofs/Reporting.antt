@@ -134,16 +134,18 @@ met-one who old new was is e one none h = by h.done h.given h.all h.gained h.fat
         }
     by (x ∷ y ∷ ys) given all gained fates = absurd (let no : e ∷ [] ≡ x ∷ (y ∷ (ys ++ is.entries)) = sym one ∙ all in cc)
 
-module _ (may : ℕ → Entry → Type 0) (floor : List Entry → ℕ) (shelf : List ℕ) (low : (log : List Entry) → floor log ≤ length log) where
+module _ (may : ℕ → Entry → Type 0) (floor : List Entry → ℕ → Type 0) (shelf : List ℕ) (low : (log : List Entry) (n : ℕ) → floor log n → n ≤ length log) where
   -- an item went down and was packed
   pub lays-down : (old mid new : NodeView) (item : Item) → Moves may floor shelf old mid [] → Moves may floor shelf mid new [] → old.outbox.entries ≡ [] → old.replica.kept ≡ [] → new.replica.kept ≡ []
       → Sent Holds old.who old.seen old.outbox (λ p. Queues old.replica.origin old.replica.kept item p mid.replica.kept) mid.seen mid.outbox
-      → Sent Holds mid.who mid.seen mid.outbox (λ p. Flushes mid.replica.origin mid.replica.kept p new.replica.kept) new.seen new.outbox → LaysDown may floor shelf old new item
-  lays-down old mid new item first then none kept empty s f = record {
+      → Sent Holds mid.who mid.seen mid.outbox (λ p. Flushes mid.replica.origin mid.replica.kept p new.replica.kept) new.seen new.outbox
+      → mid.replica ≡ record old.replica { kept = mid.replica.kept } → new.replica ≡ record mid.replica { kept = [] } → LaysDown may floor shelf old new item
+  lays-down old mid new item first then none kept empty s f queued_in packed_in = record {
     moves = moves-both may floor shelf low old mid new [] [] first then;
     entries = flushed.0;
     unsettled = flushed.1;
     kept = empty;
+    replica = packed_in ∙ ap (λ (r : ReplicaView). record r { kept = [] }) queued_in;
   }
     where
       queued : (mid.outbox.entries ≡ []) × (mid.outbox.unsettled ≡ old.outbox.unsettled) × (mid.replica.kept ≡ item ∷ [])
@@ -197,6 +199,7 @@ module _ (may : ℕ → Entry → Type 0) (floor : List Entry → ℕ) (shelf : 
         (moves-lost mid new (packed old.replica.origin (item ∷ [])) cause k same lays.entries (plain-sessions old.replica.origin item fine p) (lays.unsettled ∙ calm) a);
     none = a.none;
     kept = ap (λ (r : ReplicaView). r.kept) same ∙ lays.kept;
+    replica = same ∙ lays.replica;
     appended = λ none. absurd (cc);
   }
 
@@ -206,6 +209,7 @@ module _ (may : ℕ → Entry → Type 0) (floor : List Entry → ℕ) (shelf : 
     moves = moves-both may floor shelf low old mid new [] [] lays.moves (moves-settle may floor shelf low mid new None k same a.settled);
     none = a.none;
     kept = ap (λ (r : ReplicaView). r.kept) same ∙ lays.kept;
+    replica = same ∙ lays.replica;
     appended = λ none. record {
       landed = record {
         before = mid.seen;
@@ -224,25 +228,3 @@ module _ (may : ℕ → Entry → Type 0) (floor : List Entry → ℕ) (shelf : 
 
       one : Lands Holds mid.who mid.seen (e ∷ []) new.seen new.known
       one = subst (λ es. Lands Holds mid.who mid.seen es new.seen new.known) lays.entries landed
-
-  -- what was reported is clean in the state at a tail
-  pub has_told : (old packed' settled synced new : NodeView) (tail : ℕ) → Ended may floor shelf old packed' settled synced tail → (state : List Entry → SpaceMap → Type 0) → ((log : List Entry) (m : SpaceMap) → state log m → IsStateOf log m)
-      → IsStateAt Holds state synced.seen (saved_in synced.replica) → (number position : ℕ) (item : Item) → position ≡ clean_of synced.replica.contents synced.replica.cursor → item ≡ alive_item number position → number ≡ old.replica.origin
-      → IsProposable item → content_of item ≡ Some (content.Alive number position) → Tells may floor shelf synced new item None → HasTold old new position
-  has_told old packed' settled synced new tail e state means at number position item is made own fine says tells = record {
-    log = at.log;
-    synced = synced.seen;
-    since = (k.later.more, k.later.seen);
-    front = at.front;
-    from = omega (arith, upward may floor shelf low old packed' settled synced tail e, cursor_is may floor shelf low old packed' settled synced tail e, at.size);
-    within = omega (arith, at.size, tells.moves.goes.keeps.forward);
-    clean = is ∙ (ap (clean_of synced.replica.contents) (sym at.size) ∙ (means at.log synced.replica.contents at.led).clean);
-    says = says_alone old.replica.origin item (alive_item old.replica.origin position) (content.Alive number position) fine says reported ∙ ap (λ n. placed_from 0 0 (content.Alive n position ∷ [])) own;
-    landed = (appended_own old synced new.seen new.known item (alive_item old.replica.origin position) k.who k.origin reported (tells.appended refl)).landed;
-  }
-    where
-      k : Keeps may floor shelf old synced
-      k = (all may floor shelf low old packed' settled synced tail e).goes.keeps
-
-      reported : item ≡ alive_item old.replica.origin position
-      reported = made ∙ ap (λ n. alive_item n position) own

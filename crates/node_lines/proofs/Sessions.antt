@@ -14,7 +14,6 @@ use Rattle.engine_api.specs.declared.content.Content.{Content}
 use Rattle.engine_api.specs.declared.content.Content.TheVariants as content
 use Rattle.engine_api.specs.Acted.{asked_in}
 use Rattle.engine_api.specs.Order.{gap_from}
-use Rattle.engine_api.specs.Packing.{packed, IsProposable}
 use Rattle.engine_steps.specs.declared.layout.Kept.{Kept}
 use Rattle.engine_steps.specs.Layout.{last_of}
 use Rattle.engine_steps.specs.Words.{under}
@@ -27,8 +26,8 @@ use Rattle.base_engine.specs.Node.{NodeView}
 use Rattle.node_sessions.specs.declared.desk.Desk.{Desk}
 use Rattle.node_sessions.specs.Desks.{AreAnswers, AreAllAnswers, InFront}
 use Rattle.node_sessions.specs.UnderWay.{IsGiven, rank_under}
-use Rattle.node_lines.specs.Moving.{HandsIn, CanPack}
-use Rattle.node_lines.specs.Desks.{HasAnswers, DeskOk, MayJoin}
+use Rattle.node_lines.specs.Moving.{HandsIn}
+use Rattle.node_lines.specs.Desks.{HasAnswers, DeskOk}
 use Rattle.node_lines.specs.Lines.{IsFree, HasActedTo, stopped_unanswered, Closes}
 use Rattle.node_lines.proofs.Fronts.{answers_at}
 use Rattle.node_lines.proofs.Desks.{answers_later}
@@ -42,7 +41,7 @@ pub collected : (state : List Entry → SpaceMap → Type 0) (n : NodeView) (s :
     → InFront n.seen n.replica.cursor (λ log. AreAllAnswers log s answers) → HasAnswers n.seen n.replica.cursor s answers
 collected state n s answers at h = record { log = at.log; front = at.front; upto = omega (arith, at.size); are = some-of-all at.log s answers (h at.log at.size at.front) }
 
-module _ (may : ℕ → Entry → Type 0) (floor : List Entry → ℕ) (shelf : List ℕ) (low : (log : List Entry) → floor log ≤ length log) where
+module _ (may : ℕ → Entry → Type 0) (floor : List Entry → ℕ → Type 0) (shelf : List ℕ) (low : (log : List Entry) (n : ℕ) → floor log n → n ≤ length log) where
   -- so many commands acted as there are answers
   pub answers_low : (state : List Entry → SpaceMap → Type 0) (n : NodeView) (s : ℕ) (answers : List Kept) → ((log : List Entry) (m : SpaceMap) → state log m → IsStateOf log m) → IsLegal may floor shelf n.seen
       → s ≤ 63 → IsStateAt Holds state n.seen (saved_in n.replica) → HasAnswers n.seen n.replica.cursor s answers → length answers ≤ last_of n.replica.contents s
@@ -65,15 +64,7 @@ own_under s r c = rw (same s) refl
     same : (s : ℕ) → (s == s) ≡ true
     same s = grind (arith, nat_tests)
 
--- one more item may go down
-pub may_go_down : (may : ℕ → Entry → Type 0) (who origin : ℕ) (kept : List Item) (item : Item) → MayJoin may who origin → CanPack kept → IsProposable item → may who (packed origin (item ∷ []))
-    → ((length kept ≡ 0 → ⊥) → may who (packed origin kept)) → may who (packed origin (kept ++ item ∷ []))
-may_go_down may who origin [] item join can fine own waits = own
-may_go_down may who origin (k ∷ ks) item join can fine own waits =
-    let some : length (k ∷ ks) ≡ 0 → ⊥ = λ e. absurd (omega (arith, e)) in
-    join (k ∷ ks) item some can.each can.few fine (waits some) own
-
-module _ (may : ℕ → Entry → Type 0) (floor : List Entry → ℕ) (shelf : List ℕ) (low : (log : List Entry) → floor log ≤ length log) where
+module _ (may : ℕ → Entry → Type 0) (floor : List Entry → ℕ → Type 0) (shelf : List ℕ) (low : (log : List Entry) (n : ℕ) → floor log n → n ≤ length log) where
   -- no answer is lost
   pub answers_more : (state : List Entry → SpaceMap → Type 0) (n : NodeView) (s : ℕ) (before after : List Kept) → IsLegal may floor shelf n.seen → IsStateAt Holds state n.seen (saved_in n.replica)
       → HasAnswers n.seen n.replica.cursor s before → InFront n.seen n.replica.cursor (λ log. AreAllAnswers log s after) → length before ≤ length after

@@ -24,7 +24,7 @@ use Rattle.node_lines.specs.Desks.{DeskOk, IsBound}
 use Rattle.node_lines.specs.Lines.{Stopped}
 use Rattle.node_lines.specs.Turns.{ClosesIt, EndsTurn}
 
-module _ (may : ℕ → Entry → Type 0) (floor : List Entry → ℕ) (shelf : List ℕ) (low : (log : List Entry) → floor log ≤ length log) where
+module _ (may : ℕ → Entry → Type 0) (floor : List Entry → ℕ → Type 0) (shelf : List ℕ) (low : (log : List Entry) (n : ℕ) → floor log n → n ≤ length log) where
   -- what has acted in a front of the log has landed
   pub acted_landed : (seen : List Event) (log : List Entry) (s r : ℕ) → IsLegal may floor shelf seen → IsFront Holds seen log → 1 ≤ r → r < gap_from (asked_in 0 log) s 1 → HasLanded seen s r
   acted_landed seen log s r legal front first high =
@@ -85,7 +85,7 @@ module _ (may : ℕ → Entry → Type 0) (floor : List Entry → ℕ) (shelf : 
           unstopped f (inr x) = x.2 (was.ended (sym x.0 ∙ f))
 
 -- once a phase has ended nothing of any session is on its way
-pub ends_quiet : (may : ℕ → Entry → Type 0) (floor : List Entry → ℕ) (shelf : List ℕ) (old new : NodeView) (was is : List Desk) (failed : Option Cause) → EndsTurn may floor shelf old new was is failed → (s : ℕ) → IsQuiet new s
+pub ends_quiet : (may : ℕ → Entry → Type 0) (floor : List Entry → ℕ → Type 0) (shelf : List ℕ) (old new : NodeView) (was is : List Desk) (failed : Option Cause) → EndsTurn may floor shelf old new was is failed → (s : ℕ) → IsQuiet new s
 ends_quiet may floor shelf old new was is failed h s = subst (λ (n : NodeView). IsQuiet n s) (sym h.forgets) (record {
   outstanding = subst (All (HasNoneOf s)) (sym h.ends.none) (All-nil (HasNoneOf s));
   waiting = ap (ranks_in s) h.ends.kept;

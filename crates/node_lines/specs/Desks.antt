@@ -51,5 +51,5 @@ MayJoin may who origin =
     → may who (packed origin items) → may who (packed origin (item ∷ [])) → may who (packed origin (items ++ item ∷ []))
 
 -- nothing is trimmed at a position or above
-abbrev pub KeepsFrom : (ℕ → Entry → Type 0) → (List Entry → ℕ) → List ℕ → ℕ → Type 0
+abbrev pub KeepsFrom : (ℕ → Entry → Type 0) → (List Entry → ℕ → Type 0) → List ℕ → ℕ → Type 0
 KeepsFrom may floor shelf cursor = (seen : List Event) (pos : ℕ) → IsLegal may floor shelf seen → IsTrimmed seen pos → pos + 1 ≤ cursor

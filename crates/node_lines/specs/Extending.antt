@@ -19,16 +19,17 @@ ExtendsSo cells old new others (looked.Kept c) = ⊥
 ExtendsSo cells old new others (looked.Found after found) = ⊥
 ExtendsSo cells old new others (looked.Reported position) = ⊥
 ExtendsSo cells old new others looked.Left = ⊥
+ExtendsSo cells old new others (looked.Trimmed trim) = ⊥
 
 -- What waited was packed, and all that was outstanding was carried to its end.
-pub record CarriesAll (may : ℕ → Entry → Type 0) (floor : List Entry → ℕ) (shelf : List ℕ) (old new : NodeView) : Type 0 where
+pub record CarriesAll (may : ℕ → Entry → Type 0) (floor : List Entry → ℕ → Type 0) (shelf : List ℕ) (old new : NodeView) : Type 0 where
   pub moves : Moves may floor shelf old new []
   pub none : new.outbox.entries ≡ []
   pub kept : new.replica.kept ≡ []
 
 -- The last loglet was replaced, and nothing else was done: whatever came of it, no Seal was begun, or one of the loglet that was
 -- the last one.
-pub record Replaces (may : ℕ → Entry → Type 0) (floor : List Entry → ℕ) (shelf : List ℕ) (old new : NodeView) (answer : Looked) : Type 0 where
+pub record Replaces (may : ℕ → Entry → Type 0) (floor : List Entry → ℕ → Type 0) (shelf : List ℕ) (old new : NodeView) (answer : Looked) : Type 0 where
   pub others : List Cause
   pub moves : Moves may floor shelf old new others
   pub replica : new.replica ≡ old.replica
@@ -37,7 +38,7 @@ pub record Replaces (may : ℕ → Entry → Type 0) (floor : List Entry → ℕ
   pub seals : SealsLast old.who old.seen new.seen
 
 -- One after the other. No Seal was begun before the last loglet was replaced.
-pub record Extends (may : ℕ → Entry → Type 0) (floor : List Entry → ℕ) (shelf : List ℕ) (old new : NodeView) (answer : Looked) : Type 0 where
+pub record Extends (may : ℕ → Entry → Type 0) (floor : List Entry → ℕ → Type 0) (shelf : List ℕ) (old new : NodeView) (answer : Looked) : Type 0 where
   pub others : List Cause
   pub moves : Moves may floor shelf old new others
   pub settled : NodeView

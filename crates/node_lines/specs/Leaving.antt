@@ -16,7 +16,7 @@ use Rattle.node_lines.specs.Moving.{Moves}
 use Rattle.node_lines.specs.Lines.{failure_in}
 
 -- The log was played as far as it is known; or the log or the disk failed. Nothing else was done.
-pub record PlaysKnown (may : ℕ → Entry → Type 0) (floor : List Entry → ℕ) (shelf : List ℕ) (old new : NodeView) (failed : Option Cause) : Type 0 where
+pub record PlaysKnown (may : ℕ → Entry → Type 0) (floor : List Entry → ℕ → Type 0) (shelf : List ℕ) (old new : NodeView) (failed : Option Cause) : Type 0 where
   pub moves : Moves may floor shelf old new (failure_in failed)
   pub outbox : new.outbox ≡ old.outbox
   pub kept : new.replica.kept ≡ old.replica.kept
@@ -38,9 +38,10 @@ LeavesSo old new others (looked.Kept c) = ⊥
 LeavesSo old new others (looked.Found after found) = ⊥
 LeavesSo old new others (looked.Extended x) = ⊥
 LeavesSo old new others (looked.Reported position) = ⊥
+LeavesSo old new others (looked.Trimmed trim) = ⊥
 
 -- All was carried to its end, and the node left, or failed to.
-pub record Leaves (may : ℕ → Entry → Type 0) (floor : List Entry → ℕ) (shelf : List ℕ) (old new : NodeView) (answer : Looked) : Type 0 where
+pub record Leaves (may : ℕ → Entry → Type 0) (floor : List Entry → ℕ → Type 0) (shelf : List ℕ) (old new : NodeView) (answer : Looked) : Type 0 where
   pub others : List Cause
   pub moves : Moves may floor shelf old new others
   pub none : new.outbox.entries ≡ []

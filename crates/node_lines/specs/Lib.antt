@@ -5,3 +5,5 @@ pub mod Extending
 pub mod Reporting
 pub mod Leaving
 pub mod Turns
+pub mod Measuring
+pub mod Trimming

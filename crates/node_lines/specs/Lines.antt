@@ -13,6 +13,7 @@ use Rattle.virtual_log.specs.Holding.{Holds}
 use Rattle.engine_api.specs.Acted.{asked_in, table_after}
 use Rattle.engine_api.specs.Order.{gap_from}
 use Rattle.engine_laws.specs.State.{acts_in}
+use Rattle.base_engine.specs.Following.{EndsBy}
 use Rattle.base_engine.specs.Reading.{IsFront}
 use Rattle.base_engine.specs.Settling.{cause_in}
 use Rattle.base_engine.specs.Node.{NodeView}
@@ -35,7 +36,7 @@ stopped_by (synced.At tail) stopped = stopped
 stopped_by (synced.Failed c) stopped = Some c
 
 -- All was carried to its end and played. Where the session is free still, its next command is near.
-pub record CatchesUp (may : ℕ → Entry → Type 0) (floor : List Entry → ℕ) (shelf : List ℕ) (old new : NodeView) (was is : Desk) : Type 0 where
+pub record CatchesUp (may : ℕ → Entry → Type 0) (floor : List Entry → ℕ → Type 0) (shelf : List ℕ) (old new : NodeView) (was is : Desk) : Type 0 where
   pub synced : Synced
   pub moves : Moves may floor shelf old new (failure_of synced)
   pub desk : is ≡ record was { answers = is.answers; stopped = stopped_by synced was.stopped }
@@ -43,7 +44,7 @@ pub record CatchesUp (may : ℕ → Entry → Type 0) (floor : List Entry → �
 
 -- A session that is ready has no cause, and its next command is near. One that isn't has a cause, or was stopped by that of
 -- a sync.
-pub record Readies (may : ℕ → Entry → Type 0) (floor : List Entry → ℕ) (shelf : List ℕ) (old new : NodeView) (was is : Desk) (ready : Bool) : Type 0 where
+pub record Readies (may : ℕ → Entry → Type 0) (floor : List Entry → ℕ → Type 0) (shelf : List ℕ) (old new : NodeView) (was is : Desk) (ready : Bool) : Type 0 where
   pub others : List Cause
   pub moves : Moves may floor shelf old new others
   pub desk : is ≡ record was { answers = is.answers; stopped = is.stopped }
@@ -68,8 +69,9 @@ LooksSo old new d query others (looked.Failed c) = (others ≡ c ∷ []) × (d.s
 LooksSo old new d query others (looked.Extended x) = ⊥
 LooksSo old new d query others (looked.Reported position) = ⊥
 LooksSo old new d query others looked.Left = ⊥
+LooksSo old new d query others (looked.Trimmed trim) = ⊥
 
-pub record Looks (may : ℕ → Entry → Type 0) (floor : List Entry → ℕ) (shelf : List ℕ) (old new : NodeView) (d : Desk) (query : Query) (answer : Looked) : Type 0 where
+pub record Looks (may : ℕ → Entry → Type 0) (floor : List Entry → ℕ → Type 0) (shelf : List ℕ) (old new : NodeView) (d : Desk) (query : Query) (answer : Looked) : Type 0 where
   pub others : List Cause
   pub moves : Moves may floor shelf old new others
   pub looks : LooksSo old new d query others answer
@@ -82,12 +84,15 @@ abbrev pub failure_in : Option Cause → List Cause
 failure_in None = []
 failure_in (Some c) = c ∷ []
 
--- All was carried to its end and played. Where a tail was found, what a session was given has acted, if it has no cause.
-pub record EndsPhase (may : ℕ → Entry → Type 0) (floor : List Entry → ℕ) (shelf : List ℕ) (old new : NodeView) (failed : Option Cause) : Type 0 where
+-- All was carried to its end and played. Where a tail was found, what a session was given has acted, if it has no cause; and the
+-- log ends no higher than what the node has applied then, where no event of another came meanwhile and nothing was trimmed above
+-- where the node was.
+pub record EndsPhase (may : ℕ → Entry → Type 0) (floor : List Entry → ℕ → Type 0) (shelf : List ℕ) (old new : NodeView) (failed : Option Cause) : Type 0 where
   pub moves : Moves may floor shelf old new (failure_in failed)
   pub none : new.outbox.entries ≡ []
   pub kept : new.replica.kept ≡ []
   pub acted : failed ≡ None → (s sent : ℕ) → cause_in s new.outbox.given ≡ None → IsGiven old.seen old.outbox.entries old.replica.kept s sent → InFront new.seen new.replica.cursor (HasActedTo s sent)
+  pub exact : failed ≡ None → EndsBy old.who old.replica.cursor old.seen new.replica.cursor new.seen
 
 -- a session that has commands which weren't answered is stopped, unless it was at the end of an earlier phase
 abbrev pub stopped_unanswered : Option Cause → Desk → Desk

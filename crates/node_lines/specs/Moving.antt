@@ -48,7 +48,7 @@ failure_of (synced.At tail) = []
 failure_of (synced.Failed c) = c ∷ []
 
 -- what a node's call keeps, whatever it does: each cause that it gives, or answers, came of its own
-pub record Goes (may : ℕ → Entry → Type 0) (floor : List Entry → ℕ) (shelf : List ℕ) (old new : NodeView) (others : List Cause) : Type 0 where
+pub record Goes (may : ℕ → Entry → Type 0) (floor : List Entry → ℕ → Type 0) (shelf : List ℕ) (old new : NodeView) (others : List Cause) : Type 0 where
   pub keeps : Keeps may floor shelf old new
   pub given : List Given
   pub gained : new.outbox.given ≡ old.outbox.given ++ given
@@ -80,13 +80,13 @@ abbrev pub StaysQuiet : NodeView → NodeView → ℕ → Type 0
 StaysQuiet old new s = IsQuiet old s → IsQuiet new s
 
 -- of no session a command goes down
-pub record Moves (may : ℕ → Entry → Type 0) (floor : List Entry → ℕ) (shelf : List ℕ) (old new : NodeView) (others : List Cause) : Type 0 where
+pub record Moves (may : ℕ → Entry → Type 0) (floor : List Entry → ℕ → Type 0) (shelf : List ℕ) (old new : NodeView) (others : List Cause) : Type 0 where
   pub goes : Goes may floor shelf old new others
   pub stays : (s : ℕ) → StaysGiven old new s
   pub quiet : (s : ℕ) → StaysQuiet old new s
 
 -- of session s the next command after so many goes down
-pub record HandsIn (may : ℕ → Entry → Type 0) (floor : List Entry → ℕ) (shelf : List ℕ) (old new : NodeView) (s sent : ℕ) : Type 0 where
+pub record HandsIn (may : ℕ → Entry → Type 0) (floor : List Entry → ℕ → Type 0) (shelf : List ℕ) (old new : NodeView) (s sent : ℕ) : Type 0 where
   pub goes : Goes may floor shelf old new []
   pub own : GainsNext old new s sent
   pub stays : (t : ℕ) → (s == t) ≡ false → StaysGiven old new t

@@ -27,22 +27,24 @@ pub record IsPlain (item : Item) : Type 0 where
   pub none : session_of content ≡ None
 
 -- The item was packed alone, and its entry is all that is outstanding.
-pub record LaysDown (may : ℕ → Entry → Type 0) (floor : List Entry → ℕ) (shelf : List ℕ) (old new : NodeView) (item : Item) : Type 0 where
+pub record LaysDown (may : ℕ → Entry → Type 0) (floor : List Entry → ℕ → Type 0) (shelf : List ℕ) (old new : NodeView) (item : Item) : Type 0 where
   pub moves : Moves may floor shelf old new []
   pub entries : new.outbox.entries ≡ packed old.replica.origin (item ∷ []) ∷ []
   pub unsettled : new.outbox.unsettled ≡ old.outbox.unsettled
   pub kept : new.replica.kept ≡ []
+  pub replica : new.replica ≡ record old.replica { kept = [] }
 
 -- the entry was appended, at a position that the node knows
 pub record IsAppendedWithin (who : ℕ) (old : List Event) (e : Entry) (new : List Event) (known : ℕ) : Type 0 where
   pub landed : IsAppended Holds who old e new
   pub within : landed.position < known
 
--- The item's entry was appended; or it failed, and its cause is given to no session.
-pub record Tells (may : ℕ → Entry → Type 0) (floor : List Entry → ℕ) (shelf : List ℕ) (old new : NodeView) (item : Item) (failed : Option Cause) : Type 0 where
+-- The item's entry was appended; or it failed, and its cause is given to no session. Nothing was played.
+pub record Tells (may : ℕ → Entry → Type 0) (floor : List Entry → ℕ → Type 0) (shelf : List ℕ) (old new : NodeView) (item : Item) (failed : Option Cause) : Type 0 where
   pub moves : Moves may floor shelf old new (failure_in failed)
   pub none : new.outbox.entries ≡ []
   pub kept : new.replica.kept ≡ []
+  pub replica : new.replica ≡ record old.replica { kept = [] }
   pub appended : failed ≡ None → IsAppendedWithin old.who old.seen (packed old.replica.origin (item ∷ [])) new.seen new.known
 
 -- The node had the state of a front of the log that reaches each tail that was there before; so many of its entries are
@@ -66,9 +68,10 @@ ReportsSo old new others (looked.Kept c) = ⊥
 ReportsSo old new others (looked.Found after found) = ⊥
 ReportsSo old new others (looked.Extended x) = ⊥
 ReportsSo old new others looked.Left = ⊥
+ReportsSo old new others (looked.Trimmed trim) = ⊥
 
 -- All was carried to its end, and the node reported, or failed to.
-pub record Reports (may : ℕ → Entry → Type 0) (floor : List Entry → ℕ) (shelf : List ℕ) (old new : NodeView) (answer : Looked) : Type 0 where
+pub record Reports (may : ℕ → Entry → Type 0) (floor : List Entry → ℕ → Type 0) (shelf : List ℕ) (old new : NodeView) (answer : Looked) : Type 0 where
   pub others : List Cause
   pub moves : Moves may floor shelf old new others
   pub none : new.outbox.entries ≡ []

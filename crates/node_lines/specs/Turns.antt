@@ -22,7 +22,7 @@ pub record ClosesAll (n : NodeView) (failed : Option Cause) (old new : List Desk
   pub each : (s : ℕ) (d : Desk) → slice_get old s ≡ Some d → ClosesOne n failed d new s
 
 -- All was carried to its end and played, each session was closed, and the causes were forgotten.
-pub record EndsTurn (may : ℕ → Entry → Type 0) (floor : List Entry → ℕ) (shelf : List ℕ) (old new : NodeView) (was is : List Desk) (failed : Option Cause) : Type 0 where
+pub record EndsTurn (may : ℕ → Entry → Type 0) (floor : List Entry → ℕ → Type 0) (shelf : List ℕ) (old new : NodeView) (was is : List Desk) (failed : Option Cause) : Type 0 where
   pub mid : NodeView
   pub ends : EndsPhase may floor shelf old mid failed
   pub forgets : new ≡ record mid { outbox = record mid.outbox { given = [] } }

@@ -1,5 +1,5 @@
 //! What a line of a session asks of its node.
-ghost use Rattle.std.specs.Prelude.{◌≡◌, ◌<◌, ◌≤◌, ◌+◌, ◌^◌, ◌⊎◌, ℕ, List, [], ◌∷◌, length, None, Some, IfOk, OnOk};
+ghost use Rattle.std.specs.Prelude.{◌≡◌, ◌<◌, ◌≤◌, ◌+◌, ◌^◌, ◌⊎◌, ℕ, List, [], ◌∷◌, ◌++◌, length, None, Some, IfOk, OnOk};
 ghost use Rattle.std.specs.Option.{option_or};
 ghost use Rattle.delos_types.specs.declared.cause.Cause.{Cause};
 ghost use Rattle.delos_types.specs.Spaces.{SpaceMap};
@@ -13,7 +13,7 @@ ghost use Rattle.base_engine.specs.Following.{Follows};
 ghost use Rattle.base_engine.specs.Settling.{cause_in};
 ghost use Rattle.node_sessions.specs.Desks.{InFront};
 ghost use Rattle.node_lines.specs.Moving.{Moves, HandsIn, CanPack};
-ghost use Rattle.node_lines.specs.Desks.{DeskOk, IsBound, MayJoin, KeepsFrom};
+ghost use Rattle.node_lines.specs.Desks.{DeskOk, IsBound, KeepsFrom};
 ghost use Rattle.node_lines.specs.Lines.{CatchesUp, Readies, Looks, IsFree, EndsPhase, HasActedTo, Closes, stopped_by, stopped_unanswered};
 
 use crate::steps::{Synced, hand_in, pack, settle, sync};
@@ -31,15 +31,15 @@ use table_core::command::{Command, Found, Query};
 use virtual_log::extend::Extension;
 use virtual_log::log::VirtualLog;
 
-/// What a line came to that asks for no command: a read, a replacement of the last loglet, a report, or a node's leave.
+/// What a line came to that asks for no command: a read, a replacement of the last loglet, a report, a node's leave, or a trim.
 #[derive(Drop)]
 pub enum Looked {
     /// The table after the log's first `after` entries answers so.
     Found { after: u64, found: Found },
     /// The session was stopped, or was given this cause.
     Kept(Cause),
-    /// The log or the disk failed so as the read looked for a tail, or the node reported or left, or the log as its last loglet
-    /// was replaced.
+    /// The log or the disk failed so as the read looked for a tail, or the node reported, left or trimmed the log, or the log
+    /// as its last loglet was replaced.
     Failed(Cause),
     /// The last loglet was replaced, by this node or by another, or there is no next one.
     Extended(Extension),
@@ -47,6 +47,8 @@ pub enum Looked {
     Reported(u64),
     /// The node left.
     Left,
+    /// The log was trimmed to this position.
+    Trimmed(u64),
 }
 
 /// Why nothing more is tried for the session in this phase.
@@ -71,7 +73,7 @@ pub fn catch_up<T: Turns, C: Chooser, R: Replica>(
     node: &mut Node<VirtualLog<T, C>, R>,
     desk: &mut Desk,
 ) -> Result<(), AllocError>
-    requires floor { (log : List Entry) → T.Law.floor log ≤ length log }
+    requires floor { (log : List Entry) (n : ℕ) → T.Law.floor log n → n ≤ length log }
     requires state { (log : List Entry) (m : SpaceMap) → R.state log m → IsStateOf log m }
     requires legal { IsLegal T.Law.may T.Law.floor T.Law.shelf node.old.seen }
     requires kept { CanPack node.old.replica.kept }
@@ -81,6 +83,7 @@ pub fn catch_up<T: Turns, C: Chooser, R: Replica>(
     requires keeps { KeepsFrom T.Law.may T.Law.floor T.Law.shelf node.old.replica.cursor }
     ensures caught { OnOk result (CatchesUp T.Law.may T.Law.floor T.Law.shelf node.old node.new desk.old desk.new) }
     ensures desk { OnOk result (DeskOk node.new desk.old.session desk.new) }
+    ensures kept { OnOk result (node.new.replica.kept ≡ node.old.replica.kept) }
 {
     settle(node)?;
     let synced = sync(node)?;
@@ -110,7 +113,7 @@ pub fn log_command<T: Turns, C: Chooser, R: Replica>(
     desk: &mut Desk,
     command: &Command,
 ) -> Result<(), AllocError>
-    requires floor { (log : List Entry) → T.Law.floor log ≤ length log }
+    requires floor { (log : List Entry) (n : ℕ) → T.Law.floor log n → n ≤ length log }
     requires state { (log : List Entry) (m : SpaceMap) → R.state log m → IsStateOf log m }
     requires legal { IsLegal T.Law.may T.Law.floor T.Law.shelf node.old.seen }
     requires follows { Follows Holds R.state R.spells node.old.seen node.old.replica }
@@ -123,12 +126,11 @@ pub fn log_command<T: Turns, C: Chooser, R: Replica>(
     requires bound { IsBound T.Law.may desk.old.session (desk.old.sent + 1) }
     requires spelled { IsSpellable command.now }
     requires short { command_length command.now ≤ 984 }
-    requires own { T.Law.may node.old.who (packed node.old.replica.origin (session_item desk.old.session (desk.old.sent + 1) command.now ∷ [])) }
-    requires join { MayJoin T.Law.may node.old.who node.old.replica.origin }
-    requires waiting { (length node.old.replica.kept ≡ 0 → ⊥) → T.Law.may node.old.who (packed node.old.replica.origin node.old.replica.kept) }
+    requires own { T.Law.may node.old.who (packed node.old.replica.origin (node.old.replica.kept ++ session_item desk.old.session (desk.old.sent + 1) command.now ∷ [])) }
     ensures hands { OnOk result (HandsIn T.Law.may T.Law.floor T.Law.shelf node.old node.new desk.old.session desk.old.sent) }
     ensures desk { OnOk result (DeskOk node.new desk.old.session desk.new) }
     ensures counts { OnOk result (desk.new ≡ record desk.old { asked = desk.old.asked + 1; sent = desk.old.sent + 1; answers = desk.new.answers }) }
+    ensures kept { OnOk result ((node.new.replica.kept ≡ node.old.replica.kept ++ session_item desk.old.session (desk.old.sent + 1) command.now ∷ []) ⊎ (node.new.replica.kept ≡ [])) }
 {
     let Some(rank) = Rank::new(desk.sent + 1) else {
         unreachable!()
@@ -152,7 +154,7 @@ pub fn look<T: Turns, C: Chooser, R: Replica>(
     desk: &Desk,
     query: &Query,
 ) -> Result<Looked, AllocError>
-    requires floor { (log : List Entry) → T.Law.floor log ≤ length log }
+    requires floor { (log : List Entry) (n : ℕ) → T.Law.floor log n → n ≤ length log }
     requires state { (log : List Entry) (m : SpaceMap) → R.state log m → IsStateOf log m }
     requires legal { IsLegal T.Law.may T.Law.floor T.Law.shelf node.old.seen }
     requires kept { CanPack node.old.replica.kept }
@@ -182,7 +184,7 @@ pub fn look<T: Turns, C: Chooser, R: Replica>(
 pub fn end_phase<T: Turns, C: Chooser, R: Replica>(
     node: &mut Node<VirtualLog<T, C>, R>,
 ) -> Result<Option<Cause>, AllocError>
-    requires floor { (log : List Entry) → T.Law.floor log ≤ length log }
+    requires floor { (log : List Entry) (n : ℕ) → T.Law.floor log n → n ≤ length log }
     requires legal { IsLegal T.Law.may T.Law.floor T.Law.shelf node.old.seen }
     requires kept { CanPack node.old.replica.kept }
     requires keeps { KeepsFrom T.Law.may T.Law.floor T.Law.shelf node.old.replica.cursor }
@@ -204,7 +206,7 @@ pub fn close<T: Turns, C: Chooser, R: Replica>(
     desk: &mut Desk,
     failed: Option<Cause>,
 ) -> Result<(), AllocError>
-    requires floor { (log : List Entry) → T.Law.floor log ≤ length log }
+    requires floor { (log : List Entry) (n : ℕ) → T.Law.floor log n → n ≤ length log }
     requires state { (log : List Entry) (m : SpaceMap) → R.state log m → IsStateOf log m }
     requires legal { IsLegal T.Law.may T.Law.floor T.Law.shelf node.now.seen }
     requires follows { Follows Holds R.state R.spells node.now.seen node.now.replica }
@@ -237,7 +239,7 @@ pub fn make_ready<T: Turns, C: Chooser, R: Replica>(
     node: &mut Node<VirtualLog<T, C>, R>,
     desk: &mut Desk,
 ) -> Result<bool, AllocError>
-    requires floor { (log : List Entry) → T.Law.floor log ≤ length log }
+    requires floor { (log : List Entry) (n : ℕ) → T.Law.floor log n → n ≤ length log }
     requires state { (log : List Entry) (m : SpaceMap) → R.state log m → IsStateOf log m }
     requires legal { IsLegal T.Law.may T.Law.floor T.Law.shelf node.old.seen }
     requires kept { CanPack node.old.replica.kept }
@@ -247,6 +249,7 @@ pub fn make_ready<T: Turns, C: Chooser, R: Replica>(
     requires keeps { KeepsFrom T.Law.may T.Law.floor T.Law.shelf node.old.replica.cursor }
     ensures readies { IfOk result (Readies T.Law.may T.Law.floor T.Law.shelf node.old node.new desk.old desk.new) }
     ensures desk { OnOk result (DeskOk node.new desk.old.session desk.new) }
+    ensures kept { OnOk result (node.new.replica.kept ≡ node.old.replica.kept) }
 {
     match cause_of(node, desk) {
         Some(_) => return Ok(false),

@@ -1,12 +1,12 @@
 //! A node's calls, with what they keep of all its sessions. A fault of the log or the disk isn't an error here: it gives its
 //! cause to sessions, or is answered. The one error is want of memory.
-ghost use Rattle.std.specs.Prelude.{◌≡◌, ◌≤◌, ◌+◌, ℕ, List, [], ◌∷◌, ◌++◌, length, IfOk, OnOk, None, Some};
+ghost use Rattle.std.specs.Prelude.{◌≡◌, ◌⊎◌, ◌≤◌, ◌+◌, ℕ, List, [], ◌∷◌, ◌++◌, length, IfOk, OnOk, None, Some};
 ghost use Rattle.delos_types.specs.declared.entry.Entry.{Entry};
 ghost use Rattle.legal_journal.specs.Journal.{IsLegal};
 ghost use Rattle.virtual_log.specs.Turning.{IsAbove};
 ghost use Rattle.engine_api.specs.Items.{content_of};
 ghost use Rattle.engine_api.specs.Packing.{IsProposable, packed};
-ghost use Rattle.base_engine.specs.Following.{Follows, IsAt};
+ghost use Rattle.base_engine.specs.Following.{Follows, IsAt, EndsBy};
 ghost use Rattle.virtual_log.specs.Holding.{Holds};
 ghost use Rattle.replica_api.specs.Replica.{Flushes};
 ghost use Rattle.base_engine.specs.Proposing.{Sent, IsNear};
@@ -37,7 +37,7 @@ pub enum Synced {
 pub fn pack<T: Turns, C: Chooser, R: Replica>(
     node: &mut Node<VirtualLog<T, C>, R>,
 ) -> Result<(), AllocError>
-    requires floor { (log : List Entry) → T.Law.floor log ≤ length log }
+    requires floor { (log : List Entry) (n : ℕ) → T.Law.floor log n → n ≤ length log }
     requires kept { CanPack node.old.replica.kept }
     ensures moves { OnOk result (Moves T.Law.may T.Law.floor T.Law.shelf node.old node.new []) }
     ensures kept { OnOk result (node.new.replica.kept ≡ []) }
@@ -54,7 +54,7 @@ pub fn pack<T: Turns, C: Chooser, R: Replica>(
 pub fn settle<T: Turns, C: Chooser, R: Replica>(
     node: &mut Node<VirtualLog<T, C>, R>,
 ) -> Result<(), AllocError>
-    requires floor { (log : List Entry) → T.Law.floor log ≤ length log }
+    requires floor { (log : List Entry) (n : ℕ) → T.Law.floor log n → n ≤ length log }
     ensures moves { OnOk result (Moves T.Law.may T.Law.floor T.Law.shelf node.old node.new []) }
     ensures none { OnOk result (node.new.outbox.entries ≡ []) }
     ensures unsettled { OnOk result (node.new.outbox.unsettled ≡ None) }
@@ -71,9 +71,12 @@ pub fn settle<T: Turns, C: Chooser, R: Replica>(
 pub fn sync<T: Turns, C: Chooser, R: Replica>(
     node: &mut Node<VirtualLog<T, C>, R>,
 ) -> Result<Synced, AllocError>
-    requires floor { (log : List Entry) → T.Law.floor log ≤ length log }
+    requires floor { (log : List Entry) (n : ℕ) → T.Law.floor log n → n ≤ length log }
     ensures moves { IfOk result (λ s. Moves T.Law.may T.Law.floor T.Law.shelf node.old node.new (failure_of s)) }
     ensures tail { IfOk result (λ s. (tail : ℕ) → s ≡ Synced.At tail → IsAbove node.old.who node.old.seen tail node.new.seen × IsAt tail node.new.replica node.new.seen) }
+
+    // The log ends there, where no event of another came meanwhile and nothing was trimmed that wasn't played.
+    ensures exact { IfOk result (λ s. (tail : ℕ) → s ≡ Synced.At tail → EndsBy node.old.who node.old.replica.cursor node.old.seen tail node.new.seen) }
     ensures follows { Follows Holds R.state R.spells node.new.seen node.new.replica }
     ensures kept { node.new.replica.kept ≡ node.old.replica.kept }
     ensures outbox { node.new.outbox ≡ node.old.outbox }
@@ -90,13 +93,14 @@ pub fn hand_in<T: Turns, C: Chooser, R: Replica>(
     node: &mut Node<VirtualLog<T, C>, R>,
     item: Item,
 ) -> Result<(), AllocError>
-    requires floor { (log : List Entry) → T.Law.floor log ≤ length log }
+    requires floor { (log : List Entry) (n : ℕ) → T.Law.floor log n → n ≤ length log }
     requires kept { CanPack node.old.replica.kept }
     requires item { IsProposable item }
     requires near { IsNear node.old.replica.contents item }
     requires own { T.Law.may node.old.who (packed node.old.replica.origin (node.old.replica.kept ++ item ∷ [])) }
     ensures hands { OnOk result ((s sent : ℕ) → rank_under s (content_of item) ≡ Some (sent + 1) → HandsIn T.Law.may T.Law.floor T.Law.shelf node.old node.new s sent) }
     ensures replica { OnOk result (node.new.replica ≡ record node.old.replica { kept = node.new.replica.kept }) }
+    ensures kept { OnOk result ((node.new.replica.kept ≡ node.old.replica.kept ++ item ∷ []) ⊎ (node.new.replica.kept ≡ [])) }
     ensures follows { Follows Holds R.state R.spells node.new.seen node.new.replica }
 {
     match node.propose(item) {

@@ -30,7 +30,7 @@ fn close_it<T: Turns, C: Chooser, R: Replica>(
     desk: &mut Desk,
     failed: Option<Cause>,
 ) -> Result<(), AllocError>
-    requires floor { (log : List Entry) → T.Law.floor log ≤ length log }
+    requires floor { (log : List Entry) (n : ℕ) → T.Law.floor log n → n ≤ length log }
     requires state { (log : List Entry) (m : SpaceMap) → R.state log m → IsStateOf log m }
     requires legal { IsLegal T.Law.may T.Law.floor T.Law.shelf node.now.seen }
     requires follows { Follows Holds R.state R.spells node.now.seen node.now.replica }
@@ -55,7 +55,7 @@ fn close_all<T: Turns, C: Chooser, R: Replica>(
     desks: &mut [Desk],
     failed: Option<Cause>,
 ) -> Result<(), AllocError>
-    requires floor { (log : List Entry) → T.Law.floor log ≤ length log }
+    requires floor { (log : List Entry) (n : ℕ) → T.Law.floor log n → n ≤ length log }
     requires state { (log : List Entry) (m : SpaceMap) → R.state log m → IsStateOf log m }
     requires legal { IsLegal T.Law.may T.Law.floor T.Law.shelf node.now.seen }
     requires follows { Follows Holds R.state R.spells node.now.seen node.now.replica }
@@ -77,7 +77,7 @@ pub fn end_turn<T: Turns, C: Chooser, R: Replica>(
     node: &mut Node<VirtualLog<T, C>, R>,
     desks: &mut [Desk],
 ) -> Result<Option<Cause>, AllocError>
-    requires floor { (log : List Entry) → T.Law.floor log ≤ length log }
+    requires floor { (log : List Entry) (n : ℕ) → T.Law.floor log n → n ≤ length log }
     requires state { (log : List Entry) (m : SpaceMap) → R.state log m → IsStateOf log m }
     requires legal { IsLegal T.Law.may T.Law.floor T.Law.shelf node.old.seen }
     requires kept { CanPack node.old.replica.kept }

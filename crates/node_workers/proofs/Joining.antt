@@ -1,22 +1,27 @@
 -- The ranks of an entry that is packed of items are those of the items.
-use Rattle.std.proofs.Common.{◌≡◌, refl, sym, ap, ◌∙◌, subst, ◌⊎◌, inl, inr, ⊎_elim, ℕ, zero, suc, ◌+◌, ◌≤◌, Bool, true, false, cond, List, [], ◌∷◌, ◌++◌, Option, Some, None, is_some, length, arith}
+use Rattle.std.proofs.Common.{◌≡◌, ◌≢◌, ◌<◌, ◌^◌, map, refl, sym, ap, ◌∙◌, subst, ◌⊎◌, inl, inr, ⊎_elim, ℕ, zero, suc, ◌+◌, ◌≤◌, Bool, true, false, cond, List, [], ◌∷◌, ◌++◌, Option, Some, None, is_some, length, arith}
 use Rattle.std.specs.Prelude.{◌==◌, ◌&&◌, filter_map, All}
-use Rattle.std.specs.List.{cons_option}
+use Rattle.std.specs.List.{AllByRecursion, cons_option}
 use Rattle.std.proofs.lemmas.Bool.Decides.{nat_tests}
-use Rattle.std.proofs.lemmas.List.Elements.{All-nil, All-cons, All-append}
+use Rattle.std.proofs.lemmas.List.Elements.{All-nil, All-cons, All-append, All-head, All-tail, All-push}
 use Rattle.delos_types.specs.declared.entry.Entry.{Entry}
 use Rattle.delos_types.specs.declared.item.Item.{Item}
+use Rattle.table_core.specs.declared.command.Command.{Command}
+use Rattle.table_core.specs.Spelling.{IsSpellable}
+use Rattle.legal_journal.specs.declared.events.Event.{Event}
 use Rattle.engine_api.specs.declared.content.Content.{Content}
 use Rattle.engine_api.specs.declared.content.Content.TheVariants.{Session, Alive, Leave, Trim}
+use Rattle.engine_api.specs.declared.content.Placed.{Placed}
 use Rattle.engine_api.specs.Items.{content_of, placed_from}
 use Rattle.engine_api.specs.Acted.{Asked, appearances}
 use Rattle.engine_api.specs.Order.{first_of}
-use Rattle.engine_api.specs.Packing.{packed, IsBatch, IsProposable}
-use Rattle.engine_api.proofs.Packed.{unpack-packed}
+use Rattle.engine_api.specs.Packing.{packed, session_item, IsBatch, IsProposable}
+use Rattle.engine_api.proofs.Packed.{content_of-session, unpack-packed}
 use Rattle.node_sessions.specs.UnderWay.{Among, HasRank, rank_under, ranks_in}
 use Rattle.node_sessions.proofs.Ranks.{rank-packed, ranks-append}
+use Rattle.node_lines.specs.Moving.{CanPack}
 use Rattle.node_lines.specs.Desks.{MayJoin}
-use Rattle.node_workers.specs.Workers.{Within, sent_of}
+use Rattle.node_workers.specs.Workers.{Within, Sends, IsCommand, IsOfSession, IsOfSessions, SaysAlone, sent_of}
 
 same_number : (a b : ℕ) → (a == b) ≡ true → a ≡ b
 same_number a b e = grind (arith, nat_tests, e)
@@ -89,3 +94,47 @@ within-one may counts who s r item fine allowed own other low = (allowed, λ t q
 -- so may an item of no session
 pub within-plain : (may : ℕ → Entry → Type 0) (counts : List ℕ) (who : ℕ) (item : Item) → IsProposable item → may who (packed who (item ∷ [])) → ((t : ℕ) → rank_under t (content_of item) ≡ None) → Within may counts who (packed who (item ∷ []))
 within-plain may counts who item fine allowed none = (allowed, λ t q h. absurd (subst (λ o. Among q (cons_option o [])) (none t) (packed-rank who t q (item ∷ []) (one item fine) h)))
+
+-- Entries of sessions
+
+same_content : (c d : Content) → Some c ≡ Some d → c ≡ d
+same_content c d h = cc
+
+-- a session's command is one
+pub session-command : (s r : ℕ) (c : Command) → s ≤ 63 → 1 ≤ r → r < 2 ^ 64 → IsSpellable c → IsOfSession (session_item s r c)
+session-command s r c known some small fine = λ d h. subst IsCommand (same_content (Session s r (Some c)) d (sym (content_of-session s r c known some small fine) ∙ h)) tt
+
+commands : (sub : ℕ) (items : List Item) → All IsOfSession items → AllByRecursion (λ (p : Placed). IsCommand p.content) (placed_from 0 sub (filter_map content_of items))
+commands sub [] h = tt
+commands sub (i ∷ is) h = by (content_of i) (All-head IsOfSession i is h) (λ n. commands n is (All-tail IsOfSession i is h))
+  where
+    by : (o : Option Content) → ((c : Content) → o ≡ Some c → IsCommand c) → ((n : ℕ) → AllByRecursion (λ (p : Placed). IsCommand p.content) (placed_from 0 n (filter_map content_of is)))
+        → AllByRecursion (λ (p : Placed). IsCommand p.content) (placed_from 0 sub (cons_option o (filter_map content_of is)))
+    by None own rest = rest sub
+    by (Some c) own rest = (own c refl, rest (sub + 1))
+
+-- an entry of such items says nothing else
+pub of-sessions : (origin : ℕ) (items : List Item) → IsBatch items → All IsOfSession items → IsOfSessions (packed origin items)
+of-sessions origin items b h = subst (AllByRecursion (λ (p : Placed). IsCommand p.content)) (sym (unpack-packed origin items 0 b)) (commands 0 items h)
+
+-- one more item may go down
+may_go_down : (may : ℕ → Entry → Type 0) (who origin : ℕ) (kept : List Item) (item : Item) → MayJoin may who origin → CanPack kept → IsProposable item → may who (packed origin (item ∷ []))
+    → (kept ≢ [] → may who (packed origin kept)) → may who (packed origin (kept ++ item ∷ []))
+may_go_down may who origin [] item join can fine own waits = own
+may_go_down may who origin (k ∷ ks) item join can fine own waits =
+    let some : length (k ∷ ks) ≡ 0 → ⊥ = λ e. absurd (omega (arith, e)) in
+    join (k ∷ ks) item some can.each can.few fine (waits (λ e. absurd (cc))) own
+
+-- what waits may be sent with a session's next command
+pub sends-next : (may : ℕ → Entry → Type 0) (counts : List ℕ) (journal : List Event) (who : ℕ) (kept : List Item) (item : Item) → MayJoin may who who → CanPack kept → All IsOfSession kept → (kept ≢ [] → Within may counts who (packed who kept))
+    → IsProposable item → IsOfSession item → Within may counts who (packed who (item ∷ [])) → Sends may counts journal who (packed who (kept ++ item ∷ []))
+sends-next may counts journal who kept item join can waits waiting fine says own = (
+  may_go_down (Within may counts) who who kept item (within-join may counts who join) can fine own waiting,
+  inr (of-sessions who (kept ++ item ∷ [])
+      (record { some = omega (arith, length-snoc kept item); few = omega (arith, length-snoc kept item, can.few); each = All-push IsProposable kept item can.each fine })
+      (All-push IsOfSession kept item waits says)),
+)
+
+-- an item alone says what it says
+pub says-one : (origin : ℕ) (item : Item) (c : Content) → IsProposable item → content_of item ≡ Some c → SaysAlone c (packed origin (item ∷ []))
+says-one origin item c fine says = ap (map (λ (p : Placed). p.content)) (unpack-packed origin (item ∷ []) 0 (one item fine) ∙ ap (λ o. placed_from 0 0 (cons_option o [])) says)

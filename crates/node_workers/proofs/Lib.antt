@@ -1,4 +1,9 @@
 pub mod Joining
 pub mod Widening
+pub mod Scoping
 pub mod Working
 pub mod Logging
+pub mod Cleaning
+pub mod Telling
+pub mod Trimming
+pub mod Stepping

@@ -1,6 +1,6 @@
 -- A command is asked at a session's desk.
 use Rattle.std.proofs.Common.{◌≡◌, ◌≢◌, refl, sym, ap, ◌∙◌, subst, ◌⊎◌, inl, inr, ℕ, ◌+◌, ◌<◌, ◌≤◌, Bool, true, false, List, [], ◌∷◌, ◌++◌, Some, None, length, arith, append_assoc}
-use Rattle.std.specs.Prelude.{slice_get, slice_set, ◌==◌, Contains}
+use Rattle.std.specs.Prelude.{All, slice_get, slice_set, ◌==◌, Contains}
 use Rattle.std.proofs.lemmas.Bool.Decides.{nat_tests}
 use Rattle.std.proofs.lemmas.List.{length-set}
 use Rattle.std.proofs.lemmas.List.Elements.{Contains-push}
@@ -21,7 +21,7 @@ use Rattle.node_lines.specs.Lines.{IsFree, Readies}
 use Rattle.node_lines.proofs.Moving.{goes-both, stays-both}
 use Rattle.node_lines.proofs.Desks.{desk_goes}
 use Rattle.node_lines.proofs.Turning.{same_at}
-use Rattle.node_workers.specs.Workers.{Within, WorkerOk, LogsIt, sent_of}
+use Rattle.node_workers.specs.Workers.{Within, Sends, IsOfSession, WorkerOk, LogsIt, sent_of}
 use Rattle.node_workers.proofs.Widening.{within-more, goes_wider}
 
 own-append : (who : ℕ) (xs ys : List Event) → AreOwn who xs → AreOwn who ys → AreOwn who (xs ++ ys)
@@ -51,7 +51,7 @@ counts-rise counts counts' s h t = by (s == t) refl
     by true e = let same = here s t e in subst (λ k. sent_of counts k ≤ sent_of counts' k) same (omega (arith, h.own))
     by false e = omega (arith, h.others t e)
 
-module _ (may : ℕ → Entry → Type 0) (floor : List Entry → ℕ) (shelf : List ℕ) (low : (log : List Entry) → floor log ≤ length log) where
+module _ (may : ℕ → Entry → Type 0) (floor : List Entry → ℕ → Type 0) (shelf : List ℕ) (low : (log : List Entry) (n : ℕ) → floor log n → n ≤ length log) where
   still : (was d : Desk) (others : List Cause) → d ≡ record was { answers = d.answers; stopped = d.stopped } → ((others ≡ []) × (d.stopped ≡ was.stopped)) ⊎ ((c : Cause) × (others ≡ c ∷ []) × (was.stopped ≡ None) × (d.stopped ≡ Some c)) → (c : Cause) → was.stopped ≡ Some c → d.stopped ≡ Some c
   still was d others is (inl k) c e = k.1 ∙ e
   still was d others is (inr k) c e = absurd (let t : Some c ≡ None = sym e ∙ k.2 in cc)
@@ -99,7 +99,7 @@ module _ (may : ℕ → Entry → Type 0) (floor : List Entry → ℕ) (shelf : 
   pub handed_logs : (counts counts' : List ℕ) (old mid new : NodeView) (s : ℕ) (was d is : Desk) → OneMore counts counts' s → Readies (Within may counts) floor shelf old mid was d true → HandsIn (Within may counts') floor shelf mid new s d.sent
       → was.sent ≡ sent_of counts s → is ≡ record d { asked = d.asked + 1; sent = d.sent + 1; answers = is.answers } → LogsIt may floor shelf counts counts' old new s was is
   handed_logs counts counts' old mid new s was d is one r h sent is_it =
-      let first = goes_wider (Within may counts) (Within may counts') floor shelf (λ who e. within-more may counts counts' (counts-rise counts counts' s one) who e) old mid r.others r.moves.goes in
+      let first = goes_wider (Within may counts) (Within may counts') floor floor shelf (λ who e. within-more may counts counts' (counts-rise counts counts' s one) who e) (λ log n k. k) old mid r.others r.moves.goes in
       let own : d.sent ≡ was.sent = ap (λ (x : Desk). x.sent) r.desk in
       let next : is.sent ≡ d.sent + 1 = ap (λ (x : Desk). x.sent) is_it in
       let free : is.stopped ≡ None = ap (λ (x : Desk). x.stopped) is_it ∙ ((r.free refl).0).0 in
@@ -122,13 +122,14 @@ module _ (may : ℕ → Entry → Type 0) (floor : List Entry → ℕ) (shelf : 
 
   -- the worker then
   pub worker_logs : (state : List Entry → SpaceMap → Type 0) (spells : List ℕ → Saved → Type 0) (who : ℕ) (counts counts' : List ℕ) (old new : List Event) (a b : SeatView) (desks : List Desk) (s : ℕ) (was is : Desk)
-      → WorkerOk may floor shelf state spells who counts old a desks → SeatOk (Within may counts') floor shelf state spells new b → slice_get desks s ≡ Some was → DeskOk (node_of b new) s is
+      → WorkerOk may floor shelf state spells who counts old a desks → SeatOk (Sends may counts' new) floor shelf state spells new b → All IsOfSession b.node.replica.kept → slice_get desks s ≡ Some was → DeskOk (node_of b new) s is
       → LogsIt may floor shelf counts counts' (node_of a old) (node_of b new) s was is → WorkerOk may floor shelf state spells who counts' new b (slice_set desks s is)
-  worker_logs state spells who counts counts' old new a b desks s was is h ok at fine l = record {
+  worker_logs state spells who counts counts' old new a b desks s was is h ok waits at fine l = record {
     who_is = l.goes.keeps.who ∙ h.who_is;
     origin = l.goes.keeps.origin ∙ h.origin;
     ok = ok;
     packs = l.goes.packs h.packs;
+    waits = waits;
     size = length-set desks s is ∙ h.size;
     each = λ t d g. each_is t d g (s == t) refl;
     counted = λ t d g some. counted_is t d g some (s == t) refl;

@@ -1,64 +1,108 @@
 -- Within more counts more is allowed, and all that was so stays so.
-use Rattle.std.proofs.Common.{◌∙◌, ap, ℕ, ◌≤◌, List, ◌++◌, append_assoc, arith}
+use Rattle.std.proofs.Common.{◌∙◌, ap, ℕ, ◌≤◌, Bool, List, [], ◌++◌, Option, append_assoc, arith}
 use Rattle.std.specs.Prelude.{All}
 use Rattle.std.proofs.lemmas.List.Elements.{All-weaker}
 use Rattle.delos_types.specs.Spaces.{SpaceMap}
 use Rattle.delos_types.specs.declared.entry.Entry.{Entry}
+use Rattle.delos_types.specs.declared.item.Item.{Item}
 use Rattle.delos_types.specs.declared.cause.Cause.{Cause}
+use Rattle.table_core.specs.declared.command.Query.{Query}
 use Rattle.legal_journal.specs.declared.events.Event.{Event}
+use Rattle.legal_journal.specs.Journal.{IsLegal}
+use Rattle.journal_changes.proofs.Changes.{legal_by}
 use Rattle.replica_api.specs.Replica.{Saved}
 use Rattle.base_engine.specs.Settling.{MaySend}
 use Rattle.base_engine.specs.Node.{NodeView}
+use Rattle.node_sessions.specs.declared.desk.Desk.{Desk}
 use Rattle.one_thread.specs.Alone.{Since}
 use Rattle.one_thread.specs.Seats.{SeatView, SeatOk}
-use Rattle.one_thread.proofs.Widening.{legal_wider}
-use Rattle.node_lines.specs.Moving.{Goes}
+use Rattle.node_lines.specs.declared.lines.Looked.{Looked}
+use Rattle.node_lines.specs.declared.measure.Measured.{Measured}
+use Rattle.node_lines.specs.Moving.{Goes, Moves, HandsIn}
+use Rattle.node_lines.specs.Lines.{Readies, Looks, failure_in}
+use Rattle.node_lines.specs.Extending.{CarriesAll, Replaces}
+use Rattle.node_lines.specs.Measuring.{Measures}
+use Rattle.node_lines.specs.Reporting.{Tells}
+use Rattle.node_lines.specs.Leaving.{PlaysKnown}
+use Rattle.node_lines.specs.Trimming.{Cuts}
+use Rattle.node_lines.specs.Turns.{EndsTurn}
+use Rattle.node_lines.proofs.Relaying.{goes_by, moves_by, measures_by, tells_by, plays_by, cuts_by}
 use Rattle.node_workers.specs.Workers.{Within, Grows, sent_of}
 
 -- what was within the counts is within greater ones
 pub within-more : (may : ℕ → Entry → Type 0) (a b : List ℕ) → ((s : ℕ) → sent_of a s ≤ sent_of b s) → (who : ℕ) (e : Entry) → Within may a who e → Within may b who e
 within-more may a b low who e h = (h.0, λ s r k. omega (arith, h.1 s r k, low s))
 
-module _ (a b : ℕ → Entry → Type 0) (floor : List Entry → ℕ) (shelf : List ℕ) (wider : (who : ℕ) (e : Entry) → a who e → b who e) where
+module _ (a b : ℕ → Entry → Type 0) (low high : List Entry → ℕ → Type 0) (shelf : List ℕ) (wider : (who : ℕ) (e : Entry) → a who e → b who e) (lower : (log : List Entry) (n : ℕ) → low log n → high log n) where
+  pub legal_wide : (es : List Event) → IsLegal a low shelf es → IsLegal b high shelf es
+  legal_wide es h = legal_by a b low high shelf es h (λ who e _ k. wider who e k) (λ log n _ k. lower log n k)
+
   may_send : (who : ℕ) (es : List Entry) → All (λ e. MaySend a who e) es → All (λ e. MaySend b who e) es
   may_send who es h = All-weaker (λ e. MaySend a who e) (λ e. MaySend b who e) (λ e k. record { allowed = wider who e k.allowed; spelled = k.spelled }) es h
 
-  pub seat_wider : (state : List Entry → SpaceMap → Type 0) (spells : List ℕ → Saved → Type 0) (journal : List Event) (s : SeatView) → SeatOk a floor shelf state spells journal s → SeatOk b floor shelf state spells journal s
-  seat_wider state spells journal s h = record {
-    shelf_is = h.shelf_is;
-    goes_by = h.goes_by;
-    node = record {
-      eight = h.node.eight;
-      floor_is = h.node.floor_is;
-      legal = legal_wider a b floor shelf wider journal h.node.legal;
-      follows = h.node.follows;
-      bounded = h.node.bounded;
-      own = may_send s.who s.node.outbox.entries h.node.own;
-      few = h.node.few;
-      waiting = λ some. wider s.who _ (h.node.waiting some);
-    };
-  }
+  module _ (state : List Entry → SpaceMap → Type 0) (spells : List ℕ → Saved → Type 0) (journal : List Event) (s : SeatView) where
+    -- so is a seat, as far as its journal is legal
+    pub seat_legal : IsLegal b high shelf journal → SeatOk a low shelf state spells journal s → SeatOk b high shelf state spells journal s
+    seat_legal legal h = record {
+      shelf_is = h.shelf_is;
+      goes_by = h.goes_by;
+      node = record {
+        eight = h.node.eight;
+        legal = legal;
+        follows = h.node.follows;
+        bounded = h.node.bounded;
+        own = may_send s.who s.node.outbox.entries h.node.own;
+        few = h.node.few;
+        waiting = λ some. wider s.who _ (h.node.waiting some);
+      };
+    }
 
-  pub goes_wider : (old new : NodeView) (others : List Cause) → Goes a floor shelf old new others → Goes b floor shelf old new others
-  goes_wider old new others h = record {
-    keeps = record {
-      who = h.keeps.who;
-      nodes = h.keeps.nodes;
-      origin = h.keeps.origin;
-      later = record { more = h.keeps.later.more; seen = h.keeps.later.seen; legal = legal_wider a b floor shelf wider new.seen h.keeps.later.legal };
-      forward = h.keeps.forward;
-      counts = h.keeps.counts;
-    };
-    given = h.given;
-    gained = h.gained;
-    spends = h.spends;
-    packs = h.packs;
-  }
+    pub seat_wider : SeatOk a low shelf state spells journal s → SeatOk b high shelf state spells journal s
+    seat_wider h = seat_legal (legal_wide journal h.node.legal) h
 
--- what a seat has within some counts it has
-pub seat_allowed : (may : ℕ → Entry → Type 0) (counts : List ℕ) (floor : List Entry → ℕ) (shelf : List ℕ) (state : List Entry → SpaceMap → Type 0) (spells : List ℕ → Saved → Type 0) (journal : List Event) (s : SeatView)
-    → SeatOk (Within may counts) floor shelf state spells journal s → SeatOk may floor shelf state spells journal s
-seat_allowed may counts floor shelf state spells journal s h = seat_wider (Within may counts) may floor shelf (λ who e w. w.0) state spells journal s h
+  pub goes_wider : (old new : NodeView) (others : List Cause) → Goes a low shelf old new others → Goes b high shelf old new others
+  goes_wider old new others h = goes_by a b low high shelf old new (legal_wide new.seen h.keeps.later.legal) others h
+
+  pub moves_wider : (old new : NodeView) (others : List Cause) → Moves a low shelf old new others → Moves b high shelf old new others
+  moves_wider old new others h = moves_by a b low high shelf old new (legal_wide new.seen h.goes.keeps.later.legal) others h
+
+  -- What the calls of a node say
+
+  pub carries_wider : (old new : NodeView) → CarriesAll a low shelf old new → CarriesAll b high shelf old new
+  carries_wider old new h = record { moves = moves_wider old new [] h.moves; none = h.none; kept = h.kept }
+
+  pub replaces_wider : (old new : NodeView) (l : Looked) → Replaces a low shelf old new l → Replaces b high shelf old new l
+  replaces_wider old new l h = record { others = h.others; moves = moves_wider old new h.others h.moves; replica = h.replica; outbox = h.outbox; extends = h.extends; seals = h.seals }
+
+  pub measures_wider : (measure : List Entry → ℕ) (old new : NodeView) (m : Measured) → Measures a low shelf measure old new m → Measures b high shelf measure old new m
+  measures_wider measure old new m h = measures_by a b low high shelf old new (legal_wide new.seen h.moves.goes.keeps.later.legal) measure m h
+
+  pub tells_wider : (old new : NodeView) (item : Item) (failed : Option Cause) → Tells a low shelf old new item failed → Tells b high shelf old new item failed
+  tells_wider old new item failed h = tells_by a b low high shelf old new (legal_wide new.seen h.moves.goes.keeps.later.legal) item failed h
+
+  pub plays_wider : (old new : NodeView) (failed : Option Cause) → PlaysKnown a low shelf old new failed → PlaysKnown b high shelf old new failed
+  plays_wider old new failed h = plays_by a b low high shelf old new (legal_wide new.seen h.moves.goes.keeps.later.legal) failed h
+
+  pub cuts_wider : (old new : NodeView) (l : Looked) → Cuts a low shelf old new l → Cuts b high shelf old new l
+  cuts_wider old new l h = cuts_by a b low high shelf old new (legal_wide new.seen h.moves.goes.keeps.later.legal) l h
+
+  pub readies_wider : (old new : NodeView) (was is : Desk) (ready : Bool) → Readies a low shelf old new was is ready → Readies b high shelf old new was is ready
+  readies_wider old new was is ready h = record { others = h.others; moves = moves_wider old new h.others h.moves; desk = h.desk; stops = h.stops; free = h.free; held = h.held }
+
+  pub hands_wider : (old new : NodeView) (s sent : ℕ) → HandsIn a low shelf old new s sent → HandsIn b high shelf old new s sent
+  hands_wider old new s sent h = record { goes = goes_wider old new [] h.goes; own = h.own; stays = h.stays; quiet = h.quiet }
+
+  pub looks_wider : (old new : NodeView) (d : Desk) (query : Query) (l : Looked) → Looks a low shelf old new d query l → Looks b high shelf old new d query l
+  looks_wider old new d query l h = record { others = h.others; moves = moves_wider old new h.others h.moves; looks = h.looks }
+
+  pub ends_wider : (old new : NodeView) (was is : List Desk) (failed : Option Cause) → EndsTurn a low shelf old new was is failed → EndsTurn b high shelf old new was is failed
+  ends_wider old new was is failed h = record {
+    mid = h.mid;
+    ends = record { moves = moves_wider old h.mid (failure_in failed) h.ends.moves; none = h.ends.none; kept = h.ends.kept; acted = h.ends.acted; exact = h.ends.exact };
+    forgets = h.forgets;
+    closes = h.closes;
+    desks = h.desks;
+  }
 
 -- A journal that grows.
 

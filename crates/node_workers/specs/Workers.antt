@@ -1,8 +1,10 @@
 -- What holds of a node with its sessions between two of its turns.
-use Rattle.std.specs.Prelude.{◌≡◌, ℕ, ◌+◌, ◌<◌, ◌≤◌, ◌⊎◌, ◌==◌, false, List, ◌++◌, length, get_or, Contains, Some, slice_get, slice_set}
+use Rattle.std.specs.Prelude.{All, ◌≡◌, ℕ, ◌+◌, ◌<◌, ◌≤◌, ◌⊎◌, ◌==◌, false, List, [], ◌∷◌, ◌++◌, length, map, get_or, Contains, Some, slice_get, slice_set}
+use Rattle.std.specs.List.{AllByRecursion}
 use Rattle.delos_types.specs.Spaces.{SpaceMap}
 use Rattle.delos_types.specs.declared.entry.Entry.{Entry}
 use Rattle.delos_types.specs.declared.cause.Cause.{Cause}
+use Rattle.delos_types.specs.declared.item.Item.{Item}
 use Rattle.legal_journal.specs.declared.events.Event.{Event}
 use Rattle.replica_api.specs.Replica.{Saved}
 use Rattle.base_engine.specs.Node.{NodeView}
@@ -10,7 +12,15 @@ use Rattle.node_sessions.specs.declared.desk.Desk.{Desk}
 use Rattle.node_sessions.specs.UnderWay.{HasRank}
 use Rattle.one_thread.specs.Seats.{SeatView, SeatOk, node_of}
 use Rattle.node_lines.specs.Moving.{CanPack, Goes, StaysGiven, StaysQuiet}
-use Rattle.node_lines.specs.Desks.{DesksOk, MayJoin, KeepsFrom}
+use Rattle.node_lines.specs.Desks.{DesksOk, MayJoin}
+use Rattle.node_lines.specs.Measuring.{IsCleanPoint}
+use Rattle.node_lines.specs.declared.lines.Looked.{Looked}
+use Rattle.node_lines.specs.declared.lines.Looked.TheVariants as looked
+use Rattle.journal_changes.specs.Changes.{appended, Adds}
+use Rattle.engine_api.specs.declared.content.Content.{Content}
+use Rattle.engine_api.specs.declared.content.Content.TheVariants.{Session, Alive, Leave, Trim}
+use Rattle.engine_api.specs.declared.content.Placed.{Placed}
+use Rattle.engine_api.specs.Items.{content_of, unpack}
 
 -- how many commands of a session were sent, by this list of counts
 abbrev pub sent_of : List ℕ → ℕ → ℕ
@@ -20,30 +30,84 @@ sent_of counts s = get_or counts s 0
 abbrev pub Within : (ℕ → Entry → Type 0) → List ℕ → ℕ → Entry → Type 0
 Within may counts who e = may who e × ((s r : ℕ) → HasRank s r e → r ≤ sent_of counts s)
 
+-- the content is a command of a session
+abbrev pub IsCommand : Content → Type 0
+IsCommand (Session s r c) = Unit {0}
+IsCommand (Alive node position) = ⊥
+IsCommand (Leave node) = ⊥
+IsCommand (Trim position) = ⊥
+
+-- the item says a command of a session, if anything
+abbrev pub IsOfSession : Item → Type 0
+IsOfSession item = (c : Content) → content_of item ≡ Some c → IsCommand c
+
+-- the entry says nothing but commands of sessions
+abbrev pub IsOfSessions : Entry → Type 0
+IsOfSessions e = AllByRecursion (λ p. IsCommand p.content) (unpack 0 e)
+
+-- the entry says this, and nothing else
+abbrev pub SaysAlone : Content → Entry → Type 0
+SaysAlone c e = map (λ p. p.content) (unpack 0 e) ≡ c ∷ []
+
+-- .. of which what wasn't appended yet says nothing but commands of sessions
+abbrev pub Sends : (ℕ → Entry → Type 0) → List ℕ → List Event → ℕ → Entry → Type 0
+Sends may counts journal who e = Within may counts who e × (Contains (appended journal) e ⊎ IsOfSessions e)
+
+-- .. or is this one
+abbrev pub SendsToo : (ℕ → Entry → Type 0) → List ℕ → List Event → Entry → ℕ → Entry → Type 0
+SendsToo may counts journal told who e = Within may counts who e × (Contains (appended journal) e ⊎ (IsOfSessions e ⊎ (e ≡ told)))
+
+-- where the log may be trimmed, but not above m
+abbrev pub UpTo : (List Entry → ℕ → Type 0) → ℕ → List Entry → ℕ → Type 0
+UpTo floor m log n = floor log n × (n ≤ m)
+
 -- all events of before are there still
 abbrev pub Grows : List Event → List Event → Type 0
 Grows old new = (more : List Event) × (new ≡ old ++ more)
 
--- A node and its sessions, by whom its events are. Of the sessions that asked something here the counts have what was sent.
-pub record WorkerOk (may : ℕ → Entry → Type 0) (floor : List Entry → ℕ) (shelf : List ℕ) (state : List Entry → SpaceMap → Type 0) (spells : List ℕ → Saved → Type 0) (who : ℕ) (counts : List ℕ) (journal : List Event) (seat : SeatView) (desks : List Desk) : Type 0 where
+-- A node and its sessions, by whom its events are. What waits at it is of sessions; of those that asked something here the counts
+-- have what was sent.
+pub record WorkerOk (may : ℕ → Entry → Type 0) (floor : List Entry → ℕ → Type 0) (shelf : List ℕ) (state : List Entry → SpaceMap → Type 0) (spells : List ℕ → Saved → Type 0) (who : ℕ) (counts : List ℕ) (journal : List Event) (seat : SeatView) (desks : List Desk) : Type 0 where
   pub who_is : seat.who ≡ who
   pub origin : seat.node.replica.origin ≡ who
-  pub ok : SeatOk (Within may counts) floor shelf state spells journal seat
+  pub ok : SeatOk (Sends may counts journal) floor shelf state spells journal seat
   pub packs : CanPack seat.node.replica.kept
+  pub waits : All IsOfSession seat.node.replica.kept
   pub size : length desks ≡ 64
   pub each : DesksOk (node_of seat journal) desks
   pub counted : (s : ℕ) (d : Desk) → slice_get desks s ≡ Some d → 0 < d.asked → d.sent ≡ sent_of counts s
 
--- what the rules of a run allow: items may be packed together, and nothing is trimmed that a node hasn't applied
-pub record MayRun (may : ℕ → Entry → Type 0) (floor : List Entry → ℕ) (shelf : List ℕ) : Type 0 where
-  pub low : (log : List Entry) → floor log ≤ length log
+-- what the rules of a run allow: items may be packed together, and the log is trimmed no further than it goes
+pub record MayRun (may : ℕ → Entry → Type 0) (floor : List Entry → ℕ → Type 0) (shelf : List ℕ) : Type 0 where
+  pub low : (log : List Entry) (n : ℕ) → floor log n → n ≤ length log
   pub join : (who : ℕ) → MayJoin may who who
-  pub keeps : KeepsFrom may floor shelf 0
+
+-- What a report added: entries of sessions, and one that reports a clean position, of which the node has the state.
+pub record ReportAdds (who cursor : ℕ) (old new : List Event) (answer : Looked) : Type 0 where
+  pub position : ℕ
+  pub clean : IsCleanPoint new position
+  pub low : position ≤ cursor
+  pub is : (n : ℕ) → answer ≡ looked.Reported n → n ≡ position
+  pub adds : Adds (λ e. IsOfSessions e ⊎ SaysAlone (Alive who position) e) old new
+
+-- What a leave added: entries of sessions, and the leave.
+abbrev pub LeaveAdds : ℕ → List Event → List Event → Type 0
+LeaveAdds who old new = Adds (λ e. IsOfSessions e ⊎ SaysAlone (Leave who) e) old new
+
+-- What a trim added: entries of sessions, and one that asks for a trim to a clean position.
+pub record TrimAdds (old new : List Event) : Type 0 where
+  pub position : ℕ
+  pub clean : IsCleanPoint new position
+  pub adds : Adds (λ e. IsOfSessions e ⊎ SaysAlone (Trim position) e) old new
+
+-- no leave of the node was appended
+abbrev pub HasNotLeft : ℕ → List Event → Type 0
+HasNotLeft who journal = (e : Entry) (p : Placed) → Contains (appended journal) e → Contains (unpack 0 e) p → p.content ≡ Leave who → ⊥
 
 -- The session's command was asked, and sent where the counts say so. Of no other session a command is lost, and one of which
 -- nothing was on its way is given no cause; each fault that the node came across came of its own. Where the session is stopped
 -- then, it was before, or is by one of the other causes; and then the command wasn't sent.
-pub record LogsIt (may : ℕ → Entry → Type 0) (floor : List Entry → ℕ) (shelf : List ℕ) (counts counts' : List ℕ) (old new : NodeView) (s : ℕ) (was is : Desk) : Type 0 where
+pub record LogsIt (may : ℕ → Entry → Type 0) (floor : List Entry → ℕ → Type 0) (shelf : List ℕ) (counts counts' : List ℕ) (old new : NodeView) (s : ℕ) (was is : Desk) : Type 0 where
   pub others : List Cause
   pub goes : Goes (Within may counts') floor shelf old new others
   pub stays : (t : ℕ) → (s == t) ≡ false → StaysGiven old new t
@@ -60,7 +124,7 @@ pub record LogsIt (may : ℕ → Entry → Type 0) (floor : List Entry → ℕ) 
   pub most : sent_of counts' s ≤ sent_of counts s + 1
 
 -- so it is of a worker
-pub record Logs (may : ℕ → Entry → Type 0) (floor : List Entry → ℕ) (shelf : List ℕ) (counts counts' : List ℕ) (old new : NodeView) (s : ℕ) (was is : List Desk) : Type 0 where
+pub record Logs (may : ℕ → Entry → Type 0) (floor : List Entry → ℕ → Type 0) (shelf : List ℕ) (counts counts' : List ℕ) (old new : NodeView) (s : ℕ) (was is : List Desk) : Type 0 where
   pub before : Desk
   pub was_at : slice_get was s ≡ Some before
   pub after : Desk

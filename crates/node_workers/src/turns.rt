@@ -1,11 +1,13 @@
-//! What a worker does by the rules of a run. Each call has scopes of its own, within which no rank is appended above those
-//! that were sent.
-ghost use Rattle.std.specs.Prelude.{◌≡◌, ◌<◌, ◌≤◌, ◌+◌, ◌^◌, ℕ, List, [], ◌∷◌, length, Some, None, IfOk, OnOk, slice_get, ◌==◌, false};
+//! What a worker does for its sessions by the rules of a run, and the end of a phase. Each call has scopes of its own, within which
+//! no rank is appended above those that were sent, nothing else than commands of sessions is appended, and the log isn't trimmed
+//! above where the node was.
+ghost use Rattle.std.specs.Prelude.{All, ◌≡◌, ◌<◌, ◌≤◌, ◌+◌, ◌^◌, ℕ, List, [], ◌∷◌, length, Some, None, IfOk, OnOk, slice_get, ◌==◌, false};
 ghost use Rattle.delos_types.specs.Spaces.{SpaceMap};
 ghost use Rattle.delos_types.specs.declared.entry.Entry.{Entry};
 ghost use Rattle.table_core.specs.Spelling.{IsSpellable, command_length};
 ghost use Rattle.legal_journal.specs.Sealing.{Unsealed};
-ghost use Rattle.engine_api.specs.Packing.{packed, session_item, alive_item, leave_item};
+ghost use Rattle.journal_changes.specs.Changes.{TrimsUpTo, Adds};
+ghost use Rattle.engine_api.specs.Packing.{packed, session_item};
 ghost use Rattle.engine_laws.specs.State.{IsStateOf};
 ghost use Rattle.node_sessions.specs.declared.desk.Desk.{Desk};
 ghost use Rattle.one_thread.specs.Alone.{Since};
@@ -13,19 +15,15 @@ ghost use Rattle.one_thread.specs.Seats.{SeatOk, node_of};
 ghost use Rattle.node_lines.specs.Moving.{CanPack};
 ghost use Rattle.node_lines.specs.Desks.{DeskOk};
 ghost use Rattle.node_lines.specs.Lines.{Looks};
-ghost use Rattle.node_lines.specs.Extending.{Extends};
-ghost use Rattle.node_lines.specs.Reporting.{Reports};
-ghost use Rattle.node_lines.specs.Leaving.{Leaves};
 ghost use Rattle.node_lines.specs.Turns.{EndsTurn};
-ghost use Rattle.node_workers.specs.Workers.{WorkerOk, MayRun, LogsIt, Logs, Within, Grows, sent_of};
+ghost use Rattle.node_workers.specs.Workers.{WorkerOk, MayRun, LogsIt, Logs, Within, Sends, IsOfSession, IsOfSessions, Grows, sent_of};
+ghost use Rattle.node_workers.specs.Steps.{IsLeft, IsDone};
 
-use crate::within::{
-    Back, end_within, extend_within, leave_within, log_within, look_within, ready_within,
-    report_within, settle_within,
-};
+use crate::steps::{end, log, look, ready};
+use crate::within::Back;
 use crate::worker::Worker;
 use delos_types::cause::Cause;
-use delos_types::numbers::{NodeId, SessionId};
+use delos_types::numbers::SessionId;
 use fabric_core::fabric::Fabric;
 use fate_words::chooser::Chooser;
 use loglet_api::loglet::Loglet;
@@ -36,7 +34,6 @@ use one_thread::terms::{By, Terms};
 use register_api::Register;
 use replica_api::replica::Replica;
 use std::alloc::{AllocError, Global};
-use std::marker::Brand;
 use table_core::command::{Command, Query};
 
 /// What a worker's turn gives back, with whatever it came to.
@@ -75,20 +72,22 @@ fn log_at<L: Loglet, R: Register, K: Terms, S: Replica, C: Chooser>(
 ) -> Back<L, R, K, S, C, ()>
     requires run { MayRun K.may K.floor K.shelf }
     requires state { (log : List Entry) (m : SpaceMap) → S.state log m → IsStateOf log m }
-    requires seat { SeatOk (Within K.may counts.old) K.floor K.shelf S.state S.spells fabric.journal seat }
+    requires seat { SeatOk (Sends K.may counts.old fabric.journal) K.floor K.shelf S.state S.spells fabric.journal seat }
     requires origin { seat.node.replica.origin ≡ seat.who }
     requires kept { CanPack seat.node.replica.kept }
+    requires waits { All IsOfSession seat.node.replica.kept }
+    requires high { TrimsUpTo seat.node.replica.cursor fabric.journal }
     requires desk { DeskOk (node_of seat fabric.journal) session desk.old }
     requires sent { desk.old.sent ≡ sent_of counts.old session }
     requires few { desk.old.asked < 20000 }
     requires spelled { IsSpellable command.now }
     requires short { command_length command.now ≤ 984 }
     requires own { K.may seat.who (packed seat.who (session_item session (desk.old.asked + 1) command.now ∷ [])) }
-    ensures stands { SeatOk K.may K.floor K.shelf S.state S.spells result.fabric.journal result.seat }
-    ensures grows { Grows fabric.journal result.fabric.journal }
+    ensures left { IsLeft K.may K.floor K.shelf S.state S.spells fabric.journal result.fabric.journal result.seat }
     ensures unsealed { Unsealed fabric.journal result.fabric.journal }
-    ensures since { OnOk result.answer (Since seat.who fabric.journal result.fabric.journal) }
-    ensures seat { OnOk result.answer (SeatOk (Within K.may counts.new) K.floor K.shelf S.state S.spells result.fabric.journal result.seat) }
+    ensures done { OnOk result.answer (IsDone K.may K.floor K.shelf S.state S.spells counts.new fabric.journal seat result.fabric.journal result.seat) }
+    ensures adds { OnOk result.answer (Adds IsOfSessions fabric.journal result.fabric.journal) }
+    ensures waits { OnOk result.answer (All IsOfSession result.seat.node.replica.kept) }
     ensures desk { OnOk result.answer (DeskOk (node_of result.seat result.fabric.journal) session desk.new) }
     ensures logs { OnOk result.answer (LogsIt K.may K.floor K.shelf counts.old counts.new (node_of seat fabric.journal) (node_of result.seat result.fabric.journal) session desk.old desk.new) }
 {
@@ -96,9 +95,9 @@ fn log_at<L: Loglet, R: Register, K: Terms, S: Replica, C: Chooser>(
         seat,
         fabric,
         answer,
-    } = ready_within::<L, R, K, Brand, S, C>(fabric, seat, desk, counts);
-    let ready = match answer {
-        Ok(ready) => ready,
+    } = ready(fabric, seat, desk, counts);
+    let is_ready = match answer {
+        Ok(is_ready) => is_ready,
         Err(fault) => {
             return Back {
                 seat,
@@ -107,7 +106,7 @@ fn log_at<L: Loglet, R: Register, K: Terms, S: Replica, C: Chooser>(
             };
         }
     };
-    if !ready {
+    if !is_ready {
         keep(desk);
         return Back {
             seat,
@@ -120,7 +119,7 @@ fn log_at<L: Loglet, R: Register, K: Terms, S: Replica, C: Chooser>(
         seat,
         fabric,
         answer,
-    } = log_within::<L, R, K, Brand, S, C>(alloc, fabric, seat, desk, command, counts);
+    } = log(alloc, fabric, seat, desk, command, counts);
     match answer {
         Ok(()) => {
             return Back {
@@ -155,11 +154,14 @@ pub fn log_line<L: Loglet, R: Register, K: Terms, S: Replica, C: Chooser>(
     requires spelled { IsSpellable command.now }
     requires short { command_length command.now ≤ 984 }
     requires own { (d : Desk) → slice_get worker.desks.items session ≡ Some d → K.may worker.seat.who (packed worker.seat.who (session_item session (d.asked + 1) command.now ∷ [])) }
+    requires high { TrimsUpTo worker.seat.node.replica.cursor fabric.journal }
     ensures stands { SeatOk K.may K.floor K.shelf S.state S.spells result.fabric.journal result.worker.seat }
     ensures grows { Grows fabric.journal result.fabric.journal }
     ensures unsealed { Unsealed fabric.journal result.fabric.journal }
     ensures since { OnOk result.answer (Since worker.seat.who fabric.journal result.fabric.journal) }
     ensures worker { OnOk result.answer (WorkerOk K.may K.floor K.shelf S.state S.spells worker.seat.who counts.new result.fabric.journal result.worker.seat result.worker.desks.items) }
+    ensures high { OnOk result.answer (TrimsUpTo result.worker.seat.node.replica.cursor result.fabric.journal) }
+    ensures adds { OnOk result.answer (Adds IsOfSessions fabric.journal result.fabric.journal) }
     ensures logs { OnOk result.answer (Logs K.may K.floor K.shelf counts.old counts.new (node_of worker.seat fabric.journal) (node_of result.worker.seat result.fabric.journal) session worker.desks.items result.worker.desks.items) }
 {
     let i = usize::from(session.number());
@@ -200,12 +202,15 @@ pub fn look_line<L: Loglet, R: Register, K: Terms, S: Replica, C: Chooser>(
     requires state { (log : List Entry) (m : SpaceMap) → S.state log m → IsStateOf log m }
     requires worker { WorkerOk K.may K.floor K.shelf S.state S.spells worker.seat.who counts.now fabric.journal worker.seat worker.desks.items }
     requires here { (d : Desk) → slice_get worker.desks.items session ≡ Some d → d.sent ≡ sent_of counts.now session }
+    requires high { TrimsUpTo worker.seat.node.replica.cursor fabric.journal }
     ensures desks { result.worker.desks ≡ worker.desks }
     ensures stands { SeatOk K.may K.floor K.shelf S.state S.spells result.fabric.journal result.worker.seat }
     ensures grows { Grows fabric.journal result.fabric.journal }
     ensures unsealed { Unsealed fabric.journal result.fabric.journal }
     ensures since { IfOk result.answer (λ l. Since worker.seat.who fabric.journal result.fabric.journal) }
     ensures worker { IfOk result.answer (λ l. WorkerOk K.may K.floor K.shelf S.state S.spells worker.seat.who counts.now result.fabric.journal result.worker.seat result.worker.desks.items) }
+    ensures high { IfOk result.answer (λ l. TrimsUpTo result.worker.seat.node.replica.cursor result.fabric.journal) }
+    ensures adds { IfOk result.answer (λ l. Adds IsOfSessions fabric.journal result.fabric.journal) }
     ensures looks { IfOk result.answer (λ l. (d : Desk) → slice_get worker.desks.items session ≡ Some d → Looks (Within K.may counts.now) K.floor K.shelf (node_of worker.seat fabric.journal) (node_of result.worker.seat result.fabric.journal) d query.now l) }
 {
     let i = usize::from(session.number());
@@ -214,155 +219,7 @@ pub fn look_line<L: Loglet, R: Register, K: Terms, S: Replica, C: Chooser>(
         seat,
         fabric,
         answer,
-    } = look_within::<L, R, K, Brand, S, C>(fabric, seat, &desks[i], query, counts);
-    match answer {
-        Ok(looked) => {
-            return Returned {
-                worker: Worker { seat, desks },
-                fabric,
-                answer: Ok(looked),
-            };
-        }
-        Err(fault) => {
-            return Returned {
-                worker: Worker { seat, desks },
-                fabric,
-                answer: Err(fault),
-            };
-        }
-    }
-}
-
-/// A line that replaces the last loglet of the log. It is of no session, and no session's cause keeps it from being tried.
-pub fn extend_line<L: Loglet, R: Register, K: Terms, S: Replica, C: Chooser>(
-    fabric: Fabric<L, R, By<K>>,
-    worker: Worker<S, C>,
-    counts: &[u64; 64],
-) -> Returned<L, R, K, S, C, Looked>
-    requires run { MayRun K.may K.floor K.shelf }
-    requires worker { WorkerOk K.may K.floor K.shelf S.state S.spells worker.seat.who counts.now fabric.journal worker.seat worker.desks.items }
-    ensures desks { result.worker.desks ≡ worker.desks }
-    ensures stands { SeatOk K.may K.floor K.shelf S.state S.spells result.fabric.journal result.worker.seat }
-    ensures grows { Grows fabric.journal result.fabric.journal }
-    ensures since { IfOk result.answer (λ l. Since worker.seat.who fabric.journal result.fabric.journal) }
-    ensures worker { IfOk result.answer (λ l. WorkerOk K.may K.floor K.shelf S.state S.spells worker.seat.who counts.now result.fabric.journal result.worker.seat result.worker.desks.items) }
-    ensures extends { IfOk result.answer (Extends (Within K.may counts.now) K.floor K.shelf (node_of worker.seat fabric.journal) (node_of result.worker.seat result.fabric.journal)) }
-{
-    let Worker { seat, desks } = worker;
-    let Back {
-        seat,
-        fabric,
-        answer,
-    } = settle_within::<L, R, K, Brand, S, C>(fabric, seat, counts);
-    match answer {
-        Ok(()) => {}
-        Err(fault) => {
-            return Returned {
-                worker: Worker { seat, desks },
-                fabric,
-                answer: Err(fault),
-            };
-        }
-    }
-    let Back {
-        seat,
-        fabric,
-        answer,
-    } = extend_within::<L, R, K, Brand, S, C>(fabric, seat, counts);
-    match answer {
-        Ok(looked) => {
-            return Returned {
-                worker: Worker { seat, desks },
-                fabric,
-                answer: Ok(looked),
-            };
-        }
-        Err(fault) => {
-            return Returned {
-                worker: Worker { seat, desks },
-                fabric,
-                answer: Err(fault),
-            };
-        }
-    }
-}
-
-/// A line by which a node reports how much of the log it needs no more. It is of no session, and no session's cause keeps it
-/// from being tried.
-pub fn report_line<L: Loglet, R: Register, K: Terms, S: Replica, C: Chooser>(
-    alloc: Global,
-    fabric: Fabric<L, R, By<K>>,
-    worker: Worker<S, C>,
-    counts: &[u64; 64],
-    number: NodeId,
-) -> Returned<L, R, K, S, C, Looked>
-    requires run { MayRun K.may K.floor K.shelf }
-    requires state { (log : List Entry) (m : SpaceMap) → S.state log m → IsStateOf log m }
-    requires worker { WorkerOk K.may K.floor K.shelf S.state S.spells worker.seat.who counts.now fabric.journal worker.seat worker.desks.items }
-    requires number { worker.seat.who ≡ number }
-    requires own { (position : ℕ) → position < 2 ^ 64 → K.may worker.seat.who (packed worker.seat.who (alive_item worker.seat.who position ∷ [])) }
-    ensures desks { result.worker.desks ≡ worker.desks }
-    ensures stands { SeatOk K.may K.floor K.shelf S.state S.spells result.fabric.journal result.worker.seat }
-    ensures grows { Grows fabric.journal result.fabric.journal }
-    ensures unsealed { Unsealed fabric.journal result.fabric.journal }
-    ensures since { IfOk result.answer (λ l. Since worker.seat.who fabric.journal result.fabric.journal) }
-    ensures worker { IfOk result.answer (λ l. WorkerOk K.may K.floor K.shelf S.state S.spells worker.seat.who counts.now result.fabric.journal result.worker.seat result.worker.desks.items) }
-    ensures reports { IfOk result.answer (λ l. Reports (Within K.may counts.now) K.floor K.shelf (node_of worker.seat fabric.journal) (node_of result.worker.seat result.fabric.journal) l) }
-{
-    // A report is spelled with the numbers of nodes alone.
-    prove!(number.number() <= 8);
-    let Worker { seat, desks } = worker;
-    let Back {
-        seat,
-        fabric,
-        answer,
-    } = report_within::<L, R, K, Brand, S, C>(alloc, fabric, seat, number, counts);
-    match answer {
-        Ok(looked) => {
-            return Returned {
-                worker: Worker { seat, desks },
-                fabric,
-                answer: Ok(looked),
-            };
-        }
-        Err(fault) => {
-            return Returned {
-                worker: Worker { seat, desks },
-                fabric,
-                answer: Err(fault),
-            };
-        }
-    }
-}
-
-/// A line by which a node leaves. It is of no session, and no session's cause keeps it from being tried.
-pub fn leave_line<L: Loglet, R: Register, K: Terms, S: Replica, C: Chooser>(
-    alloc: Global,
-    fabric: Fabric<L, R, By<K>>,
-    worker: Worker<S, C>,
-    counts: &[u64; 64],
-    number: NodeId,
-) -> Returned<L, R, K, S, C, Looked>
-    requires run { MayRun K.may K.floor K.shelf }
-    requires worker { WorkerOk K.may K.floor K.shelf S.state S.spells worker.seat.who counts.now fabric.journal worker.seat worker.desks.items }
-    requires number { worker.seat.who ≡ number }
-    requires own { K.may worker.seat.who (packed worker.seat.who (leave_item worker.seat.who ∷ [])) }
-    ensures desks { result.worker.desks ≡ worker.desks }
-    ensures stands { SeatOk K.may K.floor K.shelf S.state S.spells result.fabric.journal result.worker.seat }
-    ensures grows { Grows fabric.journal result.fabric.journal }
-    ensures unsealed { Unsealed fabric.journal result.fabric.journal }
-    ensures since { IfOk result.answer (λ l. Since worker.seat.who fabric.journal result.fabric.journal) }
-    ensures worker { IfOk result.answer (λ l. WorkerOk K.may K.floor K.shelf S.state S.spells worker.seat.who counts.now result.fabric.journal result.worker.seat result.worker.desks.items) }
-    ensures leaves { IfOk result.answer (λ l. Leaves (Within K.may counts.now) K.floor K.shelf (node_of worker.seat fabric.journal) (node_of result.worker.seat result.fabric.journal) l) }
-{
-    // A leave is spelled with the numbers of nodes alone.
-    prove!(number.number() <= 8);
-    let Worker { seat, desks } = worker;
-    let Back {
-        seat,
-        fabric,
-        answer,
-    } = leave_within::<L, R, K, Brand, S, C>(alloc, fabric, seat, number, counts);
+    } = look(fabric, seat, &desks[i], query, counts);
     match answer {
         Ok(looked) => {
             return Returned {
@@ -390,11 +247,14 @@ pub fn end_phase<L: Loglet, R: Register, K: Terms, S: Replica, C: Chooser>(
     requires run { MayRun K.may K.floor K.shelf }
     requires state { (log : List Entry) (m : SpaceMap) → S.state log m → IsStateOf log m }
     requires worker { WorkerOk K.may K.floor K.shelf S.state S.spells worker.seat.who counts.now fabric.journal worker.seat worker.desks.items }
+    requires high { TrimsUpTo worker.seat.node.replica.cursor fabric.journal }
     ensures stands { SeatOk K.may K.floor K.shelf S.state S.spells result.fabric.journal result.worker.seat }
     ensures grows { Grows fabric.journal result.fabric.journal }
     ensures unsealed { Unsealed fabric.journal result.fabric.journal }
     ensures since { IfOk result.answer (λ f. Since worker.seat.who fabric.journal result.fabric.journal) }
     ensures worker { IfOk result.answer (λ f. WorkerOk K.may K.floor K.shelf S.state S.spells worker.seat.who counts.now result.fabric.journal result.worker.seat result.worker.desks.items) }
+    ensures high { IfOk result.answer (λ f. TrimsUpTo result.worker.seat.node.replica.cursor result.fabric.journal) }
+    ensures adds { IfOk result.answer (λ f. Adds IsOfSessions fabric.journal result.fabric.journal) }
     ensures ends { IfOk result.answer (EndsTurn (Within K.may counts.now) K.floor K.shelf (node_of worker.seat fabric.journal) (node_of result.worker.seat result.fabric.journal) worker.desks.items result.worker.desks.items) }
 {
     let Worker { seat, desks } = worker;
@@ -403,7 +263,7 @@ pub fn end_phase<L: Loglet, R: Register, K: Terms, S: Replica, C: Chooser>(
         seat,
         fabric,
         answer,
-    } = end_within::<L, R, K, Brand, S, C>(fabric, seat, &mut desks, counts);
+    } = end(fabric, seat, &mut desks, counts);
     match answer {
         Ok(failed) => {
             return Returned {

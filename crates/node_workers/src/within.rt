@@ -1,33 +1,27 @@
-//! What a worker does within a scope: it takes the fabric, does one thing, and gives it back, with whatever it came to.
-ghost use Rattle.std.specs.Prelude.{◌≡◌, ◌<◌, ◌≤◌, ◌+◌, ◌^◌, ℕ, List, [], ◌∷◌, length, None, IfOk, OnOk};
+//! What a worker does for its sessions within a scope: it takes the fabric, does one thing, and gives it back, with whatever it
+//! came to.
+ghost use Rattle.std.specs.Prelude.{◌≡◌, ◌⊎◌, ◌<◌, ◌≤◌, ◌+◌, ◌^◌, ℕ, List, [], ◌∷◌, ◌++◌, length, None, IfOk, OnOk};
 ghost use Rattle.delos_types.specs.Spaces.{SpaceMap};
 ghost use Rattle.delos_types.specs.declared.entry.Entry.{Entry};
 ghost use Rattle.legal_journal.specs.Journal.{IsLegal};
 ghost use Rattle.legal_journal.specs.Sealing.{SealsBy};
 ghost use Rattle.table_core.specs.Spelling.{IsSpellable, command_length};
-ghost use Rattle.engine_api.specs.Packing.{packed, session_item, alive_item, leave_item};
+ghost use Rattle.engine_api.specs.Packing.{packed, session_item};
 ghost use Rattle.engine_laws.specs.State.{IsStateOf};
 ghost use Rattle.base_engine.specs.Settling.{cause_in};
 ghost use Rattle.one_thread.specs.Alone.{Since};
 ghost use Rattle.one_thread.specs.Seats.{SeatOk, node_of};
 ghost use Rattle.node_lines.specs.Moving.{HandsIn, CanPack};
-ghost use Rattle.node_lines.specs.Desks.{DeskOk, DesksOk, IsBound, AreBound, MayJoin, KeepsFrom};
+ghost use Rattle.node_lines.specs.Desks.{DeskOk, DesksOk, IsBound, AreBound, KeepsFrom};
 ghost use Rattle.node_lines.specs.Lines.{Readies, Looks};
-ghost use Rattle.node_lines.specs.Extending.{CarriesAll, Replaces};
-ghost use Rattle.node_lines.specs.Reporting.{Reports};
-ghost use Rattle.node_lines.specs.Leaving.{Leaves};
 ghost use Rattle.node_lines.specs.Turns.{EndsTurn};
 
 use delos_types::cause::Cause;
-use delos_types::numbers::NodeId;
 use fabric_core::fabric::Fabric;
 use fate_words::chooser::Chooser;
 use legal_journal::rules::Rules;
 use loglet_api::loglet::Loglet;
-use node_lines::extend::{extend_log, settle_log};
-use node_lines::leave::leave;
 use node_lines::lines::{Looked, log_command, look, make_ready};
-use node_lines::report::report;
 use node_lines::turn::end_turn;
 use node_sessions::desk::Desk;
 use one_thread::seat::{Seat, rest};
@@ -54,9 +48,10 @@ pub fn log_within<L: Loglet, R: Register, K: Terms, Q: Scope, S: Replica, C: Cho
     command: &Command,
     _counts: &[u64; 64],
 ) -> Back<L, R, K, S, C, ()>
-    requires floor { (log : List Entry) → K.floor log ≤ length log }
+    requires floor { (log : List Entry) (n : ℕ) → Q.floor log n → n ≤ length log }
+    requires lower { (log : List Entry) (n : ℕ) → Q.floor log n → K.floor log n }
     requires state { (log : List Entry) (m : SpaceMap) → S.state log m → IsStateOf log m }
-    requires seat { SeatOk Q.sends K.floor K.shelf S.state S.spells fabric.journal seat }
+    requires seat { SeatOk Q.sends Q.floor K.shelf S.state S.spells fabric.journal seat }
     requires narrower { (who : ℕ) (e : Entry) → Q.sends who e → K.may who e }
     requires since { Q.since ≡ fabric.journal }
     requires kept { CanPack seat.node.replica.kept }
@@ -68,14 +63,14 @@ pub fn log_within<L: Loglet, R: Register, K: Terms, Q: Scope, S: Replica, C: Cho
     requires bound { IsBound Q.sends desk.old.session (desk.old.sent + 1) }
     requires spelled { IsSpellable command.now }
     requires short { command_length command.now ≤ 984 }
-    requires own { Q.sends seat.who (packed seat.node.replica.origin (session_item desk.old.session (desk.old.sent + 1) command.now ∷ [])) }
-    requires join { MayJoin Q.sends seat.who seat.node.replica.origin }
-    ensures seat { SeatOk Q.sends K.floor K.shelf S.state S.spells result.fabric.journal result.seat }
+    requires own { Q.sends seat.who (packed seat.node.replica.origin (seat.node.replica.kept ++ session_item desk.old.session (desk.old.sent + 1) command.now ∷ [])) }
+    ensures seat { SeatOk Q.sends Q.floor K.shelf S.state S.spells result.fabric.journal result.seat }
     ensures since { Since result.seat.who Q.since result.fabric.journal }
     ensures right { SealsBy (Q.seals result.seat.who) Q.since result.fabric.journal }
-    ensures hands { OnOk result.answer (HandsIn Q.sends K.floor K.shelf (node_of seat fabric.journal) (node_of result.seat result.fabric.journal) desk.old.session desk.old.sent) }
+    ensures hands { OnOk result.answer (HandsIn Q.sends Q.floor K.shelf (node_of seat fabric.journal) (node_of result.seat result.fabric.journal) desk.old.session desk.old.sent) }
     ensures desk { OnOk result.answer (DeskOk (node_of result.seat result.fabric.journal) desk.old.session desk.new) }
     ensures counts { OnOk result.answer (desk.new ≡ record desk.old { asked = desk.old.asked + 1; sent = desk.old.sent + 1; answers = desk.new.answers }) }
+    ensures kept { OnOk result.answer ((result.seat.node.replica.kept ≡ seat.node.replica.kept ++ session_item desk.old.session (desk.old.sent + 1) command.now ∷ []) ⊎ (result.seat.node.replica.kept ≡ [])) }
 {
     let mut node = seat.wake::<L, R, K, Q>(fabric);
     let answer = log_command(alloc, &mut node, desk, command);
@@ -94,21 +89,23 @@ pub fn ready_within<L: Loglet, R: Register, K: Terms, Q: Scope, S: Replica, C: C
     desk: &mut Desk,
     _counts: &[u64; 64],
 ) -> Back<L, R, K, S, C, bool>
-    requires floor { (log : List Entry) → K.floor log ≤ length log }
+    requires floor { (log : List Entry) (n : ℕ) → Q.floor log n → n ≤ length log }
+    requires lower { (log : List Entry) (n : ℕ) → Q.floor log n → K.floor log n }
     requires state { (log : List Entry) (m : SpaceMap) → S.state log m → IsStateOf log m }
-    requires seat { SeatOk Q.sends K.floor K.shelf S.state S.spells fabric.journal seat }
+    requires seat { SeatOk Q.sends Q.floor K.shelf S.state S.spells fabric.journal seat }
     requires narrower { (who : ℕ) (e : Entry) → Q.sends who e → K.may who e }
     requires since { Q.since ≡ fabric.journal }
     requires kept { CanPack seat.node.replica.kept }
     requires desk { DeskOk (node_of seat fabric.journal) desk.old.session desk.old }
     requires bound { IsBound Q.sends desk.old.session desk.old.sent }
     requires few { desk.old.asked < 2 ^ 32 }
-    requires keeps { KeepsFrom Q.sends K.floor K.shelf seat.node.replica.cursor }
-    ensures seat { SeatOk Q.sends K.floor K.shelf S.state S.spells result.fabric.journal result.seat }
+    requires keeps { KeepsFrom Q.sends Q.floor K.shelf seat.node.replica.cursor }
+    ensures seat { SeatOk Q.sends Q.floor K.shelf S.state S.spells result.fabric.journal result.seat }
     ensures since { Since result.seat.who Q.since result.fabric.journal }
     ensures right { SealsBy (Q.seals result.seat.who) Q.since result.fabric.journal }
-    ensures readies { IfOk result.answer (Readies Q.sends K.floor K.shelf (node_of seat fabric.journal) (node_of result.seat result.fabric.journal) desk.old desk.new) }
+    ensures readies { IfOk result.answer (Readies Q.sends Q.floor K.shelf (node_of seat fabric.journal) (node_of result.seat result.fabric.journal) desk.old desk.new) }
     ensures desk { OnOk result.answer (DeskOk (node_of result.seat result.fabric.journal) desk.old.session desk.new) }
+    ensures kept { OnOk result.answer (result.seat.node.replica.kept ≡ seat.node.replica.kept) }
 {
     let mut node = seat.wake::<L, R, K, Q>(fabric);
     let answer = make_ready(&mut node, desk);
@@ -128,137 +125,24 @@ pub fn look_within<L: Loglet, R: Register, K: Terms, Q: Scope, S: Replica, C: Ch
     query: &Query,
     _counts: &[u64; 64],
 ) -> Back<L, R, K, S, C, Looked>
-    requires floor { (log : List Entry) → K.floor log ≤ length log }
+    requires floor { (log : List Entry) (n : ℕ) → Q.floor log n → n ≤ length log }
+    requires lower { (log : List Entry) (n : ℕ) → Q.floor log n → K.floor log n }
     requires state { (log : List Entry) (m : SpaceMap) → S.state log m → IsStateOf log m }
-    requires seat { SeatOk Q.sends K.floor K.shelf S.state S.spells fabric.journal seat }
+    requires seat { SeatOk Q.sends Q.floor K.shelf S.state S.spells fabric.journal seat }
     requires narrower { (who : ℕ) (e : Entry) → Q.sends who e → K.may who e }
     requires since { Q.since ≡ fabric.journal }
     requires kept { CanPack seat.node.replica.kept }
     requires desk { DeskOk (node_of seat fabric.journal) desk.now.session desk.now }
     requires bound { IsBound Q.sends desk.now.session desk.now.sent }
-    requires keeps { KeepsFrom Q.sends K.floor K.shelf seat.node.replica.cursor }
-    ensures seat { SeatOk Q.sends K.floor K.shelf S.state S.spells result.fabric.journal result.seat }
+    requires keeps { KeepsFrom Q.sends Q.floor K.shelf seat.node.replica.cursor }
+    ensures seat { SeatOk Q.sends Q.floor K.shelf S.state S.spells result.fabric.journal result.seat }
     ensures since { Since result.seat.who Q.since result.fabric.journal }
     ensures right { SealsBy (Q.seals result.seat.who) Q.since result.fabric.journal }
-    ensures looks { IfOk result.answer (Looks Q.sends K.floor K.shelf (node_of seat fabric.journal) (node_of result.seat result.fabric.journal) desk.now query.now) }
+    ensures looks { IfOk result.answer (Looks Q.sends Q.floor K.shelf (node_of seat fabric.journal) (node_of result.seat result.fabric.journal) desk.now query.now) }
+    ensures kept { IfOk result.answer (λ l. result.seat.node.replica.kept ≡ []) }
 {
     let mut node = seat.wake::<L, R, K, Q>(fabric);
     let answer = look(&mut node, desk, query);
-    let (seat, fabric) = rest(node);
-    Back {
-        seat,
-        fabric,
-        answer,
-    }
-}
-
-/// All that the node was given is carried to its end, before the last loglet of the log is replaced.
-pub fn settle_within<L: Loglet, R: Register, K: Terms, Q: Scope, S: Replica, C: Chooser>(
-    fabric: Fabric<L, R, By<K>>,
-    seat: Seat<S, C>,
-    _counts: &[u64; 64],
-) -> Back<L, R, K, S, C, ()>
-    requires floor { (log : List Entry) → K.floor log ≤ length log }
-    requires seat { SeatOk Q.sends K.floor K.shelf S.state S.spells fabric.journal seat }
-    requires narrower { (who : ℕ) (e : Entry) → Q.sends who e → K.may who e }
-    requires since { Q.since ≡ fabric.journal }
-    requires kept { CanPack seat.node.replica.kept }
-    ensures seat { SeatOk Q.sends K.floor K.shelf S.state S.spells result.fabric.journal result.seat }
-    ensures since { Since result.seat.who Q.since result.fabric.journal }
-    ensures right { SealsBy (Q.seals result.seat.who) Q.since result.fabric.journal }
-    ensures carries { OnOk result.answer (CarriesAll Q.sends K.floor K.shelf (node_of seat fabric.journal) (node_of result.seat result.fabric.journal)) }
-{
-    let mut node = seat.wake::<L, R, K, Q>(fabric);
-    let answer = settle_log(&mut node);
-    let (seat, fabric) = rest(node);
-    Back {
-        seat,
-        fabric,
-        answer,
-    }
-}
-
-/// The last loglet of the log is replaced. Alone among what a worker does it asks that the scope lets it seal.
-pub fn extend_within<L: Loglet, R: Register, K: Terms, Q: Scope, S: Replica, C: Chooser>(
-    fabric: Fabric<L, R, By<K>>,
-    seat: Seat<S, C>,
-    _counts: &[u64; 64],
-) -> Back<L, R, K, S, C, Looked>
-    requires floor { (log : List Entry) → K.floor log ≤ length log }
-    requires seat { SeatOk Q.sends K.floor K.shelf S.state S.spells fabric.journal seat }
-    requires narrower { (who : ℕ) (e : Entry) → Q.sends who e → K.may who e }
-    requires since { Q.since ≡ fabric.journal }
-    requires right { Q.seals seat.who }
-    ensures seat { SeatOk Q.sends K.floor K.shelf S.state S.spells result.fabric.journal result.seat }
-    ensures since { Since result.seat.who Q.since result.fabric.journal }
-    ensures right { SealsBy (Q.seals result.seat.who) Q.since result.fabric.journal }
-    ensures replaces { IfOk result.answer (Replaces Q.sends K.floor K.shelf (node_of seat fabric.journal) (node_of result.seat result.fabric.journal)) }
-{
-    let mut node = seat.wake::<L, R, K, Q>(fabric);
-    let answer = extend_log(&mut node);
-    let (seat, fabric) = rest(node);
-    Back {
-        seat,
-        fabric,
-        answer,
-    }
-}
-
-/// The node reports how much of the log it needs no more.
-pub fn report_within<L: Loglet, R: Register, K: Terms, Q: Scope, S: Replica, C: Chooser>(
-    alloc: Global,
-    fabric: Fabric<L, R, By<K>>,
-    seat: Seat<S, C>,
-    number: NodeId,
-    _counts: &[u64; 64],
-) -> Back<L, R, K, S, C, Looked>
-    requires floor { (log : List Entry) → K.floor log ≤ length log }
-    requires state { (log : List Entry) (m : SpaceMap) → S.state log m → IsStateOf log m }
-    requires seat { SeatOk Q.sends K.floor K.shelf S.state S.spells fabric.journal seat }
-    requires narrower { (who : ℕ) (e : Entry) → Q.sends who e → K.may who e }
-    requires since { Q.since ≡ fabric.journal }
-    requires kept { CanPack seat.node.replica.kept }
-    requires keeps { KeepsFrom Q.sends K.floor K.shelf seat.node.replica.cursor }
-    requires number { number ≡ seat.node.replica.origin }
-    requires own { (position : ℕ) → position < 2 ^ 64 → Q.sends seat.who (packed seat.node.replica.origin (alive_item seat.node.replica.origin position ∷ [])) }
-    ensures seat { SeatOk Q.sends K.floor K.shelf S.state S.spells result.fabric.journal result.seat }
-    ensures since { Since result.seat.who Q.since result.fabric.journal }
-    ensures right { SealsBy (Q.seals result.seat.who) Q.since result.fabric.journal }
-    ensures reports { IfOk result.answer (Reports Q.sends K.floor K.shelf (node_of seat fabric.journal) (node_of result.seat result.fabric.journal)) }
-{
-    let mut node = seat.wake::<L, R, K, Q>(fabric);
-    let answer = report(alloc, &mut node, number);
-    let (seat, fabric) = rest(node);
-    Back {
-        seat,
-        fabric,
-        answer,
-    }
-}
-
-/// The node leaves.
-pub fn leave_within<L: Loglet, R: Register, K: Terms, Q: Scope, S: Replica, C: Chooser>(
-    alloc: Global,
-    fabric: Fabric<L, R, By<K>>,
-    seat: Seat<S, C>,
-    number: NodeId,
-    _counts: &[u64; 64],
-) -> Back<L, R, K, S, C, Looked>
-    requires floor { (log : List Entry) → K.floor log ≤ length log }
-    requires seat { SeatOk Q.sends K.floor K.shelf S.state S.spells fabric.journal seat }
-    requires narrower { (who : ℕ) (e : Entry) → Q.sends who e → K.may who e }
-    requires since { Q.since ≡ fabric.journal }
-    requires kept { CanPack seat.node.replica.kept }
-    requires keeps { KeepsFrom Q.sends K.floor K.shelf seat.node.replica.cursor }
-    requires number { number ≡ seat.node.replica.origin }
-    requires own { Q.sends seat.who (packed seat.node.replica.origin (leave_item seat.node.replica.origin ∷ [])) }
-    ensures seat { SeatOk Q.sends K.floor K.shelf S.state S.spells result.fabric.journal result.seat }
-    ensures since { Since result.seat.who Q.since result.fabric.journal }
-    ensures right { SealsBy (Q.seals result.seat.who) Q.since result.fabric.journal }
-    ensures leaves { IfOk result.answer (Leaves Q.sends K.floor K.shelf (node_of seat fabric.journal) (node_of result.seat result.fabric.journal)) }
-{
-    let mut node = seat.wake::<L, R, K, Q>(fabric);
-    let answer = leave(alloc, &mut node, number);
     let (seat, fabric) = rest(node);
     Back {
         seat,
@@ -274,19 +158,20 @@ pub fn end_within<L: Loglet, R: Register, K: Terms, Q: Scope, S: Replica, C: Cho
     desks: &mut Vec<Desk>,
     _counts: &[u64; 64],
 ) -> Back<L, R, K, S, C, Option<Cause>>
-    requires floor { (log : List Entry) → K.floor log ≤ length log }
+    requires floor { (log : List Entry) (n : ℕ) → Q.floor log n → n ≤ length log }
+    requires lower { (log : List Entry) (n : ℕ) → Q.floor log n → K.floor log n }
     requires state { (log : List Entry) (m : SpaceMap) → S.state log m → IsStateOf log m }
-    requires seat { SeatOk Q.sends K.floor K.shelf S.state S.spells fabric.journal seat }
+    requires seat { SeatOk Q.sends Q.floor K.shelf S.state S.spells fabric.journal seat }
     requires narrower { (who : ℕ) (e : Entry) → Q.sends who e → K.may who e }
     requires since { Q.since ≡ fabric.journal }
     requires kept { CanPack seat.node.replica.kept }
-    requires keeps { KeepsFrom Q.sends K.floor K.shelf seat.node.replica.cursor }
+    requires keeps { KeepsFrom Q.sends Q.floor K.shelf seat.node.replica.cursor }
     requires desks { DesksOk (node_of seat fabric.journal) desks.old.items }
     requires bound { AreBound Q.sends desks.old.items }
-    ensures seat { SeatOk Q.sends K.floor K.shelf S.state S.spells result.fabric.journal result.seat }
+    ensures seat { SeatOk Q.sends Q.floor K.shelf S.state S.spells result.fabric.journal result.seat }
     ensures since { Since result.seat.who Q.since result.fabric.journal }
     ensures right { SealsBy (Q.seals result.seat.who) Q.since result.fabric.journal }
-    ensures ends { IfOk result.answer (EndsTurn Q.sends K.floor K.shelf (node_of seat fabric.journal) (node_of result.seat result.fabric.journal) desks.old.items desks.new.items) }
+    ensures ends { IfOk result.answer (EndsTurn Q.sends Q.floor K.shelf (node_of seat fabric.journal) (node_of result.seat result.fabric.journal) desks.old.items desks.new.items) }
 {
     let mut node = seat.wake::<L, R, K, Q>(fabric);
     let answer = end_turn(&mut node, desks.as_mut_slice());

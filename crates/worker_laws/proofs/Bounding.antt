@@ -1,33 +1,26 @@
 -- What a tail and a front tell of what was sent and has acted.
-use Rattle.std.proofs.Common.{◌≡◌, refl, subst, inl, inr, ◌⊎◌, ℕ, zero, suc, ◌<◌, ◌≤◌, List, [], ◌∷◌, ◌++◌, Some, length, drop, arith}
-use Rattle.std.specs.Prelude.{slice_get}
+use Rattle.std.proofs.Common.{◌≡◌, subst, inl, inr, ◌⊎◌, ℕ, ◌<◌, ◌≤◌, List, ◌++◌, length, drop, arith}
 use Rattle.std.proofs.lemmas.Bool.{cases_lt}
 use Rattle.delos_types.specs.declared.entry.Entry.{Entry}
 use Rattle.legal_journal.specs.declared.events.Event.{Event}
 use Rattle.legal_journal.specs.Journal.{IsLegal, state_of, tail_of}
 use Rattle.virtual_log.specs.Holding.{Holds}
-use Rattle.virtual_log.proofs.Holding.{holds_stands}
 use Rattle.virtual_log.proofs.Agreeing.{holds_agree}
 use Rattle.engine_api.specs.Acted.{asked_in}
 use Rattle.engine_api.specs.Order.{gap_from}
 use Rattle.engine_steps.specs.declared.layout.Kept.{Kept}
 use Rattle.base_engine.specs.Holding.{held_stays}
 use Rattle.base_engine.specs.Reading.{IsFront}
-use Rattle.one_thread.proofs.Bounds.{stands_below}
 use Rattle.one_thread.proofs.Moments.{held_before, held_sent}
 use Rattle.node_sessions.specs.Desks.{AreAnswers}
 use Rattle.node_sessions.specs.UnderWay.{HasRank}
 use Rattle.node_lines.proofs.Fronts.{splits, gap-longer, answers-longer}
 use Rattle.node_workers.specs.Workers.{Within, sent_of}
+use Rattle.node_workers.proofs.Cleaning.{front_within}
 
-some_at : (log : List Entry) (n : ℕ) → n < length log → (e : Entry) × (slice_get log n ≡ Some e)
-some_at [] n h = absurd (omega (arith, h))
-some_at (x ∷ xs) zero h = (x, refl)
-some_at (x ∷ xs) (suc n) h = some_at xs n (omega (arith, h))
-
-module _ (may : ℕ → Entry → Type 0) (floor : List Entry → ℕ) (shelf : List ℕ) where
+module _ (may : ℕ → Entry → Type 0) (floor : List Entry → ℕ → Type 0) (shelf : List ℕ) where
   -- what is held below an early tail was held then, so it was sent within the counts of then
-  pub tail_bounds : ((log : List Entry) → floor log ≤ length log) → (counts : List ℕ) (early late : List Event) (s r pos : ℕ) (e : Entry) → IsLegal (Within may counts) floor shelf early → IsLegal may floor shelf (early ++ late)
+  pub tail_bounds : ((log : List Entry) (n : ℕ) → floor log n → n ≤ length log) → (counts : List ℕ) (early late : List Event) (s r pos : ℕ) (e : Entry) → IsLegal (Within may counts) floor shelf early → IsLegal may floor shelf (early ++ late)
       → Holds (early ++ late) pos e → HasRank s r e → sent_of counts s < r → tail_of (state_of early) ≤ pos
   tail_bounds low counts early late s r pos e within legal held has above = by (cases_lt pos (tail_of (state_of early)))
     where
@@ -38,15 +31,8 @@ module _ (may : ℕ → Entry → Type 0) (floor : List Entry → ℕ) (shelf : 
           absurd (omega (arith, sent.1.1 s r has, above))
 
   -- each entry of a front stands in the log, below its tail
-  pub front_below : ((log : List Entry) → floor log ≤ length log) → (seen : List Event) (log : List Entry) → IsLegal may floor shelf seen → IsFront Holds seen log → length log ≤ tail_of (state_of seen)
-  front_below low seen log legal front = by (cases_lt (tail_of (state_of seen)) (length log))
-    where
-      by : (tail_of (state_of seen) < length log) ⊎ (length log ≤ tail_of (state_of seen)) → length log ≤ tail_of (state_of seen)
-      by (inr h) = h
-      by (inl h) =
-          let t = tail_of (state_of seen) in
-          let x = some_at log t h in
-          absurd (omega (arith, stands_below may floor shelf low seen t x.0 legal (holds_stands may floor shelf seen t x.0 legal (front t x.0 x.1))))
+  pub front_below : ((log : List Entry) (n : ℕ) → floor log n → n ≤ length log) → (seen : List Event) (log : List Entry) → IsLegal may floor shelf seen → IsFront Holds seen log → length log ≤ tail_of (state_of seen)
+  front_below low seen log legal front = front_within may floor shelf low seen log legal front
 
   -- an early front is the beginning of each later one that isn't shorter
   begins : (early late : List Event) (front log : List Entry) → IsLegal may floor shelf (early ++ late) → IsFront Holds early front → IsFront Holds (early ++ late) log → length front ≤ length log → front ++ drop (length front) log ≡ log

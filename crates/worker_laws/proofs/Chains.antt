@@ -105,7 +105,7 @@ module _ (cells : ℕ) (w : State) (ok : StateOk cells w) where
   by_following c (inl x) = by_extending c x.at x.segments
   by_following c (inr x) = by_dropping c c.trim x.segments
 
-  by_writing : (floor : List Entry → ℕ) (c : Chain) → MayFollow w floor cells w.register.chain c → first_start w.register.chain ≤ first_start c
+  by_writing : (floor : List Entry → ℕ → Type 0) (c : Chain) → MayFollow w floor cells w.register.chain c → first_start w.register.chain ≤ first_start c
   by_writing floor c (inl x) = by_extending c x.at (ap (λ (d : Chain). d.segments) x.is)
   by_writing floor c (inr x) = by_dropping c x.0.trim (ap (λ (d : Chain). d.segments) x.0.is)
 
@@ -113,7 +113,7 @@ module _ (cells : ℕ) (w : State) (ok : StateOk cells w) where
   by_telling v c (inl x) = omega (arith, ap first_start x.1)
   by_telling v c (inr x) = by_following c (ok.asked c x.1)
 
-  register_first : (floor : List Entry → ℕ) (m : RegisterMove) → RegisterAllowed w floor cells m → first_start w.register.chain ≤ first_start (register_after w.register m).chain
+  register_first : (floor : List Entry → ℕ → Type 0) (m : RegisterMove) → RegisterAllowed w floor cells m → first_start w.register.chain ≤ first_start (register_after w.register m).chain
   register_first floor (Gives v c) a = by_telling v c a.1
   register_first floor (Conflicts x v c) a = by_telling v c a.1
   register_first floor (Writes x c v) a = by_writing floor c a.2
@@ -121,13 +121,13 @@ module _ (cells : ℕ) (w : State) (ok : StateOk cells w) where
   register_first floor Fails a = omega arith
   register_first floor (Mends b) a = omega arith
 
-  move_first : (may : ℕ → Entry → Type 0) (floor : List Entry → ℕ) (who : ℕ) (m : Move) → IsAllowed w may floor cells who m → first_start w.register.chain ≤ first_start (after w who m).register.chain
+  move_first : (may : ℕ → Entry → Type 0) (floor : List Entry → ℕ → Type 0) (who : ℕ) (m : Move) → IsAllowed w may floor cells who m → first_start w.register.chain ≤ first_start (after w who m).register.chain
   move_first may floor who (OnCell i m) a = omega arith
   move_first may floor who (OnRegister m) a = register_first floor m a
   move_first may floor who Nothing a = omega arith
   move_first may floor who Never a = omega arith
 
-module _ (may : ℕ → Entry → Type 0) (floor : List Entry → ℕ) (shelf : List ℕ) where
+module _ (may : ℕ → Entry → Type 0) (floor : List Entry → ℕ → Type 0) (shelf : List ℕ) where
   all_first : (w : State) (es : List Event) → StateOk (length shelf) w → IsLegalFrom w may floor shelf es → first_start w.register.chain ≤ first_start (after_all w es).register.chain
   all_first w [] ok legal = omega arith
   all_first w (e ∷ es) ok legal =

@@ -40,7 +40,7 @@ own_at : (who : ℕ) (before : List Event) (e : Event) (after : List Event) → 
 own_at who [] e after h = h.0
 own_at who (x ∷ xs) e after h = own_at who xs e after h.1
 
-module _ (may : ℕ → Entry → Type 0) (floor : List Entry → ℕ) (shelf : List ℕ) (who : ℕ) (early settled new : List Event) (known known' v' : ℕ) (legal : IsLegal may floor shelf new) (more : List Event) (since : settled ≡ early ++ more) where
+module _ (may : ℕ → Entry → Type 0) (floor : List Entry → ℕ → Type 0) (shelf : List ℕ) (who : ℕ) (early settled new : List Event) (known known' v' : ℕ) (legal : IsLegal may floor shelf new) (more : List Event) (since : settled ≡ early ++ more) where
   -- the look at the chain
   module _ (x : Extension) (e : IsExtension (length shelf) who settled known known' v' new x) where
     abbrev look_event : Event
@@ -106,7 +106,7 @@ module _ (may : ℕ → Entry → Type 0) (floor : List Entry → ℕ) (shelf : 
   lone_case (Moved version) e own = absurd (alone (Moved version) e own e.follows.1.0.another)
   lone_case NoSpare e own = ap (λ n. n + 1) (last_now NoSpare e e.follows.1) ∙ e.follows.0
 
-pub lone_extension : (may : ℕ → Entry → Type 0) (floor : List Entry → ℕ) (shelf : List ℕ) (old new : NodeView) (x : Extension) → Extends may floor shelf old new (looked.Extended x) → Since old.who old.seen new.seen
+pub lone_extension : (may : ℕ → Entry → Type 0) (floor : List Entry → ℕ → Type 0) (shelf : List ℕ) (old new : NodeView) (x : Extension) → Extends may floor shelf old new (looked.Extended x) → Since old.who old.seen new.seen
     → ExtendedSo (length shelf) (state_of old.seen).register (state_of new.seen).register x
 lone_extension may floor shelf old new x h own =
     let who = h.settles.goes.keeps.who in

@@ -1,6 +1,6 @@
 -- A replacement of the last loglet seals no loglet behind that one, so where all events meanwhile are one user's the chain goes on
 -- once, or stays.
-use Rattle.std.proofs.Common.{◌≡◌, ◌≢◌, refl, sym, ap, ◌∙◌, subst, ℕ, ◌+◌, ◌<◌, ◌≤◌, ◌==◌, ◌&&◌, Bool, true, false, cond, List, [], ◌∷◌, ◌++◌, length, count_by, arith, append_assoc, append-nil}
+use Rattle.std.proofs.Common.{◌≡◌, ◌≢◌, refl, sym, ap, ◌∙◌, subst, ℕ, ◌+◌, ◌<◌, ◌==◌, ◌&&◌, Bool, true, false, cond, List, [], ◌∷◌, ◌++◌, length, count_by, arith, append_assoc, append-nil}
 use Rattle.std.proofs.lemmas.Bool.Decides.{nat_tests}
 use Rattle.std.proofs.lemmas.List.{append_cancel_left}
 use Rattle.std.proofs.lemmas.List.Sums.{sum_by-append, sum_by-cons}
@@ -9,9 +9,9 @@ use Rattle.chain_map.specs.Chain.{last_segment, last_id}
 use Rattle.legal_journal.specs.declared.events.Event.{Event}
 use Rattle.legal_journal.specs.declared.events.FabricCall.TheVariants.{ReadChain}
 use Rattle.legal_journal.specs.declared.events.FabricAnswer.TheVariants.{At}
-use Rattle.legal_journal.specs.Journal.{State, state_of, trim_of, IsLegal}
+use Rattle.legal_journal.specs.Journal.{State, state_of, IsLegal}
 use Rattle.legal_journal.specs.Turns.{AreOthers}
-use Rattle.legal_journal.proofs.Legal.{legal_front, goes_on}
+use Rattle.legal_journal.proofs.Legal.{legal_front}
 use Rattle.legal_journal.proofs.Taken.{took}
 use Rattle.journal_faults.specs.Faults.{faults_in}
 use Rattle.legal_journal.specs.Sealing.{begins_seal, begins_seal_on, own_seals_on, Unsealed}
@@ -54,7 +54,7 @@ own_counted who i (e ∷ es) own =
     by false c is = refl
     by true false is = let same : e.who ≡ who = own.0 in absurd (grind (arith, nat_tests))
 
-module _ (may : ℕ → Entry → Type 0) (floor : List Entry → ℕ) (shelf : List ℕ) (who : ℕ) (early settled new : List Event) (legal : IsLegal may floor shelf new) (own : Since who early new) (still : Unsealed early settled) (untrimmed : trim_of (state_of new) ≡ trim_of (state_of early)) (n : ℕ) (was : IsUnsealed (state_of early) n) (calm : faults_in new ≡ []) where
+module _ (may : ℕ → Entry → Type 0) (floor : List Entry → ℕ → Type 0) (shelf : List ℕ) (who : ℕ) (early settled new : List Event) (legal : IsLegal may floor shelf new) (own : Since who early new) (still : Unsealed early settled) (n : ℕ) (was : IsUnsealed (state_of early) n) (calm : faults_in new ≡ []) where
   module _ (known known' v' : ℕ) (x : Extension) (e : IsExtension (length shelf) who settled known known' v' new x) (only : (i : ℕ) → i ≢ (last_segment e.chain).id → own_seals_on who i e.rest ≡ 0) where
     abbrev look_event : Event
     look_event = record { who = who; call = ReadChain; answer = At e.version e.chain }
@@ -91,14 +91,6 @@ module _ (may : ℕ → Entry → Type 0) (floor : List Entry → ℕ) (shelf : 
     looked_chain : (state_of e.looked).register.chain ≡ e.chain
     looked_chain = ap (λ (w : State). w.register.chain) (took may floor shelf settled e.others look_event e.looked looked_legal e.look).now
 
-    trims : (trim_of (state_of e.looked) ≡ trim_of (state_of early)) × (trim_of (state_of new) ≡ trim_of (state_of e.looked))
-    trims =
-        let up = (goes_on may floor shelf early to_look (subst (IsLegal may floor shelf) looked_since looked_legal)).trim in
-        let more = (goes_on may floor shelf e.looked e.rest (subst (IsLegal may floor shelf) e.seen legal)).trim in
-        let a = ap (λ es. trim_of (state_of es)) looked_since in
-        let b = ap (λ es. trim_of (state_of es)) e.seen in
-        (omega (arith, up, more, a, b, untrimmed), omega (arith, up, more, a, b, untrimmed))
-
     parts : (faults_in e.looked ≡ []) × (faults_in e.rest ≡ [])
     parts = calm_parts e.looked new e.rest e.seen calm
 
@@ -106,7 +98,7 @@ module _ (may : ℕ → Entry → Type 0) (floor : List Entry → ℕ) (shelf : 
     at_look =
         subst (λ es. IsUnsealed (state_of es) n) (sym looked_since)
         (chain_stays may floor shelf early to_look n (subst (IsLegal may floor shelf) looked_since looked_legal) was unsealed_yet
-        (ap (λ es. trim_of (state_of es)) (sym looked_since) ∙ trims.0) (calm_parts early e.looked to_look looked_since parts.0).1)
+        (calm_parts early e.looked to_look looked_since parts.0).1)
 
     last_is : (last_segment e.chain).id ≡ n
     last_is = ap last_id (sym looked_chain) ∙ at_look.last
@@ -120,7 +112,7 @@ module _ (may : ℕ → Entry → Type 0) (floor : List Entry → ℕ) (shelf : 
     on : last_id (state_of new).register.chain ≢ n → IsUnsealed (state_of new) (n + 1)
     on moved =
         subst (λ es. IsUnsealed (state_of es) (n + 1)) (sym e.seen)
-        (chain_goes_on may floor shelf e.looked e.rest n (subst (IsLegal may floor shelf) e.seen legal) at_look none_behind (ap (λ es. trim_of (state_of es)) (sym e.seen) ∙ trims.1) parts.1
+        (chain_goes_on may floor shelf e.looked e.rest n (subst (IsLegal may floor shelf) e.seen legal) at_look none_behind parts.1
         (λ same. moved (ap (λ es. last_id (state_of es).register.chain) e.seen ∙ same)))
 
     stays : e.rest ≡ [] → IsUnsealed (state_of new) n
@@ -132,10 +124,10 @@ module _ (may : ℕ → Entry → Type 0) (floor : List Entry → ℕ) (shelf : 
   lone_unsealed known known' v' (Moved version) e only so = absurd so
   lone_unsealed known known' v' NoSpare e only so = subst (IsUnsealed (state_of new)) (let none : n ≡ n + 0 = omega arith in none) (stays known known' v' NoSpare e only e.follows.1)
 
-pub lone_once : (may : ℕ → Entry → Type 0) (floor : List Entry → ℕ) (shelf : List ℕ) (old new : NodeView) (x : Extension) (n : ℕ) → Extends may floor shelf old new (looked.Extended x) → Since old.who old.seen new.seen
-    → trim_of (state_of new.seen) ≡ trim_of (state_of old.seen) → IsUnsealed (state_of old.seen) n → faults_in new.seen ≡ [] → IsUnsealed (state_of new.seen) (n + made x)
-lone_once may floor shelf old new x n h own untrimmed was calm =
+pub lone_once : (may : ℕ → Entry → Type 0) (floor : List Entry → ℕ → Type 0) (shelf : List ℕ) (old new : NodeView) (x : Extension) (n : ℕ) → Extends may floor shelf old new (looked.Extended x) → Since old.who old.seen new.seen
+    → IsUnsealed (state_of old.seen) n → faults_in new.seen ≡ [] → IsUnsealed (state_of new.seen) (n + made x)
+lone_once may floor shelf old new x n h own was calm =
     let same = h.settles.goes.keeps.who in
     let e = h.extends.1.1 in
-    lone_unsealed may floor shelf h.settled.who old.seen h.settled.seen new.seen h.moves.goes.keeps.later.legal (subst (λ k. Since k old.seen new.seen) (sym same) own) h.unsealed untrimmed n was calm
+    lone_unsealed may floor shelf h.settled.who old.seen h.settled.seen new.seen h.moves.goes.keeps.later.legal (subst (λ k. Since k old.seen new.seen) (sym same) own) h.unsealed n was calm
     h.settled.known new.known h.extends.1.0 x e e.seals.elsewhere (lone_extension may floor shelf old new x h own)

@@ -7,6 +7,7 @@ use Rattle.delos_types.specs.declared.item.Item.{Item}
 use Rattle.legal_journal.specs.declared.events.Event.{Event}
 use Rattle.legal_journal.specs.Journal.{IsLegal}
 use Rattle.legal_journal.proofs.Legal.{goes_on}
+use Rattle.journal_changes.proofs.Changes.{legal_by}
 use Rattle.virtual_log.specs.Holding.{Holds}
 use Rattle.virtual_log.specs.Turning.{Later}
 use Rattle.virtual_log.proofs.Going.{goes_later}
@@ -19,10 +20,11 @@ use Rattle.node_sessions.specs.declared.desk.Desk.{Desk}
 use Rattle.node_sessions.specs.UnderWay.{HasLanded, IsUnderWay, IsGiven}
 use Rattle.one_thread.specs.Seats.{SeatView, SeatOk, node_of}
 use Rattle.node_lines.specs.Desks.{DeskOk}
-use Rattle.node_workers.specs.Workers.{Within, WorkerOk, sent_of}
-use Rattle.node_workers.proofs.Widening.{within-more, seat_wider}
+use Rattle.node_workers.specs.Workers.{Within, Sends, WorkerOk, sent_of}
+use Rattle.node_workers.proofs.Widening.{seat_wider}
+use Rattle.node_workers.proofs.Scoping.{sends_grow, sends_more}
 
-module _ (may : ℕ → Entry → Type 0) (floor : List Entry → ℕ) (shelf : List ℕ) (early more : List Event) (legal : IsLegal may floor shelf (early ++ more)) where
+module _ (may : ℕ → Entry → Type 0) (floor : List Entry → ℕ → Type 0) (shelf : List ℕ) (early more : List Event) (legal : IsLegal may floor shelf (early ++ more)) where
   front_later : (log : List Entry) → IsFront Holds early log → IsFront Holds (early ++ more) log
   front_later log h = λ pos e at. held_stays may floor shelf early more pos e legal (h pos e at)
 
@@ -64,16 +66,19 @@ module _ (may : ℕ → Entry → Type 0) (floor : List Entry → ℕ) (shelf : 
       }
 
 -- What others sent is within the counts by then, and none of it is of a session of this worker.
-pub worker_stays : (may : ℕ → Entry → Type 0) (floor : List Entry → ℕ) (shelf : List ℕ) (state : List Entry → SpaceMap → Type 0) (spells : List ℕ → Saved → Type 0) (who : ℕ) (counts counts' : List ℕ) (early more : List Event) (seat : SeatView) (desks : List Desk)
+pub worker_stays : (may : ℕ → Entry → Type 0) (floor : List Entry → ℕ → Type 0) (shelf : List ℕ) (state : List Entry → SpaceMap → Type 0) (spells : List ℕ → Saved → Type 0) (who : ℕ) (counts counts' : List ℕ) (early more : List Event) (seat : SeatView) (desks : List Desk)
     → WorkerOk may floor shelf state spells who counts early seat desks → IsLegal (Within may counts') floor shelf (early ++ more)
     → ((s : ℕ) → sent_of counts s ≤ sent_of counts' s) → ((s : ℕ) (d : Desk) → slice_get desks s ≡ Some d → 0 < d.asked → sent_of counts' s ≡ sent_of counts s)
     → WorkerOk may floor shelf state spells who counts' (early ++ more) seat desks
 worker_stays may floor shelf state spells who counts counts' early more seat desks h legal up same = record {
   who_is = h.who_is;
   origin = h.origin;
-  ok = seat_later (Within may counts') floor shelf early more legal state spells seat
-      (seat_wider (Within may counts) (Within may counts') floor shelf (within-more may counts counts' up) state spells early seat h.ok);
+  ok = seat_later (Sends may counts' (early ++ more)) floor shelf early more
+      (legal_by (Within may counts') (Sends may counts' (early ++ more)) floor floor shelf (early ++ more) legal (λ user e there k. (k, inl there)) (λ log n there k. k)) state spells seat
+      (seat_wider (Sends may counts early) (Sends may counts' (early ++ more)) floor floor shelf
+      (λ user e k. sends_grow may counts' early (early ++ more) (more, refl) user e (sends_more may counts counts' early up user e k)) (λ log n k. k) state spells early seat h.ok);
   packs = h.packs;
+  waits = h.waits;
   size = h.size;
   each = λ s d at. desk_later (Within may counts') floor shelf early more legal seat s d (h.each s d at);
   counted = λ s d at some. h.counted s d at some ∙ sym (same s d at some);

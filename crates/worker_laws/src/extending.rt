@@ -2,7 +2,7 @@
 ghost use Rattle.std.specs.Prelude.{◌≡◌, ◌+◌, ◌≤◌, ℕ, List, [], ◌++◌, length};
 ghost use Rattle.chain_map.specs.Chain.{first_start, last_id};
 ghost use Rattle.legal_journal.specs.declared.events.Event.{Event};
-ghost use Rattle.legal_journal.specs.Journal.{IsLegal, state_of, trim_of};
+ghost use Rattle.legal_journal.specs.Journal.{IsLegal, state_of};
 ghost use Rattle.journal_faults.specs.Faults.{faults_in};
 ghost use Rattle.unsealed_chain.specs.Unsealed.{IsUnsealed};
 ghost use Rattle.virtual_log.specs.declared.extend.Extension.{Extension};
@@ -41,10 +41,10 @@ pub fn a_lone_extension<P: Rules>()
         → Since old.who old.seen new.seen → ExtendedSo (length P.shelf) (state_of old.seen).register (state_of new.seen).register x }
 {}
 
-/// Where nothing is trimmed meanwhile, no fault came and the last loglet wasn't sealed, such a node lets the chain go on in the next
+/// Where no fault came and the last loglet wasn't sealed, such a node lets the chain go on in the next
 /// loglet and no further, or leaves it as it is, and the last loglet isn't sealed then.
 pub fn a_lone_extension_goes_on_once<P: Rules>()
     ensures { (counts : List ℕ) (old new : NodeView) (x : Extension) (n : ℕ) → Extends (Within P.may counts) P.floor P.shelf old new (looked.Extended x)
-        → Since old.who old.seen new.seen → trim_of (state_of new.seen) ≡ trim_of (state_of old.seen) → IsUnsealed (state_of old.seen) n → faults_in new.seen ≡ []
+        → Since old.who old.seen new.seen → IsUnsealed (state_of old.seen) n → faults_in new.seen ≡ []
         → IsUnsealed (state_of new.seen) (n + made x) }
 {}

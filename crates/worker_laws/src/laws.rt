@@ -37,14 +37,14 @@ pub fn a_worker_is_legal<P: Rules, S: Replica>()
 /// What is held below an early tail was sent by then. So a rank above those that were sent by then is held at no position
 /// below that tail, whatever was sent later.
 pub fn a_tail_bounds_what_is_sent<P: Rules>()
-    ensures { ((log : List Entry) → P.floor log ≤ length log) → (counts : List ℕ) (early late : List Event) (s r pos : ℕ) (e : Entry)
+    ensures { ((log : List Entry) (n : ℕ) → P.floor log n → n ≤ length log) → (counts : List ℕ) (early late : List Event) (s r pos : ℕ) (e : Entry)
         → IsLegal (Within P.may counts) P.floor P.shelf early → IsLegal P.may P.floor P.shelf (early ++ late) → Holds (early ++ late) pos e → HasRank s r e
         → sent_of counts s < r → tail_of (state_of early) ≤ pos }
 {}
 
 /// A front of a log isn't longer than the log's tail says.
 pub fn a_cursor_is_below_the_tail<P: Rules>()
-    ensures { ((log : List Entry) → P.floor log ≤ length log) → (seen : List Event) (log : List Entry) → IsLegal P.may P.floor P.shelf seen → IsFront Holds seen log
+    ensures { ((log : List Entry) (n : ℕ) → P.floor log n → n ≤ length log) → (seen : List Event) (log : List Entry) → IsLegal P.may P.floor P.shelf seen → IsFront Holds seen log
         → length log ≤ tail_of (state_of seen) }
 {}
 

@@ -1,5 +1,5 @@
-use Rattle.node_workers.specs.Workers.{Within}
+use Rattle.node_workers.specs.Workers.{Sends}
 use Rattle.node_closing.proofs.turns.finish_worker.Given as goal
 
 abbrev pub ghosts-finish_within : goal.ghosts-finish_within
-ghosts-finish_within g a = record { sends = Within g.K.Terms.may a._counts.now; seals = λ _. ⊥; since = a.fabric.journal }
+ghosts-finish_within g a = record { sends = Sends g.K.Terms.may a._counts.now a.fabric.journal; seals = λ _. ⊥; floor = g.K.Terms.floor; since = a.fabric.journal }

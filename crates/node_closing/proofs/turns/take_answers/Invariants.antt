@@ -1,5 +1,5 @@
-use Rattle.node_workers.specs.Workers.{Within}
+use Rattle.node_workers.specs.Workers.{Sends}
 use Rattle.node_closing.proofs.turns.take_answers.Given as goal
 
 abbrev pub ghosts-take_within : goal.ghosts-take_within
-ghosts-take_within g a = record { sends = Within g.K.Terms.may a._counts.now; seals = λ _. ⊥; since = a.fabric.journal }
+ghosts-take_within g a = record { sends = Sends g.K.Terms.may a._counts.now a.fabric.journal; seals = λ _. ⊥; floor = g.K.Terms.floor; since = a.fabric.journal }

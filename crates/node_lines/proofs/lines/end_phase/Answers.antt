@@ -28,7 +28,9 @@ returns-in-At g c =
     record {
       ends = ends_at p.may p.floor p.shelf c.requires.floor old first then' new c.in-At.field-0 e
           (ap (λ (o : OutboxView). o.entries) c.in_ok-sync.ensures.outbox ∙ c.in_ok-settle.ensures.none)
-          (c.in_ok-sync.ensures.kept ∙ kept);
+          (c.in_ok-sync.ensures.kept ∙ kept)
+          (ap (λ (r : ReplicaView). r.cursor) (c.in_ok-settle.ensures.replica ∙ c.in_ok-pack.ensures.replica))
+          (c.in_ok-sync.ensures.exact c.in-At.field-0 c.in-At.is);
       follows = c.in_ok-sync.ensures.follows;
     }
 
@@ -48,6 +50,7 @@ returns-in-Failed g c =
         none = ap (λ (o : OutboxView). o.entries) c.in_ok-sync.ensures.outbox ∙ c.in_ok-settle.ensures.none;
         kept = c.in_ok-sync.ensures.kept ∙ kept;
         acted = λ f. absurd (cc);
+        exact = λ f. absurd (cc);
       };
       follows = c.in_ok-sync.ensures.follows;
     }

@@ -1,4 +1,4 @@
-use Rattle.std.proofs.Common.{refl, sym, ap, ◌∙◌, subst, ◌+◌, ◌∷◌, [], Some, arith}
+use Rattle.std.proofs.Common.{◌≡◌, ◌⊎◌, refl, sym, ap, ◌∙◌, subst, ◌+◌, ◌∷◌, ◌++◌, [], Some, arith}
 use Rattle.table_core.specs.Spelling.{command_text}
 use Rattle.table_core.specs.Reading.{command_of}
 use Rattle.delos_types.specs.declared.item.Item.{Item}
@@ -10,7 +10,7 @@ use Rattle.node_sessions.specs.declared.desk.Desk.{Desk}
 use Rattle.node_sessions.specs.UnderWay.{rank_under}
 use Rattle.node_lines.proofs.Fronts.{answers_at}
 use Rattle.node_lines.proofs.Desks.{answers_later}
-use Rattle.node_lines.proofs.Sessions.{next_near, may_go_down, desk_logged, own_under}
+use Rattle.node_lines.proofs.Sessions.{next_near, desk_logged, own_under}
 use Rattle.node_lines.proofs.lines.log_command.Goals as goal
 
 pub hand_in-requires-clause-near : goal.hand_in-requires-clause-near
@@ -31,9 +31,14 @@ hand_in-requires-clause-own g c =
     let n = c.args.node.now in
     let d = c.args.desk.now in
     let cmd = c.args.command.now in
-    may_go_down p.may n.who n.replica.origin n.replica.kept c.in_ok-item.item c.requires.join c.requires.kept c.in_ok-item.ensures.proposable
-    (subst (λ (i : Item). p.may n.who (packed n.replica.origin (i ∷ []))) (sym (c.in_ok-item.ensures.item ∙ ap (λ k. session_item d.session k cmd) c.in-Some.ensures.value)) c.requires.own)
-    c.requires.waiting
+    subst (λ (i : Item). p.may n.who (packed n.replica.origin (n.replica.kept ++ i ∷ []))) (sym (c.in_ok-item.ensures.item ∙ ap (λ k. session_item d.session k cmd) c.in-Some.ensures.value)) c.requires.own
+
+pub returns-in-Ok-clause-kept : goal.returns-in-Ok-clause-kept
+returns-in-Ok-clause-kept g c =
+    let n = c.args.node.now in
+    let d = c.args.desk.now in
+    let m = c.hand_in.new.node in
+    subst (λ (i : Item). (m.replica.kept ≡ n.replica.kept ++ i ∷ []) ⊎ (m.replica.kept ≡ [])) (c.in_ok-item.ensures.item ∙ ap (λ k. session_item d.session k c.args.command.now) c.in-Some.ensures.value) c.in_ok-hand_in.ensures.kept
 
 pub collect-requires-clause-acted : goal.collect-requires-clause-acted
 collect-requires-clause-acted g c =

@@ -26,8 +26,9 @@ returns-in-Ok-pack g c =
     let n = c.args.node.now in
     let m = c.propose.new.self in
     let can = pack-none n.replica.kept c.requires.kept in
-    let sent = (c.in-Ok.ensures.near (plain-near n.replica.contents c.args.item c.requires.plain)).0 in
+    let near = c.in-Ok.ensures.near (plain-near n.replica.contents c.args.item c.requires.plain) in
+    let sent = near.0 in
     let first : Moves p.may p.floor p.shelf n m [] = moves-plain p.may p.floor p.shelf c.requires.floor n m c.args.item can c.requires.item c.in-Ok.ensures.keeps (plain-rank c.args.item c.requires.plain) sent in
     record {
-      lays = lays-down p.may p.floor p.shelf c.requires.floor n m c.pack.new.node c.args.item first c.in-Ok-pack.ensures.moves c.requires.none c.requires.kept c.in-Ok-pack.ensures.kept sent c.in-Ok-pack.ensures.sent;
+      lays = lays-down p.may p.floor p.shelf c.requires.floor n m c.pack.new.node c.args.item first c.in-Ok-pack.ensures.moves c.requires.none c.requires.kept c.in-Ok-pack.ensures.kept sent c.in-Ok-pack.ensures.sent near.2 c.in-Ok-pack.ensures.replica;
     }

@@ -1,5 +1,7 @@
-use Rattle.std.proofs.Common.{[], ◌∷◌, subst}
+use Rattle.std.proofs.Common.{◌≡◌, ℕ, [], ◌∷◌, subst}
 use Rattle.base_engine.specs.Causes.{Blames}
+use Rattle.base_engine.specs.Following.{EndsBy}
+use Rattle.node_lines.specs.declared.steps.Synced.TheVariants as synced
 use Rattle.node_lines.proofs.Moving.{moves-sync}
 use Rattle.node_lines.proofs.Spending.{spends-none, spends-blames}
 use Rattle.node_lines.proofs.steps.sync.Goals as goal
@@ -21,3 +23,15 @@ returns-in-Err-Because-clause-moves g c =
     let m = c.sync.new.self in
     moves-sync p.may p.floor p.shelf c.requires.floor n m (c.in-Err-Because.cause ∷ []) k c.in-Err-Because.ensures.outbox c.in-Err-Because.ensures.kept
     (spends-blames n.who n.seen m.seen c.in-Err-Because.cause n.replica.faults m.replica.faults (k.later.more, k.later.seen) k.counts (subst (λ f. Blames n.who n.seen n.replica.faults f m.seen m.replica.faults) c.in-Err-Because.field-0-is c.in-Err-Because.ensures.blames))
+
+same_tail : (a b : ℕ) → synced.At a ≡ synced.At b → a ≡ b
+same_tail a b h = cc
+
+pub returns-in-Ok-clause-exact : goal.returns-in-Ok-clause-exact
+returns-in-Ok-clause-exact g c = λ tail same.
+    let n = c.args.node.now in
+    let m = c.sync.new.self in
+    subst (λ t. EndsBy n.who n.replica.cursor n.seen t m.seen) (same_tail c.in-Ok.tail tail same) c.in-Ok.ensures.exact
+
+pub returns-in-Err-Because-clause-exact : goal.returns-in-Err-Because-clause-exact
+returns-in-Err-Because-clause-exact g c = λ tail same. absurd (cc)

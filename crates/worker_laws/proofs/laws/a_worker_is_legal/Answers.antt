@@ -1,10 +1,11 @@
 use Rattle.one_thread.proofs.Widening.{legal_wider}
-use Rattle.node_workers.specs.Workers.{Within}
+use Rattle.node_workers.specs.Workers.{Within, Sends}
 use Rattle.worker_laws.proofs.laws.a_worker_is_legal.Goals as goal
 
 pub returns-clause-within : goal.returns-clause-within
-returns-clause-within g c = λ who counts journal seat desks h. h.ok.node.legal
+returns-clause-within g c = let p = g.P.Rules in λ who counts journal seat desks h.
+    legal_wider (Sends p.may counts journal) (Within p.may counts) p.floor p.shelf (λ user e k. k.0) journal h.ok.node.legal
 
 pub returns-clause-legal : goal.returns-clause-legal
 returns-clause-legal g c = let p = g.P.Rules in λ who counts journal seat desks h.
-    legal_wider (Within p.may counts) p.may p.floor p.shelf (λ user e k. k.0) journal h.ok.node.legal
+    legal_wider (Sends p.may counts journal) p.may p.floor p.shelf (λ user e k. k.0.0) journal h.ok.node.legal

@@ -1,0 +1,43 @@
+-- What came of a call by one scope's rules came of it by others too, where the journal is legal by them.
+use Rattle.std.proofs.Common.{ℕ, List, Option}
+use Rattle.delos_types.specs.declared.entry.Entry.{Entry}
+use Rattle.delos_types.specs.declared.item.Item.{Item}
+use Rattle.delos_types.specs.declared.cause.Cause.{Cause}
+use Rattle.legal_journal.specs.Journal.{IsLegal}
+use Rattle.base_engine.specs.Node.{NodeView, Keeps}
+use Rattle.node_lines.specs.declared.lines.Looked.{Looked}
+use Rattle.node_lines.specs.declared.measure.Measured.{Measured}
+use Rattle.node_lines.specs.Moving.{Goes, Moves}
+use Rattle.node_lines.specs.Measuring.{Measures}
+use Rattle.node_lines.specs.Reporting.{Tells}
+use Rattle.node_lines.specs.Leaving.{PlaysKnown}
+use Rattle.node_lines.specs.Trimming.{Cuts}
+
+module _ (a b : ℕ → Entry → Type 0) (low floor : List Entry → ℕ → Type 0) (shelf : List ℕ) (old new : NodeView) (legal : IsLegal b floor shelf new.seen) where
+  pub keeps_by : Keeps a low shelf old new → Keeps b floor shelf old new
+  keeps_by k = record {
+    who = k.who;
+    nodes = k.nodes;
+    origin = k.origin;
+    later = record { more = k.later.more; seen = k.later.seen; legal = legal };
+    forward = k.forward;
+    counts = k.counts;
+  }
+
+  pub goes_by : (others : List Cause) → Goes a low shelf old new others → Goes b floor shelf old new others
+  goes_by others h = record { keeps = keeps_by h.keeps; given = h.given; gained = h.gained; spends = h.spends; packs = h.packs }
+
+  pub moves_by : (others : List Cause) → Moves a low shelf old new others → Moves b floor shelf old new others
+  moves_by others h = record { goes = goes_by others h.goes; stays = h.stays; quiet = h.quiet }
+
+  pub measures_by : (measure : List Entry → ℕ) (answer : Measured) → Measures a low shelf measure old new answer → Measures b floor shelf measure old new answer
+  measures_by measure answer h = record { moves = moves_by _ h.moves; none = h.none; unsettled = h.unsettled; kept = h.kept; measured = h.measured }
+
+  pub tells_by : (item : Item) (failed : Option Cause) → Tells a low shelf old new item failed → Tells b floor shelf old new item failed
+  tells_by item failed h = record { moves = moves_by _ h.moves; none = h.none; kept = h.kept; replica = h.replica; appended = h.appended }
+
+  pub plays_by : (failed : Option Cause) → PlaysKnown a low shelf old new failed → PlaysKnown b floor shelf old new failed
+  plays_by failed h = record { moves = moves_by _ h.moves; outbox = h.outbox; kept = h.kept; reaches = h.reaches }
+
+  pub cuts_by : (answer : Looked) → Cuts a low shelf old new answer → Cuts b floor shelf old new answer
+  cuts_by answer h = record { others = h.others; moves = moves_by h.others h.moves; replica = h.replica; outbox = h.outbox; cuts = h.cuts }

@@ -1,0 +1,57 @@
+use Rattle.std.proofs.Common.{refl, sym, ap, ◌∙◌, subst, length, [], ◌∷◌}
+use Rattle.base_engine.specs.Settling.{OutboxView}
+use Rattle.replica_api.specs.Replica.{ReplicaView}
+use Rattle.node_lines.specs.Moving.{Moves, failure_of}
+use Rattle.node_lines.proofs.Moving.{moves-both}
+use Rattle.node_lines.proofs.Ending.{Ended, all, stands_at}
+use Rattle.node_lines.proofs.Measuring.{same_number}
+use Rattle.node_lines.proofs.measure.catch_up.Goals as goal
+
+pub returns-in-Failed : goal.returns-in-Failed
+returns-in-Failed g c =
+    let p = g.T.Law.Rules in
+    let old = c.args.node.now in
+    let then' = c.settle.new.node in
+    let new = c.sync.new.node in
+    let why = c.in-Failed.cause in
+    let last : Moves p.may p.floor p.shelf then' new (why ∷ []) = subst (λ s. Moves p.may p.floor p.shelf then' new (failure_of s)) c.in-Failed.is c.in_ok-cause.ensures.moves in
+    record {
+      measures = record {
+        moves = moves-both p.may p.floor p.shelf c.requires.floor old then' new [] (why ∷ []) (moves-both p.may p.floor p.shelf c.requires.floor old c.pack.new.node then' [] [] c.in_ok-pack.ensures.moves c.in_ok-settle.ensures.moves) last;
+        none = ap (λ (o : OutboxView). o.entries) c.in_ok-cause.ensures.outbox ∙ c.in_ok-settle.ensures.none;
+        unsettled = ap (λ (o : OutboxView). o.unsettled) c.in_ok-cause.ensures.outbox ∙ c.in_ok-settle.ensures.unsettled;
+        kept = c.in_ok-cause.ensures.kept ∙ (ap (λ (r : ReplicaView). r.kept) c.in_ok-settle.ensures.replica ∙ c.in_ok-pack.ensures.kept);
+        measured = λ n same. absurd (cc);
+      };
+    }
+
+pub returns-in-At : goal.returns-in-At
+returns-in-At g c =
+    let p = g.T.Law.Rules in
+    let old = c.args.node.now in
+    let first = c.pack.new.node in
+    let then' = c.settle.new.node in
+    let new = c.sync.new.node in
+    let found = c.in_ok-cause.ensures.tail c.in-At.field-0 c.in-At.is in
+    let kept = ap (λ (r : ReplicaView). r.kept) c.in_ok-settle.ensures.replica ∙ c.in_ok-pack.ensures.kept in
+    let e : Ended p.may p.floor p.shelf old first then' new c.in-At.field-0 = record {
+      first = c.in_ok-pack.ensures.moves;
+      next = c.in_ok-settle.ensures.moves;
+      none = c.in_ok-settle.ensures.none;
+      kept = kept;
+      last = subst (λ s. Moves p.may p.floor p.shelf then' new (failure_of s)) c.in-At.is c.in_ok-cause.ensures.moves;
+      above = found.0;
+      at = found.1;
+      keeps = c.requires.keeps;
+    } in
+    record {
+      measures = record {
+        moves = all p.may p.floor p.shelf c.requires.floor old first then' new c.in-At.field-0 e;
+        none = ap (λ (o : OutboxView). o.entries) c.in_ok-cause.ensures.outbox ∙ c.in_ok-settle.ensures.none;
+        unsettled = ap (λ (o : OutboxView). o.unsettled) c.in_ok-cause.ensures.outbox ∙ c.in_ok-settle.ensures.unsettled;
+        kept = c.in_ok-cause.ensures.kept ∙ kept;
+        measured = λ n same.
+            let at = stands_at p.may p.floor p.shelf c.requires.floor old first then' new c.in-At.field-0 e g.R.Replica.state c.requires.state c.in_ok-cause.ensures.follows.now in
+            record { at = at; is = same_number _ n same ∙ (c.cursor.ensures.cursor ∙ sym at.size) };
+      };
+    }

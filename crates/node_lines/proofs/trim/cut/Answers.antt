@@ -1,0 +1,50 @@
+use Rattle.std.proofs.Common.{refl, ap, subst, [], ◌∷◌}
+use Rattle.replica_api.specs.Replica.{ReplicaView}
+use Rattle.base_engine.specs.Causes.{Blames}
+use Rattle.base_engine.proofs.Showing.{shows_all}
+use Rattle.node_lines.proofs.Moving.{moves-sync}
+use Rattle.node_lines.proofs.Spending.{spends-none, spends-blames}
+use Rattle.node_lines.proofs.trim.cut.Goals as goal
+
+pub trim_applied-requires-clause-shown : goal.trim_applied-requires-clause-shown
+trim_applied-requires-clause-shown g c = let p = g.T.Law.Rules in shows_all p.may p.floor p.shelf c.requires.floor
+
+pub trim_applied-requires-clause-free : goal.trim_applied-requires-clause-free
+trim_applied-requires-clause-free g c = c.requires.free
+
+pub returns-in-Ok : goal.returns-in-Ok
+returns-in-Ok g c =
+    let p = g.T.Law.Rules in
+    let n = c.args.node.now in
+    let m = c.trim_applied.new.self in
+    let e = c.in-Ok.ensures in
+    let k = e.keeps in
+    record {
+      cuts = record {
+        others = [];
+        moves = moves-sync p.may p.floor p.shelf c.requires.floor n m [] k e.outbox (ap (λ (r : ReplicaView). r.kept) e.replica)
+            (spends-none n.seen m.seen n.replica.faults m.replica.faults (k.later.more, k.later.seen) k.counts);
+        replica = e.replica;
+        outbox = e.outbox;
+        cuts = (refl, e.trims);
+      };
+    }
+
+pub returns-in-Err-Because : goal.returns-in-Err-Because
+returns-in-Err-Because g c =
+    let p = g.T.Law.Rules in
+    let n = c.args.node.now in
+    let m = c.trim_applied.new.self in
+    let e = c.in-Err-Because.ensures in
+    let k = e.keeps in
+    let why = c.in-Err-Because.cause in
+    record {
+      cuts = record {
+        others = why ∷ [];
+        moves = moves-sync p.may p.floor p.shelf c.requires.floor n m (why ∷ []) k e.outbox (ap (λ (r : ReplicaView). r.kept) e.replica)
+            (spends-blames n.who n.seen m.seen why n.replica.faults m.replica.faults (k.later.more, k.later.seen) k.counts (subst (λ f. Blames n.who n.seen n.replica.faults f m.seen m.replica.faults) c.in-Err-Because.field-0-is e.blames));
+        replica = e.replica;
+        outbox = e.outbox;
+        cuts = refl;
+      };
+    }

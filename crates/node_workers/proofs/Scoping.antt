@@ -1,0 +1,151 @@
+-- What holds within a scope of a worker, and what is left of it by the rules of the run.
+use Rattle.std.proofs.Common.{◌≡◌, sym, subst, ⊎_elim, ◌⊎◌, inl, inr, ℕ, ◌≤◌, List, [], Option, None, arith}
+use Rattle.std.specs.Prelude.{All, max, Contains, Result, Ok, Err, IfOk, OnOk}
+use Rattle.std.proofs.lemmas.List.Elements.{All-nil}
+use Rattle.delos_types.specs.Spaces.{SpaceMap}
+use Rattle.delos_types.specs.declared.entry.Entry.{Entry}
+use Rattle.delos_types.specs.declared.cause.Cause.{Cause}
+use Rattle.legal_journal.specs.declared.events.Event.{Event}
+use Rattle.legal_journal.specs.Journal.{IsLegal}
+use Rattle.journal_changes.specs.Changes.{appended, TrimsUpTo, Adds}
+use Rattle.journal_changes.proofs.Changes.{appended_stays, appended_may, legal_by, upto_low, upto_more, below_low}
+use Rattle.replica_api.specs.Replica.{Saved}
+use Rattle.virtual_log.specs.Holding.{IsTrimmed}
+use Rattle.base_engine.specs.Settling.{MaySend}
+use Rattle.base_engine.specs.Node.{NodeView}
+use Rattle.one_thread.specs.Alone.{Since}
+use Rattle.one_thread.specs.Seats.{SeatView, SeatOk}
+use Rattle.node_lines.specs.Desks.{KeepsFrom}
+use Rattle.node_lines.specs.Leaving.{PlaysKnown}
+use Rattle.node_workers.specs.Workers.{Sends, SendsToo, IsOfSessions, UpTo, Grows, sent_of}
+use Rattle.node_workers.specs.Steps.{IsLeft, IsDone}
+use Rattle.node_workers.proofs.Widening.{within-more, seat_wider, grows-since}
+
+module _ (may : ℕ → Entry → Type 0) (counts : List ℕ) where
+  -- what may be sent may be sent still once the journal grew
+  pub sends_grow : (old new : List Event) → Grows old new → (who : ℕ) (e : Entry) → Sends may counts old who e → Sends may counts new who e
+  sends_grow old new g who e h = (h.0, ⊎_elim (λ (k : Contains (appended old) e). inl (subst (λ es. Contains (appended es) e) (sym g.1) (appended_stays old g.0 e k))) (λ (k : IsOfSessions e). inr k) h.1)
+
+  -- and once more was counted
+  pub sends_more : (counts' : List ℕ) (journal : List Event) → ((s : ℕ) → sent_of counts s ≤ sent_of counts' s) → (who : ℕ) (e : Entry) → Sends may counts journal who e → Sends may counts' journal who e
+  sends_more counts' journal up who e h = (within-more may counts counts' up who e h.0, h.1)
+
+  -- each of these may be told something beside
+  pub sends_too : (journal : List Event) (told : Entry) (who : ℕ) (e : Entry) → Sends may counts journal who e → SendsToo may counts journal told who e
+  sends_too journal told who e h = (h.0, ⊎_elim (λ (k : Contains (appended journal) e). inl k) (λ (k : IsOfSessions e). inr (inl k)) h.1)
+
+  module _ (low : List Entry → ℕ → Type 0) (shelf : List ℕ) where
+    -- what was appended within a scope says nothing but commands of sessions
+    pub adds_sends : (old new : List Event) → IsLegal (Sends may counts old) low shelf new → Adds IsOfSessions old new
+    adds_sends old new legal = λ e k. (appended_may (Sends may counts old) low shelf new e legal k).1.1
+
+    pub adds_told : (old new : List Event) (told : Entry) → IsLegal (SendsToo may counts old told) low shelf new → Adds (λ e. IsOfSessions e ⊎ (e ≡ told)) old new
+    adds_told old new told legal = λ e k. (appended_may (SendsToo may counts old told) low shelf new e legal k).1.1
+
+module _ (may : ℕ → Entry → Type 0) (floor : List Entry → ℕ → Type 0) (shelf : List ℕ) where
+  -- within a scope nothing is trimmed above where it began
+  pub keeps_low : (m : ℕ) → KeepsFrom may (UpTo floor m) shelf m
+  keeps_low m = λ seen pos legal trimmed. below_low may (UpTo floor m) shelf m (λ log n h. h.1) seen pos legal trimmed
+
+  -- nor is it by what comes then
+  pub high_low : (m m' : ℕ) (new : List Event) → m ≤ m' → IsLegal may (UpTo floor m) shelf new → TrimsUpTo m' new
+  high_low m m' new up legal = upto_more m m' new up (upto_low may (UpTo floor m) shelf m (λ log n h. h.1) new legal)
+
+module _ (may : ℕ → Entry → Type 0) (floor : List Entry → ℕ → Type 0) (shelf : List ℕ) where
+  module _ (counts : List ℕ) (state : List Entry → SpaceMap → Type 0) (spells : List ℕ → Saved → Type 0) where
+    -- A seat as a scope begins: nothing was trimmed above where it is.
+    pub seat_begins : (m : ℕ) (journal : List Event) (s : SeatView) → TrimsUpTo m journal → SeatOk (Sends may counts journal) floor shelf state spells journal s → SeatOk (Sends may counts journal) (UpTo floor m) shelf state spells journal s
+    seat_begins m journal s high h = seat_free (legal_by (Sends may counts journal) (Sends may counts journal) floor (UpTo floor m) shelf journal h.node.legal (λ who e _ k. k) (λ log n raised free. (free, high n raised)))
+      where
+        seat_free : IsLegal (Sends may counts journal) (UpTo floor m) shelf journal → SeatOk (Sends may counts journal) (UpTo floor m) shelf state spells journal s
+        seat_free legal = record {
+          shelf_is = h.shelf_is;
+          goes_by = h.goes_by;
+          node = record {
+            eight = h.node.eight;
+            legal = legal;
+            follows = h.node.follows;
+            bounded = h.node.bounded;
+            own = h.node.own;
+            few = h.node.few;
+            waiting = h.node.waiting;
+          };
+        }
+
+    -- .. of a scope that tells something
+    pub seat_tells : (m : ℕ) (journal : List Event) (told : Entry) (s : SeatView) → TrimsUpTo m journal → SeatOk (Sends may counts journal) floor shelf state spells journal s → SeatOk (SendsToo may counts journal told) (UpTo floor m) shelf state spells journal s
+    seat_tells m journal told s high h =
+        seat_wider (Sends may counts journal) (SendsToo may counts journal told) (UpTo floor m) (UpTo floor m) shelf (λ who e k. sends_too may counts journal told who e k) (λ log n k. k) state spells journal s (seat_begins m journal s high h)
+
+    -- A seat as a scope ends.
+    pub seat_ends : (m : ℕ) (old new : List Event) (s : SeatView) → Grows old new → SeatOk (Sends may counts old) (UpTo floor m) shelf state spells new s → SeatOk (Sends may counts new) floor shelf state spells new s
+    seat_ends m old new s g h = seat_wider (Sends may counts old) (Sends may counts new) (UpTo floor m) floor shelf (λ who e k. sends_grow may counts old new g who e k) (λ log n k. k.0) state spells new s h
+
+    -- .. of one that told something: nothing is outstanding, and nothing waits
+    pub seat_told : (m : ℕ) (old new : List Event) (told : Entry) (s : SeatView) → s.node.outbox.entries ≡ [] → s.node.replica.kept ≡ [] → SeatOk (SendsToo may counts old told) (UpTo floor m) shelf state spells new s → SeatOk (Sends may counts new) floor shelf state spells new s
+    seat_told m old new told s none kept h = record {
+      shelf_is = h.shelf_is;
+      goes_by = h.goes_by;
+      node = record {
+        eight = h.node.eight;
+        legal = legal_by (SendsToo may counts old told) (Sends may counts new) (UpTo floor m) floor shelf new h.node.legal (λ who e there k. (k.0, inl there)) (λ log n _ k. k.0);
+        follows = h.node.follows;
+        bounded = h.node.bounded;
+        own = subst (λ es. All (λ e. MaySend (Sends may counts new) s.who e) es) (sym none) (All-nil (λ e. MaySend (Sends may counts new) s.who e));
+        few = h.node.few;
+        waiting = λ some. absurd (some kept);
+      };
+    }
+
+    -- by the rules of the run alone
+    pub seat_allowed : (journal : List Event) (s : SeatView) → SeatOk (Sends may counts journal) floor shelf state spells journal s → SeatOk may floor shelf state spells journal s
+    seat_allowed journal s h = seat_wider (Sends may counts journal) may floor floor shelf (λ who e k. k.0.0) (λ log n k. k) state spells journal s h
+
+    pub left_by : (m who : ℕ) (old new : List Event) (s : SeatView) → Since who old new → SeatOk (Sends may counts old) (UpTo floor m) shelf state spells new s → IsLeft may floor shelf state spells old new s
+    left_by m who old new s since h = record {
+      stands = seat_wider (Sends may counts old) may (UpTo floor m) floor shelf (λ who e k. k.0.0) (λ log n k. k.0) state spells new s h;
+      grows = grows-since who old new since;
+    }
+
+    pub left_told : (m who : ℕ) (old new : List Event) (told : Entry) (s : SeatView) → Since who old new → SeatOk (SendsToo may counts old told) (UpTo floor m) shelf state spells new s → IsLeft may floor shelf state spells old new s
+    left_told m who old new told s since h = record {
+      stands = seat_wider (SendsToo may counts old told) may (UpTo floor m) floor shelf (λ who e k. k.0.0) (λ log n k. k.0) state spells new s h;
+      grows = grows-since who old new since;
+    }
+
+    -- a step that kept who it is and went no further back
+    pub done_by : (m : ℕ) (old new : List Event) (a b : SeatView) → b.who ≡ a.who → m ≤ b.node.replica.cursor → Since b.who old new → SeatOk (Sends may counts old) (UpTo floor m) shelf state spells new b → IsDone may floor shelf state spells counts old a new b
+    done_by m old new a b who up since h = record {
+      who = who;
+      ok = seat_ends m old new b (grows-since b.who old new since) h;
+      since = subst (λ w. Since w old new) who since;
+      high = high_low (Sends may counts old) floor shelf m b.node.replica.cursor new up h.node.legal;
+    }
+
+    pub done_told : (m : ℕ) (old new : List Event) (told : Entry) (a b : SeatView) → b.who ≡ a.who → m ≤ b.node.replica.cursor → Since b.who old new → b.node.outbox.entries ≡ [] → b.node.replica.kept ≡ []
+        → SeatOk (SendsToo may counts old told) (UpTo floor m) shelf state spells new b → IsDone may floor shelf state spells counts old a new b
+    done_told m old new told a b who up since none kept h = record {
+      who = who;
+      ok = seat_told m old new told b none kept h;
+      since = subst (λ w. Since w old new) who since;
+      high = high_low (SendsToo may counts old told) floor shelf m b.node.replica.cursor new up h.node.legal;
+    }
+
+-- what is known was played, since nothing is trimmed within a scope that the node lacks
+pub plays_all : (a : ℕ → Entry → Type 0) (floor : List Entry → ℕ → Type 0) (shelf : List ℕ) (old new : NodeView) (failed : Option Cause) → PlaysKnown a (UpTo floor old.replica.cursor) shelf old new failed → failed ≡ None → old.known ≤ new.replica.cursor
+plays_all a floor shelf old new failed h none =
+    let k = h.moves.goes.keeps in
+    ⊎_elim
+    (λ (e : new.replica.cursor ≡ max old.replica.cursor old.known). omega (arith, e))
+    (λ (t : IsTrimmed new.seen new.replica.cursor). absurd (omega (arith, keeps_low a floor shelf old.replica.cursor new.seen new.replica.cursor k.later.legal t, k.forward)))
+    (h.reaches none)
+
+-- Of a call's answer
+
+pub if_ok : {A E : Type 0} (P Q : A → Type 0) → ((x : A) → P x → Q x) → (r : Result A E) → IfOk r P → IfOk r Q
+if_ok P Q h (Ok x) k = h x k
+if_ok P Q h (Err e) k = tt
+
+pub always : {A E : Type 0} (P : Type 0) → P → (r : Result A E) → OnOk r P
+always P h (Ok x) = h
+always P h (Err e) = tt

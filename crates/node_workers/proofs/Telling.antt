@@ -1,0 +1,115 @@
+-- What comes of a node's own lines that tell something: what was read off its state, and the entry that says so.
+use Rattle.std.proofs.Common.{◌≡◌, refl, sym, subst, ⊎_elim, ◌⊎◌, inl, inr, ℕ, ◌≤◌, List, [], ◌∷◌, Option, Some, None, length, arith}
+use Rattle.delos_types.specs.declared.entry.Entry.{Entry}
+use Rattle.delos_types.specs.declared.item.Item.{Item}
+use Rattle.delos_types.specs.declared.cause.Cause.{Cause}
+use Rattle.legal_journal.specs.declared.events.Event.{Event}
+use Rattle.legal_journal.specs.Sealing.{Unsealed}
+use Rattle.journal_changes.specs.Changes.{Adds}
+use Rattle.journal_changes.proofs.Changes.{adds_trans, adds_wider}
+use Rattle.engine_api.specs.declared.content.Content.{Content}
+use Rattle.engine_api.specs.declared.content.Content.TheVariants as content
+use Rattle.engine_api.specs.Items.{content_of}
+use Rattle.engine_api.specs.Members.{clean_position}
+use Rattle.engine_api.specs.Packing.{packed, IsProposable, alive_item, leave_item}
+use Rattle.base_engine.specs.Node.{NodeView}
+use Rattle.node_lines.specs.declared.lines.Looked.{Looked}
+use Rattle.node_lines.specs.declared.lines.Looked.TheVariants as looked
+use Rattle.node_lines.specs.declared.measure.Measured.TheVariants as measured
+use Rattle.node_lines.specs.Moving.{Moves}
+use Rattle.node_lines.specs.Lines.{failure_in}
+use Rattle.node_lines.specs.Extending.{CarriesAll, Replaces, Extends}
+use Rattle.node_lines.specs.Measuring.{IsCleanPoint, Measures}
+use Rattle.node_lines.specs.Reporting.{IsPlain, Tells, Reports}
+use Rattle.node_lines.specs.Leaving.{Leaves}
+use Rattle.node_lines.proofs.Moving.{moves-both}
+use Rattle.node_lines.proofs.Assembling.{reports_of, reports_told, reports_untold, leaves_of, leaves_done, leaves_untold, leaves_unplayed}
+use Rattle.node_lines.proofs.Reporting.{plain-rank}
+use Rattle.node_workers.specs.Workers.{Within, IsOfSessions, SaysAlone, ReportAdds}
+use Rattle.node_workers.proofs.Cleaning.{clean_later, clean_none, position_clean, position_low}
+use Rattle.node_workers.proofs.Joining.{within-plain}
+use Rattle.node_workers.specs.Steps.{TellsAndPlays, came_to}
+
+-- What was appended meanwhile
+
+pub adds_saying : (old mid new : List Event) (told : Entry) (c : Content) → Adds IsOfSessions old mid → Adds (λ e. IsOfSessions e ⊎ (e ≡ told)) mid new → SaysAlone c told → Adds (λ e. IsOfSessions e ⊎ SaysAlone c e) old new
+adds_saying old mid new told c first more says =
+    let P : Entry → Type 0 = λ e. IsOfSessions e ⊎ SaysAlone c e in
+    adds_trans P old mid new
+    (adds_wider IsOfSessions P old mid (λ e k. inl k) first)
+    (adds_wider (λ e. IsOfSessions e ⊎ (e ≡ told)) P mid new (λ e k. ⊎_elim (λ (s : IsOfSessions e). inl s) (λ (t : e ≡ told). inr (subst (SaysAlone c) (sym t) says)) k) more)
+
+pub adds_nothing : (c : Content) (old new : List Event) → Adds IsOfSessions old new → Adds (λ e. IsOfSessions e ⊎ SaysAlone c e) old new
+adds_nothing c old new h = adds_wider IsOfSessions (λ e. IsOfSessions e ⊎ SaysAlone c e) old new (λ e k. inl k) h
+
+-- a report that wasn't made
+pub report_adds_none : (who cursor : ℕ) (old new : List Event) (l : Looked) → ((n : ℕ) → l ≡ looked.Reported n → ⊥) → Adds IsOfSessions old new → ReportAdds who cursor old new l
+report_adds_none who cursor old new l none h = record {
+  position = 0;
+  clean = clean_none new;
+  low = omega arith;
+  is = λ n e. absurd (none n e);
+  adds = adds_nothing (content.Alive who 0) old new h;
+}
+
+reported_is : (failed : Option Cause) (n k : ℕ) → came_to failed (looked.Reported n) ≡ looked.Reported k → k ≡ n
+reported_is None n k h = cc
+reported_is (Some c) n k h = absurd (cc)
+
+-- an item of no session may be told, within the counts, where it may be at all
+pub may_say : (may : ℕ → Entry → Type 0) (counts : List ℕ) (who who' origin : ℕ) (item said : Item) → who' ≡ who → origin ≡ who → item ≡ said → IsProposable item → IsPlain item → may who (packed who (said ∷ [])) → Within may counts who' (packed origin (item ∷ []))
+may_say may counts who who' origin item said same own is fine plain allowed =
+    subst (λ w. Within may counts w (packed origin (item ∷ []))) (sym same)
+    (subst (λ o. Within may counts who (packed o (item ∷ []))) (sym own)
+    (within-plain may counts who item fine (subst (λ i. may who (packed who (i ∷ []))) (sym is) allowed) (plain-rank item plain)))
+
+module _ (may : ℕ → Entry → Type 0) (floor : List Entry → ℕ → Type 0) (shelf : List ℕ) (low : (log : List Entry) (n : ℕ) → floor log n → n ≤ length log) where
+  -- All was carried to its end, and then the last loglet was replaced.
+  pub extends_both : (old mid new : NodeView) (l : Looked) → CarriesAll may floor shelf old mid → Unsealed old.seen mid.seen → Replaces may floor shelf mid new l → Extends may floor shelf old new l
+  extends_both old mid new l carries unsealed replaces = record {
+    others = replaces.others;
+    moves = moves-both may floor shelf low old mid new [] replaces.others carries.moves replaces.moves;
+    settled = mid;
+    settles = carries.moves;
+    none = carries.none;
+    kept = carries.kept;
+    unsealed = unsealed;
+    replica = replaces.replica;
+    outbox = replaces.outbox;
+    extends = replaces.extends;
+    seals = replaces.seals;
+  }
+
+  -- what a step that tells and plays keeps
+  pub tells_moves : (old new : NodeView) (item : Item) (failed : Option Cause) → TellsAndPlays may floor shelf old new item failed → Moves may floor shelf old new (failure_in failed)
+  tells_moves old new item failed (inl h) = subst (λ f. Moves may floor shelf old new (failure_in f)) (sym h.is) h.tells.moves
+  tells_moves old new item failed (inr h) = moves-both may floor shelf low old h.told new [] (failure_in failed) h.tells.moves h.plays.moves
+
+  -- What was measured was reported.
+  pub reports : (old mid new : NodeView) (number n : ℕ) (item : Item) (failed : Option Cause) → Measures may floor shelf clean_position old mid (measured.At n) → item ≡ alive_item number n → number ≡ old.replica.origin → IsProposable item
+      → content_of item ≡ Some (content.Alive number n) → Tells may floor shelf mid new item failed → Reports may floor shelf old new (came_to failed (looked.Reported n))
+  reports old mid new number n item None h made own fine says t = reports_told may floor shelf low old mid new n item h t (reports_of may floor shelf old mid new number n item h made own fine says t)
+  reports old mid new number n item (Some c) h made own fine says t = reports_untold may floor shelf low clean_position old mid new n item c h t
+
+  -- The leave was appended and played.
+  pub leaves : (old mid new : NodeView) (number n : ℕ) (item : Item) (failed : Option Cause) → Measures may floor shelf length old mid (measured.At n) → item ≡ leave_item number → number ≡ old.replica.origin → IsProposable item
+      → content_of item ≡ Some (content.Leave number) → TellsAndPlays may floor shelf mid new item failed → Leaves may floor shelf old new (came_to failed looked.Left)
+  leaves old mid new number n item failed h made own fine says (inl t) =
+      subst (λ f. Leaves may floor shelf old new (came_to f looked.Left)) (sym t.is) (leaves_untold may floor shelf low length old mid new n item t.cause h t.tells)
+  leaves old mid new number n item None h made own fine says (inr t) =
+      leaves_done may floor shelf low length old mid t.told new n item h t.tells t.plays (leaves_of may floor shelf length old mid t.told new number n item h made own fine says t.tells t.plays (t.reached refl))
+  leaves old mid new number n item (Some c) h made own fine says (inr t) = leaves_unplayed may floor shelf low length old mid t.told new n item c h t.tells t.plays
+
+  -- .. with what was appended by then
+  pub report_adds : (old mid new : NodeView) (who n : ℕ) (told : Entry) (failed : Option Cause) → Measures may floor shelf clean_position old mid (measured.At n) → Moves may floor shelf mid new (failure_in failed) → Adds IsOfSessions old.seen mid.seen
+      → Adds (λ e. IsOfSessions e ⊎ (e ≡ told)) mid.seen new.seen → SaysAlone (content.Alive who n) told → ReportAdds who new.replica.cursor old.seen new.seen (came_to failed (looked.Reported n))
+  report_adds old mid new who n told failed m moves first then says =
+      let s = m.measured n refl in
+      let k = moves.goes.keeps in
+      record {
+        position = n;
+        clean = clean_later may floor shelf low mid.seen new.seen n k.later.legal (k.later.more, k.later.seen) (subst (IsCleanPoint mid.seen) (sym s.is) (position_clean mid.seen s.at.log s.at.front));
+        low = omega (arith, s.is, position_low s.at.log, s.at.size, k.forward);
+        is = λ j e. reported_is failed n j e;
+        adds = adds_saying old.seen mid.seen new.seen told (content.Alive who n) first then says;
+      }

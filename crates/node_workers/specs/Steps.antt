@@ -1,0 +1,50 @@
+-- What one step of a worker's turn leaves: each has a scope of its own.
+use Rattle.std.specs.Prelude.{◌≡◌, ◌⊎◌, ℕ, ◌≤◌, List, Option, None, Some}
+use Rattle.delos_types.specs.Spaces.{SpaceMap}
+use Rattle.delos_types.specs.declared.entry.Entry.{Entry}
+use Rattle.delos_types.specs.declared.item.Item.{Item}
+use Rattle.delos_types.specs.declared.cause.Cause.{Cause}
+use Rattle.legal_journal.specs.declared.events.Event.{Event}
+use Rattle.base_engine.specs.Node.{NodeView}
+use Rattle.journal_changes.specs.Changes.{TrimsUpTo}
+use Rattle.replica_api.specs.Replica.{Saved}
+use Rattle.one_thread.specs.Alone.{Since}
+use Rattle.one_thread.specs.Seats.{SeatView, SeatOk}
+use Rattle.node_lines.specs.declared.lines.Looked.{Looked}
+use Rattle.node_lines.specs.declared.lines.Looked.TheVariants as looked
+use Rattle.node_lines.specs.Reporting.{Tells}
+use Rattle.node_lines.specs.Leaving.{PlaysKnown}
+use Rattle.node_workers.specs.Workers.{Sends, Grows}
+
+-- whatever it came to, the seat can take the fabric again, and the journal has all of before
+pub record IsLeft (may : ℕ → Entry → Type 0) (floor : List Entry → ℕ → Type 0) (shelf : List ℕ) (state : List Entry → SpaceMap → Type 0) (spells : List ℕ → Saved → Type 0) (old new : List Event) (b : SeatView) : Type 0 where
+  pub stands : SeatOk may floor shelf state spells new b
+  pub grows : Grows old new
+
+-- The step was done, by whom it was to be done, and no trim is above where the node is.
+pub record IsDone (may : ℕ → Entry → Type 0) (floor : List Entry → ℕ → Type 0) (shelf : List ℕ) (state : List Entry → SpaceMap → Type 0) (spells : List ℕ → Saved → Type 0) (counts : List ℕ) (old : List Event) (a : SeatView) (new : List Event) (b : SeatView) : Type 0 where
+  pub who : b.who ≡ a.who
+  pub ok : SeatOk (Sends may counts new) floor shelf state spells new b
+  pub since : Since a.who old new
+  pub high : TrimsUpTo b.node.replica.cursor new
+
+-- the item's entry failed
+pub record Untold (may : ℕ → Entry → Type 0) (floor : List Entry → ℕ → Type 0) (shelf : List ℕ) (old new : NodeView) (item : Item) (failed : Option Cause) : Type 0 where
+  pub cause : Cause
+  pub is : failed ≡ Some cause
+  pub tells : Tells may floor shelf old new item (Some cause)
+
+-- the item's entry was appended, and then the log was played as far as it is known, or it or the disk failed
+pub record ToldAndPlayed (may : ℕ → Entry → Type 0) (floor : List Entry → ℕ → Type 0) (shelf : List ℕ) (old new : NodeView) (item : Item) (failed : Option Cause) : Type 0 where
+  pub told : NodeView
+  pub tells : Tells may floor shelf old told item None
+  pub plays : PlaysKnown may floor shelf told new failed
+  pub reached : failed ≡ None → told.known ≤ new.replica.cursor
+
+abbrev pub TellsAndPlays : (ℕ → Entry → Type 0) → (List Entry → ℕ → Type 0) → List ℕ → NodeView → NodeView → Item → Option Cause → Type 0
+TellsAndPlays may floor shelf old new item failed = Untold may floor shelf old new item failed ⊎ ToldAndPlayed may floor shelf old new item failed
+
+-- what a line came to, where nothing failed in its last step
+abbrev pub came_to : Option Cause → Looked → Looked
+came_to None l = l
+came_to (Some c) l = looked.Failed c

@@ -1,0 +1,557 @@
+//! A node's own lines, by the rules of a run: the last loglet of the log is replaced, the node reports, leaves, or trims the log. They
+//! are of no session, and change no desk.
+ghost use Rattle.std.specs.Prelude.{◌≡◌, ◌<◌, ◌≤◌, ◌^◌, ℕ, List, [], ◌∷◌, IfOk};
+ghost use Rattle.delos_types.specs.Spaces.{SpaceMap};
+ghost use Rattle.delos_types.specs.declared.entry.Entry.{Entry};
+ghost use Rattle.legal_journal.specs.Sealing.{Unsealed};
+ghost use Rattle.journal_changes.specs.Changes.{TrimsUpTo, Adds};
+ghost use Rattle.engine_api.specs.Packing.{packed, alive_item, leave_item, trim_item};
+ghost use Rattle.engine_laws.specs.State.{IsStateOf};
+ghost use Rattle.base_engine.specs.Trimming.{FloorIs};
+ghost use Rattle.one_thread.specs.Alone.{Since};
+ghost use Rattle.one_thread.specs.Seats.{SeatOk, node_of};
+ghost use Rattle.node_lines.specs.Moving.{CanPack};
+ghost use Rattle.node_lines.specs.Extending.{Extends};
+ghost use Rattle.node_lines.specs.Measuring.{AreClean};
+ghost use Rattle.node_lines.specs.Reporting.{Reports};
+ghost use Rattle.node_lines.specs.Leaving.{Leaves};
+ghost use Rattle.node_lines.specs.Trimming.{TrimsLog};
+ghost use Rattle.node_workers.specs.Workers.{WorkerOk, MayRun, Within, Sends, IsOfSessions, ReportAdds, LeaveAdds, TrimAdds, HasNotLeft, Grows};
+ghost use Rattle.node_workers.specs.Steps.{IsLeft, IsDone};
+
+use crate::steps::{came_to, catch_up, clean, cut, extend, least, settle, tell, tell_and_play};
+use crate::turns::Returned;
+use crate::within::Back;
+use crate::worker::Worker;
+use delos_types::numbers::NodeId;
+use engine_api::pack::{alive_item, leave_item, trim_item};
+use fabric_core::fabric::Fabric;
+use fate_words::chooser::Chooser;
+use loglet_api::loglet::Loglet;
+use node_lines::lines::Looked;
+use node_lines::measure::Measured;
+use one_thread::seat::Seat;
+use one_thread::terms::{By, Terms};
+use register_api::Register;
+use replica_api::replica::Replica;
+use std::alloc::Global;
+
+/// All that the node was given is carried to its end, and the last loglet of the log is replaced.
+fn extend_at<L: Loglet, R: Register, K: Terms, S: Replica, C: Chooser>(
+    fabric: Fabric<L, R, By<K>>,
+    seat: Seat<S, C>,
+    counts: &[u64; 64],
+) -> Back<L, R, K, S, C, Looked>
+    requires run { MayRun K.may K.floor K.shelf }
+    requires seat { SeatOk (Sends K.may counts.now fabric.journal) K.floor K.shelf S.state S.spells fabric.journal seat }
+    requires high { TrimsUpTo seat.node.replica.cursor fabric.journal }
+    requires kept { CanPack seat.node.replica.kept }
+    ensures left { IsLeft K.may K.floor K.shelf S.state S.spells fabric.journal result.fabric.journal result.seat }
+    ensures done { IfOk result.answer (λ l. IsDone K.may K.floor K.shelf S.state S.spells counts.now fabric.journal seat result.fabric.journal result.seat) }
+    ensures adds { IfOk result.answer (λ l. Adds IsOfSessions fabric.journal result.fabric.journal) }
+    ensures extends { IfOk result.answer (Extends (Within K.may counts.now) K.floor K.shelf (node_of seat fabric.journal) (node_of result.seat result.fabric.journal)) }
+{
+    let Back {
+        seat,
+        fabric,
+        answer,
+    } = settle(fabric, seat, counts);
+    match answer {
+        Ok(()) => {}
+        Err(fault) => {
+            return Back {
+                seat,
+                fabric,
+                answer: Err(fault),
+            };
+        }
+    }
+    let Back {
+        seat,
+        fabric,
+        answer,
+    } = extend(fabric, seat, counts);
+    match answer {
+        Ok(looked) => {
+            return Back {
+                seat,
+                fabric,
+                answer: Ok(looked),
+            };
+        }
+        Err(fault) => {
+            return Back {
+                seat,
+                fabric,
+                answer: Err(fault),
+            };
+        }
+    }
+}
+
+/// A line that replaces the last loglet of the log. It is of no session, and no session's cause keeps it from being tried.
+pub fn extend_line<L: Loglet, R: Register, K: Terms, S: Replica, C: Chooser>(
+    fabric: Fabric<L, R, By<K>>,
+    worker: Worker<S, C>,
+    counts: &[u64; 64],
+) -> Returned<L, R, K, S, C, Looked>
+    requires run { MayRun K.may K.floor K.shelf }
+    requires worker { WorkerOk K.may K.floor K.shelf S.state S.spells worker.seat.who counts.now fabric.journal worker.seat worker.desks.items }
+    requires high { TrimsUpTo worker.seat.node.replica.cursor fabric.journal }
+    ensures desks { result.worker.desks ≡ worker.desks }
+    ensures stands { SeatOk K.may K.floor K.shelf S.state S.spells result.fabric.journal result.worker.seat }
+    ensures grows { Grows fabric.journal result.fabric.journal }
+    ensures since { IfOk result.answer (λ l. Since worker.seat.who fabric.journal result.fabric.journal) }
+    ensures worker { IfOk result.answer (λ l. WorkerOk K.may K.floor K.shelf S.state S.spells worker.seat.who counts.now result.fabric.journal result.worker.seat result.worker.desks.items) }
+    ensures high { IfOk result.answer (λ l. TrimsUpTo result.worker.seat.node.replica.cursor result.fabric.journal) }
+    ensures adds { IfOk result.answer (λ l. Adds IsOfSessions fabric.journal result.fabric.journal) }
+    ensures extends { IfOk result.answer (Extends (Within K.may counts.now) K.floor K.shelf (node_of worker.seat fabric.journal) (node_of result.worker.seat result.fabric.journal)) }
+{
+    let Worker { seat, desks } = worker;
+    let Back {
+        seat,
+        fabric,
+        answer,
+    } = extend_at(fabric, seat, counts);
+    match answer {
+        Ok(looked) => {
+            return Returned {
+                worker: Worker { seat, desks },
+                fabric,
+                answer: Ok(looked),
+            };
+        }
+        Err(fault) => {
+            return Returned {
+                worker: Worker { seat, desks },
+                fabric,
+                answer: Err(fault),
+            };
+        }
+    }
+}
+
+/// How many of the log's first entries are clean is read off the node's state at a tail, and an entry that says so is appended.
+fn report_at<L: Loglet, R: Register, K: Terms, S: Replica, C: Chooser>(
+    alloc: Global,
+    fabric: Fabric<L, R, By<K>>,
+    seat: Seat<S, C>,
+    counts: &[u64; 64],
+    number: NodeId,
+) -> Back<L, R, K, S, C, Looked>
+    requires run { MayRun K.may K.floor K.shelf }
+    requires state { (log : List Entry) (m : SpaceMap) → S.state log m → IsStateOf log m }
+    requires seat { SeatOk (Sends K.may counts.now fabric.journal) K.floor K.shelf S.state S.spells fabric.journal seat }
+    requires high { TrimsUpTo seat.node.replica.cursor fabric.journal }
+    requires kept { CanPack seat.node.replica.kept }
+    requires number { seat.who ≡ number }
+    requires origin { seat.node.replica.origin ≡ seat.who }
+    requires own { (position : ℕ) → position < 2 ^ 64 → K.may seat.who (packed seat.who (alive_item seat.who position ∷ [])) }
+    ensures left { IsLeft K.may K.floor K.shelf S.state S.spells fabric.journal result.fabric.journal result.seat }
+    ensures unsealed { Unsealed fabric.journal result.fabric.journal }
+    ensures done { IfOk result.answer (λ l. IsDone K.may K.floor K.shelf S.state S.spells counts.now fabric.journal seat result.fabric.journal result.seat) }
+    ensures adds { IfOk result.answer (ReportAdds seat.who result.seat.node.replica.cursor fabric.journal result.fabric.journal) }
+    ensures reports { IfOk result.answer (Reports (Within K.may counts.now) K.floor K.shelf (node_of seat fabric.journal) (node_of result.seat result.fabric.journal)) }
+{
+    // A report is spelled with the numbers of nodes alone.
+    prove!(number.number() <= 8);
+    let Back {
+        seat,
+        fabric,
+        answer,
+    } = clean(fabric, seat, counts);
+    let measured = match answer {
+        Ok(measured) => measured,
+        Err(fault) => {
+            return Back {
+                seat,
+                fabric,
+                answer: Err(fault),
+            };
+        }
+    };
+    let position = match measured {
+        Measured::At(position) => position,
+        Measured::Failed(cause) => {
+            return Back {
+                seat,
+                fabric,
+                answer: Ok(Looked::Failed(cause)),
+            };
+        }
+    };
+    let item = match alive_item(alloc, number, position) {
+        Ok(item) => item,
+        Err(fault) => {
+            return Back {
+                seat,
+                fabric,
+                answer: Err(fault),
+            };
+        }
+    };
+    let Back {
+        seat,
+        fabric,
+        answer,
+    } = tell(fabric, seat, item, counts);
+    match answer {
+        Ok(failed) => {
+            return Back {
+                seat,
+                fabric,
+                answer: Ok(came_to(failed, Looked::Reported(position))),
+            };
+        }
+        Err(fault) => {
+            return Back {
+                seat,
+                fabric,
+                answer: Err(fault),
+            };
+        }
+    }
+}
+
+/// A line by which a node reports how much of the log it needs no more. It is of no session, and no session's cause keeps it
+/// from being tried.
+pub fn report_line<L: Loglet, R: Register, K: Terms, S: Replica, C: Chooser>(
+    alloc: Global,
+    fabric: Fabric<L, R, By<K>>,
+    worker: Worker<S, C>,
+    counts: &[u64; 64],
+    number: NodeId,
+) -> Returned<L, R, K, S, C, Looked>
+    requires run { MayRun K.may K.floor K.shelf }
+    requires state { (log : List Entry) (m : SpaceMap) → S.state log m → IsStateOf log m }
+    requires worker { WorkerOk K.may K.floor K.shelf S.state S.spells worker.seat.who counts.now fabric.journal worker.seat worker.desks.items }
+    requires high { TrimsUpTo worker.seat.node.replica.cursor fabric.journal }
+    requires number { worker.seat.who ≡ number }
+    requires own { (position : ℕ) → position < 2 ^ 64 → K.may worker.seat.who (packed worker.seat.who (alive_item worker.seat.who position ∷ [])) }
+    ensures desks { result.worker.desks ≡ worker.desks }
+    ensures stands { SeatOk K.may K.floor K.shelf S.state S.spells result.fabric.journal result.worker.seat }
+    ensures grows { Grows fabric.journal result.fabric.journal }
+    ensures unsealed { Unsealed fabric.journal result.fabric.journal }
+    ensures since { IfOk result.answer (λ l. Since worker.seat.who fabric.journal result.fabric.journal) }
+    ensures worker { IfOk result.answer (λ l. WorkerOk K.may K.floor K.shelf S.state S.spells worker.seat.who counts.now result.fabric.journal result.worker.seat result.worker.desks.items) }
+    ensures high { IfOk result.answer (λ l. TrimsUpTo result.worker.seat.node.replica.cursor result.fabric.journal) }
+    ensures adds { IfOk result.answer (ReportAdds worker.seat.who result.worker.seat.node.replica.cursor fabric.journal result.fabric.journal) }
+    ensures reports { IfOk result.answer (λ l. Reports (Within K.may counts.now) K.floor K.shelf (node_of worker.seat fabric.journal) (node_of result.worker.seat result.fabric.journal) l) }
+{
+    let Worker { seat, desks } = worker;
+    let Back {
+        seat,
+        fabric,
+        answer,
+    } = report_at(alloc, fabric, seat, counts, number);
+    match answer {
+        Ok(looked) => {
+            return Returned {
+                worker: Worker { seat, desks },
+                fabric,
+                answer: Ok(looked),
+            };
+        }
+        Err(fault) => {
+            return Returned {
+                worker: Worker { seat, desks },
+                fabric,
+                answer: Err(fault),
+            };
+        }
+    }
+}
+
+/// All that the node was given is carried to its end, and an entry that says that it leaves is appended and played.
+fn leave_at<L: Loglet, R: Register, K: Terms, S: Replica, C: Chooser>(
+    alloc: Global,
+    fabric: Fabric<L, R, By<K>>,
+    seat: Seat<S, C>,
+    counts: &[u64; 64],
+    number: NodeId,
+) -> Back<L, R, K, S, C, Looked>
+    requires run { MayRun K.may K.floor K.shelf }
+    requires state { (log : List Entry) (m : SpaceMap) → S.state log m → IsStateOf log m }
+    requires seat { SeatOk (Sends K.may counts.now fabric.journal) K.floor K.shelf S.state S.spells fabric.journal seat }
+    requires high { TrimsUpTo seat.node.replica.cursor fabric.journal }
+    requires kept { CanPack seat.node.replica.kept }
+    requires number { seat.who ≡ number }
+    requires origin { seat.node.replica.origin ≡ seat.who }
+    requires own { K.may seat.who (packed seat.who (leave_item seat.who ∷ [])) }
+    ensures left { IsLeft K.may K.floor K.shelf S.state S.spells fabric.journal result.fabric.journal result.seat }
+    ensures unsealed { Unsealed fabric.journal result.fabric.journal }
+    ensures done { IfOk result.answer (λ l. IsDone K.may K.floor K.shelf S.state S.spells counts.now fabric.journal seat result.fabric.journal result.seat) }
+    ensures adds { IfOk result.answer (λ l. LeaveAdds seat.who fabric.journal result.fabric.journal) }
+    ensures leaves { IfOk result.answer (Leaves (Within K.may counts.now) K.floor K.shelf (node_of seat fabric.journal) (node_of result.seat result.fabric.journal)) }
+{
+    // A leave is spelled with the numbers of nodes alone.
+    prove!(number.number() <= 8);
+    let Back {
+        seat,
+        fabric,
+        answer,
+    } = catch_up(fabric, seat, counts);
+    let measured = match answer {
+        Ok(measured) => measured,
+        Err(fault) => {
+            return Back {
+                seat,
+                fabric,
+                answer: Err(fault),
+            };
+        }
+    };
+    match measured {
+        Measured::At(_) => {}
+        Measured::Failed(cause) => {
+            return Back {
+                seat,
+                fabric,
+                answer: Ok(Looked::Failed(cause)),
+            };
+        }
+    }
+    let item = match leave_item(alloc, number) {
+        Ok(item) => item,
+        Err(fault) => {
+            return Back {
+                seat,
+                fabric,
+                answer: Err(fault),
+            };
+        }
+    };
+    let Back {
+        seat,
+        fabric,
+        answer,
+    } = tell_and_play(fabric, seat, item, counts);
+    match answer {
+        Ok(failed) => {
+            return Back {
+                seat,
+                fabric,
+                answer: Ok(came_to(failed, Looked::Left)),
+            };
+        }
+        Err(fault) => {
+            return Back {
+                seat,
+                fabric,
+                answer: Err(fault),
+            };
+        }
+    }
+}
+
+/// A line by which a node leaves. It is of no session, and no session's cause keeps it from being tried.
+pub fn leave_line<L: Loglet, R: Register, K: Terms, S: Replica, C: Chooser>(
+    alloc: Global,
+    fabric: Fabric<L, R, By<K>>,
+    worker: Worker<S, C>,
+    counts: &[u64; 64],
+    number: NodeId,
+) -> Returned<L, R, K, S, C, Looked>
+    requires run { MayRun K.may K.floor K.shelf }
+    requires state { (log : List Entry) (m : SpaceMap) → S.state log m → IsStateOf log m }
+    requires worker { WorkerOk K.may K.floor K.shelf S.state S.spells worker.seat.who counts.now fabric.journal worker.seat worker.desks.items }
+    requires high { TrimsUpTo worker.seat.node.replica.cursor fabric.journal }
+    requires number { worker.seat.who ≡ number }
+    requires own { K.may worker.seat.who (packed worker.seat.who (leave_item worker.seat.who ∷ [])) }
+    ensures desks { result.worker.desks ≡ worker.desks }
+    ensures stands { SeatOk K.may K.floor K.shelf S.state S.spells result.fabric.journal result.worker.seat }
+    ensures grows { Grows fabric.journal result.fabric.journal }
+    ensures unsealed { Unsealed fabric.journal result.fabric.journal }
+    ensures since { IfOk result.answer (λ l. Since worker.seat.who fabric.journal result.fabric.journal) }
+    ensures worker { IfOk result.answer (λ l. WorkerOk K.may K.floor K.shelf S.state S.spells worker.seat.who counts.now result.fabric.journal result.worker.seat result.worker.desks.items) }
+    ensures high { IfOk result.answer (λ l. TrimsUpTo result.worker.seat.node.replica.cursor result.fabric.journal) }
+    ensures adds { IfOk result.answer (λ l. LeaveAdds worker.seat.who fabric.journal result.fabric.journal) }
+    ensures leaves { IfOk result.answer (λ l. Leaves (Within K.may counts.now) K.floor K.shelf (node_of worker.seat fabric.journal) (node_of result.worker.seat result.fabric.journal) l) }
+{
+    let Worker { seat, desks } = worker;
+    let Back {
+        seat,
+        fabric,
+        answer,
+    } = leave_at(alloc, fabric, seat, counts, number);
+    match answer {
+        Ok(looked) => {
+            return Returned {
+                worker: Worker { seat, desks },
+                fabric,
+                answer: Ok(looked),
+            };
+        }
+        Err(fault) => {
+            return Returned {
+                worker: Worker { seat, desks },
+                fabric,
+                answer: Err(fault),
+            };
+        }
+    }
+}
+
+/// A trim to the least position of a member is asked for, in the node's state at a tail, and played; then the log is trimmed.
+fn trim_at<L: Loglet, R: Register, K: Terms, S: Replica, C: Chooser>(
+    alloc: Global,
+    fabric: Fabric<L, R, By<K>>,
+    seat: Seat<S, C>,
+    counts: &[u64; 64],
+    number: NodeId,
+) -> Back<L, R, K, S, C, Looked>
+    requires run { MayRun K.may K.floor K.shelf }
+    requires state { (log : List Entry) (m : SpaceMap) → S.state log m → IsStateOf log m }
+    requires seat { SeatOk (Sends K.may counts.now fabric.journal) K.floor K.shelf S.state S.spells fabric.journal seat }
+    requires high { TrimsUpTo seat.node.replica.cursor fabric.journal }
+    requires kept { CanPack seat.node.replica.kept }
+    requires number { seat.who ≡ number }
+    requires origin { seat.node.replica.origin ≡ seat.who }
+    requires few { seat.who ≤ seat.node.nodes }
+    requires floor { FloorIs K.floor seat.node.nodes }
+    requires cleans { AreClean fabric.journal }
+    requires stays { HasNotLeft seat.who fabric.journal }
+    requires own { (position : ℕ) → position < 2 ^ 64 → K.may seat.who (packed seat.who (trim_item position ∷ [])) }
+    ensures left { IsLeft K.may K.floor K.shelf S.state S.spells fabric.journal result.fabric.journal result.seat }
+    ensures unsealed { Unsealed fabric.journal result.fabric.journal }
+    ensures done { IfOk result.answer (λ l. IsDone K.may K.floor K.shelf S.state S.spells counts.now fabric.journal seat result.fabric.journal result.seat) }
+    ensures adds { IfOk result.answer (λ l. TrimAdds fabric.journal result.fabric.journal) }
+    ensures trims { IfOk result.answer (TrimsLog (Within K.may counts.now) K.floor K.shelf (node_of seat fabric.journal) (node_of result.seat result.fabric.journal)) }
+{
+    // It is one of the nodes that may leave and report.
+    prove!(number.number() <= 8);
+    let Back {
+        seat,
+        fabric,
+        answer,
+    } = least(fabric, seat, counts);
+    let measured = match answer {
+        Ok(measured) => measured,
+        Err(fault) => {
+            return Back {
+                seat,
+                fabric,
+                answer: Err(fault),
+            };
+        }
+    };
+    let position = match measured {
+        Measured::At(position) => position,
+        Measured::Failed(cause) => {
+            return Back {
+                seat,
+                fabric,
+                answer: Ok(Looked::Failed(cause)),
+            };
+        }
+    };
+    let item = match trim_item(alloc, position) {
+        Ok(item) => item,
+        Err(fault) => {
+            return Back {
+                seat,
+                fabric,
+                answer: Err(fault),
+            };
+        }
+    };
+    let Back {
+        seat,
+        fabric,
+        answer,
+    } = tell_and_play(fabric, seat, item, counts);
+    let failed = match answer {
+        Ok(failed) => failed,
+        Err(fault) => {
+            return Back {
+                seat,
+                fabric,
+                answer: Err(fault),
+            };
+        }
+    };
+    match failed {
+        None => {}
+        Some(cause) => {
+            return Back {
+                seat,
+                fabric,
+                answer: Ok(Looked::Failed(cause)),
+            };
+        }
+    }
+    let Back {
+        seat,
+        fabric,
+        answer,
+    } = cut(fabric, seat, counts);
+    match answer {
+        Ok(looked) => {
+            return Back {
+                seat,
+                fabric,
+                answer: Ok(looked),
+            };
+        }
+        Err(fault) => {
+            return Back {
+                seat,
+                fabric,
+                answer: Err(fault),
+            };
+        }
+    }
+}
+
+/// A line by which a node trims the log: it asks for a trim to the least position of a member, plays that, and trims the log to the
+/// lesser of the trim point and the least position then. It is of no session, and no session's cause keeps it from being tried.
+pub fn trim_line<L: Loglet, R: Register, K: Terms, S: Replica, C: Chooser>(
+    alloc: Global,
+    fabric: Fabric<L, R, By<K>>,
+    worker: Worker<S, C>,
+    counts: &[u64; 64],
+    number: NodeId,
+) -> Returned<L, R, K, S, C, Looked>
+    requires run { MayRun K.may K.floor K.shelf }
+    requires state { (log : List Entry) (m : SpaceMap) → S.state log m → IsStateOf log m }
+    requires worker { WorkerOk K.may K.floor K.shelf S.state S.spells worker.seat.who counts.now fabric.journal worker.seat worker.desks.items }
+    requires high { TrimsUpTo worker.seat.node.replica.cursor fabric.journal }
+    requires number { worker.seat.who ≡ number }
+    requires few { worker.seat.who ≤ worker.seat.node.nodes }
+    requires floor { FloorIs K.floor worker.seat.node.nodes }
+    requires cleans { AreClean fabric.journal }
+    requires stays { HasNotLeft worker.seat.who fabric.journal }
+    requires own { (position : ℕ) → position < 2 ^ 64 → K.may worker.seat.who (packed worker.seat.who (trim_item position ∷ [])) }
+    ensures desks { result.worker.desks ≡ worker.desks }
+    ensures stands { SeatOk K.may K.floor K.shelf S.state S.spells result.fabric.journal result.worker.seat }
+    ensures grows { Grows fabric.journal result.fabric.journal }
+    ensures unsealed { Unsealed fabric.journal result.fabric.journal }
+    ensures since { IfOk result.answer (λ l. Since worker.seat.who fabric.journal result.fabric.journal) }
+    ensures worker { IfOk result.answer (λ l. WorkerOk K.may K.floor K.shelf S.state S.spells worker.seat.who counts.now result.fabric.journal result.worker.seat result.worker.desks.items) }
+    ensures high { IfOk result.answer (λ l. TrimsUpTo result.worker.seat.node.replica.cursor result.fabric.journal) }
+    ensures adds { IfOk result.answer (λ l. TrimAdds fabric.journal result.fabric.journal) }
+    ensures trims { IfOk result.answer (λ l. TrimsLog (Within K.may counts.now) K.floor K.shelf (node_of worker.seat fabric.journal) (node_of result.worker.seat result.fabric.journal) l) }
+{
+    let Worker { seat, desks } = worker;
+    let Back {
+        seat,
+        fabric,
+        answer,
+    } = trim_at(alloc, fabric, seat, counts, number);
+    match answer {
+        Ok(looked) => {
+            return Returned {
+                worker: Worker { seat, desks },
+                fabric,
+                answer: Ok(looked),
+            };
+        }
+        Err(fault) => {
+            return Returned {
+                worker: Worker { seat, desks },
+                fabric,
+                answer: Err(fault),
+            };
+        }
+    }
+}
