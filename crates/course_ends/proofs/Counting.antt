@@ -154,7 +154,7 @@ failed_none by (l ∷ lines) (look ∷ looks) h =
 
 -- What the laws of journals say of the faults that one tells
 
-pub record AreCounted (may : ℕ → Entry → Type 0) (floor : List Entry → ℕ) (shelf : List ℕ) : Type 0 where
+pub record AreCounted (may : ℕ → Entry → Type 0) (floor : List Entry → ℕ → Type 0) (shelf : List ℕ) : Type 0 where
   pub lacks : (i : ℕ) (events : List Event) (now : LogletView) → HasRun i events now → count_by (is_lack_of i) (faults_in events) ≤ now.lacks
   pub lack : (i unreached : ℕ) (events : List Event) (now : LogletView) → HasRun i events now → Contains (faults_in events) (cause.NoQuorum i unreached) → (1 ≤ unreached) × (1 ≤ now.lacks) × (1 ≤ now.faults)
   pub refusals : (i : ℕ) (events : List Event) (now : LogletView) → HasRun i events now → min (count_by (is_full_of i) (faults_in events)) (2 ^ 64 - 1) ≤ now.faults
@@ -167,7 +167,7 @@ full_from : (v : LogletView) → (size_of v ≡ v.room) ⊎ (v.begun ≡ v.limit
 full_from v (inl room) = or_left (size_of v == v.room) (v.begun == v.limit) (eq-eqb (size_of v) v.room room)
 full_from v (inr limit) = or_right (size_of v == v.room) (v.begun == v.limit) (eq-eqb v.begun v.limit limit)
 
-module _ (may : ℕ → Entry → Type 0) (floor : List Entry → ℕ) (shelf : List ℕ) (told : AreCounted may floor shelf) (state : List Entry → SpaceMap → Type 0) (spells : List ℕ → Saved → Type 0) (lines : List NamedLine) (rows : List Row) (journal : List Event) (counts : List ℕ) (looks : List (Option Looked)) (log : List Entry) (workers : List WorkerEnd) (chain : Chain) (yard : Shown) (h : HasClosed may floor shelf state spells lines journal counts looks log workers) (back : IsGivenBack may floor shelf journal workers chain yard) where
+module _ (may : ℕ → Entry → Type 0) (floor : List Entry → ℕ → Type 0) (shelf : List ℕ) (told : AreCounted may floor shelf) (state : List Entry → SpaceMap → Type 0) (spells : List ℕ → Saved → Type 0) (lines : List NamedLine) (rows : List Row) (journal : List Event) (counts : List ℕ) (looks : List (Option Looked)) (log : List Entry) (workers : List WorkerEnd) (chain : Chain) (yard : Shown) (h : HasClosed may floor shelf state spells lines journal counts looks log workers) (back : IsGivenBack may floor shelf journal workers chain yard) where
   abbrev played : List Played
   played = played_of lines rows looks
 

@@ -1,11 +1,12 @@
 -- A run whose nodes have closed has ended.
-use Rattle.std.proofs.Common.{◌≡◌, refl, sym, ap, ◌∙◌, subst, ⊎_elim, ℕ, suc, ◌<◌, ◌≤◌, ◌==◌, ◌&&◌, true, List, [], ◌∷◌, Some, is_some, map, length, take, drop, slice_get, Option, Contains, arith, eq-eqb, take-append-drop}
+use Rattle.std.proofs.Common.{◌≡◌, refl, sym, ap, ◌∙◌, subst, ⊎_elim, ◌⊎◌, ℕ, suc, ◌-◌, ◌<◌, ◌≤◌, ◌==◌, ◌&&◌, true, List, [], ◌∷◌, Some, is_some, map, length, take, drop, slice_get, Option, Contains, arith, eq-eqb, take-append-drop}
 use Rattle.std.specs.List.{AllByRecursion}
 use Rattle.std.proofs.lemmas.Bool.{and_from}
 use Rattle.std.proofs.lemmas.List.{length-map, length-take}
 use Rattle.std.proofs.lemmas.Option.{slice_get_within}
 use Rattle.delos_types.specs.Spaces.{SpaceMap}
 use Rattle.delos_types.specs.declared.entry.Entry.{Entry}
+use Rattle.delos_types.specs.declared.chain.Chain.{Chain}
 use Rattle.legal_journal.specs.declared.events.Event.{Event}
 use Rattle.legal_journal.specs.Journal.{log_at, state_of, tail_of, trim_of}
 use Rattle.legal_journal.proofs.Log.{slice_get_front}
@@ -17,6 +18,7 @@ use Rattle.engine_api.specs.declared.content.Placed.{Placed}
 use Rattle.engine_api.specs.Acted.{Asked, asked_in, unpack_all}
 use Rattle.engine_api.specs.Order.{first_of, is_clean}
 use Rattle.replica_api.specs.Replica.{Saved}
+use Rattle.base_engine.specs.Trimming.{FloorIs}
 use Rattle.script_text.specs.declared.line.Admin.TheVariants.{Alive, Retire}
 use Rattle.script_text.specs.declared.asks.NamedLine.{NamedLine}
 use Rattle.script_text.specs.declared.asks.Asks.{Asks}
@@ -41,12 +43,14 @@ use Rattle.run_laws.specs.Ended.{AllAfter, FaultsCame, IsAtHome, IsOfEarlier, Is
 use Rattle.run_laws.proofs.Members.{among-found, contained-among}
 use Rattle.run_course.specs.Replacing.{Replaced}
 use Rattle.run_course.specs.Reporting.{StandsThere}
+use Rattle.run_course.specs.Telling.{AskedFor, TellsAtLeast}
 use Rattle.course_ends.specs.Closing.{HasClosed, IsGivenBack, WorkerEnd}
-use Rattle.course_ends.specs.Ends.{end_of}
+use Rattle.course_ends.specs.Ends.{cursor_at, cursor_of, end_of}
 use Rattle.course_ends.specs.Rows.{AreRows, desk_for, played_of}
-use Rattle.course_ends.proofs.Turns.{all_lines, lines_are, rows_are, turn_is, turn_of}
+use Rattle.course_ends.proofs.Turns.{all_lines, lines_are, rows_are, some_at, turn_is, turn_of}
 use Rattle.course_ends.proofs.Lines.{early_line, leave_played, report_played}
 use Rattle.course_ends.proofs.Reports.{alive_is, retired_is, says_all}
+use Rattle.course_ends.proofs.Trims.{clean_below, trimmed_is, trims_ended}
 use Rattle.course_ends.proofs.Replacements.{replacements}
 
 -- what holds of the element at each place holds of each
@@ -66,11 +70,7 @@ logs_so (asks.Logged s r command) x h = (eq-eqb s.id x.session (sym h.0), sym h.
 logs_so (asks.Look s query) x h = absurd h
 logs_so (asks.Admin a) x h = absurd h
 
-none_clean : (log : List Entry) → is_clean (λ s. 1) (asked_in 0 (take 0 log)) ≡ true
-none_clean [] = refl
-none_clean (e ∷ es) = refl
-
-module _ (may : ℕ → Entry → Type 0) (floor : List Entry → ℕ) (shelf : List ℕ) (state : List Entry → SpaceMap → Type 0) (spells : List ℕ → Saved → Type 0) (run : MayRun may floor shelf) (lines : List NamedLine) (journal : List Event) (counts : List ℕ) (looks : List (Option Looked)) (log : List Entry) (workers : List WorkerEnd) (o : Told) (yard : Shown) (mine : (who : ℕ) (e : Entry) → may who e → may_of lines who e) (untrimmed : trim_of (state_of journal) ≡ 0) (h : HasClosed may floor shelf state spells lines journal counts looks log workers) (are : AreRows lines workers looks o.rows) (end_is : o.end ≡ length log) (back : IsGivenBack may floor shelf journal workers o.chain yard) (told : IsRegisterAsTold (state_of journal).register yard.register) (registered : ChainIsRegistered o yard.register) where
+module _ (may : ℕ → Entry → Type 0) (floor : List Entry → ℕ → Type 0) (shelf : List ℕ) (state : List Entry → SpaceMap → Type 0) (spells : List ℕ → Saved → Type 0) (run : MayRun may floor shelf) (lines : List NamedLine) (journal : List Event) (counts : List ℕ) (looks : List (Option Looked)) (log : List Entry) (workers : List WorkerEnd) (o : Told) (yard : Shown) (mine : (who : ℕ) (e : Entry) → may who e → may_of lines who e) (floor_is : FloorIs floor (length workers)) (h : HasClosed may floor shelf state spells lines journal counts looks log workers) (are : AreRows lines workers looks o.rows) (end_is : o.end ≡ length log) (back : IsGivenBack may floor shelf journal workers o.chain yard) (told : IsRegisterAsTold (state_of journal).register yard.register) (registered : ChainIsRegistered o yard.register) where
   abbrev played : List Played
   played = played_of lines o.rows looks
 
@@ -95,7 +95,7 @@ module _ (may : ℕ → Entry → Type 0) (floor : List Entry → ℕ) (shelf : 
       let k = asked_by lines (take n log) (first_of_lines n) x has in
       let t = turn_of played k.at k.line (ap (λ ls. slice_get ls k.at) played_lines ∙ k.is) in
       let logs = logs_so k.line.asks x k.logs in
-      let there = appears_in (λ who e. ⊥) (λ l. 0) [] x.session x.rank 0 (take n log) (appears (asked_in 0 (take n log)) x has) in
+      let there = appears_in (λ who e. ⊥) (λ l n. ⊥) [] x.session x.rank 0 (take n log) (appears (asked_in 0 (take n log)) x has) in
       let within = slice_get_within (take n log) there.0 there.1 there.2 in
       let size = length-take n log in
       let before : k.line.phase < phase =
@@ -120,8 +120,9 @@ module _ (may : ℕ → Entry → Type 0) (floor : List Entry → ℕ) (shelf : 
   Says c = Contains (map (λ (p : Placed). p.content) (unpack_all 0 (virtual_log o.chain yard.cells 0 (virtual_tail o.chain yard.cells)))) c
 
   -- what stands in the log stands in theirs
-  shown_there : (c : Content) → StandsThere h.course.journal c → Says c
-  shown_there c r =
+  shown_there : (c : Content) → o.chain.trim ≡ 0 → StandsThere h.course.journal c → Says c
+  shown_there c none r =
+      let untrimmed : trim_of (state_of journal) ≡ 0 = sym (ap (λ (k : Chain). k.trim) back.chain_is) ∙ none in
       let stands = holds_stands may floor shelf journal r.at r.entry back.legal (subst (λ j. Holds j r.at r.entry) h.journal_is r.held) in
       let shown : log_at (state_of journal) r.at ≡ Some r.entry = ⊎_elim (λ (trimmed : r.at < trim_of (state_of journal)). absurd (omega (arith, trimmed, untrimmed))) (λ (s : log_at (state_of journal) r.at ≡ Some r.entry). s) stands in
       let low = stands_below may floor shelf run.low journal r.at r.entry back.legal stands in
@@ -135,7 +136,7 @@ module _ (may : ℕ → Entry → Type 0) (floor : List Entry → ℕ) (shelf : 
       let row = are.each i k.line k.look k.row k.line_at k.look_at k.row_at in
       let alive = alive_is (desk_for workers k.line.node k.line.asks) k.look k.line.asks k.row.outcome clean row.tells (sym (ap (λ (y : Played). y.row.outcome) k.is) ∙ is) in
       let r = report_played may floor shelf state spells run lines journal counts looks log workers h i k.line k.line_at Alive alive.0 clean (k.look_at ∙ ap Some alive.1) in
-      subst (λ n. Says (content.Alive n clean)) (sym (ap (λ (y : Played). y.line.node) k.is)) (shown_there (content.Alive k.line.node clean) r.stands)
+      subst (λ n. Says (content.Alive n clean)) (sym (ap (λ (y : Played). y.line.node) k.is)) (shown_there (content.Alive k.line.node clean) none r.stands)
 
   -- and so does each leave
   left : (i : ℕ) (t : Played) → slice_get played i ≡ Some t → t.row.outcome ≡ out.Retired → o.chain.trim ≡ 0 → Says (content.Leave t.line.node)
@@ -144,7 +145,16 @@ module _ (may : ℕ → Entry → Type 0) (floor : List Entry → ℕ) (shelf : 
       let row = are.each i k.line k.look k.row k.line_at k.look_at k.row_at in
       let retired = retired_is (desk_for workers k.line.node k.line.asks) k.look k.line.asks k.row.outcome row.tells (sym (ap (λ (y : Played). y.row.outcome) k.is) ∙ is) in
       let r = leave_played may floor shelf state spells run lines journal counts looks log workers h i k.line k.line_at Retire retired.0 (k.look_at ∙ ap Some retired.1) in
-      subst (λ n. Says (content.Leave n)) (sym (ap (λ (y : Played). y.line.node) k.is)) (shown_there (content.Leave k.line.node) r.stands)
+      subst (λ n. Says (content.Leave n)) (sym (ap (λ (y : Played). y.line.node) k.is)) (shown_there (content.Leave k.line.node) none r.stands)
+
+  -- and that a trim was asked for
+  asked : (j : ℕ) (t : Played) (trim : ℕ) → slice_get played j ≡ Some t → t.row.outcome ≡ out.Trimmed trim → o.chain.trim ≡ 0 → (position : ℕ) × Says (content.Trim position)
+  asked j t trim at is none =
+      let k = turn_is lines o.rows looks j t at in
+      let row = are.each j k.line k.look k.row k.line_at k.look_at k.row_at in
+      let so = trimmed_is (desk_for workers k.line.node k.line.asks) k.look k.line.asks k.row.outcome trim row.tells (sym (ap (λ (y : Played). y.row.outcome) k.is) ∙ is) in
+      let r = h.ok.trims j k.line trim k.line_at (k.look_at ∙ ap Some so.1) in
+      (r.position, shown_there (content.Trim r.position) none r.stands)
 
   below : length log ≤ tail_of (state_of journal)
   below = front_below may floor shelf run.low journal log back.legal h.front
@@ -156,7 +166,25 @@ module _ (may : ℕ → Entry → Type 0) (floor : List Entry → ℕ) (shelf : 
       (sym (ap length back.shelf_is) ∙ length-map yard.cells (λ v. v.servers))
       (subst (λ j. Replaced lines looks (state_of j).register (length shelf)) h.journal_is h.ok.replaced)
 
-  module _ (stands : length log ≤ tail_of (state_of journal) → trim_of (state_of journal) ≤ length log → is_clean (λ s. 1) (asked_in 0 (take (trim_of (state_of journal)) log)) ≡ true → LogStands log (state_of journal).register.chain yard.cells) (lines_ended : AllAfter (LineEnded log h.course.tails h.course.faults (end_of lines workers h.home h.course.when)) [] played) (sessions_ended : (s : ℕ) → SessionEnded played h.course.faults h.home s (end_of lines workers h.home h.course.when s)) (came : FaultsCame played h.course.faults yard) where
+  module _ (stands : length log ≤ tail_of (state_of journal) → trim_of (state_of journal) ≤ length log → is_clean (λ s. 1) (asked_in 0 (take (trim_of (state_of journal)) log)) ≡ true → LogStands log (state_of journal).register.chain yard.cells) (lines_ended : AllAfter (LineEnded log h.course.tails h.course.faults (end_of lines workers h.home h.course.when)) [] played) (sessions_ended : (s : ℕ) → SessionEnded played h.course.faults h.home s (end_of lines workers h.home h.course.when s)) (came : FaultsCame played h.course.faults yard)
+      (let_go : (k : ℕ) → 1 ≤ k → k ≤ length workers → (trim_of (state_of h.course.journal) ≡ 0) ⊎ (AskedFor lines looks k Retire (λ look. Unit {0}) ⊎ AskedFor lines looks k Alive (TellsAtLeast (trim_of (state_of h.course.journal)))))
+      (kept : (trim_of (state_of h.course.journal) ≡ 0) ⊎ ((k : ℕ) × (1 ≤ k) × (k ≤ length workers) × (trim_of (state_of h.course.journal) ≤ cursor_of workers k))) where
+    -- some node has played the log as far as it is trimmed
+    short : o.chain.trim ≤ length log
+    short =
+        let same : o.chain.trim ≡ trim_of (state_of h.course.journal) = ap (λ (k : Chain). k.trim) back.chain_is ∙ ap (λ (es : List Event). trim_of (state_of es)) (sym h.journal_is) in
+        ⊎_elim
+        (λ (none : trim_of (state_of h.course.journal) ≡ 0). omega (arith, same, none))
+        (λ (k : (k : ℕ) × (1 ≤ k) × (k ≤ length workers) × (trim_of (state_of h.course.journal) ≤ cursor_of workers k)).
+        let low = k.1 in
+        let high = k.2 in
+        let up = k.3 in
+        let w = some_at workers (k.0 - 1) (omega (arith, low, high)) in
+        let is : cursor_of workers k.0 ≡ w.0.seat.node.replica.cursor = ap cursor_at w.1 in
+        let upto = (h.each (k.0 - 1) w.0 w.1).short in
+        omega (arith, same, up, is, upto))
+        kept
+
     pub run_ended : RunEnded played o yard
     run_ended = record {
       log = log;
@@ -172,7 +200,10 @@ module _ (may : ℕ → Entry → Type 0) (floor : List Entry → ℕ) (shelf : 
       at_home = all_lines (λ l. IsAtHome h.home l.node l.asks) played (subst (AllByRecursion (λ (l : NamedLine). IsAtHome h.home l.node l.asks)) (sym played_lines) h.lines_are.at_home);
       rise = h.ok.rise;
       stands = subst (λ k. LogStands log k yard.cells) (sym back.chain_is)
-          (stands below (omega (arith, untrimmed)) (subst (λ n. is_clean (λ s. 1) (asked_in 0 (take n log)) ≡ true) (sym untrimmed) (none_clean log)));
+          (let same = ap (λ (k : Chain). k.trim) back.chain_is in
+          let low = short in
+          stands below (omega (arith, same, low))
+          (subst (λ n. is_clean (λ s. 1) (asked_in 0 (take n log)) ≡ true) same (clean_below may floor shelf state spells run lines journal counts looks log workers o yard mine floor_is h are back short)));
       sent = sent;
       early = early;
       lines = lines_ended;
@@ -180,6 +211,7 @@ module _ (may : ℕ → Entry → Type 0) (floor : List Entry → ℕ) (shelf : 
       replacements = replaced;
       reported = reported;
       left = left;
+      trims = trims_ended may floor shelf state spells run lines journal counts looks log workers o yard mine floor_is h are back let_go back.nodes (let low = short in omega (arith, low, end_is)) asked;
       came = came;
       registered = registered;
     }

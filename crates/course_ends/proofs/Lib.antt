@@ -5,5 +5,6 @@ pub mod Placing
 pub mod Reports
 pub mod Lines
 pub mod Replacements
+pub mod Trims
 pub mod Ending
 pub mod Reading

@@ -25,7 +25,7 @@ use Rattle.engine_laws.specs.State.{acts_in}
 use Rattle.replica_api.specs.Replica.{Saved}
 use Rattle.base_engine.specs.Reading.{IsFront}
 use Rattle.script_text.specs.declared.line.Admin.{Admin}
-use Rattle.script_text.specs.declared.line.Admin.TheVariants.{Extend, Alive, Retire}
+use Rattle.script_text.specs.declared.line.Admin.TheVariants.{Extend, Alive, Retire, Trim}
 use Rattle.script_text.specs.declared.asks.NamedLine.{NamedLine}
 use Rattle.script_text.specs.declared.asks.Asks.{Asks}
 use Rattle.script_text.specs.declared.asks.Asks.TheVariants as asks
@@ -114,12 +114,14 @@ answers_so None look (asks.Admin Alive) (out.Alive clean) t = refl
 answers_so None look (asks.Admin Alive) (out.Open cause) t = refl
 answers_so None look (asks.Admin Retire) out.Retired t = refl
 answers_so None look (asks.Admin Retire) (out.Open cause) t = refl
+answers_so None look (asks.Admin Trim) (out.Trimmed trim) t = refl
+answers_so None look (asks.Admin Trim) (out.Open cause) t = refl
 answers_so d look a o t = absurd t
 
 same_some : {A : Type 0} (x y : A) → Some x ≡ Some y → x ≡ y
 same_some x y e = cc
 
-module _ (may : ℕ → Entry → Type 0) (floor : List Entry → ℕ) (shelf : List ℕ) (state : List Entry → SpaceMap → Type 0) (spells : List ℕ → Saved → Type 0) (run : MayRun may floor shelf) (lines : List NamedLine) (journal : List Event) (counts : List ℕ) (looks : List (Option Looked)) (log : List Entry) (workers : List WorkerEnd) (h : HasClosed may floor shelf state spells lines journal counts looks log workers) where
+module _ (may : ℕ → Entry → Type 0) (floor : List Entry → ℕ → Type 0) (shelf : List ℕ) (state : List Entry → SpaceMap → Type 0) (spells : List ℕ → Saved → Type 0) (run : MayRun may floor shelf) (lines : List NamedLine) (journal : List Event) (counts : List ℕ) (looks : List (Option Looked)) (log : List Entry) (workers : List WorkerEnd) (h : HasClosed may floor shelf state spells lines journal counts looks log workers) where
   abbrev Home : ℕ → Type 0
   Home s = AtHome may floor shelf state spells lines journal counts looks log workers h s
 
@@ -339,6 +341,7 @@ module _ (may : ℕ → Entry → Type 0) (floor : List Entry → ℕ) (shelf : 
   of_table s n d i phase query (looked.Extended x) so = so
   of_table s n d i phase query (looked.Reported position) so = so
   of_table s n d i phase query looked.Left so = so
+  of_table s n d i phase query (looked.Trimmed trim) so = so
 
   module _ (i : ℕ) (l : NamedLine) (line_at : slice_get lines i ≡ Some l) where
     -- at its session's desk, if it has one
@@ -579,6 +582,8 @@ module _ (may : ℕ → Entry → Type 0) (floor : List Entry → ℕ) (shelf : 
         node_came Alive (out.Open cause) t = ap failure_of_look t
         node_came Retire out.Retired t = tt
         node_came Retire (out.Open cause) t = ap failure_of_look t
+        node_came Trim (out.Trimmed trim) t = tt
+        node_came Trim (out.Open cause) t = ap failure_of_look t
         node_came a o t = absurd t
 
         ended_at_node : LineEnded log h.course.tails h.course.faults ends (take i played) turn

@@ -12,7 +12,7 @@ use Rattle.legal_journal.specs.Journal.{RegisterState}
 use Rattle.virtual_log.specs.declared.extend.Extension.{Extension}
 use Rattle.virtual_log.specs.declared.extend.Extension.TheVariants.{Extended, Moved, NoSpare}
 use Rattle.worker_laws.specs.Extending.{HasStarted}
-use Rattle.script_text.specs.declared.line.Admin.TheVariants.{Extend, Alive, Retire}
+use Rattle.script_text.specs.declared.line.Admin.TheVariants.{Extend, Alive, Retire, Trim}
 use Rattle.script_text.specs.declared.asks.NamedLine.{NamedLine}
 use Rattle.script_text.specs.declared.asks.Asks.{Asks}
 use Rattle.script_text.specs.declared.asks.Asks.TheVariants as asks
@@ -73,6 +73,8 @@ look_is None look (asks.Admin Alive) (out.Alive clean) x t e = absurd (none_some
 look_is None look (asks.Admin Alive) (out.Open cause) x t e = absurd (none_some x e)
 look_is None look (asks.Admin Retire) out.Retired x t e = absurd (none_some x e)
 look_is None look (asks.Admin Retire) (out.Open cause) x t e = absurd (none_some x e)
+look_is None look (asks.Admin Trim) (out.Trimmed trim) x t e = absurd (none_some x e)
+look_is None look (asks.Admin Trim) (out.Open cause) x t e = absurd (none_some x e)
 look_is d look a o x t e = absurd t
 
 -- of each row, and of any two, by the replacements that they tell
@@ -179,6 +181,7 @@ not_replaced (Some (looked.Failed cause)) h = refl
 not_replaced (Some (looked.Extended x)) h = absurd (h x refl)
 not_replaced (Some (looked.Reported position)) h = refl
 not_replaced (Some looked.Left) h = refl
+not_replaced (Some (looked.Trimmed trim)) h = refl
 
 told_so : (d : Option Desk) (look : Option Looked) (a : Asks) (o : Outcome) → Tells d look a o → ((x : Extension) → look ≡ Some (looked.Extended x) → AsksNode a) → is_some (version_made o) ≡ has_replaced look
 told_so (Some d) look (asks.Logged s r command) (out.Placed place reply late) t own = not_replaced look own
@@ -194,6 +197,8 @@ told_so None look (asks.Admin Alive) (out.Alive clean) t own = sym (ap has_repla
 told_so None look (asks.Admin Alive) (out.Open cause) t own = sym (ap has_replaced t)
 told_so None look (asks.Admin Retire) out.Retired t own = sym (ap has_replaced t)
 told_so None look (asks.Admin Retire) (out.Open cause) t own = sym (ap has_replaced t)
+told_so None look (asks.Admin Trim) (out.Trimmed trim) t own = sym (ap has_replaced t)
+told_so None look (asks.Admin Trim) (out.Open cause) t own = sym (ap has_replaced t)
 told_so d look a o t own = absurd t
 
 abbrev tells_one : Row → Bool

@@ -19,7 +19,7 @@ use Rattle.engine_api.specs.declared.content.Placed.{Placed}
 use Rattle.engine_api.specs.Items.{contents_of, items_of, placed_at, placed_from, unpack}
 use Rattle.engine_api.specs.Acted.{unpack_all}
 use Rattle.engine_api.specs.Members.{clean_position}
-use Rattle.script_text.specs.declared.line.Admin.TheVariants.{Extend, Alive, Retire}
+use Rattle.script_text.specs.declared.line.Admin.TheVariants.{Extend, Alive, Retire, Trim}
 use Rattle.script_text.specs.declared.asks.Asks.{Asks}
 use Rattle.script_text.specs.declared.asks.Asks.TheVariants as asks
 use Rattle.row_text.specs.declared.row.Outcome.{Outcome}
@@ -94,6 +94,8 @@ alive_is None look (asks.Admin Alive) (out.Alive d) clean t e = let same : d ≡
 alive_is None look (asks.Admin Alive) (out.Open cause) clean t e = absurd (cc)
 alive_is None look (asks.Admin Retire) out.Retired clean t e = absurd (cc)
 alive_is None look (asks.Admin Retire) (out.Open cause) clean t e = absurd (cc)
+alive_is None look (asks.Admin Trim) (out.Trimmed trim) clean t e = absurd (cc)
+alive_is None look (asks.Admin Trim) (out.Open cause) clean t e = absurd (cc)
 alive_is d look a o clean t e = absurd t
 
 -- what is within what a node has applied is within what has been applied further
@@ -111,9 +113,10 @@ report_within journal tail cursor cursor' node (looked.Reported position) up h =
   stands = h.stands;
 }
 report_within journal tail cursor cursor' node looked.Left up h = tt
+report_within journal tail cursor cursor' node (looked.Trimmed trim) up h = tt
 
 -- it tells of a front of the log as far as it was played
-pub has_reported : (may : ℕ → Entry → Type 0) (floor : List Entry → ℕ) (shelf : List ℕ) (journal : List Event) (log : List Entry) (tails : ℕ → ℕ) (phase node clean : ℕ) → IsLegal may floor shelf journal → IsFront Holds journal log → IsReport journal (tails phase) (length log) node clean
+pub has_reported : (may : ℕ → Entry → Type 0) (floor : List Entry → ℕ → Type 0) (shelf : List ℕ) (journal : List Event) (log : List Entry) (tails : ℕ → ℕ) (phase node clean : ℕ) → IsLegal may floor shelf journal → IsFront Holds journal log → IsReport journal (tails phase) (length log) node clean
     → HasReported log tails phase clean
 has_reported may floor shelf journal log tails phase node clean legal front r = record {
   upto = length r.log;
@@ -138,6 +141,8 @@ retired_is None look (asks.Admin Alive) (out.Alive clean) t e = absurd (cc)
 retired_is None look (asks.Admin Alive) (out.Open cause) t e = absurd (cc)
 retired_is None look (asks.Admin Retire) out.Retired t e = (refl, t)
 retired_is None look (asks.Admin Retire) (out.Open cause) t e = absurd (cc)
+retired_is None look (asks.Admin Trim) (out.Trimmed trim) t e = absurd (cc)
+retired_is None look (asks.Admin Trim) (out.Open cause) t e = absurd (cc)
 retired_is d look a o t e = absurd t
 
 -- what is within what a node has applied is within what has been applied further
@@ -148,3 +153,4 @@ leave_within journal cursor cursor' node (looked.Failed cause) up h = tt
 leave_within journal cursor cursor' node (looked.Extended x) up h = tt
 leave_within journal cursor cursor' node (looked.Reported position) up h = tt
 leave_within journal cursor cursor' node looked.Left up h = record { stands = h.stands; within = omega (arith, h.within, up) }
+leave_within journal cursor cursor' node (looked.Trimmed trim) up h = tt

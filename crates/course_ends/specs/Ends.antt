@@ -11,6 +11,14 @@ use Rattle.course_ends.specs.Closing.{WorkerEnd}
 abbrev pub desks_at : List WorkerEnd → ℕ → Option WorkerEnd
 desks_at workers n = slice_get workers (n - 1)
 
+-- how many entries of the log a node has applied
+abbrev pub cursor_at : Option WorkerEnd → ℕ
+cursor_at None = 0
+cursor_at (Some w) = w.seat.node.replica.cursor
+
+abbrev pub cursor_of : List WorkerEnd → ℕ → ℕ
+cursor_of workers n = cursor_at (desks_at workers n)
+
 abbrev pub desk_in : Option WorkerEnd → ℕ → Option Desk
 desk_in None s = None
 desk_in (Some w) s = slice_get w.desks s
@@ -27,7 +35,8 @@ end_at lines when (Some d) = record { stopped = d.stopped; when = when; answered
 abbrev pub end_of : List NamedLine → List WorkerEnd → (ℕ → ℕ) → (ℕ → ℕ) → ℕ → SessionEnd
 end_of lines workers home when s = end_at lines (when s) (desk_in (desks_at workers (home s)) s)
 
--- the chain goes from the first loglet of the shelf to the n-th one behind it, each of which has a segment
+-- The chain goes from the first loglet of the shelf to the n-th one behind it; as long as nothing is trimmed each of them has a
+-- segment.
 pub record GoesTo (chain : Chain) (n : ℕ) : Type 0 where
-  pub segments : length chain.segments ≡ n + 1
+  pub segments : chain.trim ≡ 0 → length chain.segments ≡ n + 1
   pub last : last_id chain ≡ n

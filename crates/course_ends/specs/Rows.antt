@@ -4,7 +4,7 @@ use Rattle.delos_types.specs.declared.place.Place.{Place}
 use Rattle.table_core.specs.declared.command.Reply.{Reply}
 use Rattle.engine_steps.specs.declared.layout.Kept.{Kept}
 use Rattle.engine_steps.specs.Replies.{reply_text}
-use Rattle.script_text.specs.declared.line.Admin.TheVariants.{Extend, Alive, Retire}
+use Rattle.script_text.specs.declared.line.Admin.TheVariants.{Extend, Alive, Retire, Trim}
 use Rattle.script_text.specs.declared.asks.NamedLine.{NamedLine}
 use Rattle.script_text.specs.declared.asks.Asks.{Asks}
 use Rattle.script_text.specs.declared.asks.Asks.TheVariants as asks
@@ -59,6 +59,8 @@ Tells None look (asks.Admin Alive) (out.Alive clean) = look ≡ Some (looked.Rep
 Tells None look (asks.Admin Alive) (out.Open cause) = look ≡ Some (looked.Failed cause)
 Tells None look (asks.Admin Retire) out.Retired = look ≡ Some looked.Left
 Tells None look (asks.Admin Retire) (out.Open cause) = look ≡ Some (looked.Failed cause)
+Tells None look (asks.Admin Trim) (out.Trimmed trim) = look ≡ Some (looked.Trimmed trim)
+Tells None look (asks.Admin Trim) (out.Open cause) = look ≡ Some (looked.Failed cause)
 Tells desk look asked answered = ⊥
 
 pub record IsRowOf (l : NamedLine) (d : Option Desk) (look : Option Looked) (row : Row) : Type 0 where
@@ -79,6 +81,7 @@ IsOfTable (looked.Failed cause) = Unit {0}
 IsOfTable (looked.Extended extension) = ⊥
 IsOfTable (looked.Reported position) = ⊥
 IsOfTable looked.Left = ⊥
+IsOfTable (looked.Trimmed trim) = ⊥
 
 -- A logged command is answered, or its session was stopped; a read was played, and so was what a node itself was asked.
 abbrev pub TellsIt : Option Desk → Option Looked → Asks → Type 0

@@ -3,7 +3,7 @@
 ghost use Rattle.std.specs.Prelude.{◌≡◌, ◌==◌, ◌+◌, ◌++◌, ℕ, List, [], ◌∷◌, length, map, count_by, Option, is_some};
 ghost use Rattle.delos_types.specs.declared.entry.Entry.{Entry};
 ghost use Rattle.legal_journal.specs.declared.events.Event.{Event};
-ghost use Rattle.legal_journal.specs.Journal.{IsLegal, state_of, trim_of};
+ghost use Rattle.legal_journal.specs.Journal.{IsLegal, state_of};
 ghost use Rattle.journal_faults.specs.Faults.{faults_in};
 ghost use Rattle.one_thread.specs.Alone.{AreOwn};
 ghost use Rattle.row_text.specs.declared.row.Row.{Row};
@@ -15,6 +15,7 @@ ghost use Rattle.fitting_run.specs.Replacements.{version_made};
 ghost use Rattle.course_ends.specs.Ends.{GoesTo};
 ghost use Rattle.fitting_run.specs.Fits.{ChainIsRegistered};
 ghost use Rattle.node_lines.specs.declared.lines.Looked.{Looked};
+ghost use Rattle.base_engine.specs.Trimming.{FloorIs};
 ghost use Rattle.node_workers.specs.Workers.{MayRun};
 ghost use Rattle.line_rules.specs.Rules.{may_of};
 ghost use Rattle.run_laws.specs.Ended.{LineEnded, SessionEnd, SessionEnded, AllAfter, FaultsCame, RunEnded};
@@ -30,6 +31,7 @@ use journal_faults::laws::{
 use kept_replies::laws::what_acts_is_told;
 use legal_journal::rules::Rules;
 use replica_api::replica::Replica;
+use run_course::laws::what_is_trimmed_was_told;
 use shown_log::laws::the_log_stands;
 
 /// Each fault that came was counted, and stands in the yard.
@@ -80,7 +82,7 @@ pub fn each_segment_is_told<P: Rules, S: Replica>()
 /// A run whose nodes have closed has ended.
 pub fn what_closed_has_ended<P: Rules, S: Replica>()
     ensures { MayRun P.may P.floor P.shelf → (lines : List NamedLine) (journal : List Event) (counts : List ℕ) (looks : List (Option Looked)) (log : List Entry) (workers : List WorkerEnd) (o : Told) (yard : Shown)
-        → ((who : ℕ) (e : Entry) → P.may who e → may_of lines who e) → trim_of (state_of journal) ≡ 0
+        → ((who : ℕ) (e : Entry) → P.may who e → may_of lines who e) → FloorIs P.floor (length workers)
         → HasClosed P.may P.floor P.shelf S.state S.spells lines journal counts looks log workers
         → AreRows lines workers looks o.rows → o.end ≡ length log → IsGivenBack P.may P.floor P.shelf journal workers o.chain yard
         → IsRegisterAsTold (state_of journal).register yard.register → ChainIsRegistered o yard.register
@@ -90,6 +92,7 @@ pub fn what_closed_has_ended<P: Rules, S: Replica>()
     each_line_has_ended::<P, S>();
     each_session_has_ended::<P, S>();
     the_log_stands::<P>();
+    what_is_trimmed_was_told::<P>();
 }
 
 /// A run whose nodes have closed stays so as its chain is read, by a user that is no node.

@@ -7,7 +7,7 @@ use Rattle.std.proofs.lemmas.List.Folds.{list_any-append}
 use Rattle.script_text.specs.declared.line.Line.{Line}
 use Rattle.script_text.specs.declared.line.Line.TheVariants as line
 use Rattle.script_text.specs.declared.line.Session.{Session}
-use Rattle.script_text.specs.declared.line.Admin.TheVariants.{Extend, Alive, Retire}
+use Rattle.script_text.specs.declared.line.Admin.TheVariants.{Extend, Alive, Trim, Retire}
 use Rattle.script_text.specs.declared.line.Ask.TheVariants as ask
 use Rattle.script_text.specs.declared.asks.NamedLine.{NamedLine}
 use Rattle.script_text.specs.declared.asks.Asks.TheVariants as asks
@@ -34,6 +34,7 @@ was-there : (b after : Before) (l : Line) → Follows b l after → (node : ℕ)
 was-there b after (line.Session n s a) h node e = subst (λ retired. list_any (λ m. m == node) retired ≡ false) (same-retired b after n s h.1) e
 was-there b after (line.Admin n Extend) h node e = subst (λ (x : Before). is_retired x node ≡ false) h.1 e
 was-there b after (line.Admin n Alive) h node e = subst (λ (x : Before). is_retired x node ≡ false) h.1 e
+was-there b after (line.Admin n Trim) h node e = subst (λ (x : Before). is_retired x node ≡ false) h.1 e
 was-there b after (line.Admin n Retire) h node e = (still-there b.retired n node (subst (λ (x : Before). is_retired x node ≡ false) h.1 e)).0
 was-there b after line.Blank h node e = subst (λ (x : Before). is_retired x node ≡ false) h e
 was-there b after line.Barrier h node e = subst (λ (x : Before). is_retired x node ≡ false) h e
@@ -89,6 +90,9 @@ none-after nodes b n at (r ∷ rs) before (line.Admin node Extend ∷ ls) h =
     and_from _ (are_not_retired (lines_after (before ++ l ∷ []) ls)) (each-passes _ (lines_after (before ++ l ∷ []) ls) (λ m. refl)) (none-after nodes h.2 (n + 1) (at + r.size) rs (before ++ l ∷ []) ls h.4)
 none-after nodes b n at (r ∷ rs) before (line.Admin node Alive ∷ ls) h =
     let l : Line = line.Admin node Alive in
+    and_from _ (are_not_retired (lines_after (before ++ l ∷ []) ls)) (each-passes _ (lines_after (before ++ l ∷ []) ls) (λ m. refl)) (none-after nodes h.2 (n + 1) (at + r.size) rs (before ++ l ∷ []) ls h.4)
+none-after nodes b n at (r ∷ rs) before (line.Admin node Trim ∷ ls) h =
+    let l : Line = line.Admin node Trim in
     and_from _ (are_not_retired (lines_after (before ++ l ∷ []) ls)) (each-passes _ (lines_after (before ++ l ∷ []) ls) (λ m. refl)) (none-after nodes h.2 (n + 1) (at + r.size) rs (before ++ l ∷ []) ls h.4)
 none-after nodes b n at (r ∷ rs) before (line.Admin node Retire ∷ ls) h =
     let l : Line = line.Admin node Retire in

@@ -7,6 +7,7 @@ pub mod Yard
 pub mod Faults
 pub mod Replacements
 pub mod Reports
+pub mod Trims
 pub mod Fits
 pub mod Calm
 pub mod Lines

@@ -5,7 +5,7 @@ use Rattle.std.specs.List.{list_all}
 use Rattle.delos_types.specs.declared.place.Place.{Place}
 use Rattle.script_text.specs.declared.asks.NamedLine.{NamedLine}
 use Rattle.script_text.specs.declared.line.Session.{Session}
-use Rattle.script_text.specs.declared.line.Admin.TheVariants.{Extend, Alive, Retire}
+use Rattle.script_text.specs.declared.line.Admin.TheVariants.{Extend, Alive, Trim, Retire}
 use Rattle.script_text.specs.declared.asks.Asks.{Asks}
 use Rattle.script_text.specs.declared.asks.Asks.TheVariants as asks
 use Rattle.row_text.specs.declared.row.Row.{Row}
@@ -31,6 +31,7 @@ answers (asks.Admin Extend) (out.Extended v s) = true
 answers (asks.Admin Extend) (out.Moved v) = true
 answers (asks.Admin Extend) out.NoSpare = true
 answers (asks.Admin Alive) (out.Alive d) = true
+answers (asks.Admin Trim) (out.Trimmed t) = true
 answers (asks.Admin Retire) out.Retired = true
 answers asked (out.Open c) = true
 answers asked answered = false

@@ -1,5 +1,5 @@
 -- Words for tests on lists and options.
-use Rattle.std.specs.Prelude.{Bool, true, false, not, ◌&&◌, ◌||◌, List, [], ◌∷◌, Option, Some, None}
+use Rattle.std.specs.Prelude.{Bool, true, false, not, ◌&&◌, ◌||◌, List, [], ◌∷◌, ◌++◌, Option, Some, None}
 use Rattle.std.specs.List.{list_all}
 
 -- where a holds, so does b
@@ -21,3 +21,8 @@ some_is (Some x) test = test x
 abbrev pub each_pair : {A : Type 0} → (A → A → Bool) → List A → Bool
 each_pair r [] = true
 each_pair r (x ∷ xs) = list_all (r x) xs && each_pair r xs
+
+-- each element passes the test, behind those before it
+abbrev pub each_after : {A : Type 0} → (List A → A → Bool) → List A → List A → Bool
+each_after test before [] = true
+each_after test before (x ∷ xs) = test before x && each_after test (before ++ x ∷ []) xs

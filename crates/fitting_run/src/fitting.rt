@@ -106,6 +106,7 @@ fn answers(asked: &Asks, outcome: &Outcome) -> bool
             Outcome::Extended { .. } | Outcome::Moved { .. } | Outcome::NoSpare,
         ) => true,
         (Asks::Admin(Admin::Alive), Outcome::Alive { .. }) => true,
+        (Asks::Admin(Admin::Trim), Outcome::Trimmed { .. }) => true,
         (Asks::Admin(Admin::Retire), Outcome::Retired) => true,
         (_, Outcome::Open { .. }) => true,
         _ => false,

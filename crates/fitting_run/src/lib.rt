@@ -3,7 +3,8 @@
 //!
 //! - `answered`: lines with their rows.
 //! - `told`: what a run tells.
-//! - `fitting`: the tests, as programs; `replacing`: those of replacements of the loglet; `reporting`: those of what nodes report.
+//! - `fitting`: the tests, as programs; `replacing`: those of replacements of the loglet; `reporting`: those of what nodes report;
+//!   `trimming`: those of trims.
 //! - `laws`: a law of the lines of every script.
 #![tactic(auto)]
 
@@ -13,3 +14,4 @@ pub mod laws;
 pub mod replacing;
 pub mod reporting;
 pub mod told;
+pub mod trimming;

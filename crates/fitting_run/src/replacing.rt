@@ -48,7 +48,7 @@ fn lacks_spare(outcome: &Outcome) -> bool
     }
 }
 
-fn is_behind(a: &Answered, b: &Answered) -> bool
+pub(crate) fn is_behind(a: &Answered, b: &Answered) -> bool
     ensures { result ≡ replacements.is_behind a.now b.now }
 {
     a.line.node == b.line.node || a.line.phase < b.line.phase

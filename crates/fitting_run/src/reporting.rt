@@ -7,7 +7,7 @@ use crate::answered::Answered;
 use crate::fitting::{before_barrier, logs, place_on_time};
 use row_text::row::Outcome;
 
-fn reported(outcome: &Outcome) -> Option<u64>
+pub(crate) fn reported(outcome: &Outcome) -> Option<u64>
     ensures { result ≡ reports.reported outcome.now }
 {
     match outcome {

@@ -1,4 +1,3 @@
 pub mod Contents
-pub mod Floors
 pub mod Rules
 pub mod Views

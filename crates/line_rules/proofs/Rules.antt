@@ -12,8 +12,8 @@ use Rattle.engine_api.specs.declared.content.Content.TheVariants.{Session, Alive
 use Rattle.engine_api.specs.declared.content.Placed.{Placed}
 use Rattle.engine_api.specs.Items.{content_of, unpack}
 use Rattle.engine_api.specs.Acted.{Asked, unpack_all, asked_in}
-use Rattle.engine_api.specs.Packing.{packed, session_item, alive_item, leave_item, IsProposable}
-use Rattle.engine_api.proofs.Packed.{content_of-session, content_of-alive, content_of-leave, proposable-session, proposable-alive, proposable-leave}
+use Rattle.engine_api.specs.Packing.{packed, session_item, alive_item, leave_item, trim_item, IsProposable}
+use Rattle.engine_api.proofs.Packed.{content_of-session, content_of-alive, content_of-leave, content_of-trim, proposable-session, proposable-alive, proposable-leave, proposable-trim}
 use Rattle.script_text.specs.declared.line.Admin.TheVariants as admin
 use Rattle.script_text.specs.declared.asks.NamedLine.{NamedLine}
 use Rattle.script_text.specs.declared.asks.Asks.{Asks}
@@ -21,10 +21,9 @@ use Rattle.script_text.specs.declared.asks.Asks.TheVariants as asks
 use Rattle.script_text.specs.declared.line.Session as script
 use Rattle.run_laws.specs.Ended.{LogsThis}
 use Rattle.node_workers.specs.Workers.{MayRun}
-use Rattle.shown_log.proofs.Untrimmed.{none_trimmed}
-use Rattle.line_rules.specs.Rules.{LogsRank, IsLineOf, may_of, AreOfLines, IsAskedBy, floor_of}
+use Rattle.base_engine.specs.Trimming.{MayTrim, FloorIs}
+use Rattle.line_rules.specs.Rules.{LogsRank, IsLineOf, may_of, AreOfLines, IsAskedBy}
 use Rattle.line_rules.proofs.Contents.{all-contained, unpack_all-has, to_packed, one, joined, appearances-has}
-use Rattle.line_rules.proofs.Floors.{Silent, floor-silent}
 use Rattle.line_rules.proofs.Views.{IsNumber, view, view_number, view_unpack}
 
 module _ (lines : List NamedLine) where
@@ -65,6 +64,16 @@ module _ (lines : List NamedLine) where
       view_sent line.node 2 0 (Leave line.node) (λ known. content_of-leave line.node known.0 known.1) (λ known. proposable-leave line.node known.0 known.1)
       (refl, record { at = at; line = line; is = is; node = refl; asks = asked })
 
+  pub trim_sent : (at : ℕ) (line : NamedLine) → slice_get lines at ≡ Some line → line.asks ≡ asks.Admin admin.Trim → (position : ℕ) → position < 2 ^ 64 → may_of lines line.node (packed line.node (trim_item position ∷ []))
+  trim_sent at line is asked position small =
+      let item = trim_item position in
+      let has : IsLineOf lines line.node (Trim position) = record { at = at; line = line; is = is; node = refl; asks = asked } in
+      record {
+        own = refl;
+        items = to_packed (IsLineOf lines line.node) line.node (item ∷ []) (one (IsLineOf lines line.node) item (proposable-trim position small))
+            (subst (λ o. AllByRecursion (IsLineOf lines line.node) (cons_option o [])) (sym (content_of-trim position small)) (has, tt));
+      }
+
   -- Items that are packed together
 
   pub lines_join : (who : ℕ) (items : List Item) (item : Item) → (length items ≡ 0 → ⊥) → All IsProposable items → length items ≤ 15 → IsProposable item
@@ -92,19 +101,6 @@ module _ (lines : List NamedLine) where
   of_lines [] h = tt
   of_lines (e ∷ es) h = (with_who h.0.0 (unpack 0 e) h.0.1.items, of_lines es h.1)
 
-  silent : (c : Content) → IsLine c → Silent c
-  silent (Session s r c) h = refl
-  silent (Alive n position) h = refl
-  silent (Leave n) h = refl
-  silent (Trim position) h = absurd h.1
-
-  all_silent : (ps : List Placed) → AllByRecursion (λ p. IsLine p.content) ps → AllByRecursion (λ p. Silent p.content) ps
-  all_silent [] h = tt
-  all_silent (p ∷ ps) h = (silent p.content h.0, all_silent ps h.1)
-
-  pub trims_nothing : (nodes : ℕ) (log : List Entry) → AreOfLines lines log → floor_of nodes log ≡ 0
-  trims_nothing nodes log h = floor-silent nodes log (all_silent (unpack_all 0 log) (unpack_all-has IsLine 0 log (of_lines log h)))
-
   logs_this : (a : Asks) (place : Place) (s r : ℕ) (c : Option Command) → LogsRank a s r c → LogsThis a (record { place = place; session = s; rank = r; command = c })
   logs_this (asks.Logged session rank command) place s r c h = h
   logs_this (asks.Look session query) place s r c h = absurd h
@@ -117,9 +113,8 @@ module _ (lines : List NamedLine) where
 
   -- The rules of a run
 
-  pub may_run : (nodes : ℕ) (shelf : List ℕ) → MayRun (may_of lines) (floor_of nodes) shelf
-  may_run nodes shelf = record {
-    low = λ log. omega arith;
-    join = lines_join;
-    keeps = λ seen pos legal trimmed. absurd (none_trimmed (may_of lines) (floor_of nodes) shelf (trims_nothing nodes) seen pos legal trimmed);
-  }
+  pub may_run : (nodes : ℕ) (shelf : List ℕ) → MayRun (may_of lines) (MayTrim nodes) shelf
+  may_run nodes shelf = record { low = λ log n h. h.within; join = lines_join }
+
+pub floor_is : (nodes : ℕ) → FloorIs (MayTrim nodes) nodes
+floor_is nodes = record { only = λ log n h. h; free = λ log n h. h }

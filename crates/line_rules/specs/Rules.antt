@@ -1,13 +1,12 @@
--- The rules that a run over nodes picks for its log: who may append what, and up to where the log may be trimmed.
-use Rattle.std.specs.Prelude.{◌≡◌, ℕ, List, length, min, Option, Some, slice_get}
+-- The rules that a run over nodes picks for its log: who may append what.
+use Rattle.std.specs.Prelude.{◌≡◌, ℕ, List, Option, Some, slice_get}
 use Rattle.std.specs.List.{AllByRecursion}
 use Rattle.delos_types.specs.declared.entry.Entry.{Entry}
 use Rattle.table_core.specs.declared.command.Command.{Command}
 use Rattle.engine_api.specs.declared.content.Content.{Content}
 use Rattle.engine_api.specs.declared.content.Content.TheVariants.{Session, Alive, Leave, Trim}
 use Rattle.engine_api.specs.Items.{unpack}
-use Rattle.engine_api.specs.Acted.{Asked, unpack_all}
-use Rattle.engine_api.specs.Members.{least_position, trim_point}
+use Rattle.engine_api.specs.Acted.{Asked}
 use Rattle.script_text.specs.declared.line.Admin.{Admin}
 use Rattle.script_text.specs.declared.line.Admin.TheVariants as admin
 use Rattle.script_text.specs.declared.asks.NamedLine.{NamedLine}
@@ -45,12 +44,16 @@ HasReport lines who = HasAsked lines who admin.Alive
 abbrev pub HasLeave : List NamedLine → ℕ → Type 0
 HasLeave lines who = HasAsked lines who admin.Retire
 
--- it is a command, of a line of the node, or the node's own report or leave, for which a line asks
+-- a line has the node trim the log
+abbrev pub HasTrim : List NamedLine → ℕ → Type 0
+HasTrim lines who = HasAsked lines who admin.Trim
+
+-- it is a command, of a line of the node, or the node's own report or leave, or a trim, for which a line of it asks
 abbrev pub IsLineOf : List NamedLine → ℕ → Content → Type 0
 IsLineOf lines who (Session s r c) = HasLine lines who s r c
 IsLineOf lines who (Alive node position) = (node ≡ who) × HasReport lines who
 IsLineOf lines who (Leave node) = (node ≡ who) × HasLeave lines who
-IsLineOf lines who (Trim position) = ⊥
+IsLineOf lines who (Trim position) = HasTrim lines who
 
 -- the entry is the node's own, and each item of it what a line there asks
 pub record HoldsLines (lines : List NamedLine) (who : ℕ) (e : Entry) : Type 0 where
@@ -64,15 +67,6 @@ may_of lines who e = HoldsLines lines who e
 -- each entry is somebody's
 abbrev pub AreOfLines : List NamedLine → List Entry → Type 0
 AreOfLines lines log = AllByRecursion (λ e. (who : ℕ) × may_of lines who e) log
-
--- the least of the positions that the members among the nodes 1 to `nodes` reported, 0 where none is a member
-abbrev pub least_in : ℕ → List Entry → ℕ
-least_in nodes log = least_position nodes (unpack_all 0 log)
-
--- up to where a log may be trimmed: that position, or the greatest below which it asks for a trim, if that is less, as far
--- as the log goes
-abbrev pub floor_of : ℕ → List Entry → ℕ
-floor_of nodes log = min (length log) (min (trim_point (unpack_all 0 log)) (least_in nodes log))
 
 -- a line asks for this command
 pub record IsAskedBy (lines : List NamedLine) (x : Asked) : Type 0 where

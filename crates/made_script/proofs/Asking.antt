@@ -10,7 +10,7 @@ use Rattle.std.proofs.lemmas.List.Sums.{sum_by-append, sum_by-cons}
 use Rattle.table_core.specs.declared.command.Command.TheVariants.{Put, Del, Cas, Add}
 use Rattle.script_text.specs.declared.line.Line.{Line}
 use Rattle.script_text.specs.declared.line.Line.TheVariants as line
-use Rattle.script_text.specs.declared.line.Admin.TheVariants.{Extend, Alive, Retire}
+use Rattle.script_text.specs.declared.line.Admin.TheVariants.{Extend, Alive, Trim, Retire}
 use Rattle.script_text.specs.declared.line.Ask.TheVariants.{Log, Look}
 use Rattle.script_text.specs.declared.asks.NamedLine.{NamedLine}
 use Rattle.script_text.specs.Lines.{named_after, lines_after, lines_of}
@@ -91,6 +91,7 @@ named-extends before line.Blank = refl
 named-extends before line.Barrier = refl
 named-extends before (line.Admin n Extend) = refl
 named-extends before (line.Admin n Alive) = refl
+named-extends before (line.Admin n Trim) = refl
 named-extends before (line.Admin n Retire) = refl
 named-extends before (line.Session n s (Log command)) = refl
 named-extends before (line.Session n s (Look query)) = refl
@@ -127,6 +128,7 @@ named-added before line.Blank = refl
 named-added before line.Barrier = refl
 named-added before (line.Admin n Extend) = refl
 named-added before (line.Admin n Alive) = refl
+named-added before (line.Admin n Trim) = refl
 named-added before (line.Admin n Retire) = refl
 named-added before (line.Session n s (Log (Put key value))) = refl
 named-added before (line.Session n s (Log (Del key))) = refl
@@ -147,6 +149,7 @@ abbrev AddsIn : Line → Type 0
 AddsIn (line.Session n s (Log (Add key amount))) = (pos 0 ≤ℤ amount) × (amount ≤ℤ pos 99)
 AddsIn (line.Session n s ask) = ⊥
 AddsIn (line.Admin n Alive) = ⊥
+AddsIn (line.Admin n Trim) = ⊥
 AddsIn (line.Admin n Retire) = ⊥
 AddsIn _ = Unit {0}
 
@@ -158,6 +161,7 @@ named-adds before line.Blank h = All-nil NamedAdds
 named-adds before line.Barrier h = All-nil NamedAdds
 named-adds before (line.Admin n Extend) h = All-cons NamedAdds _ [] tt (All-nil NamedAdds)
 named-adds before (line.Admin n Alive) h = absurd h
+named-adds before (line.Admin n Trim) h = absurd h
 named-adds before (line.Admin n Retire) h = absurd h
 named-adds before (line.Session n s (Log (Put key value))) h = absurd h
 named-adds before (line.Session n s (Log (Del key))) h = absurd h

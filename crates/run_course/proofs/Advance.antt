@@ -13,6 +13,7 @@ use Rattle.legal_journal.specs.Journal.{IsLegal, state_of, tail_of}
 use Rattle.legal_journal.proofs.Legal.{goes_on}
 use Rattle.journal_faults.specs.Faults.{fault_of, faults_in}
 use Rattle.unsealed_chain.specs.Unsealed.{IsUnsealed}
+use Rattle.engine_api.specs.declared.content.Content.{Content}
 use Rattle.script_text.specs.declared.asks.NamedLine.{NamedLine}
 use Rattle.fitting_run.specs.Faults.{lacks_store}
 use Rattle.one_thread.specs.Alone.{Since}
@@ -26,7 +27,11 @@ use Rattle.run_laws.specs.Ended.{Fault, pays, most_faults}
 use Rattle.run_course.specs.Script.{failure_of_look, failed_looks}
 use Rattle.run_course.specs.Course.{Course, BeganAt, CourseOk, TurnOf}
 use Rattle.run_course.specs.Replacing.{Replaced, has_replaced}
+use Rattle.run_course.specs.Reporting.{StandsThere}
+use Rattle.run_course.specs.Telling.{AreTold, HasToldSo, IsTrim, ReportsUpTo}
 use Rattle.run_course.proofs.Lines.{count-cons}
+use Rattle.run_course.proofs.Stands.{stands_on, trim_rises}
+use Rattle.run_course.proofs.Told.{stand_on, trim_on}
 use Rattle.run_course.proofs.Replacing.{later, replaced_on}
 
 -- Counting
@@ -77,7 +82,7 @@ came_here : (P : Fault → Type 0) (n phase : ℕ) → ((k : Cause) → P (fault
 came_here P n phase h [] = tt
 came_here P n phase h (k ∷ came) = (h k, came_here P n phase h came)
 
-module _ (may : ℕ → Entry → Type 0) (floor : List Entry → ℕ) (shelf : List ℕ) where
+module _ (may : ℕ → Entry → Type 0) (floor : List Entry → ℕ → Type 0) (shelf : List ℕ) where
   -- the tail of a log doesn't fall
   pub tail_rises : (old new more : List Event) → new ≡ old ++ more → IsLegal may floor shelf new → tail_of (state_of old) ≤ tail_of (state_of new)
   tail_rises old new more seen legal =
@@ -114,9 +119,12 @@ module _ (may : ℕ → Entry → Type 0) (floor : List Entry → ℕ) (shelf : 
         → ((P : Cause → Bool) → P cause.Store ≡ false → failed_looks (λ n. P) lines looks' + count_by P came ≤ failed_looks (λ n. P) lines looks + count_by P (faults_in more))
         → Replaced lines looks' (state_of journal).register (length shelf)
         → (faults_in journal ≡ [] → IsUnsealed (state_of journal) (count_by has_replaced looks'))
+        → AreTold lines looks' journal
+        → ((i : ℕ) (l : NamedLine) (look : Looked) → slice_get lines i ≡ Some l → slice_get looks' i ≡ Some (Some look) → HasToldSo journal l.node look)
+        → ((j : ℕ) (l : NamedLine) (trim : ℕ) → slice_get lines j ≡ Some l → slice_get looks' j ≡ Some (Some (looked.Trimmed trim)) → IsTrim lines looks' nodes journal j l trim)
         → ((i : ℕ) (l : NamedLine) → slice_get lines i ≡ Some l → c.phase < l.phase → slice_get looks' i ≡ Some None)
         → CourseOk may floor shelf lines nodes then' counts' looks'
-    advance least most size paid replaced unsealed ahead = record {
+    advance least most size paid replaced unsealed told stand trims ahead = record {
       legal = legal;
       began = began;
       after = λ p high. tails_new c n came journal when p high;
@@ -134,6 +142,9 @@ module _ (may : ℕ → Entry → Type 0) (floor : List Entry → ℕ) (shelf : 
           (came_here (λ (f : Fault). (1 ≤ f.node) × (f.node ≤ nodes)) n c.phase (λ k. (least, most)) came);
       replaced = replaced;
       unsealed = unsealed;
+      told = told;
+      stand = stand;
+      trims = trims;
       ahead = ahead;
     }
 
@@ -141,21 +152,27 @@ module _ (may : ℕ → Entry → Type 0) (floor : List Entry → ℕ) (shelf : 
   pub advance_still : (lines : List NamedLine) (nodes : ℕ) (c : Course) (counts : List ℕ) (looks : List (Option Looked)) → CourseOk may floor shelf lines nodes c counts looks → (n : ℕ) (came : List Cause) (journal more : List Event) (when : ℕ → ℕ) (counts' : List ℕ)
       → journal ≡ c.journal ++ more → IsLegal (Within may counts') floor shelf journal → 1 ≤ n → n ≤ nodes
       → ((P : Cause → Bool) → P cause.Store ≡ false → failed_looks (λ n. P) lines looks + count_by P came ≤ failed_looks (λ n. P) lines looks + count_by P (faults_in more))
-      → (faults_in journal ≡ [] → IsUnsealed (state_of journal) (count_by has_replaced looks))
+      → (faults_in journal ≡ [] → IsUnsealed (state_of journal) (count_by has_replaced looks)) → AreTold lines looks journal
       → CourseOk may floor shelf lines nodes (advanced c n came journal when) counts' looks
-  advance_still lines nodes c counts looks ok n came journal more when counts' seen legal least most paid unsealed =
+  advance_still lines nodes c counts looks ok n came journal more when counts' seen legal least most paid unsealed told =
       advance lines nodes c counts looks ok n came journal more when counts' looks seen legal least most refl paid
       (replaced_on lines looks (state_of c.journal).register (state_of journal).register (length shelf) (later (Within may counts') floor shelf c.journal journal more seen legal) ok.replaced)
-      unsealed ok.ahead
+      unsealed told (λ i l look at come. stand_on c.journal journal stands l.node look (ok.stand i l look at come))
+      (λ j l trim at come. trim_on lines looks looks nodes c.journal journal stands (trim_rises (Within may counts') floor shelf c.journal journal more seen legal) j l trim (λ i m look at come first. come) (ok.trims j l trim at come))
+      ok.ahead
+    where
+      stands : (x : Content) → StandsThere c.journal x → StandsThere journal x
+      stands x h = stands_on (Within may counts') floor shelf c.journal journal more seen legal x h
 
 -- It is a part of a turn of node n.
 pub turned : (lines : List NamedLine) (home : ℕ → ℕ) (n : ℕ) (c : Course) (came : List Cause) (journal : List Event) (when : ℕ → ℕ) (counts counts' : List ℕ) (looks looks' : List (Option Looked))
     → Since n c.journal journal → ((s : ℕ) → (home s == n) ≡ false → when s ≡ c.when s)
     → ((s : ℕ) → (home s == n) ≡ false → sent_of counts' s ≡ sent_of counts s) → ((s : ℕ) → sent_of counts s ≤ sent_of counts' s)
     → length looks' ≡ length looks → ((i : ℕ) (l : NamedLine) → slice_get lines i ≡ Some l → (l.node == n) ≡ false → slice_get looks' i ≡ slice_get looks i)
+    → ((m cursor : ℕ) → (m == n) ≡ false → ReportsUpTo m cursor c.journal → ReportsUpTo m cursor journal)
     → ((by : ℕ → Cause → Bool) → ((k : Cause) → by n k ≡ false) → failed_looks by lines looks' ≡ failed_looks by lines looks)
     → TurnOf lines home n c (advanced c n came journal when) counts counts' looks looks'
-turned lines home n c came journal when counts counts' looks looks' since same others more size are paid = record {
+turned lines home n c came journal when counts counts' looks looks' since same others more size are reports paid = record {
   phase = refl;
   more = since.more;
   seen = since.seen;
@@ -169,6 +186,7 @@ turned lines home n c came journal when counts counts' looks looks' since same o
   no_fewer = more;
   size = size;
   looks_are = are;
+  reports = reports;
   paid = paid;
 }
 
@@ -182,6 +200,7 @@ failed_of (looked.Failed k) = k ∷ []
 failed_of (looked.Extended x) = []
 failed_of (looked.Reported position) = []
 failed_of looked.Left = []
+failed_of (looked.Trimmed trim) = []
 
 look_pays : (by : Cause → Bool) (look : Looked) → count_by (pays by) (failure_of_look (Some look) ∷ []) ≡ count_by by (failed_of look)
 look_pays by (looked.Found after found) = refl
@@ -190,6 +209,7 @@ look_pays by (looked.Failed k) = refl
 look_pays by (looked.Extended x) = refl
 look_pays by (looked.Reported position) = refl
 look_pays by looked.Left = refl
+look_pays by (looked.Trimmed trim) = refl
 
 -- a line's look, where it hadn't looked yet
 pub failed_set : (by : ℕ → Cause → Bool) (lines : List NamedLine) (looks : List (Option Looked)) (i : ℕ) (l : NamedLine) (look : Looked) → slice_get lines i ≡ Some l → slice_get looks i ≡ Some None

@@ -26,7 +26,7 @@ abbrev pub next_phase : Course → Course
 next_phase c = record c { phase = c.phase + 1 }
 
 -- Each phase of before began as it did, and the next one at the present tail.
-pub course_begins : (may : ℕ → Entry → Type 0) (floor : List Entry → ℕ) (shelf : List ℕ) (lines : List NamedLine) (nodes : ℕ) (c : Course) (counts : List ℕ) (looks : List (Option Looked))
+pub course_begins : (may : ℕ → Entry → Type 0) (floor : List Entry → ℕ → Type 0) (shelf : List ℕ) (lines : List NamedLine) (nodes : ℕ) (c : Course) (counts : List ℕ) (looks : List (Option Looked))
     → ((s : ℕ) → sent_of counts s ≤ asked_before lines s (c.phase + 1)) → CourseOk may floor shelf lines nodes c counts looks → CourseOk may floor shelf lines nodes (next_phase c) counts looks
 course_begins may floor shelf lines nodes c counts looks sent ok = record {
   legal = ok.legal;
@@ -38,6 +38,9 @@ course_begins may floor shelf lines nodes c counts looks sent ok = record {
   nodes_are = ok.nodes_are;
   replaced = ok.replaced;
   unsealed = ok.unsealed;
+  told = ok.told;
+  stand = ok.stand;
+  trims = ok.trims;
   ahead = λ i l at high. ok.ahead i l at (omega (arith, high));
 }
   where
@@ -81,6 +84,7 @@ module _ (c : Course) where
   looked_then lines cursor n d i phase s query (looked.Extended x) h = h
   looked_then lines cursor n d i phase s query (looked.Reported position) h = h
   looked_then lines cursor n d i phase s query looked.Left h = h
+  looked_then lines cursor n d i phase s query (looked.Trimmed trim) h = h
 
   played_then : (lines : List NamedLine) (done cursor n : ℕ) (desks : List Desk) (looks : List (Option Looked)) (i phase : ℕ) (a : Asks) → PlayedSo lines c done cursor n desks looks i phase a → PlayedSo lines (next_phase c) done cursor n desks looks i phase a
   played_then lines done cursor n desks looks i phase (asks.Logged s r command) h = λ d at. logged_then done cursor d phase s.id r (h d at)
@@ -98,11 +102,12 @@ module _ (c : Course) where
   }
 
   -- Between two phases nothing is halted, and nothing was given.
-  pub rests_then : (may : ℕ → Entry → Type 0) (floor : List Entry → ℕ) (shelf : List ℕ) (state : List Entry → SpaceMap → Type 0) (spells : List ℕ → Saved → Type 0) (lines : List NamedLine) (home : ℕ → ℕ) (counts : List ℕ) (looks : List (Option Looked)) (n from done : ℕ) (seat : SeatView) (desks : List Desk)
-      → Rests may floor shelf state spells lines home c counts looks n from done seat desks → Rests may floor shelf state spells lines home (next_phase c) counts looks n from done seat desks
-  rests_then may floor shelf state spells lines home counts looks n from done seat desks r = record {
+  pub rests_then : (may : ℕ → Entry → Type 0) (floor : List Entry → ℕ → Type 0) (shelf : List ℕ) (state : List Entry → SpaceMap → Type 0) (spells : List ℕ → Saved → Type 0) (lines : List NamedLine) (home : ℕ → ℕ) (nodes : ℕ) (counts : List ℕ) (looks : List (Option Looked)) (n from done : ℕ) (seat : SeatView) (desks : List Desk)
+      → Rests may floor shelf state spells lines home nodes c counts looks n from done seat desks → Rests may floor shelf state spells lines home nodes (next_phase c) counts looks n from done seat desks
+  rests_then may floor shelf state spells lines home nodes counts looks n from done seat desks r = record {
     worker = record {
       ok = r.worker.ok;
+      nodes_is = r.worker.nodes_is;
       order = r.worker.order;
       each = λ s d at.
           let h = r.worker.each s d at in
@@ -118,6 +123,7 @@ module _ (c : Course) where
       given = subst (AllByRecursion (λ (g : Given). CameTo c.faults g.cause n (c.phase + 1))) (sym r.none_given) tt;
       waiting = r.worker.waiting;
       played = λ i l low at own. played_then lines done seat.node.replica.cursor n desks looks i l.phase l.asks (r.worker.played i l low at own);
+      reports = r.worker.reports;
       stores = r.worker.stores;
     };
     none_given = r.none_given;

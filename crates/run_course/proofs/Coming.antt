@@ -24,7 +24,7 @@ came_at c n came journal when k m = record {
 }
 
 -- the causes that were given before, and since
-pub given_then : (may : ℕ → Entry → Type 0) (floor : List Entry → ℕ) (shelf : List ℕ) (c : Course) (n : ℕ) (came : List Cause) (journal : List Event) (when : ℕ → ℕ) (old more new : List Given) → Grown may floor shelf c (advanced c n came journal when)
+pub given_then : (may : ℕ → Entry → Type 0) (floor : List Entry → ℕ → Type 0) (shelf : List ℕ) (c : Course) (n : ℕ) (came : List Cause) (journal : List Event) (when : ℕ → ℕ) (old more new : List Given) → Grown may floor shelf c (advanced c n came journal when)
     → new ≡ old ++ more → ((g : Given) → Among more g → Among came g.cause) → AllByRecursion (λ g. CameTo c.faults g.cause n c.phase) old → AllByRecursion (λ g. CameTo (advanced c n came journal when).faults g.cause n c.phase) new
 given_then may floor shelf c n came journal when old more new grown is own h =
     let then' : Course = advanced c n came journal when in

@@ -13,6 +13,7 @@ use Rattle.virtual_log.specs.Holding.{Holds}
 use Rattle.engine_api.specs.Acted.{asked_in}
 use Rattle.engine_api.specs.Order.{gap_from}
 use Rattle.legal_journal.specs.Sealing.{Unsealed}
+use Rattle.journal_changes.specs.Changes.{Adds}
 use Rattle.replica_api.specs.Replica.{Saved, saved_in}
 use Rattle.base_engine.specs.declared.outbox.Given.{Given}
 use Rattle.base_engine.specs.Following.{IsStateAt}
@@ -33,7 +34,7 @@ use Rattle.node_lines.specs.Moving.{causes_of}
 use Rattle.node_lines.specs.Lines.{Stopped, failure_in}
 use Rattle.node_lines.specs.Turns.{ClosesIt, EndsTurn}
 use Rattle.node_lines.proofs.Turning.{ends_quiet, same_at, was_at}
-use Rattle.node_workers.specs.Workers.{MayRun, Within, WorkerOk}
+use Rattle.node_workers.specs.Workers.{IsOfSessions, MayRun, Within, WorkerOk}
 use Rattle.worker_laws.proofs.Bounding.{acted_stays}
 use Rattle.run_laws.specs.Ended.{CameTo, rank_in, session_in}
 use Rattle.run_laws.proofs.Members.{Among, among-right}
@@ -42,6 +43,8 @@ use Rattle.run_course.specs.Course.{Course, CourseOk, TurnOf}
 use Rattle.run_course.specs.Replacing.{has_replaced}
 use Rattle.run_course.specs.Desks.{DeskAt, HasActed, IsUpTo, LoggedSo, PlayedSo, WasEnded}
 use Rattle.run_course.specs.Workers.{TurnEnded, WorkerAt}
+use Rattle.run_course.proofs.Legal.{worker_legal}
+use Rattle.run_course.proofs.Told.{TellsOn, tells_commands}
 use Rattle.run_course.proofs.Lines.{of_session}
 use Rattle.run_course.proofs.Ranks.{home_is, logs_rank, node_is_home, rank_counts, rank_later, rank_low}
 use Rattle.run_course.proofs.Advance.{advance_still, advanced, stores_counted, tails_new, turned}
@@ -110,7 +113,7 @@ became mid failed d d' h = ⊎_elim
 none_some : {A : Type 0} (a : A) → None ≡ Some a → ⊥
 none_some a e = cc
 
-module _ (may : ℕ → Entry → Type 0) (floor : List Entry → ℕ) (shelf : List ℕ) (state : List Entry → SpaceMap → Type 0) (spells : List ℕ → Saved → Type 0) (run : MayRun may floor shelf) (lines : List NamedLine) (home : ℕ → ℕ) (nodes : ℕ) (c : Course) (counts : List ℕ) (looks : List (Option Looked)) (n from to : ℕ) (failed : Option Cause) (seat seat' : SeatView) (desks desks' : List Desk) (journal : List Event) (are : AreLines lines home nodes) (least : 1 ≤ n) (most : n ≤ nodes) (over : BeginsAt lines to (c.phase + 1)) (ok : CourseOk may floor shelf lines nodes c counts looks) (worker : WorkerAt may floor shelf state spells lines home c counts looks n from to c.phase seat desks) (since : Since n c.journal journal) (still : Unsealed c.journal journal) (does : EndsTurn (Within may counts) floor shelf (node_of seat c.journal) (node_of seat' journal) desks desks' failed) (now : WorkerOk may floor shelf state spells n counts journal seat' desks') where
+module _ (may : ℕ → Entry → Type 0) (floor : List Entry → ℕ → Type 0) (shelf : List ℕ) (state : List Entry → SpaceMap → Type 0) (spells : List ℕ → Saved → Type 0) (run : MayRun may floor shelf) (lines : List NamedLine) (home : ℕ → ℕ) (nodes : ℕ) (c : Course) (counts : List ℕ) (looks : List (Option Looked)) (n from to : ℕ) (failed : Option Cause) (seat seat' : SeatView) (desks desks' : List Desk) (journal : List Event) (are : AreLines lines home nodes) (least : 1 ≤ n) (most : n ≤ nodes) (over : BeginsAt lines to (c.phase + 1)) (ok : CourseOk may floor shelf lines nodes c counts looks) (worker : WorkerAt may floor shelf state spells lines home nodes c counts looks n from to c.phase seat desks) (since : Since n c.journal journal) (still : Unsealed c.journal journal) (adds : Adds IsOfSessions c.journal journal) (does : EndsTurn (Within may counts) floor shelf (node_of seat c.journal) (node_of seat' journal) desks desks' failed) (now : WorkerOk may floor shelf state spells n counts journal seat' desks') where
   abbrev came : List Cause
   came = causes_of does.ends.moves.goes.given (failure_in failed)
 
@@ -140,15 +143,21 @@ module _ (may : ℕ → Entry → Type 0) (floor : List Entry → ℕ) (shelf : 
   forward : seat.node.replica.cursor ≤ seat'.node.replica.cursor
   forward = let up = does.ends.moves.goes.keeps.forward in omega (arith, up, cursor_is)
 
+  within : IsLegal (Within may counts) floor shelf journal
+  within = worker_legal may floor shelf state spells n counts journal seat' desks' now
+
   legal : IsLegal may floor shelf journal
-  legal = legal_wider (Within may counts) may floor shelf (λ who e h. h.0) journal now.ok.node.legal
+  legal = legal_wider (Within may counts) may floor shelf (λ who e h. h.0) journal within
+
+  tells : TellsOn lines looks n seat.node.replica.cursor seat'.node.replica.cursor c.journal journal
+  tells = tells_commands (Within may counts) floor shelf c.journal journal does.ends.moves.goes.spends.more seen_more within lines looks looks n seat.node.replica.cursor seat'.node.replica.cursor (λ j x come. come) forward ok.told adds
 
   -- The run
 
   course_ok : CourseOk may floor shelf lines nodes then' counts looks
-  course_ok = advance_still may floor shelf lines nodes c counts looks ok n came journal does.ends.moves.goes.spends.more when' counts seen_more now.ok.node.legal least most
+  course_ok = advance_still may floor shelf lines nodes c counts looks ok n came journal does.ends.moves.goes.spends.more when' counts seen_more within least most
       (λ P store. let e = does.ends.moves.goes.spends.events P store in omega (arith, e))
-      (still_unsealed may floor shelf run counts c.journal journal (count_by has_replaced looks) now.ok.node.legal still ok.unsealed)
+      (still_unsealed may floor shelf counts c.journal journal (count_by has_replaced looks) within still ok.unsealed) tells.told
 
   -- the desk of before
   was : (s : ℕ) (d' : Desk) → slice_get desks' s ≡ Some d' → (d : Desk) × (slice_get desks s ≡ Some d) × ClosesIt does.mid failed d d'
@@ -176,7 +185,7 @@ module _ (may : ℕ → Entry → Type 0) (floor : List Entry → ℕ) (shelf : 
           (cases_lt 0 w.0.asked)
 
   turn : TurnOf lines home n c then' counts counts looks looks
-  turn = turned lines home n c came journal when' counts counts looks looks since when_elsewhere (λ s other. refl) (λ s. omega arith) refl (λ j l get other. refl) (λ by none. refl)
+  turn = turned lines home n c came journal when' counts counts looks looks since when_elsewhere (λ s other. refl) (λ s. omega arith) refl (λ j l get other. refl) tells.others (λ by none. refl)
 
   grown : Grown may floor shelf c then'
   grown = grown_of may floor shelf lines home nodes n c then' counts counts looks looks turn ok course_ok
@@ -219,7 +228,7 @@ module _ (may : ℕ → Entry → Type 0) (floor : List Entry → ℕ) (shelf : 
   sent_low : (s : ℕ) (d : Desk) → slice_get desks s ≡ Some d → 0 < d.asked → gap_from (asked_in 0 front.log) s 1 ≤ d.sent + 1
   sent_low s d at some =
       let is = worker.ok.counted s d at some in
-      acted_sent (Within may counts) floor shelf journal front.log s d.sent now.ok.node.legal front.front (λ who e r allowed has. let low = allowed.1 s r has in omega (arith, low, is))
+      acted_sent (Within may counts) floor shelf journal front.log s d.sent within front.front (λ who e r allowed has. let low = allowed.1 s r has in omega (arith, low, is))
 
   -- what has acted as an earlier phase ended was answered
   earlier_low : (s : ℕ) (d d' : Desk) → slice_get desks s ≡ Some d → 0 < d.asked → d.answered ≡ None → ClosesIt does.mid failed d d'
@@ -414,15 +423,17 @@ module _ (may : ℕ → Entry → Type 0) (floor : List Entry → ℕ) (shelf : 
       by (asks.Admin a) is so =
           subst (PlayedSo lines then' (c.phase + 1) seat'.node.replica.cursor n desks' looks i l.phase) (sym is) (subst (PlayedSo lines then' c.phase seat'.node.replica.cursor n desks' looks i l.phase) is so)
 
-  worker_then : WorkerAt may floor shelf state spells lines home then' counts looks n to to (c.phase + 1) seat' desks'
+  worker_then : WorkerAt may floor shelf state spells lines home nodes then' counts looks n to to (c.phase + 1) seat' desks'
   worker_then = record {
     ok = now;
+    nodes_is = ap (λ (v : NodeView). v.nodes) does.forgets ∙ does.ends.moves.goes.keeps.nodes ∙ worker.nodes_is;
     order = omega arith;
     each = each;
     quiet = λ s same. ends_quiet (Within may counts) floor shelf (node_of seat c.journal) (node_of seat' journal) desks desks' failed does s;
     given = subst (AllByRecursion (λ (g : Given). CameTo then'.faults g.cause n c.phase)) (sym given_is) tt;
     waiting = worker.waiting;
     played = played;
+    reports = tells.own worker.reports;
     stores = stores_counted lines n c.phase c.faults looks looks came [] came seat.node.replica.faults seat'.node.replica.faults (λ P. let e : count_by P came + 0 ≡ count_by P came = omega arith in e) (omega arith)
         (let rose = does.ends.moves.goes.spends.disk in omega (arith, rose, faults_are)) worker.stores;
   }

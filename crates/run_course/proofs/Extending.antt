@@ -4,7 +4,8 @@ use Rattle.delos_types.specs.Spaces.{SpaceMap}
 use Rattle.delos_types.specs.declared.entry.Entry.{Entry}
 use Rattle.delos_types.specs.declared.cause.Cause.{Cause}
 use Rattle.legal_journal.specs.declared.events.Event.{Event}
-use Rattle.legal_journal.specs.Journal.{state_of}
+use Rattle.legal_journal.specs.Journal.{IsLegal, state_of}
+use Rattle.journal_changes.specs.Changes.{Adds, TrimsUpTo}
 use Rattle.journal_faults.specs.Faults.{faults_in}
 use Rattle.unsealed_chain.specs.Unsealed.{IsUnsealed}
 use Rattle.unsealed_chain.proofs.Staying.{calm_parts}
@@ -23,7 +24,7 @@ use Rattle.node_lines.specs.declared.lines.Looked.{Looked}
 use Rattle.node_lines.specs.declared.lines.Looked.TheVariants as looked
 use Rattle.node_lines.specs.Moving.{is_store}
 use Rattle.node_lines.specs.Extending.{Extends, ExtendsSo}
-use Rattle.node_workers.specs.Workers.{MayRun, Within, WorkerOk}
+use Rattle.node_workers.specs.Workers.{IsOfSessions, Within, WorkerOk}
 use Rattle.worker_laws.specs.Extending.{made}
 use Rattle.worker_laws.proofs.Lone.{lone_extension}
 use Rattle.worker_laws.proofs.Sealing.{lone_once}
@@ -33,14 +34,16 @@ use Rattle.run_course.specs.Desks.{IsOfNode, PlayedSo}
 use Rattle.run_course.specs.Replacing.{AsksNode, has_replaced}
 use Rattle.run_course.specs.Reporting.{ReportedSo}
 use Rattle.run_course.specs.Leaving.{LeftSo}
+use Rattle.run_course.specs.Telling.{HasToldSo}
 use Rattle.run_course.specs.Workers.{LineWent, WorkerAt}
+use Rattle.run_course.proofs.Legal.{worker_legal}
+use Rattle.run_course.proofs.Told.{TellsOn, looks_stay, tells_commands}
 use Rattle.run_course.proofs.Lines.{count-cons}
 use Rattle.run_course.proofs.Advance.{advanced, count-append, failed_of}
 use Rattle.run_course.proofs.Replacing.{LooksOn, count_set}
-use Rattle.run_course.proofs.Unsealing.{same_trim}
 use Rattle.run_course.proofs.Playing.{line_went}
 
-module _ (may : ℕ → Entry → Type 0) (floor : List Entry → ℕ) (shelf : List ℕ) (state : List Entry → SpaceMap → Type 0) (spells : List ℕ → Saved → Type 0) (run : MayRun may floor shelf) (lines : List NamedLine) (home : ℕ → ℕ) (nodes : ℕ) (c : Course) (counts : List ℕ) (looks : List (Option Looked)) (n from i : ℕ) (line : NamedLine) (look : Looked) (seat seat' : SeatView) (desks : List Desk) (journal : List Event) (are : AreLines lines home nodes) (least : 1 ≤ n) (most : n ≤ nodes) (at : slice_get lines i ≡ Some line) (node : line.node ≡ n) (phase : line.phase ≡ c.phase) (asks_is : line.asks ≡ asks.Admin Extend) (ok : CourseOk may floor shelf lines nodes c counts looks) (worker : WorkerAt may floor shelf state spells lines home c counts looks n from i c.phase seat desks) (since : Since n c.journal journal) (does : Extends (Within may counts) floor shelf (node_of seat c.journal) (node_of seat' journal) look) (now : WorkerOk may floor shelf state spells n counts journal seat' desks) where
+module _ (may : ℕ → Entry → Type 0) (floor : List Entry → ℕ → Type 0) (shelf : List ℕ) (state : List Entry → SpaceMap → Type 0) (spells : List ℕ → Saved → Type 0) (lines : List NamedLine) (home : ℕ → ℕ) (nodes : ℕ) (c : Course) (counts : List ℕ) (looks : List (Option Looked)) (n from i : ℕ) (line : NamedLine) (look : Looked) (seat seat' : SeatView) (desks : List Desk) (journal : List Event) (are : AreLines lines home nodes) (least : 1 ≤ n) (most : n ≤ nodes) (at : slice_get lines i ≡ Some line) (node : line.node ≡ n) (phase : line.phase ≡ c.phase) (asks_is : line.asks ≡ asks.Admin Extend) (ok : CourseOk may floor shelf lines nodes c counts looks) (worker : WorkerAt may floor shelf state spells lines home nodes c counts looks n from i c.phase seat desks) (since : Since n c.journal journal) (adds : Adds IsOfSessions c.journal journal) (high : TrimsUpTo seat'.node.replica.cursor journal) (does : Extends (Within may counts) floor shelf (node_of seat c.journal) (node_of seat' journal) look) (now : WorkerOk may floor shelf state spells n counts journal seat' desks) where
   abbrev then' : Course
   then' = advanced c n (map (λ g. g.cause) does.moves.goes.given) journal c.when
 
@@ -55,6 +58,7 @@ module _ (may : ℕ → Entry → Type 0) (floor : List Entry → ℕ) (shelf : 
   paid_is (looked.Extended x) h = h.0
   paid_is (looked.Reported position) h = absurd h
   paid_is looked.Left h = absurd h
+  paid_is (looked.Trimmed trim) h = absurd h
 
   of_node : (x : Looked) → So x → IsOfNode Extend x
   of_node (looked.Found after found) h = h
@@ -63,6 +67,7 @@ module _ (may : ℕ → Entry → Type 0) (floor : List Entry → ℕ) (shelf : 
   of_node (looked.Extended x) h = tt
   of_node (looked.Reported position) h = h
   of_node looked.Left h = h
+  of_node (looked.Trimmed trim) h = h
 
   -- it reported nothing
   none_reported : (x : Looked) → So x → ReportedSo journal (then'.tails line.phase) seat'.node.replica.cursor n x
@@ -72,6 +77,7 @@ module _ (may : ℕ → Entry → Type 0) (floor : List Entry → ℕ) (shelf : 
   none_reported (looked.Extended x) h = tt
   none_reported (looked.Reported position) h = absurd h
   none_reported looked.Left h = tt
+  none_reported (looked.Trimmed trim) h = tt
 
   -- nor did it leave
   none_left : (x : Looked) → So x → LeftSo journal seat'.node.replica.cursor n x
@@ -81,6 +87,16 @@ module _ (may : ℕ → Entry → Type 0) (floor : List Entry → ℕ) (shelf : 
   none_left (looked.Extended x) h = tt
   none_left (looked.Reported position) h = tt
   none_left looked.Left h = absurd h
+  none_left (looked.Trimmed trim) h = tt
+
+  stood : (x : Looked) → So x → HasToldSo journal n x
+  stood (looked.Found after found) h = tt
+  stood (looked.Kept k) h = tt
+  stood (looked.Failed k) h = tt
+  stood (looked.Extended x) h = tt
+  stood (looked.Reported position) h = absurd h
+  stood looked.Left h = absurd h
+  stood (looked.Trimmed trim) h = tt
 
   unlogged : (s : ℕ) → logs_for s line ≡ false
   unlogged s = ap (is_of s) asks_is
@@ -96,6 +112,14 @@ module _ (may : ℕ → Entry → Type 0) (floor : List Entry → ℕ) (shelf : 
 
   not_yet : slice_get looks i ≡ Some None
   not_yet = worker.waiting i line (omega arith) at node
+
+  legal : IsLegal (Within may counts) floor shelf journal
+  legal = worker_legal may floor shelf state spells n counts journal seat' desks now
+
+  tells : TellsOn lines (slice_set looks i (Some look)) n seat.node.replica.cursor seat'.node.replica.cursor c.journal journal
+  tells =
+      tells_commands (Within may counts) floor shelf c.journal journal does.moves.goes.spends.more does.moves.goes.spends.seen legal lines looks (slice_set looks i (Some look)) n seat.node.replica.cursor seat'.node.replica.cursor
+      (looks_stay looks i look not_yet) does.moves.goes.keeps.forward ok.told adds
 
   -- a log that failed told a fault
   no_failure : (k : Cause) → does.others ≡ k ∷ [] → is_store k ≡ false → faults_in journal ≡ [] → ⊥
@@ -124,10 +148,10 @@ module _ (may : ℕ → Entry → Type 0) (floor : List Entry → ℕ) (shelf : 
       let was = ok.unsealed (calm_parts c.journal journal spends.more spends.seen calm).0 in
       subst (λ k. IsUnsealed (state_of journal) (count_by has_replaced looks + k)) (made_is x)
       (lone_once (Within may counts) floor shelf (node_of seat c.journal) (node_of seat' journal) x (count_by has_replaced looks)
-      (subst (Extends (Within may counts) floor shelf (node_of seat c.journal) (node_of seat' journal)) is does) (subst (λ w. Since w c.journal journal) (sym worker.ok.who_is) since)
-      (same_trim may floor shelf run counts c.journal journal spends.more spends.seen now.ok.node.legal) was calm)
+      (subst (Extends (Within may counts) floor shelf (node_of seat c.journal) (node_of seat' journal)) is does) (subst (λ w. Since w c.journal journal) (sym worker.ok.who_is) since) was calm)
   by_look (looked.Reported position) is h calm = absurd h
   by_look looked.Left is h calm = absurd h
+  by_look (looked.Trimmed trim) is h calm = absurd h
 
   unsealed : faults_in journal ≡ [] → IsUnsealed (state_of journal) (count_by has_replaced (slice_set looks i (Some look)))
   unsealed calm = subst (IsUnsealed (state_of journal)) (sym (count_set looks i (Some look) not_yet)) (by_look look refl does.extends calm)
@@ -139,4 +163,4 @@ module _ (may : ℕ → Entry → Type 0) (floor : List Entry → ℕ) (shelf : 
   pub line_extended : LineWent may floor shelf state spells lines home nodes c counts counts looks (slice_set looks i (Some look)) n from (i + 1) journal seat' desks
   line_extended =
       line_went may floor shelf state spells lines home nodes c counts looks n from i line look seat seat' desks journal are least most at node phase unlogged ok worker since does.others does.moves
-      (paid_is look does.extends) on own unsealed now line_played
+      (paid_is look does.extends) on own unsealed now tells (stood look does.extends) (λ trim is. absurd (subst So is does.extends)) high line_played

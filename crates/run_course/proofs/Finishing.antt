@@ -4,7 +4,9 @@ use Rattle.std.specs.List.{AllByRecursion}
 use Rattle.delos_types.specs.Spaces.{SpaceMap}
 use Rattle.delos_types.specs.declared.entry.Entry.{Entry}
 use Rattle.legal_journal.specs.declared.events.Event.{Event}
+use Rattle.legal_journal.specs.Journal.{IsLegal}
 use Rattle.legal_journal.specs.Sealing.{Unsealed}
+use Rattle.journal_changes.specs.Changes.{Adds}
 use Rattle.replica_api.specs.Replica.{Saved}
 use Rattle.base_engine.specs.declared.outbox.Given.{Given}
 use Rattle.base_engine.specs.Settling.{OutboxView}
@@ -14,27 +16,35 @@ use Rattle.one_thread.specs.Seats.{SeatView, node_of}
 use Rattle.node_sessions.specs.declared.desk.Desk.{Desk}
 use Rattle.node_lines.specs.declared.lines.Looked.{Looked}
 use Rattle.node_lines.specs.Moving.{Moves}
-use Rattle.node_workers.specs.Workers.{MayRun, Within, WorkerOk}
+use Rattle.node_workers.specs.Workers.{IsOfSessions, Within, WorkerOk}
 use Rattle.run_laws.specs.Ended.{CameTo, session_in}
 use Rattle.run_course.specs.Script.{BeginsAt}
 use Rattle.run_course.specs.Course.{Course, CourseOk, TurnOf}
 use Rattle.run_course.specs.Desks.{DeskAt, PlayedSo}
 use Rattle.run_course.specs.Replacing.{has_replaced}
 use Rattle.run_course.specs.Workers.{Rests, NodeFinished}
+use Rattle.run_course.proofs.Legal.{worker_legal}
+use Rattle.run_course.proofs.Told.{TellsOn, tells_commands}
 use Rattle.run_course.proofs.Advance.{advance_still, advanced, stores_counted, turned}
 use Rattle.run_course.proofs.Unsealing.{still_unsealed}
 use Rattle.run_course.proofs.Growing.{Grown, desk_same, ended_grows, grown_of, played_grows}
 
-module _ (may : ℕ → Entry → Type 0) (floor : List Entry → ℕ) (shelf : List ℕ) (state : List Entry → SpaceMap → Type 0) (spells : List ℕ → Saved → Type 0) (run : MayRun may floor shelf) (lines : List NamedLine) (home : ℕ → ℕ) (nodes : ℕ) (c : Course) (counts : List ℕ) (looks : List (Option Looked)) (n from done : ℕ) (seat seat' : SeatView) (desks : List Desk) (journal : List Event) (least : 1 ≤ n) (most : n ≤ nodes) (begins : BeginsAt lines from done) (low : done ≤ c.phase + 1) (ok : CourseOk may floor shelf lines nodes c counts looks) (r : Rests may floor shelf state spells lines home c counts looks n from done seat desks) (since : Since n c.journal journal) (still : Unsealed c.journal journal) (moves : Moves (Within may counts) floor shelf (node_of seat c.journal) (node_of seat' journal) []) (same : seat'.node.outbox ≡ seat.node.outbox) (now : WorkerOk may floor shelf state spells n counts journal seat' desks) where
+module _ (may : ℕ → Entry → Type 0) (floor : List Entry → ℕ → Type 0) (shelf : List ℕ) (state : List Entry → SpaceMap → Type 0) (spells : List ℕ → Saved → Type 0) (lines : List NamedLine) (home : ℕ → ℕ) (nodes : ℕ) (c : Course) (counts : List ℕ) (looks : List (Option Looked)) (n from done : ℕ) (seat seat' : SeatView) (desks : List Desk) (journal : List Event) (least : 1 ≤ n) (most : n ≤ nodes) (begins : BeginsAt lines from done) (low : done ≤ c.phase + 1) (ok : CourseOk may floor shelf lines nodes c counts looks) (r : Rests may floor shelf state spells lines home nodes c counts looks n from done seat desks) (since : Since n c.journal journal) (still : Unsealed c.journal journal) (adds : Adds IsOfSessions c.journal journal) (moves : Moves (Within may counts) floor shelf (node_of seat c.journal) (node_of seat' journal) []) (same : seat'.node.outbox ≡ seat.node.outbox) (now : WorkerOk may floor shelf state spells n counts journal seat' desks) where
   abbrev then' : Course
   then' = advanced c n [] journal c.when
 
+  legal : IsLegal (Within may counts) floor shelf journal
+  legal = worker_legal may floor shelf state spells n counts journal seat' desks now
+
+  tells : TellsOn lines looks n seat.node.replica.cursor seat'.node.replica.cursor c.journal journal
+  tells = tells_commands (Within may counts) floor shelf c.journal journal since.more since.seen legal lines looks looks n seat.node.replica.cursor seat'.node.replica.cursor (λ j x come. come) moves.goes.keeps.forward ok.told adds
+
   course_ok : CourseOk may floor shelf lines nodes then' counts looks
-  course_ok = advance_still may floor shelf lines nodes c counts looks ok n [] journal since.more c.when counts since.seen now.ok.node.legal least most (λ P store. omega arith)
-      (still_unsealed may floor shelf run counts c.journal journal (count_by has_replaced looks) now.ok.node.legal still ok.unsealed)
+  course_ok = advance_still may floor shelf lines nodes c counts looks ok n [] journal since.more c.when counts since.seen legal least most (λ P store. omega arith)
+      (still_unsealed may floor shelf counts c.journal journal (count_by has_replaced looks) legal still ok.unsealed) tells.told
 
   turn : TurnOf lines home n c then' counts counts looks looks
-  turn = turned lines home n c [] journal c.when counts counts looks looks since (λ s other. refl) (λ s other. refl) (λ s. omega arith) refl (λ i l at other. refl) (λ by none. refl)
+  turn = turned lines home n c [] journal c.when counts counts looks looks since (λ s other. refl) (λ s other. refl) (λ s. omega arith) refl (λ i l at other. refl) tells.others (λ by none. refl)
 
   grown : Grown may floor shelf c then'
   grown = grown_of may floor shelf lines home nodes n c then' counts counts looks looks turn ok course_ok
@@ -69,12 +79,14 @@ module _ (may : ℕ → Entry → Type 0) (floor : List Entry → ℕ) (shelf : 
     rests = record {
       worker = record {
         ok = now;
+        nodes_is = moves.goes.keeps.nodes ∙ r.worker.nodes_is;
         order = r.worker.order;
         each = each;
         quiet = λ s e. moves.quiet s (r.worker.quiet s e);
         given = subst (AllByRecursion (λ (g : Given). CameTo then'.faults g.cause n c.phase)) (sym none_given) tt;
         waiting = r.worker.waiting;
         played = played;
+        reports = tells.own r.worker.reports;
         stores = stores_counted lines n c.phase c.faults looks looks [] [] [] seat.node.replica.faults seat'.node.replica.faults (λ P. refl) (omega arith) (let up = moves.goes.keeps.counts in omega (arith, up)) r.worker.stores;
       };
       none_given = none_given;

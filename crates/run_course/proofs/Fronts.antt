@@ -10,7 +10,7 @@ use Rattle.base_engine.specs.Reading.{IsFront}
 use Rattle.one_thread.proofs.Bounds.{stands_below}
 
 -- where nothing is trimmed that wasn't shown
-pub front_low : (may : ℕ → Entry → Type 0) (floor : List Entry → ℕ) (shelf : List ℕ) → ((log : List Entry) → floor log ≤ length log) → (seen : List Event) (log : List Entry) → IsLegal may floor shelf seen → IsFront Holds seen log → length log ≤ tail_of (state_of seen)
+pub front_low : (may : ℕ → Entry → Type 0) (floor : List Entry → ℕ → Type 0) (shelf : List ℕ) → ((log : List Entry) (n : ℕ) → floor log n → n ≤ length log) → (seen : List Event) (log : List Entry) → IsLegal may floor shelf seen → IsFront Holds seen log → length log ≤ tail_of (state_of seen)
 front_low may floor shelf low seen log legal front = by_length (length log) refl
   where
     by_length : (n : ℕ) → length log ≡ n → length log ≤ tail_of (state_of seen)

@@ -11,7 +11,6 @@ use Rattle.legal_journal.specs.Journal.{IsLegal}
 use Rattle.virtual_log.specs.Holding.{Holds}
 use Rattle.engine_api.specs.declared.content.Content.{Content}
 use Rattle.engine_api.specs.declared.content.Content.TheVariants as content
-use Rattle.base_engine.specs.Holding.{held_stays}
 use Rattle.base_engine.specs.Reading.{IsFront}
 use Rattle.base_engine.specs.declared.outbox.Given.{Given}
 use Rattle.script_text.specs.declared.asks.NamedLine.{NamedLine}
@@ -30,10 +29,11 @@ use Rattle.run_course.specs.Course.{Course, CourseOk, TurnOf}
 use Rattle.run_course.specs.Reporting.{IsReport, ReportedSo, StandsThere}
 use Rattle.run_course.specs.Leaving.{LeftSo}
 use Rattle.run_course.specs.Desks.{HasActed, IsHalted, IsUpTo, LoggedSo, LogsIn, LookedSo, PlayedSo, SawSo, WasEnded, WasStopped}
+use Rattle.run_course.proofs.Stands.{front_on, stands_on}
 use Rattle.run_course.proofs.Advance.{tail_rises}
 
 -- A run, and the same at a later moment of the phase.
-pub record Grown (may : ℕ → Entry → Type 0) (floor : List Entry → ℕ) (shelf : List ℕ) (c c' : Course) : Type 0 where
+pub record Grown (may : ℕ → Entry → Type 0) (floor : List Entry → ℕ → Type 0) (shelf : List ℕ) (c c' : Course) : Type 0 where
   pub more : List Event
   pub seen : c'.journal ≡ c.journal ++ more
   pub legal : IsLegal may floor shelf c'.journal
@@ -77,7 +77,7 @@ pub some_of : {A : Type 0} (o : Option A) → IsSome o → (a : A) × (o ≡ Som
 some_of None h = absurd (cc)
 some_of (Some a) h = (a, refl)
 
-module _ (may : ℕ → Entry → Type 0) (floor : List Entry → ℕ) (shelf : List ℕ) where
+module _ (may : ℕ → Entry → Type 0) (floor : List Entry → ℕ → Type 0) (shelf : List ℕ) where
   -- a turn, or a part of it, is such a moment
   pub grown_of : (lines : List NamedLine) (home : ℕ → ℕ) (nodes n : ℕ) (c c' : Course) (counts counts' : List ℕ) (looks looks' : List (Option Looked)) → TurnOf lines home n c c' counts counts' looks looks'
       → CourseOk may floor shelf lines nodes c counts looks → CourseOk may floor shelf lines nodes c' counts' looks' → Grown may floor shelf c c'
@@ -98,11 +98,8 @@ module _ (may : ℕ → Entry → Type 0) (floor : List Entry → ℕ) (shelf : 
       legal = legal_wider (Within may counts') may floor shelf (λ who e h. h.0) c'.journal ok'.legal
 
   module _ (c c' : Course) (g : Grown may floor shelf c c') where
-    held_grows : (pos : ℕ) (e : Entry) → Holds c.journal pos e → Holds c'.journal pos e
-    held_grows pos e h = subst (λ l. Holds l pos e) (sym g.seen) (held_stays may floor shelf c.journal g.more pos e (subst (IsLegal may floor shelf) g.seen g.legal) h)
-
     pub front_grows : (log : List Entry) → IsFront Holds c.journal log → IsFront Holds c'.journal log
-    front_grows log h = λ pos e at. held_grows pos e (h pos e at)
+    front_grows log h = front_on may floor shelf c.journal c'.journal g.more g.seen g.legal log h
 
     pub came_grows : (k : Cause) (node phase : ℕ) → CameTo c.faults k node phase → CameTo c'.faults k node phase
     came_grows k node phase h = record {
@@ -168,9 +165,10 @@ module _ (may : ℕ → Entry → Type 0) (floor : List Entry → ℕ) (shelf : 
     looked_grows lines cursor cursor' n d d' i phase s query (looked.Extended x) low up k h = h
     looked_grows lines cursor cursor' n d d' i phase s query (looked.Reported position) low up k h = h
     looked_grows lines cursor cursor' n d d' i phase s query looked.Left low up k h = h
+    looked_grows lines cursor cursor' n d d' i phase s query (looked.Trimmed trim) low up k h = h
 
     abbrev stands_grows : (x : Content) → StandsThere c.journal x → StandsThere c'.journal x
-    stands_grows x h = record { at = h.at; entry = h.entry; held = held_grows h.at h.entry h.held; says = h.says }
+    stands_grows x h = stands_on may floor shelf c.journal c'.journal g.more g.seen g.legal x h
 
     report_grows : (cursor cursor' n phase position : ℕ) → phase ≤ c.phase → cursor ≤ cursor' → IsReport c.journal (c.tails phase) cursor n position → IsReport c'.journal (c'.tails phase) cursor' n position
     report_grows cursor cursor' n phase position low up h = record {
@@ -189,6 +187,7 @@ module _ (may : ℕ → Entry → Type 0) (floor : List Entry → ℕ) (shelf : 
     reported_grows cursor cursor' n phase (looked.Extended x) low up h = tt
     reported_grows cursor cursor' n phase (looked.Reported position) low up h = report_grows cursor cursor' n phase position low up h
     reported_grows cursor cursor' n phase looked.Left low up h = tt
+    reported_grows cursor cursor' n phase (looked.Trimmed trim) low up h = tt
 
     left_grows : (cursor cursor' n : ℕ) (look : Looked) → cursor ≤ cursor' → LeftSo c.journal cursor n look → LeftSo c'.journal cursor' n look
     left_grows cursor cursor' n (looked.Found after found) up h = tt
@@ -197,6 +196,7 @@ module _ (may : ℕ → Entry → Type 0) (floor : List Entry → ℕ) (shelf : 
     left_grows cursor cursor' n (looked.Extended x) up h = tt
     left_grows cursor cursor' n (looked.Reported position) up h = tt
     left_grows cursor cursor' n looked.Left up h = record { stands = stands_grows (content.Leave n) h.stands; within = omega (arith, h.within, up) }
+    left_grows cursor cursor' n (looked.Trimmed trim) up h = tt
 
     pub played_grows : (lines : List NamedLine) (done done' cursor cursor' n : ℕ) (desks desks' : List Desk) (looks looks' : List (Option Looked)) (i phase : ℕ) (a : Asks) → phase ≤ c.phase → (phase < done' → phase < done) → cursor ≤ cursor'
         → slice_get looks' i ≡ slice_get looks i → DeskOfOld c c' desks desks' (session_in a) → PlayedSo lines c done cursor n desks looks i phase a → PlayedSo lines c' done' cursor' n desks' looks' i phase a

@@ -32,6 +32,7 @@ module _ (lines : List NamedLine) (home : ℕ → ℕ) (n : ℕ) where
     no_fewer = λ s. omega arith;
     size = refl;
     looks_are = λ i l at other. refl;
+    reports = λ m cursor other h. h;
     paid = λ by none. refl;
   }
 
@@ -51,5 +52,6 @@ module _ (lines : List NamedLine) (home : ℕ → ℕ) (n : ℕ) where
     no_fewer = λ s. let a = t.no_fewer s in let b = u.no_fewer s in omega (arith, a, b);
     size = u.size ∙ t.size;
     looks_are = λ i l at other. u.looks_are i l at other ∙ t.looks_are i l at other;
+    reports = λ m cursor other h. u.reports m cursor other (t.reports m cursor other h);
     paid = λ by none. u.paid by none ∙ t.paid by none;
   }

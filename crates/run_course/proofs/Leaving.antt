@@ -1,10 +1,11 @@
 -- A line had its node leave.
-use Rattle.std.proofs.Common.{◌≡◌, subst, ℕ, ◌+◌, ◌≤◌, List, [], ◌∷◌, Option, Some, map, slice_get, slice_set}
+use Rattle.std.proofs.Common.{◌≡◌, subst, ℕ, ◌+◌, ◌≤◌, List, [], ◌∷◌, Option, Some, None, map, slice_get, slice_set, arith}
 use Rattle.delos_types.specs.Spaces.{SpaceMap}
 use Rattle.delos_types.specs.declared.entry.Entry.{Entry}
 use Rattle.legal_journal.specs.declared.events.Event.{Event}
 use Rattle.legal_journal.specs.Journal.{IsLegal}
 use Rattle.legal_journal.specs.Sealing.{Unsealed}
+use Rattle.journal_changes.specs.Changes.{TrimsUpTo}
 use Rattle.virtual_log.specs.declared.extend.Extension.{Extension}
 use Rattle.engine_api.specs.declared.content.Content.TheVariants as content
 use Rattle.engine_api.specs.Packing.{leave_item, packed}
@@ -13,34 +14,47 @@ use Rattle.base_engine.specs.Node.{NodeView}
 use Rattle.script_text.specs.declared.line.Admin.TheVariants.{Retire}
 use Rattle.script_text.specs.declared.asks.NamedLine.{NamedLine}
 use Rattle.script_text.specs.declared.asks.Asks.TheVariants as asks
+use Rattle.fabric_core.proofs.Marks.{set_same}
 use Rattle.one_thread.specs.Alone.{Since}
 use Rattle.one_thread.specs.Seats.{SeatView, node_of}
 use Rattle.node_sessions.specs.declared.desk.Desk.{Desk}
 use Rattle.node_lines.specs.declared.lines.Looked.{Looked}
 use Rattle.node_lines.specs.declared.lines.Looked.TheVariants as looked
 use Rattle.node_lines.specs.Leaving.{HasLeft, Leaves, LeavesSo}
-use Rattle.node_workers.specs.Workers.{MayRun, Within, WorkerOk}
+use Rattle.node_workers.specs.Workers.{LeaveAdds, Within, WorkerOk}
 use Rattle.run_course.specs.Script.{AreLines}
 use Rattle.run_course.specs.Course.{Course, CourseOk}
 use Rattle.run_course.specs.Desks.{IsOfNode}
 use Rattle.run_course.specs.Leaving.{IsLeave, LeftSo}
 use Rattle.run_course.specs.Reporting.{ReportedSo}
+use Rattle.run_course.specs.Telling.{AskedFor, HasToldSo}
 use Rattle.run_course.specs.Workers.{LineWent, WorkerAt}
+use Rattle.run_course.proofs.Legal.{worker_legal}
+use Rattle.run_course.proofs.Told.{TellsOn, looks_stay, tells_one}
 use Rattle.run_course.proofs.Advance.{advanced, failed_of}
 use Rattle.run_course.proofs.Telling.{line_told, stands_now}
 
-told_leave : (may : ℕ → Entry → Type 0) (floor : List Entry → ℕ) (shelf : List ℕ) (old new : NodeView) → IsLegal may floor shelf new.seen → HasLeft old new → IsLeave new.seen new.replica.cursor old.replica.origin
+told_leave : (may : ℕ → Entry → Type 0) (floor : List Entry → ℕ → Type 0) (shelf : List ℕ) (old new : NodeView) → IsLegal may floor shelf new.seen → HasLeft old new → IsLeave new.seen new.replica.cursor old.replica.origin
 told_leave may floor shelf old new legal left = record {
   stands = stands_now may floor shelf old.who left.synced new.seen (packed old.replica.origin (leave_item old.replica.origin ∷ [])) legal left.landed (content.Leave old.replica.origin) left.says;
   within = left.played;
 }
 
-module _ (may : ℕ → Entry → Type 0) (floor : List Entry → ℕ) (shelf : List ℕ) (state : List Entry → SpaceMap → Type 0) (spells : List ℕ → Saved → Type 0) (run : MayRun may floor shelf) (lines : List NamedLine) (home : ℕ → ℕ) (nodes : ℕ) (c : Course) (counts : List ℕ) (looks : List (Option Looked)) (n from i : ℕ) (line : NamedLine) (look : Looked) (seat seat' : SeatView) (desks : List Desk) (journal : List Event) (are : AreLines lines home nodes) (least : 1 ≤ n) (most : n ≤ nodes) (at : slice_get lines i ≡ Some line) (node : line.node ≡ n) (phase : line.phase ≡ c.phase) (asks_is : line.asks ≡ asks.Admin Retire) (ok : CourseOk may floor shelf lines nodes c counts looks) (worker : WorkerAt may floor shelf state spells lines home c counts looks n from i c.phase seat desks) (since : Since n c.journal journal) (still : Unsealed c.journal journal) (does : Leaves (Within may counts) floor shelf (node_of seat c.journal) (node_of seat' journal) look) (now : WorkerOk may floor shelf state spells n counts journal seat' desks) where
+module _ (may : ℕ → Entry → Type 0) (floor : List Entry → ℕ → Type 0) (shelf : List ℕ) (state : List Entry → SpaceMap → Type 0) (spells : List ℕ → Saved → Type 0) (lines : List NamedLine) (home : ℕ → ℕ) (nodes : ℕ) (c : Course) (counts : List ℕ) (looks : List (Option Looked)) (n from i : ℕ) (line : NamedLine) (look : Looked) (seat seat' : SeatView) (desks : List Desk) (journal : List Event) (are : AreLines lines home nodes) (least : 1 ≤ n) (most : n ≤ nodes) (at : slice_get lines i ≡ Some line) (node : line.node ≡ n) (phase : line.phase ≡ c.phase) (asks_is : line.asks ≡ asks.Admin Retire) (ok : CourseOk may floor shelf lines nodes c counts looks) (worker : WorkerAt may floor shelf state spells lines home nodes c counts looks n from i c.phase seat desks) (since : Since n c.journal journal) (still : Unsealed c.journal journal) (adds : LeaveAdds n c.journal journal) (high : TrimsUpTo seat'.node.replica.cursor journal) (does : Leaves (Within may counts) floor shelf (node_of seat c.journal) (node_of seat' journal) look) (now : WorkerOk may floor shelf state spells n counts journal seat' desks) where
   abbrev then' : Course
   then' = advanced c n (map (λ g. g.cause) does.moves.goes.given) journal c.when
 
   abbrev So : Looked → Type 0
   So = LeavesSo (node_of seat c.journal) (node_of seat' journal) does.others
+
+  legal : IsLegal (Within may counts) floor shelf journal
+  legal = worker_legal may floor shelf state spells n counts journal seat' desks now
+
+  not_yet : slice_get looks i ≡ Some None
+  not_yet = worker.waiting i line (omega arith) at node
+
+  abbrev looks' : List (Option Looked)
+  looks' = slice_set looks i (Some look)
 
   -- what the calls came across but what sessions were given is by what the log failed, or the disk
   paid_is : (x : Looked) → So x → does.others ≡ failed_of x
@@ -50,6 +64,7 @@ module _ (may : ℕ → Entry → Type 0) (floor : List Entry → ℕ) (shelf : 
   paid_is (looked.Extended x) h = absurd h
   paid_is (looked.Reported position) h = absurd h
   paid_is looked.Left h = h.0
+  paid_is (looked.Trimmed trim) h = absurd h
 
   of_node : (x : Looked) → So x → IsOfNode Retire x
   of_node (looked.Found after found) h = h
@@ -58,6 +73,7 @@ module _ (may : ℕ → Entry → Type 0) (floor : List Entry → ℕ) (shelf : 
   of_node (looked.Extended x) h = h
   of_node (looked.Reported position) h = h
   of_node looked.Left h = tt
+  of_node (looked.Trimmed trim) h = h
 
   -- nothing was replaced
   none : (x : Extension) → look ≡ looked.Extended x → ⊥
@@ -71,6 +87,7 @@ module _ (may : ℕ → Entry → Type 0) (floor : List Entry → ℕ) (shelf : 
   none_reported (looked.Extended x) h = tt
   none_reported (looked.Reported position) h = absurd h
   none_reported looked.Left h = tt
+  none_reported (looked.Trimmed trim) h = tt
 
   left : (x : Looked) → So x → LeftSo journal seat'.node.replica.cursor n x
   left (looked.Found after found) h = tt
@@ -79,9 +96,37 @@ module _ (may : ℕ → Entry → Type 0) (floor : List Entry → ℕ) (shelf : 
   left (looked.Extended x) h = tt
   left (looked.Reported position) h = tt
   left looked.Left h =
-      subst (IsLeave journal seat'.node.replica.cursor) worker.ok.origin (told_leave (Within may counts) floor shelf (node_of seat c.journal) (node_of seat' journal) now.ok.node.legal h.1)
+      subst (IsLeave journal seat'.node.replica.cursor) worker.ok.origin (told_leave (Within may counts) floor shelf (node_of seat c.journal) (node_of seat' journal) legal h.1)
+  left (looked.Trimmed trim) h = tt
+
+  asked : AskedFor lines looks' n Retire (λ x. Unit {0})
+  asked = record {
+    at = i;
+    line = line;
+    look = look;
+    is = at;
+    node_is = node;
+    asks = asks_is;
+    looked = set_same looks i (Some look) None not_yet;
+    so = tt;
+  }
+
+  tells : TellsOn lines looks' n seat.node.replica.cursor seat'.node.replica.cursor c.journal journal
+  tells =
+      tells_one (Within may counts) floor shelf c.journal journal does.moves.goes.spends.more does.moves.goes.spends.seen legal lines looks looks' n seat.node.replica.cursor seat'.node.replica.cursor
+      (looks_stay looks i look not_yet) does.moves.goes.keeps.forward ok.told (content.Leave n) asked tt adds
+
+  stood : (x : Looked) → So x → LeftSo journal seat'.node.replica.cursor n x → HasToldSo journal n x
+  stood (looked.Found after found) h l = tt
+  stood (looked.Kept k) h l = tt
+  stood (looked.Failed k) h l = tt
+  stood (looked.Extended x) h l = tt
+  stood (looked.Reported position) h l = absurd h
+  stood looked.Left h l = l.stands
+  stood (looked.Trimmed trim) h l = tt
 
   pub line_left : LineWent may floor shelf state spells lines home nodes c counts counts looks (slice_set looks i (Some look)) n from (i + 1) journal seat' desks
   line_left =
-      line_told may floor shelf state spells run lines home nodes c counts looks n from i line Retire look seat seat' desks journal are least most at node phase asks_is ok worker since still does.others does.moves now none
+      line_told may floor shelf state spells lines home nodes c counts looks n from i line Retire look seat seat' desks journal are least most at node phase asks_is ok worker since still does.others does.moves now none
       (paid_is look does.leaves) (of_node look does.leaves) (none_reported look does.leaves) (left look does.leaves)
+      tells (stood look does.leaves (left look does.leaves)) (λ trim is. absurd (subst So is does.leaves)) high

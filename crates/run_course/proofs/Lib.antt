@@ -1,3 +1,8 @@
+pub mod Legal
+pub mod Stands
+pub mod Saying
+pub mod Told
+pub mod Lowest
 pub mod Script
 pub mod Passing
 pub mod Lines
@@ -15,6 +20,8 @@ pub mod Extending
 pub mod Telling
 pub mod Reporting
 pub mod Leaving
+pub mod Trimming
+pub mod Turning
 pub mod Asking
 pub mod Joining
 pub mod Waiting

@@ -7,7 +7,9 @@ use Rattle.delos_types.specs.declared.entry.Entry.{Entry}
 use Rattle.delos_types.specs.declared.cause.Cause.{Cause}
 use Rattle.table_core.specs.declared.command.Command.{Command}
 use Rattle.legal_journal.specs.declared.events.Event.{Event}
+use Rattle.legal_journal.specs.Journal.{IsLegal}
 use Rattle.legal_journal.specs.Sealing.{Unsealed}
+use Rattle.journal_changes.specs.Changes.{Adds, TrimsUpTo}
 use Rattle.replica_api.specs.Replica.{Saved}
 use Rattle.script_text.specs.declared.line.Session.{Session}
 use Rattle.script_text.specs.declared.asks.NamedLine.{NamedLine}
@@ -19,7 +21,7 @@ use Rattle.one_thread.specs.Seats.{SeatView, node_of}
 use Rattle.node_sessions.specs.declared.desk.Desk.{Desk}
 use Rattle.node_lines.specs.declared.lines.Looked.{Looked}
 use Rattle.node_lines.specs.Moving.{IsQuiet, causes_of}
-use Rattle.node_workers.specs.Workers.{Logs, MayRun, WorkerOk, sent_of}
+use Rattle.node_workers.specs.Workers.{IsOfSessions, Logs, Within, WorkerOk, sent_of}
 use Rattle.run_laws.specs.Ended.{IsAtHome, session_in}
 use Rattle.run_laws.proofs.Members.{among-right, contained-among}
 use Rattle.run_laws.proofs.Placing.{same_some}
@@ -28,13 +30,15 @@ use Rattle.run_course.specs.Course.{Course, CourseOk, TurnOf}
 use Rattle.run_course.specs.Desks.{DeskAt, LoggedSo, PlayedSo}
 use Rattle.run_course.specs.Replacing.{has_replaced}
 use Rattle.run_course.specs.Workers.{LineWent, WorkerAt}
+use Rattle.run_course.proofs.Legal.{worker_legal}
+use Rattle.run_course.proofs.Told.{TellsOn, tells_commands}
 use Rattle.run_course.proofs.Lines.{asked_more, asked_none, asked_one, at_get, phase_before, rank_is}
 use Rattle.run_course.proofs.Advance.{advance_still, advanced, stores_counted, turned}
 use Rattle.run_course.proofs.Unsealing.{still_unsealed}
 use Rattle.run_course.proofs.Growing.{DeskGrew, DeskOfOld, Grown, desk_same, ended_grows, grown_of, halted_grows, played_grows}
 use Rattle.run_course.proofs.Coming.{came_at, given_among, given_then}
 
-module _ (may : ℕ → Entry → Type 0) (floor : List Entry → ℕ) (shelf : List ℕ) (state : List Entry → SpaceMap → Type 0) (spells : List ℕ → Saved → Type 0) (run : MayRun may floor shelf) (lines : List NamedLine) (home : ℕ → ℕ) (nodes : ℕ) (c : Course) (counts counts' : List ℕ) (looks : List (Option Looked)) (n from i : ℕ) (line : NamedLine) (session : Session) (rank : ℕ) (command : Command) (seat seat' : SeatView) (desks desks' : List Desk) (journal : List Event) (are : AreLines lines home nodes) (least : 1 ≤ n) (most : n ≤ nodes) (at : slice_get lines i ≡ Some line) (node : line.node ≡ n) (phase : line.phase ≡ c.phase) (asks_is : line.asks ≡ asks.Logged session rank command) (ok : CourseOk may floor shelf lines nodes c counts looks) (worker : WorkerAt may floor shelf state spells lines home c counts looks n from i c.phase seat desks) (since : Since n c.journal journal) (still : Unsealed c.journal journal) (logs : Logs may floor shelf counts counts' (node_of seat c.journal) (node_of seat' journal) session.id desks desks') (now : WorkerOk may floor shelf state spells n counts' journal seat' desks') where
+module _ (may : ℕ → Entry → Type 0) (floor : List Entry → ℕ → Type 0) (shelf : List ℕ) (state : List Entry → SpaceMap → Type 0) (spells : List ℕ → Saved → Type 0) (lines : List NamedLine) (home : ℕ → ℕ) (nodes : ℕ) (c : Course) (counts counts' : List ℕ) (looks : List (Option Looked)) (n from i : ℕ) (line : NamedLine) (session : Session) (rank : ℕ) (command : Command) (seat seat' : SeatView) (desks desks' : List Desk) (journal : List Event) (are : AreLines lines home nodes) (least : 1 ≤ n) (most : n ≤ nodes) (at : slice_get lines i ≡ Some line) (node : line.node ≡ n) (phase : line.phase ≡ c.phase) (asks_is : line.asks ≡ asks.Logged session rank command) (ok : CourseOk may floor shelf lines nodes c counts looks) (worker : WorkerAt may floor shelf state spells lines home nodes c counts looks n from i c.phase seat desks) (since : Since n c.journal journal) (still : Unsealed c.journal journal) (adds : Adds IsOfSessions c.journal journal) (high : TrimsUpTo seat'.node.replica.cursor journal) (logs : Logs may floor shelf counts counts' (node_of seat c.journal) (node_of seat' journal) session.id desks desks') (now : WorkerOk may floor shelf state spells n counts' journal seat' desks') where
   here : (t : ℕ) → (session.id == t) ≡ true → session.id ≡ t
   here t e = grind (arith, nat_tests, e)
 
@@ -47,10 +51,16 @@ module _ (may : ℕ → Entry → Type 0) (floor : List Entry → ℕ) (shelf : 
   abbrev then' : Course
   then' = advanced c n came journal c.when
 
+  legal : IsLegal (Within may counts') floor shelf journal
+  legal = worker_legal may floor shelf state spells n counts' journal seat' desks' now
+
+  tells : TellsOn lines looks n seat.node.replica.cursor seat'.node.replica.cursor c.journal journal
+  tells = tells_commands (Within may counts') floor shelf c.journal journal logs.logs.goes.spends.more logs.logs.goes.spends.seen legal lines looks looks n seat.node.replica.cursor seat'.node.replica.cursor (λ j x come. come) logs.logs.goes.keeps.forward ok.told adds
+
   course_ok : CourseOk may floor shelf lines nodes then' counts' looks
-  course_ok = advance_still may floor shelf lines nodes c counts looks ok n came journal logs.logs.goes.spends.more c.when counts' logs.logs.goes.spends.seen now.ok.node.legal least most
+  course_ok = advance_still may floor shelf lines nodes c counts looks ok n came journal logs.logs.goes.spends.more c.when counts' logs.logs.goes.spends.seen legal least most
       (λ P store. let e = logs.logs.goes.spends.events P store in omega (arith, e))
-      (still_unsealed may floor shelf run counts' c.journal journal (count_by has_replaced looks) now.ok.node.legal still ok.unsealed)
+      (still_unsealed may floor shelf counts' c.journal journal (count_by has_replaced looks) legal still ok.unsealed) tells.told
 
   at_home : home session.id ≡ n
   at_home = sym (subst (IsAtHome home line.node) asks_is (at_get (λ (l : NamedLine). IsAtHome home l.node l.asks) lines i line are.at_home at)) ∙ node
@@ -73,7 +83,7 @@ module _ (may : ℕ → Entry → Type 0) (floor : List Entry → ℕ) (shelf : 
       by false e = omega (arith, logs.logs.counted s e)
 
   turn : TurnOf lines home n c then' counts counts' looks looks
-  turn = turned lines home n c came journal c.when counts counts' looks looks since (λ s other. refl) others_sent no_fewer refl (λ j l get other. refl) (λ by none. refl)
+  turn = turned lines home n c came journal c.when counts counts' looks looks since (λ s other. refl) others_sent no_fewer refl (λ j l get other. refl) tells.others (λ by none. refl)
 
   grown : Grown may floor shelf c then'
   grown = grown_of may floor shelf lines home nodes n c then' counts counts' looks looks turn ok course_ok
@@ -192,15 +202,17 @@ module _ (may : ℕ → Entry → Type 0) (floor : List Entry → ℕ) (shelf : 
       (subst (λ (x : NamedLine). PlayedSo lines then' c.phase seat'.node.replica.cursor n desks' looks i x.phase x.asks) is line_played))
       (cases_lt j i)
 
-  worker_then : WorkerAt may floor shelf state spells lines home then' counts' looks n from (i + 1) c.phase seat' desks'
+  worker_then : WorkerAt may floor shelf state spells lines home nodes then' counts' looks n from (i + 1) c.phase seat' desks'
   worker_then = record {
     ok = now;
+    nodes_is = logs.logs.goes.keeps.nodes ∙ worker.nodes_is;
     order = omega (arith, worker.order);
     each = each;
     quiet = quiet;
     given = given_then may floor shelf c n came journal c.when seat.node.outbox.given logs.logs.goes.given seat'.node.outbox.given grown logs.logs.goes.gained (given_among logs.logs.goes.given logs.logs.others) worker.given;
     waiting = λ j l high get there. worker.waiting j l (omega (arith, high)) get there;
     played = played;
+    reports = tells.own worker.reports;
     stores = stores_counted lines n c.phase c.faults looks looks came [] came seat.node.replica.faults seat'.node.replica.faults (λ P. let e : count_by P came + 0 ≡ count_by P came = omega arith in e) (omega arith) logs.logs.goes.spends.disk worker.stores;
   }
 
@@ -211,4 +223,5 @@ module _ (may : ℕ → Entry → Type 0) (floor : List Entry → ℕ) (shelf : 
     ok = course_ok;
     turn = turn;
     worker = worker_then;
+    high = high;
   }

@@ -8,9 +8,10 @@ use Rattle.delos_types.specs.declared.cause.Cause.{Cause}
 use Rattle.table_core.specs.declared.command.Query.{Query}
 use Rattle.table_core.specs.declared.command.Found.{Found}
 use Rattle.legal_journal.specs.declared.events.Event.{Event}
-use Rattle.legal_journal.specs.Journal.{state_of}
+use Rattle.legal_journal.specs.Journal.{IsLegal, state_of}
 use Rattle.journal_faults.specs.Faults.{faults_in}
 use Rattle.legal_journal.specs.Sealing.{Unsealed}
+use Rattle.journal_changes.specs.Changes.{Adds, TrimsUpTo}
 use Rattle.unsealed_chain.specs.Unsealed.{IsUnsealed}
 use Rattle.virtual_log.specs.declared.extend.Extension.{Extension}
 use Rattle.engine_api.specs.Acted.{asked_in}
@@ -29,14 +30,17 @@ use Rattle.node_sessions.specs.declared.desk.Desk.{Desk}
 use Rattle.node_lines.specs.declared.lines.Looked.{Looked}
 use Rattle.node_lines.specs.declared.lines.Looked.TheVariants as looked
 use Rattle.node_lines.specs.Lines.{Looks, LooksSo}
-use Rattle.node_workers.specs.Workers.{MayRun, Within, WorkerOk}
+use Rattle.node_workers.specs.Workers.{IsOfSessions, MayRun, Within, WorkerOk}
 use Rattle.run_laws.specs.Ended.{CameTo}
 use Rattle.run_laws.proofs.Placing.{same_some}
 use Rattle.run_course.specs.Script.{AreLines, BeginsAt, asked_by}
 use Rattle.run_course.specs.Course.{Course, CourseOk}
 use Rattle.run_course.specs.Desks.{DeskAt, LogsBefore, LookedSo, PlayedSo, SawSo, WasStopped}
 use Rattle.run_course.specs.Replacing.{AsksNode, has_replaced}
+use Rattle.run_course.specs.Telling.{HasToldSo, IsTrim}
 use Rattle.run_course.specs.Workers.{LineWent, WorkerAt}
+use Rattle.run_course.proofs.Legal.{worker_legal}
+use Rattle.run_course.proofs.Told.{TellsOn, looks_stay, tells_commands}
 use Rattle.run_course.proofs.Lines.{asked_more, asked_there, logs_before}
 use Rattle.run_course.proofs.Advance.{advanced, failed_of, tails_new, tails_old}
 use Rattle.run_course.proofs.Growing.{Grown, came_grows}
@@ -46,7 +50,7 @@ use Rattle.run_course.proofs.Replacing.{LooksOn}
 use Rattle.run_course.proofs.Unsealing.{count_same, still_unsealed}
 use Rattle.run_course.proofs.Playing as playing
 
-module _ (may : ℕ → Entry → Type 0) (floor : List Entry → ℕ) (shelf : List ℕ) (state : List Entry → SpaceMap → Type 0) (spells : List ℕ → Saved → Type 0) (run : MayRun may floor shelf) (lines : List NamedLine) (home : ℕ → ℕ) (nodes : ℕ) (c : Course) (counts : List ℕ) (looks : List (Option Looked)) (n from i : ℕ) (line : NamedLine) (session : Session) (query : Query) (desk : Desk) (look : Looked) (seat seat' : SeatView) (desks : List Desk) (journal : List Event) (are : AreLines lines home nodes) (least : 1 ≤ n) (most : n ≤ nodes) (begins : BeginsAt lines from c.phase) (at : slice_get lines i ≡ Some line) (node : line.node ≡ n) (phase : line.phase ≡ c.phase) (asks_is : line.asks ≡ asks.Look session query) (ok : CourseOk may floor shelf lines nodes c counts looks) (worker : WorkerAt may floor shelf state spells lines home c counts looks n from i c.phase seat desks) (since : Since n c.journal journal) (still : Unsealed c.journal journal) (desk_at : slice_get desks session.id ≡ Some desk) (does : Looks (Within may counts) floor shelf (node_of seat c.journal) (node_of seat' journal) desk query look) (now : WorkerOk may floor shelf state spells n counts journal seat' desks) where
+module _ (may : ℕ → Entry → Type 0) (floor : List Entry → ℕ → Type 0) (shelf : List ℕ) (state : List Entry → SpaceMap → Type 0) (spells : List ℕ → Saved → Type 0) (run : MayRun may floor shelf) (lines : List NamedLine) (home : ℕ → ℕ) (nodes : ℕ) (c : Course) (counts : List ℕ) (looks : List (Option Looked)) (n from i : ℕ) (line : NamedLine) (session : Session) (query : Query) (desk : Desk) (look : Looked) (seat seat' : SeatView) (desks : List Desk) (journal : List Event) (are : AreLines lines home nodes) (least : 1 ≤ n) (most : n ≤ nodes) (begins : BeginsAt lines from c.phase) (at : slice_get lines i ≡ Some line) (node : line.node ≡ n) (phase : line.phase ≡ c.phase) (asks_is : line.asks ≡ asks.Look session query) (ok : CourseOk may floor shelf lines nodes c counts looks) (worker : WorkerAt may floor shelf state spells lines home nodes c counts looks n from i c.phase seat desks) (since : Since n c.journal journal) (still : Unsealed c.journal journal) (adds : Adds IsOfSessions c.journal journal) (high : TrimsUpTo seat'.node.replica.cursor journal) (desk_at : slice_get desks session.id ≡ Some desk) (does : Looks (Within may counts) floor shelf (node_of seat c.journal) (node_of seat' journal) desk query look) (now : WorkerOk may floor shelf state spells n counts journal seat' desks) where
   abbrev came : List Cause
   came = map (λ g. g.cause) does.moves.goes.given
 
@@ -67,6 +71,7 @@ module _ (may : ℕ → Entry → Type 0) (floor : List Entry → ℕ) (shelf : 
   paid_is (looked.Extended x) h = absurd h
   paid_is (looked.Reported position) h = absurd h
   paid_is looked.Left h = absurd h
+  paid_is (looked.Trimmed trim) h = absurd h
 
   on : LooksOn (length shelf) (state_of c.journal).register (state_of journal).register look
   on x is = absurd (subst (LooksSo (node_of seat c.journal) (node_of seat' journal) desk query does.others) is does.looks)
@@ -82,20 +87,42 @@ module _ (may : ℕ → Entry → Type 0) (floor : List Entry → ℕ) (shelf : 
   none_replaced (looked.Extended x) h = absurd h
   none_replaced (looked.Reported position) h = absurd h
   none_replaced looked.Left h = absurd h
+  none_replaced (looked.Trimmed trim) h = absurd h
+
+  legal : IsLegal (Within may counts) floor shelf journal
+  legal = worker_legal may floor shelf state spells n counts journal seat' desks now
+
+  tells : TellsOn lines looks' n seat.node.replica.cursor seat'.node.replica.cursor c.journal journal
+  tells =
+      tells_commands (Within may counts) floor shelf c.journal journal does.moves.goes.spends.more does.moves.goes.spends.seen legal lines looks looks' n seat.node.replica.cursor seat'.node.replica.cursor
+      (looks_stay looks i look not_yet) does.moves.goes.keeps.forward ok.told adds
+
+  -- it told nothing
+  stood : (x : Looked) → LooksSo (node_of seat c.journal) (node_of seat' journal) desk query does.others x → HasToldSo journal n x
+  stood (looked.Found after found) h = tt
+  stood (looked.Kept k) h = tt
+  stood (looked.Failed k) h = tt
+  stood (looked.Extended x) h = tt
+  stood (looked.Reported position) h = absurd h
+  stood looked.Left h = absurd h
+  stood (looked.Trimmed trim) h = tt
+
+  trimmed : (trim : ℕ) → look ≡ looked.Trimmed trim → IsTrim lines looks' nodes journal i line trim
+  trimmed trim is = absurd (subst (LooksSo (node_of seat c.journal) (node_of seat' journal) desk query does.others) is does.looks)
 
   unsealed : faults_in journal ≡ [] → IsUnsealed (state_of journal) (count_by has_replaced looks')
   unsealed calm =
       subst (IsUnsealed (state_of journal)) (sym (count_same looks i look not_yet (none_replaced look does.looks)))
-      (still_unsealed may floor shelf run counts c.journal journal (count_by has_replaced looks) now.ok.node.legal still ok.unsealed calm)
+      (still_unsealed may floor shelf counts c.journal journal (count_by has_replaced looks) legal still ok.unsealed calm)
 
   unlogged : (s : ℕ) → logs_for s line ≡ false
   unlogged s = ap (is_of s) asks_is
 
   grown : Grown may floor shelf c then'
-  grown = playing.grown may floor shelf state spells lines home nodes c counts looks n from i line look seat seat' desks journal are least most at node phase unlogged ok worker since does.others does.moves (paid_is look does.looks) on own unsealed now
+  grown = playing.grown may floor shelf state spells lines home nodes c counts looks n from i line look seat seat' desks journal are least most at node phase unlogged ok worker since does.others does.moves (paid_is look does.looks) on own unsealed now tells (stood look does.looks) trimmed
 
   all_given : AllByRecursion (λ g. CameTo then'.faults g.cause n c.phase) seat'.node.outbox.given
-  all_given = playing.all_given may floor shelf state spells lines home nodes c counts looks n from i line look seat seat' desks journal are least most at node phase unlogged ok worker since does.others does.moves (paid_is look does.looks) on own unsealed now
+  all_given = playing.all_given may floor shelf state spells lines home nodes c counts looks n from i line look seat seat' desks journal are least most at node phase unlogged ok worker since does.others does.moves (paid_is look does.looks) on own unsealed now tells (stood look does.looks) trimmed
 
   -- The line
 
@@ -141,7 +168,7 @@ module _ (may : ℕ → Entry → Type 0) (floor : List Entry → ℕ) (shelf : 
             let seen = h.2 in
             omega (arith, old, up, tail, is, seen);
         upto =
-            let below = front_low may floor shelf run.low journal shows.log (legal_wider (Within may counts) may floor shelf (λ who e a. a.0) journal now.ok.node.legal) shows.front in
+            let below = front_low may floor shelf run.low journal shows.log (legal_wider (Within may counts) may floor shelf (λ who e a. a.0) journal legal) shows.front in
             let long = shows.size in
             omega (arith, new, below, long);
         free = λ a e. absurd (none_some a (sym (fine.ended h.1.0) ∙ e));
@@ -168,10 +195,11 @@ module _ (may : ℕ → Entry → Type 0) (floor : List Entry → ℕ) (shelf : 
   looked_so (looked.Extended x) h = h
   looked_so (looked.Reported position) h = h
   looked_so looked.Left h = h
+  looked_so (looked.Trimmed trim) h = h
 
   line_played : PlayedSo lines then' c.phase seat'.node.replica.cursor n desks looks' i line.phase line.asks
   line_played = subst (PlayedSo lines then' c.phase seat'.node.replica.cursor n desks looks' i line.phase) (sym asks_is)
       (look, set_same looks i (Some look) None not_yet, λ d get. subst (λ x. LookedSo lines then' seat'.node.replica.cursor n x i line.phase session.id query look) (same_some desk d (sym desk_at ∙ get)) (looked_so look does.looks))
 
   pub line_looked : LineWent may floor shelf state spells lines home nodes c counts counts looks looks' n from (i + 1) journal seat' desks
-  line_looked = playing.line_went may floor shelf state spells lines home nodes c counts looks n from i line look seat seat' desks journal are least most at node phase unlogged ok worker since does.others does.moves (paid_is look does.looks) on own unsealed now line_played
+  line_looked = playing.line_went may floor shelf state spells lines home nodes c counts looks n from i line look seat seat' desks journal are least most at node phase unlogged ok worker since does.others does.moves (paid_is look does.looks) on own unsealed now tells (stood look does.looks) trimmed high line_played

@@ -17,7 +17,7 @@ use Rattle.run_course.specs.Desks.{DeskAt, WasEnded, PlayedSo}
 use Rattle.run_course.specs.Workers.{WorkerAt}
 use Rattle.run_course.proofs.Script.{asked-elsewhere, asked-none}
 
-module _ (may : ℕ → Entry → Type 0) (floor : List Entry → ℕ) (shelf : List ℕ) (state : List Entry → SpaceMap → Type 0) (spells : List ℕ → Saved → Type 0) (lines : List NamedLine) (home : ℕ → ℕ) (c : Course) (counts : List ℕ) (looks : List (Option Looked)) (n from : ℕ) where
+module _ (may : ℕ → Entry → Type 0) (floor : List Entry → ℕ → Type 0) (shelf : List ℕ) (state : List Entry → SpaceMap → Type 0) (spells : List ℕ → Saved → Type 0) (lines : List NamedLine) (home : ℕ → ℕ) (nodes : ℕ) (c : Course) (counts : List ℕ) (looks : List (Option Looked)) (n from : ℕ) where
   desk_at : (i j done s : ℕ) (d : Desk) → asked_by lines n s j ≡ asked_by lines n s i → DeskAt lines home c counts n from i done s d → DeskAt lines home c counts n from j done s d
   desk_at i j done s d same h = record {
     asked = h.asked ∙ sym same;
@@ -31,15 +31,17 @@ module _ (may : ℕ → Entry → Type 0) (floor : List Entry → ℕ) (shelf : 
   }
 
   pub another_line : (i done : ℕ) (line : NamedLine) (seat : SeatView) (desks : List Desk) → slice_get lines i ≡ Some line → (line.node == n) ≡ false
-      → WorkerAt may floor shelf state spells lines home c counts looks n from i done seat desks → WorkerAt may floor shelf state spells lines home c counts looks n from (i + 1) done seat desks
+      → WorkerAt may floor shelf state spells lines home nodes c counts looks n from i done seat desks → WorkerAt may floor shelf state spells lines home nodes c counts looks n from (i + 1) done seat desks
   another_line i done line seat desks at other w = record {
     ok = w.ok;
+    nodes_is = w.nodes_is;
     order = omega (arith, w.order);
     each = λ s d is. desk_at i (i + 1) done s d (asked-elsewhere lines n s i line at other) (w.each s d is);
     quiet = λ s e. w.quiet s (e ∙ asked-elsewhere lines n s i line at other);
     given = w.given;
     waiting = λ j l low is own. w.waiting j l (omega (arith, low)) is own;
     played = λ j l low is own. by j l low is own (cases_lt j i);
+    reports = w.reports;
     stores = w.stores;
   }
     where
@@ -73,9 +75,10 @@ module _ (may : ℕ → Entry → Type 0) (floor : List Entry → ℕ) (shelf : 
 
   pub phase_passed : (to : ℕ) (seat : SeatView) (desks : List Desk) → from ≤ to → BeginsAt lines from c.phase
       → ((i : ℕ) (l : NamedLine) → from ≤ i → i < to → slice_get lines i ≡ Some l → (l.node == n) ≡ false)
-      → WorkerAt may floor shelf state spells lines home c counts looks n from from c.phase seat desks → WorkerAt may floor shelf state spells lines home c counts looks n to to (c.phase + 1) seat desks
+      → WorkerAt may floor shelf state spells lines home nodes c counts looks n from from c.phase seat desks → WorkerAt may floor shelf state spells lines home nodes c counts looks n to to (c.phase + 1) seat desks
   phase_passed to seat desks le begins none w = record {
     ok = w.ok;
+    nodes_is = w.nodes_is;
     order = omega arith;
     each = λ s d is.
         let h = w.each s d is in
@@ -91,6 +94,7 @@ module _ (may : ℕ → Entry → Type 0) (floor : List Entry → ℕ) (shelf : 
     given = w.given;
     waiting = λ j l low is own. w.waiting j l (omega (arith, low, le)) is own;
     played = λ j l low is own. by j l low is own (cases_lt j from);
+    reports = w.reports;
     stores = w.stores;
   }
     where

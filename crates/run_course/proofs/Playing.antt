@@ -8,7 +8,9 @@ use Rattle.delos_types.specs.Spaces.{SpaceMap}
 use Rattle.delos_types.specs.declared.entry.Entry.{Entry}
 use Rattle.delos_types.specs.declared.cause.Cause.{Cause}
 use Rattle.legal_journal.specs.declared.events.Event.{Event}
-use Rattle.legal_journal.specs.Journal.{state_of}
+use Rattle.legal_journal.specs.Journal.{IsLegal, state_of}
+use Rattle.journal_changes.specs.Changes.{TrimsUpTo}
+use Rattle.engine_api.specs.declared.content.Content.{Content}
 use Rattle.journal_faults.specs.Faults.{faults_in}
 use Rattle.unsealed_chain.specs.Unsealed.{IsUnsealed}
 use Rattle.replica_api.specs.Replica.{Saved}
@@ -17,7 +19,7 @@ use Rattle.virtual_log.specs.declared.extend.Extension.{Extension}
 use Rattle.script_text.specs.declared.asks.NamedLine.{NamedLine}
 use Rattle.fitting_run.specs.Lines.{logs_for}
 use Rattle.fitting_run.specs.Faults.{lacks_store}
-use Rattle.fabric_core.proofs.Marks.{set_other}
+use Rattle.fabric_core.proofs.Marks.{set_other, set_same}
 use Rattle.one_thread.specs.Alone.{Since}
 use Rattle.one_thread.specs.Seats.{SeatView, node_of}
 use Rattle.node_sessions.specs.declared.desk.Desk.{Desk}
@@ -32,14 +34,19 @@ use Rattle.run_course.specs.Script.{AreLines, asked_by, failed_looks}
 use Rattle.run_course.specs.Course.{Course, CourseOk, TurnOf}
 use Rattle.run_course.specs.Desks.{DeskAt, PlayedSo}
 use Rattle.run_course.specs.Replacing.{AsksNode, Replaced, has_replaced}
+use Rattle.run_course.specs.Reporting.{StandsThere}
+use Rattle.run_course.specs.Telling.{GoesFirst, HasToldSo, IsTrim}
 use Rattle.run_course.specs.Workers.{LineWent, WorkerAt}
+use Rattle.run_course.proofs.Legal.{worker_legal}
+use Rattle.run_course.proofs.Stands.{stands_on, trim_rises}
+use Rattle.run_course.proofs.Told.{TellsOn, looks_were, no_look, same_or_other, stand_on, trim_on}
 use Rattle.run_course.proofs.Lines.{count-cons, asked_more, asked_none, phase_before}
 use Rattle.run_course.proofs.Advance.{advance, advanced, failed_of, failed_set, stores_counted, turned}
 use Rattle.run_course.proofs.Replacing.{LooksOn, later, replaced_then}
 use Rattle.run_course.proofs.Growing.{Grown, desk_same, ended_grows, grown_of, halted_grows, played_grows}
 use Rattle.run_course.proofs.Coming.{given_then}
 
-module _ (may : ℕ → Entry → Type 0) (floor : List Entry → ℕ) (shelf : List ℕ) (state : List Entry → SpaceMap → Type 0) (spells : List ℕ → Saved → Type 0) (lines : List NamedLine) (home : ℕ → ℕ) (nodes : ℕ) (c : Course) (counts : List ℕ) (looks : List (Option Looked)) (n from i : ℕ) (line : NamedLine) (look : Looked) (seat seat' : SeatView) (desks : List Desk) (journal : List Event) (are : AreLines lines home nodes) (least : 1 ≤ n) (most : n ≤ nodes) (at : slice_get lines i ≡ Some line) (node : line.node ≡ n) (phase : line.phase ≡ c.phase) (unlogged : (s : ℕ) → logs_for s line ≡ false) (ok : CourseOk may floor shelf lines nodes c counts looks) (worker : WorkerAt may floor shelf state spells lines home c counts looks n from i c.phase seat desks) (since : Since n c.journal journal) (others : List Cause) (moves : Moves (Within may counts) floor shelf (node_of seat c.journal) (node_of seat' journal) others) (paid_is : others ≡ failed_of look) (on : LooksOn (length shelf) (state_of c.journal).register (state_of journal).register look) (own : (x : Extension) → look ≡ looked.Extended x → AsksNode line.asks) (unsealed : faults_in journal ≡ [] → IsUnsealed (state_of journal) (count_by has_replaced (slice_set looks i (Some look)))) (now : WorkerOk may floor shelf state spells n counts journal seat' desks) where
+module _ (may : ℕ → Entry → Type 0) (floor : List Entry → ℕ → Type 0) (shelf : List ℕ) (state : List Entry → SpaceMap → Type 0) (spells : List ℕ → Saved → Type 0) (lines : List NamedLine) (home : ℕ → ℕ) (nodes : ℕ) (c : Course) (counts : List ℕ) (looks : List (Option Looked)) (n from i : ℕ) (line : NamedLine) (look : Looked) (seat seat' : SeatView) (desks : List Desk) (journal : List Event) (are : AreLines lines home nodes) (least : 1 ≤ n) (most : n ≤ nodes) (at : slice_get lines i ≡ Some line) (node : line.node ≡ n) (phase : line.phase ≡ c.phase) (unlogged : (s : ℕ) → logs_for s line ≡ false) (ok : CourseOk may floor shelf lines nodes c counts looks) (worker : WorkerAt may floor shelf state spells lines home nodes c counts looks n from i c.phase seat desks) (since : Since n c.journal journal) (others : List Cause) (moves : Moves (Within may counts) floor shelf (node_of seat c.journal) (node_of seat' journal) others) (paid_is : others ≡ failed_of look) (on : LooksOn (length shelf) (state_of c.journal).register (state_of journal).register look) (own : (x : Extension) → look ≡ looked.Extended x → AsksNode line.asks) (unsealed : faults_in journal ≡ [] → IsUnsealed (state_of journal) (count_by has_replaced (slice_set looks i (Some look)))) (now : WorkerOk may floor shelf state spells n counts journal seat' desks) (tells : TellsOn lines (slice_set looks i (Some look)) n seat.node.replica.cursor seat'.node.replica.cursor c.journal journal) (stood : HasToldSo journal n look) (trimmed : (trim : ℕ) → look ≡ looked.Trimmed trim → IsTrim lines (slice_set looks i (Some look)) nodes journal i line trim) where
   abbrev came : List Cause
   came = map (λ g. g.cause) moves.goes.given
 
@@ -51,6 +58,9 @@ module _ (may : ℕ → Entry → Type 0) (floor : List Entry → ℕ) (shelf : 
 
   not_yet : slice_get looks i ≡ Some None
   not_yet = worker.waiting i line (omega arith) at node
+
+  legal : IsLegal (Within may counts) floor shelf journal
+  legal = worker_legal may floor shelf state spells n counts journal seat' desks now
 
   both : (P : Cause → Bool) → count_by P came + count_by P (failed_of look) ≡ count_by P (causes_of moves.goes.given others)
   both P =
@@ -83,16 +93,49 @@ module _ (may : ℕ → Entry → Type 0) (floor : List Entry → ℕ) (shelf : 
 
   replaced : Replaced lines looks' (state_of journal).register (length shelf)
   replaced =
-      replaced_then (state_of c.journal).register (state_of journal).register (length shelf) (later (Within may counts) floor shelf c.journal journal moves.goes.spends.more moves.goes.spends.seen now.ok.node.legal)
+      replaced_then (state_of c.journal).register (state_of journal).register (length shelf) (later (Within may counts) floor shelf c.journal journal moves.goes.spends.more moves.goes.spends.seen legal)
       lines looks i line look at not_yet ok.replaced on own behind
 
+  -- What was told
+
+  stands : (x : Content) → StandsThere c.journal x → StandsThere journal x
+  stands x h = stands_on (Within may counts) floor shelf c.journal journal moves.goes.spends.more moves.goes.spends.seen legal x h
+
+  same_look : (x : Looked) (j : ℕ) → j ≡ i → slice_get looks' j ≡ Some (Some x) → look ≡ x
+  same_look x j same come = one (sym (set_same looks i (Some look) None not_yet) ∙ (ap (slice_get looks') (sym same) ∙ come))
+    where
+      one : Some (Some look) ≡ Some (Some x) → look ≡ x
+      one e = cc
+
+  stand : (j : ℕ) (l : NamedLine) (x : Looked) → slice_get lines j ≡ Some l → slice_get looks' j ≡ Some (Some x) → HasToldSo journal l.node x
+  stand j l x get come = ⊎_elim
+      (λ (same : j ≡ i). subst (λ m. HasToldSo journal m x) (sym (ap (λ (m : NamedLine). m.node) (same_at j l get same) ∙ node)) (subst (HasToldSo journal n) (same_look x j same come) stood))
+      (λ (apart : j ≢ i). stand_on c.journal journal stands l.node x (ok.stand j l x get (looks_were looks i look not_yet j x apart come)))
+      (same_or_other j i)
+
+  -- a line that goes behind this one wasn't played yet
+  none_first : (j k : ℕ) (l m : NamedLine) → slice_get lines j ≡ Some l → slice_get lines k ≡ Some m → k ≡ i → GoesFirst k m j l → slice_get looks j ≡ Some None
+  none_first j k l m get there same (inl early) = ok.ahead j l get (let e = ap (λ (x : NamedLine). x.phase) (same_at k m there same) in omega (arith, e, phase, early))
+  none_first j k l m get there same (inr low) = worker.waiting j l (omega (arith, same, low.1)) get (sym low.0 ∙ ap (λ (x : NamedLine). x.node) (same_at k m there same) ∙ node)
+
+  trims : (j : ℕ) (l : NamedLine) (trim : ℕ) → slice_get lines j ≡ Some l → slice_get looks' j ≡ Some (Some (looked.Trimmed trim)) → IsTrim lines looks' nodes journal j l trim
+  trims j l trim get come = ⊎_elim
+      (λ (same : j ≡ i). subst (λ k. IsTrim lines looks' nodes journal k l trim) (sym same) (subst (λ m. IsTrim lines looks' nodes journal i m trim) (sym (same_at j l get same)) (trimmed trim (same_look (looked.Trimmed trim) j same come))))
+      (λ (apart : j ≢ i). let was = looks_were looks i look not_yet j (looked.Trimmed trim) apart come in
+      trim_on lines looks looks' nodes c.journal journal stands (trim_rises (Within may counts) floor shelf c.journal journal moves.goes.spends.more moves.goes.spends.seen legal) j l trim (were was) (ok.trims j l trim get was))
+      (same_or_other j i)
+    where
+      were : slice_get looks j ≡ Some (Some (looked.Trimmed trim)) → (k : ℕ) (m : NamedLine) (x : Looked) → slice_get lines k ≡ Some m → slice_get looks' k ≡ Some (Some x) → GoesFirst k m j l → slice_get looks k ≡ Some (Some x)
+      were was k m x there come' first = looks_were looks i look not_yet k x (λ same. no_look (looked.Trimmed trim) (sym (none_first j k l m get there same first) ∙ was)) come'
+
   course_ok : CourseOk may floor shelf lines nodes then' counts looks'
-  course_ok = advance may floor shelf lines nodes c counts looks ok n came journal moves.goes.spends.more c.when counts looks' moves.goes.spends.seen now.ok.node.legal least most size
-      (λ P store. let e = moves.goes.spends.events P store in let a = both P in let b = paid (λ m. P) in omega (arith, e, a, b)) replaced unsealed ahead
+  course_ok = advance may floor shelf lines nodes c counts looks ok n came journal moves.goes.spends.more c.when counts looks' moves.goes.spends.seen legal least most size
+      (λ P store. let e = moves.goes.spends.events P store in let a = both P in let b = paid (λ m. P) in omega (arith, e, a, b)) replaced unsealed tells.told stand trims ahead
 
   turn : TurnOf lines home n c then' counts counts looks looks'
   turn = turned lines home n c came journal c.when counts counts looks looks' since (λ s other. refl) (λ s other. refl) (λ s. omega arith) size
       (λ j l get other. elsewhere j (λ same. not_here l.node (ap (λ (x : NamedLine). x.node) (same_at j l get same) ∙ node) other))
+      tells.others
       (λ by none. let e = paid by in let z = none_counted by none (failed_of look) in omega arith)
     where
       none_counted : (by : ℕ → Cause → Bool) → ((k : Cause) → by n k ≡ false) → (ks : List Cause) → count_by (by n) ks ≡ 0
@@ -125,7 +168,7 @@ module _ (may : ℕ → Entry → Type 0) (floor : List Entry → ℕ) (shelf : 
   all_given = given_then may floor shelf c n came journal c.when seat.node.outbox.given moves.goes.given seat'.node.outbox.given grown moves.goes.gained
       (λ g m. among-map (λ (x : Given). x.cause) moves.goes.given g m) worker.given
 
-  module _ (line_played : PlayedSo lines then' c.phase seat'.node.replica.cursor n desks looks' i line.phase line.asks) where
+  module _ (high : TrimsUpTo seat'.node.replica.cursor journal) (line_played : PlayedSo lines then' c.phase seat'.node.replica.cursor n desks looks' i line.phase line.asks) where
     played : (j : ℕ) (l : NamedLine) → j < i + 1 → slice_get lines j ≡ Some l → l.node ≡ n → PlayedSo lines then' c.phase seat'.node.replica.cursor n desks looks' j l.phase l.asks
     played j l low get there = ⊎_elim
         (λ (before : j < i).
@@ -140,15 +183,17 @@ module _ (may : ℕ → Entry → Type 0) (floor : List Entry → ℕ) (shelf : 
         (subst (λ (x : NamedLine). PlayedSo lines then' c.phase seat'.node.replica.cursor n desks looks' i x.phase x.asks) is line_played))
         (cases_lt j i)
 
-    worker_then : WorkerAt may floor shelf state spells lines home then' counts looks' n from (i + 1) c.phase seat' desks
+    worker_then : WorkerAt may floor shelf state spells lines home nodes then' counts looks' n from (i + 1) c.phase seat' desks
     worker_then = record {
       ok = now;
+      nodes_is = moves.goes.keeps.nodes ∙ worker.nodes_is;
       order = omega (arith, worker.order);
       each = each;
       quiet = λ s same. moves.quiet s (worker.quiet s (same ∙ none_more s));
       given = all_given;
       waiting = λ j l high get there. elsewhere j (λ same. absurd (omega (arith, high, same))) ∙ worker.waiting j l (omega (arith, high)) get there;
       played = played;
+      reports = tells.own worker.reports;
       stores = stores_counted lines n c.phase c.faults looks looks' came (failed_of look) (causes_of moves.goes.given others) seat.node.replica.faults seat'.node.replica.faults both (paid (lacks_store n)) moves.goes.spends.disk worker.stores;
     }
 
@@ -159,4 +204,5 @@ module _ (may : ℕ → Entry → Type 0) (floor : List Entry → ℕ) (shelf : 
       ok = course_ok;
       turn = turn;
       worker = worker_then;
+      high = high;
     }

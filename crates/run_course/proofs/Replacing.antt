@@ -27,7 +27,7 @@ pub record IsLater (old new : RegisterState) (cells : ℕ) : Type 0 where
   pub started : (pos : ℕ) → HasStarted old.chain pos → HasStarted new.chain pos
   pub within : last_id new.chain + 1 ≤ cells
 
-pub later : (may : ℕ → Entry → Type 0) (floor : List Entry → ℕ) (shelf : List ℕ) (old new more : List Event) → new ≡ old ++ more → IsLegal may floor shelf new → IsLater (state_of old).register (state_of new).register (length shelf)
+pub later : (may : ℕ → Entry → Type 0) (floor : List Entry → ℕ → Type 0) (shelf : List ℕ) (old new more : List Event) → new ≡ old ++ more → IsLegal may floor shelf new → IsLater (state_of old).register (state_of new).register (length shelf)
 later may floor shelf old new more seen legal =
     subst (λ l. IsLater (state_of old).register (state_of l).register (length shelf)) (sym seen) (on (subst (IsLegal may floor shelf) seen legal))
   where
@@ -144,6 +144,7 @@ module _ (old new : RegisterState) (cells : ℕ) (on : IsLater old new cells) wh
   one_more (looked.Extended NoSpare) so = omega (arith, on.last)
   one_more (looked.Reported position) so = omega (arith, on.last)
   one_more looked.Left so = omega (arith, on.last)
+  one_more (looked.Trimmed trim) so = omega (arith, on.last)
 
   module _ (lines : List NamedLine) (looks : List (Option Looked)) (i : ℕ) (line : NamedLine) (look : Looked) (at : slice_get lines i ≡ Some line) (not_yet : slice_get looks i ≡ Some None) (r : Replaced lines looks old cells) (so : LooksOn cells old new look) (own : (x : Extension) → look ≡ looked.Extended x → AsksNode line.asks)
       (behind : (j : ℕ) (m : NamedLine) → slice_get lines j ≡ Some m → i < j → (line.phase < m.phase) ⊎ (line.node ≡ m.node) → slice_get looks j ≡ Some None) where

@@ -7,6 +7,7 @@ use Rattle.delos_types.specs.declared.entry.Entry.{Entry}
 use Rattle.legal_journal.specs.declared.events.Event.{Event}
 use Rattle.legal_journal.specs.Journal.{IsLegal, state_of}
 use Rattle.legal_journal.specs.Sealing.{Unsealed}
+use Rattle.journal_changes.specs.Changes.{TrimsUpTo}
 use Rattle.journal_faults.specs.Faults.{faults_in}
 use Rattle.unsealed_chain.specs.Unsealed.{IsUnsealed}
 use Rattle.virtual_log.specs.Holding.{Holds}
@@ -29,14 +30,17 @@ use Rattle.node_sessions.specs.declared.desk.Desk.{Desk}
 use Rattle.node_lines.specs.declared.lines.Looked.{Looked}
 use Rattle.node_lines.specs.declared.lines.Looked.TheVariants as looked
 use Rattle.node_lines.specs.Moving.{Moves}
-use Rattle.node_workers.specs.Workers.{MayRun, Within, WorkerOk}
+use Rattle.node_workers.specs.Workers.{Within, WorkerOk}
 use Rattle.run_course.specs.Script.{AreLines}
 use Rattle.run_course.specs.Course.{Course, CourseOk}
 use Rattle.run_course.specs.Desks.{IsOfNode, PlayedSo}
 use Rattle.run_course.specs.Leaving.{LeftSo}
 use Rattle.run_course.specs.Replacing.{AsksNode, has_replaced}
 use Rattle.run_course.specs.Reporting.{ReportedSo, StandsThere}
+use Rattle.run_course.specs.Telling.{HasToldSo, IsTrim}
 use Rattle.run_course.specs.Workers.{LineWent, WorkerAt}
+use Rattle.run_course.proofs.Legal.{worker_legal}
+use Rattle.run_course.proofs.Told.{TellsOn}
 use Rattle.run_course.proofs.Advance.{advanced, failed_of}
 use Rattle.run_course.proofs.Replacing.{LooksOn}
 use Rattle.run_course.proofs.Unsealing.{count_same, still_unsealed}
@@ -44,7 +48,7 @@ use Rattle.run_course.proofs.Playing.{line_went}
 
 -- The entry
 
-module _ (may : ℕ → Entry → Type 0) (floor : List Entry → ℕ) (shelf : List ℕ) (who : ℕ) (early seen : List Event) (e : Entry) (legal : IsLegal may floor shelf seen) (landed : IsAppended Holds who early e seen) where
+module _ (may : ℕ → Entry → Type 0) (floor : List Entry → ℕ → Type 0) (shelf : List ℕ) (who : ℕ) (early seen : List Event) (e : Entry) (legal : IsLegal may floor shelf seen) (landed : IsAppended Holds who early e seen) where
   pub held_now : (front : List Event) → On front seen → (pos : ℕ) (x : Entry) → Holds front pos x → Holds seen pos x
   held_now front on pos x h = subst (λ l. Holds l pos x) (sym on.1) (held_stays may floor shelf front on.0 pos x (subst (IsLegal may floor shelf) on.1 legal) h)
 
@@ -78,8 +82,9 @@ none_replaced (looked.Failed k) none = refl
 none_replaced (looked.Extended e) none = absurd (none e refl)
 none_replaced (looked.Reported position) none = refl
 none_replaced looked.Left none = refl
+none_replaced (looked.Trimmed trim) none = refl
 
-module _ (may : ℕ → Entry → Type 0) (floor : List Entry → ℕ) (shelf : List ℕ) (state : List Entry → SpaceMap → Type 0) (spells : List ℕ → Saved → Type 0) (run : MayRun may floor shelf) (lines : List NamedLine) (home : ℕ → ℕ) (nodes : ℕ) (c : Course) (counts : List ℕ) (looks : List (Option Looked)) (n from i : ℕ) (line : NamedLine) (admin : Admin) (look : Looked) (seat seat' : SeatView) (desks : List Desk) (journal : List Event) (are : AreLines lines home nodes) (least : 1 ≤ n) (most : n ≤ nodes) (at : slice_get lines i ≡ Some line) (node : line.node ≡ n) (phase : line.phase ≡ c.phase) (asks_is : line.asks ≡ asks.Admin admin) (ok : CourseOk may floor shelf lines nodes c counts looks) (worker : WorkerAt may floor shelf state spells lines home c counts looks n from i c.phase seat desks) (since : Since n c.journal journal) (still : Unsealed c.journal journal) (others : List Cause) (moves : Moves (Within may counts) floor shelf (node_of seat c.journal) (node_of seat' journal) others) (now : WorkerOk may floor shelf state spells n counts journal seat' desks) where
+module _ (may : ℕ → Entry → Type 0) (floor : List Entry → ℕ → Type 0) (shelf : List ℕ) (state : List Entry → SpaceMap → Type 0) (spells : List ℕ → Saved → Type 0) (lines : List NamedLine) (home : ℕ → ℕ) (nodes : ℕ) (c : Course) (counts : List ℕ) (looks : List (Option Looked)) (n from i : ℕ) (line : NamedLine) (admin : Admin) (look : Looked) (seat seat' : SeatView) (desks : List Desk) (journal : List Event) (are : AreLines lines home nodes) (least : 1 ≤ n) (most : n ≤ nodes) (at : slice_get lines i ≡ Some line) (node : line.node ≡ n) (phase : line.phase ≡ c.phase) (asks_is : line.asks ≡ asks.Admin admin) (ok : CourseOk may floor shelf lines nodes c counts looks) (worker : WorkerAt may floor shelf state spells lines home nodes c counts looks n from i c.phase seat desks) (since : Since n c.journal journal) (still : Unsealed c.journal journal) (others : List Cause) (moves : Moves (Within may counts) floor shelf (node_of seat c.journal) (node_of seat' journal) others) (now : WorkerOk may floor shelf state spells n counts journal seat' desks) where
   abbrev then' : Course
   then' = advanced c n (map (λ g. g.cause) moves.goes.given) journal c.when
 
@@ -90,7 +95,7 @@ module _ (may : ℕ → Entry → Type 0) (floor : List Entry → ℕ) (shelf : 
   not_yet = worker.waiting i line (omega arith) at node
 
   -- what it came to is known, and it replaced nothing
-  module _ (none : (x : Extension) → look ≡ looked.Extended x → ⊥) (paid_is : others ≡ failed_of look) (of_node : IsOfNode admin look) (reported : ReportedSo journal (then'.tails line.phase) seat'.node.replica.cursor n look) (left : LeftSo journal seat'.node.replica.cursor n look) where
+  module _ (none : (x : Extension) → look ≡ looked.Extended x → ⊥) (paid_is : others ≡ failed_of look) (of_node : IsOfNode admin look) (reported : ReportedSo journal (then'.tails line.phase) seat'.node.replica.cursor n look) (left : LeftSo journal seat'.node.replica.cursor n look) (tells : TellsOn lines (slice_set looks i (Some look)) n seat.node.replica.cursor seat'.node.replica.cursor c.journal journal) (stood : HasToldSo journal n look) (trimmed : (trim : ℕ) → look ≡ looked.Trimmed trim → IsTrim lines (slice_set looks i (Some look)) nodes journal i line trim) (high : TrimsUpTo seat'.node.replica.cursor journal) where
     on : LooksOn (length shelf) (state_of c.journal).register (state_of journal).register look
     on x is = absurd (none x is)
 
@@ -100,7 +105,7 @@ module _ (may : ℕ → Entry → Type 0) (floor : List Entry → ℕ) (shelf : 
     unsealed : faults_in journal ≡ [] → IsUnsealed (state_of journal) (count_by has_replaced (slice_set looks i (Some look)))
     unsealed calm =
         subst (IsUnsealed (state_of journal)) (sym (count_same looks i look not_yet (none_replaced look none)))
-        (still_unsealed may floor shelf run counts c.journal journal (count_by has_replaced looks) now.ok.node.legal still ok.unsealed calm)
+        (still_unsealed may floor shelf counts c.journal journal (count_by has_replaced looks) (worker_legal may floor shelf state spells n counts journal seat' desks now) still ok.unsealed calm)
 
     line_played : PlayedSo lines then' c.phase seat'.node.replica.cursor n desks (slice_set looks i (Some look)) i line.phase line.asks
     line_played = subst (PlayedSo lines then' c.phase seat'.node.replica.cursor n desks (slice_set looks i (Some look)) i line.phase) (sym asks_is)
@@ -109,4 +114,4 @@ module _ (may : ℕ → Entry → Type 0) (floor : List Entry → ℕ) (shelf : 
     pub line_told : LineWent may floor shelf state spells lines home nodes c counts counts looks (slice_set looks i (Some look)) n from (i + 1) journal seat' desks
     line_told =
         line_went may floor shelf state spells lines home nodes c counts looks n from i line look seat seat' desks journal are least most at node phase unlogged ok worker since others moves paid_is on own unsealed now
-        line_played
+        tells stood trimmed high line_played

@@ -56,7 +56,7 @@ none_of_other n m (f ∷ fs) e here =
     let rest = none_of_other n m fs e here.1 in
     omega (arith, a, b, rest)
 
-module _ (may : ℕ → Entry → Type 0) (floor : List Entry → ℕ) (shelf : List ℕ) (state : List Entry → SpaceMap → Type 0) (spells : List ℕ → Saved → Type 0) (lines : List NamedLine) (home : ℕ → ℕ) (nodes : ℕ) (c c' : Course) (counts counts' : List ℕ) (looks looks' : List (Option Looked)) (n m from done : ℕ) (seat : SeatView) (desks : List Desk) (are : AreLines lines home nodes) (apart : (n == m) ≡ false) (begins : BeginsAt lines from done) (low : done ≤ c.phase + 1) (ok : CourseOk may floor shelf lines nodes c counts looks) (turn : TurnOf lines home n c c' counts counts' looks looks') (ok' : CourseOk may floor shelf lines nodes c' counts' looks') (r : Rests may floor shelf state spells lines home c counts looks m from done seat desks) where
+module _ (may : ℕ → Entry → Type 0) (floor : List Entry → ℕ → Type 0) (shelf : List ℕ) (state : List Entry → SpaceMap → Type 0) (spells : List ℕ → Saved → Type 0) (lines : List NamedLine) (home : ℕ → ℕ) (nodes : ℕ) (c c' : Course) (counts counts' : List ℕ) (looks looks' : List (Option Looked)) (n m from done : ℕ) (seat : SeatView) (desks : List Desk) (are : AreLines lines home nodes) (apart : (n == m) ≡ false) (begins : BeginsAt lines from done) (low : done ≤ c.phase + 1) (ok : CourseOk may floor shelf lines nodes c counts looks) (turn : TurnOf lines home n c c' counts counts' looks looks') (ok' : CourseOk may floor shelf lines nodes c' counts' looks') (r : Rests may floor shelf state spells lines home nodes c counts looks m from done seat desks) where
   other : (k : ℕ) → k ≡ m → (k == n) ≡ false
   other k e = grind (arith, nat_tests, e, apart)
 
@@ -107,16 +107,18 @@ module _ (may : ℕ → Entry → Type 0) (floor : List Entry → ℕ) (shelf : 
       let was = r.worker.stores in
       omega (arith, a, b, d, was)
 
-  pub rests_on : Rests may floor shelf state spells lines home c' counts' looks' m from done seat desks
+  pub rests_on : Rests may floor shelf state spells lines home nodes c' counts' looks' m from done seat desks
   rests_on = record {
     worker = record {
       ok = worker_ok;
+      nodes_is = r.worker.nodes_is;
       order = r.worker.order;
       each = each;
       quiet = λ s same. quiet s (r.worker.quiet s same);
       given = subst (AllByRecursion (λ (g : Given). CameTo c'.faults g.cause m c'.phase)) (sym r.none_given) tt;
       waiting = λ i l high at own. turn.looks_are i l at (other l.node own) ∙ r.worker.waiting i l high at own;
       played = played;
+      reports = turn.reports m seat.node.replica.cursor (grind (arith, nat_tests, apart)) r.worker.reports;
       stores = stores;
     };
     none_given = r.none_given;

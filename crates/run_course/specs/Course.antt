@@ -10,11 +10,13 @@ use Rattle.journal_faults.specs.Faults.{faults_in}
 use Rattle.unsealed_chain.specs.Unsealed.{IsUnsealed}
 use Rattle.script_text.specs.declared.asks.NamedLine.{NamedLine}
 use Rattle.node_lines.specs.declared.lines.Looked.{Looked}
+use Rattle.node_lines.specs.declared.lines.Looked.TheVariants as looked
 use Rattle.one_thread.specs.Alone.{AreOwn}
 use Rattle.node_workers.specs.Workers.{Within, sent_of}
 use Rattle.run_laws.specs.Ended.{Fault}
 use Rattle.run_course.specs.Script.{asked_before, failed_looks}
 use Rattle.run_course.specs.Replacing.{Replaced, has_replaced}
+use Rattle.run_course.specs.Telling.{AreTold, HasToldSo, IsTrim, ReportsUpTo}
 
 -- All events so far; the present phase; the tails at which phases began, of those to come the present tail; the faults that came,
 -- but for those of reads' own looks; and the phases in which sessions were stopped, of those that were.
@@ -26,7 +28,7 @@ pub record Course : Type 0 where
   pub when : ℕ → ℕ
 
 -- A phase began at this tail. No command was sent then that isn't of an earlier phase.
-pub record BeganAt (may : ℕ → Entry → Type 0) (floor : List Entry → ℕ) (shelf : List ℕ) (lines : List NamedLine) (journal : List Event) (tail phase : ℕ) : Type 0 where
+pub record BeganAt (may : ℕ → Entry → Type 0) (floor : List Entry → ℕ → Type 0) (shelf : List ℕ) (lines : List NamedLine) (journal : List Event) (tail phase : ℕ) : Type 0 where
   pub early : List Event
   pub more : List Event
   pub seen : journal ≡ early ++ more
@@ -35,9 +37,10 @@ pub record BeganAt (may : ℕ → Entry → Type 0) (floor : List Entry → ℕ)
   pub legal : IsLegal (Within may counts) floor shelf early
   pub sent : (s : ℕ) → sent_of counts s ≤ asked_before lines s phase
 
--- Of the whole run: how each phase began, each fault that came had an event of its own, and what lines did to the chain. `counts`
--- are the commands that were sent, by sessions; `looks` what each line's own look came to, if it was played.
-pub record CourseOk (may : ℕ → Entry → Type 0) (floor : List Entry → ℕ) (shelf : List ℕ) (lines : List NamedLine) (nodes : ℕ) (c : Course) (counts : List ℕ) (looks : List (Option Looked)) : Type 0 where
+-- Of the whole run: how each phase began, each fault that came had an event of its own, what lines did to the chain, and what
+-- nodes told of themselves. `counts` are the commands that were sent, by sessions; `looks` what each line's own look came to, if it
+-- was played.
+pub record CourseOk (may : ℕ → Entry → Type 0) (floor : List Entry → ℕ → Type 0) (shelf : List ℕ) (lines : List NamedLine) (nodes : ℕ) (c : Course) (counts : List ℕ) (looks : List (Option Looked)) : Type 0 where
   pub legal : IsLegal (Within may counts) floor shelf c.journal
   pub began : (p : ℕ) → p ≤ c.phase → BeganAt may floor shelf lines c.journal (c.tails p) p
   pub after : (p : ℕ) → c.phase < p → c.tails p ≡ tail_of (state_of c.journal)
@@ -48,6 +51,10 @@ pub record CourseOk (may : ℕ → Entry → Type 0) (floor : List Entry → ℕ
   pub replaced : Replaced lines looks (state_of c.journal).register (length shelf)
   -- where no fault came, the chain has one loglet more than lines replaced one, and the last isn't sealed
   pub unsealed : faults_in c.journal ≡ [] → IsUnsealed (state_of c.journal) (count_by has_replaced looks)
+  -- what was told of nodes lines had them tell, and what those lines came to stands in the log
+  pub told : AreTold lines looks c.journal
+  pub stand : (i : ℕ) (l : NamedLine) (look : Looked) → slice_get lines i ≡ Some l → slice_get looks i ≡ Some (Some look) → HasToldSo c.journal l.node look
+  pub trims : (j : ℕ) (l : NamedLine) (trim : ℕ) → slice_get lines j ≡ Some l → slice_get looks j ≡ Some (Some (looked.Trimmed trim)) → IsTrim lines looks nodes c.journal j l trim
   -- no line of a phase to come was played
   pub ahead : (i : ℕ) (l : NamedLine) → slice_get lines i ≡ Some l → c.phase < l.phase → slice_get looks i ≡ Some None
 
@@ -67,4 +74,6 @@ pub record TurnOf (lines : List NamedLine) (home : ℕ → ℕ) (n : ℕ) (c c' 
   pub no_fewer : (s : ℕ) → sent_of counts s ≤ sent_of counts' s
   pub size : length looks' ≡ length looks
   pub looks_are : (i : ℕ) (l : NamedLine) → slice_get lines i ≡ Some l → (l.node == n) ≡ false → slice_get looks' i ≡ slice_get looks i
+  -- no other node's report was appended
+  pub reports : (m cursor : ℕ) → (m == n) ≡ false → ReportsUpTo m cursor c.journal → ReportsUpTo m cursor c'.journal
   pub paid : (by : ℕ → Cause → Bool) → ((cause : Cause) → by n cause ≡ false) → failed_looks by lines looks' ≡ failed_looks by lines looks

@@ -13,7 +13,7 @@ use Rattle.engine_api.specs.Order.{gap_from}
 use Rattle.engine_laws.specs.State.{acts_in}
 use Rattle.base_engine.specs.Reading.{IsFront}
 use Rattle.script_text.specs.declared.line.Admin.{Admin}
-use Rattle.script_text.specs.declared.line.Admin.TheVariants.{Extend, Alive, Retire}
+use Rattle.script_text.specs.declared.line.Admin.TheVariants.{Extend, Alive, Retire, Trim}
 use Rattle.script_text.specs.declared.asks.NamedLine.{NamedLine}
 use Rattle.script_text.specs.declared.asks.Asks.{Asks}
 use Rattle.script_text.specs.declared.asks.Asks.TheVariants as asks
@@ -79,8 +79,10 @@ LookedSo lines c cursor n d i phase s query (looked.Failed cause) = Unit {0}
 LookedSo lines c cursor n d i phase s query (looked.Extended extension) = ⊥
 LookedSo lines c cursor n d i phase s query (looked.Reported position) = ⊥
 LookedSo lines c cursor n d i phase s query looked.Left = ⊥
+LookedSo lines c cursor n d i phase s query (looked.Trimmed trim) = ⊥
 
--- the last loglet was replaced, or couldn't be, or the node reported, or left, as it was asked; or the log failed, or the disk
+-- the last loglet was replaced, or couldn't be, or the node reported, or left, or trimmed the log, as it was asked; or the log
+-- failed, or the disk
 abbrev pub IsOfNode : Admin → Looked → Type 0
 IsOfNode Extend (looked.Extended extension) = Unit {0}
 IsOfNode Extend (looked.Failed cause) = Unit {0}
@@ -88,6 +90,8 @@ IsOfNode Alive (looked.Reported position) = Unit {0}
 IsOfNode Alive (looked.Failed cause) = Unit {0}
 IsOfNode Retire looked.Left = Unit {0}
 IsOfNode Retire (looked.Failed cause) = Unit {0}
+IsOfNode Trim (looked.Trimmed trim) = Unit {0}
+IsOfNode Trim (looked.Failed cause) = Unit {0}
 IsOfNode admin look = ⊥
 
 -- line i was played, at the desk of its session, or at the node itself

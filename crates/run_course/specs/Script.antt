@@ -3,7 +3,7 @@ use Rattle.std.specs.Prelude.{◌≡◌, ℕ, ◌+◌, ◌<◌, ◌≤◌, slice
 use Rattle.std.specs.List.{AllByRecursion}
 use Rattle.delos_types.specs.declared.cause.Cause.{Cause}
 use Rattle.script_text.specs.declared.asks.NamedLine.{NamedLine}
-use Rattle.fitting_run.specs.Lines.{logs_for, are_ranked, are_in_phase}
+use Rattle.fitting_run.specs.Lines.{logs_for, are_ranked, are_in_phase, are_not_retired}
 use Rattle.node_lines.specs.declared.lines.Looked.{Looked}
 use Rattle.node_lines.specs.declared.lines.Looked.TheVariants as looked
 use Rattle.run_laws.specs.Ended.{session_in, pays, IsAtHome}
@@ -14,6 +14,8 @@ pub record AreLines (lines : List NamedLine) (home : ℕ → ℕ) (nodes : ℕ) 
   pub few : length lines ≤ 20000
   pub ranked : are_ranked [] lines ≡ true
   pub phases : are_in_phase 0 lines ≡ true
+  -- a node that is asked to leave has no line behind that
+  pub stay : are_not_retired lines ≡ true
   pub nodes_are : AllByRecursion (λ l. (1 ≤ l.node) × (l.node ≤ nodes)) lines
   pub at_home : AllByRecursion (λ l. IsAtHome home l.node l.asks) lines
   pub there : (s : ℕ) → 1 ≤ home s
@@ -46,6 +48,7 @@ failure_of_look (Some (looked.Kept cause)) = None
 failure_of_look (Some (looked.Extended extension)) = None
 failure_of_look (Some (looked.Reported position)) = None
 failure_of_look (Some looked.Left) = None
+failure_of_look (Some (looked.Trimmed trim)) = None
 failure_of_look (Some (looked.Failed cause)) = Some cause
 
 -- how many lines failed so by such causes

@@ -5,8 +5,8 @@ use Rattle.delos_types.specs.Spaces.{SpaceMap}
 use Rattle.delos_types.specs.declared.entry.Entry.{Entry}
 use Rattle.replica_api.specs.Replica.{Saved}
 use Rattle.table_core.specs.Spelling.{IsSpellable, command_length}
-use Rattle.engine_api.specs.Packing.{packed, session_item, alive_item, leave_item}
-use Rattle.script_text.specs.declared.line.Admin.TheVariants.{Extend, Alive, Retire}
+use Rattle.engine_api.specs.Packing.{packed, session_item, alive_item, leave_item, trim_item}
+use Rattle.script_text.specs.declared.line.Admin.TheVariants.{Extend, Alive, Retire, Trim}
 use Rattle.script_text.specs.declared.asks.NamedLine.{NamedLine}
 use Rattle.script_text.specs.declared.asks.Asks.{Asks}
 use Rattle.script_text.specs.declared.asks.Asks.TheVariants as asks
@@ -14,18 +14,22 @@ use Rattle.fitting_run.specs.Faults.{lacks_store}
 use Rattle.one_thread.specs.Seats.{SeatView, node_of}
 use Rattle.node_sessions.specs.declared.desk.Desk.{Desk}
 use Rattle.node_lines.specs.declared.lines.Looked.{Looked}
+use Rattle.node_lines.specs.Measuring.{AreClean}
 use Rattle.node_lines.specs.Moving.{IsQuiet}
-use Rattle.node_workers.specs.Workers.{WorkerOk, sent_of}
+use Rattle.node_workers.specs.Workers.{HasNotLeft, WorkerOk, sent_of}
 use Rattle.run_laws.specs.Ended.{CameTo, most_faults}
 use Rattle.run_course.specs.Script.{AreLines, BeginsAt, asked_by, failed_looks}
 use Rattle.legal_journal.specs.declared.events.Event.{Event}
+use Rattle.journal_changes.specs.Changes.{TrimsUpTo}
+use Rattle.run_course.specs.Telling.{ReportsUpTo}
 use Rattle.run_course.specs.Course.{Course, CourseOk, TurnOf}
 use Rattle.run_course.specs.Desks.{DeskAt, PlayedSo}
 
 -- Of node n: its lines up to `at` were played, of which those of the present phase begin at `from`. The phases below `done` have
 -- ended there.
-pub record WorkerAt (may : ℕ → Entry → Type 0) (floor : List Entry → ℕ) (shelf : List ℕ) (state : List Entry → SpaceMap → Type 0) (spells : List ℕ → Saved → Type 0) (lines : List NamedLine) (home : ℕ → ℕ) (c : Course) (counts : List ℕ) (looks : List (Option Looked)) (n from at done : ℕ) (seat : SeatView) (desks : List Desk) : Type 0 where
+pub record WorkerAt (may : ℕ → Entry → Type 0) (floor : List Entry → ℕ → Type 0) (shelf : List ℕ) (state : List Entry → SpaceMap → Type 0) (spells : List ℕ → Saved → Type 0) (lines : List NamedLine) (home : ℕ → ℕ) (nodes : ℕ) (c : Course) (counts : List ℕ) (looks : List (Option Looked)) (n from at done : ℕ) (seat : SeatView) (desks : List Desk) : Type 0 where
   pub ok : WorkerOk may floor shelf state spells n counts c.journal seat desks
+  pub nodes_is : seat.node.nodes ≡ nodes
   pub order : from ≤ at
   pub each : (s : ℕ) (d : Desk) → slice_get desks s ≡ Some d → DeskAt lines home c counts n from at done s d
   -- of a session that asked nothing in this phase nothing is on its way
@@ -33,55 +37,69 @@ pub record WorkerAt (may : ℕ → Entry → Type 0) (floor : List Entry → ℕ
   pub given : AllByRecursion (λ g. CameTo c.faults g.cause n c.phase) seat.node.outbox.given
   pub waiting : (i : ℕ) (l : NamedLine) → at ≤ i → slice_get lines i ≡ Some l → l.node ≡ n → slice_get looks i ≡ Some None
   pub played : (i : ℕ) (l : NamedLine) → i < at → slice_get lines i ≡ Some l → l.node ≡ n → PlayedSo lines c done seat.node.replica.cursor n desks looks i l.phase l.asks
+  -- it reported no more than it has applied
+  pub reports : ReportsUpTo n seat.node.replica.cursor c.journal
   -- each fault of its store was counted
   pub stores : min (failed_looks (lacks_store n) lines looks + count_by (λ f. lacks_store n f.node f.cause) c.faults) most_faults ≤ min seat.node.replica.faults most_faults
 
 -- It waits between two phases, the lines of the next one beginning at `from`.
-pub record Rests (may : ℕ → Entry → Type 0) (floor : List Entry → ℕ) (shelf : List ℕ) (state : List Entry → SpaceMap → Type 0) (spells : List ℕ → Saved → Type 0) (lines : List NamedLine) (home : ℕ → ℕ) (c : Course) (counts : List ℕ) (looks : List (Option Looked)) (n from done : ℕ) (seat : SeatView) (desks : List Desk) : Type 0 where
-  pub worker : WorkerAt may floor shelf state spells lines home c counts looks n from from done seat desks
+pub record Rests (may : ℕ → Entry → Type 0) (floor : List Entry → ℕ → Type 0) (shelf : List ℕ) (state : List Entry → SpaceMap → Type 0) (spells : List ℕ → Saved → Type 0) (lines : List NamedLine) (home : ℕ → ℕ) (nodes : ℕ) (c : Course) (counts : List ℕ) (looks : List (Option Looked)) (n from done : ℕ) (seat : SeatView) (desks : List Desk) : Type 0 where
+  pub worker : WorkerAt may floor shelf state spells lines home nodes c counts looks n from from done seat desks
   pub none_given : seat.node.outbox.given ≡ []
 
 -- The run went on by a line, at a node whose turn it is.
-pub record LineWent (may : ℕ → Entry → Type 0) (floor : List Entry → ℕ) (shelf : List ℕ) (state : List Entry → SpaceMap → Type 0) (spells : List ℕ → Saved → Type 0) (lines : List NamedLine) (home : ℕ → ℕ) (nodes : ℕ) (c : Course) (counts counts' : List ℕ) (looks looks' : List (Option Looked)) (n from at : ℕ) (journal : List Event) (seat : SeatView) (desks : List Desk) : Type 0 where
+pub record LineWent (may : ℕ → Entry → Type 0) (floor : List Entry → ℕ → Type 0) (shelf : List ℕ) (state : List Entry → SpaceMap → Type 0) (spells : List ℕ → Saved → Type 0) (lines : List NamedLine) (home : ℕ → ℕ) (nodes : ℕ) (c : Course) (counts counts' : List ℕ) (looks looks' : List (Option Looked)) (n from at : ℕ) (journal : List Event) (seat : SeatView) (desks : List Desk) : Type 0 where
   pub course : Course
   pub journal_is : course.journal ≡ journal
   pub ok : CourseOk may floor shelf lines nodes course counts' looks'
   pub turn : TurnOf lines home n c course counts counts' looks looks'
-  pub worker : WorkerAt may floor shelf state spells lines home course counts' looks' n from at course.phase seat desks
+  pub worker : WorkerAt may floor shelf state spells lines home nodes course counts' looks' n from at course.phase seat desks
+  -- the log isn't trimmed above what it has applied
+  pub high : TrimsUpTo seat.node.replica.cursor journal
 
 -- The run went on by the end of the phase at a node.
-pub record TurnEnded (may : ℕ → Entry → Type 0) (floor : List Entry → ℕ) (shelf : List ℕ) (state : List Entry → SpaceMap → Type 0) (spells : List ℕ → Saved → Type 0) (lines : List NamedLine) (home : ℕ → ℕ) (nodes : ℕ) (c : Course) (counts : List ℕ) (looks : List (Option Looked)) (n to : ℕ) (journal : List Event) (seat : SeatView) (desks : List Desk) : Type 0 where
+pub record TurnEnded (may : ℕ → Entry → Type 0) (floor : List Entry → ℕ → Type 0) (shelf : List ℕ) (state : List Entry → SpaceMap → Type 0) (spells : List ℕ → Saved → Type 0) (lines : List NamedLine) (home : ℕ → ℕ) (nodes : ℕ) (c : Course) (counts : List ℕ) (looks : List (Option Looked)) (n to : ℕ) (journal : List Event) (seat : SeatView) (desks : List Desk) : Type 0 where
   pub course : Course
   pub journal_is : course.journal ≡ journal
   pub ok : CourseOk may floor shelf lines nodes course counts looks
   pub turn : TurnOf lines home n c course counts counts looks looks
-  pub rests : Rests may floor shelf state spells lines home course counts looks n to (course.phase + 1) seat desks
+  pub rests : Rests may floor shelf state spells lines home nodes course counts looks n to (course.phase + 1) seat desks
 
 -- The run went on by a node's last calls; it rests as before.
-pub record NodeFinished (may : ℕ → Entry → Type 0) (floor : List Entry → ℕ) (shelf : List ℕ) (state : List Entry → SpaceMap → Type 0) (spells : List ℕ → Saved → Type 0) (lines : List NamedLine) (home : ℕ → ℕ) (nodes : ℕ) (c : Course) (counts : List ℕ) (looks : List (Option Looked)) (n from done : ℕ) (journal : List Event) (seat : SeatView) (desks : List Desk) : Type 0 where
+pub record NodeFinished (may : ℕ → Entry → Type 0) (floor : List Entry → ℕ → Type 0) (shelf : List ℕ) (state : List Entry → SpaceMap → Type 0) (spells : List ℕ → Saved → Type 0) (lines : List NamedLine) (home : ℕ → ℕ) (nodes : ℕ) (c : Course) (counts : List ℕ) (looks : List (Option Looked)) (n from done : ℕ) (journal : List Event) (seat : SeatView) (desks : List Desk) : Type 0 where
   pub course : Course
   pub journal_is : course.journal ≡ journal
   pub ok : CourseOk may floor shelf lines nodes course counts looks
   pub turn : TurnOf lines home n c course counts counts looks looks
-  pub rests : Rests may floor shelf state spells lines home course counts looks n from done seat desks
+  pub rests : Rests may floor shelf state spells lines home nodes course counts looks n from done seat desks
 
 -- It is the turn of node n, whose lines up to `at` were played.
-pub record IsUnderWay (may : ℕ → Entry → Type 0) (floor : List Entry → ℕ) (shelf : List ℕ) (state : List Entry → SpaceMap → Type 0) (spells : List ℕ → Saved → Type 0) (lines : List NamedLine) (home : ℕ → ℕ) (nodes : ℕ) (c : Course) (counts : List ℕ) (looks : List (Option Looked)) (n from at : ℕ) (journal : List Event) (seat : SeatView) (desks : List Desk) : Type 0 where
+pub record IsUnderWay (may : ℕ → Entry → Type 0) (floor : List Entry → ℕ → Type 0) (shelf : List ℕ) (state : List Entry → SpaceMap → Type 0) (spells : List ℕ → Saved → Type 0) (lines : List NamedLine) (home : ℕ → ℕ) (nodes : ℕ) (c : Course) (counts : List ℕ) (looks : List (Option Looked)) (n from at : ℕ) (journal : List Event) (seat : SeatView) (desks : List Desk) : Type 0 where
   pub journal_is : c.journal ≡ journal
   pub lines_are : AreLines lines home nodes
   pub least : 1 ≤ n
   pub most : n ≤ nodes
   pub begins : BeginsAt lines from c.phase
   pub ok : CourseOk may floor shelf lines nodes c counts looks
-  pub worker : WorkerAt may floor shelf state spells lines home c counts looks n from at c.phase seat desks
+  pub worker : WorkerAt may floor shelf state spells lines home nodes c counts looks n from at c.phase seat desks
+  -- the log isn't trimmed above what it has applied
+  pub high : TrimsUpTo seat.node.replica.cursor journal
 
--- what the line logs, or has its node tell of itself, the node may append
+-- What a node's line may rest on, as it is played: the log isn't trimmed above what the node has applied, each position that was
+-- told is clean, and the node hasn't left.
+pub record CanPlay (n : ℕ) (journal : List Event) (seat : SeatView) : Type 0 where
+  pub high : TrimsUpTo seat.node.replica.cursor journal
+  pub cleans : AreClean journal
+  pub stays : HasNotLeft n journal
+
+-- what the line logs, or has its node tell of itself or ask for, the node may append
 abbrev pub CanSend : (ℕ → Entry → Type 0) → ℕ → Asks → Type 0
 CanSend may who (asks.Logged s r command) = IsSpellable command × (command_length command ≤ 984) × may who (packed who (session_item s.id r command ∷ []))
 CanSend may who (asks.Look s query) = Unit {0}
 CanSend may who (asks.Admin Extend) = Unit {0}
 CanSend may who (asks.Admin Alive) = (position : ℕ) → position < 2 ^ 64 → may who (packed who (alive_item who position ∷ []))
 CanSend may who (asks.Admin Retire) = may who (packed who (leave_item who ∷ []))
+CanSend may who (asks.Admin Trim) = (position : ℕ) → position < 2 ^ 64 → may who (packed who (trim_item position ∷ []))
 
 -- at the desk of its session the command is the next
 pub record IsNextAt (counts : List ℕ) (s r : ℕ) (d : Desk) : Type 0 where

@@ -1,14 +1,17 @@
 //! Laws of how a run over nodes goes on. Each function does nothing: its contract is the law.
-ghost use Rattle.std.specs.Prelude.{◌≡◌, ◌==◌, ◌<◌, ◌≤◌, ◌+◌, ℕ, Bool, true, false, List, [], length, Option, Some, None, slice_get, slice_set};
+ghost use Rattle.std.specs.Prelude.{◌≡◌, ◌==◌, ◌<◌, ◌≤◌, ◌⊎◌, ◌+◌, ℕ, Bool, true, false, List, [], length, Option, Some, None, slice_get, slice_set};
 ghost use Rattle.delos_types.specs.declared.cause.Cause.{Cause};
 ghost use Rattle.table_core.specs.declared.command.Command.{Command};
 ghost use Rattle.table_core.specs.declared.command.Query.{Query};
 ghost use Rattle.legal_journal.specs.declared.events.Event.{Event};
 ghost use Rattle.script_text.specs.declared.asks.NamedLine.{NamedLine};
 ghost use Rattle.script_text.specs.declared.line.Session.{Session};
-ghost use Rattle.script_text.specs.declared.line.Admin.TheVariants.{Extend, Alive, Retire};
+ghost use Rattle.script_text.specs.declared.line.Admin.TheVariants.{Extend, Alive, Retire, Trim};
 ghost use Rattle.script_text.specs.declared.asks.Asks.TheVariants as asks;
+ghost use Rattle.legal_journal.specs.Journal.{state_of, trim_of};
 ghost use Rattle.legal_journal.specs.Sealing.{Unsealed};
+ghost use Rattle.journal_changes.specs.Changes.{Adds, TrimsUpTo};
+ghost use Rattle.base_engine.specs.Trimming.{FloorIs};
 ghost use Rattle.one_thread.specs.Alone.{Since};
 ghost use Rattle.one_thread.specs.Seats.{SeatView, node_of};
 ghost use Rattle.node_sessions.specs.declared.desk.Desk.{Desk};
@@ -17,12 +20,14 @@ ghost use Rattle.node_lines.specs.Lines.{Looks};
 ghost use Rattle.node_lines.specs.Extending.{Extends};
 ghost use Rattle.node_lines.specs.Reporting.{Reports};
 ghost use Rattle.node_lines.specs.Leaving.{Leaves};
+ghost use Rattle.node_lines.specs.Trimming.{TrimsLog};
 ghost use Rattle.node_lines.specs.Moving.{Moves};
 ghost use Rattle.node_lines.specs.Turns.{EndsTurn};
-ghost use Rattle.node_workers.specs.Workers.{WorkerOk, MayRun, Logs, Within, sent_of};
+ghost use Rattle.node_workers.specs.Workers.{WorkerOk, MayRun, Logs, Within, IsOfSessions, ReportAdds, LeaveAdds, TrimAdds, sent_of};
 ghost use Rattle.run_course.specs.Script.{AreLines, BeginsAt, asked_before};
+ghost use Rattle.run_course.specs.Telling.{AskedFor, TellsAtLeast, ReportsUpTo};
 ghost use Rattle.run_course.specs.Course.{Course, CourseOk, TurnOf};
-ghost use Rattle.run_course.specs.Workers.{WorkerAt, Rests, LineWent, TurnEnded, NodeFinished, IsUnderWay, IsNext};
+ghost use Rattle.run_course.specs.Workers.{WorkerAt, Rests, LineWent, TurnEnded, NodeFinished, IsUnderWay, CanPlay, IsNext};
 
 use legal_journal::rules::Rules;
 use replica_api::replica::Replica;
@@ -36,10 +41,10 @@ pub fn a_turn_goes_on()
 
 /// A line that is another node's changes nothing of a node.
 pub fn a_line_is_of_another<P: Rules, S: Replica>()
-    ensures { (lines : List NamedLine) (home : ℕ → ℕ) (c : Course) (counts : List ℕ) (looks : List (Option Looked)) (n from i done : ℕ) (line : NamedLine) (seat : SeatView) (desks : List Desk)
+    ensures { (lines : List NamedLine) (home : ℕ → ℕ) (nodes : ℕ) (c : Course) (counts : List ℕ) (looks : List (Option Looked)) (n from i done : ℕ) (line : NamedLine) (seat : SeatView) (desks : List Desk)
         → slice_get lines i ≡ Some line → (line.node == n) ≡ false
-        → WorkerAt P.may P.floor P.shelf S.state S.spells lines home c counts looks n from i done seat desks
-        → WorkerAt P.may P.floor P.shelf S.state S.spells lines home c counts looks n from (i + 1) done seat desks }
+        → WorkerAt P.may P.floor P.shelf S.state S.spells lines home nodes c counts looks n from i done seat desks
+        → WorkerAt P.may P.floor P.shelf S.state S.spells lines home nodes c counts looks n from (i + 1) done seat desks }
 {}
 
 /// A line of a node whose turn it is is its session's next.
@@ -50,14 +55,32 @@ pub fn a_line_is_next<P: Rules, S: Replica>()
         → IsNext counts desks line.asks }
 {}
 
+/// As a node's turn begins, the log isn't trimmed above what it has applied: it has a line to play, so it hasn't left, and it reported
+/// no more than that.
+pub fn a_turn_begins<P: Rules, S: Replica>()
+    ensures { (lines : List NamedLine) (home : ℕ → ℕ) (nodes : ℕ) (c : Course) (counts : List ℕ) (looks : List (Option Looked)) (n from i done : ℕ) (line : NamedLine) (seat : SeatView) (desks : List Desk)
+        → FloorIs P.floor nodes → AreLines lines home nodes → CourseOk P.may P.floor P.shelf lines nodes c counts looks
+        → slice_get lines i ≡ Some line → line.node ≡ n → from ≤ i
+        → Rests P.may P.floor P.shelf S.state S.spells lines home nodes c counts looks n from done seat desks
+        → TrimsUpTo seat.node.replica.cursor c.journal }
+{}
+
+/// What a line of a node whose turn it is may rest on.
+pub fn a_line_can_be_played<P: Rules, S: Replica>()
+    ensures { (lines : List NamedLine) (home : ℕ → ℕ) (nodes : ℕ) (c : Course) (counts : List ℕ) (looks : List (Option Looked)) (n from i : ℕ) (line : NamedLine) (journal : List Event) (seat : SeatView) (desks : List Desk)
+        → slice_get lines i ≡ Some line → line.node ≡ n
+        → IsUnderWay P.may P.floor P.shelf S.state S.spells lines home nodes c counts looks n from i journal seat desks
+        → CanPlay n journal seat }
+{}
+
 /// A line logged a command at its node.
 pub fn a_command_is_logged<P: Rules, S: Replica>()
     ensures { MayRun P.may P.floor P.shelf → (lines : List NamedLine) (home : ℕ → ℕ) (nodes : ℕ) (c : Course) (counts counts' : List ℕ) (looks : List (Option Looked)) (n from i : ℕ) (line : NamedLine) (session : Session) (rank : ℕ) (command : Command) (seat seat' : SeatView) (desks desks' : List Desk) (journal : List Event)
         → AreLines lines home nodes → 1 ≤ n → n ≤ nodes → BeginsAt lines from c.phase
         → slice_get lines i ≡ Some line → line.node ≡ n → line.phase ≡ c.phase → line.asks ≡ asks.Logged session rank command
         → CourseOk P.may P.floor P.shelf lines nodes c counts looks
-        → WorkerAt P.may P.floor P.shelf S.state S.spells lines home c counts looks n from i c.phase seat desks
-        → Since n c.journal journal → Unsealed c.journal journal
+        → WorkerAt P.may P.floor P.shelf S.state S.spells lines home nodes c counts looks n from i c.phase seat desks
+        → Since n c.journal journal → Unsealed c.journal journal → Adds IsOfSessions c.journal journal → TrimsUpTo seat'.node.replica.cursor journal
         → Logs P.may P.floor P.shelf counts counts' (node_of seat c.journal) (node_of seat' journal) session.id desks desks'
         → WorkerOk P.may P.floor P.shelf S.state S.spells n counts' journal seat' desks'
         → LineWent P.may P.floor P.shelf S.state S.spells lines home nodes c counts counts' looks looks n from (i + 1) journal seat' desks' }
@@ -69,8 +92,8 @@ pub fn a_read_has_looked<P: Rules, S: Replica>()
         → AreLines lines home nodes → 1 ≤ n → n ≤ nodes → BeginsAt lines from c.phase
         → slice_get lines i ≡ Some line → line.node ≡ n → line.phase ≡ c.phase → line.asks ≡ asks.Look session query
         → CourseOk P.may P.floor P.shelf lines nodes c counts looks
-        → WorkerAt P.may P.floor P.shelf S.state S.spells lines home c counts looks n from i c.phase seat desks
-        → Since n c.journal journal → Unsealed c.journal journal
+        → WorkerAt P.may P.floor P.shelf S.state S.spells lines home nodes c counts looks n from i c.phase seat desks
+        → Since n c.journal journal → Unsealed c.journal journal → Adds IsOfSessions c.journal journal → TrimsUpTo seat'.node.replica.cursor journal
         → slice_get desks session.id ≡ Some desk
         → Looks (Within P.may counts) P.floor P.shelf (node_of seat c.journal) (node_of seat' journal) desk query look
         → WorkerOk P.may P.floor P.shelf S.state S.spells n counts journal seat' desks
@@ -83,8 +106,8 @@ pub fn a_node_extends<P: Rules, S: Replica>()
         → AreLines lines home nodes → 1 ≤ n → n ≤ nodes → BeginsAt lines from c.phase
         → slice_get lines i ≡ Some line → line.node ≡ n → line.phase ≡ c.phase → line.asks ≡ asks.Admin Extend
         → CourseOk P.may P.floor P.shelf lines nodes c counts looks
-        → WorkerAt P.may P.floor P.shelf S.state S.spells lines home c counts looks n from i c.phase seat desks
-        → Since n c.journal journal
+        → WorkerAt P.may P.floor P.shelf S.state S.spells lines home nodes c counts looks n from i c.phase seat desks
+        → Since n c.journal journal → Adds IsOfSessions c.journal journal → TrimsUpTo seat'.node.replica.cursor journal
         → Extends (Within P.may counts) P.floor P.shelf (node_of seat c.journal) (node_of seat' journal) look
         → WorkerOk P.may P.floor P.shelf S.state S.spells n counts journal seat' desks
         → LineWent P.may P.floor P.shelf S.state S.spells lines home nodes c counts counts looks (slice_set looks i (Some look)) n from (i + 1) journal seat' desks }
@@ -96,8 +119,8 @@ pub fn a_node_reports<P: Rules, S: Replica>()
         → AreLines lines home nodes → 1 ≤ n → n ≤ nodes → BeginsAt lines from c.phase
         → slice_get lines i ≡ Some line → line.node ≡ n → line.phase ≡ c.phase → line.asks ≡ asks.Admin Alive
         → CourseOk P.may P.floor P.shelf lines nodes c counts looks
-        → WorkerAt P.may P.floor P.shelf S.state S.spells lines home c counts looks n from i c.phase seat desks
-        → Since n c.journal journal → Unsealed c.journal journal
+        → WorkerAt P.may P.floor P.shelf S.state S.spells lines home nodes c counts looks n from i c.phase seat desks
+        → Since n c.journal journal → Unsealed c.journal journal → ReportAdds n seat'.node.replica.cursor c.journal journal look → TrimsUpTo seat'.node.replica.cursor journal
         → Reports (Within P.may counts) P.floor P.shelf (node_of seat c.journal) (node_of seat' journal) look
         → WorkerOk P.may P.floor P.shelf S.state S.spells n counts journal seat' desks
         → LineWent P.may P.floor P.shelf S.state S.spells lines home nodes c counts counts looks (slice_set looks i (Some look)) n from (i + 1) journal seat' desks }
@@ -109,9 +132,22 @@ pub fn a_node_leaves<P: Rules, S: Replica>()
         → AreLines lines home nodes → 1 ≤ n → n ≤ nodes → BeginsAt lines from c.phase
         → slice_get lines i ≡ Some line → line.node ≡ n → line.phase ≡ c.phase → line.asks ≡ asks.Admin Retire
         → CourseOk P.may P.floor P.shelf lines nodes c counts looks
-        → WorkerAt P.may P.floor P.shelf S.state S.spells lines home c counts looks n from i c.phase seat desks
-        → Since n c.journal journal → Unsealed c.journal journal
+        → WorkerAt P.may P.floor P.shelf S.state S.spells lines home nodes c counts looks n from i c.phase seat desks
+        → Since n c.journal journal → Unsealed c.journal journal → LeaveAdds n c.journal journal → TrimsUpTo seat'.node.replica.cursor journal
         → Leaves (Within P.may counts) P.floor P.shelf (node_of seat c.journal) (node_of seat' journal) look
+        → WorkerOk P.may P.floor P.shelf S.state S.spells n counts journal seat' desks
+        → LineWent P.may P.floor P.shelf S.state S.spells lines home nodes c counts counts looks (slice_set looks i (Some look)) n from (i + 1) journal seat' desks }
+{}
+
+/// A line had its node trim the log.
+pub fn a_node_trims<P: Rules, S: Replica>()
+    ensures { MayRun P.may P.floor P.shelf → (lines : List NamedLine) (home : ℕ → ℕ) (nodes : ℕ) (c : Course) (counts : List ℕ) (looks : List (Option Looked)) (n from i : ℕ) (line : NamedLine) (look : Looked) (seat seat' : SeatView) (desks : List Desk) (journal : List Event)
+        → AreLines lines home nodes → 1 ≤ n → n ≤ nodes → BeginsAt lines from c.phase
+        → slice_get lines i ≡ Some line → line.node ≡ n → line.phase ≡ c.phase → line.asks ≡ asks.Admin Trim
+        → CourseOk P.may P.floor P.shelf lines nodes c counts looks
+        → WorkerAt P.may P.floor P.shelf S.state S.spells lines home nodes c counts looks n from i c.phase seat desks
+        → Since n c.journal journal → Unsealed c.journal journal → TrimAdds c.journal journal → TrimsUpTo seat'.node.replica.cursor journal
+        → TrimsLog (Within P.may counts) P.floor P.shelf (node_of seat c.journal) (node_of seat' journal) look
         → WorkerOk P.may P.floor P.shelf S.state S.spells n counts journal seat' desks
         → LineWent P.may P.floor P.shelf S.state S.spells lines home nodes c counts counts looks (slice_set looks i (Some look)) n from (i + 1) journal seat' desks }
 {}
@@ -121,8 +157,8 @@ pub fn a_phase_has_ended<P: Rules, S: Replica>()
     ensures { MayRun P.may P.floor P.shelf → (lines : List NamedLine) (home : ℕ → ℕ) (nodes : ℕ) (c : Course) (counts : List ℕ) (looks : List (Option Looked)) (n from to : ℕ) (failed : Option Cause) (seat seat' : SeatView) (desks desks' : List Desk) (journal : List Event)
         → AreLines lines home nodes → 1 ≤ n → n ≤ nodes → BeginsAt lines from c.phase → BeginsAt lines to (c.phase + 1)
         → CourseOk P.may P.floor P.shelf lines nodes c counts looks
-        → WorkerAt P.may P.floor P.shelf S.state S.spells lines home c counts looks n from to c.phase seat desks
-        → Since n c.journal journal → Unsealed c.journal journal
+        → WorkerAt P.may P.floor P.shelf S.state S.spells lines home nodes c counts looks n from to c.phase seat desks
+        → Since n c.journal journal → Unsealed c.journal journal → Adds IsOfSessions c.journal journal
         → EndsTurn (Within P.may counts) P.floor P.shelf (node_of seat c.journal) (node_of seat' journal) desks desks' failed
         → WorkerOk P.may P.floor P.shelf S.state S.spells n counts journal seat' desks'
         → TurnEnded P.may P.floor P.shelf S.state S.spells lines home nodes c counts looks n to journal seat' desks' }
@@ -130,11 +166,11 @@ pub fn a_phase_has_ended<P: Rules, S: Replica>()
 
 /// A node without a line in a phase rests on.
 pub fn a_phase_passes_by<P: Rules, S: Replica>()
-    ensures { (lines : List NamedLine) (home : ℕ → ℕ) (c : Course) (counts : List ℕ) (looks : List (Option Looked)) (n from to : ℕ) (seat : SeatView) (desks : List Desk)
+    ensures { (lines : List NamedLine) (home : ℕ → ℕ) (nodes : ℕ) (c : Course) (counts : List ℕ) (looks : List (Option Looked)) (n from to : ℕ) (seat : SeatView) (desks : List Desk)
         → from ≤ to → BeginsAt lines from c.phase → BeginsAt lines to (c.phase + 1)
         → ((i : ℕ) (l : NamedLine) → from ≤ i → i < to → slice_get lines i ≡ Some l → (l.node == n) ≡ false)
-        → Rests P.may P.floor P.shelf S.state S.spells lines home c counts looks n from c.phase seat desks
-        → Rests P.may P.floor P.shelf S.state S.spells lines home c counts looks n to (c.phase + 1) seat desks }
+        → Rests P.may P.floor P.shelf S.state S.spells lines home nodes c counts looks n from c.phase seat desks
+        → Rests P.may P.floor P.shelf S.state S.spells lines home nodes c counts looks n to (c.phase + 1) seat desks }
 {}
 
 /// A node that waits stays as it was while another has its turn.
@@ -144,8 +180,8 @@ pub fn who_waits_stays<P: Rules, S: Replica>()
         → CourseOk P.may P.floor P.shelf lines nodes c counts looks
         → TurnOf lines home n c c' counts counts' looks looks'
         → CourseOk P.may P.floor P.shelf lines nodes c' counts' looks'
-        → Rests P.may P.floor P.shelf S.state S.spells lines home c counts looks m from done seat desks
-        → Rests P.may P.floor P.shelf S.state S.spells lines home c' counts' looks' m from done seat desks }
+        → Rests P.may P.floor P.shelf S.state S.spells lines home nodes c counts looks m from done seat desks
+        → Rests P.may P.floor P.shelf S.state S.spells lines home nodes c' counts' looks' m from done seat desks }
 {}
 
 /// A node that rests made its last calls: it stays at rest, with the same desks, and gives no cause.
@@ -153,8 +189,8 @@ pub fn a_node_finishes<P: Rules, S: Replica>()
     ensures { MayRun P.may P.floor P.shelf → (lines : List NamedLine) (home : ℕ → ℕ) (nodes : ℕ) (c : Course) (counts : List ℕ) (looks : List (Option Looked)) (n from done : ℕ) (seat seat' : SeatView) (desks : List Desk) (journal : List Event)
         → AreLines lines home nodes → 1 ≤ n → n ≤ nodes → BeginsAt lines from done → done ≤ c.phase + 1
         → CourseOk P.may P.floor P.shelf lines nodes c counts looks
-        → Rests P.may P.floor P.shelf S.state S.spells lines home c counts looks n from done seat desks
-        → Since n c.journal journal → Unsealed c.journal journal
+        → Rests P.may P.floor P.shelf S.state S.spells lines home nodes c counts looks n from done seat desks
+        → Since n c.journal journal → Unsealed c.journal journal → Adds IsOfSessions c.journal journal
         → Moves (Within P.may counts) P.floor P.shelf (node_of seat c.journal) (node_of seat' journal) [] → seat'.node.outbox ≡ seat.node.outbox
         → WorkerOk P.may P.floor P.shelf S.state S.spells n counts journal seat' desks
         → NodeFinished P.may P.floor P.shelf S.state S.spells lines home nodes c counts looks n from done journal seat' desks }
@@ -166,15 +202,27 @@ pub fn a_phase_begins<P: Rules, S: Replica>()
         → ((s : ℕ) → sent_of counts s ≤ asked_before lines s (c.phase + 1))
         → CourseOk P.may P.floor P.shelf lines nodes c counts looks
         → CourseOk P.may P.floor P.shelf lines nodes (record c { phase = c.phase + 1 }) counts looks }
-    ensures rests { (lines : List NamedLine) (home : ℕ → ℕ) (c : Course) (counts : List ℕ) (looks : List (Option Looked)) (n from : ℕ) (seat : SeatView) (desks : List Desk)
-        → Rests P.may P.floor P.shelf S.state S.spells lines home c counts looks n from (c.phase + 1) seat desks
-        → Rests P.may P.floor P.shelf S.state S.spells lines home (record c { phase = c.phase + 1 }) counts looks n from (c.phase + 1) seat desks }
+    ensures rests { (lines : List NamedLine) (home : ℕ → ℕ) (nodes : ℕ) (c : Course) (counts : List ℕ) (looks : List (Option Looked)) (n from : ℕ) (seat : SeatView) (desks : List Desk)
+        → Rests P.may P.floor P.shelf S.state S.spells lines home nodes c counts looks n from (c.phase + 1) seat desks
+        → Rests P.may P.floor P.shelf S.state S.spells lines home nodes (record c { phase = c.phase + 1 }) counts looks n from (c.phase + 1) seat desks }
 {}
 
 /// Between phases no command was sent that no line before asked.
 pub fn what_was_sent_was_asked<P: Rules, S: Replica>()
     ensures { (lines : List NamedLine) (home : ℕ → ℕ) (nodes : ℕ) (c : Course) (counts : List ℕ) (looks : List (Option Looked)) (s from phase : ℕ) (seat : SeatView) (desks : List Desk)
         → AreLines lines home nodes → BeginsAt lines from phase → s < 64
-        → Rests P.may P.floor P.shelf S.state S.spells lines home c counts looks (home s) from phase seat desks
+        → Rests P.may P.floor P.shelf S.state S.spells lines home nodes c counts looks (home s) from phase seat desks
         → sent_of counts s ≤ asked_before lines s phase }
+{}
+
+/// Where the log is trimmed, each node left, or reported so much, or it isn't known what it reported; and some node that hasn't left
+/// has applied so much.
+pub fn what_is_trimmed_was_told<P: Rules>()
+    ensures each { (lines : List NamedLine) (nodes : ℕ) (c : Course) (counts : List ℕ) (looks : List (Option Looked)) (k : ℕ)
+        → FloorIs P.floor nodes → CourseOk P.may P.floor P.shelf lines nodes c counts looks → 1 ≤ k → k ≤ nodes
+        → (trim_of (state_of c.journal) ≡ 0) ⊎ (AskedFor lines looks k Retire (λ look. Unit {0}) ⊎ AskedFor lines looks k Alive (TellsAtLeast (trim_of (state_of c.journal)))) }
+    ensures some { (lines : List NamedLine) (nodes : ℕ) (c : Course) (counts : List ℕ) (looks : List (Option Looked)) (cursors : ℕ → ℕ)
+        → FloorIs P.floor nodes → CourseOk P.may P.floor P.shelf lines nodes c counts looks
+        → ((k : ℕ) → 1 ≤ k → k ≤ nodes → ReportsUpTo k (cursors k) c.journal)
+        → (trim_of (state_of c.journal) ≡ 0) ⊎ ((k : ℕ) × (1 ≤ k) × (k ≤ nodes) × (trim_of (state_of c.journal) ≤ cursors k)) }
 {}

@@ -9,7 +9,7 @@ use Rattle.engine_api.specs.declared.act.Act.{Act}
 use Rattle.engine_api.specs.Acted.{asked_in}
 use Rattle.engine_api.specs.Order.{gap_from}
 use Rattle.engine_laws.specs.State.{acts_in}
-use Rattle.script_text.specs.declared.line.Admin.TheVariants.{Extend, Alive, Retire}
+use Rattle.script_text.specs.declared.line.Admin.TheVariants.{Extend, Alive, Trim, Retire}
 use Rattle.script_text.specs.declared.asks.NamedLine.{NamedLine}
 use Rattle.script_text.specs.declared.asks.Asks.{Asks}
 use Rattle.script_text.specs.declared.asks.Asks.TheVariants as asks
@@ -64,6 +64,7 @@ module _ (log : List Entry) (tails : ℕ → ℕ) (faults : List Fault) (ends : 
   on-time (asks.Look s q) o p h e = absurd h
   on-time (asks.Admin Extend) (out.Placed place reply late) p h e = absurd h
   on-time (asks.Admin Alive) (out.Placed place reply late) p h e = absurd h
+  on-time (asks.Admin Trim) (out.Placed place reply late) p h e = absurd h
   on-time (asks.Admin Retire) (out.Placed place reply late) p h e = absurd h
   on-time (asks.Admin a) o p h e = absurd (none_some p e)
 
@@ -78,6 +79,7 @@ module _ (log : List Entry) (tails : ℕ → ℕ) (faults : List Fault) (ends : 
   looked (asks.Logged s r c) o after h e = absurd h
   looked (asks.Admin Extend) (out.Read at found) after h e = absurd h
   looked (asks.Admin Alive) (out.Read at found) after h e = absurd h
+  looked (asks.Admin Trim) (out.Read at found) after h e = absurd h
   looked (asks.Admin Retire) (out.Read at found) after h e = absurd h
   looked (asks.Admin a) o after h e = absurd (none_some after e)
 

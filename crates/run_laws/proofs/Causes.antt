@@ -3,7 +3,7 @@ use Rattle.std.proofs.Common.{◌≡◌, refl, sym, ap, ◌∙◌, subst, inl, i
 use Rattle.std.proofs.lemmas.Bool.{both_ways, cases_lt}
 use Rattle.delos_types.specs.declared.entry.Entry.{Entry}
 use Rattle.delos_types.specs.declared.cause.Cause.{Cause}
-use Rattle.script_text.specs.declared.line.Admin.TheVariants.{Extend, Alive, Retire}
+use Rattle.script_text.specs.declared.line.Admin.TheVariants.{Extend, Alive, Trim, Retire}
 use Rattle.script_text.specs.declared.asks.Asks.{Asks}
 use Rattle.script_text.specs.declared.asks.Asks.TheVariants as asks
 use Rattle.row_text.specs.declared.row.Outcome.{Outcome}
@@ -61,6 +61,7 @@ late-logged log tails faults ends before t (asks.Look s q) (out.Read after found
 late-logged log tails faults ends before t (asks.Look s q) o h e = absurd h
 late-logged log tails faults ends before t (asks.Admin Extend) (out.Placed place reply late) h e = absurd h
 late-logged log tails faults ends before t (asks.Admin Alive) (out.Placed place reply late) h e = absurd h
+late-logged log tails faults ends before t (asks.Admin Trim) (out.Placed place reply late) h e = absurd h
 late-logged log tails faults ends before t (asks.Admin Retire) (out.Placed place reply late) h e = absurd h
 late-logged log tails faults ends before t (asks.Admin a) o h e = absurd (both_ways false refl e)
 

@@ -26,3 +26,4 @@ pub mod Calm
 pub mod Replacing
 pub mod Clean
 pub mod Reporting
+pub mod Trimming

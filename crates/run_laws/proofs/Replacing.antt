@@ -25,7 +25,7 @@ use Rattle.run_laws.proofs.Tests.{each_pair-from, implies-from}
 
 -- Elements by their places
 
-all-places : {A : Type 0} (P : A → Type 0) (xs : List A) → ((i : ℕ) (x : A) → slice_get xs i ≡ Some x → P x) → AllByRecursion P xs
+pub all-places : {A : Type 0} (P : A → Type 0) (xs : List A) → ((i : ℕ) (x : A) → slice_get xs i ≡ Some x → P x) → AllByRecursion P xs
 all-places P [] f = tt
 all-places P (x ∷ xs) f = (f zero x refl, all-places P xs (λ i y is. f (suc i) y is))
 
@@ -98,7 +98,7 @@ module _ (version : ℕ) (chain : Chain) (shelf : ℕ) where
         sum_by-cons (λ (u : Played). cond (is_some (version_made u.row.outcome)) 1 0) t ts,
       )
 
-behind-is : (a b : Answered) → is_behind a b ≡ true → (a.line.phase < b.line.phase) ⊎ (a.line.node ≡ b.line.node)
+pub behind-is : (a b : Answered) → is_behind a b ≡ true → (a.line.phase < b.line.phase) ⊎ (a.line.node ≡ b.line.node)
 behind-is a b e =
     elim (a.line.node == b.line.node) as (λ t. (a.line.node == b.line.node) ≡ t → (t || before_barrier a b) ≡ true → (a.line.phase < b.line.phase) ⊎ (a.line.node ≡ b.line.node)) [
       | true ↦ λ is f. inr (eqb-true a.line.node b.line.node is)

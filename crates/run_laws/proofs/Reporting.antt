@@ -13,7 +13,7 @@ use Rattle.engine_api.specs.Acted.{Asked, asked_in, unpack_all}
 use Rattle.engine_api.specs.Members.{clean_at, clean_position, is_leave_of, has_left}
 use Rattle.engine_api.specs.Order.{gap_from, is_clean}
 use Rattle.fabric_core.specs.Log.{virtual_tail, virtual_log}
-use Rattle.script_text.specs.declared.line.Admin.TheVariants.{Extend, Alive, Retire}
+use Rattle.script_text.specs.declared.line.Admin.TheVariants.{Extend, Alive, Trim, Retire}
 use Rattle.script_text.specs.declared.asks.Asks.{Asks}
 use Rattle.script_text.specs.declared.asks.Asks.TheVariants as asks
 use Rattle.row_text.specs.declared.row.Outcome.{Outcome}
@@ -38,7 +38,7 @@ use Rattle.run_laws.proofs.Tests.{implies-from, where_some-from}
 
 -- Rows and items
 
-nothing : {A : Type 0} (x : A) → None ≡ Some x → ⊥
+pub nothing : {A : Type 0} (x : A) → None ≡ Some x → ⊥
 nothing x e = cc
 
 -- a row that reports says what the log has of it
@@ -48,6 +48,7 @@ has-reported log tails faults ends before t (asks.Admin Alive) (out.Alive clean)
     let same : clean ≡ d = cc in
     subst (HasReported log tails t.line.phase) same h
 has-reported log tails faults ends before t (asks.Admin Extend) (out.Alive clean) d h e = absurd h
+has-reported log tails faults ends before t (asks.Admin Trim) (out.Alive clean) d h e = absurd h
 has-reported log tails faults ends before t (asks.Admin Retire) (out.Alive clean) d h e = absurd h
 has-reported log tails faults ends before t (asks.Logged s r c) (out.Alive clean) d h e = absurd h
 has-reported log tails faults ends before t (asks.Look s q) (out.Alive clean) d h e = absurd h
@@ -98,7 +99,7 @@ is-left : (o : Outcome) → is_retired o ≡ true → o ≡ out.Retired
 is-left out.Retired e = refl
 is-left o e = absurd (both_ways false refl e)
 
-is-alive : (o : Outcome) (d : ℕ) → reported o ≡ Some d → o ≡ out.Alive d
+pub is-alive : (o : Outcome) (d : ℕ) → reported o ≡ Some d → o ≡ out.Alive d
 is-alive (out.Alive clean) d e = cc
 is-alive o d e = absurd (nothing d e)
 

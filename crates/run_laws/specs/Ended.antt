@@ -20,7 +20,7 @@ use Rattle.engine_laws.specs.State.{acts_in}
 use Rattle.chain_map.specs.Chain.{last_id}
 use Rattle.log_acts.specs.Order.{acts_below}
 use Rattle.fabric_core.specs.Log.{virtual_tail, virtual_log, has_no_gap}
-use Rattle.script_text.specs.declared.line.Admin.TheVariants.{Extend, Alive, Retire}
+use Rattle.script_text.specs.declared.line.Admin.TheVariants.{Extend, Alive, Trim, Retire}
 use Rattle.script_text.specs.declared.asks.NamedLine.{NamedLine}
 use Rattle.script_text.specs.declared.asks.Asks.{Asks}
 use Rattle.script_text.specs.declared.asks.Asks.TheVariants as asks
@@ -152,6 +152,7 @@ CameOf log tails faults ends before t (asks.Admin Alive) (out.Alive clean) = Has
 CameOf log tails faults ends before t (asks.Admin Extend) (out.Extended version start) = Unit {0}
 CameOf log tails faults ends before t (asks.Admin Extend) (out.Moved version) = Unit {0}
 CameOf log tails faults ends before t (asks.Admin Extend) out.NoSpare = Unit {0}
+CameOf log tails faults ends before t (asks.Admin Trim) (out.Trimmed trim) = Unit {0}
 CameOf log tails faults ends before t (asks.Admin Retire) out.Retired = Unit {0}
 CameOf log tails faults ends before t asked answered = ⊥
 
@@ -234,6 +235,63 @@ pub record Replacements (played : List Played) (version : ℕ) (chain : Chain) (
   pub order : (i j : ℕ) (t u : Played) → slice_get played i ≡ Some t → slice_get played j ≡ Some u → i < j
       → (t.line.phase < u.line.phase) ⊎ (t.line.node ≡ u.line.node) → Precedes t.row.outcome u.row.outcome
 
+-- Trims
+
+-- a played line that is so, with its row
+pub record SomeTurn (played : List Played) (P : Played → Type 0) : Type 0 where
+  pub at : ℕ
+  pub turn : Played
+  pub is : slice_get played at ≡ Some turn
+  pub so : P turn
+
+-- the row isn't that of a node that left, and reports no more than this
+abbrev pub TellsUpto : ℕ → Outcome → Type 0
+TellsUpto trim (out.Alive clean) = clean ≤ trim
+TellsUpto trim out.Retired = ⊥
+TellsUpto trim answered = Unit {0}
+
+-- The j-th line, t, trimmed the log so far: it is trimmed as far at the end; and some node hadn't left by its rows of earlier phases,
+-- and of earlier lines if it is the node of t, and reported no more in them.
+pub record LineTrimmed (played : List Played) (nodes end_trim j : ℕ) (t : Played) (trim : ℕ) : Type 0 where
+  pub upto : trim ≤ end_trim
+  pub node : ℕ
+  pub least : 1 ≤ node
+  pub most : node ≤ nodes
+  pub told : (i : ℕ) (u : Played) → slice_get played i ≡ Some u → i < j → u.line.node ≡ node → (u.line.phase < t.line.phase) ⊎ (u.line.node ≡ t.line.node)
+      → TellsUpto trim u.row.outcome
+
+-- it is the node that reported, so many entries at least
+pub record ReportsAbove (node trim : ℕ) (t : Played) : Type 0 where
+  pub node_is : t.line.node ≡ node
+  pub clean : ℕ
+  pub is : t.row.outcome ≡ out.Alive clean
+  pub above : trim ≤ clean
+
+-- the line asks this node to report, or to leave
+pub record LetsGo (node : ℕ) (t : Played) : Type 0 where
+  pub node_is : t.line.node ≡ node
+  pub kind : (t.line.asks ≡ asks.Admin Alive) ⊎ (t.line.asks ≡ asks.Admin Retire)
+
+-- where something is trimmed, a line asks for that, and each node is to report or to leave
+pub record AsksForTrim (played : List Played) (nodes : ℕ) : Type 0 where
+  pub trims : SomeTurn played (λ t. t.line.asks ≡ asks.Admin Trim)
+  pub each : (node : ℕ) → 1 ≤ node → node ≤ nodes → SomeTurn played (LetsGo node)
+
+-- no line asks the node to leave, and none that asks it to report is open
+pub record IsKnown (played : List Played) (node : ℕ) : Type 0 where
+  pub stays : (i : ℕ) (t : Played) → slice_get played i ≡ Some t → t.line.node ≡ node → t.line.asks ≢ asks.Admin Retire
+  pub closed : (i : ℕ) (t : Played) → slice_get played i ≡ Some t → t.line.node ≡ node → t.line.asks ≡ asks.Admin Alive → is_open t.row.outcome ≡ false
+
+-- How far lines trimmed the log, and how far it is trimmed at the end. The nodes are 1 to `nodes`.
+pub record TrimsEnded (played : List Played) (nodes : ℕ) (chain : Chain) (cells : List LogletView) (end : ℕ) : Type 0 where
+  pub each : (j : ℕ) (t : Played) (trim : ℕ) → slice_get played j ≡ Some t → t.row.outcome ≡ out.Trimmed trim → LineTrimmed played nodes chain.trim j t trim
+  pub within : chain.trim ≤ end
+  pub asked : chain.trim ≢ 0 → AsksForTrim played nodes
+  pub reached : (node : ℕ) → 1 ≤ node → node ≤ nodes → IsKnown played node → (chain.trim ≡ 0) ⊎ SomeTurn played (ReportsAbove node chain.trim)
+  -- where nothing is trimmed, the log that the loglets have says that a trim was asked for
+  pub stand : (j : ℕ) (t : Played) (trim : ℕ) → slice_get played j ≡ Some t → t.row.outcome ≡ out.Trimmed trim → chain.trim ≡ 0
+      → (position : ℕ) × Contains (map (λ p. p.content) (unpack_all 0 (virtual_log chain cells 0 (virtual_tail chain cells)))) (content.Trim position)
+
 -- Faults
 
 abbrev pub pays : (Cause → Bool) → Option Cause → Bool
@@ -293,6 +351,7 @@ pub record RunEnded (played : List Played) (o : Told) (yard : Shown) : Type 0 wh
   -- and so does each leave
   pub left : (i : ℕ) (t : Played) → slice_get played i ≡ Some t → t.row.outcome ≡ out.Retired → o.chain.trim ≡ 0
       → Contains (map (λ p. p.content) (unpack_all 0 (virtual_log o.chain yard.cells 0 (virtual_tail o.chain yard.cells)))) (content.Leave t.line.node)
+  pub trims : TrimsEnded played (length yard.disks) o.chain yard.cells o.end
   pub sessions : (s : ℕ) → SessionEnded played faults home s (ends s)
   pub replacements : Replacements played o.version o.chain (length yard.cells)
   pub came : FaultsCame played faults yard

@@ -3,7 +3,7 @@ use Rattle.std.proofs.Common.{◌≡◌, refl, sym, ap, ◌∙◌, subst, ℕ, �
 use Rattle.std.specs.List.{list_all, list_any}
 use Rattle.std.proofs.lemmas.Bool.{and_parts}
 use Rattle.std.proofs.lemmas.List.Sums.{sum_by-cons}
-use Rattle.script_text.specs.declared.line.Admin.TheVariants.{Extend, Alive, Retire}
+use Rattle.script_text.specs.declared.line.Admin.TheVariants.{Extend, Alive, Trim, Retire}
 use Rattle.script_text.specs.declared.asks.NamedLine.{NamedLine}
 use Rattle.script_text.specs.declared.asks.Asks.{Asks}
 use Rattle.script_text.specs.declared.asks.Asks.TheVariants as asks
@@ -67,6 +67,8 @@ placed-logs (asks.Admin Extend) (out.Placed p reply late) h = absurd (no h)
 placed-logs (asks.Admin Extend) w h = omega arith
 placed-logs (asks.Admin Alive) (out.Placed p reply late) h = absurd (no h)
 placed-logs (asks.Admin Alive) w h = omega arith
+placed-logs (asks.Admin Trim) (out.Placed p reply late) h = absurd (no h)
+placed-logs (asks.Admin Trim) w h = omega arith
 placed-logs (asks.Admin Retire) (out.Placed p reply late) h = absurd (no h)
 placed-logs (asks.Admin Retire) w h = omega arith
 
@@ -81,6 +83,8 @@ closed-placed (asks.Admin Extend) (out.Placed p reply late) h k = absurd (no h)
 closed-placed (asks.Admin Extend) w h k = refl
 closed-placed (asks.Admin Alive) (out.Placed p reply late) h k = absurd (no h)
 closed-placed (asks.Admin Alive) w h k = refl
+closed-placed (asks.Admin Trim) (out.Placed p reply late) h k = absurd (no h)
+closed-placed (asks.Admin Trim) w h k = refl
 closed-placed (asks.Admin Retire) (out.Placed p reply late) h k = absurd (no h)
 closed-placed (asks.Admin Retire) w h k = refl
 

@@ -14,7 +14,7 @@ use Rattle.script_text.specs.declared.line.Session.{Session}
 use Rattle.script_text.specs.declared.line.Line.{Line}
 use Rattle.script_text.specs.declared.line.Line.TheVariants as line
 use Rattle.script_text.specs.declared.line.Admin.{Admin}
-use Rattle.script_text.specs.declared.line.Admin.TheVariants.{Extend, Alive, Retire}
+use Rattle.script_text.specs.declared.line.Admin.TheVariants.{Extend, Alive, Trim, Retire}
 use Rattle.script_text.specs.declared.line.Ask.{Ask}
 use Rattle.script_text.specs.declared.line.Ask.TheVariants.{Log, Look}
 use Rattle.script_text.specs.Gives.{◌>>=◌}
@@ -145,6 +145,7 @@ plain_session nodes n s a few f = (plain_on, (plain_node nodes n few f.0, (plain
 plain_admin : (a : Admin) → Plain (admin_name a)
 plain_admin Extend = literal (codes "extend") refl
 plain_admin Alive = literal (codes "alive") refl
+plain_admin Trim = literal (codes "trim") refl
 plain_admin Retire = literal (codes "retire") refl
 
 -- ---- fields
@@ -196,6 +197,7 @@ admin_again : (nodes : ℕ) (b : Before) (n : ℕ) (a : Admin) → nodes ≤ 8 �
     → (form_of (line_words (line.Admin n a)) >>= λ f. line_in nodes b (line_words (line.Admin n a)) f) ≡ Ok (line.Admin n a, with_asked b n a)
 admin_again nodes b n Extend few is there = rw (node_again nodes n few is, there) refl
 admin_again nodes b n Alive few is there = rw (node_again nodes n few is, there) refl
+admin_again nodes b n Trim few is there = rw (node_again nodes n few is, there) refl
 admin_again nodes b n Retire few is there = rw (node_again nodes n few is, there) refl
 
 by_words_again : (nodes : ℕ) (b after : Before) (l : Line) → nodes ≤ 8 → LineFits nodes l → Follows b l after

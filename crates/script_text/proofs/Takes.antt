@@ -420,8 +420,9 @@ admin_leaf w a b h e = subst (λ (x : Admin). w ≡ admin_name x) (ok_is a b e) 
 admin_named : (w : Word) (a : Admin) → admin_of w ≡ Ok a → w ≡ admin_name a
 admin_named w a = cased (bytes_eq w (codes "extend")) _ _ a (w ≡ admin_name a) (λ y. admin_leaf w admin.Extend a (same_bytes _ _ y))
     (λ t. cased (bytes_eq w (codes "alive")) _ _ a (w ≡ admin_name a) (λ y. admin_leaf w admin.Alive a (same_bytes _ _ y))
-    (λ t1. cased (bytes_eq w (codes "retire")) _ _ a (w ≡ admin_name a) (λ y. admin_leaf w admin.Retire a (same_bytes _ _ y))
-    (λ t2. refused rule.Word a (w ≡ admin_name a))))
+    (λ t1. cased (bytes_eq w (codes "trim")) _ _ a (w ≡ admin_name a) (λ y. admin_leaf w admin.Trim a (same_bytes _ _ y))
+    (λ t2. cased (bytes_eq w (codes "retire")) _ _ a (w ≡ admin_name a) (λ y. admin_leaf w admin.Retire a (same_bytes _ _ y))
+    (λ t3. refused rule.Word a (w ≡ admin_name a)))))
 
 admin_means : (ws : List Word) (f : Form) → word ws 0 ≡ codes "on" → admin_form ws ≡ Ok f → Means ws f
 admin_means ws f on e =

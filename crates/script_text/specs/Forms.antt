@@ -28,11 +28,12 @@ word ws i = slice_index_or ws i []
 abbrev pub is_admin_word : Word → Bool
 is_admin_word w = bytes_eq w (codes "extend") || (bytes_eq w (codes "alive") || (bytes_eq w (codes "trim") || bytes_eq w (codes "retire")))
 
--- what the word of an admin line asks, of those that a line may have
+-- what the word of an admin line asks
 abbrev pub admin_of : Word → Result Admin Rule
 admin_of w = if bytes_eq w (codes "extend") then Ok admin.Extend
     else (if bytes_eq w (codes "alive") then Ok admin.Alive
-    else (if bytes_eq w (codes "retire") then Ok admin.Retire else Err rule.Word))
+    else (if bytes_eq w (codes "trim") then Ok admin.Trim
+    else (if bytes_eq w (codes "retire") then Ok admin.Retire else Err rule.Word)))
 
 -- `on N` and a word of admin lines
 abbrev pub admin_form : List Word → Result Form Rule

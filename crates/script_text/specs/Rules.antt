@@ -40,8 +40,8 @@ begins ws (form.Session v) = bytes_eq (word ws 0) (codes "on")
 begins ws (form.Admin a) = bytes_eq (word ws 0) (codes "on") && (not (nat_lt (length ws) 3) && bytes_eq (word ws 2) (admin_name a))
 
 abbrev pub forms : List Form
-forms = form.Blank ∷ form.Barrier ∷ form.Admin admin.Extend ∷ form.Admin admin.Alive ∷ form.Admin admin.Retire ∷ form.Session verb.Put ∷ form.Session verb.Del
-    ∷ form.Session verb.Cas ∷ form.Session verb.Add ∷ form.Session verb.Get ∷ form.Session verb.Scan ∷ []
+forms = form.Blank ∷ form.Barrier ∷ form.Admin admin.Extend ∷ form.Admin admin.Alive ∷ form.Admin admin.Trim ∷ form.Admin admin.Retire ∷ form.Session verb.Put
+    ∷ form.Session verb.Del ∷ form.Session verb.Cas ∷ form.Session verb.Add ∷ form.Session verb.Get ∷ form.Session verb.Scan ∷ []
 
 -- the form that the words begin
 abbrev pub form_begun : List Word → Option Form

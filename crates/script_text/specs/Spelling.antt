@@ -11,7 +11,7 @@ use Rattle.script_text.specs.declared.line.Session.{Session}
 use Rattle.script_text.specs.declared.line.Line.{Line}
 use Rattle.script_text.specs.declared.line.Line.TheVariants as line
 use Rattle.script_text.specs.declared.line.Admin.{Admin}
-use Rattle.script_text.specs.declared.line.Admin.TheVariants.{Extend, Alive, Retire}
+use Rattle.script_text.specs.declared.line.Admin.TheVariants.{Extend, Alive, Trim, Retire}
 use Rattle.script_text.specs.declared.line.Ask.{Ask}
 use Rattle.script_text.specs.declared.line.Ask.TheVariants.{Log, Look}
 use Rattle.script_text.specs.Words.{Word}
@@ -41,6 +41,7 @@ ask_words (Look q) = query_words q
 abbrev pub admin_name : Admin → Word
 admin_name Extend = codes "extend"
 admin_name Alive = codes "alive"
+admin_name Trim = codes "trim"
 admin_name Retire = codes "retire"
 
 -- the words of a line

@@ -40,7 +40,7 @@ fn is_admin_word(word: &[u8]) -> bool
         || word == b"retire".as_slice()
 }
 
-// What a word of an admin line asks, of those that a line may have.
+// What a word of an admin line asks.
 fn admin_of(word: &[u8]) -> Result<Admin, Fault>
     ensures { Gives result (admin_of word.now) }
 {
@@ -48,6 +48,8 @@ fn admin_of(word: &[u8]) -> Result<Admin, Fault>
         Ok(Admin::Extend)
     } else if word == b"alive".as_slice() {
         Ok(Admin::Alive)
+    } else if word == b"trim".as_slice() {
+        Ok(Admin::Trim)
     } else if word == b"retire".as_slice() {
         Ok(Admin::Retire)
     } else {

@@ -103,6 +103,8 @@ pub enum Admin {
     Extend,
     /// The node is to report how much of the log it needs no more.
     Alive,
+    /// The log is to be trimmed to what no node needs any more.
+    Trim,
     /// The node is to leave.
     Retire,
 }

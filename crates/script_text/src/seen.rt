@@ -117,7 +117,7 @@ impl Seen {
             return Err(Fault::Breaks(Rule::Retired));
         }
         match admin {
-            Admin::Extend | Admin::Alive => {}
+            Admin::Extend | Admin::Alive | Admin::Trim => {}
             Admin::Retire => self.retired.push(node)?,
         }
         Ok(Line::Admin { node, admin })

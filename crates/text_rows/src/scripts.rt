@@ -47,6 +47,8 @@ fn lines_are_taken(rt: HostRuntime) {
         (b"on n1 extend", 1, 1),
         (b"on n1 alive", 1, 1),
         (b"on n2 alive\n\non n1 alive\non n2 alive", 2, 4),
+        (b"on n1 trim", 1, 1),
+        (b"on n2 trim\n\non n1 alive\non n1 trim\non n2 retire", 2, 5),
         (b"on n1 retire", 1, 1),
         (
             b"on n1 a get x\non n1 retire\nbarrier\non n2 b get y\non n2 retire",
@@ -149,7 +151,7 @@ fn fields_stand_in_their_places(rt: HostRuntime) -> Result<(), Fail> {
 #[test]
 fn admin_lines_are_read(rt: HostRuntime) {
     let alloc = rt.alloc();
-    let text = b"on n2 extend\non n1 alive\non n2 retire\non n1 a get x";
+    let text = b"on n2 extend\non n1 alive\non n1 trim\non n2 retire\non n1 a get x";
     let script = script(&rt, alloc, text.as_slice(), 2);
     match script.lines() {
         [
@@ -159,8 +161,12 @@ fn admin_lines_are_read(rt: HostRuntime) {
                 admin: second,
             },
             Line::Admin {
-                node: leaver,
+                node: trimmer,
                 admin: third,
+            },
+            Line::Admin {
+                node: leaver,
+                admin: fourth,
             },
             Line::Session { session, .. },
         ] => {
@@ -168,8 +174,10 @@ fn admin_lines_are_read(rt: HostRuntime) {
             assert_eq!(rt; *admin, Admin::Extend);
             assert_eq!(rt; other.number(), 1);
             assert_eq!(rt; *second, Admin::Alive);
+            assert_eq!(rt; trimmer.number(), 1);
+            assert_eq!(rt; *third, Admin::Trim);
             assert_eq!(rt; leaver.number(), 2);
-            assert_eq!(rt; *third, Admin::Retire);
+            assert_eq!(rt; *fourth, Admin::Retire);
             assert_eq!(rt; session.id.number(), 0);
         }
         _ => panic!(rt; "other lines"),
@@ -214,8 +222,10 @@ fn one_rule_is_broken(rt: HostRuntime) {
         (b"on n1 alives", 1, 1, Rule::Word),
         (b"on n1 Alive", 1, 1, Rule::Word),
         (b"alive", 1, 1, Rule::Word),
-        (b"on n1 trim", 1, 1, Rule::Word),
-        (b"on n1 trim get x", 1, 1, Rule::Word),
+        (b"on trim", 1, 1, Rule::Word),
+        (b"on n1 trims", 1, 1, Rule::Word),
+        (b"on n1 Trim", 1, 1, Rule::Word),
+        (b"trim", 1, 1, Rule::Word),
         (b"on retire", 1, 1, Rule::Word),
         (b"on n1 retired", 1, 1, Rule::Word),
         (b"on n1 Retire", 1, 1, Rule::Word),
@@ -238,6 +248,8 @@ fn one_rule_is_broken(rt: HostRuntime) {
         (b"on n1 extend get x", 1, 1, Rule::Count),
         (b"on n1 alive x", 1, 1, Rule::Count),
         (b"on n1 alive get x", 1, 1, Rule::Count),
+        (b"on n1 trim x", 1, 1, Rule::Count),
+        (b"on n1 trim get x", 1, 1, Rule::Count),
         (b"on n1 retire x", 1, 1, Rule::Count),
         (b"on n1 retire put x 1", 1, 1, Rule::Count),
         (b"on n2 a get x", 1, 1, Rule::Node),
@@ -251,6 +263,8 @@ fn one_rule_is_broken(rt: HostRuntime) {
         (b"on a extend", 1, 1, Rule::Node),
         (b"on n2 alive", 1, 1, Rule::Node),
         (b"on a alive", 1, 1, Rule::Node),
+        (b"on n2 trim", 1, 1, Rule::Node),
+        (b"on a trim", 1, 1, Rule::Node),
         (b"on n2 retire", 1, 1, Rule::Node),
         (b"on a retire", 1, 1, Rule::Node),
         (b"on n1 A get x", 1, 1, Rule::Session),
@@ -268,6 +282,7 @@ fn one_rule_is_broken(rt: HostRuntime) {
         (b"on n1 retire\non n1 a put x 1", 1, 2, Rule::Retired),
         (b"on n1 retire\non n1 extend", 1, 2, Rule::Retired),
         (b"on n1 retire\n\nbarrier\non n1 alive", 1, 4, Rule::Retired),
+        (b"on n1 trim\non n1 retire\non n1 trim", 1, 3, Rule::Retired),
         (b"on n1 retire\non n1 retire", 1, 2, Rule::Retired),
         (
             b"on n1 retire\non n2 retire\non n3 alive\non n2 a get x",
@@ -297,7 +312,8 @@ fn the_least_line_and_its_first_rule_are_told(rt: HostRuntime) {
         (b"on n9 A get x y", 1, Rule::Count),
         (b"on n9 extend x", 1, Rule::Count),
         (b"on n9 alive x", 1, Rule::Count),
-        (b"on n1 extend\non n9 alive\non n1 trim", 2, Rule::Node),
+        (b"on n9 trim x", 1, Rule::Count),
+        (b"on n1 extend\non n9 alive\non n1 trims", 2, Rule::Node),
         (b"on n1 retire\non n9 retire", 2, Rule::Node),
         (b"on n1 retire\non n1 retire x", 2, Rule::Count),
         (b"on n1 retire\non n1 A get x", 2, Rule::Session),

@@ -10,4 +10,4 @@ pub returns : goal.returns
 returns g c = λ lines rows journal counts looks log workers h are calm.
     let n = all_told lines workers looks rows are h.ok.size h.ok.replaced.asked in
     let was = subst (λ es. faults_in es ≡ [] → IsUnsealed (state_of es) (count_by has_replaced looks)) h.journal_is h.ok.unsealed calm in
-    record { segments = was.segments ∙ ap (λ (k : ℕ). k + 1) (sym n); last = was.last ∙ sym n }
+    record { segments = λ none. was.segments none ∙ ap (λ (k : ℕ). k + 1) (sym n); last = was.last ∙ sym n }

@@ -7,5 +7,5 @@ returns-clause-course g c = let p = g.P.Rules in λ lines nodes course counts lo
     course_begins p.may p.floor p.shelf lines nodes course counts looks sent ok
 
 pub returns-clause-rests : goal.returns-clause-rests
-returns-clause-rests g c = let p = g.P.Rules in let replica = g.S.Replica in λ lines home course counts looks n from seat desks r.
-    rests_then course p.may p.floor p.shelf replica.state replica.spells lines home counts looks n from (course.phase + 1) seat desks r
+returns-clause-rests g c = let p = g.P.Rules in let replica = g.S.Replica in λ lines home nodes course counts looks n from seat desks r.
+    rests_then course p.may p.floor p.shelf replica.state replica.spells lines home nodes counts looks n from (course.phase + 1) seat desks r

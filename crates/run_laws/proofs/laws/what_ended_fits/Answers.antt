@@ -4,6 +4,7 @@ use Rattle.run_laws.proofs.Looks.{reads-current}
 use Rattle.run_laws.proofs.Orders.{barriers-kept, one-row-each, session-order}
 use Rattle.run_laws.proofs.Replacing.{replacements-agree}
 use Rattle.run_laws.proofs.Reporting.{reports-stand}
+use Rattle.run_laws.proofs.Trimming.{trims-stand}
 use Rattle.run_laws.proofs.laws.what_ended_fits.Goals as goal
 
 pub returns : goal.returns
@@ -16,5 +17,6 @@ returns c = λ played o yard e. record {
   faults_are_counted = faults-counted played o yard e;
   replacements = replacements-agree played o yard e;
   reports = reports-stand played o yard e;
+  trims = trims-stand played o yard e;
   chain_is_registered = e.registered;
 }

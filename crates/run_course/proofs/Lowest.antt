@@ -1,0 +1,66 @@
+-- Where a node trimmed the log, some node had reported no more than that, and hadn't left.
+use Rattle.std.proofs.Common.{◌≡◌, sym, ap, ◌∙◌, subst, inl, inr, ℕ, zero, suc, ◌≤◌, true, false, List, [], ◌∷◌, ◌++◌, length, Option, Some, slice_get, Contains, arith}
+use Rattle.delos_types.specs.declared.entry.Entry.{Entry}
+use Rattle.legal_journal.specs.declared.events.Event.{Event}
+use Rattle.legal_journal.specs.Journal.{IsLegal, state_of, tail_of}
+use Rattle.virtual_log.specs.Holding.{Holds}
+use Rattle.journal_changes.specs.Changes.{appended}
+use Rattle.journal_changes.proofs.Changes.{held_appended}
+use Rattle.engine_api.specs.declared.content.Content.TheVariants as content
+use Rattle.engine_api.specs.Acted.{unpack_all}
+use Rattle.engine_api.specs.Members.{has_left, least_position, position_of}
+use Rattle.base_engine.specs.Reading.{IsFront}
+use Rattle.member_laws.specs.Least.{IsLeast}
+use Rattle.member_laws.proofs.Membership.{least_at, says_left, says_position}
+use Rattle.script_text.specs.declared.asks.NamedLine.{NamedLine}
+use Rattle.node_lines.specs.declared.lines.Looked.{Looked}
+use Rattle.node_lines.specs.declared.lines.Looked.TheVariants as looked
+use Rattle.node_workers.specs.Workers.{HasNotLeft}
+use Rattle.run_laws.proofs.Members.{Among, contained-among}
+use Rattle.run_course.specs.Telling.{GoesFirst, HasToldSo, IsLowest, StaysBelow}
+use Rattle.run_course.proofs.Stands.{said_in}
+use Rattle.run_course.proofs.Saying.{is_member}
+
+-- an entry of a log stands at some position of it
+pub stands_at : (log : List Entry) (e : Entry) → Contains log e → (pos : ℕ) × (slice_get log pos ≡ Some e)
+stands_at log e h = one log (contained-among log e h)
+  where
+    one : (es : List Entry) → Among es e → (pos : ℕ) × (slice_get es pos ≡ Some e)
+    one [] m = absurd m
+    one (x ∷ es) (inl same) = (zero, ap {B = Option Entry} (λ y. Some y) same)
+    one (x ∷ es) (inr m) = let r = one es m in (suc r.0, r.1)
+
+module _ (may : ℕ → Entry → Type 0) (floor : List Entry → ℕ → Type 0) (shelf : List ℕ) (low : (log : List Entry) (n : ℕ) → floor log n → n ≤ length log) (old new more : List Event) (seen : new ≡ old ++ more) (legal : IsLegal may floor shelf new) (log : List Entry) (front : IsFront Holds new log) (reach : tail_of (state_of old) ≤ length log) where
+  each_appended : (e : Entry) → Contains log e → Contains (appended new) e
+  each_appended e h = let at = stands_at log e h in held_appended may floor shelf new at.0 e legal (front at.0 e at.1)
+
+  -- what a line of a member came to stays below its position
+  below : (node : ℕ) (look : Looked) (trim : ℕ) → has_left (unpack_all 0 log) node ≡ false → ((n : ℕ) → n ≤ position_of (unpack_all 0 log) node → n ≤ trim) → HasToldSo old node look → StaysBelow trim look
+  below node (looked.Found after found) trim stays upto h = tt
+  below node (looked.Kept k) trim stays upto h = tt
+  below node (looked.Failed k) trim stays upto h = tt
+  below node (looked.Extended x) trim stays upto h = tt
+  below node (looked.Reported n) trim stays upto h =
+      let p = said_in may floor shelf old new more seen legal low log front reach (content.Alive node n) h in
+      upto n (says_position (unpack_all 0 log) p.0 node n p.1 p.2)
+  below node looked.Left trim stays upto h =
+      let p = said_in may floor shelf old new more seen legal low log front reach (content.Leave node) h in
+      let gone = says_left (unpack_all 0 log) p.0 node p.1 p.2 in
+      let clash : true ≡ false = sym gone ∙ stays in
+      cc
+  below node (looked.Trimmed t) trim stays upto h = tt
+
+  pub lowest_is : (lines : List NamedLine) (looks looks' : List (Option Looked)) (nodes n j : ℕ) (l : NamedLine) (trim : ℕ) → 1 ≤ n → n ≤ nodes → HasNotLeft n new → least_position nodes (unpack_all 0 log) ≤ trim
+      → ((i : ℕ) (m : NamedLine) (look : Looked) → slice_get lines i ≡ Some m → slice_get looks i ≡ Some (Some look) → HasToldSo old m.node look)
+      → ((i : ℕ) (m : NamedLine) (look : Looked) → slice_get lines i ≡ Some m → slice_get looks' i ≡ Some (Some look) → GoesFirst i m j l → slice_get looks i ≡ Some (Some look))
+      → IsLowest lines looks' nodes j l trim
+  lowest_is lines looks looks' nodes n j l trim least most stays reached stand were = record {
+    node = first.node;
+    least = first.low;
+    most = first.high;
+    each = λ i m look at own come before.
+        below first.node look trim first.stays (λ k upto. omega (arith, upto, first.is, reached)) (subst (λ k. HasToldSo old k look) own (stand i m look at (were i m look at come before)));
+  }
+    where
+      first : IsLeast nodes (unpack_all 0 log)
+      first = least_at nodes n (unpack_all 0 log) least most (is_member new log each_appended n stays)

@@ -1,0 +1,50 @@
+-- What entries say that were appended: who told of itself that it left, or how much it needs no more.
+use Rattle.std.proofs.Common.{◌≡◌, refl, ◌∙◌, ◌⊎◌, inl, inr, ⊎_elim, ℕ, ◌≤◌, Bool, true, false, List, Contains, arith}
+use Rattle.delos_types.specs.declared.entry.Entry.{Entry}
+use Rattle.legal_journal.specs.declared.events.Event.{Event}
+use Rattle.journal_changes.specs.Changes.{appended}
+use Rattle.engine_api.specs.declared.content.Content.{Content}
+use Rattle.engine_api.specs.declared.content.Content.TheVariants as content
+use Rattle.engine_api.specs.declared.content.Placed.{Placed}
+use Rattle.engine_api.specs.Items.{unpack}
+use Rattle.engine_api.specs.Acted.{unpack_all}
+use Rattle.engine_api.specs.Members.{has_left, position_of}
+use Rattle.member_laws.proofs.Membership.{left_says, position_says, unpack_says}
+use Rattle.node_workers.specs.Workers.{HasNotLeft}
+use Rattle.run_course.specs.Telling.{ReportsUpTo}
+
+-- an entry that was appended says it
+pub record IsSaid (seen : List Event) (c : Content) : Type 0 where
+  pub entry : Entry
+  pub appended_is : Contains (appended seen) entry
+  pub placed : Placed
+  pub among : Contains (unpack 0 entry) placed
+  pub is : placed.content ≡ c
+
+module _ (seen : List Event) (log : List Entry) (each : (e : Entry) → Contains log e → Contains (appended seen) e) where
+  said : (p : Placed) (c : Content) → Contains (unpack_all 0 log) p → p.content ≡ c → IsSaid seen c
+  said p c h is =
+      let u = unpack_says log p h in
+      record { entry = u.0; appended_is = each u.0 u.1; placed = u.2; among = u.3; is = u.4 ∙ is }
+
+  pub left_said : (k : ℕ) → has_left (unpack_all 0 log) k ≡ true → IsSaid seen (content.Leave k)
+  left_said k h = let p = left_says (unpack_all 0 log) k h in said p.0 (content.Leave k) p.1 p.2
+
+  pub position_said : (k : ℕ) → (position_of (unpack_all 0 log) k ≡ 0) ⊎ IsSaid seen (content.Alive k (position_of (unpack_all 0 log) k))
+  position_said k = ⊎_elim (λ (none : position_of (unpack_all 0 log) k ≡ 0). inl none)
+      (λ (p : (p : Placed) × Contains (unpack_all 0 log) p × (p.content ≡ content.Alive k (position_of (unpack_all 0 log) k))). inr (said p.0 (content.Alive k (position_of (unpack_all 0 log) k)) p.1 p.2))
+      (position_says (unpack_all 0 log) k)
+
+  -- a node is a member as long as it said nothing else
+  pub is_member : (k : ℕ) → HasNotLeft k seen → has_left (unpack_all 0 log) k ≡ false
+  is_member k stays = by (has_left (unpack_all 0 log) k) (λ h. left_said k h)
+    where
+      by : (b : Bool) → (b ≡ true → IsSaid seen (content.Leave k)) → b ≡ false
+      by true h = absurd (let s = h refl in stays s.entry s.placed s.appended_is s.among s.is)
+      by false h = refl
+
+  -- its position isn't above what it reported
+  pub position_low : (k cursor : ℕ) → ReportsUpTo k cursor seen → position_of (unpack_all 0 log) k ≤ cursor
+  position_low k cursor upto = ⊎_elim (λ (none : position_of (unpack_all 0 log) k ≡ 0). omega (arith, none))
+      (λ (s : IsSaid seen (content.Alive k (position_of (unpack_all 0 log) k))). upto s.entry s.placed s.appended_is s.among (position_of (unpack_all 0 log) k) s.is)
+      (position_said k)

@@ -1,0 +1,146 @@
+-- A line had its node trim the log.
+use Rattle.std.proofs.Common.{◌≡◌, sym, ◌∙◌, subst, ◌⊎◌, inl, inr, ⊎_elim, Contains, ℕ, ◌+◌, ◌≤◌, List, [], ◌∷◌, Option, Some, None, map, slice_get, slice_set, arith}
+use Rattle.delos_types.specs.Spaces.{SpaceMap}
+use Rattle.delos_types.specs.declared.entry.Entry.{Entry}
+use Rattle.legal_journal.specs.declared.events.Event.{Event}
+use Rattle.legal_journal.specs.Journal.{IsLegal}
+use Rattle.legal_journal.specs.Sealing.{Unsealed}
+use Rattle.journal_changes.specs.Changes.{TrimsUpTo, appended}
+use Rattle.virtual_log.specs.declared.extend.Extension.{Extension}
+use Rattle.engine_api.specs.declared.content.Content.TheVariants as content
+use Rattle.engine_api.specs.declared.content.Placed.{Placed}
+use Rattle.engine_api.specs.Items.{unpack}
+use Rattle.engine_api.specs.Acted.{unpack_all}
+use Rattle.engine_api.specs.Members.{least_position}
+use Rattle.engine_api.specs.Packing.{packed, trim_item}
+use Rattle.replica_api.specs.Replica.{Saved}
+use Rattle.script_text.specs.declared.line.Admin.TheVariants.{Trim}
+use Rattle.script_text.specs.declared.asks.NamedLine.{NamedLine}
+use Rattle.script_text.specs.declared.asks.Asks.TheVariants as asks
+use Rattle.one_thread.specs.Alone.{Since}
+use Rattle.one_thread.specs.Seats.{SeatView, node_of}
+use Rattle.node_sessions.specs.declared.desk.Desk.{Desk}
+use Rattle.node_lines.specs.declared.lines.Looked.{Looked}
+use Rattle.node_lines.specs.declared.lines.Looked.TheVariants as looked
+use Rattle.node_lines.specs.Trimming.{HasTrimmed, TrimsLog, TrimsSo}
+use Rattle.node_workers.specs.Workers.{HasNotLeft, IsCommand, IsOfSessions, MayRun, SaysAlone, TrimAdds, Within, WorkerOk}
+use Rattle.run_course.specs.Script.{AreLines}
+use Rattle.run_course.specs.Course.{Course, CourseOk}
+use Rattle.run_course.specs.Desks.{IsOfNode}
+use Rattle.run_course.specs.Leaving.{LeftSo}
+use Rattle.run_course.specs.Reporting.{ReportedSo}
+use Rattle.run_course.specs.Telling.{HasToldSo, IsLowest, IsTrim}
+use Rattle.run_course.specs.Workers.{LineWent, WorkerAt}
+use Rattle.run_course.proofs.Legal.{worker_legal}
+use Rattle.run_course.proofs.Told.{TellsOn, alone_is, command_is, earlier_were, looks_stay, tells_one}
+use Rattle.run_course.proofs.Lowest.{lowest_is}
+use Rattle.run_course.proofs.Turning.{not_left}
+use Rattle.run_course.proofs.Advance.{advanced, failed_of}
+use Rattle.run_course.proofs.Telling.{line_told, stands_now}
+
+module _ (may : ℕ → Entry → Type 0) (floor : List Entry → ℕ → Type 0) (shelf : List ℕ) (state : List Entry → SpaceMap → Type 0) (spells : List ℕ → Saved → Type 0) (run : MayRun may floor shelf) (lines : List NamedLine) (home : ℕ → ℕ) (nodes : ℕ) (c : Course) (counts : List ℕ) (looks : List (Option Looked)) (n from i : ℕ) (line : NamedLine) (look : Looked) (seat seat' : SeatView) (desks : List Desk) (journal : List Event) (are : AreLines lines home nodes) (least : 1 ≤ n) (most : n ≤ nodes) (at : slice_get lines i ≡ Some line) (node : line.node ≡ n) (phase : line.phase ≡ c.phase) (asks_is : line.asks ≡ asks.Admin Trim) (ok : CourseOk may floor shelf lines nodes c counts looks) (worker : WorkerAt may floor shelf state spells lines home nodes c counts looks n from i c.phase seat desks) (since : Since n c.journal journal) (still : Unsealed c.journal journal) (adds : TrimAdds c.journal journal) (high : TrimsUpTo seat'.node.replica.cursor journal) (does : TrimsLog (Within may counts) floor shelf (node_of seat c.journal) (node_of seat' journal) look) (now : WorkerOk may floor shelf state spells n counts journal seat' desks) where
+  abbrev then' : Course
+  then' = advanced c n (map (λ g. g.cause) does.moves.goes.given) journal c.when
+
+  abbrev So : Looked → Type 0
+  So = TrimsSo (node_of seat c.journal) (node_of seat' journal) does.others
+
+  legal : IsLegal (Within may counts) floor shelf journal
+  legal = worker_legal may floor shelf state spells n counts journal seat' desks now
+
+  not_yet : slice_get looks i ≡ Some None
+  not_yet = worker.waiting i line (omega arith) at node
+
+  abbrev looks' : List (Option Looked)
+  looks' = slice_set looks i (Some look)
+
+  -- what the calls came across but what sessions were given is by what the log failed, or the disk
+  paid_is : (x : Looked) → So x → does.others ≡ failed_of x
+  paid_is (looked.Found after found) h = absurd h
+  paid_is (looked.Kept k) h = absurd h
+  paid_is (looked.Failed k) h = h
+  paid_is (looked.Extended x) h = absurd h
+  paid_is (looked.Reported position) h = absurd h
+  paid_is looked.Left h = absurd h
+  paid_is (looked.Trimmed trim) h = h.0
+
+  of_node : (x : Looked) → So x → IsOfNode Trim x
+  of_node (looked.Found after found) h = h
+  of_node (looked.Kept k) h = h
+  of_node (looked.Failed k) h = tt
+  of_node (looked.Extended x) h = h
+  of_node (looked.Reported position) h = h
+  of_node looked.Left h = h
+  of_node (looked.Trimmed trim) h = tt
+
+  -- nothing was replaced
+  none : (x : Extension) → look ≡ looked.Extended x → ⊥
+  none x is = subst So is does.trims
+
+  -- it told nothing of itself
+  none_reported : (x : Looked) → So x → ReportedSo journal (then'.tails line.phase) seat'.node.replica.cursor n x
+  none_reported (looked.Found after found) h = tt
+  none_reported (looked.Kept k) h = tt
+  none_reported (looked.Failed k) h = tt
+  none_reported (looked.Extended x) h = tt
+  none_reported (looked.Reported position) h = absurd h
+  none_reported looked.Left h = tt
+  none_reported (looked.Trimmed trim) h = tt
+
+  none_left : (x : Looked) → So x → LeftSo journal seat'.node.replica.cursor n x
+  none_left (looked.Found after found) h = tt
+  none_left (looked.Kept k) h = tt
+  none_left (looked.Failed k) h = tt
+  none_left (looked.Extended x) h = tt
+  none_left (looked.Reported position) h = tt
+  none_left looked.Left h = absurd h
+  none_left (looked.Trimmed trim) h = tt
+
+  stood : (x : Looked) → So x → HasToldSo journal n x
+  stood (looked.Found after found) h = tt
+  stood (looked.Kept k) h = tt
+  stood (looked.Failed k) h = tt
+  stood (looked.Extended x) h = tt
+  stood (looked.Reported position) h = absurd h
+  stood looked.Left h = absurd h
+  stood (looked.Trimmed trim) h = tt
+
+  tells : TellsOn lines looks' n seat.node.replica.cursor seat'.node.replica.cursor c.journal journal
+  tells =
+      tells_one (Within may counts) floor shelf c.journal journal does.moves.goes.spends.more does.moves.goes.spends.seen legal lines looks looks' n seat.node.replica.cursor seat'.node.replica.cursor
+      (looks_stay looks i look not_yet) does.moves.goes.keeps.forward ok.told (content.Trim adds.position) adds.clean tt adds.adds
+
+  -- the node hadn't left, and didn't
+  stays : HasNotLeft n journal
+  stays = λ e p sent among is. ⊎_elim (λ (was : Contains (appended c.journal) e). not_left lines home nodes are looks c.journal ok.told n i i line at node (omega arith) worker.waiting e p was among is)
+      (λ (now' : IsOfSessions e ⊎ SaysAlone (content.Trim adds.position) e). none_now e p among is now')
+      (adds.adds e sent)
+    where
+      apart : content.Trim adds.position ≡ content.Leave n → ⊥
+      apart e = cc
+
+      none_now : (e : Entry) (p : Placed) → Contains (unpack 0 e) p → p.content ≡ content.Leave n → IsOfSessions e ⊎ SaysAlone (content.Trim adds.position) e → ⊥
+      none_now e p among is (inl all) = subst IsCommand is (command_is e p all among)
+      none_now e p among is (inr alone) = apart (sym (alone_is (content.Trim adds.position) e p alone among) ∙ is)
+
+  -- it trimmed the log no lower than some node needs
+  lowest : (trim : ℕ) → HasTrimmed (node_of seat c.journal) (node_of seat' journal) trim → IsLowest lines looks' nodes i line trim
+  lowest trim h =
+      lowest_is (Within may counts) floor shelf run.low c.journal journal does.moves.goes.spends.more does.moves.goes.spends.seen legal h.log h.front h.from lines looks looks' nodes n i line trim least most stays
+      (subst (λ k. least_position k (unpack_all 0 h.log) ≤ trim) worker.nodes_is h.reached) ok.stand (earlier_were looks i look not_yet lines line at)
+
+  trimmed : (trim : ℕ) → look ≡ looked.Trimmed trim → IsTrim lines looks' nodes journal i line trim
+  trimmed trim is =
+      let h : So (looked.Trimmed trim) = subst So is does.trims in
+      record {
+        lowest = lowest trim h.1;
+        upto = h.1.upto;
+        position = h.1.position;
+        stands = stands_now (Within may counts) floor shelf seat.who h.1.synced journal (packed seat.node.replica.origin (trim_item h.1.position ∷ [])) legal h.1.landed (content.Trim h.1.position) h.1.says;
+      }
+
+  pub line_trimmed : LineWent may floor shelf state spells lines home nodes c counts counts looks (slice_set looks i (Some look)) n from (i + 1) journal seat' desks
+  line_trimmed =
+      line_told may floor shelf state spells lines home nodes c counts looks n from i line Trim look seat seat' desks journal are least most at node phase asks_is ok worker since still does.others does.moves now none
+      (paid_is look does.trims) (of_node look does.trims) (none_reported look does.trims) (none_left look does.trims)
+      tells (stood look does.trims) trimmed high
