@@ -24,7 +24,7 @@ mapped {A} {B} f xs j y at = by (slice_get xs j) refl (sym (slice_get-map f xs j
     by None is e = absurd (cc)
     by (Some x) is e = (x, is, cc)
 
-module _ {A : Type 0} (may : ℕ → Entry → Type 0) (floor : List Entry → ℕ) (shelf : List ℕ) (state : List Entry → SpaceMap → Type 0) (spells : List ℕ → Saved → Type 0) (lines : List NamedLine) (seat : A → SeatView) (desks : A → List Desk) (workers : List A) (journal : List Event) (counts : List ℕ) (looks : List (Option Looked)) where
+module _ {A : Type 0} (may : ℕ → Entry → Type 0) (floor : List Entry → ℕ → Type 0) (shelf : List ℕ) (state : List Entry → SpaceMap → Type 0) (spells : List ℕ → Saved → Type 0) (lines : List NamedLine) (seat : A → SeatView) (desks : A → List Desk) (workers : List A) (journal : List Event) (counts : List ℕ) (looks : List (Option Looked)) where
   abbrev ends : List WorkerEnd
   ends = map (λ w. record { seat = seat w; desks = desks w }) workers
 
@@ -45,7 +45,8 @@ module _ {A : Type 0} (may : ℕ → Entry → Type 0) (floor : List Entry → �
       over = h.over;
       front = h.front;
       each = λ j e at. let from = mapped (λ (w : A). record { seat = seat w; desks = desks w }) workers j e at in
-          subst (WorkerClosed may floor shelf state spells lines h.home h.course counts looks h.log (j + 1)) from.2
-          (h.taken j from.0 (slice_get_within workers j from.0 from.1) from.1);
+          subst (λ n. WorkerClosed may floor shelf state spells lines h.home n h.course counts looks h.log (j + 1) e) (sym long)
+          (subst (WorkerClosed may floor shelf state spells lines h.home (length workers) h.course counts looks h.log (j + 1)) from.2
+          (h.taken j from.0 (slice_get_within workers j from.0 from.1) from.1));
     },
   )

@@ -8,6 +8,7 @@ use Rattle.delos_types.specs.Spaces.{SpaceMap}
 use Rattle.delos_types.specs.declared.entry.Entry.{Entry}
 use Rattle.legal_journal.specs.declared.events.Event.{Event}
 use Rattle.legal_journal.specs.Sealing.{Unsealed}
+use Rattle.journal_changes.specs.Changes.{Adds}
 use Rattle.replica_api.specs.Replica.{Saved}
 use Rattle.script_text.specs.declared.asks.NamedLine.{NamedLine}
 use Rattle.one_thread.specs.Alone.{Since}
@@ -15,8 +16,7 @@ use Rattle.one_thread.specs.Seats.{SeatView, SeatOk, node_of}
 use Rattle.node_sessions.specs.declared.desk.Desk.{Desk}
 use Rattle.node_lines.specs.declared.lines.Looked.{Looked}
 use Rattle.node_lines.specs.Moving.{Moves}
-use Rattle.node_workers.specs.Workers.{MayRun, Within, WorkerOk}
-use Rattle.node_workers.proofs.Widening.{seat_allowed}
+use Rattle.node_workers.specs.Workers.{Within, WorkerOk, IsOfSessions}
 use Rattle.run_course.specs.Script.{AreLines}
 use Rattle.run_course.specs.Course.{CourseOk}
 use Rattle.run_course.specs.Workers.{Rests, NodeFinished}
@@ -24,12 +24,13 @@ use Rattle.run_course.proofs.Waiting.{rests_on}
 use Rattle.run_course.proofs.Finishing.{node_finished}
 use Rattle.node_crew.specs.Crews.{CrewRests, CrewStands}
 use Rattle.node_crew.proofs.Crews.{apart, changed}
+use Rattle.node_crew.proofs.Playing.{worker_stands}
 use Rattle.crew_closing.specs.Finishing.{HasMost}
 
-module _ {A : Type 0} (may : ℕ → Entry → Type 0) (floor : List Entry → ℕ) (shelf : List ℕ) (state : List Entry → SpaceMap → Type 0) (spells : List ℕ → Saved → Type 0) (lines : List NamedLine) (seat : A → SeatView) (desks : A → List Desk) (workers : List A) (from phase : ℕ) (journal : List Event) (counts : List ℕ) (looks : List (Option Looked)) (h : CrewRests may floor shelf state spells lines from phase journal counts looks seat desks workers) where
+module _ {A : Type 0} (may : ℕ → Entry → Type 0) (floor : List Entry → ℕ → Type 0) (shelf : List ℕ) (state : List Entry → SpaceMap → Type 0) (spells : List ℕ → Saved → Type 0) (lines : List NamedLine) (seat : A → SeatView) (desks : A → List Desk) (workers : List A) (from phase : ℕ) (journal : List Event) (counts : List ℕ) (looks : List (Option Looked)) (h : CrewRests may floor shelf state spells lines from phase journal counts looks seat desks workers) where
   -- nodes that rest can take the fabric
   pub rests_stand : CrewStands may floor shelf state spells journal seat workers
-  rests_stand j w at = seat_allowed may counts floor shelf state spells journal (seat w) (subst (λ i. SeatOk (Within may counts) floor shelf state spells i (seat w)) h.journal_is (h.each j w at).worker.ok.ok)
+  rests_stand j w at = subst (λ i. SeatOk may floor shelf state spells i (seat w)) h.journal_is (worker_stands may floor shelf state spells (j + 1) counts h.course.journal (seat w) (desks w) (h.each j w at).worker.ok)
 
   -- there is a node
   pub some_node : 0 < length workers
@@ -41,7 +42,7 @@ module _ {A : Type 0} (may : ℕ → Entry → Type 0) (floor : List Entry → �
       let ok = (h.each k w at).worker.ok in
       subst (λ n. WorkerOk may floor shelf state spells n counts journal (seat w) (desks w)) (sym ok.who_is) (subst (λ i. WorkerOk may floor shelf state spells (k + 1) counts i (seat w) (desks w)) h.journal_is ok)
 
-  module _ (run : MayRun may floor shelf) (k : ℕ) (journal' : List Event) (w w' : A) (at : slice_get workers k ≡ Some w) (since : Since (seat w).who journal journal') (still : Unsealed journal journal') (moves : Moves (Within may counts) floor shelf (node_of (seat w) journal) (node_of (seat w') journal') []) (same : (seat w').node.outbox ≡ (seat w).node.outbox) (now : WorkerOk may floor shelf state spells (seat w).who counts journal' (seat w') (desks w')) (kept : desks w' ≡ desks w) where
+  module _ (k : ℕ) (journal' : List Event) (w w' : A) (at : slice_get workers k ≡ Some w) (since : Since (seat w).who journal journal') (still : Unsealed journal journal') (adds : Adds IsOfSessions journal journal') (moves : Moves (Within may counts) floor shelf (node_of (seat w) journal) (node_of (seat w') journal') []) (same : (seat w').node.outbox ≡ (seat w).node.outbox) (now : WorkerOk may floor shelf state spells (seat w).who counts journal' (seat w') (desks w')) (kept : desks w' ≡ desks w) where
     who : (seat w).who ≡ k + 1
     who = (h.each k w at).worker.ok.who_is
 
@@ -53,9 +54,10 @@ module _ {A : Type 0} (may : ℕ → Entry → Type 0) (floor : List Entry → �
 
     done : NodeFinished may floor shelf state spells lines h.home (length workers) h.course counts looks (k + 1) from phase journal' (seat w') (desks w)
     done =
-        node_finished may floor shelf state spells run lines h.home (length workers) h.course counts looks (k + 1) from phase (seat w) (seat w') (desks w) journal' (omega arith) there h.begins low h.ok (h.each k w at)
+        node_finished may floor shelf state spells lines h.home (length workers) h.course counts looks (k + 1) from phase (seat w) (seat w') (desks w) journal' (omega arith) there h.begins low h.ok (h.each k w at)
         (subst (λ n. Since n h.course.journal journal') who (subst (λ i. Since (seat w).who i journal') (sym h.journal_is) since))
         (subst (λ i. Unsealed i journal') (sym h.journal_is) still)
+        (subst (λ i. Adds IsOfSessions i journal') (sym h.journal_is) adds)
         (subst (λ i. Moves (Within may counts) floor shelf (node_of (seat w) i) (node_of (seat w') journal') []) (sym h.journal_is) moves) same
         (subst (λ n. WorkerOk may floor shelf state spells n counts journal' (seat w') (desks w)) who (subst (WorkerOk may floor shelf state spells (seat w).who counts journal' (seat w')) kept now))
 
@@ -73,14 +75,14 @@ module _ {A : Type 0} (may : ℕ → Entry → Type 0) (floor : List Entry → �
       begins = h.begins;
       ok = subst (λ n. CourseOk may floor shelf lines n done.course counts looks) (sym size) done.ok;
       long = h.long;
-      each = λ j x is. by j x (changed workers k j w w' x at is);
+      each = λ j x is. subst (λ n. Rests may floor shelf state spells lines h.home n done.course counts looks (j + 1) from phase (seat x) (desks x)) (sym size) (by j x (changed workers k j w w' x at is));
     }
       where
-        by : (j : ℕ) (x : A) → ((j ≡ k) × (w' ≡ x)) ⊎ ((j ≢ k) × (slice_get workers j ≡ Some x)) → Rests may floor shelf state spells lines h.home done.course counts looks (j + 1) from phase (seat x) (desks x)
+        by : (j : ℕ) (x : A) → ((j ≡ k) × (w' ≡ x)) ⊎ ((j ≢ k) × (slice_get workers j ≡ Some x)) → Rests may floor shelf state spells lines h.home (length workers) done.course counts looks (j + 1) from phase (seat x) (desks x)
         by j x (inl here) =
-            subst (λ y. Rests may floor shelf state spells lines h.home done.course counts looks (j + 1) from phase (seat y) (desks y)) here.1
-            (subst (λ i. Rests may floor shelf state spells lines h.home done.course counts looks (i + 1) from phase (seat w') (desks w')) (sym here.0)
-            (subst (Rests may floor shelf state spells lines h.home done.course counts looks (k + 1) from phase (seat w')) (sym kept) done.rests))
+            subst (λ y. Rests may floor shelf state spells lines h.home (length workers) done.course counts looks (j + 1) from phase (seat y) (desks y)) here.1
+            (subst (λ i. Rests may floor shelf state spells lines h.home (length workers) done.course counts looks (i + 1) from phase (seat w') (desks w')) (sym here.0)
+            (subst (Rests may floor shelf state spells lines h.home (length workers) done.course counts looks (k + 1) from phase (seat w')) (sym kept) done.rests))
         by j x (inr other) =
             rests_on may floor shelf state spells lines h.home (length workers) h.course done.course counts counts looks looks (k + 1) (j + 1) from phase (seat x) (desks x) h.lines_are (apart j k other.0) h.begins low h.ok done.turn done.ok (h.each j x other.1)
 
@@ -144,3 +146,25 @@ module _ {A : Type 0} (seat : A → SeatView) (workers : List A) where
         by x (inl some) (inr other) = h.at some x other.1
         by x (inr none) (inl here) = let first = h.start (omega (arith, none)) in subst (λ y. (seat y).node.replica.cursor ≡ cursor) here.1 (omega (arith, is, few, first.1))
         by x (inr none) (inr other) = let first = h.start (omega (arith, none)) in absurd (other.0 (omega (arith, none, first.0)))
+
+  -- the one that had played most has played on
+  pub most_again : (node cursor new : ℕ) (w w' : A) → slice_get workers node ≡ Some w → (seat w').node.replica.cursor ≡ new → cursor ≤ new → HasMost seat workers (length workers) node cursor
+      → HasMost seat (slice_set workers node w') (length (slice_set workers node w')) node new
+  most_again node cursor new w w' at is up h = record {
+    there = let inside = h.there in omega (arith, inside, long);
+    start = λ none. absurd (let inside = h.there in omega (arith, inside, none, long));
+    low = λ some. let inside = h.there in omega (arith, inside, long);
+    at = λ some x get. by x (changed workers node node w w' x at get);
+    most = λ j x low get. upto j x (changed workers node j w w' x at get);
+  }
+    where
+      long : length (slice_set workers node w') ≡ length workers
+      long = length-set workers node w'
+
+      by : (x : A) → ((node ≡ node) × (w' ≡ x)) ⊎ ((node ≢ node) × (slice_get workers node ≡ Some x)) → (seat x).node.replica.cursor ≡ new
+      by x (inl here) = subst (λ y. (seat y).node.replica.cursor ≡ new) here.1 is
+      by x (inr other) = absurd (other.0 refl)
+
+      upto : (j : ℕ) (x : A) → ((j ≡ node) × (w' ≡ x)) ⊎ ((j ≢ node) × (slice_get workers j ≡ Some x)) → (seat x).node.replica.cursor ≤ new
+      upto j x (inl here) = subst (λ y. (seat y).node.replica.cursor ≤ new) here.1 (omega (arith, is))
+      upto j x (inr other) = let low = h.most j x (slice_get_within workers j x other.1) other.1 in omega (arith, low, up)

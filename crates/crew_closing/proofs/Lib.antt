@@ -5,3 +5,4 @@ pub mod Finishing
 pub mod Seeing
 pub mod Taking
 pub mod Closing
+pub mod Reaching

@@ -6,6 +6,8 @@ use Rattle.legal_journal.specs.declared.events.Event.{Event}
 use Rattle.legal_journal.specs.declared.events.FabricCall.{FabricCall}
 use Rattle.legal_journal.specs.declared.events.FabricCall.TheVariants.{ReadChain, MendMeta}
 use Rattle.legal_journal.specs.Journal.{IsLegal, state_of}
+use Rattle.journal_changes.specs.Changes.{Adds}
+use Rattle.journal_changes.proofs.Changes.{adds_none}
 use Rattle.journal_faults.specs.Faults.{faults_in}
 use Rattle.unsealed_chain.specs.Unsealed.{IsUnsealed}
 use Rattle.fabric_core.specs.Fabric.{FabricView}
@@ -15,14 +17,15 @@ use Rattle.one_thread.specs.Alone.{AreOwn, Since}
 use Rattle.one_thread.specs.Seats.{SeatView}
 use Rattle.node_sessions.specs.declared.desk.Desk.{Desk}
 use Rattle.node_lines.specs.declared.lines.Looked.{Looked}
-use Rattle.node_workers.specs.Workers.{Within}
+use Rattle.node_workers.specs.Workers.{IsOfSessions, Within}
 use Rattle.run_course.specs.Course.{Course, CourseOk, TurnOf}
 use Rattle.run_course.specs.Replacing.{has_replaced}
 use Rattle.run_course.proofs.Advance.{advanced, advance_still, turned}
+use Rattle.run_course.proofs.Told.{TellsOn, tells_commands}
 use Rattle.run_course.proofs.Waiting.{rests_on}
 use Rattle.node_crew.specs.Crews.{CrewRests}
 use Rattle.course_ends.specs.Reads.{AreReads}
-use Rattle.course_ends.proofs.Reading.{reads_legal, reads_unsealed, zero-apart}
+use Rattle.course_ends.proofs.Reading.{appended_none, reads_legal, reads_unsealed, zero-apart}
 use Rattle.last_chain.specs.Last.{OpenedOnce, calls_of}
 
 -- What the register was asked
@@ -63,7 +66,7 @@ own_more who early new more since seen = subst (AreOwn who) (cancel early since.
 
 -- The nodes
 
-module _ {A : Type 0} (may : ℕ → Entry → Type 0) (floor : List Entry → ℕ) (shelf : List ℕ) (state : List Entry → SpaceMap → Type 0) (spells : List ℕ → Saved → Type 0) (lines : List NamedLine) (seat : A → SeatView) (desks : A → List Desk) (workers : List A) (from phase : ℕ) (journal more : List Event) (counts : List ℕ) (looks : List (Option Looked)) (h : CrewRests may floor shelf state spells lines from phase journal counts looks seat desks workers) (own : AreOwn 0 more) (reads : AreReads more) (legal : IsLegal may floor shelf (journal ++ more)) where
+module _ {A : Type 0} (may : ℕ → Entry → Type 0) (floor : List Entry → ℕ → Type 0) (shelf : List ℕ) (state : List Entry → SpaceMap → Type 0) (spells : List ℕ → Saved → Type 0) (lines : List NamedLine) (seat : A → SeatView) (desks : A → List Desk) (workers : List A) (from phase : ℕ) (journal more : List Event) (counts : List ℕ) (looks : List (Option Looked)) (h : CrewRests may floor shelf state spells lines from phase journal counts looks seat desks workers) (own : AreOwn 0 more) (reads : AreReads more) (legal : IsLegal may floor shelf (journal ++ more)) where
   within : IsLegal (Within may counts) floor shelf (journal ++ more)
   within = reads_legal (Within may counts) may floor shelf journal more reads (subst (IsLegal (Within may counts) floor shelf) h.journal_is h.ok.legal) legal
 
@@ -76,12 +79,18 @@ module _ {A : Type 0} (may : ℕ → Entry → Type 0) (floor : List Entry → �
   abbrev then' : Course
   then' = advanced h.course 0 [] (journal ++ more) h.course.when
 
+  tells : TellsOn lines looks 0 0 0 h.course.journal (journal ++ more)
+  tells =
+      tells_commands (Within may counts) floor shelf h.course.journal (journal ++ more) more seen within lines looks looks 0 0 0 (λ i look at. at) (omega arith) h.ok.told
+      (subst (Adds IsOfSessions h.course.journal) (sym seen) (adds_none IsOfSessions h.course.journal more (appended_none more reads)))
+
   ok : CourseOk may floor shelf lines (length workers) then' counts looks
   ok = advance_still may floor shelf lines (length workers) h.course counts looks h.ok 1 [] (journal ++ more) more h.course.when counts seen within (omega arith) some (λ P store. omega arith)
       (reads_unsealed may floor shelf journal more (count_by has_replaced looks) legal reads (subst (λ es. faults_in es ≡ [] → IsUnsealed (state_of es) (count_by has_replaced looks)) h.journal_is h.ok.unsealed))
+      tells.told
 
   turn : TurnOf lines h.home 0 h.course then' counts counts looks looks
-  turn = turned lines h.home 0 h.course [] (journal ++ more) h.course.when counts counts looks looks (record { more = more; seen = seen; own = own }) (λ s other. refl) (λ s other. refl) (λ s. omega arith) refl (λ i l at other. refl) (λ by none. refl)
+  turn = turned lines h.home 0 h.course [] (journal ++ more) h.course.when counts counts looks looks (record { more = more; seen = seen; own = own }) (λ s other. refl) (λ s other. refl) (λ s. omega arith) refl (λ i l at other. refl) (λ m cursor other. tells.others m cursor other) (λ by none. refl)
 
   pub crew_read : CrewRests may floor shelf state spells lines from phase (journal ++ more) counts looks seat desks workers
   crew_read = record {

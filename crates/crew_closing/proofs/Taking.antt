@@ -1,6 +1,6 @@
 -- The answers of sessions are taken, node by node.
 use Rattle.std.proofs.Common.{◌≡◌, ◌≢◌, refl, sym, ap, ◌∙◌, subst, ◌⊎◌, inl, inr, ℕ, ◌+◌, ◌<◌, ◌≤◌, List, [], Option, Some, length, arith, append-nil}
-use Rattle.std.specs.Prelude.{slice_get, slice_set}
+use Rattle.std.specs.Prelude.{All, slice_get, slice_set}
 use Rattle.std.specs.List.{AllByRecursion}
 use Rattle.std.proofs.lemmas.Bool.{cases_lt}
 use Rattle.std.proofs.lemmas.List.{length-set}
@@ -23,11 +23,11 @@ use Rattle.node_sessions.specs.Desks.{AreAllAnswers}
 use Rattle.node_lines.specs.declared.lines.Looked.{Looked}
 use Rattle.node_lines.specs.Moving.{CanPack, IsQuiet}
 use Rattle.node_lines.specs.Desks.{DesksOk}
-use Rattle.node_workers.specs.Workers.{MayRun, Within, WorkerOk}
-use Rattle.node_workers.proofs.Widening.{seat_allowed}
-use Rattle.node_workers.proofs.Working.{are_bound}
+use Rattle.node_workers.specs.Workers.{IsOfSession, Sends, Within, WorkerOk}
+use Rattle.node_workers.proofs.Scoping.{seat_allowed}
 use Rattle.worker_laws.proofs.Bounding.{answers_stay}
 use Rattle.run_laws.specs.Ended.{CameTo}
+use Rattle.run_course.specs.Telling.{ReportsUpTo}
 use Rattle.run_course.specs.Script.{AreLines}
 use Rattle.run_course.specs.Course.{Course, CourseOk}
 use Rattle.run_course.specs.Desks.{PlayedSo}
@@ -37,44 +37,47 @@ use Rattle.node_crew.proofs.Crews.{changed}
 use Rattle.node_closing.specs.Taking.{CanTakeAll, TakesAll}
 use Rattle.course_ends.specs.Closing.{WorkerClosed, DeskClosed}
 use Rattle.crew_closing.specs.Finishing.{HasMost, SeesAll}
-use Rattle.crew_closing.specs.Taking.{CrewTakes}
+use Rattle.crew_closing.specs.Taking.{CrewTakes, WaitsToTake}
 use Rattle.crew_closing.proofs.Putting.{some_at, same_some}
 
 -- a node that has slept meanwhile, and is the same
-pub rests_same : (may : ℕ → Entry → Type 0) (floor : List Entry → ℕ) (shelf : List ℕ) (state : List Entry → SpaceMap → Type 0) (spells : List ℕ → Saved → Type 0) (lines : List NamedLine) (home : ℕ → ℕ) (c : Course) (counts : List ℕ) (looks : List (Option Looked)) (n from done : ℕ) (seat seat' : SeatView) (desks : List Desk)
-    → node_of seat' c.journal ≡ node_of seat c.journal → SeatOk (Within may counts) floor shelf state spells c.journal seat'
-    → Rests may floor shelf state spells lines home c counts looks n from done seat desks → Rests may floor shelf state spells lines home c counts looks n from done seat' desks
-rests_same may floor shelf state spells lines home c counts looks n from done seat seat' desks same ok r = record {
+pub rests_same : (may : ℕ → Entry → Type 0) (floor : List Entry → ℕ → Type 0) (shelf : List ℕ) (state : List Entry → SpaceMap → Type 0) (spells : List ℕ → Saved → Type 0) (lines : List NamedLine) (home : ℕ → ℕ) (nodes : ℕ) (c : Course) (counts : List ℕ) (looks : List (Option Looked)) (n from done : ℕ) (seat seat' : SeatView) (desks : List Desk)
+    → node_of seat' c.journal ≡ node_of seat c.journal → SeatOk (Sends may counts c.journal) floor shelf state spells c.journal seat'
+    → Rests may floor shelf state spells lines home nodes c counts looks n from done seat desks → Rests may floor shelf state spells lines home nodes c counts looks n from done seat' desks
+rests_same may floor shelf state spells lines home nodes c counts looks n from done seat seat' desks same ok r = record {
   worker = record {
     ok = record {
       who_is = ap (λ (x : NodeView). x.who) same ∙ r.worker.ok.who_is;
       origin = ap (λ (x : NodeView). x.replica.origin) same ∙ r.worker.ok.origin;
       ok = ok;
       packs = subst (λ (x : NodeView). CanPack x.replica.kept) (sym same) r.worker.ok.packs;
+      waits = subst (λ (x : NodeView). All IsOfSession x.replica.kept) (sym same) r.worker.ok.waits;
       size = r.worker.ok.size;
       each = subst (λ (x : NodeView). DesksOk x desks) (sym same) r.worker.ok.each;
       counted = r.worker.ok.counted;
     };
+    nodes_is = ap (λ (x : NodeView). x.nodes) same ∙ r.worker.nodes_is;
     order = r.worker.order;
     each = r.worker.each;
     quiet = λ s e. subst (λ (x : NodeView). IsQuiet x s) (sym same) (r.worker.quiet s e);
     given = subst (λ (x : NodeView). AllByRecursion (λ (g : Given). CameTo c.faults g.cause n c.phase) x.outbox.given) (sym same) r.worker.given;
     waiting = r.worker.waiting;
     played = λ i l low at own. subst (λ (x : NodeView). PlayedSo lines c done x.replica.cursor n desks looks i l.phase l.asks) (sym same) (r.worker.played i l low at own);
+    reports = subst (λ (x : NodeView). ReportsUpTo n x.replica.cursor c.journal) (sym same) r.worker.reports;
     stores = let faults = ap (λ (x : NodeView). x.replica.faults) same in let was = r.worker.stores in omega (arith, faults, was);
   };
   none_given = ap (λ (x : NodeView). x.outbox.given) same ∙ r.none_given;
 }
 
 -- Worker j before and after answers were taken at the desks of worker k: the same node, with the same desks where it is another.
-pub record Turned {A : Type 0} (may : ℕ → Entry → Type 0) (floor : List Entry → ℕ) (shelf : List ℕ) (state : List Entry → SpaceMap → Type 0) (spells : List ℕ → Saved → Type 0) (journal : List Event) (counts : List ℕ) (seat : A → SeatView) (desks : A → List Desk) (k j : ℕ) (w w' : A) : Type 0 where
+pub record Turned {A : Type 0} (may : ℕ → Entry → Type 0) (floor : List Entry → ℕ → Type 0) (shelf : List ℕ) (state : List Entry → SpaceMap → Type 0) (spells : List ℕ → Saved → Type 0) (journal : List Event) (counts : List ℕ) (seat : A → SeatView) (desks : A → List Desk) (k j : ℕ) (w w' : A) : Type 0 where
   pub same : node_of (seat w') journal ≡ node_of (seat w) journal
-  pub ok : SeatOk (Within may counts) floor shelf state spells journal (seat w')
+  pub ok : SeatOk (Sends may counts journal) floor shelf state spells journal (seat w')
   pub kept : j ≢ k → desks w' ≡ desks w
 
-module _ {A : Type 0} (may : ℕ → Entry → Type 0) (floor : List Entry → ℕ) (shelf : List ℕ) (state : List Entry → SpaceMap → Type 0) (spells : List ℕ → Saved → Type 0) (lines : List NamedLine) (seat : A → SeatView) (desks : A → List Desk) (workers : List A) (journal : List Event) (counts : List ℕ) (looks : List (Option Looked)) where
+module _ {A : Type 0} (may : ℕ → Entry → Type 0) (floor : List Entry → ℕ → Type 0) (shelf : List ℕ) (state : List Entry → SpaceMap → Type 0) (spells : List ℕ → Saved → Type 0) (lines : List NamedLine) (seat : A → SeatView) (desks : A → List Desk) (workers : List A) (journal : List Event) (counts : List ℕ) (looks : List (Option Looked)) where
   -- all have played what they could
-  pub takes_first : (phase node cursor : ℕ) → CrewRests may floor shelf state spells lines (length lines) phase journal counts looks seat desks workers → HasMost seat workers (length workers) node cursor → SeesAll journal seat workers cursor
+  pub takes_first : (phase node cursor : ℕ) → CrewRests may floor shelf state spells lines (length lines) phase journal counts looks seat desks workers → HasMost seat workers (length workers) node cursor → SeesAll lines journal seat workers cursor
       → CrewTakes may floor shelf state spells lines node cursor 0 journal counts looks seat desks workers
   takes_first phase node cursor h m sees = record {
     home = h.home;
@@ -91,7 +94,7 @@ module _ {A : Type 0} (may : ℕ → Entry → Type 0) (floor : List Entry → �
     most = m.at some;
     taken = λ j w less at. absurd (omega (arith, less));
     waits = λ j w high at. record {
-      rests = subst (λ p. Rests may floor shelf state spells lines h.home h.course counts looks (j + 1) (length lines) p (seat w) (desks w)) (sym h.phase_is) (h.each j w at);
+      rests = subst (λ p. Rests may floor shelf state spells lines h.home (length workers) h.course counts looks (j + 1) (length lines) p (seat w) (desks w)) (sym h.phase_is) (h.each j w at);
       short = let low = m.most j w (slice_get_within workers j w at) at in let is = long in omega (arith, low, is);
     };
   }
@@ -109,27 +112,27 @@ module _ {A : Type 0} (may : ℕ → Entry → Type 0) (floor : List Entry → �
       long = front.size ∙ m.at some best.0 best.1
 
   module _ (node cursor k : ℕ) (h : CrewTakes may floor shelf state spells lines node cursor k journal counts looks seat desks workers) where
-    rest_of : (j : ℕ) (w : A) → slice_get workers j ≡ Some w → (was : List Desk) × Rests may floor shelf state spells lines h.home h.course counts looks (j + 1) (length lines) h.course.phase (seat w) was
+    rest_of : (j : ℕ) (w : A) → slice_get workers j ≡ Some w → (was : List Desk) × Rests may floor shelf state spells lines h.home (length workers) h.course counts looks (j + 1) (length lines) h.course.phase (seat w) was
     rest_of j w at = by (cases_lt j k)
       where
-        by : (j < k) ⊎ (k ≤ j) → (was : List Desk) × Rests may floor shelf state spells lines h.home h.course counts looks (j + 1) (length lines) h.course.phase (seat w) was
+        by : (j < k) ⊎ (k ≤ j) → (was : List Desk) × Rests may floor shelf state spells lines h.home (length workers) h.course counts looks (j + 1) (length lines) h.course.phase (seat w) was
         by (inl low) = let t = h.taken j w low at in (t.was, t.rests)
         by (inr high) = (desks w, (h.waits j w high at).rests)
 
-    pub within_ok : (j : ℕ) (w : A) → slice_get workers j ≡ Some w → SeatOk (Within may counts) floor shelf state spells journal (seat w)
-    within_ok j w at = subst (λ i. SeatOk (Within may counts) floor shelf state spells i (seat w)) h.journal_is (rest_of j w at).1.worker.ok.ok
+    pub sends_ok : (j : ℕ) (w : A) → slice_get workers j ≡ Some w → SeatOk (Sends may counts journal) floor shelf state spells journal (seat w)
+    sends_ok j w at = subst (λ i. SeatOk (Sends may counts i) floor shelf state spells i (seat w)) h.journal_is (rest_of j w at).1.worker.ok.ok
 
     pub takes_stand : CrewStands may floor shelf state spells journal seat workers
-    takes_stand j w at = seat_allowed may counts floor shelf state spells journal (seat w) (within_ok j w at)
+    takes_stand j w at = seat_allowed may floor shelf counts state spells journal (seat w) (sends_ok j w at)
 
     -- the next node's desks can be answered by the one that has played most
-    pub can_take : MayRun may floor shelf → (b w : A) → slice_get workers node ≡ Some b → slice_get workers k ≡ Some w → CanTakeAll (Within may counts) (node_of (seat b) journal) (desks w)
-    can_take run b w best at = λ s d get.
+    pub can_take : (b w : A) → slice_get workers node ≡ Some b → slice_get workers k ≡ Some w → CanTakeAll (Within may counts) (node_of (seat b) journal) (desks w)
+    can_take b w best at = λ s d get.
         let fine = ok.each s d get in
         record {
           session = fine.session;
           known = fine.known;
-          bound = are_bound may floor shelf run state spells (k + 1) counts journal (seat w) (desks w) ok s d get;
+          bound = λ some user e r allowed has. let counted = ok.counted s d get some in omega (arith, allowed.1 s r has, counted);
           near = fine.near;
           acted = λ log long front.
               let acted = fine.acted in
@@ -145,13 +148,13 @@ module _ {A : Type 0} (may : ℕ → Entry → Type 0) (floor : List Entry → �
     -- Answers were taken at worker k.
     module _ (workers' : List A) (long : length workers' ≡ length workers) (turned : (j : ℕ) (w' : A) → slice_get workers' j ≡ Some w' → (w : A) × (slice_get workers j ≡ Some w) × Turned may floor shelf state spells journal counts seat desks k j w w') where
       pub stands_then : CrewStands may floor shelf state spells journal seat workers'
-      stands_then j w' at = seat_allowed may counts floor shelf state spells journal (seat w') (turned j w' at).2.ok
+      stands_then j w' at = seat_allowed may floor shelf counts state spells journal (seat w') (turned j w' at).2.ok
 
-      rests_then : (j : ℕ) (w w' : A) (ds : List Desk) → Turned may floor shelf state spells journal counts seat desks k j w w' → Rests may floor shelf state spells lines h.home h.course counts looks (j + 1) (length lines) h.course.phase (seat w) ds
-          → Rests may floor shelf state spells lines h.home h.course counts looks (j + 1) (length lines) h.course.phase (seat w') ds
+      rests_then : (j : ℕ) (w w' : A) (ds : List Desk) → Turned may floor shelf state spells journal counts seat desks k j w w' → Rests may floor shelf state spells lines h.home (length workers) h.course counts looks (j + 1) (length lines) h.course.phase (seat w) ds
+          → Rests may floor shelf state spells lines h.home (length workers) h.course counts looks (j + 1) (length lines) h.course.phase (seat w') ds
       rests_then j w w' ds t r =
-          rests_same may floor shelf state spells lines h.home h.course counts looks (j + 1) (length lines) h.course.phase (seat w) (seat w') ds
-          (subst (λ i. node_of (seat w') i ≡ node_of (seat w) i) (sym h.journal_is) t.same) (subst (λ i. SeatOk (Within may counts) floor shelf state spells i (seat w')) (sym h.journal_is) t.ok) r
+          rests_same may floor shelf state spells lines h.home (length workers) h.course counts looks (j + 1) (length lines) h.course.phase (seat w) (seat w') ds
+          (subst (λ i. node_of (seat w') i ≡ node_of (seat w) i) (sym h.journal_is) t.same) (subst (λ i. SeatOk (Sends may counts i) floor shelf state spells i (seat w')) (sym h.journal_is) t.ok) r
 
       cursor_same : (j : ℕ) (w w' : A) → Turned may floor shelf state spells journal counts seat desks k j w w' → (seat w').node.replica.cursor ≡ (seat w).node.replica.cursor
       cursor_same j w w' t = ap (λ (x : NodeView). x.replica.cursor) t.same
@@ -169,7 +172,7 @@ module _ {A : Type 0} (may : ℕ → Entry → Type 0) (floor : List Entry → �
             }
 
         -- a node that was there before is there still, with the disk that it had
-        sees_then : ((j : ℕ) (w : A) → slice_get workers j ≡ Some w → (w' : A) × (slice_get workers' j ≡ Some w')) → SeesAll journal seat workers' cursor
+        sees_then : ((j : ℕ) (w : A) → slice_get workers j ≡ Some w → (w' : A) × (slice_get workers' j ≡ Some w')) → SeesAll lines journal seat workers' cursor
         sees_then there none = h.sees (record {
           told = none.told;
           disks = λ j w at.
@@ -179,10 +182,10 @@ module _ {A : Type 0} (may : ℕ → Entry → Type 0) (floor : List Entry → �
         })
 
         taken : (j : ℕ) (w w' : A) → j < k + 1 → slice_get workers j ≡ Some w → slice_get workers' j ≡ Some w' → Turned may floor shelf state spells journal counts seat desks k j w w'
-            → WorkerClosed may floor shelf state spells lines h.home h.course counts looks h.log (j + 1) (record { seat = seat w'; desks = desks w' })
+            → WorkerClosed may floor shelf state spells lines h.home (length workers) h.course counts looks h.log (j + 1) (record { seat = seat w'; desks = desks w' })
         taken j w w' less at at' t = by (cases_lt j k)
           where
-            by : (j < k) ⊎ (k ≤ j) → WorkerClosed may floor shelf state spells lines h.home h.course counts looks h.log (j + 1) (record { seat = seat w'; desks = desks w' })
+            by : (j < k) ⊎ (k ≤ j) → WorkerClosed may floor shelf state spells lines h.home (length workers) h.course counts looks h.log (j + 1) (record { seat = seat w'; desks = desks w' })
             by (inl low) =
                 let old = h.taken j w low at in
                 let kept = t.kept (λ e. absurd (omega (arith, low, e))) in
@@ -220,23 +223,26 @@ module _ {A : Type 0} (may : ℕ → Entry → Type 0) (floor : List Entry → �
           sees = sees_then (λ j w at. some_at workers' j (let inside = slice_get_within workers j w at in omega (arith, inside, long)));
           there = let inside = h.there in omega (arith, inside, long);
           most = λ w' at'. let t = turned node w' at' in cursor_same node t.0 w' t.2 ∙ h.most t.0 t.1;
-          taken = λ j w' less at'. let t = turned j w' at' in taken j t.0 w' less t.1 at' t.2;
+          taken = λ j w' less at'.
+              let t = turned j w' at' in
+              subst (λ n. WorkerClosed may floor shelf state spells lines h.home n h.course counts looks h.log (j + 1) (record { seat = seat w'; desks = desks w' })) (sym long) (taken j t.0 w' less t.1 at' t.2);
           waits = λ j w' high at'.
               let t = turned j w' at' in
               let old = h.waits j t.0 (omega (arith, high)) t.1 in
               let kept = t.2.kept (λ e. absurd (omega (arith, high, e))) in
-              record {
-                rests = subst (Rests may floor shelf state spells lines h.home h.course counts looks (j + 1) (length lines) h.course.phase (seat w')) (sym kept) (rests_then j t.0 w' (desks t.0) t.2 old.rests);
+              let now : WaitsToTake may floor shelf state spells lines h.home (length workers) h.course counts looks h.log (j + 1) (seat w') (desks w') = record {
+                rests = subst (Rests may floor shelf state spells lines h.home (length workers) h.course counts looks (j + 1) (length lines) h.course.phase (seat w')) (sym kept) (rests_then j t.0 w' (desks t.0) t.2 old.rests);
                 short = let same = cursor_same j t.0 w' t.2 in let short = old.short in omega (arith, same, short);
-              };
+              } in
+              subst (λ n. WaitsToTake may floor shelf state spells lines h.home n h.course counts looks h.log (j + 1) (seat w') (desks w')) (sym long) now;
         }
 
     -- where nothing happened to a worker
     untouched : (j : ℕ) (w : A) → slice_get workers j ≡ Some w → Turned may floor shelf state spells journal counts seat desks k j w w
-    untouched j w at = record { same = refl; ok = within_ok j w at; kept = λ other. refl }
+    untouched j w at = record { same = refl; ok = sends_ok j w at; kept = λ other. refl }
 
     -- At the node's own desks.
-    module _ (b y : A) (best : slice_get workers k ≡ Some b) (same : node_of (seat y) journal ≡ node_of (seat b) journal) (ok : SeatOk (Within may counts) floor shelf state spells journal (seat y)) where
+    module _ (b y : A) (best : slice_get workers k ≡ Some b) (same : node_of (seat y) journal ≡ node_of (seat b) journal) (ok : SeatOk (Sends may counts journal) floor shelf state spells journal (seat y)) where
       own_size : length (slice_set workers k y) ≡ length workers
       own_size = length-set workers k y
 
@@ -256,7 +262,7 @@ module _ {A : Type 0} (may : ℕ → Entry → Type 0) (floor : List Entry → �
           (subst (λ x. TakesAll (node_of (seat b) journal) (desks b) (desks x)) (same_some y w' (sym (set_same workers k y b best) ∙ at')) t))
 
     -- At another's.
-    module _ (b w y z : A) (apart : node ≢ k) (best : slice_get workers node ≡ Some b) (at : slice_get workers k ≡ Some w) (other : seat y ≡ seat w) (same : node_of (seat z) journal ≡ node_of (seat b) journal) (ok : SeatOk (Within may counts) floor shelf state spells journal (seat z)) (kept : desks z ≡ desks b) where
+    module _ (b w y z : A) (apart : node ≢ k) (best : slice_get workers node ≡ Some b) (at : slice_get workers k ≡ Some w) (other : seat y ≡ seat w) (same : node_of (seat z) journal ≡ node_of (seat b) journal) (ok : SeatOk (Sends may counts journal) floor shelf state spells journal (seat z)) (kept : desks z ≡ desks b) where
       abbrev mid : List A
       mid = slice_set workers k y
 
@@ -275,7 +281,7 @@ module _ {A : Type 0} (may : ℕ → Entry → Type 0) (floor : List Entry → �
             ap (slice_get workers) here.0 ∙ at,
             subst (λ x. Turned may floor shelf state spells journal counts seat desks k j w x) here.1 (record {
               same = ap (λ s. node_of s journal) other;
-              ok = subst (SeatOk (Within may counts) floor shelf state spells journal) (sym other) (within_ok k w at);
+              ok = subst (SeatOk (Sends may counts journal) floor shelf state spells journal) (sym other) (sends_ok k w at);
               kept = λ elsewhere. absurd (elsewhere here.0);
             }),
           )

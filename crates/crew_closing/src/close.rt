@@ -3,6 +3,7 @@ ghost use Rattle.std.specs.Prelude.{◌≡◌, ℕ, List, length, map, IfOk, OnO
 ghost use Rattle.delos_types.specs.Spaces.{SpaceMap};
 ghost use Rattle.delos_types.specs.declared.entry.Entry.{Entry};
 ghost use Rattle.engine_laws.specs.State.{IsStateOf};
+ghost use Rattle.base_engine.specs.Trimming.{FloorIs};
 ghost use Rattle.node_workers.specs.Workers.{MayRun};
 ghost use Rattle.node_crew.specs.Crews.{CrewRests, CrewStands};
 ghost use Rattle.course_ends.specs.Closing.{WorkerEnd, HasClosed};
@@ -29,24 +30,26 @@ pub struct Closed<L: Loglet, R: Register, K: Terms, S: Replica, C: Chooser> {
 
 /// Closes a run whose lines are all played: the register is opened again where it is down; each node in order opens its store
 /// again where it is down and plays the log to a tail; the answers of all sessions are then taken at the node that has played
-/// most of it.
+/// most of it. Where a line asks for a trim, that node plays the log to a tail once more first: a node that left may stand below the
+/// trim.
 ///
-/// Cost: at most two events of the register; for each node what it has still to play, and for each session that asked something a look at the store for each
-/// answer that is taken, and one more.
+/// Cost: at most two events of the register; for each node what it has still to play, and for each session that asked something a look
+/// at the store for each answer that is taken, and one more.
 pub fn close<L: Loglet, R: Register, K: Terms, S: Replica, C: Chooser>(
     crew: Crew<L, R, K, S, C>,
     lines: &[NamedLine],
 ) -> Closed<L, R, K, S, C>
     requires run { MayRun K.may K.floor K.shelf }
     requires state { (log : List Entry) (m : SpaceMap) → S.state log m → IsStateOf log m }
+    requires floor { FloorIs K.floor (length crew.workers.items) }
     requires rests { (phase : ℕ) × CrewRests K.may K.floor K.shelf S.state S.spells lines.now (length lines.now) phase crew.fabric.journal crew.counts crew.looks.items (λ w. w.seat) (λ w. w.desks.items) crew.workers.items }
     ensures closed { IfOk result.answer (λ end. (log : List Entry) × (length log ≡ end) × HasClosed K.may K.floor K.shelf S.state S.spells lines.now result.crew.fabric.journal result.crew.counts result.crew.looks.items log (map (λ w. record { seat = w.seat; desks = w.desks.items }) result.crew.workers.items)) }
 
     // The register was opened again first, where it was down.
     ensures opens { OnOk result.answer (OpensFirst crew.fabric result.crew.fabric) }
 
-    // Where no fault came and nothing is trimmed, the whole log was played.
-    ensures sees { IfOk result.answer (SeesAll result.crew.fabric.journal (λ (w : WorkerEnd). w.seat) (map (λ w. record { seat = w.seat; desks = w.desks.items }) result.crew.workers.items)) }
+    // Where no fault came, and nothing is trimmed or a line asked for that, the whole log was played.
+    ensures sees { IfOk result.answer (SeesAll lines.now result.crew.fabric.journal (λ (w : WorkerEnd). w.seat) (map (λ w. record { seat = w.seat; desks = w.desks.items }) result.crew.workers.items)) }
     ensures stands { CrewStands K.may K.floor K.shelf S.state S.spells result.crew.fabric.journal (λ w. w.seat) result.crew.workers.items }
     ensures size { length result.crew.workers.items ≡ length crew.workers.items }
 {

@@ -21,7 +21,7 @@ own_none who (StopMeta n) = refl
 own_none who (MendMeta word) = refl
 
 -- a call without a fabric
-pub no_turn : (may : ℕ → Entry → Type 0) (floor : List Entry → ℕ) (shelf : List ℕ) (who : ℕ) (call : FabricCall) → IsLegal may floor shelf [] → IsTurn may floor shelf who [] call Memory []
+pub no_turn : (may : ℕ → Entry → Type 0) (floor : List Entry → ℕ → Type 0) (shelf : List ℕ) (who : ℕ) (call : FabricCall) → IsLegal may floor shelf [] → IsTurn may floor shelf who [] call Memory []
 no_turn may floor shelf who call legal = record { others = []; own = []; apart = tt; event = own_none who call; seen = refl; legal = legal }
 
 -- fresh registers show the same

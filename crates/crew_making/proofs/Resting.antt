@@ -1,6 +1,6 @@
 -- A run before its first line.
 use Rattle.std.proofs.Common.{◌≡◌, refl, sym, ap, ◌∙◌, subst, ℕ, zero, suc, ◌+◌, ◌≤◌, Bool, List, [], ◌∷◌, Option, Some, None, length, arith}
-use Rattle.std.specs.Prelude.{slice_get, count_by, All}
+use Rattle.std.specs.Prelude.{slice_get, count_by, All, Contains}
 use Rattle.std.proofs.lemmas.Option.{slice_get_within}
 use Rattle.std.specs.List.{AllByRecursion}
 use Rattle.delos_types.specs.Spaces.{SpaceMap}
@@ -21,10 +21,11 @@ use Rattle.one_thread.specs.Seats.{SeatView, node_of}
 use Rattle.node_sessions.specs.declared.desk.Desk.{Desk}
 use Rattle.node_sessions.specs.UnderWay.{IsGiven, ranks_in}
 use Rattle.node_lines.specs.declared.lines.Looked.{Looked}
+use Rattle.node_lines.specs.declared.lines.Looked.TheVariants as looked
 use Rattle.node_lines.specs.Moving.{CanPack, IsQuiet, HasNoneOf}
 use Rattle.node_lines.specs.Desks.{HasAnswers, DeskOk}
-use Rattle.node_workers.specs.Workers.{Within, sent_of}
-use Rattle.node_workers.proofs.Widening.{seat_allowed}
+use Rattle.node_workers.specs.Workers.{IsOfSession, Sends, Within, sent_of}
+use Rattle.node_workers.proofs.Scoping.{seat_allowed}
 use Rattle.run_laws.specs.Ended.{CameTo, pays}
 use Rattle.run_course.specs.Script.{AreLines, asked_by, failure_of_look, failed_looks}
 use Rattle.run_course.specs.Course.{Course, CourseOk}
@@ -34,6 +35,9 @@ use Rattle.run_course.proofs.Lines.{at_get}
 use Rattle.run_course.proofs.Replacing.{none_counted, replaced_none}
 use Rattle.node_crew.specs.Crews.{CrewRests, CrewStands}
 use Rattle.crew_making.specs.Fresh.{IsFreshDesk, IsNewWorker, AreNewWorkers}
+
+none_in : {X : Type 0} (x : X) → Contains [] x → ⊥
+none_in x h = omega (arith, h.1)
 
 -- no line has looked at anything
 
@@ -100,7 +104,7 @@ first_course = record { journal = []; phase = 0; tails = λ _. tail_of (state_of
 some_none : {A : Type 0} (x : Option A) (a : A) → x ≡ None → x ≡ Some a → ⊥
 some_none x a h k = absurd (cc)
 
-module _ (may : ℕ → Entry → Type 0) (floor : List Entry → ℕ) (shelf : List ℕ) (lines : List NamedLine) (counts : List ℕ) (looks : List (Option Looked)) (none_sent : (s : ℕ) → sent_of counts s ≡ 0) (size : length looks ≡ length lines) (none : AllByRecursion (λ look. look ≡ None) looks) where
+module _ (may : ℕ → Entry → Type 0) (floor : List Entry → ℕ → Type 0) (shelf : List ℕ) (lines : List NamedLine) (counts : List ℕ) (looks : List (Option Looked)) (none_sent : (s : ℕ) → sent_of counts s ≡ 0) (size : length looks ≡ length lines) (none : AllByRecursion (λ look. look ≡ None) looks) where
   course_ok : (nodes : ℕ) → IsLegal may floor shelf [] → CourseOk may floor shelf lines nodes first_course counts looks
   course_ok nodes legal = record {
     legal = within;
@@ -120,31 +124,40 @@ module _ (may : ℕ → Entry → Type 0) (floor : List Entry → ℕ) (shelf : 
     nodes_are = tt;
     replaced = replaced_none lines looks (state_of []).register (length shelf) (λ i look at. at_get (λ look. look ≡ None) looks i look none at);
     unsealed = λ calm. subst (IsUnsealed (state_of [])) (sym (none_counted looks (λ i look at. at_get (λ look. look ≡ None) looks i look none at))) begins_unsealed;
+    told = λ e p has says. absurd (none_in e has);
+    stand = λ i l look at seen. absurd (not_looked i l look at seen);
+    trims = λ j l trim at seen. absurd (not_looked j l (looked.Trimmed trim) at seen);
     ahead = λ i l at late. none_there lines looks i l size none at;
   }
     where
+      not_looked : (i : ℕ) (l : NamedLine) (look : Looked) → slice_get lines i ≡ Some l → slice_get looks i ≡ Some (Some look) → ⊥
+      not_looked i l look at seen = let t : Some None ≡ Some (Some look) = sym (none_there lines looks i l size none at) ∙ seen in cc
+
       within : IsLegal (Within may counts) floor shelf []
       within = record { least = legal.least; most = legal.most; steps = tt }
 
   module _ (state : List Entry → SpaceMap → Type 0) (spells : List ℕ → Saved → Type 0) (home : ℕ → ℕ) where
-    worker_rests : (n : ℕ) (seat : SeatView) (desks : List Desk) → IsNewWorker (Within may counts) floor shelf state spells n seat desks → Rests may floor shelf state spells lines home first_course counts looks n 0 0 seat desks
-    worker_rests n seat desks w = record {
+    worker_rests : (nodes n : ℕ) (seat : SeatView) (desks : List Desk) → IsNewWorker (Sends may counts []) floor shelf state spells nodes n seat desks → Rests may floor shelf state spells lines home nodes first_course counts looks n 0 0 seat desks
+    worker_rests nodes n seat desks w = record {
       worker = record {
         ok = record {
           who_is = w.waits.who_is;
           origin = w.waits.replica.origin_is;
           ok = w.waits.ok;
           packs = subst CanPack (sym kept) (record { each = λ k d low. absurd (omega (arith, low)); few = omega arith });
+          waits = subst (All IsOfSession) (sym kept) (λ k d low. absurd (omega (arith, low)));
           size = w.desks_are.size;
           each = λ s d at. desk_ok seat kept w.waits.outbox s d (known s d at) (w.desks_are.each s d at);
           counted = λ s d at some. let asked = (w.desks_are.each s d at).none_asked in absurd (omega (arith, asked, some));
         };
+        nodes_is = w.waits.nodes_is;
         order = omega arith;
         each = λ s d at. desk_at s d (w.desks_are.each s d at);
         quiet = λ s same. quiet seat kept w.waits.outbox s;
         given = subst (λ (o : OutboxView). AllByRecursion (λ g. CameTo [] g.cause n 0) o.given) (sym w.waits.outbox) tt;
         waiting = λ i l low at here. none_there lines looks i l size none at;
         played = λ i l low at here. absurd (omega (arith, low));
+        reports = λ e p has says. absurd (none_in e has);
         stores = (let calm = nothing_failed (lacks_store n) lines looks none in omega (arith, calm));
       };
       none_given = ap (λ (o : OutboxView). o.given) w.waits.outbox;
@@ -167,7 +180,7 @@ module _ (may : ℕ → Entry → Type 0) (floor : List Entry → ℕ) (shelf : 
         }
 
     pub crew_rests : {A : Type 0} (seat : A → SeatView) (desks : A → List Desk) (workers : List A) → AreLines lines home (length workers) → length counts ≡ 64 → IsLegal may floor shelf []
-        → AreNewWorkers (Within may counts) floor shelf state spells seat desks workers → CrewRests may floor shelf state spells lines 0 0 [] counts looks seat desks workers
+        → AreNewWorkers (Sends may counts []) floor shelf state spells (length workers) seat desks workers → CrewRests may floor shelf state spells lines 0 0 [] counts looks seat desks workers
     crew_rests seat desks workers are long legal new = record {
       home = home;
       course = first_course;
@@ -177,9 +190,9 @@ module _ (may : ℕ → Entry → Type 0) (floor : List Entry → ℕ) (shelf : 
       begins = record { before = λ i l at low. absurd (omega (arith, low)); behind = λ i l at high. omega arith };
       ok = course_ok (length workers) legal;
       long = long;
-      each = λ j w at. worker_rests (j + 1) (seat w) (desks w) (new j w at);
+      each = λ j w at. worker_rests (length workers) (j + 1) (seat w) (desks w) (new j w at);
     }
 
-pub new_stands : {A : Type 0} (may : ℕ → Entry → Type 0) (floor : List Entry → ℕ) (shelf : List ℕ) (state : List Entry → SpaceMap → Type 0) (spells : List ℕ → Saved → Type 0) (counts : List ℕ) (seat : A → SeatView) (desks : A → List Desk) (workers : List A)
-    → AreNewWorkers (Within may counts) floor shelf state spells seat desks workers → CrewStands may floor shelf state spells [] seat workers
-new_stands may floor shelf state spells counts seat desks workers new = λ j w at. seat_allowed may counts floor shelf state spells [] (seat w) (new j w at).waits.ok
+pub new_stands : {A : Type 0} (may : ℕ → Entry → Type 0) (floor : List Entry → ℕ → Type 0) (shelf : List ℕ) (state : List Entry → SpaceMap → Type 0) (spells : List ℕ → Saved → Type 0) (counts : List ℕ) (nodes : ℕ) (seat : A → SeatView) (desks : A → List Desk) (workers : List A)
+    → AreNewWorkers (Sends may counts []) floor shelf state spells nodes seat desks workers → CrewStands may floor shelf state spells [] seat workers
+new_stands may floor shelf state spells counts nodes seat desks workers new = λ j w at. seat_allowed may floor shelf counts state spells [] (seat w) (new j w at).waits.ok

@@ -11,7 +11,7 @@ use Rattle.fabric_core.specs.Fabric.{IsRegisterAsTold}
 
 -- The loglets and their register are as the journal tells: its events are a run of each from a fresh one, and what they show
 -- is what it tells.
-pub record AreAsTold (may : ℕ → Entry → Type 0) (floor : List Entry → ℕ) (shelf : List ℕ) (journal : List Event) (cells : List LogletView) (register : RegisterView) : Type 0 where
+pub record AreAsTold (may : ℕ → Entry → Type 0) (floor : List Entry → ℕ → Type 0) (shelf : List ℕ) (journal : List Event) (cells : List LogletView) (register : RegisterView) : Type 0 where
   pub legal : IsLegal may floor shelf journal
   pub shelf_is : map (λ v. v.servers) cells ≡ shelf
   pub runs : (i : ℕ) (v : LogletView) → slice_get cells i ≡ Some v → HasRun i journal v

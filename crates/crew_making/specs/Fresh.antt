@@ -44,18 +44,19 @@ abbrev pub AreFreshFrom : (List Entry → SpaceMap → Type 0) → (List ℕ →
 AreFreshFrom state spells n [] = Unit {0}
 AreFreshFrom state spells n (v ∷ vs) = IsFreshReplica state spells n v × AreFreshFrom state spells (n + 1) vs
 
--- a node that waits for its first turn: it has sent nothing, and may take the fabric before any event
-pub record IsNewSeat (may : ℕ → Entry → Type 0) (floor : List Entry → ℕ) (shelf : List ℕ) (state : List Entry → SpaceMap → Type 0) (spells : List ℕ → Saved → Type 0) (who : ℕ) (seat : SeatView) : Type 0 where
+-- one of so many nodes that waits for its first turn: it has sent nothing, and may take the fabric before any event
+pub record IsNewSeat (may : ℕ → Entry → Type 0) (floor : List Entry → ℕ → Type 0) (shelf : List ℕ) (state : List Entry → SpaceMap → Type 0) (spells : List ℕ → Saved → Type 0) (nodes who : ℕ) (seat : SeatView) : Type 0 where
   pub who_is : seat.who ≡ who
+  pub nodes_is : seat.node.nodes ≡ nodes
   pub replica : IsFreshReplica state spells who seat.node.replica
   pub outbox : seat.node.outbox ≡ record { entries = []; given = []; unsettled = None }
   pub ok : SeatOk may floor shelf state spells [] seat
 
 -- a node, and the desks of the sessions
-pub record IsNewWorker (may : ℕ → Entry → Type 0) (floor : List Entry → ℕ) (shelf : List ℕ) (state : List Entry → SpaceMap → Type 0) (spells : List ℕ → Saved → Type 0) (who : ℕ) (seat : SeatView) (desks : List Desk) : Type 0 where
-  pub waits : IsNewSeat may floor shelf state spells who seat
+pub record IsNewWorker (may : ℕ → Entry → Type 0) (floor : List Entry → ℕ → Type 0) (shelf : List ℕ) (state : List Entry → SpaceMap → Type 0) (spells : List ℕ → Saved → Type 0) (nodes who : ℕ) (seat : SeatView) (desks : List Desk) : Type 0 where
+  pub waits : IsNewSeat may floor shelf state spells nodes who seat
   pub desks_are : AreFreshDesks desks
 
--- all nodes, numbered from 1
-abbrev pub AreNewWorkers : {A : Type 0} → (ℕ → Entry → Type 0) → (List Entry → ℕ) → List ℕ → (List Entry → SpaceMap → Type 0) → (List ℕ → Saved → Type 0) → (A → SeatView) → (A → List Desk) → List A → Type 0
-AreNewWorkers {A} may floor shelf state spells seat desks workers = (j : ℕ) (w : A) → slice_get workers j ≡ Some w → IsNewWorker may floor shelf state spells (j + 1) (seat w) (desks w)
+-- all of so many nodes, numbered from 1
+abbrev pub AreNewWorkers : {A : Type 0} → (ℕ → Entry → Type 0) → (List Entry → ℕ → Type 0) → List ℕ → (List Entry → SpaceMap → Type 0) → (List ℕ → Saved → Type 0) → ℕ → (A → SeatView) → (A → List Desk) → List A → Type 0
+AreNewWorkers {A} may floor shelf state spells nodes seat desks workers = (j : ℕ) (w : A) → slice_get workers j ≡ Some w → IsNewWorker may floor shelf state spells nodes (j + 1) (seat w) (desks w)

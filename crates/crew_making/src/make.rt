@@ -6,8 +6,7 @@ ghost use Rattle.delos_types.specs.declared.entry.Entry.{Entry};
 ghost use Rattle.loglet_api.specs.View.{IsFresh};
 ghost use Rattle.loglet_api.specs.Sound.{IsSound};
 ghost use Rattle.register_api.specs.View as view;
-ghost use Rattle.base_engine.specs.Trimming.{IsFloor};
-ghost use Rattle.node_workers.specs.Workers.{Within, sent_of};
+ghost use Rattle.node_workers.specs.Workers.{Sends, sent_of};
 ghost use Rattle.run_course.specs.Script.{AreLines};
 ghost use Rattle.node_crew.specs.Crews.{CrewRests, CrewStands};
 ghost use Rattle.crew_making.specs.Apart.{AreAsTold};
@@ -55,13 +54,13 @@ fn seat_within<L: Loglet, R: Register, K: Terms, Q: Scope, S: Replica, C: Choose
     _counts: &[u64; 64],
 ) -> Seated<L, R, K, S, C>
     requires eight { nodes ≤ 8 }
-    requires floor { IsFloor S.state K.floor nodes }
     requires log { IsFreshLog (length K.shelf) log }
     requires fresh { IsFreshReplica S.state S.spells who (S.shows replica) }
     requires none { fabric.journal ≡ [] }
     requires narrower { (who : ℕ) (e : Entry) → Q.sends who e → K.may who e }
+    requires lower { (log : List Entry) (n : ℕ) → Q.floor log n → K.floor log n }
     requires since { Q.since ≡ fabric.journal }
-    ensures seat { IsNewSeat Q.sends K.floor K.shelf S.state S.spells who result.seat }
+    ensures seat { IsNewSeat Q.sends Q.floor K.shelf S.state S.spells nodes who result.seat }
     ensures replica { result.seat.node.replica ≡ S.shows replica }
     ensures none { result.fabric.journal ≡ [] }
 {
@@ -81,13 +80,12 @@ fn seat_all<L: Loglet, R: Register, K: Terms, S: Replica, C: Chooser>(
     counts: &[u64; 64],
 ) -> AllSeated<L, R, K, S, C>
     requires eight { length berths.items ≤ 8 }
-    requires floor { IsFloor S.state K.floor (length berths.items) }
     requires logs { AllByRecursion (λ b. IsFreshLog (length K.shelf) b.log) berths.items }
     requires desks { AllByRecursion (λ b. AreFreshDesks b.desks.items) berths.items }
     requires fresh { AreFreshFrom S.state S.spells 1 (map (λ b. S.shows b.replica) berths.items) }
     requires none { fabric.journal ≡ [] }
     requires room { (workers.items ≡ []) × (length berths.items ≤ vec_capacity workers) }
-    ensures workers { AreNewWorkers (Within K.may counts.now) K.floor K.shelf S.state S.spells (λ w. w.seat) (λ w. w.desks.items) result.workers.items }
+    ensures workers { AreNewWorkers (Sends K.may counts.now []) K.floor K.shelf S.state S.spells (length berths.items) (λ w. w.seat) (λ w. w.desks.items) result.workers.items }
     ensures replicas { map (λ w. w.seat.node.replica) result.workers.items ≡ map (λ b. S.shows b.replica) berths.items }
     ensures none { result.fabric.journal ≡ [] }
 {
@@ -144,7 +142,6 @@ pub fn make_crew<L: Loglet, R: Register, K: Terms, S: Replica, C: Chooser>(
     nodes: &mut Vec<NodeParts<S, C>>,
     lines: &[NamedLine],
 ) -> Result<Crew<L, R, K, S, C>, Parts<L, R>>
-    requires floor { IsFloor S.state K.floor (length nodes.old.items) }
     requires least { 0 < length cells.items }
     requires most { length cells.items ≤ 64 }
     requires shelf { map (λ v. v.servers) (map L.view cells.items) ≡ K.shelf }

@@ -1,5 +1,5 @@
 //! The nodes of a run are taken apart.
-ghost use Rattle.std.specs.Prelude.{◌≡◌, ◌≤◌, ◌+◌, ℕ, [], map, length};
+ghost use Rattle.std.specs.Prelude.{◌≡◌, ◌≤◌, ◌+◌, ℕ, List, [], map, length};
 ghost use Rattle.std.specs.Vec.{vec_capacity};
 ghost use Rattle.delos_types.specs.declared.entry.Entry.{Entry};
 ghost use Rattle.one_thread.specs.Seats.{SeatOk};
@@ -29,8 +29,9 @@ fn part_within<L: Loglet, R: Register, K: Terms, Q: Scope, S: Replica, C: Choose
     fabric: Fabric<L, R, By<K>>,
     seat: Seat<S, C>,
 ) -> Apart<L, R, K, S, C>
-    requires seat { SeatOk Q.sends K.floor K.shelf S.state S.spells fabric.journal seat }
+    requires seat { SeatOk Q.sends Q.floor K.shelf S.state S.spells fabric.journal seat }
     requires narrower { (who : ℕ) (e : Entry) → Q.sends who e → K.may who e }
+    requires lower { (log : List Entry) (n : ℕ) → Q.floor log n → K.floor log n }
     requires since { Q.since ≡ fabric.journal }
     ensures replica { S.shows result.node.replica ≡ seat.node.replica }
     ensures journal { result.fabric.journal ≡ fabric.journal }

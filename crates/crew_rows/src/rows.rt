@@ -2,7 +2,7 @@
 ghost use Rattle.std.specs.Prelude.{◌≡◌, ◌≤◌, ◌⊎◌, ℕ, IfOk, IsSome, None, Option, Some, true, length, map};
 ghost use Rattle.table_core.specs.declared.command.Command.{Command};
 ghost use Rattle.table_core.specs.declared.command.Query.{Query};
-ghost use Rattle.script_text.specs.declared.line.Admin.TheVariants.{Extend, Alive, Retire};
+ghost use Rattle.script_text.specs.declared.line.Admin.TheVariants.{Extend, Alive, Retire, Trim};
 ghost use Rattle.script_text.specs.declared.line.Session.{Session};
 ghost use Rattle.script_text.specs.declared.asks.Asks.TheVariants as asks;
 ghost use Rattle.fitting_run.specs.Answered.{session_asking};
@@ -30,8 +30,8 @@ use virtual_log::extend::Extension;
 
 /// The rows of all lines, in their order. A command that its desk has an answer of is placed there, `late` where its rank is above
 /// those that were answered as its session was stopped; any other is open, by the cause of that. A read tells what it looked
-/// at, or why it didn't. What a node itself was asked tells what became of the last loglet, or what the node reported, or why the
-/// log or its disk failed.
+/// at, or why it didn't. What a node itself was asked tells what became of the last loglet, what the node reported, that it left, up to
+/// where it trimmed the log, or why the log or its disk failed.
 ///
 /// Cost: constant for each line, beside the copy of what it tells.
 pub fn rows_of<S: Replica, C: Chooser>(
@@ -106,6 +106,7 @@ fn outcome_of<S: Replica, C: Chooser>(
         Asks::Admin(Admin::Extend) => Ok(extend_outcome(look)),
         Asks::Admin(Admin::Alive) => Ok(report_outcome(look)),
         Asks::Admin(Admin::Retire) => Ok(leave_outcome(look)),
+        Asks::Admin(Admin::Trim) => Ok(trim_outcome(look)),
     }
 }
 
@@ -177,6 +178,7 @@ fn look_outcome(alloc: Global, look: &Option<Looked>) -> Result<Outcome, AllocEr
         Looked::Extended(_) => unreachable!(),
         Looked::Reported(_) => unreachable!(),
         Looked::Left => unreachable!(),
+        Looked::Trimmed(_) => unreachable!(),
     }
 }
 
@@ -193,6 +195,7 @@ fn extend_outcome(look: &Option<Looked>) -> Outcome
         Looked::Kept(_) => unreachable!(),
         Looked::Reported(_) => unreachable!(),
         Looked::Left => unreachable!(),
+        Looked::Trimmed(_) => unreachable!(),
     }
 }
 
@@ -220,6 +223,7 @@ fn report_outcome(look: &Option<Looked>) -> Outcome
         Looked::Kept(_) => unreachable!(),
         Looked::Extended(_) => unreachable!(),
         Looked::Left => unreachable!(),
+        Looked::Trimmed(_) => unreachable!(),
     }
 }
 
@@ -236,5 +240,23 @@ fn leave_outcome(look: &Option<Looked>) -> Outcome
         Looked::Kept(_) => unreachable!(),
         Looked::Extended(_) => unreachable!(),
         Looked::Reported(_) => unreachable!(),
+        Looked::Trimmed(_) => unreachable!(),
+    }
+}
+
+/// What becomes of a trim.
+fn trim_outcome(look: &Option<Looked>) -> Outcome
+    requires { (looked : Looked) × (look.now ≡ Some looked) × IsOfNode Trim looked }
+    ensures { Tells None look.now (asks.Admin Trim) result }
+{
+    let Some(look) = look else { unreachable!() };
+    match look {
+        Looked::Trimmed(trim) => Outcome::Trimmed { trim: *trim },
+        Looked::Failed(cause) => Outcome::Open { cause: *cause },
+        Looked::Found { .. } => unreachable!(),
+        Looked::Kept(_) => unreachable!(),
+        Looked::Extended(_) => unreachable!(),
+        Looked::Reported(_) => unreachable!(),
+        Looked::Left => unreachable!(),
     }
 }

@@ -3,3 +3,4 @@ pub mod Telling
 pub mod Seeing
 pub mod Running
 pub mod Lone
+pub mod Asked

@@ -48,7 +48,7 @@ ends-asked : (es : List Event) → AskedOnce (calls_of es) → EndsBy ReadChain 
 ends-asked es (inl h) = ends-one es ReadChain h
 ends-asked es (inr h) = ends-three es ReadChain (MendMeta 0) ReadChain h
 
-module _ (may : ℕ → Entry → Type 0) (floor : List Entry → ℕ) (shelf : List ℕ) where
+module _ (may : ℕ → Entry → Type 0) (floor : List Entry → ℕ → Type 0) (shelf : List ℕ) where
   -- after a read that was answered, no write is in doubt
   read_settles : (w : State) (cells who : ℕ) (answer : FabricAnswer) → IsAllowed w may floor cells who (move_of ReadChain answer) → (after w who (move_of ReadChain answer)).register.down ≡ false → (after w who (move_of ReadChain answer)).register.asked ≡ None
   read_settles w cells who (At v c) h up = refl

@@ -18,12 +18,12 @@ use Rattle.legal_journal.specs.Journal.{IsLegal, state_of}
 use Rattle.legal_journal.proofs.Log.{HasStart}
 use Rattle.legal_journal.proofs.Sound.{current}
 use Rattle.legal_journal.proofs.Legal.{sound}
-use Rattle.engine_api.specs.Packing.{packed, session_item, alive_item, leave_item}
+use Rattle.engine_api.specs.Packing.{packed, session_item, alive_item, leave_item, trim_item}
 use Rattle.replica_api.specs.Replica.{ReplicaView}
 use Rattle.script_text.specs.declared.asks.NamedLine.{NamedLine}
 use Rattle.script_text.specs.declared.asks.Asks.{Asks}
 use Rattle.script_text.specs.declared.asks.Asks.TheVariants as asks
-use Rattle.script_text.specs.declared.line.Admin.TheVariants.{Extend, Alive, Retire}
+use Rattle.script_text.specs.declared.line.Admin.TheVariants.{Extend, Alive, Retire, Trim}
 use Rattle.script_text.specs.declared.line.Session.{Session}
 use Rattle.fitting_run.specs.Lines.{CanLog}
 use Rattle.fitting_run.specs.Faults.{disk_faults}
@@ -50,7 +50,7 @@ ids_low starts cells low [] h k d lt = absurd (omega (arith, lt))
 ids_low starts cells low (x ∷ xs) h zero d lt = low x.id x.start (h x.id x.start (inl (refl, refl)))
 ids_low starts cells low (x ∷ xs) h (suc k) d lt = ids_low starts cells low xs (λ i s at. h i s (inr at)) k d (omega (arith, lt))
 
-pub shelved : (may : ℕ → Entry → Type 0) (floor : List Entry → ℕ) (shelf : List ℕ) (journal : List Event) → IsLegal may floor shelf journal
+pub shelved : (may : ℕ → Entry → Type 0) (floor : List Entry → ℕ → Type 0) (shelf : List ℕ) (journal : List Event) → IsLegal may floor shelf journal
     → (k : ℕ) (d : Segment) → k < length (state_of journal).register.chain.segments → (slice_index_or (state_of journal).register.chain.segments k d).id < length shelf
 shelved may floor shelf journal legal =
     let w = state_of journal in
@@ -91,8 +91,10 @@ pub sends_all : (lines : List NamedLine) (home : ℕ → ℕ) (nodes : ℕ) → 
     → ((at : ℕ) (line : NamedLine) → slice_get lines at ≡ Some line → line.asks ≡ asks.Admin Alive
     → (position : ℕ) → position < 2 ^ 64 → may_of lines line.node (packed line.node (alive_item line.node position ∷ [])))
     → ((at : ℕ) (line : NamedLine) → slice_get lines at ≡ Some line → line.asks ≡ asks.Admin Retire → may_of lines line.node (packed line.node (leave_item line.node ∷ [])))
+    → ((at : ℕ) (line : NamedLine) → slice_get lines at ≡ Some line → line.asks ≡ asks.Admin Trim
+    → (position : ℕ) → position < 2 ^ 64 → may_of lines line.node (packed line.node (trim_item position ∷ [])))
     → MaySendAll (may_of lines) lines
-sends_all lines home nodes are can law report leave i l at = by l.asks refl
+sends_all lines home nodes are can law report leave trim i l at = by l.asks refl
   where
     by : (a : Asks) → l.asks ≡ a → CanSend (may_of lines) l.node a
     by (asks.Logged s r c) is =
@@ -109,6 +111,7 @@ sends_all lines home nodes are can law report leave i l at = by l.asks refl
     by (asks.Admin Extend) is = tt
     by (asks.Admin Alive) is = report i l at is
     by (asks.Admin Retire) is = leave i l at is
+    by (asks.Admin Trim) is = trim i l at is
 
 -- All of it
 
@@ -116,7 +119,7 @@ pub if_ok : {A E : Type 0} (P Q : A → Type 0) → ((x : A) → P x → Q x) �
 if_ok P Q h (Ok x) k = h x k
 if_ok P Q h (Err e) k = tt
 
-pub run_told : {A B : Type 0} (may : ℕ → Entry → Type 0) (floor : List Entry → ℕ) (shelf : List ℕ) (lines : List NamedLine) (journal : List Event) (seat : B → SeatView) (desks : B → List Desk) (shows : A → ReplicaView) (nodes : List A) (workers : List B) (cells : List LogletView) (register : RegisterView) (o : Told)
+pub run_told : {A B : Type 0} (may : ℕ → Entry → Type 0) (floor : List Entry → ℕ → Type 0) (shelf : List ℕ) (lines : List NamedLine) (journal : List Event) (seat : B → SeatView) (desks : B → List Desk) (shows : A → ReplicaView) (nodes : List A) (workers : List B) (cells : List LogletView) (register : RegisterView) (o : Told)
     → AreAsTold may floor shelf journal cells register → map shows nodes ≡ map (λ w. (seat w).node.replica) workers
     → FitsGivenBack may floor shelf lines journal (map (λ w. record { seat = seat w; desks = desks w }) workers) o
     → RunTold lines (record { cells = cells; register = register; disks = map (λ n. (shows n).faults) nodes }) o
@@ -138,7 +141,7 @@ run_told {A} {B} may floor shelf lines journal seat desks shows nodes workers ce
     record {
       fits = h.fits yard back told.register_is;
       answered = λ calm. h.calm yard back told.register_is calm;
-      whole = λ calm. h.whole yard back calm;
+      whole = λ calm. h.whole yard back told.register_is calm;
       extended = λ calm. h.extended yard back calm;
       lone = h.lone yard back told.register_is;
       shelved = subst (λ (c : Chain). (k : ℕ) (d : Segment) → k < length c.segments → (slice_index_or c.segments k d).id < length cells) (sym h.chain)

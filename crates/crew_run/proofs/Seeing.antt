@@ -25,6 +25,7 @@ use Rattle.fabric_core.specs.Log.{virtual_tail}
 use Rattle.virtual_log.specs.Holding.{Holds}
 use Rattle.base_engine.specs.Reading.{IsFront}
 use Rattle.journal_faults.specs.Faults.{fault_of, faults_in, is_full_of, is_meta}
+use Rattle.script_text.specs.declared.asks.NamedLine.{NamedLine}
 use Rattle.fitting_run.specs.Yard.{Shown}
 use Rattle.fitting_run.specs.Calm.{IsCalm}
 use Rattle.fitting_run.specs.Faults.{faults_of}
@@ -34,7 +35,7 @@ use Rattle.course_ends.specs.Closing.{WorkerEnd, IsGivenBack}
 use Rattle.course_ends.specs.Reads.{AreReads}
 use Rattle.course_ends.proofs.Counting.{AreCounted}
 use Rattle.course_ends.proofs.Reading.{Same, reads_keep}
-use Rattle.crew_closing.specs.Finishing.{SeesAll}
+use Rattle.crew_closing.specs.Finishing.{AsksTrim, SeesAll}
 
 -- Reads of the chain
 
@@ -127,7 +128,7 @@ first_none : (xs ys : List Cause) → xs ++ ys ≡ [] → xs ≡ []
 first_none [] ys e = refl
 first_none (x ∷ xs) ys e = absurd (cc)
 
-module _ (may : ℕ → Entry → Type 0) (floor : List Entry → ℕ) (shelf : List ℕ) (told : AreCounted may floor shelf) where
+module _ (may : ℕ → Entry → Type 0) (floor : List Entry → ℕ → Type 0) (shelf : List ℕ) (told : AreCounted may floor shelf) where
   module _ (journal : List Event) (workers : List WorkerEnd) (chain : Chain) (yard : Shown) (back : IsGivenBack may floor shelf journal workers chain yard) (calm : IsCalm yard) where
     same_length : length yard.cells ≡ length shelf
     same_length = sym (length-map yard.cells (λ v. v.servers)) ∙ ap length back.shelf_is
@@ -167,14 +168,15 @@ module _ (may : ℕ → Entry → Type 0) (floor : List Entry → ℕ) (shelf : 
     disk_calm : (j : ℕ) (w : WorkerEnd) → slice_get workers j ≡ Some w → w.seat.node.replica.faults ≡ 0
     disk_calm j w at = let few = back.disks j w at in let low = disk_below yard.disks (j + 1 - 1) in omega (arith, few, low, calm)
 
-  pub seen_all : ((seen : List Event) (log : List Entry) → IsLegal may floor shelf seen → IsFront Holds seen log → length log ≤ tail_of (state_of seen)) → (journal more : List Event) (workers : List WorkerEnd) (log : List Entry) (chain : Chain) (yard : Shown) → SeesAll journal (λ (w : WorkerEnd). w.seat) workers (length log) → IsFront Holds journal log
-      → AreReads more → trim_of (state_of (journal ++ more)) ≡ 0 → IsGivenBack may floor shelf (journal ++ more) workers chain yard → IsCalm yard → length log ≡ virtual_tail chain yard.cells
-  seen_all within journal more workers log chain yard sees front reads untrimmed back calm =
+  pub seen_all : ((seen : List Event) (log : List Entry) → IsLegal may floor shelf seen → IsFront Holds seen log → length log ≤ tail_of (state_of seen)) → (lines : List NamedLine) (journal more : List Event) (workers : List WorkerEnd) (log : List Entry) (chain : Chain) (yard : Shown) → SeesAll lines journal (λ (w : WorkerEnd). w.seat) workers (length log) → IsFront Holds journal log
+      → AreReads more → (trim_of (state_of (journal ++ more)) ≡ 0) ⊎ AsksTrim lines → IsGivenBack may floor shelf (journal ++ more) workers chain yard → IsCalm yard → length log ≡ virtual_tail chain yard.cells
+  seen_all within lines journal more workers log chain yard sees front reads known back calm =
       let legal = legal_front may floor shelf journal more back.legal in
       let parts = IsLegalFrom-split may floor shelf start journal more back.legal.steps in
       let on = goes_on may floor shelf journal more back.legal in
       let none = first_none (faults_in journal) (faults_in more) (sym (filter_map-append (λ (e : Event). fault_of e.answer e.call) journal more) ∙ none_told (journal ++ more) workers chain yard back calm) in
-      let top = sees (record { told = none; disks = disk_calm (journal ++ more) workers chain yard back calm }) (omega (arith, untrimmed, on.trim)) in
+      let top = sees (record { told = none; disks = disk_calm (journal ++ more) workers chain yard back calm })
+      (⊎_elim (λ (untrimmed : trim_of (state_of (journal ++ more)) ≡ 0). let up = on.trim in inl (omega (arith, untrimmed, up))) (λ (asked : AsksTrim lines). inr asked) known) in
       let settled = asked_none start journal refl (ap (count_by (λ k. true)) none) in
       let same = same_tail (state_of journal) (after_all (state_of journal) more) (reads_keep may floor shelf (state_of journal) more settled reads parts.1) in
       let tail : tail_of (state_of (journal ++ more)) ≡ tail_of (state_of journal) = ap tail_of (after_all-append start journal more) ∙ same in

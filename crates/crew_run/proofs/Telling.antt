@@ -15,7 +15,7 @@ use Rattle.course_ends.specs.Reads.{AreReads}
 use Rattle.last_chain.specs.Last.{AsksOnce, AskedOnce, calls_of}
 
 -- each node can take the fabric still
-pub stands_on : {A : Type 0} (may : ℕ → Entry → Type 0) (floor : List Entry → ℕ) (shelf : List ℕ) (state : List Entry → SpaceMap → Type 0) (spells : List ℕ → Saved → Type 0) (who : ℕ) (early new : List Event) (seat : A → SeatView) (workers : List A)
+pub stands_on : {A : Type 0} (may : ℕ → Entry → Type 0) (floor : List Entry → ℕ → Type 0) (shelf : List ℕ) (state : List Entry → SpaceMap → Type 0) (spells : List ℕ → Saved → Type 0) (who : ℕ) (early new : List Event) (seat : A → SeatView) (workers : List A)
     → Since who early new → IsLegal may floor shelf new → CrewStands may floor shelf state spells early seat workers → CrewStands may floor shelf state spells new seat workers
 stands_on may floor shelf state spells who early new seat workers since legal h = λ j w at.
     subst (λ l. SeatOk may floor shelf state spells l (seat w)) (sym since.seen)

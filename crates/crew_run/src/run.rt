@@ -7,7 +7,7 @@ ghost use Rattle.loglet_api.specs.View.{IsFresh};
 ghost use Rattle.loglet_api.specs.Sound.{IsSound};
 ghost use Rattle.register_api.specs.View as view;
 ghost use Rattle.engine_laws.specs.State.{IsStateOf};
-ghost use Rattle.base_engine.specs.Trimming.{IsFloor};
+ghost use Rattle.base_engine.specs.Trimming.{FloorIs};
 ghost use Rattle.fitting_run.specs.Lines.{CanLog};
 ghost use Rattle.node_workers.specs.Workers.{MayRun};
 ghost use Rattle.line_rules.specs.Rules.{may_of};
@@ -24,8 +24,7 @@ use fabric_core::fabric::Parts;
 use fate_words::chooser::Chooser;
 use fitting_run::told::Told;
 use line_rules::laws::{
-    a_log_of_lines_trims_nothing, leaves_are_sent, lines_are_sent, lines_may_run, reports_are_sent,
-    the_floor_is_the_least,
+    leaves_are_sent, lines_are_sent, lines_may_run, reports_are_sent, the_floor_is, trims_are_sent,
 };
 use loglet_api::loglet::Loglet;
 use one_thread::terms::Terms;
@@ -54,9 +53,8 @@ fn run_by<L: Loglet, R: Register, K: Terms, S: Replica, C: Chooser>(
     requires run { MayRun K.may K.floor K.shelf }
     requires state { (log : List Entry) (m : SpaceMap) → S.state log m → IsStateOf log m }
     requires may { (who : ℕ) (e : Entry) → K.may who e → may_of lines.now who e }
-    requires none_trimmed { (log : List Entry) → AllByRecursion (λ e. (who : ℕ) × K.may who e) log → K.floor log ≡ 0 }
+    requires floor { FloorIs K.floor (length nodes.items) }
     requires sends { MaySendAll K.may lines.now }
-    requires floor { IsFloor S.state K.floor (length nodes.items) }
     requires least { 0 < length cells.items }
     requires most { length cells.items ≤ 64 }
     requires shelf { map (λ v. v.servers) (map L.view cells.items) ≡ K.shelf }
@@ -132,11 +130,11 @@ pub fn run_lines<L: Loglet, R: Register, S: Replica, C: Chooser>(
     ensures cells { length result.cells.items ≡ length cells.items }
 {
     lines_may_run();
-    a_log_of_lines_trims_nothing();
+    the_floor_is();
     lines_are_sent();
     reports_are_sent();
     leaves_are_sent();
-    the_floor_is_the_least::<S>();
+    trims_are_sent();
     know_all(cells.as_slice());
     run_by::<L, R, Brand, S, C>(alloc, cells, register, nodes, lines)
 }

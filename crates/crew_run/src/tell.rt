@@ -1,9 +1,9 @@
 //! The lines of a run are played, its nodes close, and its rows are told.
 ghost use Rattle.std.specs.Prelude.{◌≡◌, ◌≤◌, ℕ, List, length, map, IfOk};
-ghost use Rattle.std.specs.List.{AllByRecursion};
 ghost use Rattle.delos_types.specs.Spaces.{SpaceMap};
 ghost use Rattle.delos_types.specs.declared.entry.Entry.{Entry};
 ghost use Rattle.engine_laws.specs.State.{IsStateOf};
+ghost use Rattle.base_engine.specs.Trimming.{FloorIs};
 ghost use Rattle.node_workers.specs.Workers.{MayRun};
 ghost use Rattle.line_rules.specs.Rules.{may_of};
 ghost use Rattle.node_crew.specs.Turns.{MaySendAll};
@@ -30,7 +30,6 @@ use register_api::Register;
 use replica_api::replica::Replica;
 use run_laws::laws::{a_calm_run_answers_all, what_ended_fits};
 use script_text::asks::NamedLine;
-use shown_log::laws::nothing_is_trimmed;
 use std::alloc::{AllocError, Global};
 
 /// The user that reads the chain as a run closes, which is no node.
@@ -51,9 +50,9 @@ fn tell_closed<L: Loglet, R: Register, K: Terms, S: Replica, C: Chooser>(
 ) -> Ended<L, R, K, S, C>
     requires run { MayRun K.may K.floor K.shelf }
     requires may { (who : ℕ) (e : Entry) → K.may who e → may_of lines.now who e }
-    requires none_trimmed { (log : List Entry) → AllByRecursion (λ e. (who : ℕ) × K.may who e) log → K.floor log ≡ 0 }
+    requires floor { FloorIs K.floor (length crew.workers.items) }
     requires closed { (log : List Entry) × (length log ≡ end) × HasClosed K.may K.floor K.shelf S.state S.spells lines.now crew.fabric.journal crew.counts crew.looks.items log (map (λ w. record { seat = w.seat; desks = w.desks.items }) crew.workers.items) }
-    requires sees { SeesAll crew.fabric.journal (λ (w : WorkerEnd). w.seat) (map (λ w. record { seat = w.seat; desks = w.desks.items }) crew.workers.items) end }
+    requires sees { SeesAll lines.now crew.fabric.journal (λ (w : WorkerEnd). w.seat) (map (λ w. record { seat = w.seat; desks = w.desks.items }) crew.workers.items) end }
     requires stands { CrewStands K.may K.floor K.shelf S.state S.spells crew.fabric.journal (λ w. w.seat) crew.workers.items }
     ensures told { IfOk result.told (FitsGivenBack K.may K.floor K.shelf lines.now result.crew.fabric.journal (map (λ w. record { seat = w.seat; desks = w.desks.items }) result.crew.workers.items)) }
     ensures stands { CrewStands K.may K.floor K.shelf S.state S.spells result.crew.fabric.journal (λ w. w.seat) result.crew.workers.items }
@@ -68,7 +67,6 @@ fn tell_closed<L: Loglet, R: Register, K: Terms, S: Replica, C: Chooser>(
     a_calm_run_answers_all();
     the_chain_is_registered::<By<K>>();
     a_calm_run_has_seen_all::<By<K>>();
-    nothing_is_trimmed::<By<K>>();
     let Crew {
         fabric,
         workers,
@@ -115,7 +113,7 @@ pub fn tell<L: Loglet, R: Register, K: Terms, S: Replica, C: Chooser>(
     requires run { MayRun K.may K.floor K.shelf }
     requires state { (log : List Entry) (m : SpaceMap) → S.state log m → IsStateOf log m }
     requires may { (who : ℕ) (e : Entry) → K.may who e → may_of lines.now who e }
-    requires none_trimmed { (log : List Entry) → AllByRecursion (λ e. (who : ℕ) × K.may who e) log → K.floor log ≡ 0 }
+    requires floor { FloorIs K.floor (length crew.workers.items) }
     requires sends { MaySendAll K.may lines.now }
     requires eight { length crew.workers.items ≤ 8 }
     requires fresh { CrewRests K.may K.floor K.shelf S.state S.spells lines.now 0 0 crew.fabric.journal crew.counts crew.looks.items (λ w. w.seat) (λ w. w.desks.items) crew.workers.items }

@@ -10,24 +10,27 @@ use Rattle.delos_types.specs.Spaces.{SpaceMap}
 use Rattle.delos_types.specs.declared.entry.Entry.{Entry}
 use Rattle.legal_journal.specs.declared.events.Event.{Event}
 use Rattle.legal_journal.specs.Journal.{IsLegal}
+use Rattle.journal_changes.specs.Changes.{TrimsUpTo}
 use Rattle.replica_api.specs.Replica.{Saved}
+use Rattle.base_engine.specs.Trimming.{FloorIs}
 use Rattle.script_text.specs.declared.asks.NamedLine.{NamedLine}
 use Rattle.one_thread.specs.Seats.{SeatView, SeatOk}
 use Rattle.node_sessions.specs.declared.desk.Desk.{Desk}
 use Rattle.node_lines.specs.declared.lines.Looked.{Looked}
-use Rattle.node_workers.specs.Workers.{MayRun, Grows, Within, sent_of}
-use Rattle.node_workers.proofs.Widening.{seat_allowed}
+use Rattle.node_workers.specs.Workers.{MayRun, Grows, sent_of}
 use Rattle.worker_laws.proofs.Staying.{seat_later}
 use Rattle.run_course.specs.Script.{AreLines, BeginsAt, asked_before}
 use Rattle.run_course.specs.Course.{CourseOk}
 use Rattle.run_course.specs.Workers.{WorkerAt, Rests, IsUnderWay}
 use Rattle.run_course.proofs.Waiting.{rests_on}
 use Rattle.run_course.proofs.Passing.{phase_passed}
+use Rattle.run_course.proofs.Turning.{turn_begins}
 use Rattle.run_course.proofs.Lines.{phase_before}
 use Rattle.run_course.proofs.Asking.{sent_asked}
 use Rattle.run_course.proofs.Beginning.{next_phase, course_begins, rests_then}
 use Rattle.node_crew.specs.Turns.{TurnWent}
-use Rattle.node_crew.specs.Crews.{HasNone, EndsPhase, CrewAt, CrewRests, CrewStands}
+use Rattle.node_crew.proofs.Playing.{worker_stands}
+use Rattle.node_crew.specs.Crews.{HasNone, HasOne, EndsPhase, CrewAt, CrewRests, CrewStands}
 
 -- an element is taken out, and another put in its place
 pub put_back : {A : Type 0} (xs : List A) (k : ℕ) (y : A) → k < length xs → insert (remove xs k) k y ≡ slice_set xs k y
@@ -56,31 +59,37 @@ changed xs k j old y w at is = by (cases_lt j k) (cases_lt k j)
         let same : j ≡ k = omega (arith, high, low) in
         inl (same, some refl (sym (set_same xs k y old at) ∙ (ap (slice_get (slice_set xs k y)) (sym same) ∙ is)))
 
-module _ {A : Type 0} (may : ℕ → Entry → Type 0) (floor : List Entry → ℕ) (shelf : List ℕ) (state : List Entry → SpaceMap → Type 0) (spells : List ℕ → Saved → Type 0) (lines : List NamedLine) (seat : A → SeatView) (desks : A → List Desk) (workers : List A) where
+module _ {A : Type 0} (may : ℕ → Entry → Type 0) (floor : List Entry → ℕ → Type 0) (shelf : List ℕ) (state : List Entry → SpaceMap → Type 0) (spells : List ℕ → Saved → Type 0) (lines : List NamedLine) (seat : A → SeatView) (desks : A → List Desk) (workers : List A) where
   -- whose turn it is can take the fabric
   pub crew_stands : (from to k : ℕ) (journal : List Event) (counts : List ℕ) (looks : List (Option Looked)) → CrewAt may floor shelf state spells lines from to k journal counts looks seat desks workers → CrewStands may floor shelf state spells journal seat workers
   crew_stands from to k journal counts looks h = λ j w at. by j w at (cases_lt j k)
     where
-      of : (n begin done : ℕ) (w : A) → Rests may floor shelf state spells lines h.home h.course counts looks n begin done (seat w) (desks w) → SeatOk may floor shelf state spells journal (seat w)
-      of n begin done w r = seat_allowed may counts floor shelf state spells journal (seat w) (subst (λ i. SeatOk (Within may counts) floor shelf state spells i (seat w)) h.journal_is r.worker.ok.ok)
+      of : (n begin done : ℕ) (w : A) → Rests may floor shelf state spells lines h.home (length workers) h.course counts looks n begin done (seat w) (desks w) → SeatOk may floor shelf state spells journal (seat w)
+      of n begin done w r = subst (λ i. SeatOk may floor shelf state spells i (seat w)) h.journal_is (worker_stands may floor shelf state spells n counts h.course.journal (seat w) (desks w) r.worker.ok)
 
       by : (j : ℕ) (w : A) → slice_get workers j ≡ Some w → (j < k) ⊎ (k ≤ j) → SeatOk may floor shelf state spells journal (seat w)
       by j w at (inl low) = of (j + 1) to (h.course.phase + 1) w (h.had j w low at)
       by j w at (inr high) = of (j + 1) from h.course.phase w (h.waits j w high at)
 
-  -- it is the turn of the next node
+  -- it is the turn of the next node, which has a line in the phase
   pub crew_plays : (from to k : ℕ) (journal : List Event) (counts : List ℕ) (looks : List (Option Looked)) (w : A) → slice_get workers k ≡ Some w → k < length workers
+      → FloorIs floor (length workers) → HasOne lines from (k + 1)
       → (h : CrewAt may floor shelf state spells lines from to k journal counts looks seat desks workers)
       → IsUnderWay may floor shelf state spells lines h.home (length workers) h.course counts looks (k + 1) from from journal (seat w) (desks w)
-  crew_plays from to k journal counts looks w at there h = record {
+  crew_plays from to k journal counts looks w at there low one h = record {
     journal_is = h.journal_is;
     lines_are = h.lines_are;
     least = omega arith;
     most = omega (arith, there);
     begins = h.begins;
     ok = h.ok;
-    worker = (h.waits k w (omega arith) at).worker;
+    worker = waits.worker;
+    high = subst (TrimsUpTo (seat w).node.replica.cursor) h.journal_is
+        (turn_begins may floor shelf state spells lines h.home (length workers) h.course counts looks (k + 1) from one.at h.course.phase one.line (seat w) (desks w) low h.lines_are h.ok one.is one.node one.behind waits);
   }
+    where
+      waits : Rests may floor shelf state spells lines h.home (length workers) h.course counts looks (k + 1) from h.course.phase (seat w) (desks w)
+      waits = h.waits k w (omega arith) at
 
   -- a node without a line in the phase has had its turn
   pub crew_passed : (from to k : ℕ) (journal : List Event) (counts : List ℕ) (looks : List (Option Looked)) → from ≤ to → HasNone lines from to (k + 1)
@@ -98,13 +107,13 @@ module _ {A : Type 0} (may : ℕ → Entry → Type 0) (floor : List Entry → �
     waits = λ j w high at. h.waits j w (omega (arith, high)) at;
   }
     where
-      by : (j : ℕ) (w : A) → slice_get workers j ≡ Some w → (j < k) ⊎ (k ≤ j) → j < k + 1 → Rests may floor shelf state spells lines h.home h.course counts looks (j + 1) to (h.course.phase + 1) (seat w) (desks w)
+      by : (j : ℕ) (w : A) → slice_get workers j ≡ Some w → (j < k) ⊎ (k ≤ j) → j < k + 1 → Rests may floor shelf state spells lines h.home (length workers) h.course counts looks (j + 1) to (h.course.phase + 1) (seat w) (desks w)
       by j w at (inl low) under = h.had j w low at
       by j w at (inr high) under =
           let same : k ≡ j = omega (arith, high, under) in
           let r = h.waits j w high at in
           record {
-            worker = phase_passed may floor shelf state spells lines h.home h.course counts looks (j + 1) from to (seat w) (desks w) range h.begins (subst (λ i. HasNone lines from to (i + 1)) same none) r.worker;
+            worker = phase_passed may floor shelf state spells lines h.home (length workers) h.course counts looks (j + 1) from to (seat w) (desks w) range h.begins (subst (λ i. HasNone lines from to (i + 1)) same none) r.worker;
             none_given = r.none_given;
           }
 
@@ -122,35 +131,35 @@ module _ {A : Type 0} (may : ℕ → Entry → Type 0) (floor : List Entry → �
     ends = subst (λ p. BeginsAt lines to (p + 1)) (sym t.turn.phase) h.ends;
     ok = subst (λ n. CourseOk may floor shelf lines n t.course counts' looks') (sym size) t.ok;
     long = long;
-    had = λ j x low is. had j x low (changed workers k j w w' x at is);
-    waits = λ j x high is. waits j x high (changed workers k j w w' x at is);
+    had = λ j x low is. subst (λ n. Rests may floor shelf state spells lines h.home n t.course counts' looks' (j + 1) to (t.course.phase + 1) (seat x) (desks x)) (sym size) (had j x low (changed workers k j w w' x at is));
+    waits = λ j x high is. subst (λ n. Rests may floor shelf state spells lines h.home n t.course counts' looks' (j + 1) from t.course.phase (seat x) (desks x)) (sym size) (waits j x high (changed workers k j w w' x at is));
   }
     where
       size : length (slice_set workers k w') ≡ length workers
       size = length-set workers k w'
 
-      on : (j begin done : ℕ) (x : A) → j ≢ k → BeginsAt lines begin done → done ≤ h.course.phase + 1 → Rests may floor shelf state spells lines h.home h.course counts looks (j + 1) begin done (seat x) (desks x)
-          → Rests may floor shelf state spells lines h.home t.course counts' looks' (j + 1) begin done (seat x) (desks x)
+      on : (j begin done : ℕ) (x : A) → j ≢ k → BeginsAt lines begin done → done ≤ h.course.phase + 1 → Rests may floor shelf state spells lines h.home (length workers) h.course counts looks (j + 1) begin done (seat x) (desks x)
+          → Rests may floor shelf state spells lines h.home (length workers) t.course counts' looks' (j + 1) begin done (seat x) (desks x)
       on j begin done x other b low r =
           rests_on may floor shelf state spells lines h.home (length workers) h.course t.course counts counts' looks looks' (k + 1) (j + 1) begin done (seat x) (desks x) h.lines_are (apart j k other) b low h.ok t.turn t.ok r
 
-      had : (j : ℕ) (x : A) → j < k + 1 → ((j ≡ k) × (w' ≡ x)) ⊎ ((j ≢ k) × (slice_get workers j ≡ Some x)) → Rests may floor shelf state spells lines h.home t.course counts' looks' (j + 1) to (t.course.phase + 1) (seat x) (desks x)
+      had : (j : ℕ) (x : A) → j < k + 1 → ((j ≡ k) × (w' ≡ x)) ⊎ ((j ≢ k) × (slice_get workers j ≡ Some x)) → Rests may floor shelf state spells lines h.home (length workers) t.course counts' looks' (j + 1) to (t.course.phase + 1) (seat x) (desks x)
       had j x low (inl same) =
-          subst (λ y. Rests may floor shelf state spells lines h.home t.course counts' looks' (j + 1) to (t.course.phase + 1) (seat y) (desks y)) same.1
-          (subst (λ i. Rests may floor shelf state spells lines h.home t.course counts' looks' (i + 1) to (t.course.phase + 1) (seat w') (desks w')) (sym same.0) t.rests)
+          subst (λ y. Rests may floor shelf state spells lines h.home (length workers) t.course counts' looks' (j + 1) to (t.course.phase + 1) (seat y) (desks y)) same.1
+          (subst (λ i. Rests may floor shelf state spells lines h.home (length workers) t.course counts' looks' (i + 1) to (t.course.phase + 1) (seat w') (desks w')) (sym same.0) t.rests)
       had j x low (inr other) =
           let less : j < k = by (cases_lt j k) in
-          subst (λ p. Rests may floor shelf state spells lines h.home t.course counts' looks' (j + 1) to (p + 1) (seat x) (desks x)) (sym t.turn.phase)
+          subst (λ p. Rests may floor shelf state spells lines h.home (length workers) t.course counts' looks' (j + 1) to (p + 1) (seat x) (desks x)) (sym t.turn.phase)
           (on j to (h.course.phase + 1) x other.0 h.ends (omega arith) (h.had j x less other.1))
         where
           by : (j < k) ⊎ (k ≤ j) → j < k
           by (inl less) = less
           by (inr high) = absurd (other.0 (omega (arith, high, low)))
 
-      waits : (j : ℕ) (x : A) → k + 1 ≤ j → ((j ≡ k) × (w' ≡ x)) ⊎ ((j ≢ k) × (slice_get workers j ≡ Some x)) → Rests may floor shelf state spells lines h.home t.course counts' looks' (j + 1) from t.course.phase (seat x) (desks x)
+      waits : (j : ℕ) (x : A) → k + 1 ≤ j → ((j ≡ k) × (w' ≡ x)) ⊎ ((j ≢ k) × (slice_get workers j ≡ Some x)) → Rests may floor shelf state spells lines h.home (length workers) t.course counts' looks' (j + 1) from t.course.phase (seat x) (desks x)
       waits j x high (inl same) = absurd (omega (arith, high, same.0))
       waits j x high (inr other) =
-          subst (λ p. Rests may floor shelf state spells lines h.home t.course counts' looks' (j + 1) from p (seat x) (desks x)) (sym t.turn.phase)
+          subst (λ p. Rests may floor shelf state spells lines h.home (length workers) t.course counts' looks' (j + 1) from p (seat x) (desks x)) (sym t.turn.phase)
           (on j from h.course.phase x other.0 h.begins (omega arith) (h.waits j x (omega (arith, high)) other.1))
 
   -- one node came to a later journal, at which the others can take the fabric too
@@ -182,7 +191,7 @@ module _ {A : Type 0} (may : ℕ → Entry → Type 0) (floor : List Entry → �
     ok = h.ok;
     long = h.long;
     had = λ j w low at. absurd (omega (arith, low));
-    waits = λ j w high at. subst (λ p. Rests may floor shelf state spells lines h.home h.course counts looks (j + 1) from p (seat w) (desks w)) (sym h.phase_is) (h.each j w at);
+    waits = λ j w high at. subst (λ p. Rests may floor shelf state spells lines h.home (length workers) h.course counts looks (j + 1) from p (seat w) (desks w)) (sym h.phase_is) (h.each j w at);
   }
     where
       some_at : (ls : List NamedLine) (i : ℕ) → i < length ls → (l : NamedLine) × (slice_get ls i ≡ Some l)
@@ -212,7 +221,7 @@ module _ {A : Type 0} (may : ℕ → Entry → Type 0) (floor : List Entry → �
     begins = h.ends;
     ok = course_begins may floor shelf lines (length workers) h.course counts looks sent h.ok;
     long = h.long;
-    each = λ j w at. rests_then h.course may floor shelf state spells lines h.home counts looks (j + 1) to (h.course.phase + 1) (seat w) (desks w) (h.had j w (within j w at) at);
+    each = λ j w at. rests_then h.course may floor shelf state spells lines h.home (length workers) counts looks (j + 1) to (h.course.phase + 1) (seat w) (desks w) (h.had j w (within j w at) at);
   }
     where
       within : (j : ℕ) (w : A) → slice_get workers j ≡ Some w → j < length workers
@@ -233,7 +242,7 @@ module _ {A : Type 0} (may : ℕ → Entry → Type 0) (floor : List Entry → �
           let there : n < length workers = let most = h.lines_are.within s in omega (arith, most, is) in
           let w = worker_at workers n there in
           sent_asked may floor shelf state spells lines h.home (length workers) h.course counts looks s to (h.course.phase + 1) (seat w.0) (desks w.0) h.ends low
-          (subst (λ k. Rests may floor shelf state spells lines h.home h.course counts looks k to (h.course.phase + 1) (seat w.0) (desks w.0)) (sym is) (h.had n w.0 there w.1))
+          (subst (λ k. Rests may floor shelf state spells lines h.home (length workers) h.course counts looks k to (h.course.phase + 1) (seat w.0) (desks w.0)) (sym is) (h.had n w.0 there w.1))
 
       sent : (s : ℕ) → sent_of counts s ≤ asked_before lines s (h.course.phase + 1)
       sent s = by (cases_lt s 64) (h.home s) refl
@@ -256,8 +265,8 @@ module _ {A : Type 0} (may : ℕ → Entry → Type 0) (floor : List Entry → �
     ok = h.ok;
     long = h.long;
     had = λ j w low at. record {
-      worker = phase_passed may floor shelf state spells lines h.home h.course counts looks (j + 1) from from (seat w) (desks w) (omega arith) begins (λ i l more less get. absurd (omega (arith, more, less)))
-          (subst (λ p. WorkerAt may floor shelf state spells lines h.home h.course counts looks (j + 1) from from p (seat w) (desks w)) (sym h.phase_is) (h.each j w at).worker);
+      worker = phase_passed may floor shelf state spells lines h.home (length workers) h.course counts looks (j + 1) from from (seat w) (desks w) (omega arith) begins (λ i l more less get. absurd (omega (arith, more, less)))
+          (subst (λ p. WorkerAt may floor shelf state spells lines h.home (length workers) h.course counts looks (j + 1) from from p (seat w) (desks w)) (sym h.phase_is) (h.each j w at).worker);
       none_given = (h.each j w at).none_given;
     };
     waits = λ j w high at. absurd (let inside = slice_get_within workers j w at in omega (arith, inside, high));

@@ -6,17 +6,23 @@ use Rattle.delos_types.specs.declared.entry.Entry.{Entry}
 use Rattle.legal_journal.specs.declared.events.Event.{Event}
 use Rattle.replica_api.specs.Replica.{Saved}
 use Rattle.script_text.specs.declared.asks.NamedLine.{NamedLine}
-use Rattle.one_thread.specs.Seats.{SeatView}
+use Rattle.one_thread.specs.Seats.{SeatView, SeatOk}
 use Rattle.node_sessions.specs.declared.desk.Desk.{Desk}
 use Rattle.node_lines.specs.declared.lines.Looked.{Looked}
-use Rattle.node_workers.specs.Workers.{Grows}
+use Rattle.node_workers.specs.Workers.{Grows, WorkerOk}
+use Rattle.node_workers.proofs.Scoping.{seat_allowed}
 use Rattle.run_course.specs.Script.{BeginsAt}
 use Rattle.run_course.specs.Course.{Course}
 use Rattle.run_course.specs.Workers.{IsUnderWay, LineWent}
 use Rattle.run_course.proofs.Passing.{another_line}
 use Rattle.run_course.proofs.Joining.{no_turn, turns_join}
 
-module _ (may : ℕ → Entry → Type 0) (floor : List Entry → ℕ) (shelf : List ℕ) (state : List Entry → SpaceMap → Type 0) (spells : List ℕ → Saved → Type 0) (lines : List NamedLine) (home : ℕ → ℕ) (nodes : ℕ) (c : Course) (counts : List ℕ) (looks : List (Option Looked)) (n from : ℕ) where
+-- a node with its sessions can take the fabric
+pub worker_stands : (may : ℕ → Entry → Type 0) (floor : List Entry → ℕ → Type 0) (shelf : List ℕ) (state : List Entry → SpaceMap → Type 0) (spells : List ℕ → Saved → Type 0) (who : ℕ) (counts : List ℕ) (journal : List Event) (seat : SeatView) (desks : List Desk)
+    → WorkerOk may floor shelf state spells who counts journal seat desks → SeatOk may floor shelf state spells journal seat
+worker_stands may floor shelf state spells who counts journal seat desks h = seat_allowed may floor shelf counts state spells journal seat h.ok
+
+module _ (may : ℕ → Entry → Type 0) (floor : List Entry → ℕ → Type 0) (shelf : List ℕ) (state : List Entry → SpaceMap → Type 0) (spells : List ℕ → Saved → Type 0) (lines : List NamedLine) (home : ℕ → ℕ) (nodes : ℕ) (c : Course) (counts : List ℕ) (looks : List (Option Looked)) (n from : ℕ) where
   -- no line was played yet
   pub none_went : (journal : List Event) (seat : SeatView) (desks : List Desk) → IsUnderWay may floor shelf state spells lines home nodes c counts looks n from from journal seat desks
       → LineWent may floor shelf state spells lines home nodes c counts counts looks looks n from from journal seat desks
@@ -26,6 +32,7 @@ module _ (may : ℕ → Entry → Type 0) (floor : List Entry → ℕ) (shelf : 
     ok = u.ok;
     turn = no_turn lines home n c counts looks;
     worker = u.worker;
+    high = u.high;
   }
 
   -- so far it is the node's turn
@@ -39,6 +46,7 @@ module _ (may : ℕ → Entry → Type 0) (floor : List Entry → ℕ) (shelf : 
     begins = subst (BeginsAt lines from) (sym w.turn.phase) u.begins;
     ok = w.ok;
     worker = w.worker;
+    high = w.high;
   }
 
   -- one more line
@@ -52,6 +60,7 @@ module _ (may : ℕ → Entry → Type 0) (floor : List Entry → ℕ) (shelf : 
     ok = v.ok;
     turn = turns_join lines home n c w.course v.course counts counts' counts'' looks looks' looks'' w.turn v.turn;
     worker = v.worker;
+    high = v.high;
   }
 
   -- a line of another node
@@ -62,7 +71,8 @@ module _ (may : ℕ → Entry → Type 0) (floor : List Entry → ℕ) (shelf : 
     journal_is = w.journal_is;
     ok = w.ok;
     turn = w.turn;
-    worker = another_line may floor shelf state spells lines home w.course counts' looks' n from i w.course.phase line seat desks at other w.worker;
+    worker = another_line may floor shelf state spells lines home nodes w.course counts' looks' n from i w.course.phase line seat desks at other w.worker;
+    high = w.high;
   }
 
 -- the lines of a phase are of it

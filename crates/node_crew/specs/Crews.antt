@@ -16,6 +16,14 @@ use Rattle.run_course.specs.Workers.{Rests}
 abbrev pub HasNone : List NamedLine → ℕ → ℕ → ℕ → Type 0
 HasNone lines from to n = (i : ℕ) (l : NamedLine) → from ≤ i → i < to → slice_get lines i ≡ Some l → (l.node == n) ≡ false
 
+-- a line from `from` on is node n's
+pub record HasOne (lines : List NamedLine) (from n : ℕ) : Type 0 where
+  pub at : ℕ
+  pub line : NamedLine
+  pub is : slice_get lines at ≡ Some line
+  pub behind : from ≤ at
+  pub node : line.node ≡ n
+
 -- the lines from `from` up to `to` aren't of a later phase, and the next one is
 pub record EndsPhase (lines : List NamedLine) (from to phase : ℕ) : Type 0 where
   pub inside : (i : ℕ) (l : NamedLine) → from ≤ i → i < to → slice_get lines i ≡ Some l → l.phase ≤ phase
@@ -23,7 +31,7 @@ pub record EndsPhase (lines : List NamedLine) (from to phase : ℕ) : Type 0 whe
 
 -- Between two phases: the lines of `phase` and of later ones begin at `from`. A worker is seen by its seat and its desks; the
 -- nodes are numbered from 1.
-pub record CrewRests {A : Type 0} (may : ℕ → Entry → Type 0) (floor : List Entry → ℕ) (shelf : List ℕ) (state : List Entry → SpaceMap → Type 0) (spells : List ℕ → Saved → Type 0) (lines : List NamedLine) (from phase : ℕ) (journal : List Event) (counts : List ℕ) (looks : List (Option Looked)) (seat : A → SeatView) (desks : A → List Desk) (workers : List A) : Type 0 where
+pub record CrewRests {A : Type 0} (may : ℕ → Entry → Type 0) (floor : List Entry → ℕ → Type 0) (shelf : List ℕ) (state : List Entry → SpaceMap → Type 0) (spells : List ℕ → Saved → Type 0) (lines : List NamedLine) (from phase : ℕ) (journal : List Event) (counts : List ℕ) (looks : List (Option Looked)) (seat : A → SeatView) (desks : A → List Desk) (workers : List A) : Type 0 where
   pub home : ℕ → ℕ
   pub course : Course
   pub journal_is : course.journal ≡ journal
@@ -32,10 +40,10 @@ pub record CrewRests {A : Type 0} (may : ℕ → Entry → Type 0) (floor : List
   pub begins : BeginsAt lines from phase
   pub ok : CourseOk may floor shelf lines (length workers) course counts looks
   pub long : length counts ≡ 64
-  pub each : (j : ℕ) (w : A) → slice_get workers j ≡ Some w → Rests may floor shelf state spells lines home course counts looks (j + 1) from phase (seat w) (desks w)
+  pub each : (j : ℕ) (w : A) → slice_get workers j ≡ Some w → Rests may floor shelf state spells lines home (length workers) course counts looks (j + 1) from phase (seat w) (desks w)
 
 -- In a phase, whose lines are those from `from` up to `to`: the first k nodes have had their turn, the others not yet.
-pub record CrewAt {A : Type 0} (may : ℕ → Entry → Type 0) (floor : List Entry → ℕ) (shelf : List ℕ) (state : List Entry → SpaceMap → Type 0) (spells : List ℕ → Saved → Type 0) (lines : List NamedLine) (from to k : ℕ) (journal : List Event) (counts : List ℕ) (looks : List (Option Looked)) (seat : A → SeatView) (desks : A → List Desk) (workers : List A) : Type 0 where
+pub record CrewAt {A : Type 0} (may : ℕ → Entry → Type 0) (floor : List Entry → ℕ → Type 0) (shelf : List ℕ) (state : List Entry → SpaceMap → Type 0) (spells : List ℕ → Saved → Type 0) (lines : List NamedLine) (from to k : ℕ) (journal : List Event) (counts : List ℕ) (looks : List (Option Looked)) (seat : A → SeatView) (desks : A → List Desk) (workers : List A) : Type 0 where
   pub home : ℕ → ℕ
   pub course : Course
   pub journal_is : course.journal ≡ journal
@@ -44,9 +52,9 @@ pub record CrewAt {A : Type 0} (may : ℕ → Entry → Type 0) (floor : List En
   pub ends : BeginsAt lines to (course.phase + 1)
   pub ok : CourseOk may floor shelf lines (length workers) course counts looks
   pub long : length counts ≡ 64
-  pub had : (j : ℕ) (w : A) → j < k → slice_get workers j ≡ Some w → Rests may floor shelf state spells lines home course counts looks (j + 1) to (course.phase + 1) (seat w) (desks w)
-  pub waits : (j : ℕ) (w : A) → k ≤ j → slice_get workers j ≡ Some w → Rests may floor shelf state spells lines home course counts looks (j + 1) from course.phase (seat w) (desks w)
+  pub had : (j : ℕ) (w : A) → j < k → slice_get workers j ≡ Some w → Rests may floor shelf state spells lines home (length workers) course counts looks (j + 1) to (course.phase + 1) (seat w) (desks w)
+  pub waits : (j : ℕ) (w : A) → k ≤ j → slice_get workers j ≡ Some w → Rests may floor shelf state spells lines home (length workers) course counts looks (j + 1) from course.phase (seat w) (desks w)
 
 -- each node can take the fabric with this journal
-abbrev pub CrewStands : {A : Type 0} → (ℕ → Entry → Type 0) → (List Entry → ℕ) → List ℕ → (List Entry → SpaceMap → Type 0) → (List ℕ → Saved → Type 0) → List Event → (A → SeatView) → List A → Type 0
+abbrev pub CrewStands : {A : Type 0} → (ℕ → Entry → Type 0) → (List Entry → ℕ → Type 0) → List ℕ → (List Entry → SpaceMap → Type 0) → (List ℕ → Saved → Type 0) → List Event → (A → SeatView) → List A → Type 0
 CrewStands {A} may floor shelf state spells journal seat workers = (j : ℕ) (w : A) → slice_get workers j ≡ Some w → SeatOk may floor shelf state spells journal (seat w)

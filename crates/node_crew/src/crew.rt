@@ -1,12 +1,13 @@
 //! All nodes of a run, phase by phase.
-ghost use Rattle.std.specs.Prelude.{◌≡◌, ◌<◌, ◌≤◌, ◌+◌, ◌==◌, ℕ, List, length, Some, false, IfOk, OnOk, slice_get};
+ghost use Rattle.std.specs.Prelude.{◌≡◌, ◌<◌, ◌≤◌, ◌+◌, ◌==◌, ℕ, List, length, Some, true, false, IfOk, OnOk, slice_get};
 ghost use Rattle.delos_types.specs.Spaces.{SpaceMap};
 ghost use Rattle.delos_types.specs.declared.entry.Entry.{Entry};
 ghost use Rattle.script_text.specs.declared.asks.NamedLine.{NamedLine};
 ghost use Rattle.engine_laws.specs.State.{IsStateOf};
+ghost use Rattle.base_engine.specs.Trimming.{FloorIs};
 ghost use Rattle.node_workers.specs.Workers.{MayRun};
 ghost use Rattle.node_crew.specs.Turns.{MaySendAll};
-ghost use Rattle.node_crew.specs.Crews.{CrewAt, CrewRests, CrewStands, HasNone, EndsPhase};
+ghost use Rattle.node_crew.specs.Crews.{CrewAt, CrewRests, CrewStands, HasNone, HasOne, EndsPhase};
 
 use crate::turn::play_turn;
 use delos_types::numbers::NodeId;
@@ -41,6 +42,7 @@ pub struct Played<L: Loglet, R: Register, K: Terms, S: Replica, C: Chooser> {
 fn has_line(lines: &[NamedLine], from: usize, to: usize, node: NodeId) -> bool
     requires { (from ≤ to) × (to ≤ length lines.now) }
     ensures none { result ≡ false → HasNone lines.now from to node }
+    ensures one { result ≡ true → HasOne lines.now from node }
 {
     for i in from..to {
         if lines[i].node == node {
@@ -63,6 +65,7 @@ fn play_node<L: Loglet, R: Register, K: Terms, S: Replica, C: Chooser>(
     requires state { (log : List Entry) (m : SpaceMap) → S.state log m → IsStateOf log m }
     requires range { (from ≤ to) × (to ≤ length lines.now) }
     requires sends { MaySendAll K.may lines.now }
+    requires floor { FloorIs K.floor (length crew.workers.items) }
     requires there { k < length crew.workers.items }
     requires eight { length crew.workers.items ≤ 8 }
     requires now { CrewAt K.may K.floor K.shelf S.state S.spells lines.now from to k crew.fabric.journal crew.counts crew.looks.items (λ w. w.seat) (λ w. w.desks.items) crew.workers.items }
@@ -129,6 +132,7 @@ fn play_phase<L: Loglet, R: Register, K: Terms, S: Replica, C: Chooser>(
     requires state { (log : List Entry) (m : SpaceMap) → S.state log m → IsStateOf log m }
     requires range { (from ≤ to) × (to ≤ length lines.now) }
     requires sends { MaySendAll K.may lines.now }
+    requires floor { FloorIs K.floor (length crew.workers.items) }
     requires eight { length crew.workers.items ≤ 8 }
     requires now { CrewAt K.may K.floor K.shelf S.state S.spells lines.now from to 0 crew.fabric.journal crew.counts crew.looks.items (λ w. w.seat) (λ w. w.desks.items) crew.workers.items }
     ensures goes { OnOk result.answer (CrewAt K.may K.floor K.shelf S.state S.spells lines.now from to (length crew.workers.items) result.crew.fabric.journal result.crew.counts result.crew.looks.items (λ w. w.seat) (λ w. w.desks.items) result.crew.workers.items) }
@@ -180,6 +184,7 @@ pub fn play_phases<L: Loglet, R: Register, K: Terms, S: Replica, C: Chooser>(
     requires run { MayRun K.may K.floor K.shelf }
     requires state { (log : List Entry) (m : SpaceMap) → S.state log m → IsStateOf log m }
     requires sends { MaySendAll K.may lines.now }
+    requires floor { FloorIs K.floor (length crew.workers.items) }
     requires eight { length crew.workers.items ≤ 8 }
     requires fresh { CrewRests K.may K.floor K.shelf S.state S.spells lines.now 0 0 crew.fabric.journal crew.counts crew.looks.items (λ w. w.seat) (λ w. w.desks.items) crew.workers.items }
     requires stands { CrewStands K.may K.floor K.shelf S.state S.spells crew.fabric.journal (λ w. w.seat) crew.workers.items }

@@ -1,21 +1,23 @@
 //! A line is played at its node.
-ghost use Rattle.std.specs.Prelude.{◌≡◌, ◌<◌, ◌+◌, ℕ, List, length, Some, Ok, IfOk, OnOk, slice_get, slice_set};
+ghost use Rattle.std.specs.Prelude.{◌≡◌, ◌<◌, ◌≤◌, ◌+◌, ℕ, List, length, Some, Ok, IfOk, OnOk, slice_get, slice_set};
 ghost use Rattle.delos_types.specs.Spaces.{SpaceMap};
 ghost use Rattle.delos_types.specs.declared.entry.Entry.{Entry};
 ghost use Rattle.engine_laws.specs.State.{IsStateOf};
+ghost use Rattle.base_engine.specs.Trimming.{FloorIs};
 ghost use Rattle.one_thread.specs.Seats.{SeatOk};
 ghost use Rattle.script_text.specs.declared.asks.NamedLine.{NamedLine};
 ghost use Rattle.script_text.specs.declared.asks.Asks.TheVariants as asks;
 ghost use Rattle.node_lines.specs.declared.lines.Looked.{Looked};
 ghost use Rattle.node_workers.specs.Workers.{WorkerOk, MayRun, Grows};
 ghost use Rattle.run_course.specs.Course.{Course};
-ghost use Rattle.run_course.specs.Workers.{IsUnderWay, CanSend, IsNext, LineWent};
+ghost use Rattle.run_course.specs.Workers.{IsUnderWay, CanPlay, CanSend, IsNext, LineWent};
 
 use fabric_core::fabric::Fabric;
 use fate_words::chooser::Chooser;
 use loglet_api::loglet::Loglet;
 use node_lines::lines::Looked;
-use node_workers::turns::{Returned, extend_line, leave_line, log_line, look_line, report_line};
+use node_workers::admin::{extend_line, leave_line, report_line, trim_line};
+use node_workers::turns::{Returned, log_line, look_line};
 use node_workers::worker::Worker;
 use one_thread::terms::{By, Terms};
 use register_api::Register;
@@ -76,6 +78,9 @@ fn play_admin<L: Loglet, R: Register, K: Terms, S: Replica, C: Chooser>(
     requires node { line.now.node ≡ worker.seat.who }
     requires asked { line.now.asks ≡ asks.Admin admin }
     requires sends { CanSend K.may worker.seat.who (asks.Admin admin) }
+    requires can { CanPlay worker.seat.who fabric.journal worker.seat }
+    requires few { worker.seat.who ≤ worker.seat.node.nodes }
+    requires floor { FloorIs K.floor worker.seat.node.nodes }
     requires there { i < length looks.old.items }
 
     // The run goes on.
@@ -99,11 +104,15 @@ fn play_admin<L: Loglet, R: Register, K: Terms, S: Replica, C: Chooser>(
             let looked = leave_line(alloc, fabric, worker, counts, line.node);
             return keep_look(looked, looks, i);
         }
+        Admin::Trim => {
+            let looked = trim_line(alloc, fabric, worker, counts, line.node);
+            return keep_look(looked, looks, i);
+        }
     }
 }
 
-/// Plays line `i`, which is the worker's: a command is handed in, and what a read, a report or a replacement of the last loglet
-/// came to stands in `looks` then.
+/// Plays line `i`, which is the worker's: a command is handed in, and what a read came to, or a line that asks something of the node
+/// itself, stands in `looks` then.
 pub fn play_line<L: Loglet, R: Register, K: Terms, S: Replica, C: Chooser>(
     alloc: Global,
     fabric: Fabric<L, R, By<K>>,
@@ -119,6 +128,9 @@ pub fn play_line<L: Loglet, R: Register, K: Terms, S: Replica, C: Chooser>(
     requires node { line.now.node ≡ worker.seat.who }
     requires next { IsNext counts.old worker.desks.items line.now.asks }
     requires sends { CanSend K.may worker.seat.who line.now.asks }
+    requires can { CanPlay worker.seat.who fabric.journal worker.seat }
+    requires few { worker.seat.who ≤ worker.seat.node.nodes }
+    requires floor { FloorIs K.floor worker.seat.node.nodes }
     requires there { i < length looks.old.items }
 
     // The run goes on.

@@ -3,6 +3,7 @@ ghost use Rattle.std.specs.Prelude.{◌≡◌, ◌<◌, ◌≤◌, ◌+◌, ℕ,
 ghost use Rattle.delos_types.specs.Spaces.{SpaceMap};
 ghost use Rattle.delos_types.specs.declared.entry.Entry.{Entry};
 ghost use Rattle.engine_laws.specs.State.{IsStateOf};
+ghost use Rattle.base_engine.specs.Trimming.{FloorIs};
 ghost use Rattle.one_thread.specs.Seats.{SeatOk};
 ghost use Rattle.node_workers.specs.Workers.{MayRun, Grows};
 ghost use Rattle.run_course.specs.Script.{BeginsAt};
@@ -41,6 +42,7 @@ fn play_lines<L: Loglet, R: Register, K: Terms, S: Replica, C: Chooser>(
     requires node { worker.seat.who ≡ node }
     requires range { (from ≤ to) × (to ≤ length lines.now) }
     requires sends { MaySendAll K.may lines.now }
+    requires floor { FloorIs K.floor worker.seat.node.nodes }
     requires playing { IsPlaying K.may K.floor K.shelf S.state S.spells lines.now counts.old looks.old.items node from to fabric.journal worker.seat worker.desks.items }
     ensures goes { (home : ℕ → ℕ) (nodes : ℕ) (c : Course)
         → IsUnderWay K.may K.floor K.shelf S.state S.spells lines.now home nodes c counts.old looks.old.items node from from fabric.journal worker.seat worker.desks.items → BeginsAt lines.now to (c.phase + 1)
@@ -97,6 +99,7 @@ pub fn play_turn<L: Loglet, R: Register, K: Terms, S: Replica, C: Chooser>(
     requires node { worker.seat.who ≡ node }
     requires range { (from ≤ to) × (to ≤ length lines.now) }
     requires sends { MaySendAll K.may lines.now }
+    requires floor { FloorIs K.floor worker.seat.node.nodes }
     requires playing { IsPlaying K.may K.floor K.shelf S.state S.spells lines.now counts.old looks.old.items node from to fabric.journal worker.seat worker.desks.items }
     ensures goes { (home : ℕ → ℕ) (nodes : ℕ) (c : Course)
         → IsUnderWay K.may K.floor K.shelf S.state S.spells lines.now home nodes c counts.old looks.old.items node from from fabric.journal worker.seat worker.desks.items → BeginsAt lines.now to (c.phase + 1)

@@ -33,5 +33,5 @@ floor_is log m s =
     let e : least_of 2 m ≡ least_position 2 (unpack_all 0 log) = ap least (same_reports (numbers 1 2) (unpack_all 0 log) m s.members) in
     subst (λ n. min (length log) (min (trim_of m) (least_of 2 m)) ≤ min (length log) n) e (omega arith)
 
-pub floor_within : (log : List Entry) → least_of_two log ≤ length log
-floor_within log = omega arith
+pub floor_within : (log : List Entry) (n : ℕ) → least_of_two log n → n ≤ length log
+floor_within log n h = omega (arith, h)

@@ -28,19 +28,21 @@ rests_later who early late node log on r = record {
       (follows_later anything least_of_two one_loglet Holds IsStateOf Spells (held_stays anything least_of_two one_loglet) early late node.replica on r.ok.follows) r.ok.bounded refl refl refl refl;
   goes_by = goes_later anything least_of_two one_loglet early late log.version log.known log.chain on r.goes_by;
   loglets = r.loglets;
+  nodes = r.nodes;
 }
 
 pub two_later : (number : ℕ) (old new : NodeView) (other : ℕ) (rested : RestedView) (log : virtual_log.RestedView) → Keeps anything least_of_two one_loglet old new → AreTwo number old other rested log → AreTwo number new other rested log
-two_later number old new other rested log kept two = record { who = kept.who ∙ two.who; rests = rests_later other old.seen new.seen rested log kept.later two.rests }
+two_later number old new other rested log kept two = record { who = kept.who ∙ two.who; nodes = kept.nodes ∙ two.nodes; rests = rests_later other old.seen new.seen rested log kept.later two.rests }
 
 -- a node that is laid down
-pub laid_down : (number : ℕ) (view : NodeView) (rested : RestedView) (log : virtual_log.LogView) (kept : virtual_log.RestedView) → view.who ≡ number → rested ≡ record { nodes = view.nodes; replica = view.replica; outbox = view.outbox }
+pub laid_down : (number : ℕ) (view : NodeView) (rested : RestedView) (log : virtual_log.LogView) (kept : virtual_log.RestedView) → view.who ≡ number → view.nodes ≡ 2 → rested ≡ record { nodes = view.nodes; replica = view.replica; outbox = view.outbox }
     → log.seen ≡ view.seen → log.known ≡ view.known → kept ≡ record { known = log.known; version = log.version; chain = log.chain; shelf_len = 1 }
     → NodeOk anything least_of_two one_loglet Holds IsStateOf Spells view → GoesBy (state_of log.seen) log.version log.chain log.known → Rests number view.seen rested kept
-laid_down number view rested log kept who is seen known left ok goes = record {
+laid_down number view rested log kept who two is seen known left ok goes = record {
   ok = subst (NodeOk anything least_of_two one_loglet Holds IsStateOf Spells) (sym same) ok;
   goes_by = subst (λ (v : virtual_log.RestedView). GoesBy (state_of view.seen) v.version v.chain v.known) (sym left) (subst (λ (s : List Event). GoesBy (state_of s) log.version log.chain log.known) seen goes);
   loglets = ap (λ (v : virtual_log.RestedView). v.shelf_len) left;
+  nodes = ap (λ (r : RestedView). r.nodes) is ∙ two;
 }
   where
     bare : RestedView

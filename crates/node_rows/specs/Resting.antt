@@ -1,5 +1,5 @@
 -- Two nodes over one loglet, of which one has the log at a time.
-use Rattle.std.specs.Prelude.{◌≡◌, ℕ, List, [], ◌∷◌, length, min, None}
+use Rattle.std.specs.Prelude.{◌≡◌, ◌≤◌, ℕ, List, [], ◌∷◌, length, min, None}
 use Rattle.std.specs.FinMap as map
 use Rattle.delos_types.specs.declared.entry.Entry.{Entry}
 use Rattle.engine_api.specs.Acted.{unpack_all}
@@ -20,8 +20,8 @@ anything who e = Unit {0}
 
 -- up to where a log of two nodes may be trimmed: to the least position of a member, in the state that these entries lead
 -- to, and no further than they go
-abbrev pub least_of_two : List Entry → ℕ
-least_of_two entries = min (length entries) (least_position 2 (unpack_all 0 entries))
+abbrev pub least_of_two : List Entry → ℕ → Type 0
+least_of_two entries n = n ≤ min (length entries) (least_position 2 (unpack_all 0 entries))
 
 -- one loglet of one server
 abbrev pub one_loglet : List ℕ
@@ -32,10 +32,12 @@ pub record Rests (who : ℕ) (seen : List Event) (node : RestedView) (log : virt
   pub ok : NodeOk anything least_of_two one_loglet Holds IsStateOf Spells (awake node who seen log.known)
   pub goes_by : GoesBy (state_of seen) log.version log.chain log.known
   pub loglets : log.shelf_len ≡ 1
+  pub nodes : node.nodes ≡ 2
 
 -- the node that has the log goes by its number, and the other one rests
 pub record AreTwo (number : ℕ) (node : NodeView) (other : ℕ) (rested : RestedView) (log : virtual_log.RestedView) : Type 0 where
   pub who : node.who ≡ number
+  pub nodes : node.nodes ≡ 2
   pub rests : Rests other node.seen rested log
 
 -- a store to which nothing was committed

@@ -125,6 +125,7 @@ fn fresh_node<E: Layers, D: Disk>(
     requires legal { IsLegal anything least_of_two one_loglet log.seen }
     ensures who { result.who ≡ log.who }
     ensures seen { result.seen ≡ log.seen }
+    ensures nodes { result.nodes ≡ 2 }
 {
     starts_empty();
     let replica = LocalReplica::new(alloc, number, engines, store);
@@ -144,7 +145,8 @@ fn lay_down<E: Layers, D: Disk>(
     number: NodeId,
     node: Node<Log, LocalReplica<E, D>>,
 ) -> (Resting<E, D>, Fabric<Cell, Register, TwoNodes>)
-    requires { node.who ≡ number }
+    requires who { node.who ≡ number }
+    requires nodes { node.nodes ≡ 2 }
     ensures seen { result.1.journal ≡ node.seen }
     ensures number { result.0.number ≡ number }
     ensures rests { Rests number node.seen result.0.node result.0.log }
@@ -163,6 +165,7 @@ fn take_up<E: Layers, D: Disk>(
     requires { Rests resting.number fabric.journal resting.node resting.log }
     ensures who { result.who ≡ resting.number }
     ensures seen { result.seen ≡ fabric.journal }
+    ensures nodes { result.nodes ≡ 2 }
 {
     let Resting { number, node, log } = resting;
     let who = u32::from(number.number());

@@ -16,3 +16,5 @@ mod replacing;
 mod reporting;
 #[cfg(test)]
 mod tests;
+#[cfg(test)]
+mod trimming;

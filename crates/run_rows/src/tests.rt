@@ -265,6 +265,41 @@ fn nodes_that_leave_and_their_texts(rt: HostRuntime) -> Result<(), Fail> {
     Ok(())
 }
 
+// The log is trimmed to what each node that hasn't left reported, and loglets below that leave the chain.
+#[test]
+fn trims_and_their_texts(rt: HostRuntime) -> Result<(), Fail> {
+    let alloc = rt.alloc();
+    let replaced =
+        b"on n1 a put x 1\non n1 extend\non n1 a put y 2\non n1 alive\non n1 trim\non n1 a get x\n";
+    let one_left = b"on n1 a put x 1\nbarrier\non n2 retire\nbarrier\non n1 alive\non n1 trim\n";
+    let rows = [
+        (
+            &["run"][..],
+            &replaced[..],
+            &b"1 a @0.0 ok\n2 n1 extended v=2 at 1\n3 a @1.0 ok\n4 n1 alive 2\n5 n1 trim 2\n6 a >4 = 1\nend 4\nchain v=3 trim=2\nseg 1 native3 1 open\n"[..],
+        ),
+        (
+            &["run", "--shelf", "file,native3"],
+            replaced,
+            b"1 a @0.0 ok\n2 n1 extended v=2 at 1\n3 a @1.0 ok\n4 n1 alive 2\n5 n1 trim 2\n6 a >4 = 1\nend 4\nchain v=3 trim=2\nseg 1 native3 1 open\n",
+        ),
+        (
+            &["run", "--nodes", "2", "--shelf", "file"],
+            one_left,
+            b"1 a @0.0 ok\n3 n2 retired\n5 n1 alive 2\n6 n1 trim 2\nend 4\nchain v=2 trim=2\nseg 0 file 0 open\n",
+        ),
+        (
+            &["run", "--nodes", "2", "--shelf", "striped2"],
+            one_left,
+            b"1 a @0.0 ok\n3 n2 retired\n5 n1 alive 2\n6 n1 trim 2\nend 4\nchain v=2 trim=2\nseg 0 striped2 0 open\n",
+        ),
+    ];
+    for (words, script, text) in rows {
+        ends_with(&rt, alloc, words, script, &CALM, 0, text)?;
+    }
+    Ok(())
+}
+
 // Of seventeen commands sixteen stand in one entry, and the last in the next.
 #[test]
 fn an_entry_takes_sixteen_commands(rt: HostRuntime) -> Result<(), Fail> {
@@ -292,8 +327,9 @@ fn an_entry_takes_sixteen_commands(rt: HostRuntime) -> Result<(), Fail> {
 fn bad_lines(rt: HostRuntime) -> Result<(), Fail> {
     let alloc = rt.alloc();
     let rows = [
-        (&b"on n1 trim\n"[..], &b"line 1: word\n"[..]),
+        (&b"on n1 trims\n"[..], &b"line 1: word\n"[..]),
         (b"on n1 extend x\n", b"line 1: count\n"),
+        (b"on n1 trim x\n", b"line 1: count\n"),
         (b"on n1 alive x\n", b"line 1: count\n"),
         (b"on n1 retire\n\non n1 a put x 1\n", b"line 3: retired\n"),
         (b"on n2 extend\n", b"line 1: node\n"),

@@ -8,7 +8,7 @@ use Rattle.script_text.specs.declared.line.Line.{Line}
 use Rattle.script_text.specs.declared.line.Line.TheVariants as line
 use Rattle.script_text.specs.declared.line.Session.{Session}
 use Rattle.script_text.specs.declared.line.Admin.{Admin}
-use Rattle.script_text.specs.declared.line.Admin.TheVariants.{Extend, Alive, Retire}
+use Rattle.script_text.specs.declared.line.Admin.TheVariants.{Extend, Alive, Retire, Trim}
 use Rattle.script_text.specs.declared.line.Ask.{Ask}
 use Rattle.script_text.specs.declared.line.Ask.TheVariants as ask
 use Rattle.script_text.specs.declared.asks.NamedLine.{NamedLine}
@@ -129,6 +129,7 @@ same_homes nodes b after same ok = subst (λ (x : Before). AreHomes nodes x.home
 asked_homes : (nodes : ℕ) (b after : Before) (n : ℕ) (a : Admin) → after ≡ with_asked b n a → AreHomes nodes b.homes → AreHomes nodes after.homes × Keep b.homes after.homes
 asked_homes nodes b after n Extend same ok = same_homes nodes b after same ok
 asked_homes nodes b after n Alive same ok = same_homes nodes b after same ok
+asked_homes nodes b after n Trim same ok = same_homes nodes b after same ok
 asked_homes nodes b after n Retire same ok = subst (λ (x : Before). AreHomes nodes x.homes × Keep b.homes x.homes) (sym same) (ok, λ i h e. e)
 
 at_home : (nodes : ℕ) (b : Before) (n at : ℕ) (rs : List RawLine) (before ls : List Line) → AreHomes nodes b.homes → SpellsFrom nodes b n at rs ls → HaveHomes nodes b.homes (lines_after before ls)

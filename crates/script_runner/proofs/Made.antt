@@ -1,7 +1,7 @@
 -- What came of a script that was made, by the laws of made scripts and of totals.
 use Rattle.std.proofs.Common.{◌≡◌, refl, sym, ap, ◌∙◌, subst, ℕ, zero, suc, pos, negsuc, ◌+◌, ◌<◌, ◌≤◌, ◌/◌, ◌==◌, Bool, true, false, cond, List, [], ◌∷◌, length, min, map, arith, zero-add, Option, Some, None}
-use Rattle.std.specs.Prelude.{count_by, is_some, not, filter, fold, ◌+ℤ◌, All, sum_by, IfSome}
-use Rattle.std.specs.List.{AllByRecursion, list_all, zip}
+use Rattle.std.specs.Prelude.{count_by, is_some, not, ◌&&◌, ◌||◌, filter, fold, ◌+ℤ◌, All, sum_by, IfSome}
+use Rattle.std.specs.List.{AllByRecursion, list_all, list_any, zip}
 use Rattle.std.proofs.lemmas.Int.{ints}
 use Rattle.std.proofs.lemmas.Bool.{and_parts}
 use Rattle.std.proofs.lemmas.Bool.Decides.{nat_tests}
@@ -10,7 +10,7 @@ use Rattle.delos_types.specs.declared.chain.Segment.{Segment}
 use Rattle.delos_types.specs.declared.chain.Chain.{Chain}
 use Rattle.chain_map.specs.Chain.{last_of_segments, last_id}
 use Rattle.table_core.specs.declared.command.Command.TheVariants.{Put, Del, Cas, Add}
-use Rattle.script_text.specs.declared.line.Admin.TheVariants.{Extend, Alive, Retire}
+use Rattle.script_text.specs.declared.line.Admin.TheVariants.{Extend, Alive, Retire, Trim}
 use Rattle.script_text.specs.declared.asks.NamedLine.{NamedLine}
 use Rattle.script_text.specs.declared.asks.Asks.{Asks}
 use Rattle.script_text.specs.declared.asks.Asks.TheVariants as asks
@@ -27,6 +27,8 @@ use Rattle.fitting_run.specs.Tests.{◌⇒◌}
 use Rattle.fitting_run.specs.declared.answered.Answered.{Answered}
 use Rattle.fitting_run.specs.Answered.{logs, has_row}
 use Rattle.fitting_run.specs.Outcomes.{OneRowEach, answers, is_row_of}
+use Rattle.engine_api.specs.Order.{numbers}
+use Rattle.fitting_run.specs.Trims.{asks_to_trim, is_asked_for, is_to_let_go}
 use Rattle.fitting_run.specs.Replacements.{version_made, version_found, lacks_spare, is_spent}
 use Rattle.fitting_run.specs.Calm.{IsCalm, is_answered, all_answered}
 use Rattle.fitting_run.specs.Yard.{Shown}
@@ -92,6 +94,7 @@ added_to n (asks.Look s q) h = absurd h
 added_to n (asks.Admin Extend) h = omega (arith, ints)
 added_to n (asks.Admin Alive) h = absurd h
 added_to n (asks.Admin Retire) h = absurd h
+added_to n (asks.Admin Trim) h = absurd h
 
 adds_from : (n : ℕ) (lines : List NamedLine) → AllByRecursion (λ l. AddsOrExtends l.asks) lines → fold (λ s l. s +ℤ amount_asked l.asks) (pos n) lines ≡ pos (n + sum_by added lines)
 adds_from n [] h = let e : n ≡ n + 0 = omega arith in ap (λ (k : ℕ). pos k) e
@@ -173,6 +176,15 @@ one_row (asks.Admin Retire) (out.Alive n) kind own lone = absurd cc
 one_row (asks.Admin Retire) (out.Trimmed n) kind own lone = absurd cc
 one_row (asks.Admin Retire) out.Retired kind own lone = refl
 one_row (asks.Admin Retire) (out.Open c) kind own lone = absurd cc
+one_row (asks.Admin Trim) (out.Placed p reply late) kind own lone = absurd cc
+one_row (asks.Admin Trim) (out.Read after found) kind own lone = absurd cc
+one_row (asks.Admin Trim) (out.Extended v s) kind own lone = absurd cc
+one_row (asks.Admin Trim) (out.Moved v) kind own lone = absurd cc
+one_row (asks.Admin Trim) out.NoSpare kind own lone = absurd cc
+one_row (asks.Admin Trim) (out.Alive n) kind own lone = absurd cc
+one_row (asks.Admin Trim) (out.Trimmed n) kind own lone = refl
+one_row (asks.Admin Trim) out.Retired kind own lone = absurd cc
+one_row (asks.Admin Trim) (out.Open c) kind own lone = absurd cc
 
 -- the lines with their rows
 abbrev pair_of : NamedLine × Row → Answered
@@ -223,17 +235,43 @@ least_is : (g shelf made found_none all last : ℕ) → g ≡ made + 1 → last 
 least_is g shelf made zero all last size is low sum none = omega (arith, size, is, low, sum)
 least_is g shelf made (suc k) all last size is low sum none = let full = none (omega arith) in omega (arith, size, is, low, sum, full)
 
+-- a line of a made script asks for no trim
+no_trim : (a : Asks) → AddsOrExtends a → asks_to_trim a ≡ false
+no_trim (asks.Logged s r c) h = refl
+no_trim (asks.Look s q) h = refl
+no_trim (asks.Admin Extend) h = refl
+no_trim (asks.Admin Alive) h = absurd h
+no_trim (asks.Admin Retire) h = absurd h
+no_trim (asks.Admin Trim) h = absurd h
+
+none_trims : (lines : List NamedLine) → AllByRecursion (λ l. AddsOrExtends l.asks) lines → list_any (λ l. asks_to_trim l.asks) lines ≡ false
+none_trims [] h = refl
+none_trims (l ∷ ls) h = rw (no_trim l.asks h.0) (none_trims ls h.1)
+
+-- so nothing is trimmed
+untrimmed : (lines : List NamedLine) (nodes trim : ℕ) → AllByRecursion (λ l. AddsOrExtends l.asks) lines → is_asked_for lines nodes trim ≡ true → trim ≡ 0
+untrimmed lines nodes trim each asked = by (trim == 0) refl
+  where
+    by : (b : Bool) → (trim == 0) ≡ b → trim ≡ 0
+    by true is = grind (arith, nat_tests, is)
+    by false is =
+        let some : (false || (list_any (λ l. asks_to_trim l.asks) lines && list_all (is_to_let_go lines) (numbers 1 nodes))) ≡ true = subst (λ b. (b || (list_any (λ l. asks_to_trim l.asks) lines && list_all (is_to_let_go lines) (numbers 1 nodes))) ≡ true) is asked in
+        let parts = and_parts (list_any (λ l. asks_to_trim l.asks) lines) (list_all (is_to_let_go lines) (numbers 1 nodes)) some in
+        let none = none_trims lines each in
+        absurd (let t : true ≡ false = sym parts.0 ∙ none in cc)
+
 -- where every line has its own answer, each line that extends the chain did, until the shelf had no loglet left
-segments_made : (lines : List NamedLine) (told : Told) (yard : Shown) (shelf : ℕ) → length yard.cells ≡ shelf → Fits lines told yard → all_answered told.rows ≡ true → unmoved told.rows ≡ true
+segments_made : (lines : List NamedLine) (told : Told) (yard : Shown) (shelf : ℕ) → AllByRecursion (λ l. AddsOrExtends l.asks) lines → length yard.cells ≡ shelf → Fits lines told yard → all_answered told.rows ≡ true → unmoved told.rows ≡ true
     → GoesTo told.chain (count_by has_made told.rows) → All (λ s. s.id < length yard.cells) told.chain.segments → length told.chain.segments ≡ min shelf (1 + count_by extends lines)
-segments_made lines told yard shelf cells fits own lone goes within =
+segments_made lines told yard shelf each cells fits own lone goes within =
+    let grown = goes.segments (untrimmed lines (length yard.disks) told.chain.trim each fits.trims.asked) in
     let size : length told.rows ≡ length lines = fits.one_row_each.as_many ∙ ap length (every_row lines) in
     let kinds : list_all is_row_of (pairs lines told.rows) ≡ true = subst (λ (ls : List NamedLine). list_all is_row_of (pairs ls told.rows) ≡ true) (every_row lines) fits.one_row_each.each in
     let full : list_all (is_spent told.chain (length yard.cells)) (pairs lines told.rows) ≡ true =
     subst (λ (ls : List NamedLine). list_all (is_spent told.chain (length yard.cells)) (pairs ls told.rows) ≡ true) (every_row lines) fits.replacements.last in
-    let low = last_within (length yard.cells) told.chain.segments (all_from (λ s. s.id < length yard.cells) told.chain.segments within) (omega (arith, goes.segments)) in
+    let low = last_within (length yard.cells) told.chain.segments (all_from (λ s. s.id < length yard.cells) told.chain.segments within) (omega (arith, grown)) in
     least_is (length told.chain.segments) shelf (count_by has_made told.rows) (count_by has_spent told.rows) (count_by extends lines) (last_id told.chain)
-    goes.segments goes.last (omega (arith, low, cells)) (tally lines told.rows size kinds own lone)
+    grown goes.last (omega (arith, low, cells)) (tally lines told.rows size kinds own lone)
     (λ some. spent told.chain (length yard.cells) lines told.rows size full some ∙ cells)
 
 -- All of it
@@ -287,7 +325,7 @@ counts_made laws plan count left yard told make ran =
     let few = subst IsTask make ran.plan_is.task in
     let lines : lines_of ran.script ≡ lines_made plan count = ap lines_of comes.1 in
     counts_lines laws plan count yard told few.1 (subst (λ ls. Fits ls told yard) lines ran.fits)
-    (λ calm. segments_made (lines_of ran.script) told yard (length plan.shelf) ran.shelf ran.fits (ran.answered calm) ran.lone (ran.extended calm) ran.shelved
+    (λ calm. segments_made (lines_of ran.script) told yard (length plan.shelf) (subst (AllByRecursion (λ (l : NamedLine). AddsOrExtends l.asks)) (sym lines) (all_from (λ (l : NamedLine). AddsOrExtends l.asks) (lines_made plan count) (laws.adds plan.seed count plan.nodes))) ran.shelf ran.fits (ran.answered calm) ran.lone (ran.extended calm) ran.shelved
     ∙ ap (λ ls. min (length plan.shelf) (1 + count_by extends ls)) lines)
 
 of_plan : Laws → (words : List (List ℕ)) (left : Option (List ℕ)) (yard : Shown) (told : Told) (plan : Plan) → plan_of words ≡ Some plan → Ran plan left yard told → CountsWhatWasMade words yard told

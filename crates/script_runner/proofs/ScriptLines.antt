@@ -21,6 +21,7 @@ use Rattle.script_text.specs.Script.{RawLine, lines_in}
 use Rattle.script_text.specs.Spelling.{IsScript, SpellsFrom, CommandFits, is_print}
 use Rattle.script_text.specs.Lines.{lines_of, lines_after, named_after, asks_after, is_logged_by, is_barrier}
 use Rattle.fitting_run.specs.Lines.{logs_for, has_rank, are_ranked, are_in_phase, CanLog}
+use Rattle.fitting_run.proofs.Leaving.{none-retired}
 use Rattle.run_course.specs.Script.{AreLines}
 use Rattle.script_runner.specs.Playing.{CanPlay}
 use Rattle.script_runner.proofs.Homes.{script_homes, home_at, home_low, all_home, all_within, all_known}
@@ -180,6 +181,7 @@ are_lines nodes bytes ls least h =
         few = omega (arith, no_more [] ls, some);
         ranked = ranked [] ls;
         phases = phases [] ls;
+        stay = none-retired nodes bytes ls h;
         nodes_are = all_within nodes at.homes (lines_of ls) at.each;
         at_home = all_home nodes at.homes (lines_of ls) at.each;
         there = λ s. (home_low nodes at.homes least at.are s).0;

@@ -1,11 +1,11 @@
 use Rattle.std.proofs.Common.{[], length, map, sym, ap, ◌∙◌, subst, arith}
 use Rattle.std.proofs.lemmas.List.{length-map}
 use Rattle.legal_journal.specs.Journal.{IsLegal}
-use Rattle.base_engine.specs.Trimming.{IsFloor}
+use Rattle.node_workers.specs.Workers.{Sends}
 use Rattle.run_course.specs.Script.{AreLines}
 use Rattle.node_crew.specs.Crews.{CrewRests, CrewStands}
 use Rattle.crew_making.specs.Apart.{AreAsTold}
-use Rattle.crew_making.specs.Fresh.{AreFreshFrom}
+use Rattle.crew_making.specs.Fresh.{AreFreshFrom, AreNewWorkers}
 use Rattle.fabric_core.specs.Runs.{HasRegisterRun}
 use Rattle.crew_making.proofs.Before.{fresh_register}
 use Rattle.crew_making.proofs.Fresh.{fresh_from}
@@ -17,11 +17,6 @@ pub seat_all-workers-requires-clause-eight : goal.seat_all-workers-requires-clau
 seat_all-workers-requires-clause-eight g c =
     let size = as_long (λ b. b.replica) (λ n. n.replica) c.in-Ok-prepare_all.berths.items c.args.nodes.now.items c.in-Ok-prepare_all.ensures.replicas in
     omega (arith, size, c.requires.eight)
-
-pub seat_all-workers-requires-clause-floor : goal.seat_all-workers-requires-clause-floor
-seat_all-workers-requires-clause-floor g c =
-    let size = as_long (λ b. b.replica) (λ n. n.replica) c.in-Ok-prepare_all.berths.items c.args.nodes.now.items c.in-Ok-prepare_all.ensures.replicas in
-    subst (IsFloor g.S.Replica.state g.K.Terms.floor) (sym size) c.requires.floor
 
 pub seat_all-workers-requires-clause-fresh : goal.seat_all-workers-requires-clause-fresh
 seat_all-workers-requires-clause-fresh g c =
@@ -47,7 +42,8 @@ returns-in-Ok-new-clause-rests g c =
     let legal : IsLegal p.may p.floor p.shelf [] = record { least = omega (arith, shelf, c.requires.least); most = omega (arith, shelf, c.requires.most); steps = tt } in
     subst (λ j. CrewRests p.may p.floor p.shelf r.state r.spells a.lines.now 0 0 j n.result c.in-Ok.looks.items (λ w. w.seat) (λ w. w.desks.items) q.result.workers.items) (sym q.ensures.none)
     (crew_rests p.may p.floor p.shelf a.lines.now n.result c.in-Ok.looks.items n.ensures.none c.in-Ok.ensures.size c.in-Ok.ensures.none r.state r.spells c.requires.lines.0 (λ w. w.seat) (λ w. w.desks.items) q.result.workers.items
-    (subst (AreLines a.lines.now c.requires.lines.0) (sym (size' ∙ size)) c.requires.lines.1) n.ensures.long legal q.ensures.workers)
+    (subst (AreLines a.lines.now c.requires.lines.0) (sym (size' ∙ size)) c.requires.lines.1) n.ensures.long legal
+    (subst (λ k. AreNewWorkers (Sends p.may n.result []) p.floor p.shelf r.state r.spells k (λ w. w.seat) (λ w. w.desks.items) q.result.workers.items) (sym size') q.ensures.workers))
 
 pub returns-in-Ok-new-clause-stands : goal.returns-in-Ok-new-clause-stands
 returns-in-Ok-new-clause-stands g c =
@@ -55,7 +51,7 @@ returns-in-Ok-new-clause-stands g c =
     let r = g.S.Replica in
     let q = c.seat_all-workers in
     subst (λ j. CrewStands p.may p.floor p.shelf r.state r.spells j (λ w. w.seat) q.result.workers.items) (sym q.ensures.none)
-    (new_stands p.may p.floor p.shelf r.state r.spells c.no_counts-counts.result (λ w. w.seat) (λ w. w.desks.items) q.result.workers.items q.ensures.workers)
+    (new_stands p.may p.floor p.shelf r.state r.spells c.no_counts-counts.result (length c.in-Ok-prepare_all.berths.items) (λ w. w.seat) (λ w. w.desks.items) q.result.workers.items q.ensures.workers)
 
 pub returns-in-Ok-new-clause-replicas : goal.returns-in-Ok-new-clause-replicas
 returns-in-Ok-new-clause-replicas g c =

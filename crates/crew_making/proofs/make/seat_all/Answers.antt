@@ -1,17 +1,11 @@
-use Rattle.std.proofs.Common.{◌≡◌, ◌+◌, ◌++◌, ◌<◌, ◌∷◌, length, map, sym, ap, ◌∙◌, subst, arith}
+use Rattle.std.proofs.Common.{◌≡◌, ◌+◌, ◌++◌, ◌<◌, [], ◌∷◌, length, map, sym, ap, ◌∙◌, subst, arith}
 use Rattle.std.specs.List.{AllByRecursion}
 use Rattle.std.specs.Prelude.{slice_get}
 use Rattle.std.proofs.lemmas.List.{nil_from_length}
-use Rattle.base_engine.specs.Trimming.{IsFloor}
-use Rattle.node_workers.specs.Workers.{Within}
-use Rattle.crew_making.specs.Fresh.{AreFreshFrom, AreFreshDesks, IsFreshLog, IsNewSeat, IsNewWorker}
+use Rattle.node_workers.specs.Workers.{Sends}
+use Rattle.crew_making.specs.Fresh.{AreFreshFrom, AreFreshDesks, IsFreshLog, IsNewSeat, IsNewWorker, AreNewWorkers}
 use Rattle.crew_making.proofs.Lists.{taken_first, goes_over, all_over, each_push}
 use Rattle.crew_making.proofs.make.seat_all.Goals as goal
-
-pub seat_within-seat-requires-clause-floor : goal.seat_within-seat-requires-clause-floor
-seat_within-seat-requires-clause-floor g c =
-    let size : length c.args.berths.items ≡ c.len-nodes.result = grind (arith, c.len-nodes.ensures) in
-    subst (IsFloor g.S.Replica.state g.K.Terms.floor) size c.requires.floor
 
 pub loop-k-preserved : goal.loop-k-preserved
 loop-k-preserved g c =
@@ -32,14 +26,22 @@ loop-k-preserved g c =
       done = grind (arith, l.invariant.done, c.push_reserved.ensures.len);
       room = grind (arith, l.invariant.room, c.push_reserved.ensures.capacity);
       none = q.ensures.none;
-      workers = λ j w at. each_push (λ j w. IsNewWorker (Within p.may c.args.counts.now) p.floor p.shelf r.state r.spells (j + 1) w.seat w.desks.items) l.workers.items (record { seat = q.result.seat; desks = b.desks }) l.invariant.workers
+      workers = λ j w at. each_push (λ j w. IsNewWorker (Sends p.may c.args.counts.now []) p.floor p.shelf r.state r.spells c.len-nodes.result (j + 1) w.seat w.desks.items) l.workers.items (record { seat = q.result.seat; desks = b.desks }) l.invariant.workers
           (record {
-            waits = subst (λ k. IsNewSeat (Within p.may c.args.counts.now) p.floor p.shelf r.state r.spells k q.result.seat) who q.ensures.seat;
+            waits = subst (λ k. IsNewSeat (Sends p.may c.args.counts.now []) p.floor p.shelf r.state r.spells c.len-nodes.result k q.result.seat) who q.ensures.seat;
             desks_are = desks.0;
           }) j w (ap (λ x. slice_get x j) (sym c.push_reserved.ensures.items) ∙ at);
       same = ap (λ x. map (λ w. w.seat.node.replica) x ++ map (λ b. r.shows b.replica) c.remove-replica.new.self.items) c.push_reserved.ensures.items
           ∙ goes_over (λ w. w.seat.node.replica) (λ b. r.shows b.replica) l.workers.items l.berths.items c.remove-replica.new.self.items (record { seat = q.result.seat; desks = b.desks }) b (map (λ b. r.shows b.replica) c.args.berths.items) q.ensures.replica is l.invariant.same;
     }
+
+pub returns-clause-workers : goal.returns-clause-workers
+returns-clause-workers g c =
+    let p = g.K.Terms in
+    let r = g.S.Replica in
+    let l = c.loop-k in
+    let size : c.len-nodes.result ≡ length c.args.berths.items = grind (arith, c.len-nodes.ensures) in
+    subst (λ n. AreNewWorkers (Sends p.may c.args.counts.now []) p.floor p.shelf r.state r.spells n (λ w. w.seat) (λ w. w.desks.items) l.workers.items) size l.invariant.workers
 
 pub returns-clause-replicas : goal.returns-clause-replicas
 returns-clause-replicas g c =

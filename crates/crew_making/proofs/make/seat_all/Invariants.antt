@@ -1,7 +1,7 @@
 use Rattle.std.proofs.Common.{◌≡◌, ◌≤◌, ◌+◌, ◌++◌, [], map, length}
 use Rattle.std.specs.List.{AllByRecursion}
 use Rattle.std.specs.Vec.{vec_capacity}
-use Rattle.node_workers.specs.Workers.{Within}
+use Rattle.node_workers.specs.Workers.{Sends}
 use Rattle.crew_making.specs.Fresh.{AreFreshFrom, AreFreshDesks, IsFreshLog, AreNewWorkers}
 use Rattle.crew_making.proofs.make.seat_all.Given as goal
 
@@ -14,9 +14,9 @@ invariant-loop-k g l = record {
   done : length l.workers.items ≡ l.k;
   room : l.nodes ≤ vec_capacity l.workers;
   none : l.fabric.journal ≡ [];
-  workers : AreNewWorkers (Within g.K.Terms.may l.counts) g.K.Terms.floor g.K.Terms.shelf g.S.Replica.state g.S.Replica.spells (λ w. w.seat) (λ w. w.desks.items) l.workers.items;
+  workers : AreNewWorkers (Sends g.K.Terms.may l.counts []) g.K.Terms.floor g.K.Terms.shelf g.S.Replica.state g.S.Replica.spells l.nodes (λ w. w.seat) (λ w. w.desks.items) l.workers.items;
   same : map (λ w. w.seat.node.replica) l.workers.items ++ map (λ b. g.S.Replica.shows b.replica) l.berths.items ≡ map (λ b. g.S.Replica.shows b.replica) l.initial.berths.items;
 }
 
 abbrev pub ghosts-seat_within : goal.ghosts-seat_within
-ghosts-seat_within g a = record { sends = Within g.K.Terms.may a._counts.now; seals = λ _. ⊥; since = a.fabric.journal }
+ghosts-seat_within g a = record { sends = Sends g.K.Terms.may a._counts.now []; seals = λ _. ⊥; floor = g.K.Terms.floor; since = a.fabric.journal }

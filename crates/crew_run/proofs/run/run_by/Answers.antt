@@ -1,4 +1,5 @@
-use Rattle.std.proofs.Common.{◌∙◌, ap, length, map, arith}
+use Rattle.std.proofs.Common.{◌∙◌, sym, ap, subst, length, map, arith}
+use Rattle.base_engine.specs.Trimming.{FloorIs}
 use Rattle.crew_run.specs.Telling.{FitsGivenBack}
 use Rattle.crew_run.specs.Running.{RunTold}
 use Rattle.crew_run.proofs.Running.{as_many, if_ok, run_told, same_shelf}
@@ -8,6 +9,11 @@ pub tell-crew-requires-clause-eight : goal.tell-crew-requires-clause-eight
 tell-crew-requires-clause-eight g c =
     let size = as_many (λ w. w.seat.node.replica) (λ n. g.S.Replica.shows n.replica) c.in-Ok.crew.workers.items c.args.nodes.items c.in-Ok.ensures.replicas in
     omega (arith, size, c.requires.eight)
+
+pub tell-crew-requires-clause-floor : goal.tell-crew-requires-clause-floor
+tell-crew-requires-clause-floor g c =
+    let size = as_many (λ w. w.seat.node.replica) (λ n. g.S.Replica.shows n.replica) c.in-Ok.crew.workers.items c.args.nodes.items c.in-Ok.ensures.replicas in
+    subst (FloorIs g.K.Terms.floor) (sym size) c.requires.floor
 
 pub part_crew-cells-requires-clause-room : goal.part_crew-cells-requires-clause-room
 part_crew-cells-requires-clause-room g c =

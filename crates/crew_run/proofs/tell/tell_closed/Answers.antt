@@ -1,6 +1,7 @@
-use Rattle.std.proofs.Common.{◌≡◌, refl, sym, ◌∙◌, subst, true, List, length, count_by, map}
+use Rattle.std.proofs.Common.{◌≡◌, ◌⊎◌, refl, sym, ◌∙◌, subst, true, List, length, count_by, map}
 use Rattle.std.specs.Prelude.{not, is_some, IfOk, OnOk}
 use Rattle.std.specs.List.{list_all}
+use Rattle.std.proofs.lemmas.List.{length-map}
 use Rattle.delos_types.specs.declared.chain.Chain.{Chain}
 use Rattle.legal_journal.specs.Journal.{IsLegal}
 use Rattle.fitting_run.specs.Yard.{Shown}
@@ -14,8 +15,10 @@ use Rattle.course_ends.specs.Closing.{WorkerEnd, HasClosed, IsGivenBack}
 use Rattle.course_ends.specs.Rows.{played_of}
 use Rattle.course_ends.specs.Rows.{AreRows, CanTell}
 use Rattle.fitting_run.specs.Fits.{Fits}
-use Rattle.crew_closing.specs.Finishing.{SeesAll}
+use Rattle.base_engine.specs.Trimming.{FloorIs}
+use Rattle.crew_closing.specs.Finishing.{AsksTrim, SeesAll}
 use Rattle.last_chain.specs.Last.{AsksOnce, IsLast}
+use Rattle.crew_run.proofs.Asked.{trimmed_by}
 use Rattle.crew_run.proofs.Lone.{all_lone}
 use Rattle.crew_run.proofs.Telling.{stands_on, own_more, reads_asked}
 use Rattle.crew_run.proofs.tell.tell_closed.Goals as goal
@@ -52,17 +55,19 @@ returns-in-Ok-Ok-clause-told g c =
     (c.reads_change_nothing.ensures lines early asks.more w.counts w.looks.items h.0 ends h.2 (own_more 0 early new q.ensures.since asks) (reads_asked asks.more asks.calls) (subst (λ l. IsLegal p.may p.floor p.shelf l) asks.seen legal)) in
     let rows = subst (λ x. IfOk x (λ rows. AreRows lines (map (λ x. record { seat = x.seat; desks = x.desks.items }) c.as_slice.result.now) c.as_slice-2.result.now rows)) c.in-Ok-Ok.is-1 c.rows_of-rows.ensures.rows in
     let rows' = subst (λ l. AreRows lines (map (λ x. record { seat = x.seat; desks = x.desks.items }) l) w.looks.items c.in-Ok-Ok.rows) c.as_slice.ensures.value (subst (λ l. AreRows lines (map (λ x. record { seat = x.seat; desks = x.desks.items }) c.as_slice.result.now) l c.in-Ok-Ok.rows) c.as_slice-2.ensures.value rows) in
-    let trim = c.nothing_is_trimmed.ensures.trim c.requires.none_trimmed new legal in
+    let long : length ends ≡ length w.workers.items = length-map w.workers.items (λ x. record { seat = x.seat; desks = x.desks.items }) in
+    let rule = subst (FloorIs p.floor) (sym long) c.requires.floor in
     let ended : (yard : Shown) → IsGivenBack p.may p.floor p.shelf new ends o.chain yard → IsRegisterAsTold (journal.state_of new).register yard.register → (map (λ t. t.line) (played_of lines o.rows w.looks.items) ≡ lines) × RunEnded (played_of lines o.rows w.looks.items) o yard = λ yard back told.
-    c.what_closed_has_ended.ensures c.requires.run lines new w.counts w.looks.items h.0 ends o yard c.requires.may trim closed rows' (sym h.1) back told
+    c.what_closed_has_ended.ensures c.requires.run lines new w.counts w.looks.items h.0 ends o yard c.requires.may rule closed rows' (sym h.1) back told
     (c.the_chain_is_registered.ensures early c.in-Ok-Ok.last q.result.fabric yard.register o legal asks last c.journal-told.ensures.register c.journal-told.ensures.register_runs told back.register_runs refl refl refl) in
     record {
       chain = last.told;
-      whole = λ yard back quiet.
+      whole = λ yard back told quiet.
           let reads = reads_asked asks.more asks.calls in
-          sym h.1 ∙ c.a_calm_run_has_seen_all.ensures c.requires.run.low early asks.more ends h.0 o.chain yard
-          (subst (λ n. SeesAll early (λ (w : WorkerEnd). w.seat) ends n) (sym h.1) c.requires.sees) h.2.front reads
-          (subst (λ l. journal.trim_of (journal.state_of l) ≡ 0) asks.seen trim)
+          let known = trimmed_by lines (played_of lines o.rows w.looks.items) (length yard.disks) o.chain yard.cells o.end (ended yard back told).0 (ended yard back told).1.trims in
+          sym h.1 ∙ c.a_calm_run_has_seen_all.ensures c.requires.run.low lines early asks.more ends h.0 o.chain yard
+          (subst (λ n. SeesAll lines early (λ (w : WorkerEnd). w.seat) ends n) (sym h.1) c.requires.sees) h.2.front reads
+          (subst (λ l. (journal.trim_of (journal.state_of l) ≡ 0) ⊎ AsksTrim lines) asks.seen (subst (λ (k : Chain). (k.trim ≡ 0) ⊎ AsksTrim lines) last.told known))
           (subst (λ l. IsGivenBack p.may p.floor p.shelf l ends o.chain yard) asks.seen back) quiet;
       extended = λ yard back quiet.
           subst (λ (k : Chain). GoesTo k (count_by (λ r. is_some (version_made r.outcome)) o.rows)) (sym last.told)

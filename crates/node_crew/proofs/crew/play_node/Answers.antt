@@ -1,7 +1,8 @@
 use Rattle.std.proofs.Common.{◌≡◌, refl, sym, ap, ◌∙◌, subst, ◌+◌, length, arith}
 use Rattle.std.specs.Prelude.{if◌then◌else◌, is_ok, insert}
 use Rattle.std.proofs.lemmas.Option.{slice_get_read}
-use Rattle.node_crew.specs.Crews.{HasNone, CrewAt, CrewStands}
+use Rattle.base_engine.specs.Trimming.{FloorIs}
+use Rattle.node_crew.specs.Crews.{HasNone, HasOne, CrewAt, CrewStands}
 use Rattle.node_crew.specs.Turns.{TurnWent}
 use Rattle.run_course.specs.Workers.{IsUnderWay}
 use Rattle.node_crew.proofs.Ok.{on_ok}
@@ -29,6 +30,12 @@ play_turn-worker-requires-clause-node g c =
     let at = slice_get_read a.crew.workers.items (length a.crew.workers.items) a.k c.remove-worker.result refl c.requires.there c.remove-worker.ensures.value in
     (c.requires.now.waits a.k c.remove-worker.result (omega arith) at).worker.ok.who_is ∙ sym c.in-Some.ensures.value
 
+pub play_turn-worker-requires-clause-floor : goal.play_turn-worker-requires-clause-floor
+play_turn-worker-requires-clause-floor g c =
+    let a = c.args in
+    let at = slice_get_read a.crew.workers.items (length a.crew.workers.items) a.k c.remove-worker.result refl c.requires.there c.remove-worker.ensures.value in
+    subst (FloorIs g.K.Terms.floor) (sym (c.requires.now.waits a.k c.remove-worker.result (omega arith) at).worker.nodes_is) c.requires.floor
+
 pub play_turn-worker-requires-clause-playing : goal.play_turn-worker-requires-clause-playing
 play_turn-worker-requires-clause-playing g c =
     let p = g.K.Terms in
@@ -37,13 +44,14 @@ play_turn-worker-requires-clause-playing g c =
     let h = c.requires.now in
     let w = c.remove-worker.result in
     let at = slice_get_read a.crew.workers.items (length a.crew.workers.items) a.k w refl c.requires.there c.remove-worker.ensures.value in
+    let one = subst (HasOne a.lines.now a.from) c.in-Some.ensures.value (c.has_line.ensures.one c.if-not-has_line.false) in
     record {
       home = h.home;
       nodes = length a.crew.workers.items;
       course = h.course;
       ends = h.ends;
       now = subst (λ n. IsUnderWay p.may p.floor p.shelf r.state r.spells a.lines.now h.home (length a.crew.workers.items) h.course a.crew.counts a.crew.looks.items n a.from a.from a.crew.fabric.journal w.seat w.desks.items) (sym c.in-Some.ensures.value)
-          (crew_plays p.may p.floor p.shelf r.state r.spells a.lines.now (λ w. w.seat) (λ w. w.desks.items) a.crew.workers.items a.from a.to a.k a.crew.fabric.journal a.crew.counts a.crew.looks.items w at c.requires.there h);
+          (crew_plays p.may p.floor p.shelf r.state r.spells a.lines.now (λ w. w.seat) (λ w. w.desks.items) a.crew.workers.items a.from a.to a.k a.crew.fabric.journal a.crew.counts a.crew.looks.items w at c.requires.there c.requires.floor one h);
     }
 
 pub returns-clause-goes : goal.returns-clause-goes
@@ -55,7 +63,8 @@ returns-clause-goes g c =
     let q = c.play_turn-worker in
     let w = c.remove-worker.result in
     let at = slice_get_read a.crew.workers.items (length a.crew.workers.items) a.k w refl c.requires.there c.remove-worker.ensures.value in
-    let u = crew_plays p.may p.floor p.shelf r.state r.spells a.lines.now (λ w. w.seat) (λ w. w.desks.items) a.crew.workers.items a.from a.to a.k a.crew.fabric.journal a.crew.counts a.crew.looks.items w at c.requires.there h in
+    let one = subst (HasOne a.lines.now a.from) c.in-Some.ensures.value (c.has_line.ensures.one c.if-not-has_line.false) in
+    let u = crew_plays p.may p.floor p.shelf r.state r.spells a.lines.now (λ w. w.seat) (λ w. w.desks.items) a.crew.workers.items a.from a.to a.k a.crew.fabric.journal a.crew.counts a.crew.looks.items w at c.requires.there c.requires.floor one h in
     let u' = subst (λ n. IsUnderWay p.may p.floor p.shelf r.state r.spells a.lines.now h.home (length a.crew.workers.items) h.course a.crew.counts a.crew.looks.items n a.from a.from a.crew.fabric.journal w.seat w.desks.items) (sym c.in-Some.ensures.value) u in
     let items = (subst (λ x. c.insert.new.self.items ≡ (if is_ok x then insert c.remove-worker.new.self.items a.k q.result.worker else c.remove-worker.new.self.items)) c.in-Ok.is c.insert.ensures.items)
     ∙ (ap (λ l. insert l a.k q.result.worker) c.remove-worker.ensures.items ∙ put_back a.crew.workers.items a.k q.result.worker c.requires.there) in

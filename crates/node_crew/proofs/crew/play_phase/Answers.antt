@@ -1,7 +1,11 @@
-use Rattle.std.proofs.Common.{◌≡◌, subst, length, arith}
+use Rattle.std.proofs.Common.{◌≡◌, sym, subst, length, arith}
+use Rattle.base_engine.specs.Trimming.{FloorIs}
 use Rattle.node_crew.specs.Crews.{CrewAt}
 use Rattle.node_crew.proofs.Crews.{crew_stands}
 use Rattle.node_crew.proofs.crew.play_phase.Goals as goal
+
+pub play_node-now-requires-clause-floor : goal.play_node-now-requires-clause-floor
+play_node-now-requires-clause-floor g c = subst (FloorIs g.K.Terms.floor) (sym c.loop-k.invariant.size) c.requires.floor
 
 pub returns-clause-goes : goal.returns-clause-goes
 returns-clause-goes g c =

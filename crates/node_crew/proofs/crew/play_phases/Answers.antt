@@ -3,12 +3,16 @@ use Rattle.std.specs.Prelude.{slice_get, OnOk}
 use Rattle.std.proofs.lemmas.Bool.{cases_lt}
 use Rattle.std.proofs.lemmas.Option.{slice_get_read}
 use Rattle.script_text.specs.declared.asks.NamedLine.{NamedLine}
+use Rattle.base_engine.specs.Trimming.{FloorIs}
 use Rattle.node_crew.specs.Crews.{EndsPhase, CrewAt, CrewRests}
 use Rattle.node_crew.proofs.Crews.{crew_begins, crew_comes, crew_ends}
 use Rattle.node_crew.proofs.crew.play_phases.Goals as goal
 
 not_above : (n : ℕ) → n < n → ⊥
 not_above n h = absurd (omega (arith, h))
+
+pub play_phase-now-requires-clause-floor : goal.play_phase-now-requires-clause-floor
+play_phase-now-requires-clause-floor g c = subst (FloorIs g.K.Terms.floor) (sym c.loop-from.invariant.size) c.requires.floor
 
 pub play_phase-now-requires-clause-now : goal.play_phase-now-requires-clause-now
 play_phase-now-requires-clause-now g c =

@@ -2,16 +2,19 @@ use Rattle.std.proofs.Common.{sym, ap, ◌∙◌, subst, ◌+◌, Some}
 use Rattle.std.specs.Prelude.{slice_set, IfOk}
 use Rattle.script_text.specs.declared.asks.Asks.TheVariants as asks
 use Rattle.legal_journal.specs.Sealing.{Unsealed}
+use Rattle.journal_changes.specs.Changes.{Adds, TrimsUpTo}
 use Rattle.one_thread.specs.Alone.{Since}
 use Rattle.one_thread.specs.Seats.{node_of}
 use Rattle.node_lines.specs.Extending.{Extends}
 use Rattle.node_lines.specs.Reporting.{Reports}
 use Rattle.node_lines.specs.Leaving.{Leaves}
-use Rattle.node_workers.specs.Workers.{WorkerOk, Within}
+use Rattle.node_lines.specs.Trimming.{TrimsLog}
+use Rattle.node_workers.specs.Workers.{WorkerOk, Within, IsOfSessions, ReportAdds, LeaveAdds, TrimAdds}
 use Rattle.run_course.specs.Workers.{CanSend, LineWent}
 use Rattle.run_course.proofs.Extending.{line_extended}
 use Rattle.run_course.proofs.Reporting.{line_reported}
 use Rattle.run_course.proofs.Leaving.{line_left}
+use Rattle.run_course.proofs.Trimming.{line_trimmed}
 use Rattle.node_crew.proofs.Ok.{on_ok}
 use Rattle.node_crew.proofs.line.play_admin.Goals as goal
 
@@ -33,10 +36,13 @@ returns-in-Extend-clause-goes g c = λ lines home nodes course from at node phas
     let now : WorkerOk p.may p.floor p.shelf r.state r.spells w.seat.who counts new seat q.result.worker.desks.items =
     subst (λ x. IfOk x (λ l. WorkerOk p.may p.floor p.shelf r.state r.spells w.seat.who counts new seat q.result.worker.desks.items)) kept.1 q.ensures.worker in
     let now' : WorkerOk p.may p.floor p.shelf r.state r.spells w.seat.who counts new seat w.desks.items = subst (λ ds. WorkerOk p.may p.floor p.shelf r.state r.spells w.seat.who counts new seat ds.items) same now in
+    let high = subst (λ x. IfOk x (λ l. TrimsUpTo seat.node.replica.cursor new)) kept.1 q.ensures.high in
+    let adds = subst (λ x. IfOk x (λ l. Adds IsOfSessions c.args.fabric.journal new)) kept.1 q.ensures.adds in
     let extends = subst (λ x. IfOk x (Extends (Within p.may counts) p.floor p.shelf (node_of w.seat c.args.fabric.journal) (node_of seat new))) kept.1 q.ensures.extends in
-    let went = line_extended p.may p.floor p.shelf r.state r.spells c.requires.run lines home nodes course counts looks w.seat.who from c.args.i c.args.line.now look w.seat seat w.desks.items new
+    let went = line_extended p.may p.floor p.shelf r.state r.spells lines home nodes course counts looks w.seat.who from c.args.i c.args.line.now look w.seat seat w.desks.items new
     u.lines_are u.least u.most at node phase (c.requires.asked ∙ ap (λ a. asks.Admin a) c.in-Extend.is) u.ok u.worker
     (subst (λ j. Since w.seat.who j new) (sym u.journal_is) since)
+    (subst (λ j. Adds IsOfSessions j new) (sym u.journal_is) adds) high
     (subst (λ j. Extends (Within p.may counts) p.floor p.shelf (node_of w.seat j) (node_of seat new) look) (sym u.journal_is) extends) now' in
     subst (λ l. LineWent p.may p.floor p.shelf r.state r.spells lines home nodes course counts counts looks l w.seat.who from (c.args.i + 1) k.result.fabric.journal k.result.worker.seat k.result.worker.desks.items) (sym kept.2)
     (subst (λ x. LineWent p.may p.floor p.shelf r.state r.spells lines home nodes course counts counts looks (slice_set looks c.args.i (Some look)) w.seat.who from (c.args.i + 1) k.result.fabric.journal x.seat x.desks.items) (sym k.ensures.worker)
@@ -74,11 +80,14 @@ returns-in-Alive-clause-goes g c = λ lines home nodes course from at node phase
     let now : WorkerOk p.may p.floor p.shelf r.state r.spells w.seat.who counts new seat q.result.worker.desks.items =
     subst (λ x. IfOk x (λ l. WorkerOk p.may p.floor p.shelf r.state r.spells w.seat.who counts new seat q.result.worker.desks.items)) kept.1 q.ensures.worker in
     let now' : WorkerOk p.may p.floor p.shelf r.state r.spells w.seat.who counts new seat w.desks.items = subst (λ ds. WorkerOk p.may p.floor p.shelf r.state r.spells w.seat.who counts new seat ds.items) same now in
+    let high = subst (λ x. IfOk x (λ l. TrimsUpTo seat.node.replica.cursor new)) kept.1 q.ensures.high in
+    let adds = subst (λ x. IfOk x (ReportAdds w.seat.who seat.node.replica.cursor c.args.fabric.journal new)) kept.1 q.ensures.adds in
     let reports = subst (λ x. IfOk x (Reports (Within p.may counts) p.floor p.shelf (node_of w.seat c.args.fabric.journal) (node_of seat new))) kept.1 q.ensures.reports in
-    let went = line_reported p.may p.floor p.shelf r.state r.spells c.requires.run lines home nodes course counts looks w.seat.who from c.args.i c.args.line.now look w.seat seat w.desks.items new
+    let went = line_reported p.may p.floor p.shelf r.state r.spells lines home nodes course counts looks w.seat.who from c.args.i c.args.line.now look w.seat seat w.desks.items new
     u.lines_are u.least u.most at node phase (c.requires.asked ∙ ap (λ a. asks.Admin a) c.in-Alive.is) u.ok u.worker
     (subst (λ j. Since w.seat.who j new) (sym u.journal_is) since)
     (subst (λ j. Unsealed j new) (sym u.journal_is) q.ensures.unsealed)
+    (subst (λ j. ReportAdds w.seat.who seat.node.replica.cursor j new look) (sym u.journal_is) adds) high
     (subst (λ j. Reports (Within p.may counts) p.floor p.shelf (node_of w.seat j) (node_of seat new) look) (sym u.journal_is) reports) now' in
     subst (λ l. LineWent p.may p.floor p.shelf r.state r.spells lines home nodes course counts counts looks l w.seat.who from (c.args.i + 1) k.result.fabric.journal k.result.worker.seat k.result.worker.desks.items) (sym kept.2)
     (subst (λ x. LineWent p.may p.floor p.shelf r.state r.spells lines home nodes course counts counts looks (slice_set looks c.args.i (Some look)) w.seat.who from (c.args.i + 1) k.result.fabric.journal x.seat x.desks.items) (sym k.ensures.worker)
@@ -116,11 +125,14 @@ returns-in-Retire-clause-goes g c = λ lines home nodes course from at node phas
     let now : WorkerOk p.may p.floor p.shelf r.state r.spells w.seat.who counts new seat q.result.worker.desks.items =
     subst (λ x. IfOk x (λ l. WorkerOk p.may p.floor p.shelf r.state r.spells w.seat.who counts new seat q.result.worker.desks.items)) kept.1 q.ensures.worker in
     let now' : WorkerOk p.may p.floor p.shelf r.state r.spells w.seat.who counts new seat w.desks.items = subst (λ ds. WorkerOk p.may p.floor p.shelf r.state r.spells w.seat.who counts new seat ds.items) same now in
+    let high = subst (λ x. IfOk x (λ l. TrimsUpTo seat.node.replica.cursor new)) kept.1 q.ensures.high in
+    let adds = subst (λ x. IfOk x (λ l. LeaveAdds w.seat.who c.args.fabric.journal new)) kept.1 q.ensures.adds in
     let leaves = subst (λ x. IfOk x (Leaves (Within p.may counts) p.floor p.shelf (node_of w.seat c.args.fabric.journal) (node_of seat new))) kept.1 q.ensures.leaves in
-    let went = line_left p.may p.floor p.shelf r.state r.spells c.requires.run lines home nodes course counts looks w.seat.who from c.args.i c.args.line.now look w.seat seat w.desks.items new
+    let went = line_left p.may p.floor p.shelf r.state r.spells lines home nodes course counts looks w.seat.who from c.args.i c.args.line.now look w.seat seat w.desks.items new
     u.lines_are u.least u.most at node phase (c.requires.asked ∙ ap (λ a. asks.Admin a) c.in-Retire.is) u.ok u.worker
     (subst (λ j. Since w.seat.who j new) (sym u.journal_is) since)
     (subst (λ j. Unsealed j new) (sym u.journal_is) q.ensures.unsealed)
+    (subst (λ j. LeaveAdds w.seat.who j new) (sym u.journal_is) adds) high
     (subst (λ j. Leaves (Within p.may counts) p.floor p.shelf (node_of w.seat j) (node_of seat new) look) (sym u.journal_is) leaves) now' in
     subst (λ l. LineWent p.may p.floor p.shelf r.state r.spells lines home nodes course counts counts looks l w.seat.who from (c.args.i + 1) k.result.fabric.journal k.result.worker.seat k.result.worker.desks.items) (sym kept.2)
     (subst (λ x. LineWent p.may p.floor p.shelf r.state r.spells lines home nodes course counts counts looks (slice_set looks c.args.i (Some look)) w.seat.who from (c.args.i + 1) k.result.fabric.journal x.seat x.desks.items) (sym k.ensures.worker)
@@ -131,6 +143,51 @@ pub returns-in-Retire-clause-who : goal.returns-in-Retire-clause-who
 returns-in-Retire-clause-who g c =
     let q = c.leave_line-looked in
     let k = c.keep_look-in-Retire in
+    on_ok k.result.answer k.ensures.looks (λ kept.
+    let p = g.K.Terms in
+    let r = g.S.Replica in
+    let now = subst (λ x. IfOk x (λ l. WorkerOk p.may p.floor p.shelf r.state r.spells c.args.worker.seat.who c.args.counts.now q.result.fabric.journal q.result.worker.seat q.result.worker.desks.items)) kept.1 q.ensures.worker in
+    ap (λ x. x.seat.who) k.ensures.worker ∙ now.who_is)
+
+pub trim_line-looked-requires-clause-own : goal.trim_line-looked-requires-clause-own
+trim_line-looked-requires-clause-own g c = subst (λ a. CanSend g.K.Terms.may c.args.worker.seat.who (asks.Admin a)) c.in-Trim.is c.requires.sends
+
+pub returns-in-Trim-clause-goes : goal.returns-in-Trim-clause-goes
+returns-in-Trim-clause-goes g c = λ lines home nodes course from at node phase u.
+    let p = g.K.Terms in
+    let r = g.S.Replica in
+    let w = c.args.worker in
+    let counts = c.args.counts.now in
+    let looks = c.args.looks.now.items in
+    let q = c.trim_line-looked in
+    let k = c.keep_look-in-Trim in
+    let new = q.result.fabric.journal in
+    let seat = q.result.worker.seat in
+    let same = q.ensures.desks in
+    on_ok k.result.answer k.ensures.looks (λ kept.
+    let look = kept.0 in
+    let since : Since w.seat.who c.args.fabric.journal new = subst (λ x. IfOk x (λ l. Since w.seat.who c.args.fabric.journal new)) kept.1 q.ensures.since in
+    let now : WorkerOk p.may p.floor p.shelf r.state r.spells w.seat.who counts new seat q.result.worker.desks.items =
+    subst (λ x. IfOk x (λ l. WorkerOk p.may p.floor p.shelf r.state r.spells w.seat.who counts new seat q.result.worker.desks.items)) kept.1 q.ensures.worker in
+    let now' : WorkerOk p.may p.floor p.shelf r.state r.spells w.seat.who counts new seat w.desks.items = subst (λ ds. WorkerOk p.may p.floor p.shelf r.state r.spells w.seat.who counts new seat ds.items) same now in
+    let high = subst (λ x. IfOk x (λ l. TrimsUpTo seat.node.replica.cursor new)) kept.1 q.ensures.high in
+    let adds = subst (λ x. IfOk x (λ l. TrimAdds c.args.fabric.journal new)) kept.1 q.ensures.adds in
+    let trims = subst (λ x. IfOk x (TrimsLog (Within p.may counts) p.floor p.shelf (node_of w.seat c.args.fabric.journal) (node_of seat new))) kept.1 q.ensures.trims in
+    let went = line_trimmed p.may p.floor p.shelf r.state r.spells c.requires.run lines home nodes course counts looks w.seat.who from c.args.i c.args.line.now look w.seat seat w.desks.items new
+    u.lines_are u.least u.most at node phase (c.requires.asked ∙ ap (λ a. asks.Admin a) c.in-Trim.is) u.ok u.worker
+    (subst (λ j. Since w.seat.who j new) (sym u.journal_is) since)
+    (subst (λ j. Unsealed j new) (sym u.journal_is) q.ensures.unsealed)
+    (subst (λ j. TrimAdds j new) (sym u.journal_is) adds) high
+    (subst (λ j. TrimsLog (Within p.may counts) p.floor p.shelf (node_of w.seat j) (node_of seat new) look) (sym u.journal_is) trims) now' in
+    subst (λ l. LineWent p.may p.floor p.shelf r.state r.spells lines home nodes course counts counts looks l w.seat.who from (c.args.i + 1) k.result.fabric.journal k.result.worker.seat k.result.worker.desks.items) (sym kept.2)
+    (subst (λ x. LineWent p.may p.floor p.shelf r.state r.spells lines home nodes course counts counts looks (slice_set looks c.args.i (Some look)) w.seat.who from (c.args.i + 1) k.result.fabric.journal x.seat x.desks.items) (sym k.ensures.worker)
+    (subst (λ f. LineWent p.may p.floor p.shelf r.state r.spells lines home nodes course counts counts looks (slice_set looks c.args.i (Some look)) w.seat.who from (c.args.i + 1) f.journal seat q.result.worker.desks.items) (sym k.ensures.fabric)
+    (subst (λ ds. LineWent p.may p.floor p.shelf r.state r.spells lines home nodes course counts counts looks (slice_set looks c.args.i (Some look)) w.seat.who from (c.args.i + 1) new seat ds.items) (sym same) went))))
+
+pub returns-in-Trim-clause-who : goal.returns-in-Trim-clause-who
+returns-in-Trim-clause-who g c =
+    let q = c.trim_line-looked in
+    let k = c.keep_look-in-Trim in
     on_ok k.result.answer k.ensures.looks (λ kept.
     let p = g.K.Terms in
     let r = g.S.Replica in

@@ -1,15 +1,16 @@
 use Rattle.std.proofs.Common.{◌≡◌, refl, sym, ap, ◌∙◌, subst, ◌+◌, ◌<◌, ℕ, zero, suc, List, [], ◌∷◌, length, Some, arith}
 use Rattle.std.specs.Prelude.{slice_get, slice_set, IfOk}
 use Rattle.legal_journal.specs.Sealing.{Unsealed}
+use Rattle.journal_changes.specs.Changes.{Adds, TrimsUpTo}
 use Rattle.node_sessions.specs.declared.desk.Desk.{Desk}
 use Rattle.one_thread.specs.Alone.{Since}
 use Rattle.one_thread.specs.Seats.{node_of}
 use Rattle.node_lines.specs.Lines.{Looks}
-use Rattle.node_workers.specs.Workers.{WorkerOk, Within, Logs}
+use Rattle.node_workers.specs.Workers.{WorkerOk, Within, Logs, IsOfSessions}
 use Rattle.run_course.specs.Workers.{LineWent}
 use Rattle.run_course.proofs.Logging.{line_logged}
 use Rattle.run_course.proofs.Looking.{line_looked}
-use Rattle.node_crew.proofs.Ok.{on_ok, on_ok3}
+use Rattle.node_crew.proofs.Ok.{on_ok, on_ok5}
 use Rattle.node_crew.proofs.line.play_line.Goals as goal
 
 some_at : (ds : List Desk) (i : ℕ) → i < length ds → (d : Desk) × (slice_get ds i ≡ Some d)
@@ -24,11 +25,12 @@ returns-in-Logged-clause-goes g c = λ lines home nodes course from at node phas
     let w = c.args.worker in
     let new = c.log_line.result.fabric.journal in
     let s = c.in-Logged.session in
-    on_ok3 c.log_line.result.answer c.log_line.ensures.since c.log_line.ensures.logs c.log_line.ensures.worker (λ since logs now.
-    line_logged p.may p.floor p.shelf r.state r.spells c.requires.run lines home nodes course c.args.counts.now c.log_line.new.counts c.args.looks.now.items w.seat.who from c.args.i c.args.line.now s c.in-Logged.rank c.in-Logged.command
+    on_ok5 c.log_line.result.answer c.log_line.ensures.since c.log_line.ensures.adds c.log_line.ensures.high c.log_line.ensures.logs c.log_line.ensures.worker (λ since adds high logs now.
+    line_logged p.may p.floor p.shelf r.state r.spells lines home nodes course c.args.counts.now c.log_line.new.counts c.args.looks.now.items w.seat.who from c.args.i c.args.line.now s c.in-Logged.rank c.in-Logged.command
     w.seat c.log_line.result.worker.seat w.desks.items c.log_line.result.worker.desks.items new u.lines_are u.least u.most at node phase c.in-Logged.is u.ok u.worker
     (subst (λ j. Since w.seat.who j new) (sym u.journal_is) since)
     (subst (λ j. Unsealed j new) (sym u.journal_is) c.log_line.ensures.unsealed)
+    (subst (λ j. Adds IsOfSessions j new) (sym u.journal_is) adds) high
     (subst (λ j. Logs p.may p.floor p.shelf c.args.counts.now c.log_line.new.counts (node_of w.seat j) (node_of c.log_line.result.worker.seat new) s.id w.desks.items c.log_line.result.worker.desks.items) (sym u.journal_is) logs)
     now)
 
@@ -55,11 +57,14 @@ returns-in-Look-clause-goes g c = λ lines home nodes course from at node phase 
     let now : WorkerOk p.may p.floor p.shelf r.state r.spells w.seat.who counts new seat q.result.worker.desks.items =
     subst (λ x. IfOk x (λ l. WorkerOk p.may p.floor p.shelf r.state r.spells w.seat.who counts new seat q.result.worker.desks.items)) kept.1 q.ensures.worker in
     let now' : WorkerOk p.may p.floor p.shelf r.state r.spells w.seat.who counts new seat w.desks.items = subst (λ ds. WorkerOk p.may p.floor p.shelf r.state r.spells w.seat.who counts new seat ds.items) same now in
+    let high = subst (λ x. IfOk x (λ l. TrimsUpTo seat.node.replica.cursor new)) kept.1 q.ensures.high in
+    let adds = subst (λ x. IfOk x (λ l. Adds IsOfSessions c.args.fabric.journal new)) kept.1 q.ensures.adds in
     let looks_it = subst (λ x. IfOk x (λ l. (d : Desk) → slice_get w.desks.items s.id ≡ Some d → Looks (Within p.may counts) p.floor p.shelf (node_of w.seat c.args.fabric.journal) (node_of seat new) d c.in-Look.query l)) kept.1 q.ensures.looks in
     let went = line_looked p.may p.floor p.shelf r.state r.spells c.requires.run lines home nodes course counts looks w.seat.who from c.args.i c.args.line.now s c.in-Look.query d.0 look w.seat seat w.desks.items new
     u.lines_are u.least u.most u.begins at node phase c.in-Look.is u.ok u.worker
     (subst (λ j. Since w.seat.who j new) (sym u.journal_is) since)
-    (subst (λ j. Unsealed j new) (sym u.journal_is) q.ensures.unsealed) d.1
+    (subst (λ j. Unsealed j new) (sym u.journal_is) q.ensures.unsealed)
+    (subst (λ j. Adds IsOfSessions j new) (sym u.journal_is) adds) high d.1
     (subst (λ j. Looks (Within p.may counts) p.floor p.shelf (node_of w.seat j) (node_of seat new) d.0 c.in-Look.query look) (sym u.journal_is) (looks_it d.0 d.1)) now' in
     subst (λ l. LineWent p.may p.floor p.shelf r.state r.spells lines home nodes course counts counts looks l w.seat.who from (c.args.i + 1) k.result.fabric.journal k.result.worker.seat k.result.worker.desks.items) (sym kept.2)
     (subst (λ x. LineWent p.may p.floor p.shelf r.state r.spells lines home nodes course counts counts looks (slice_set looks c.args.i (Some look)) w.seat.who from (c.args.i + 1) k.result.fabric.journal x.seat x.desks.items) (sym k.ensures.worker)

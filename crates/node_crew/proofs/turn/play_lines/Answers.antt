@@ -1,12 +1,14 @@
 use Rattle.std.proofs.Common.{◌≡◌, refl, sym, ap, ◌∙◌, subst, ◌+◌, false, length, arith, eqb-true}
 use Rattle.std.specs.Prelude.{◌==◌, OnOk}
 use Rattle.std.proofs.lemmas.Option.{slice_get_read}
+use Rattle.base_engine.specs.Trimming.{FloorIs}
 use Rattle.one_thread.specs.Seats.{SeatOk}
-use Rattle.node_workers.specs.Workers.{WorkerOk, Within, Grows}
-use Rattle.node_workers.proofs.Widening.{seat_allowed, grows-both}
-use Rattle.run_course.specs.Workers.{IsUnderWay, LineWent, CanSend}
+use Rattle.node_workers.specs.Workers.{WorkerOk, Grows}
+use Rattle.node_workers.proofs.Widening.{grows-both}
+use Rattle.run_course.specs.Workers.{IsUnderWay, LineWent, CanPlay, CanSend}
 use Rattle.run_course.proofs.Asking.{line_next}
-use Rattle.node_crew.proofs.Playing.{grows-none, none_went, under_way, then_went, passed_by, phase_is}
+use Rattle.run_course.proofs.Turning.{can_play}
+use Rattle.node_crew.proofs.Playing.{worker_stands, grows-none, none_went, under_way, then_went, passed_by, phase_is}
 use Rattle.node_crew.proofs.turn.play_lines.Goals as goal
 use Rattle.node_crew.proofs.turn.play_lines.Goals.{then-eq+in-Ok, else-eq}
 
@@ -45,6 +47,33 @@ play_line-played-requires-clause-next g c =
     let at = slice_get_read a.lines.now (length a.lines.now) l.i line refl (omega (arith, c.loop-i-test.true, c.requires.range.1)) c.index-lines-i.is in
     let own = eqb-true line.node a.node (sym c.eq.ensures ∙ c.if-eq.true) in
     line_next p.may p.floor p.shelf r.state r.spells a.lines.now t.home t.nodes w.course l.counts l.looks.items a.node a.from l.i line l.fabric.journal l.worker.seat l.worker.desks.items at own u
+
+pub play_line-played-requires-clause-can : goal.play_line-played-requires-clause-can
+play_line-played-requires-clause-can g c =
+    let p = g.K.Terms in
+    let r = g.S.Replica in
+    let a = c.args in
+    let l = c.loop-i in
+    let t = c.requires.playing in
+    let w = l.invariant.goes t.home t.nodes t.course t.now t.ends in
+    let u = under_way p.may p.floor p.shelf r.state r.spells a.lines.now t.home t.nodes t.course a.counts.now a.looks.now.items a.node a.from l.counts l.looks.items l.i a.fabric.journal l.fabric.journal a.worker.seat l.worker.seat a.worker.desks.items l.worker.desks.items t.now w in
+    let line = c.index-lines-i.result in
+    let at = slice_get_read a.lines.now (length a.lines.now) l.i line refl (omega (arith, c.loop-i-test.true, c.requires.range.1)) c.index-lines-i.is in
+    let own = eqb-true line.node a.node (sym c.eq.ensures ∙ c.if-eq.true) in
+    subst (λ k. CanPlay k l.fabric.journal l.worker.seat) (sym l.invariant.who)
+    (can_play p.may p.floor p.shelf r.state r.spells a.lines.now t.home t.nodes w.course l.counts l.looks.items a.node a.from l.i line l.fabric.journal l.worker.seat l.worker.desks.items at own u)
+
+pub play_line-played-requires-clause-few : goal.play_line-played-requires-clause-few
+play_line-played-requires-clause-few g c =
+    let t = c.requires.playing in
+    let w = c.loop-i.invariant.goes t.home t.nodes t.course t.now t.ends in
+    omega (arith, c.loop-i.invariant.who, t.now.most, w.worker.nodes_is)
+
+pub play_line-played-requires-clause-floor : goal.play_line-played-requires-clause-floor
+play_line-played-requires-clause-floor g c =
+    let t = c.requires.playing in
+    let w = c.loop-i.invariant.goes t.home t.nodes t.course t.now t.ends in
+    subst (FloorIs g.K.Terms.floor) (t.now.worker.nodes_is ∙ sym w.worker.nodes_is) c.requires.floor
 
 pub play_line-played-requires-clause-node : goal.play_line-played-requires-clause-node
 play_line-played-requires-clause-node g c =
@@ -131,5 +160,5 @@ returns-clause-stands g c =
     let l = c.loop-i in
     let t = c.requires.playing in
     let w = l.invariant.goes t.home t.nodes t.course t.now t.ends in
-    seat_allowed p.may l.counts p.floor p.shelf r.state r.spells l.fabric.journal l.worker.seat
-    (subst (λ j. SeatOk (Within p.may l.counts) p.floor p.shelf r.state r.spells j l.worker.seat) w.journal_is w.worker.ok.ok)
+    subst (λ j. SeatOk p.may p.floor p.shelf r.state r.spells j l.worker.seat) w.journal_is
+    (worker_stands p.may p.floor p.shelf r.state r.spells c.args.node l.counts w.course.journal l.worker.seat l.worker.desks.items w.worker.ok)

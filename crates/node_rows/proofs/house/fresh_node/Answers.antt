@@ -1,12 +1,8 @@
 use Rattle.std.proofs.Common.{[], sym, ap, subst, ◌∙◌}
 use Rattle.engine_laws.specs.State.{IsStateOf}
 use Rattle.local_store.specs.View as store
-use Rattle.node_rows.proofs.Floor.{floor_is}
 use Rattle.node_rows.proofs.Resting.{none_asked_so, survives_so}
 use Rattle.node_rows.proofs.house.fresh_node.Goals as goal
-
-pub new-requires-clause-floor : goal.new-requires-clause-floor
-new-requires-clause-floor g c = floor_is
 
 pub new-requires-clause-empty : goal.new-requires-clause-empty
 new-requires-clause-empty g c = subst (IsStateOf []) (sym (ap (λ (v : store.View). v.contents) c.new-replica.ensures.store ∙ c.requires.store.empty)) c.starts_empty.ensures

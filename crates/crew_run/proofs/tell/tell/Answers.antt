@@ -1,0 +1,9 @@
+use Rattle.std.proofs.Common.{sym, ◌∙◌, subst}
+use Rattle.base_engine.specs.Trimming.{FloorIs}
+use Rattle.crew_run.proofs.tell.tell.Goals as goal
+
+pub close-crew-requires-clause-floor : goal.close-crew-requires-clause-floor
+close-crew-requires-clause-floor g c = subst (FloorIs g.K.Terms.floor) (sym c.play_phases-crew.ensures.size) c.requires.floor
+
+pub tell_closed-requires-clause-floor : goal.tell_closed-requires-clause-floor
+tell_closed-requires-clause-floor g c = subst (FloorIs g.K.Terms.floor) (sym (c.close-crew.ensures.size ∙ c.play_phases-crew.ensures.size)) c.requires.floor
