@@ -1,10 +1,9 @@
 -- No row tells that another node replaced the last loglet.
-use Rattle.std.proofs.Common.{◌≡◌, refl, ℕ, zero, suc, Bool, true, List, [], ◌∷◌, Some, map}
+use Rattle.std.proofs.Common.{◌≡◌, refl, ℕ, zero, suc, true, List, [], ◌∷◌, Some, map}
 use Rattle.std.specs.Prelude.{not, is_some, slice_get}
 use Rattle.std.specs.List.{list_all}
 use Rattle.std.proofs.lemmas.Bool.{and_from}
 use Rattle.delos_types.specs.declared.chain.Chain.{Chain}
-use Rattle.row_text.specs.declared.row.Row.{Row}
 use Rattle.row_text.specs.declared.row.Outcome.{Outcome}
 use Rattle.row_text.specs.declared.row.Outcome.TheVariants as out
 use Rattle.fitting_run.specs.Replacements.{version_found}

@@ -19,7 +19,7 @@ use Rattle.legal_journal.specs.declared.events.FabricAnswer.{FabricAnswer}
 use Rattle.legal_journal.specs.declared.events.FabricAnswer.TheVariants.{Begun, Full, Done, Going, NoTicket, Gone, At, Down, Written, Conflict, MetaFault, Set, Memory}
 use Rattle.legal_journal.specs.Shown.{end_of}
 use Rattle.legal_journal.specs.Moves.{move, move_of}
-use Rattle.legal_journal.specs.Journal.{CellState, State, start, state_of, after, after_all, reach, trim_of, tail_of, IsAllowed, IsLegalFrom, IsLegal}
+use Rattle.legal_journal.specs.Journal.{CellState, State, start, state_of, after, after_all, reach, trim_of, tail_of, IsLegal}
 use Rattle.legal_journal.proofs.Legal.{IsLegalFrom-split, after_all-append, legal_front, goes_on}
 use Rattle.fabric_core.specs.Log.{virtual_tail}
 use Rattle.virtual_log.specs.Holding.{Holds}

@@ -66,7 +66,8 @@ pub record Ran (plan : Plan) (left : Option (List ℕ)) (yard : Shown) (told : T
   pub fits : Fits (lines_of script) told yard
   pub answered : IsCalm yard → all_answered told.rows ≡ true
   pub whole : IsCalm yard → told.end ≡ virtual_tail told.chain yard.cells
-  -- the chain has a loglet of the shelf for each row that says that a line extended it, and the first one
+  -- the chain's last loglet lies as many behind the shelf's first as rows say that a line extended it; where nothing is trimmed
+  -- all from the first on stand in the chain
   pub extended : IsCalm yard → GoesTo told.chain (count_by (λ r. is_some (version_made r.outcome)) told.rows)
   pub lone : list_all (λ r. not (is_some (version_found r.outcome))) told.rows ≡ true
   pub shelved : All (λ s. s.id < length yard.cells) told.chain.segments
