@@ -30,7 +30,7 @@ use crate::trim::{extend, least, trim_applied, trim_now};
 use delos_types::bytes::Bytes;
 use delos_types::cause::Cause;
 use delos_types::item::Item;
-use delos_types::numbers::{Rank, SessionId};
+use delos_types::numbers::{NodeId, Rank, SessionId};
 use engine_steps::layout::Kept;
 use replica_api::replica::Replica;
 use std::alloc::{AllocError, Global};
@@ -159,6 +159,14 @@ impl<L: SharedLog, R: Replica> Node<L, R> {
         ensures follows { Follows L.holds R.state R.spells self.now.seen self.now.replica }
     {
         self.replica.clean()
+    }
+
+    /// Whether a node has left, in the state of the log's first `cursor` entries.
+    pub fn has_left(&self, node: NodeId) -> Result<bool, AllocError>
+        ensures left { IfOk result (λ left. left ≡ layout.has_left_in self.now.replica.contents node) }
+        ensures follows { Follows L.holds R.state R.spells self.now.seen self.now.replica }
+    {
+        self.replica.has_left(node)
     }
 
     /// The least of the positions that members reported, in the state of the log's first `cursor` entries; 0 where no node

@@ -284,6 +284,11 @@ impl<E: Layers, D: Disk> Two<E, D> {
         self.node.clean()
     }
 
+    /// Whether the node that has the log has left.
+    pub fn has_left(&self) -> Result<bool, AllocError> {
+        self.node.has_left(self.number)
+    }
+
     pub fn reply_of(&self, session: SessionId, rank: Rank) -> Result<Option<Kept>, AllocError> {
         self.node.reply_of(session, rank)
     }

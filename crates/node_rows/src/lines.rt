@@ -72,6 +72,8 @@ pub enum Stuck {
     Word,
     #[error("the register of the chain failed")]
     Meta,
+    #[error("a node that was asked to leave hasn't left")]
+    Stays,
     #[error("a line was left open")]
     Open(Cause),
 }
@@ -233,7 +235,11 @@ fn retire<E: Layers, D: Disk>(alloc: Global, two: &mut Two<E, D>) -> Result<Outc
 {
     let item = leave_item(alloc, two.number())?;
     pass(two, item)?;
-    Ok(Outcome::Retired)
+    if two.has_left()? {
+        Ok(Outcome::Retired)
+    } else {
+        Err(Stuck::Stays)
+    }
 }
 
 fn trim<E: Layers, D: Disk>(two: &mut Two<E, D>) -> Result<Outcome, Stuck>
