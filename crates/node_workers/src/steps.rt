@@ -157,6 +157,7 @@ pub(crate) fn end<L: Loglet, R: Register, K: Terms, S: Replica, C: Chooser>(
     ensures unsealed { Unsealed fabric.journal result.fabric.journal }
     ensures done { IfOk result.answer (λ x. IsDone K.may K.floor K.shelf S.state S.spells counts.now fabric.journal seat result.fabric.journal result.seat) }
     ensures adds { IfOk result.answer (λ x. Adds IsOfSessions fabric.journal result.fabric.journal) }
+    ensures low { TrimsUpTo seat.node.replica.cursor result.fabric.journal }
     ensures ends { IfOk result.answer (EndsTurn (Within K.may counts.now) K.floor K.shelf (node_of seat fabric.journal) (node_of result.seat result.fabric.journal) desks.old.items desks.new.items) }
 {
     end_within::<L, R, K, Brand, S, C>(fabric, seat, desks, counts)

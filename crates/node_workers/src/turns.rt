@@ -254,6 +254,9 @@ pub fn end_phase<L: Loglet, R: Register, K: Terms, S: Replica, C: Chooser>(
     ensures since { IfOk result.answer (λ f. Since worker.seat.who fabric.journal result.fabric.journal) }
     ensures worker { IfOk result.answer (λ f. WorkerOk K.may K.floor K.shelf S.state S.spells worker.seat.who counts.now result.fabric.journal result.worker.seat result.worker.desks.items) }
     ensures high { IfOk result.answer (λ f. TrimsUpTo result.worker.seat.node.replica.cursor result.fabric.journal) }
+
+    // Nothing is trimmed above where the node was before.
+    ensures low { TrimsUpTo worker.seat.node.replica.cursor result.fabric.journal }
     ensures adds { IfOk result.answer (λ f. Adds IsOfSessions fabric.journal result.fabric.journal) }
     ensures ends { IfOk result.answer (EndsTurn (Within K.may counts.now) K.floor K.shelf (node_of worker.seat fabric.journal) (node_of result.worker.seat result.fabric.journal) worker.desks.items result.worker.desks.items) }
 {

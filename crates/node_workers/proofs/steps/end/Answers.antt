@@ -6,7 +6,7 @@ use Rattle.node_lines.specs.Turns.{EndsTurn}
 use Rattle.node_workers.specs.Workers.{Within, Sends, IsOfSessions, UpTo}
 use Rattle.node_workers.specs.Steps.{IsDone}
 use Rattle.node_workers.proofs.Widening.{ends_wider}
-use Rattle.node_workers.proofs.Scoping.{seat_begins, keeps_low, left_by, done_by, adds_sends, if_ok, always}
+use Rattle.node_workers.proofs.Scoping.{seat_begins, keeps_low, high_low, left_by, done_by, adds_sends, if_ok, always}
 use Rattle.base_engine.specs.Node.{NodeView}
 use Rattle.node_workers.proofs.steps.end.Goals as goal
 
@@ -64,6 +64,12 @@ returns-clause-adds g c =
     let p = g.K.Terms in
     let r = g.S.Replica in
     always (Adds IsOfSessions c.args.fabric.journal c.end_within.result.fabric.journal) (adds_sends p.may c.args.counts.now (UpTo p.floor c.args.seat.node.replica.cursor) p.shelf c.args.fabric.journal c.end_within.result.fabric.journal c.end_within.ensures.seat.node.legal) c.end_within.result.answer
+
+pub returns-clause-low : goal.returns-clause-low
+returns-clause-low g c =
+    let p = g.K.Terms in
+    let cursor = c.args.seat.node.replica.cursor in
+    high_low (Sends p.may c.args.counts.now c.args.fabric.journal) p.floor p.shelf cursor cursor c.end_within.result.fabric.journal (omega arith) c.end_within.ensures.seat.node.legal
 
 pub returns-clause-ends : goal.returns-clause-ends
 returns-clause-ends g c =
