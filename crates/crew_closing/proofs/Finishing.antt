@@ -1,5 +1,5 @@
 -- The nodes' last calls.
-use Rattle.std.proofs.Common.{◌≡◌, ◌≢◌, refl, sym, ◌∙◌, subst, ◌⊎◌, inl, inr, ℕ, ◌+◌, ◌<◌, ◌≤◌, List, [], Option, Some, length, arith}
+use Rattle.std.proofs.Common.{◌≡◌, ◌≢◌, refl, sym, ap, ◌∙◌, subst, ◌⊎◌, inl, inr, ⊎_elim, ℕ, ◌+◌, ◌<◌, ◌≤◌, true, false, List, [], Option, Some, length, arith}
 use Rattle.std.specs.Prelude.{slice_get, slice_set}
 use Rattle.std.proofs.lemmas.Bool.{cases_lt}
 use Rattle.std.proofs.lemmas.List.{length-set}
@@ -7,9 +7,14 @@ use Rattle.std.proofs.lemmas.Option.{slice_get_within}
 use Rattle.delos_types.specs.Spaces.{SpaceMap}
 use Rattle.delos_types.specs.declared.entry.Entry.{Entry}
 use Rattle.legal_journal.specs.declared.events.Event.{Event}
+use Rattle.legal_journal.specs.Journal.{IsLegal}
 use Rattle.legal_journal.specs.Sealing.{Unsealed}
 use Rattle.journal_changes.specs.Changes.{Adds}
-use Rattle.replica_api.specs.Replica.{Saved}
+use Rattle.engine_steps.specs.Layout.{has_left_in}
+use Rattle.engine_laws.specs.State.{IsStateOf}
+use Rattle.base_engine.specs.Node.{NodeView}
+use Rattle.base_engine.specs.Trimming.{FloorIs}
+use Rattle.replica_api.specs.Replica.{Saved, ReplicaView}
 use Rattle.script_text.specs.declared.asks.NamedLine.{NamedLine}
 use Rattle.one_thread.specs.Alone.{Since}
 use Rattle.one_thread.specs.Seats.{SeatView, SeatOk, node_of}
@@ -22,10 +27,14 @@ use Rattle.run_course.specs.Course.{CourseOk}
 use Rattle.run_course.specs.Workers.{Rests, NodeFinished}
 use Rattle.run_course.proofs.Waiting.{rests_on}
 use Rattle.run_course.proofs.Finishing.{node_finished}
+use Rattle.node_closing.specs.Finishing.{Finishes}
 use Rattle.node_crew.specs.Crews.{CrewRests, CrewStands}
+use Rattle.fabric_core.proofs.Marks.{set_other, set_same}
 use Rattle.node_crew.proofs.Crews.{apart, changed}
 use Rattle.node_crew.proofs.Playing.{worker_stands}
-use Rattle.crew_closing.specs.Finishing.{HasMost}
+use Rattle.crew_closing.specs.Finishing.{HasFinished, HasMost, PassesBy, StaysAsItWas}
+use Rattle.crew_closing.proofs.Putting.{same_some, some_at}
+use Rattle.crew_closing.proofs.Seeing.{finish_sees, same_or_other}
 
 module _ {A : Type 0} (may : ℕ → Entry → Type 0) (floor : List Entry → ℕ → Type 0) (shelf : List ℕ) (state : List Entry → SpaceMap → Type 0) (spells : List ℕ → Saved → Type 0) (lines : List NamedLine) (seat : A → SeatView) (desks : A → List Desk) (workers : List A) (from phase : ℕ) (journal : List Event) (counts : List ℕ) (looks : List (Option Looked)) (h : CrewRests may floor shelf state spells lines from phase journal counts looks seat desks workers) where
   -- nodes that rest can take the fabric
@@ -35,6 +44,14 @@ module _ {A : Type 0} (may : ℕ → Entry → Type 0) (floor : List Entry → �
   -- there is a node
   pub some_node : 0 < length workers
   some_node = let least = h.lines_are.there 0 in let most = h.lines_are.within 0 in omega (arith, least, most)
+
+  -- and there are at most eight
+  pub few_nodes : length workers ≤ 8
+  few_nodes =
+      let w = some_at workers 0 some_node in
+      let r = (h.each 0 w.0 w.1).worker in
+      let few = r.ok.ok.node.eight in
+      omega (arith, few, r.nodes_is)
 
   -- a node's own turn
   pub own_ok : (k : ℕ) (w : A) → slice_get workers k ≡ Some w → WorkerOk may floor shelf state spells (seat w).who counts journal (seat w) (desks w)
@@ -65,8 +82,9 @@ module _ {A : Type 0} (may : ℕ → Entry → Type 0) (floor : List Entry → �
     size = length-set workers k w'
 
     -- a node has made its last calls
-    pub crew_finished : CrewRests may floor shelf state spells lines from phase journal' counts looks seat desks (slice_set workers k w')
-    crew_finished = record {
+    pub crew_finished : from ≡ length lines → FloorIs floor (length workers) → ((log : List Entry) (m : SpaceMap) → state log m → IsStateOf log m) → IsLegal may floor shelf journal' → Finishes (k + 1) (node_of (seat w) journal) (node_of (seat w') journal')
+        → CrewRests may floor shelf state spells lines from phase journal' counts looks seat desks (slice_set workers k w')
+    crew_finished over rule led legal does = record {
       home = h.home;
       course = done.course;
       journal_is = done.journal_is;
@@ -76,6 +94,7 @@ module _ {A : Type 0} (may : ℕ → Entry → Type 0) (floor : List Entry → �
       ok = subst (λ n. CourseOk may floor shelf lines n done.course counts looks) (sym size) done.ok;
       long = h.long;
       each = λ j x is. subst (λ n. Rests may floor shelf state spells lines h.home n done.course counts looks (j + 1) from phase (seat x) (desks x)) (sym size) (by j x (changed workers k j w w' x at is));
+      sees = finish_sees seat workers k w w' at may floor shelf state spells lines desks from phase journal journal' counts looks done.course h over rule led done.journal_is done.ok legal since adds moves.goes.keeps.forward moves.goes.keeps.counts does;
     }
       where
         by : (j : ℕ) (x : A) → ((j ≡ k) × (w' ≡ x)) ⊎ ((j ≢ k) × (slice_get workers j ≡ Some x)) → Rests may floor shelf state spells lines h.home (length workers) done.course counts looks (j + 1) from phase (seat x) (desks x)
@@ -147,24 +166,33 @@ module _ {A : Type 0} (seat : A → SeatView) (workers : List A) where
         by x (inr none) (inl here) = let first = h.start (omega (arith, none)) in subst (λ y. (seat y).node.replica.cursor ≡ cursor) here.1 (omega (arith, is, few, first.1))
         by x (inr none) (inr other) = let first = h.start (omega (arith, none)) in absurd (other.0 (omega (arith, none, first.0)))
 
-  -- the one that had played most has played on
-  pub most_again : (node cursor new : ℕ) (w w' : A) → slice_get workers node ≡ Some w → (seat w').node.replica.cursor ≡ new → cursor ≤ new → HasMost seat workers (length workers) node cursor
-      → HasMost seat (slice_set workers node w') (length (slice_set workers node w')) node new
-  most_again node cursor new w w' at is up h = record {
-    there = let inside = h.there in omega (arith, inside, long);
-    start = λ none. absurd (let inside = h.there in omega (arith, inside, none, long));
-    low = λ some. let inside = h.there in omega (arith, inside, long);
-    at = λ some x get. by x (changed workers node node w w' x at get);
-    most = λ j x low get. upto j x (changed workers node j w w' x at get);
-  }
+-- Who was passed by
+
+apart_ends : true ≡ false → ⊥
+apart_ends e = cc
+
+module _ {A : Type 0} (seat : A → SeatView) (old : List A) where
+  pub none_passed : PassesBy seat old old
+  none_passed j w at left = record { now = w; is = at; same = refl }
+
+  pub passes_next : (mid new : List A) (k cursor : ℕ) (journal journal' : List Event) → HasFinished journal journal' seat mid new k cursor → PassesBy seat old mid → PassesBy seat old new
+  passes_next mid new k cursor journal journal' f h j w at left = ⊎_elim
+      (λ (same : j ≡ k). here same f.does)
+      (λ (other : j ≢ k). record { now = s.now; is = subst (λ l. slice_get l j ≡ Some s.now) (sym f.is) (set_other mid k j f.now other ∙ s.is); same = s.same })
+      (same_or_other j k)
     where
-      long : length (slice_set workers node w') ≡ length workers
-      long = length-set workers node w'
+      s : StaysAsItWas seat w mid j
+      s = h j w at left
 
-      by : (x : A) → ((node ≡ node) × (w' ≡ x)) ⊎ ((node ≢ node) × (slice_get workers node ≡ Some x)) → (seat x).node.replica.cursor ≡ new
-      by x (inl here) = subst (λ y. (seat y).node.replica.cursor ≡ new) here.1 is
-      by x (inr other) = absurd (other.0 refl)
-
-      upto : (j : ℕ) (x : A) → ((j ≡ node) × (w' ≡ x)) ⊎ ((j ≢ node) × (slice_get workers j ≡ Some x)) → (seat x).node.replica.cursor ≤ new
-      upto j x (inl here) = subst (λ y. (seat y).node.replica.cursor ≤ new) here.1 (omega (arith, is))
-      upto j x (inr other) = let low = h.most j x (slice_get_within workers j x other.1) other.1 in omega (arith, low, up)
+      here : j ≡ k → Finishes (k + 1) (node_of (seat f.was) journal) (node_of (seat f.now) journal') → StaysAsItWas seat w new j
+      here same (inl p) =
+          let was : f.was ≡ s.now = same_some f.was s.now (sym f.was_at ∙ (ap (slice_get mid) (sym same) ∙ s.is)) in
+          record {
+            now = f.now;
+            is = subst (λ l. slice_get l j ≡ Some f.now) (sym f.is) (ap (slice_get (slice_set mid k f.now)) same ∙ set_same mid k f.now f.was f.was_at);
+            same = ap (λ (n : NodeView). n.replica) p.same ∙ (ap (λ (x : A). (seat x).node.replica) was ∙ s.same);
+          }
+      here same (inr p) =
+          let was : f.was ≡ s.now = same_some f.was s.now (sym f.was_at ∙ (ap (slice_get mid) (sym same) ∙ s.is)) in
+          let state : (seat f.was).node.replica ≡ (seat w).node.replica = ap (λ (x : A). (seat x).node.replica) was ∙ s.same in
+          absurd (apart_ends (sym left ∙ (ap (λ i. has_left_in (seat w).node.replica.contents (i + 1)) same ∙ (ap (λ (v : ReplicaView). has_left_in v.contents (k + 1)) (sym state) ∙ p.stays))))

@@ -5,4 +5,3 @@ pub mod Finishing
 pub mod Seeing
 pub mod Taking
 pub mod Closing
-pub mod Reaching

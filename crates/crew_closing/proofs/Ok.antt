@@ -1,10 +1,11 @@
 -- What holds where memory sufficed.
-use Rattle.std.proofs.Common.{◌≡◌, sym, ◌∙◌, Bool, true, false, Result, Ok, Err}
+use Rattle.std.proofs.Common.{Result, Ok, Err}
 use Rattle.std.specs.Prelude.{IfOk, OnOk}
 
-pub if_ok7 : {A E : Type 0} {P Q R S T U : Type 0} {V W : A → Type 0} (x : Result A E) → OnOk x P → OnOk x Q → OnOk x R → OnOk x S → OnOk x T → OnOk x U → IfOk x V → (P → Q → R → S → T → U → (a : A) → V a → W a) → IfOk x W
-if_ok7 (Ok a) p q r s t u v f = f p q r s t u a v
-if_ok7 (Err e) p q r s t u v f = tt
+pub if_ok2 : {A E : Type 0} {P : Type 0} {Q R : A → Type 0} (x : Result A E) → OnOk x P → IfOk x Q → (P → (a : A) → Q a → R a) → IfOk x R
+if_ok2 (Ok a) p q f = f p a q
+if_ok2 (Err e) p q f = tt
 
-pub not_both : (b : Bool) → b ≡ true → b ≡ false → ⊥
-not_both b t f = let e : true ≡ false = sym t ∙ f in cc
+pub on_ok6 : {A E : Type 0} {P Q R S T U V : Type 0} (x : Result A E) → OnOk x P → OnOk x Q → OnOk x R → OnOk x S → OnOk x T → OnOk x U → (P → Q → R → S → T → U → V) → OnOk x V
+on_ok6 (Ok a) p q r s t u f = f p q r s t u
+on_ok6 (Err e) p q r s t u f = tt

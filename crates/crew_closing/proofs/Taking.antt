@@ -77,7 +77,7 @@ pub record Turned {A : Type 0} (may : ℕ → Entry → Type 0) (floor : List En
 
 module _ {A : Type 0} (may : ℕ → Entry → Type 0) (floor : List Entry → ℕ → Type 0) (shelf : List ℕ) (state : List Entry → SpaceMap → Type 0) (spells : List ℕ → Saved → Type 0) (lines : List NamedLine) (seat : A → SeatView) (desks : A → List Desk) (workers : List A) (journal : List Event) (counts : List ℕ) (looks : List (Option Looked)) where
   -- all have played what they could
-  pub takes_first : (phase node cursor : ℕ) → CrewRests may floor shelf state spells lines (length lines) phase journal counts looks seat desks workers → HasMost seat workers (length workers) node cursor → SeesAll lines journal seat workers cursor
+  pub takes_first : (phase node cursor : ℕ) → CrewRests may floor shelf state spells lines (length lines) phase journal counts looks seat desks workers → HasMost seat workers (length workers) node cursor → SeesAll journal seat workers cursor
       → CrewTakes may floor shelf state spells lines node cursor 0 journal counts looks seat desks workers
   takes_first phase node cursor h m sees = record {
     home = h.home;
@@ -172,7 +172,7 @@ module _ {A : Type 0} (may : ℕ → Entry → Type 0) (floor : List Entry → �
             }
 
         -- a node that was there before is there still, with the disk that it had
-        sees_then : ((j : ℕ) (w : A) → slice_get workers j ≡ Some w → (w' : A) × (slice_get workers' j ≡ Some w')) → SeesAll lines journal seat workers' cursor
+        sees_then : ((j : ℕ) (w : A) → slice_get workers j ≡ Some w → (w' : A) × (slice_get workers' j ≡ Some w')) → SeesAll journal seat workers' cursor
         sees_then there none = h.sees (record {
           told = none.told;
           disks = λ j w at.

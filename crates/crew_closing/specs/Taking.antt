@@ -33,7 +33,7 @@ pub record CrewTakes {A : Type 0} (may : ℕ → Entry → Type 0) (floor : List
   pub log : List Entry
   pub size : length log ≡ cursor
   pub front : IsFront Holds journal log
-  pub sees : SeesAll lines journal seat workers cursor
+  pub sees : SeesAll journal seat workers cursor
   pub there : node < length workers
   pub most : (w : A) → slice_get workers node ≡ Some w → (seat w).node.replica.cursor ≡ cursor
   pub taken : (j : ℕ) (w : A) → j < k → slice_get workers j ≡ Some w → WorkerClosed may floor shelf state spells lines home (length workers) course counts looks log (j + 1) (record { seat = seat w; desks = desks w })

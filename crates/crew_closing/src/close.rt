@@ -28,10 +28,9 @@ pub struct Closed<L: Loglet, R: Register, K: Terms, S: Replica, C: Chooser> {
     pub answer: Result<u64, AllocError>,
 }
 
-/// Closes a run whose lines are all played: the register is opened again where it is down; each node in order opens its store
-/// again where it is down and plays the log to a tail; the answers of all sessions are then taken at the node that has played
-/// most of it. Where a line asks for a trim, that node plays the log to a tail once more first: a node that left may stand below the
-/// trim.
+/// Closes a run whose lines are all played: the register is opened again where it is down; each node in order, but for one that has
+/// left, opens its store again where it is down and plays the log to a tail; the answers of all sessions are then taken at the node
+/// that has played most of it.
 ///
 /// Cost: at most two events of the register; for each node what it has still to play, and for each session that asked something a look
 /// at the store for each answer that is taken, and one more.
@@ -48,8 +47,8 @@ pub fn close<L: Loglet, R: Register, K: Terms, S: Replica, C: Chooser>(
     // The register was opened again first, where it was down.
     ensures opens { OnOk result.answer (OpensFirst crew.fabric result.crew.fabric) }
 
-    // Where no fault came, and nothing is trimmed or a line asked for that, the whole log was played.
-    ensures sees { IfOk result.answer (SeesAll lines.now result.crew.fabric.journal (λ (w : WorkerEnd). w.seat) (map (λ w. record { seat = w.seat; desks = w.desks.items }) result.crew.workers.items)) }
+    // Where no fault came, the whole log was played.
+    ensures sees { IfOk result.answer (SeesAll result.crew.fabric.journal (λ (w : WorkerEnd). w.seat) (map (λ w. record { seat = w.seat; desks = w.desks.items }) result.crew.workers.items)) }
     ensures stands { CrewStands K.may K.floor K.shelf S.state S.spells result.crew.fabric.journal (λ w. w.seat) result.crew.workers.items }
     ensures size { length result.crew.workers.items ≡ length crew.workers.items }
 {

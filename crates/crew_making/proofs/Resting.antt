@@ -16,6 +16,7 @@ use Rattle.engine_steps.specs.declared.layout.Kept.{Kept}
 use Rattle.base_engine.specs.Settling.{OutboxView, cause_in}
 use Rattle.replica_api.specs.Replica.{Saved}
 use Rattle.script_text.specs.declared.asks.NamedLine.{NamedLine}
+use Rattle.fabric_core.proofs.Shelf.{some_at}
 use Rattle.fitting_run.specs.Faults.{lacks_store}
 use Rattle.one_thread.specs.Seats.{SeatView, node_of}
 use Rattle.node_sessions.specs.declared.desk.Desk.{Desk}
@@ -191,6 +192,10 @@ module _ (may : ℕ → Entry → Type 0) (floor : List Entry → ℕ → Type 0
       ok = course_ok (length workers) legal;
       long = long;
       each = λ j w at. worker_rests (length workers) (j + 1) (seat w) (desks w) (new j w at);
+      sees = λ calm.
+          let first = some_at workers 0 (let least = are.there 0 in let most = are.within 0 in omega (arith, least, most)) in
+          let none : tail_of (state_of []) ≡ 0 = refl in
+          record { at = 0; one = first.0; is = first.1; upto = omega (arith, none) };
     }
 
 pub new_stands : {A : Type 0} (may : ℕ → Entry → Type 0) (floor : List Entry → ℕ → Type 0) (shelf : List ℕ) (state : List Entry → SpaceMap → Type 0) (spells : List ℕ → Saved → Type 0) (counts : List ℕ) (nodes : ℕ) (seat : A → SeatView) (desks : A → List Desk) (workers : List A)

@@ -3,4 +3,3 @@ pub mod Telling
 pub mod Seeing
 pub mod Running
 pub mod Lone
-pub mod Asked

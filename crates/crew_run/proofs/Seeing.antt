@@ -1,5 +1,5 @@
 -- Where no fault was counted, a run has played the log to its end.
-use Rattle.std.proofs.Common.{◌≡◌, refl, sym, ap, ◌∙◌, subst, ◌⊎◌, inl, inr, ⊎_elim, ℕ, zero, suc, ◌+◌, ◌-◌, ◌<◌, ◌≤◌, ◌==◌, cond, true, List, [], ◌∷◌, ◌++◌, Option, Some, None, length, count_by, slice_get, arith, eq-eqb}
+use Rattle.std.proofs.Common.{◌≡◌, refl, sym, ap, ◌∙◌, subst, inl, inr, ℕ, zero, suc, ◌+◌, ◌-◌, ◌<◌, ◌≤◌, ◌==◌, cond, true, List, [], ◌∷◌, ◌++◌, Option, Some, None, length, count_by, slice_get, arith, eq-eqb}
 use Rattle.std.specs.Prelude.{All, Contains, sum_by, get_or}
 use Rattle.std.proofs.lemmas.List.{length-map}
 use Rattle.std.proofs.lemmas.List.Sums.{sum_by-cons}
@@ -9,7 +9,6 @@ use Rattle.delos_types.specs.declared.entry.Entry.{Entry}
 use Rattle.delos_types.specs.declared.cause.Cause.{Cause}
 use Rattle.delos_types.specs.declared.cause.Cause.TheVariants as cause
 use Rattle.delos_types.specs.declared.chain.Chain.{Chain}
-use Rattle.chain_map.specs.Chain.{last_of_segments}
 use Rattle.loglet_api.specs.View.{LogletView}
 use Rattle.loglet_api.specs.declared.call.Answer.TheVariants as answers
 use Rattle.legal_journal.specs.declared.events.Event.{Event}
@@ -17,15 +16,13 @@ use Rattle.legal_journal.specs.declared.events.FabricCall.{FabricCall}
 use Rattle.legal_journal.specs.declared.events.FabricCall.TheVariants.{Begin, Carry, Forget, ReadChain, WriteChain, Stop, Mend, Stray, StopMeta, MendMeta}
 use Rattle.legal_journal.specs.declared.events.FabricAnswer.{FabricAnswer}
 use Rattle.legal_journal.specs.declared.events.FabricAnswer.TheVariants.{Begun, Full, Done, Going, NoTicket, Gone, At, Down, Written, Conflict, MetaFault, Set, Memory}
-use Rattle.legal_journal.specs.Shown.{end_of}
 use Rattle.legal_journal.specs.Moves.{move, move_of}
-use Rattle.legal_journal.specs.Journal.{CellState, State, start, state_of, after, after_all, reach, trim_of, tail_of, IsLegal}
-use Rattle.legal_journal.proofs.Legal.{IsLegalFrom-split, after_all-append, legal_front, goes_on}
+use Rattle.legal_journal.specs.Journal.{State, start, state_of, after, after_all, tail_of, IsLegal}
+use Rattle.legal_journal.proofs.Legal.{IsLegalFrom-split, after_all-append, legal_front}
 use Rattle.fabric_core.specs.Log.{virtual_tail}
 use Rattle.virtual_log.specs.Holding.{Holds}
 use Rattle.base_engine.specs.Reading.{IsFront}
 use Rattle.journal_faults.specs.Faults.{fault_of, faults_in, is_full_of, is_meta}
-use Rattle.script_text.specs.declared.asks.NamedLine.{NamedLine}
 use Rattle.fitting_run.specs.Yard.{Shown}
 use Rattle.fitting_run.specs.Calm.{IsCalm}
 use Rattle.fitting_run.specs.Faults.{faults_of}
@@ -34,14 +31,9 @@ use Rattle.run_course.proofs.Lines.{count-cons}
 use Rattle.course_ends.specs.Closing.{WorkerEnd, IsGivenBack}
 use Rattle.course_ends.specs.Reads.{AreReads}
 use Rattle.course_ends.proofs.Counting.{AreCounted}
-use Rattle.course_ends.proofs.Reading.{Same, reads_keep}
-use Rattle.crew_closing.specs.Finishing.{AsksTrim, SeesAll}
-
--- Reads of the chain
-
-same_tail : (a b : State) → Same a b → tail_of b ≡ tail_of a
-same_tail a b s =
-    ap (λ (cells : ℕ → CellState). end_of (reach cells) (last_of_segments b.register.chain.segments)) s.cells ∙ ap (λ (c : Chain). end_of (reach a.cells) (last_of_segments c.segments)) s.chain
+use Rattle.course_ends.proofs.Reading.{reads_keep}
+use Rattle.crew_closing.specs.Finishing.{SeesAll}
+use Rattle.crew_closing.proofs.Opening.{same_tail}
 
 -- The fault of an event, and those of the events after it
 
@@ -168,15 +160,13 @@ module _ (may : ℕ → Entry → Type 0) (floor : List Entry → ℕ → Type 0
     disk_calm : (j : ℕ) (w : WorkerEnd) → slice_get workers j ≡ Some w → w.seat.node.replica.faults ≡ 0
     disk_calm j w at = let few = back.disks j w at in let low = disk_below yard.disks (j + 1 - 1) in omega (arith, few, low, calm)
 
-  pub seen_all : ((seen : List Event) (log : List Entry) → IsLegal may floor shelf seen → IsFront Holds seen log → length log ≤ tail_of (state_of seen)) → (lines : List NamedLine) (journal more : List Event) (workers : List WorkerEnd) (log : List Entry) (chain : Chain) (yard : Shown) → SeesAll lines journal (λ (w : WorkerEnd). w.seat) workers (length log) → IsFront Holds journal log
-      → AreReads more → (trim_of (state_of (journal ++ more)) ≡ 0) ⊎ AsksTrim lines → IsGivenBack may floor shelf (journal ++ more) workers chain yard → IsCalm yard → length log ≡ virtual_tail chain yard.cells
-  seen_all within lines journal more workers log chain yard sees front reads known back calm =
+  pub seen_all : ((seen : List Event) (log : List Entry) → IsLegal may floor shelf seen → IsFront Holds seen log → length log ≤ tail_of (state_of seen)) → (journal more : List Event) (workers : List WorkerEnd) (log : List Entry) (chain : Chain) (yard : Shown) → SeesAll journal (λ (w : WorkerEnd). w.seat) workers (length log) → IsFront Holds journal log
+      → AreReads more → IsGivenBack may floor shelf (journal ++ more) workers chain yard → IsCalm yard → length log ≡ virtual_tail chain yard.cells
+  seen_all within journal more workers log chain yard sees front reads back calm =
       let legal = legal_front may floor shelf journal more back.legal in
       let parts = IsLegalFrom-split may floor shelf start journal more back.legal.steps in
-      let on = goes_on may floor shelf journal more back.legal in
       let none = first_none (faults_in journal) (faults_in more) (sym (filter_map-append (λ (e : Event). fault_of e.answer e.call) journal more) ∙ none_told (journal ++ more) workers chain yard back calm) in
-      let top = sees (record { told = none; disks = disk_calm (journal ++ more) workers chain yard back calm })
-      (⊎_elim (λ (untrimmed : trim_of (state_of (journal ++ more)) ≡ 0). let up = on.trim in inl (omega (arith, untrimmed, up))) (λ (asked : AsksTrim lines). inr asked) known) in
+      let top = sees (record { told = none; disks = disk_calm (journal ++ more) workers chain yard back calm }) in
       let settled = asked_none start journal refl (ap (count_by (λ k. true)) none) in
       let same = same_tail (state_of journal) (after_all (state_of journal) more) (reads_keep may floor shelf (state_of journal) more settled reads parts.1) in
       let tail : tail_of (state_of (journal ++ more)) ≡ tail_of (state_of journal) = ap tail_of (after_all-append start journal more) ∙ same in

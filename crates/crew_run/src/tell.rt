@@ -52,7 +52,7 @@ fn tell_closed<L: Loglet, R: Register, K: Terms, S: Replica, C: Chooser>(
     requires may { (who : ℕ) (e : Entry) → K.may who e → may_of lines.now who e }
     requires floor { FloorIs K.floor (length crew.workers.items) }
     requires closed { (log : List Entry) × (length log ≡ end) × HasClosed K.may K.floor K.shelf S.state S.spells lines.now crew.fabric.journal crew.counts crew.looks.items log (map (λ w. record { seat = w.seat; desks = w.desks.items }) crew.workers.items) }
-    requires sees { SeesAll lines.now crew.fabric.journal (λ (w : WorkerEnd). w.seat) (map (λ w. record { seat = w.seat; desks = w.desks.items }) crew.workers.items) end }
+    requires sees { SeesAll crew.fabric.journal (λ (w : WorkerEnd). w.seat) (map (λ w. record { seat = w.seat; desks = w.desks.items }) crew.workers.items) end }
     requires stands { CrewStands K.may K.floor K.shelf S.state S.spells crew.fabric.journal (λ w. w.seat) crew.workers.items }
     ensures told { IfOk result.told (FitsGivenBack K.may K.floor K.shelf lines.now result.crew.fabric.journal (map (λ w. record { seat = w.seat; desks = w.desks.items }) result.crew.workers.items)) }
     ensures stands { CrewStands K.may K.floor K.shelf S.state S.spells result.crew.fabric.journal (λ w. w.seat) result.crew.workers.items }

@@ -1,7 +1,8 @@
 -- A store is opened again, and then a tail is found.
-use Rattle.std.proofs.Common.{◌≡◌, sym, ap, ◌∙◌, subst, ℕ, ◌≤◌, inl, inr, List, [], ◌∷◌, ◌++◌, length, arith, append-nil}
+use Rattle.std.proofs.Common.{◌≡◌, refl, sym, ap, ◌∙◌, subst, ℕ, ◌≤◌, inl, inr, List, [], ◌∷◌, ◌++◌, length, arith, append-nil}
 use Rattle.delos_types.specs.declared.entry.Entry.{Entry}
 use Rattle.delos_types.specs.declared.cause.Cause.{Cause}
+use Rattle.legal_journal.specs.Journal.{IsLegal}
 use Rattle.virtual_log.specs.Turning.{OnlyOwn, IsAbove}
 use Rattle.base_engine.specs.declared.fault.Fault.TheVariants.{Because}
 use Rattle.base_engine.specs.Causes.{Blames}
@@ -10,7 +11,7 @@ use Rattle.base_engine.specs.Node.{NodeView, Keeps}
 use Rattle.node_lines.specs.Moving.{Moves}
 use Rattle.node_lines.proofs.Moving.{moves-sync}
 use Rattle.node_lines.proofs.Spending.{spends-none, spends-both, spends-blames}
-use Rattle.node_closing.specs.Finishing.{Reopens, Finishes}
+use Rattle.node_closing.specs.Finishing.{Reopens, PlaysOut}
 
 module _ (may : ℕ → Entry → Type 0) (floor : List Entry → ℕ → Type 0) (shelf : List ℕ) where
   pub stays_down : (old new : NodeView) (c : Cause) → Keeps may floor shelf old new → new.seen ≡ old.seen → new.replica.kept ≡ old.replica.kept → new.outbox ≡ old.outbox
@@ -38,12 +39,20 @@ module _ (may : ℕ → Entry → Type 0) (floor : List Entry → ℕ → Type 0
   }
 
   module _ (low : (log : List Entry) (n : ℕ) → floor log n → n ≤ length log) where
+    -- a node that is passed by
+    pub moves_nothing : (n : NodeView) → IsLegal may floor shelf n.seen → Moves may floor shelf n n []
+    moves_nothing n legal =
+        let none = sym (append-nil n.seen) in
+        moves-sync may floor shelf low n n []
+        (record { who = refl; nodes = refl; origin = refl; later = record { more = []; seen = none; legal = legal }; forward = omega arith; counts = omega arith })
+        refl refl (spends-none n.seen n.seen n.replica.faults n.replica.faults ([], none) (omega arith))
+
     pub moves_on : (old mid new : NodeView) → Reopens old mid → Keeps may floor shelf mid new → new.replica.kept ≡ mid.replica.kept → new.outbox ≡ mid.outbox → Moves may floor shelf old new []
     moves_on old mid new r k kept outbox =
         let on = keeps_on old mid new r k in
         moves-sync may floor shelf low old new [] on (outbox ∙ r.outbox) (kept ∙ r.kept) (spends-none old.seen new.seen old.replica.faults new.replica.faults (on.later.more, on.later.seen) on.counts)
 
-  pub played : (old mid new : NodeView) (tail : ℕ) → Reopens old mid → IsAbove mid.who mid.seen tail new.seen → IsAt tail new.replica new.seen → EndsBy mid.who mid.replica.cursor mid.seen tail new.seen → Finishes old new
+  pub played : (old mid new : NodeView) (tail : ℕ) → Reopens old mid → IsAbove mid.who mid.seen tail new.seen → IsAt tail new.replica new.seen → EndsBy mid.who mid.replica.cursor mid.seen tail new.seen → PlaysOut old new
   played old mid new tail r above at exact = inl (record {
     tail = tail;
     above = subst (λ w. IsAbove w old.seen tail new.seen) r.who (subst (λ l. IsAbove mid.who l tail new.seen) r.seen above);
@@ -51,7 +60,7 @@ module _ (may : ℕ → Entry → Type 0) (floor : List Entry → ℕ → Type 0
     exact = λ low alone. exact (omega (arith, low, r.forward)) (subst (λ w. OnlyOwn w mid.seen new.seen) (sym r.who) (subst (λ l. OnlyOwn old.who l new.seen) (sym r.seen) alone));
   })
 
-  pub failed : (old mid new : NodeView) (c : Cause) → Reopens old mid → Keeps may floor shelf mid new → Blames mid.who mid.seen mid.replica.faults (Because c) new.seen new.replica.faults → Finishes old new
+  pub failed : (old mid new : NodeView) (c : Cause) → Reopens old mid → Keeps may floor shelf mid new → Blames mid.who mid.seen mid.replica.faults (Because c) new.seen new.replica.faults → PlaysOut old new
   failed old mid new c r k blames = inr (record {
     cause = c;
     spends = spends-both old.seen mid.seen new.seen old.replica.faults mid.replica.faults new.replica.faults [] (c ∷ [])

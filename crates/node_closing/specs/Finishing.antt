@@ -1,6 +1,7 @@
 -- What a node's last calls come to.
-use Rattle.std.specs.Prelude.{◌≡◌, ℕ, ◌≤◌, ◌⊎◌, false, [], ◌∷◌}
+use Rattle.std.specs.Prelude.{◌≡◌, ℕ, ◌≤◌, ◌⊎◌, true, false, [], ◌∷◌}
 use Rattle.delos_types.specs.declared.cause.Cause.{Cause}
+use Rattle.engine_steps.specs.Layout.{has_left_in}
 use Rattle.virtual_log.specs.Turning.{IsAbove}
 use Rattle.base_engine.specs.Following.{IsAt, EndsBy}
 use Rattle.base_engine.specs.Node.{NodeView}
@@ -32,5 +33,19 @@ pub record IsPlayed (old new : NodeView) : Type 0 where
   pub exact : EndsBy old.who old.replica.cursor old.seen tail new.seen
 
 -- the state is that at a tail, or the log or the disk failed
-abbrev pub Finishes : NodeView → NodeView → Type 0
-Finishes old new = IsPlayed old new ⊎ Fails old new
+abbrev pub PlaysOut : NodeView → NodeView → Type 0
+PlaysOut old new = IsPlayed old new ⊎ Fails old new
+
+-- it has left, as its state tells, and is as it was
+pub record IsPassedBy (number : ℕ) (old new : NodeView) : Type 0 where
+  pub left : has_left_in old.replica.contents number ≡ true
+  pub same : new ≡ old
+
+-- it hasn't left, as its state tells, and plays the log
+pub record PlaysOn (number : ℕ) (old new : NodeView) : Type 0 where
+  pub stays : has_left_in old.replica.contents number ≡ false
+  pub plays : PlaysOut old new
+
+-- of the node with that number
+abbrev pub Finishes : ℕ → NodeView → NodeView → Type 0
+Finishes number old new = IsPassedBy number old new ⊎ PlaysOn number old new

@@ -14,6 +14,7 @@ ghost use Rattle.node_closing.specs.Taking.{CanTakeAll, TakesAll};
 
 use crate::answers::take_all;
 use crate::last::finish;
+use delos_types::numbers::NodeId;
 use fabric_core::fabric::Fabric;
 use fate_words::chooser::Chooser;
 use legal_journal::rules::Rules;
@@ -28,11 +29,11 @@ use register_api::Register;
 use replica_api::replica::Replica;
 use std::marker::Brand;
 
-/// Opens the store again where it is down, and plays the log to a tail, within a scope. Answers how many entries of the log the
-/// node's state has then.
+/// The last calls of the node with that number, within a scope. Answers how many entries of the log its state has then.
 fn finish_within<L: Loglet, R: Register, K: Terms, Q: Scope, S: Replica, C: Chooser>(
     fabric: Fabric<L, R, By<K>>,
     seat: Seat<S, C>,
+    number: NodeId,
     _counts: &[u64; 64],
 ) -> Back<L, R, K, S, C, u64>
     requires floor { (log : List Entry) (n : ℕ) → Q.floor log n → n ≤ length log }
@@ -44,13 +45,13 @@ fn finish_within<L: Loglet, R: Register, K: Terms, Q: Scope, S: Replica, C: Choo
     ensures since { Since result.seat.who Q.since result.fabric.journal }
     ensures right { SealsBy (Q.seals result.seat.who) Q.since result.fabric.journal }
     ensures moves { OnOk result.answer (Moves Q.sends Q.floor K.shelf (node_of seat fabric.journal) (node_of result.seat result.fabric.journal) []) }
-    ensures plays { OnOk result.answer (Finishes (node_of seat fabric.journal) (node_of result.seat result.fabric.journal)) }
+    ensures plays { OnOk result.answer (Finishes number (node_of seat fabric.journal) (node_of result.seat result.fabric.journal)) }
     ensures outbox { OnOk result.answer (result.seat.node.outbox ≡ seat.node.outbox) }
     ensures kept { OnOk result.answer (result.seat.node.replica.kept ≡ seat.node.replica.kept) }
     ensures cursor { IfOk result.answer (λ n. n ≡ result.seat.node.replica.cursor) }
 {
     let mut node = seat.wake::<L, R, K, Q>(fabric);
-    let answer = finish(&mut node);
+    let answer = finish(&mut node, number);
     let (seat, fabric) = rest(node);
     Back {
         seat,
@@ -59,11 +60,13 @@ fn finish_within<L: Loglet, R: Register, K: Terms, Q: Scope, S: Replica, C: Choo
     }
 }
 
-/// Opens the worker's store again where it is down, and plays the log to a tail. Its desks stay as they are. Answers how many
-/// entries of the log the node's state has then.
+/// The last calls of a worker's node, which has that number: one that has left, as its state tells, is passed by; another opens its
+/// store again where it is down, and plays the log to a tail. Its desks stay as they are. Answers how many entries of the log the
+/// node's state has then.
 pub fn finish_worker<L: Loglet, R: Register, K: Terms, S: Replica, C: Chooser>(
     fabric: Fabric<L, R, By<K>>,
     worker: Worker<S, C>,
+    number: NodeId,
     counts: &[u64; 64],
 ) -> Returned<L, R, K, S, C, u64>
     requires run { MayRun K.may K.floor K.shelf }
@@ -73,7 +76,7 @@ pub fn finish_worker<L: Loglet, R: Register, K: Terms, S: Replica, C: Chooser>(
     ensures since { OnOk result.answer (Since worker.seat.who fabric.journal result.fabric.journal) }
     ensures worker { OnOk result.answer (WorkerOk K.may K.floor K.shelf S.state S.spells worker.seat.who counts.now result.fabric.journal result.worker.seat result.worker.desks.items) }
     ensures moves { OnOk result.answer (Moves (Within K.may counts.now) K.floor K.shelf (node_of worker.seat fabric.journal) (node_of result.worker.seat result.fabric.journal) []) }
-    ensures plays { OnOk result.answer (Finishes (node_of worker.seat fabric.journal) (node_of result.worker.seat result.fabric.journal)) }
+    ensures plays { OnOk result.answer (Finishes number (node_of worker.seat fabric.journal) (node_of result.worker.seat result.fabric.journal)) }
     ensures outbox { OnOk result.answer (result.worker.seat.node.outbox ≡ worker.seat.node.outbox) }
     ensures cursor { IfOk result.answer (λ n. n ≡ result.worker.seat.node.replica.cursor) }
     ensures adds { OnOk result.answer (Adds IsOfSessions fabric.journal result.fabric.journal) }
@@ -86,7 +89,7 @@ pub fn finish_worker<L: Loglet, R: Register, K: Terms, S: Replica, C: Chooser>(
         seat,
         fabric,
         answer,
-    } = finish_within::<L, R, K, Brand, S, C>(fabric, seat, counts);
+    } = finish_within::<L, R, K, Brand, S, C>(fabric, seat, number, counts);
     match answer {
         Ok(cursor) => {
             return Returned {

@@ -105,6 +105,7 @@ module _ {A : Type 0} (may : ℕ → Entry → Type 0) (floor : List Entry → �
     long = h.long;
     had = λ j w low at. by j w at (cases_lt j k) low;
     waits = λ j w high at. h.waits j w (omega (arith, high)) at;
+    sees = h.sees;
   }
     where
       by : (j : ℕ) (w : A) → slice_get workers j ≡ Some w → (j < k) ⊎ (k ≤ j) → j < k + 1 → Rests may floor shelf state spells lines h.home (length workers) h.course counts looks (j + 1) to (h.course.phase + 1) (seat w) (desks w)
@@ -133,10 +134,14 @@ module _ {A : Type 0} (may : ℕ → Entry → Type 0) (floor : List Entry → �
     long = long;
     had = λ j x low is. subst (λ n. Rests may floor shelf state spells lines h.home n t.course counts' looks' (j + 1) to (t.course.phase + 1) (seat x) (desks x)) (sym size) (had j x low (changed workers k j w w' x at is));
     waits = λ j x high is. subst (λ n. Rests may floor shelf state spells lines h.home n t.course counts' looks' (j + 1) from t.course.phase (seat x) (desks x)) (sym size) (waits j x high (changed workers k j w w' x at is));
+    sees = λ calm. record { at = k; one = w'; is = here; upto = t.sees calm.told (calm.disks k w' here) };
   }
     where
       size : length (slice_set workers k w') ≡ length workers
       size = length-set workers k w'
+
+      here : slice_get (slice_set workers k w') k ≡ Some w'
+      here = set_same workers k w' w at
 
       on : (j begin done : ℕ) (x : A) → j ≢ k → BeginsAt lines begin done → done ≤ h.course.phase + 1 → Rests may floor shelf state spells lines h.home (length workers) h.course counts looks (j + 1) begin done (seat x) (desks x)
           → Rests may floor shelf state spells lines h.home (length workers) t.course counts' looks' (j + 1) begin done (seat x) (desks x)
@@ -192,6 +197,7 @@ module _ {A : Type 0} (may : ℕ → Entry → Type 0) (floor : List Entry → �
     long = h.long;
     had = λ j w low at. absurd (omega (arith, low));
     waits = λ j w high at. subst (λ p. Rests may floor shelf state spells lines h.home (length workers) h.course counts looks (j + 1) from p (seat w) (desks w)) (sym h.phase_is) (h.each j w at);
+    sees = h.sees;
   }
     where
       some_at : (ls : List NamedLine) (i : ℕ) → i < length ls → (l : NamedLine) × (slice_get ls i ≡ Some l)
@@ -222,6 +228,7 @@ module _ {A : Type 0} (may : ℕ → Entry → Type 0) (floor : List Entry → �
     ok = course_begins may floor shelf lines (length workers) h.course counts looks sent h.ok;
     long = h.long;
     each = λ j w at. rests_then h.course may floor shelf state spells lines h.home (length workers) counts looks (j + 1) to (h.course.phase + 1) (seat w) (desks w) (h.had j w (within j w at) at);
+    sees = h.sees;
   }
     where
       within : (j : ℕ) (w : A) → slice_get workers j ≡ Some w → j < length workers
@@ -270,6 +277,7 @@ module _ {A : Type 0} (may : ℕ → Entry → Type 0) (floor : List Entry → �
       none_given = (h.each j w at).none_given;
     };
     waits = λ j w high at. absurd (let inside = slice_get_within workers j w at in omega (arith, inside, high));
+    sees = h.sees;
   }
     where
       begins : BeginsAt lines from h.course.phase

@@ -1,3 +1,4 @@
 pub mod Ok
 pub mod Playing
 pub mod Crews
+pub mod Seeing

@@ -1,8 +1,10 @@
 -- All nodes of a run.
-use Rattle.std.specs.Prelude.{◌≡◌, ℕ, ◌+◌, ◌<◌, ◌≤◌, ◌==◌, false, List, length, slice_get, Option, Some}
+use Rattle.std.specs.Prelude.{◌≡◌, ℕ, ◌+◌, ◌<◌, ◌≤◌, ◌==◌, false, List, [], length, slice_get, Option, Some}
 use Rattle.delos_types.specs.Spaces.{SpaceMap}
 use Rattle.delos_types.specs.declared.entry.Entry.{Entry}
 use Rattle.legal_journal.specs.declared.events.Event.{Event}
+use Rattle.legal_journal.specs.Journal.{state_of, tail_of}
+use Rattle.journal_faults.specs.Faults.{faults_in}
 use Rattle.replica_api.specs.Replica.{Saved}
 use Rattle.script_text.specs.declared.asks.NamedLine.{NamedLine}
 use Rattle.one_thread.specs.Seats.{SeatView, SeatOk}
@@ -29,6 +31,22 @@ pub record EndsPhase (lines : List NamedLine) (from to phase : ℕ) : Type 0 whe
   pub inside : (i : ℕ) (l : NamedLine) → from ≤ i → i < to → slice_get lines i ≡ Some l → l.phase ≤ phase
   pub next : (l : NamedLine) → slice_get lines to ≡ Some l → phase < l.phase
 
+-- the journal tells no fault, and no node's disk counted one
+pub record HasNoFault {A : Type 0} (journal : List Event) (seat : A → SeatView) (workers : List A) : Type 0 where
+  pub told : faults_in journal ≡ []
+  pub disks : (j : ℕ) (w : A) → slice_get workers j ≡ Some w → (seat w).node.replica.faults ≡ 0
+
+-- some node has applied the log as far as this
+pub record HasReached {A : Type 0} (seat : A → SeatView) (workers : List A) (end : ℕ) : Type 0 where
+  pub at : ℕ
+  pub one : A
+  pub is : slice_get workers at ≡ Some one
+  pub upto : end ≤ (seat one).node.replica.cursor
+
+-- where no fault came, some node has played the whole log
+abbrev pub SomeSees : {A : Type 0} → List Event → (A → SeatView) → List A → Type 0
+SomeSees journal seat workers = HasNoFault journal seat workers → HasReached seat workers (tail_of (state_of journal))
+
 -- Between two phases: the lines of `phase` and of later ones begin at `from`. A worker is seen by its seat and its desks; the
 -- nodes are numbered from 1.
 pub record CrewRests {A : Type 0} (may : ℕ → Entry → Type 0) (floor : List Entry → ℕ → Type 0) (shelf : List ℕ) (state : List Entry → SpaceMap → Type 0) (spells : List ℕ → Saved → Type 0) (lines : List NamedLine) (from phase : ℕ) (journal : List Event) (counts : List ℕ) (looks : List (Option Looked)) (seat : A → SeatView) (desks : A → List Desk) (workers : List A) : Type 0 where
@@ -41,6 +59,7 @@ pub record CrewRests {A : Type 0} (may : ℕ → Entry → Type 0) (floor : List
   pub ok : CourseOk may floor shelf lines (length workers) course counts looks
   pub long : length counts ≡ 64
   pub each : (j : ℕ) (w : A) → slice_get workers j ≡ Some w → Rests may floor shelf state spells lines home (length workers) course counts looks (j + 1) from phase (seat w) (desks w)
+  pub sees : SomeSees journal seat workers
 
 -- In a phase, whose lines are those from `from` up to `to`: the first k nodes have had their turn, the others not yet.
 pub record CrewAt {A : Type 0} (may : ℕ → Entry → Type 0) (floor : List Entry → ℕ → Type 0) (shelf : List ℕ) (state : List Entry → SpaceMap → Type 0) (spells : List ℕ → Saved → Type 0) (lines : List NamedLine) (from to k : ℕ) (journal : List Event) (counts : List ℕ) (looks : List (Option Looked)) (seat : A → SeatView) (desks : A → List Desk) (workers : List A) : Type 0 where
@@ -54,6 +73,7 @@ pub record CrewAt {A : Type 0} (may : ℕ → Entry → Type 0) (floor : List En
   pub long : length counts ≡ 64
   pub had : (j : ℕ) (w : A) → j < k → slice_get workers j ≡ Some w → Rests may floor shelf state spells lines home (length workers) course counts looks (j + 1) to (course.phase + 1) (seat w) (desks w)
   pub waits : (j : ℕ) (w : A) → k ≤ j → slice_get workers j ≡ Some w → Rests may floor shelf state spells lines home (length workers) course counts looks (j + 1) from course.phase (seat w) (desks w)
+  pub sees : SomeSees journal seat workers
 
 -- each node can take the fabric with this journal
 abbrev pub CrewStands : {A : Type 0} → (ℕ → Entry → Type 0) → (List Entry → ℕ → Type 0) → List ℕ → (List Entry → SpaceMap → Type 0) → (List ℕ → Saved → Type 0) → List Event → (A → SeatView) → List A → Type 0

@@ -1,8 +1,10 @@
 -- A node's turn in a phase.
-use Rattle.std.specs.Prelude.{◌≡◌, ℕ, ◌+◌, List, slice_get, Option, Some}
+use Rattle.std.specs.Prelude.{◌≡◌, ℕ, ◌+◌, ◌≤◌, List, [], slice_get, Option, Some}
 use Rattle.delos_types.specs.Spaces.{SpaceMap}
 use Rattle.delos_types.specs.declared.entry.Entry.{Entry}
 use Rattle.legal_journal.specs.declared.events.Event.{Event}
+use Rattle.legal_journal.specs.Journal.{state_of, tail_of}
+use Rattle.journal_faults.specs.Faults.{faults_in}
 use Rattle.replica_api.specs.Replica.{Saved}
 use Rattle.script_text.specs.declared.asks.NamedLine.{NamedLine}
 use Rattle.one_thread.specs.Seats.{SeatView}
@@ -31,3 +33,5 @@ pub record TurnWent (may : ℕ → Entry → Type 0) (floor : List Entry → ℕ
   pub ok : CourseOk may floor shelf lines nodes course counts' looks'
   pub turn : TurnOf lines home n c course counts counts' looks looks'
   pub rests : Rests may floor shelf state spells lines home nodes course counts' looks' n to (course.phase + 1) seat desks
+  -- where no fault came, it has played the whole log
+  pub sees : faults_in journal ≡ [] → seat.node.replica.faults ≡ 0 → tail_of (state_of journal) ≤ seat.node.replica.cursor

@@ -13,7 +13,15 @@ use std::alloc::{AllocError, Global};
 use std::process::Abort;
 use std::test::Fail;
 
-// So many disks of which these calls fail.
+// These calls where the disk is the first one, none where it is another.
+fn calls_of(alloc: Global, at: u8, failing: &[u64]) -> Result<Vec<u64>, AllocError> {
+    if at == 0 {
+        return Vec::from_slice(alloc, failing);
+    }
+    Ok(Vec::new(alloc))
+}
+
+// So many disks, of the first of which these calls fail.
 pub(crate) fn failing_disks(
     alloc: Global,
     count: u8,
@@ -23,20 +31,26 @@ pub(crate) fn failing_disks(
     ensures fresh { IfOk result (λ disks. AllByRecursion (λ d. IsFreshDisk (shown d)) disks.items) }
 {
     let mut disks = Vec::new(alloc);
-    'disk: for _ in 0..count {
-        disks.push(FailDisk::new(MemDisk::new(alloc), Vec::from_slice(alloc, failing)?))?;
+    'disk: for at in 0..count {
+        disks.push(FailDisk::new(MemDisk::new(alloc), calls_of(alloc, at, failing)?))?;
     }
     Ok(disks)
 }
 
-// A put and a get over a file loglet, where these calls of the node's disk fail: the status, and the text.
-fn runs_on(rt: &impl Abort, alloc: Global, failing: &[u64]) -> Result<(u8, Vec<u8>), Fail> {
-    let words = words_of(alloc, FILE_RUN)?;
+// A run by these words, where these calls of the first node's disk fail: the status, and the text.
+fn runs_on(
+    rt: &impl Abort,
+    alloc: Global,
+    words: &[&str],
+    script: &[u8],
+    failing: &[u64],
+) -> Result<(u8, Vec<u8>), Fail> {
+    let words = words_of(alloc, words)?;
     let Ok(plan) = read_words(alloc, words.as_slice()) else {
         return Err(Fail::from("the words aren't taken"));
     };
     let disks = failing_disks(alloc, plan.nodes, failing)?;
-    let mut source = MemSource::new(Vec::from_slice(alloc, PUT_AND_GET)?, 64, Vec::new(alloc));
+    let mut source = MemSource::new(Vec::from_slice(alloc, script)?, 64, Vec::new(alloc));
     let mut sink = MemSink::new(alloc, 4096, 64, Vec::new(alloc))?;
     let ran = run_on(
         rt,
@@ -66,14 +80,32 @@ fn calls_from(alloc: Global, first: u64) -> Result<Vec<u64>, AllocError> {
 fn a_disk_fails_once(rt: HostRuntime) -> Result<(), Fail> {
     let alloc = rt.alloc();
     for call in 1..=6 {
-        let (status, text) = runs_on(&rt, alloc, &[call])?;
+        let (status, text) = runs_on(&rt, alloc, FILE_RUN, PUT_AND_GET, &[call])?;
         assert_eq!(rt; status, 0);
         assert_eq!(rt; text.as_slice(), PUT_AND_GET_TEXT);
-        let (status, _) = runs_on(&rt, alloc, calls_from(alloc, call)?.as_slice())?;
+        let failing = calls_from(alloc, call)?;
+        let (status, _) = runs_on(&rt, alloc, FILE_RUN, PUT_AND_GET, failing.as_slice())?;
         assert_eq!(rt; status, 1);
     }
-    let (status, text) = runs_on(&rt, alloc, calls_from(alloc, 7)?.as_slice())?;
+    let failing = calls_from(alloc, 7)?;
+    let (status, text) = runs_on(&rt, alloc, FILE_RUN, PUT_AND_GET, failing.as_slice())?;
     assert_eq!(rt; status, 0);
     assert_eq!(rt; text.as_slice(), PUT_AND_GET_TEXT);
+    Ok(())
+}
+
+// Node 2 has left when node 1's disk fails for good, at the third entry, which is its eleventh call. Node 2 alone could still play
+// that entry, but is passed by as the run closes: so what was played ends below it, and its row stays open.
+#[test]
+fn a_node_that_left_is_passed_by(rt: HostRuntime) -> Result<(), Fail> {
+    let alloc = rt.alloc();
+    let words = ["run", "--shelf", "file", "--nodes", "2"];
+    let script = b"on n1 a put x 1\nbarrier\non n2 retire\nbarrier\non n1 a put y 2\n";
+    let failing = calls_from(alloc, 11)?;
+    let (status, text) = runs_on(&rt, alloc, &words, script, failing.as_slice())?;
+    let rows =
+        b"1 a @0.0 ok\n3 n2 retired\n5 a open store\nend 2\nchain v=1 trim=0\nseg 0 file 0 open\n";
+    assert_eq!(rt; text.as_slice(), rows.as_slice());
+    assert_eq!(rt; status, 1);
     Ok(())
 }

@@ -20,7 +20,7 @@ take_all_nodes-crew-requires-clause-takes g c =
     let rests = subst (λ x. OnOk x (HasPlayed p.may p.floor p.shelf r.state r.spells c.args.lines.now w.fabric.journal w.counts w.looks.items (λ w. w.seat) (λ w. w.desks.items) w.workers.items)) c.in-Ok-answer.is q.ensures.rests in
     let most = subst (λ x. IfOk x (λ m. HasMost (λ w. w.seat) w.workers.items (length w.workers.items) m.node m.cursor)) c.in-Ok-answer.is q.ensures.most in
     takes_first p.may p.floor p.shelf r.state r.spells c.args.lines.now (λ w. w.seat) (λ w. w.desks.items) w.workers.items w.fabric.journal w.counts w.looks.items rests.0 c.in-Ok-answer.most.node c.in-Ok-answer.most.cursor rests.1 most
-    (subst (λ x. IfOk x (λ m. SeesAll c.args.lines.now w.fabric.journal (λ w. w.seat) w.workers.items m.cursor)) c.in-Ok-answer.is q.ensures.sees)
+    (subst (λ x. IfOk x (λ m. SeesAll w.fabric.journal (λ w. w.seat) w.workers.items m.cursor)) c.in-Ok-answer.is q.ensures.sees)
 
 pub returns-in-Ok-answer-2-clause-closed : goal.returns-in-Ok-answer-2-clause-closed
 returns-in-Ok-answer-2-clause-closed g c =
@@ -40,4 +40,4 @@ returns-in-Ok-answer-2-clause-sees g c =
     let w = q.result.crew in
     let m = c.in-Ok-answer.most in
     let takes = subst (λ x. OnOk x (CrewTakes p.may p.floor p.shelf r.state r.spells c.args.lines.now m.node m.cursor (length w.workers.items) w.fabric.journal w.counts w.looks.items (λ w. w.seat) (λ w. w.desks.items) w.workers.items)) c.in-Ok-answer-2.is q.ensures.takes in
-    sees_ends c.args.lines.now w.fabric.journal (λ w. w.seat) (λ w. w.desks.items) w.workers.items m.cursor takes.sees
+    sees_ends w.fabric.journal (λ w. w.seat) (λ w. w.desks.items) w.workers.items m.cursor takes.sees

@@ -1,13 +1,11 @@
-use Rattle.std.proofs.Common.{◌≡◌, refl, sym, ap, ◌∙◌, subst, length, arith}
+use Rattle.std.proofs.Common.{◌≡◌, refl, sym, ap, ◌∙◌, subst, length}
 use Rattle.std.specs.Prelude.{if◌then◌else◌, is_ok, insert}
 use Rattle.std.proofs.lemmas.Option.{slice_get_read}
 use Rattle.node_crew.specs.Crews.{CrewRests, CrewStands}
 use Rattle.node_crew.proofs.Crews.{put_back, still_stands}
-use Rattle.node_crew.proofs.Ok.{on_ok5}
-use Rattle.crew_closing.proofs.Ok.{if_ok7}
-use Rattle.crew_closing.specs.Finishing.{SeesFrom}
-use Rattle.crew_closing.proofs.Reaching.{has_reached}
-use Rattle.crew_closing.proofs.Seeing.{finished_sees}
+use Rattle.one_thread.specs.Seats.{node_of}
+use Rattle.node_closing.specs.Finishing.{Finishes}
+use Rattle.crew_closing.proofs.Ok.{if_ok2, on_ok6}
 use Rattle.crew_closing.proofs.Finishing.{rests_stand, own_ok, crew_finished}
 use Rattle.crew_closing.proofs.finish.finish_node.Goals as goal
 
@@ -30,11 +28,12 @@ returns-clause-rests g c =
     let at = slice_get_read a.crew.workers.items (length a.crew.workers.items) a.k w refl c.requires.there c.remove-worker.ensures.value in
     let items = (subst (λ x. c.insert.new.self.items ≡ (if is_ok x then insert c.remove-worker.new.self.items a.k q.result.worker else c.remove-worker.new.self.items)) c.in-Ok.is c.insert.ensures.items)
     ∙ (ap (λ l. insert l a.k q.result.worker) c.remove-worker.ensures.items ∙ put_back a.crew.workers.items a.k q.result.worker c.requires.there) in
-    on_ok5 q.result.answer q.ensures.since q.ensures.adds q.ensures.moves q.ensures.outbox q.ensures.worker (λ since adds moves same now. (
+    on_ok6 q.result.answer q.ensures.since q.ensures.adds q.ensures.moves q.ensures.outbox q.ensures.worker q.ensures.plays (λ since adds moves same now plays. (
       c.requires.rests.0,
       subst (λ l. CrewRests p.may p.floor p.shelf r.state r.spells a._lines.now (length a._lines.now) c.requires.rests.0 q.result.fabric.journal a.crew.counts a.crew.looks.items (λ w. w.seat) (λ w. w.desks.items) l) (sym items)
           (crew_finished p.may p.floor p.shelf r.state r.spells a._lines.now (λ w. w.seat) (λ w. w.desks.items) a.crew.workers.items (length a._lines.now) c.requires.rests.0 a.crew.fabric.journal a.crew.counts a.crew.looks.items c.requires.rests.1 a.k q.result.fabric.journal w q.result.worker at since q.ensures.unsealed adds moves same now
-          (ap (λ d. d.items) q.ensures.desks)),
+          (ap (λ d. d.items) q.ensures.desks) refl c.requires.floor c.requires.state q.ensures.stands.node.legal
+          (subst (λ n. Finishes n (node_of w.seat a.crew.fabric.journal) (node_of q.result.worker.seat q.result.fabric.journal)) c.in-Some.ensures.value plays)),
     ))
 
 pub returns-clause-finishes : goal.returns-clause-finishes
@@ -47,26 +46,17 @@ returns-clause-finishes g c =
     let w' = q.result.worker in
     let old = a.crew.fabric.journal in
     let new = q.result.fabric.journal in
-    let size = length a._lines.now in
-    let h = c.requires.rests in
     let at = slice_get_read a.crew.workers.items (length a.crew.workers.items) a.k w refl c.requires.there c.remove-worker.ensures.value in
     let items = (subst (λ x. c.insert.new.self.items ≡ (if is_ok x then insert c.remove-worker.new.self.items a.k w' else c.remove-worker.new.self.items)) c.in-Ok.is c.insert.ensures.items)
     ∙ (ap (λ l. insert l a.k w') c.remove-worker.ensures.items ∙ put_back a.crew.workers.items a.k w' c.requires.there) in
-    if_ok7 q.result.answer q.ensures.since q.ensures.adds q.ensures.moves q.ensures.outbox q.ensures.worker q.ensures.plays q.ensures.cursor (λ since adds moves same now plays n is.
-    let forward = moves.goes.keeps.forward in
-    let rests = crew_finished p.may p.floor p.shelf r.state r.spells a._lines.now (λ w. w.seat) (λ w. w.desks.items) a.crew.workers.items size h.0 old a.crew.counts a.crew.looks.items h.1 a.k new w w' at since q.ensures.unsealed adds moves same now
-    (ap (λ d. d.items) q.ensures.desks) in
+    if_ok2 q.result.answer q.ensures.plays q.ensures.cursor (λ plays n is.
     record {
       was = w;
       was_at = at;
       now = w';
       is = items;
       at = sym is;
-      forward = omega (arith, forward, is);
-      reached = has_reached p.may p.floor p.shelf r.state r.spells a._lines.now (λ w. w.seat) (λ w. w.desks.items) a.crew.workers.items size h.0 old new a.crew.counts a.crew.looks.items a.k w w' at h.1 rests adds c.requires.floor
-          c.what_is_trimmed_was_told.ensures.some;
-      sees = subst (λ l. SeesFrom w.seat.node.replica.cursor new (λ w. w.seat) l n) (sym items)
-          (finished_sees p.may p.floor p.shelf (λ w. w.seat) a.crew.workers.items a.k w w' old new n at q.ensures.stands.node.legal since forward plays is);
+      does = subst (λ n. Finishes n (node_of w.seat old) (node_of w'.seat new)) c.in-Some.ensures.value plays;
     })
 
 pub returns-clause-stands : goal.returns-clause-stands

@@ -3,7 +3,7 @@ use Rattle.crew_run.proofs.Seeing.{seen_all}
 use Rattle.crew_run.proofs.laws.a_calm_run_has_seen_all.Goals as goal
 
 pub returns : goal.returns
-returns g c = let p = g.P.Rules in λ low lines journal more workers log chain yard sees front reads untrimmed back calm.
+returns g c = let p = g.P.Rules in λ low journal more workers log chain yard sees front reads back calm.
     let told : AreCounted p.may p.floor p.shelf = record {
       lacks = c.lacks_are_counted.ensures;
       lack = c.a_lack_has_a_fault.ensures;
@@ -13,4 +13,4 @@ returns g c = let p = g.P.Rules in λ low lines journal more workers log chain y
       lack_there = c.a_fault_names_a_cell.ensures.lack;
       full_there = c.a_fault_names_a_cell.ensures.full;
     } in
-    seen_all p.may p.floor p.shelf told (c.a_front_is_below_the_tail.ensures low) lines journal more workers log chain yard sees front reads untrimmed back calm
+    seen_all p.may p.floor p.shelf told (c.a_front_is_below_the_tail.ensures low) journal more workers log chain yard sees front reads back calm

@@ -1,4 +1,4 @@
-use Rattle.std.proofs.Common.{◌≡◌, ◌⊎◌, refl, sym, ◌∙◌, subst, true, List, length, count_by, map}
+use Rattle.std.proofs.Common.{◌≡◌, refl, sym, ◌∙◌, subst, true, List, length, count_by, map}
 use Rattle.std.specs.Prelude.{not, is_some, IfOk, OnOk}
 use Rattle.std.specs.List.{list_all}
 use Rattle.std.proofs.lemmas.List.{length-map}
@@ -16,9 +16,8 @@ use Rattle.course_ends.specs.Rows.{played_of}
 use Rattle.course_ends.specs.Rows.{AreRows, CanTell}
 use Rattle.fitting_run.specs.Fits.{Fits}
 use Rattle.base_engine.specs.Trimming.{FloorIs}
-use Rattle.crew_closing.specs.Finishing.{AsksTrim, SeesAll}
+use Rattle.crew_closing.specs.Finishing.{SeesAll}
 use Rattle.last_chain.specs.Last.{AsksOnce, IsLast}
-use Rattle.crew_run.proofs.Asked.{trimmed_by}
 use Rattle.crew_run.proofs.Lone.{all_lone}
 use Rattle.crew_run.proofs.Telling.{stands_on, own_more, reads_asked}
 use Rattle.crew_run.proofs.tell.tell_closed.Goals as goal
@@ -64,10 +63,8 @@ returns-in-Ok-Ok-clause-told g c =
       chain = last.told;
       whole = λ yard back told quiet.
           let reads = reads_asked asks.more asks.calls in
-          let known = trimmed_by lines (played_of lines o.rows w.looks.items) (length yard.disks) o.chain yard.cells o.end (ended yard back told).0 (ended yard back told).1.trims in
-          sym h.1 ∙ c.a_calm_run_has_seen_all.ensures c.requires.run.low lines early asks.more ends h.0 o.chain yard
-          (subst (λ n. SeesAll lines early (λ (w : WorkerEnd). w.seat) ends n) (sym h.1) c.requires.sees) h.2.front reads
-          (subst (λ l. (journal.trim_of (journal.state_of l) ≡ 0) ⊎ AsksTrim lines) asks.seen (subst (λ (k : Chain). (k.trim ≡ 0) ⊎ AsksTrim lines) last.told known))
+          sym h.1 ∙ c.a_calm_run_has_seen_all.ensures c.requires.run.low early asks.more ends h.0 o.chain yard
+          (subst (λ n. SeesAll early (λ (w : WorkerEnd). w.seat) ends n) (sym h.1) c.requires.sees) h.2.front reads
           (subst (λ l. IsGivenBack p.may p.floor p.shelf l ends o.chain yard) asks.seen back) quiet;
       extended = λ yard back quiet.
           subst (λ (k : Chain). GoesTo k (count_by (λ r. is_some (version_made r.outcome)) o.rows)) (sym last.told)

@@ -1,31 +1,17 @@
-use Rattle.std.proofs.Common.{subst}
-use Rattle.base_engine.specs.Causes.{Blames}
-use Rattle.node_closing.proofs.Finishing.{moves_on, played, failed}
+use Rattle.std.proofs.Common.{refl, sym, ◌∙◌, subst, inl, inr}
+use Rattle.std.specs.Prelude.{OnOk}
+use Rattle.node_closing.specs.Finishing.{PlaysOut}
+use Rattle.node_closing.proofs.Finishing.{moves_nothing}
 use Rattle.node_closing.proofs.last.finish.Goals as goal
 
-pub returns-in-Ok-clause-moves : goal.returns-in-Ok-clause-moves
-returns-in-Ok-clause-moves g c =
-    let p = g.T.Law.Rules in
-    let e = c.in-Ok.ensures in
-    moves_on p.may p.floor p.shelf c.requires.floor c.args.node.now c.reopen.new.node c.sync.new.self c.in_ok-reopen.ensures e.keeps e.kept e.outbox
+pub returns-then-left-clause-moves : goal.returns-then-left-clause-moves
+returns-then-left-clause-moves g c = let p = g.T.Law.Rules in moves_nothing p.may p.floor p.shelf c.requires.floor c.args.node.now c.requires.legal
+
+pub returns-then-left-clause-plays : goal.returns-then-left-clause-plays
+returns-then-left-clause-plays g c = inl (record { left = sym c.in_ok-left.ensures.left ∙ c.if-left.true; same = refl })
 
 pub returns-in-Ok-clause-plays : goal.returns-in-Ok-clause-plays
-returns-in-Ok-clause-plays g c =
-    let p = g.T.Law.Rules in
-    let e = c.in-Ok.ensures in
-    played p.may p.floor p.shelf c.args.node.now c.reopen.new.node c.sync.new.self c.in-Ok.field-0 c.in_ok-reopen.ensures e.synced e.cursor e.exact
-
-pub returns-in-Err-Because-clause-moves : goal.returns-in-Err-Because-clause-moves
-returns-in-Err-Because-clause-moves g c =
-    let p = g.T.Law.Rules in
-    let e = c.in-Err-Because.ensures in
-    moves_on p.may p.floor p.shelf c.requires.floor c.args.node.now c.reopen.new.node c.sync.new.self c.in_ok-reopen.ensures e.keeps e.kept e.outbox
-
-pub returns-in-Err-Because-clause-plays : goal.returns-in-Err-Because-clause-plays
-returns-in-Err-Because-clause-plays g c =
-    let p = g.T.Law.Rules in
-    let m = c.reopen.new.node in
-    let n = c.sync.new.self in
-    let e = c.in-Err-Because.ensures in
-    failed p.may p.floor p.shelf c.args.node.now m n c.in-Err-Because.field-0-0 c.in_ok-reopen.ensures e.keeps
-    (subst (λ f. Blames m.who m.seen m.replica.faults f n.seen n.replica.faults) c.in-Err-Because.field-0-is e.blames)
+returns-in-Ok-clause-plays g c = inr (record {
+  stays = sym c.in_ok-left.ensures.left ∙ c.if-left.false;
+  plays = subst (λ x. OnOk x (PlaysOut c.args.node.now c.play_out.new.node)) c.in-Ok.is c.play_out.ensures.plays;
+})

@@ -10,6 +10,7 @@ use Rattle.run_course.specs.Script.{BeginsAt}
 use Rattle.run_course.specs.Workers.{LineWent}
 use Rattle.run_course.proofs.Ending.{phase_ended}
 use Rattle.run_course.proofs.Joining.{turns_join}
+use Rattle.node_crew.proofs.Seeing.{ended_sees}
 use Rattle.node_crew.proofs.turn.play_turn.Goals as goal
 
 pub end_phase-worker-requires-clause-worker : goal.end_phase-worker-requires-clause-worker
@@ -68,4 +69,5 @@ returns-in-Ok-answer-clause-goes g c = λ home nodes course u ends.
       ok = t.ok;
       turn = turns_join a.lines.now home a.node course w.course t.course a.counts.now counts counts a.looks.now.items looks looks w.turn t.turn;
       rests = t.rests;
+      sees = ended_sees p.may (Within p.may counts) p.floor p.shelf seat seat' desks desks' mid new c.in-Ok-answer._failed e.ensures.stands.node.legal e.ensures.low since does;
     }

@@ -6,6 +6,6 @@ use Rattle.run_rows.proofs.disks.failing_disks.Given as goal
 
 abbrev pub invariant-disk : goal.invariant-disk
 invariant-disk l = record {
-  count : length l.disks.items ≡ l.counter;
+  count : length l.disks.items ≡ l.at;
   fresh : AllByRecursion (λ d. IsFreshDisk (shown d)) l.disks.items;
 }

@@ -1,7 +1,7 @@
-use Rattle.std.proofs.Common.{◌≡◌, ◌<◌, ◌≤◌, length}
+use Rattle.std.proofs.Common.{◌≡◌, ◌≤◌, length}
 use Rattle.node_workers.specs.Workers.{Grows}
-use Rattle.crew_closing.specs.Finishing.{HasPlayed, HasMost, SeesFrom}
-use Rattle.crew_closing.proofs.finish.finish_each.Given as goal
+use Rattle.crew_closing.specs.Finishing.{HasPlayed, HasMost, PassesBy}
+use Rattle.crew_closing.proofs.finish.finish_all.Given as goal
 
 abbrev pub invariant-loop-k : goal.invariant-loop-k
 invariant-loop-k g l = record {
@@ -9,6 +9,6 @@ invariant-loop-k g l = record {
   size : length l.crew.workers.items ≡ length l.initial.crew.workers.items;
   rests : HasPlayed g.K.Terms.may g.K.Terms.floor g.K.Terms.shelf g.S.Replica.state g.S.Replica.spells l.lines l.crew.fabric.journal l.crew.counts l.crew.looks.items (λ w. w.seat) (λ w. w.desks.items) l.crew.workers.items;
   grows : Grows l.initial.crew.fabric.journal l.crew.fabric.journal;
+  passes : PassesBy (λ w. w.seat) l.initial.crew.workers.items l.crew.workers.items;
   most : HasMost (λ w. w.seat) l.crew.workers.items l.k l.most.node l.most.cursor;
-  sees : 0 < l.k → SeesFrom 0 l.crew.fabric.journal (λ w. w.seat) l.crew.workers.items l.most.cursor;
 }
