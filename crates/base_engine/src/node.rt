@@ -164,6 +164,7 @@ impl<L: SharedLog, R: Replica> Node<L, R> {
     /// Whether a node has left, in the state of the log's first `cursor` entries.
     pub fn has_left(&self, node: NodeId) -> Result<bool, AllocError>
         ensures left { IfOk result (λ left. left ≡ layout.has_left_in self.now.replica.contents node) }
+        ensures legal { IsLegal L.Law.may L.Law.floor L.Law.shelf self.now.seen }
         ensures follows { Follows L.holds R.state R.spells self.now.seen self.now.replica }
     {
         self.replica.has_left(node)

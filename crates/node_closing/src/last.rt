@@ -1,7 +1,6 @@
 //! A node's last calls.
 ghost use Rattle.std.specs.Prelude.{◌≡◌, ◌≤◌, ℕ, List, [], length, IfOk, OnOk};
 ghost use Rattle.delos_types.specs.declared.entry.Entry.{Entry};
-ghost use Rattle.legal_journal.specs.Journal.{IsLegal};
 ghost use Rattle.virtual_log.specs.Holding.{Holds};
 ghost use Rattle.base_engine.specs.Following.{Follows};
 ghost use Rattle.node_lines.specs.Moving.{Moves};
@@ -62,7 +61,6 @@ pub fn finish<T: Turns, C: Chooser, R: Replica>(
     number: NodeId,
 ) -> Result<u64, AllocError>
     requires floor { (log : List Entry) (n : ℕ) → T.Law.floor log n → n ≤ length log }
-    requires legal { IsLegal T.Law.may T.Law.floor T.Law.shelf node.old.seen }
     ensures moves { OnOk result (Moves T.Law.may T.Law.floor T.Law.shelf node.old node.new []) }
     ensures plays { OnOk result (Finishes number node.old node.new) }
     ensures follows { OnOk result (Follows Holds R.state R.spells node.new.seen node.new.replica) }

@@ -5,7 +5,7 @@ use Rattle.node_closing.proofs.Finishing.{moves_nothing}
 use Rattle.node_closing.proofs.last.finish.Goals as goal
 
 pub returns-then-left-clause-moves : goal.returns-then-left-clause-moves
-returns-then-left-clause-moves g c = let p = g.T.Law.Rules in moves_nothing p.may p.floor p.shelf c.requires.floor c.args.node.now c.requires.legal
+returns-then-left-clause-moves g c = let p = g.T.Law.Rules in moves_nothing p.may p.floor p.shelf c.requires.floor c.args.node.now c.in_ok-left.ensures.legal
 
 pub returns-then-left-clause-plays : goal.returns-then-left-clause-plays
 returns-then-left-clause-plays g c = inl (record { left = sym c.in_ok-left.ensures.left ∙ c.if-left.true; same = refl })
