@@ -1,10 +1,11 @@
 use Rattle.std.proofs.Common.{◌≡◌, sym, ◌∙◌, subst, ◌+◌, ◌<◌, ◌≤◌, ⊎_elim, refl, length, arith}
-use Rattle.std.specs.Prelude.{slice_set, IfOk, OnOk}
+use Rattle.std.specs.Prelude.{slice_set}
 use Rattle.std.proofs.lemmas.Bool.{cases_lt}
 use Rattle.base_engine.specs.Trimming.{FloorIs}
+use Rattle.node_workers.proofs.Ok.{in_ok, on_ok}
 use Rattle.node_workers.proofs.Widening.{grows-both}
 use Rattle.node_crew.proofs.Playing.{grows-none}
-use Rattle.crew_closing.specs.Finishing.{HasPlayed, HasFinished, HasMost}
+use Rattle.crew_closing.specs.Finishing.{HasMost}
 use Rattle.crew_closing.proofs.Seeing.{sees_most}
 use Rattle.crew_closing.proofs.Finishing.{rests_stand, some_node, few_nodes, most_first, most_next, most_stays, none_passed, passes_next}
 use Rattle.crew_closing.proofs.finish.finish_all.Goals as goal
@@ -36,13 +37,11 @@ finish_node-now-requires-clause-eight g c =
 
 pub loop-k-preserved : goal.loop-k-preserved
 loop-k-preserved g c =
-    let p = g.K.Terms in
-    let r = g.S.Replica in
     let l = c.loop-k in
     let q = c.finish_node-now in
     let m = l.most in
-    let done = subst (λ x. IfOk x (HasFinished l.crew.fabric.journal q.result.crew.fabric.journal (λ w. w.seat) l.crew.workers.items q.result.crew.workers.items l.k)) c.in-Ok.is q.ensures.finishes in
-    let rests = subst (λ x. OnOk x (HasPlayed p.may p.floor p.shelf r.state r.spells c.args.lines.now q.result.crew.fabric.journal q.result.crew.counts q.result.crew.looks.items (λ w. w.seat) (λ w. w.desks.items) q.result.crew.workers.items)) c.in-Ok.is q.ensures.rests in
+    let done = in_ok _ c.in-Ok.is q.ensures.finishes in
+    let rests = on_ok _ c.in-Ok.is q.ensures.rests in
     let most : HasMost (λ w. w.seat) q.result.crew.workers.items (l.k + 1) c.most_of-most.result.node c.most_of-most.result.cursor = subst (λ xs. HasMost (λ w. w.seat) xs (l.k + 1) c.most_of-most.result.node c.most_of-most.result.cursor) (sym done.is)
     (⊎_elim
     (λ (more : m.cursor < c.in-Ok.cursor).

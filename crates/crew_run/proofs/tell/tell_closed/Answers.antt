@@ -1,5 +1,5 @@
 use Rattle.std.proofs.Common.{◌≡◌, refl, sym, ◌∙◌, subst, true, List, length, count_by, map}
-use Rattle.std.specs.Prelude.{not, is_some, IfOk, OnOk}
+use Rattle.std.specs.Prelude.{not, is_some}
 use Rattle.std.specs.List.{list_all}
 use Rattle.std.proofs.lemmas.List.{length-map}
 use Rattle.delos_types.specs.declared.chain.Chain.{Chain}
@@ -17,15 +17,13 @@ use Rattle.course_ends.specs.Rows.{AreRows, CanTell}
 use Rattle.fitting_run.specs.Fits.{Fits}
 use Rattle.base_engine.specs.Trimming.{FloorIs}
 use Rattle.crew_closing.specs.Finishing.{SeesAll}
-use Rattle.last_chain.specs.Last.{AsksOnce, IsLast}
 use Rattle.crew_run.proofs.Lone.{all_lone}
 use Rattle.crew_run.proofs.Telling.{stands_on, own_more, reads_asked}
+use Rattle.node_workers.proofs.Ok.{in_ok, on_ok}
 use Rattle.crew_run.proofs.tell.tell_closed.Goals as goal
 
 pub rows_of-rows-requires : goal.rows_of-rows-requires
 rows_of-rows-requires g c =
-    let p = g.K.Terms in
-    let r = g.S.Replica in
     let w = c.args.crew in
     let h = c.requires.closed in
     let ends : List WorkerEnd = map (λ x. record { seat = x.seat; desks = x.desks.items }) w.workers.items in
@@ -47,12 +45,12 @@ returns-in-Ok-Ok-clause-told g c =
     let new = q.result.fabric.journal in
     let ends : List WorkerEnd = map (λ x. record { seat = x.seat; desks = x.desks.items }) w.workers.items in
     let o : Told = record { rows = c.in-Ok-Ok.rows; end = c.args.end; version = c.in-Ok-Ok.last.version; chain = c.in-Ok-Ok.last.chain; down = c.in-Ok-Ok.last.down } in
-    let asks = subst (λ x. OnOk x (AsksOnce early new)) c.in-Ok-Ok.is-0 q.ensures.asks in
-    let last = subst (λ x. IfOk x (λ l. IsLast l q.result.fabric)) c.in-Ok-Ok.is-0 q.ensures.last in
+    let asks = on_ok _ c.in-Ok-Ok.is-0 q.ensures.asks in
+    let last = in_ok _ c.in-Ok-Ok.is-0 q.ensures.last in
     let legal = q.ensures.legal in
     let closed = subst (λ l. HasClosed p.may p.floor p.shelf r.state r.spells lines l w.counts w.looks.items h.0 ends) (sym asks.seen)
     (c.reads_change_nothing.ensures lines early asks.more w.counts w.looks.items h.0 ends h.2 (own_more 0 early new q.ensures.since asks) (reads_asked asks.more asks.calls) (subst (λ l. IsLegal p.may p.floor p.shelf l) asks.seen legal)) in
-    let rows = subst (λ x. IfOk x (λ rows. AreRows lines (map (λ x. record { seat = x.seat; desks = x.desks.items }) c.as_slice.result.now) c.as_slice-2.result.now rows)) c.in-Ok-Ok.is-1 c.rows_of-rows.ensures.rows in
+    let rows = in_ok _ c.in-Ok-Ok.is-1 c.rows_of-rows.ensures.rows in
     let rows' = subst (λ l. AreRows lines (map (λ x. record { seat = x.seat; desks = x.desks.items }) l) w.looks.items c.in-Ok-Ok.rows) c.as_slice.ensures.value (subst (λ l. AreRows lines (map (λ x. record { seat = x.seat; desks = x.desks.items }) c.as_slice.result.now) l c.in-Ok-Ok.rows) c.as_slice-2.ensures.value rows) in
     let long : length ends ≡ length w.workers.items = length-map w.workers.items (λ x. record { seat = x.seat; desks = x.desks.items }) in
     let rule = subst (FloorIs p.floor) (sym long) c.requires.floor in

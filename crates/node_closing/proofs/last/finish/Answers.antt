@@ -1,7 +1,6 @@
-use Rattle.std.proofs.Common.{refl, sym, ◌∙◌, subst, inl, inr}
-use Rattle.std.specs.Prelude.{OnOk}
-use Rattle.node_closing.specs.Finishing.{PlaysOut}
+use Rattle.std.proofs.Common.{refl, sym, ◌∙◌, inl, inr}
 use Rattle.node_closing.proofs.Finishing.{moves_nothing}
+use Rattle.node_workers.proofs.Ok.{on_ok}
 use Rattle.node_closing.proofs.last.finish.Goals as goal
 
 pub returns-then-left-clause-moves : goal.returns-then-left-clause-moves
@@ -13,5 +12,5 @@ returns-then-left-clause-plays g c = inl (record { left = sym c.in_ok-left.ensur
 pub returns-in-Ok-clause-plays : goal.returns-in-Ok-clause-plays
 returns-in-Ok-clause-plays g c = inr (record {
   stays = sym c.in_ok-left.ensures.left ∙ c.if-left.false;
-  plays = subst (λ x. OnOk x (PlaysOut c.args.node.now c.play_out.new.node)) c.in-Ok.is c.play_out.ensures.plays;
+  plays = on_ok _ c.in-Ok.is c.play_out.ensures.plays;
 })

@@ -1,9 +1,9 @@
-use Rattle.std.proofs.Common.{◌≡◌, [], sym, subst}
-use Rattle.std.specs.Prelude.{OnOk, All}
+use Rattle.std.proofs.Common.{[], sym, subst}
+use Rattle.std.specs.Prelude.{All}
 use Rattle.legal_journal.proofs.Sealing.{unsealed_by}
 use Rattle.one_thread.specs.Seats.{node_of}
-use Rattle.node_lines.specs.Moving.{Moves}
 use Rattle.node_workers.specs.Workers.{Within, Sends, IsOfSession}
+use Rattle.node_workers.proofs.Ok.{on_ok}
 use Rattle.node_workers.proofs.Widening.{seat_wider, moves_wider, grows-since}
 use Rattle.node_workers.proofs.Scoping.{sends_grow, adds_sends}
 use Rattle.node_workers.proofs.Working.{worker_moves}
@@ -25,8 +25,8 @@ returns-in-Ok-clause-worker g c =
     let now = c.finish_within-seat.result.fabric.journal in
     let counts = c.args.counts.now in
     let e = c.finish_within-seat.ensures in
-    let moves = subst (λ x. OnOk x (Moves (Sends p.may counts was) p.floor p.shelf (node_of a was) (node_of b now) [])) c.in-Ok.is e.moves in
-    let kept = subst (λ x. OnOk x (b.node.replica.kept ≡ a.node.replica.kept)) c.in-Ok.is e.kept in
+    let moves = on_ok _ c.in-Ok.is e.moves in
+    let kept = on_ok _ c.in-Ok.is e.kept in
     let grows = grows-since b.who was now e.since in
     worker_moves p.may p.floor p.shelf c.requires.run r.state r.spells a.who counts was now a b c.args.worker.desks.items [] c.requires.worker
     (seat_wider (Sends p.may counts was) (Sends p.may counts now) p.floor p.floor p.shelf (λ who x k. sends_grow p.may counts was now grows who x k) (λ log n k. k) r.state r.spells now b e.seat)
@@ -42,7 +42,7 @@ returns-in-Ok-clause-moves g c =
     let now = c.finish_within-seat.result.fabric.journal in
     let counts = c.args.counts.now in
     moves_wider (Sends p.may counts was) (Within p.may counts) p.floor p.floor p.shelf (λ who x k. k.0) (λ log n k. k) (node_of a was) (node_of b now) []
-    (subst (λ x. OnOk x (Moves (Sends p.may counts was) p.floor p.shelf (node_of a was) (node_of b now) [])) c.in-Ok.is c.finish_within-seat.ensures.moves)
+    (on_ok _ c.in-Ok.is c.finish_within-seat.ensures.moves)
 
 pub returns-in-Ok-clause-adds : goal.returns-in-Ok-clause-adds
 returns-in-Ok-clause-adds g c =

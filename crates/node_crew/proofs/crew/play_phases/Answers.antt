@@ -1,11 +1,12 @@
 use Rattle.std.proofs.Common.{◌≡◌, Some, refl, sym, ap, ◌∙◌, subst, ◌+◌, ◌<◌, ◌≤◌, ℕ, ⊎_elim, length, arith}
-use Rattle.std.specs.Prelude.{slice_get, OnOk}
+use Rattle.std.specs.Prelude.{slice_get}
 use Rattle.std.proofs.lemmas.Bool.{cases_lt}
 use Rattle.std.proofs.lemmas.Option.{slice_get_read}
 use Rattle.script_text.specs.declared.asks.NamedLine.{NamedLine}
 use Rattle.base_engine.specs.Trimming.{FloorIs}
 use Rattle.node_crew.specs.Crews.{EndsPhase, CrewAt, CrewRests}
 use Rattle.node_crew.proofs.Crews.{crew_begins, crew_comes, crew_ends}
+use Rattle.node_workers.proofs.Ok.{on_ok}
 use Rattle.node_crew.proofs.crew.play_phases.Goals as goal
 
 not_above : (n : ℕ) → n < n → ⊥
@@ -51,7 +52,7 @@ loop-from-preserved g c =
     let q = c.play_phase-now in
     let w = q.result.crew in
     let to = c.end_of_phase-to.result in
-    let at = subst (λ x. OnOk x (CrewAt p.may p.floor p.shelf r.state r.spells lines l.from to (length l.crew.workers.items) w.fabric.journal w.counts w.looks.items (λ w. w.seat) (λ w. w.desks.items) w.workers.items)) c.in-Ok.is q.ensures.goes in
+    let at = on_ok _ c.in-Ok.is q.ensures.goes in
     let all = subst (λ k. CrewAt p.may p.floor p.shelf r.state r.spells lines l.from to k w.fabric.journal w.counts w.looks.items (λ w. w.seat) (λ w. w.desks.items) w.workers.items) (sym q.ensures.size) at in
     record {
       high = c.end_of_phase-to.ensures.range.1;

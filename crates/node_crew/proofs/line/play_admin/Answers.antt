@@ -1,8 +1,8 @@
 use Rattle.std.proofs.Common.{sym, ap, ◌∙◌, subst, ◌+◌, Some}
-use Rattle.std.specs.Prelude.{slice_set, IfOk}
+use Rattle.std.specs.Prelude.{slice_set}
 use Rattle.script_text.specs.declared.asks.Asks.TheVariants as asks
 use Rattle.legal_journal.specs.Sealing.{Unsealed}
-use Rattle.journal_changes.specs.Changes.{Adds, TrimsUpTo}
+use Rattle.journal_changes.specs.Changes.{Adds}
 use Rattle.one_thread.specs.Alone.{Since}
 use Rattle.one_thread.specs.Seats.{node_of}
 use Rattle.node_lines.specs.Extending.{Extends}
@@ -16,6 +16,7 @@ use Rattle.run_course.proofs.Reporting.{line_reported}
 use Rattle.run_course.proofs.Leaving.{line_left}
 use Rattle.run_course.proofs.Trimming.{line_trimmed}
 use Rattle.node_crew.proofs.Ok.{on_ok}
+use Rattle.node_workers.proofs.Ok.{in_ok}
 use Rattle.node_crew.proofs.line.play_admin.Goals as goal
 
 pub returns-in-Extend-clause-goes : goal.returns-in-Extend-clause-goes
@@ -32,13 +33,13 @@ returns-in-Extend-clause-goes g c = λ lines home nodes course from at node phas
     let same = q.ensures.desks in
     on_ok k.result.answer k.ensures.looks (λ kept.
     let look = kept.0 in
-    let since : Since w.seat.who c.args.fabric.journal new = subst (λ x. IfOk x (λ l. Since w.seat.who c.args.fabric.journal new)) kept.1 q.ensures.since in
+    let since : Since w.seat.who c.args.fabric.journal new = in_ok _ kept.1 q.ensures.since in
     let now : WorkerOk p.may p.floor p.shelf r.state r.spells w.seat.who counts new seat q.result.worker.desks.items =
-    subst (λ x. IfOk x (λ l. WorkerOk p.may p.floor p.shelf r.state r.spells w.seat.who counts new seat q.result.worker.desks.items)) kept.1 q.ensures.worker in
+    in_ok _ kept.1 q.ensures.worker in
     let now' : WorkerOk p.may p.floor p.shelf r.state r.spells w.seat.who counts new seat w.desks.items = subst (λ ds. WorkerOk p.may p.floor p.shelf r.state r.spells w.seat.who counts new seat ds.items) same now in
-    let high = subst (λ x. IfOk x (λ l. TrimsUpTo seat.node.replica.cursor new)) kept.1 q.ensures.high in
-    let adds = subst (λ x. IfOk x (λ l. Adds IsOfSessions c.args.fabric.journal new)) kept.1 q.ensures.adds in
-    let extends = subst (λ x. IfOk x (Extends (Within p.may counts) p.floor p.shelf (node_of w.seat c.args.fabric.journal) (node_of seat new))) kept.1 q.ensures.extends in
+    let high = in_ok _ kept.1 q.ensures.high in
+    let adds = in_ok _ kept.1 q.ensures.adds in
+    let extends = in_ok _ kept.1 q.ensures.extends in
     let went = line_extended p.may p.floor p.shelf r.state r.spells lines home nodes course counts looks w.seat.who from c.args.i c.args.line.now look w.seat seat w.desks.items new
     u.lines_are u.least u.most at node phase (c.requires.asked ∙ ap (λ a. asks.Admin a) c.in-Extend.is) u.ok u.worker
     (subst (λ j. Since w.seat.who j new) (sym u.journal_is) since)
@@ -54,9 +55,7 @@ returns-in-Extend-clause-who g c =
     let q = c.extend_line-looked in
     let k = c.keep_look in
     on_ok k.result.answer k.ensures.looks (λ kept.
-    let p = g.K.Terms in
-    let r = g.S.Replica in
-    let now = subst (λ x. IfOk x (λ l. WorkerOk p.may p.floor p.shelf r.state r.spells c.args.worker.seat.who c.args.counts.now q.result.fabric.journal q.result.worker.seat q.result.worker.desks.items)) kept.1 q.ensures.worker in
+    let now = in_ok _ kept.1 q.ensures.worker in
     ap (λ x. x.seat.who) k.ensures.worker ∙ now.who_is)
 
 pub report_line-looked-requires-clause-own : goal.report_line-looked-requires-clause-own
@@ -76,13 +75,13 @@ returns-in-Alive-clause-goes g c = λ lines home nodes course from at node phase
     let same = q.ensures.desks in
     on_ok k.result.answer k.ensures.looks (λ kept.
     let look = kept.0 in
-    let since : Since w.seat.who c.args.fabric.journal new = subst (λ x. IfOk x (λ l. Since w.seat.who c.args.fabric.journal new)) kept.1 q.ensures.since in
+    let since : Since w.seat.who c.args.fabric.journal new = in_ok _ kept.1 q.ensures.since in
     let now : WorkerOk p.may p.floor p.shelf r.state r.spells w.seat.who counts new seat q.result.worker.desks.items =
-    subst (λ x. IfOk x (λ l. WorkerOk p.may p.floor p.shelf r.state r.spells w.seat.who counts new seat q.result.worker.desks.items)) kept.1 q.ensures.worker in
+    in_ok _ kept.1 q.ensures.worker in
     let now' : WorkerOk p.may p.floor p.shelf r.state r.spells w.seat.who counts new seat w.desks.items = subst (λ ds. WorkerOk p.may p.floor p.shelf r.state r.spells w.seat.who counts new seat ds.items) same now in
-    let high = subst (λ x. IfOk x (λ l. TrimsUpTo seat.node.replica.cursor new)) kept.1 q.ensures.high in
-    let adds = subst (λ x. IfOk x (ReportAdds w.seat.who seat.node.replica.cursor c.args.fabric.journal new)) kept.1 q.ensures.adds in
-    let reports = subst (λ x. IfOk x (Reports (Within p.may counts) p.floor p.shelf (node_of w.seat c.args.fabric.journal) (node_of seat new))) kept.1 q.ensures.reports in
+    let high = in_ok _ kept.1 q.ensures.high in
+    let adds = in_ok _ kept.1 q.ensures.adds in
+    let reports = in_ok _ kept.1 q.ensures.reports in
     let went = line_reported p.may p.floor p.shelf r.state r.spells lines home nodes course counts looks w.seat.who from c.args.i c.args.line.now look w.seat seat w.desks.items new
     u.lines_are u.least u.most at node phase (c.requires.asked ∙ ap (λ a. asks.Admin a) c.in-Alive.is) u.ok u.worker
     (subst (λ j. Since w.seat.who j new) (sym u.journal_is) since)
@@ -99,9 +98,7 @@ returns-in-Alive-clause-who g c =
     let q = c.report_line-looked in
     let k = c.keep_look-in-Alive in
     on_ok k.result.answer k.ensures.looks (λ kept.
-    let p = g.K.Terms in
-    let r = g.S.Replica in
-    let now = subst (λ x. IfOk x (λ l. WorkerOk p.may p.floor p.shelf r.state r.spells c.args.worker.seat.who c.args.counts.now q.result.fabric.journal q.result.worker.seat q.result.worker.desks.items)) kept.1 q.ensures.worker in
+    let now = in_ok _ kept.1 q.ensures.worker in
     ap (λ x. x.seat.who) k.ensures.worker ∙ now.who_is)
 
 pub leave_line-looked-requires-clause-own : goal.leave_line-looked-requires-clause-own
@@ -121,13 +118,13 @@ returns-in-Retire-clause-goes g c = λ lines home nodes course from at node phas
     let same = q.ensures.desks in
     on_ok k.result.answer k.ensures.looks (λ kept.
     let look = kept.0 in
-    let since : Since w.seat.who c.args.fabric.journal new = subst (λ x. IfOk x (λ l. Since w.seat.who c.args.fabric.journal new)) kept.1 q.ensures.since in
+    let since : Since w.seat.who c.args.fabric.journal new = in_ok _ kept.1 q.ensures.since in
     let now : WorkerOk p.may p.floor p.shelf r.state r.spells w.seat.who counts new seat q.result.worker.desks.items =
-    subst (λ x. IfOk x (λ l. WorkerOk p.may p.floor p.shelf r.state r.spells w.seat.who counts new seat q.result.worker.desks.items)) kept.1 q.ensures.worker in
+    in_ok _ kept.1 q.ensures.worker in
     let now' : WorkerOk p.may p.floor p.shelf r.state r.spells w.seat.who counts new seat w.desks.items = subst (λ ds. WorkerOk p.may p.floor p.shelf r.state r.spells w.seat.who counts new seat ds.items) same now in
-    let high = subst (λ x. IfOk x (λ l. TrimsUpTo seat.node.replica.cursor new)) kept.1 q.ensures.high in
-    let adds = subst (λ x. IfOk x (λ l. LeaveAdds w.seat.who c.args.fabric.journal new)) kept.1 q.ensures.adds in
-    let leaves = subst (λ x. IfOk x (Leaves (Within p.may counts) p.floor p.shelf (node_of w.seat c.args.fabric.journal) (node_of seat new))) kept.1 q.ensures.leaves in
+    let high = in_ok _ kept.1 q.ensures.high in
+    let adds = in_ok _ kept.1 q.ensures.adds in
+    let leaves = in_ok _ kept.1 q.ensures.leaves in
     let went = line_left p.may p.floor p.shelf r.state r.spells lines home nodes course counts looks w.seat.who from c.args.i c.args.line.now look w.seat seat w.desks.items new
     u.lines_are u.least u.most at node phase (c.requires.asked ∙ ap (λ a. asks.Admin a) c.in-Retire.is) u.ok u.worker
     (subst (λ j. Since w.seat.who j new) (sym u.journal_is) since)
@@ -144,9 +141,7 @@ returns-in-Retire-clause-who g c =
     let q = c.leave_line-looked in
     let k = c.keep_look-in-Retire in
     on_ok k.result.answer k.ensures.looks (λ kept.
-    let p = g.K.Terms in
-    let r = g.S.Replica in
-    let now = subst (λ x. IfOk x (λ l. WorkerOk p.may p.floor p.shelf r.state r.spells c.args.worker.seat.who c.args.counts.now q.result.fabric.journal q.result.worker.seat q.result.worker.desks.items)) kept.1 q.ensures.worker in
+    let now = in_ok _ kept.1 q.ensures.worker in
     ap (λ x. x.seat.who) k.ensures.worker ∙ now.who_is)
 
 pub trim_line-looked-requires-clause-own : goal.trim_line-looked-requires-clause-own
@@ -166,13 +161,13 @@ returns-in-Trim-clause-goes g c = λ lines home nodes course from at node phase 
     let same = q.ensures.desks in
     on_ok k.result.answer k.ensures.looks (λ kept.
     let look = kept.0 in
-    let since : Since w.seat.who c.args.fabric.journal new = subst (λ x. IfOk x (λ l. Since w.seat.who c.args.fabric.journal new)) kept.1 q.ensures.since in
+    let since : Since w.seat.who c.args.fabric.journal new = in_ok _ kept.1 q.ensures.since in
     let now : WorkerOk p.may p.floor p.shelf r.state r.spells w.seat.who counts new seat q.result.worker.desks.items =
-    subst (λ x. IfOk x (λ l. WorkerOk p.may p.floor p.shelf r.state r.spells w.seat.who counts new seat q.result.worker.desks.items)) kept.1 q.ensures.worker in
+    in_ok _ kept.1 q.ensures.worker in
     let now' : WorkerOk p.may p.floor p.shelf r.state r.spells w.seat.who counts new seat w.desks.items = subst (λ ds. WorkerOk p.may p.floor p.shelf r.state r.spells w.seat.who counts new seat ds.items) same now in
-    let high = subst (λ x. IfOk x (λ l. TrimsUpTo seat.node.replica.cursor new)) kept.1 q.ensures.high in
-    let adds = subst (λ x. IfOk x (λ l. TrimAdds c.args.fabric.journal new)) kept.1 q.ensures.adds in
-    let trims = subst (λ x. IfOk x (TrimsLog (Within p.may counts) p.floor p.shelf (node_of w.seat c.args.fabric.journal) (node_of seat new))) kept.1 q.ensures.trims in
+    let high = in_ok _ kept.1 q.ensures.high in
+    let adds = in_ok _ kept.1 q.ensures.adds in
+    let trims = in_ok _ kept.1 q.ensures.trims in
     let went = line_trimmed p.may p.floor p.shelf r.state r.spells c.requires.run lines home nodes course counts looks w.seat.who from c.args.i c.args.line.now look w.seat seat w.desks.items new
     u.lines_are u.least u.most at node phase (c.requires.asked ∙ ap (λ a. asks.Admin a) c.in-Trim.is) u.ok u.worker
     (subst (λ j. Since w.seat.who j new) (sym u.journal_is) since)
@@ -189,7 +184,5 @@ returns-in-Trim-clause-who g c =
     let q = c.trim_line-looked in
     let k = c.keep_look-in-Trim in
     on_ok k.result.answer k.ensures.looks (λ kept.
-    let p = g.K.Terms in
-    let r = g.S.Replica in
-    let now = subst (λ x. IfOk x (λ l. WorkerOk p.may p.floor p.shelf r.state r.spells c.args.worker.seat.who c.args.counts.now q.result.fabric.journal q.result.worker.seat q.result.worker.desks.items)) kept.1 q.ensures.worker in
+    let now = in_ok _ kept.1 q.ensures.worker in
     ap (λ x. x.seat.who) k.ensures.worker ∙ now.who_is)

@@ -1,7 +1,7 @@
 use Rattle.std.proofs.Common.{◌≡◌, refl, sym, ap, ◌∙◌, subst, ◌+◌, ◌<◌, ℕ, zero, suc, List, [], ◌∷◌, length, Some, arith}
-use Rattle.std.specs.Prelude.{slice_get, slice_set, IfOk}
+use Rattle.std.specs.Prelude.{slice_get, slice_set}
 use Rattle.legal_journal.specs.Sealing.{Unsealed}
-use Rattle.journal_changes.specs.Changes.{Adds, TrimsUpTo}
+use Rattle.journal_changes.specs.Changes.{Adds}
 use Rattle.node_sessions.specs.declared.desk.Desk.{Desk}
 use Rattle.one_thread.specs.Alone.{Since}
 use Rattle.one_thread.specs.Seats.{node_of}
@@ -11,6 +11,7 @@ use Rattle.run_course.specs.Workers.{LineWent}
 use Rattle.run_course.proofs.Logging.{line_logged}
 use Rattle.run_course.proofs.Looking.{line_looked}
 use Rattle.node_crew.proofs.Ok.{on_ok, on_ok5}
+use Rattle.node_workers.proofs.Ok.{in_ok}
 use Rattle.node_crew.proofs.line.play_line.Goals as goal
 
 some_at : (ds : List Desk) (i : ℕ) → i < length ds → (d : Desk) × (slice_get ds i ≡ Some d)
@@ -53,13 +54,13 @@ returns-in-Look-clause-goes g c = λ lines home nodes course from at node phase 
     let d = some_at w.desks.items s.id (omega (arith, c.number-number.ensures.range, c.number-number.ensures.value, c.requires.worker.size)) in
     on_ok k.result.answer k.ensures.looks (λ kept.
     let look = kept.0 in
-    let since : Since w.seat.who c.args.fabric.journal new = subst (λ x. IfOk x (λ l. Since w.seat.who c.args.fabric.journal new)) kept.1 q.ensures.since in
+    let since : Since w.seat.who c.args.fabric.journal new = in_ok _ kept.1 q.ensures.since in
     let now : WorkerOk p.may p.floor p.shelf r.state r.spells w.seat.who counts new seat q.result.worker.desks.items =
-    subst (λ x. IfOk x (λ l. WorkerOk p.may p.floor p.shelf r.state r.spells w.seat.who counts new seat q.result.worker.desks.items)) kept.1 q.ensures.worker in
+    in_ok _ kept.1 q.ensures.worker in
     let now' : WorkerOk p.may p.floor p.shelf r.state r.spells w.seat.who counts new seat w.desks.items = subst (λ ds. WorkerOk p.may p.floor p.shelf r.state r.spells w.seat.who counts new seat ds.items) same now in
-    let high = subst (λ x. IfOk x (λ l. TrimsUpTo seat.node.replica.cursor new)) kept.1 q.ensures.high in
-    let adds = subst (λ x. IfOk x (λ l. Adds IsOfSessions c.args.fabric.journal new)) kept.1 q.ensures.adds in
-    let looks_it = subst (λ x. IfOk x (λ l. (d : Desk) → slice_get w.desks.items s.id ≡ Some d → Looks (Within p.may counts) p.floor p.shelf (node_of w.seat c.args.fabric.journal) (node_of seat new) d c.in-Look.query l)) kept.1 q.ensures.looks in
+    let high = in_ok _ kept.1 q.ensures.high in
+    let adds = in_ok _ kept.1 q.ensures.adds in
+    let looks_it = in_ok _ kept.1 q.ensures.looks in
     let went = line_looked p.may p.floor p.shelf r.state r.spells c.requires.run lines home nodes course counts looks w.seat.who from c.args.i c.args.line.now s c.in-Look.query d.0 look w.seat seat w.desks.items new
     u.lines_are u.least u.most u.begins at node phase c.in-Look.is u.ok u.worker
     (subst (λ j. Since w.seat.who j new) (sym u.journal_is) since)
@@ -76,7 +77,5 @@ returns-in-Look-clause-who g c =
     let q = c.look_line-looked in
     let k = c.keep_look in
     on_ok k.result.answer k.ensures.looks (λ kept.
-    let p = g.K.Terms in
-    let r = g.S.Replica in
-    let now = subst (λ x. IfOk x (λ l. WorkerOk p.may p.floor p.shelf r.state r.spells c.args.worker.seat.who c.args.counts.now q.result.fabric.journal q.result.worker.seat q.result.worker.desks.items)) kept.1 q.ensures.worker in
+    let now = in_ok _ kept.1 q.ensures.worker in
     ap (λ x. x.seat.who) k.ensures.worker ∙ now.who_is)

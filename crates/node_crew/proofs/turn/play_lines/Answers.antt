@@ -1,16 +1,17 @@
 use Rattle.std.proofs.Common.{◌≡◌, refl, sym, ap, ◌∙◌, subst, ◌+◌, false, length, arith, eqb-true}
-use Rattle.std.specs.Prelude.{◌==◌, OnOk}
+use Rattle.std.specs.Prelude.{◌==◌}
 use Rattle.std.proofs.lemmas.Option.{slice_get_read}
 use Rattle.base_engine.specs.Trimming.{FloorIs}
 use Rattle.one_thread.specs.Seats.{SeatOk}
 use Rattle.node_workers.specs.Workers.{WorkerOk, Grows}
+use Rattle.node_workers.proofs.Ok.{on_ok}
 use Rattle.node_workers.proofs.Widening.{grows-both}
 use Rattle.run_course.specs.Workers.{IsUnderWay, LineWent, CanPlay, CanSend}
 use Rattle.run_course.proofs.Asking.{line_next}
 use Rattle.run_course.proofs.Turning.{can_play}
 use Rattle.node_crew.proofs.Playing.{worker_stands, grows-none, none_went, under_way, then_went, passed_by, phase_is}
-use Rattle.node_crew.proofs.turn.play_lines.Goals as goal
 use Rattle.node_crew.proofs.turn.play_lines.Goals.{then-eq+in-Ok, else-eq}
+use Rattle.node_crew.proofs.turn.play_lines.Goals as goal
 
 pub loop-i-init : goal.loop-i-init
 loop-i-init g c =
@@ -110,15 +111,14 @@ loop-i-preserved g c =
           record {
             low = omega (arith, l.invariant.low);
             high = omega (arith, c.loop-i-test.true);
-            who = ap (λ w. w.seat.who) b.worker-is ∙ (subst (λ x. OnOk x (q.result.worker.seat.who ≡ l.worker.seat.who)) b.in-Ok.is q.ensures.who ∙ l.invariant.who);
+            who = ap (λ w. w.seat.who) b.worker-is ∙ (on_ok _ b.in-Ok.is q.ensures.who ∙ l.invariant.who);
             grows = subst (λ f. Grows a.fabric.journal f.journal) (sym b.fabric-is) (grows-both a.fabric.journal l.fabric.journal q.result.fabric.journal l.invariant.grows q.ensures.grows);
             goes = λ home nodes course u ends.
                 let w = l.invariant.goes home nodes course u ends in
                 let now = under_way p.may p.floor p.shelf r.state r.spells a.lines.now home nodes course a.counts.now a.looks.now.items a.node a.from l.counts l.looks.items l.i a.fabric.journal l.fabric.journal a.worker.seat l.worker.seat a.worker.desks.items l.worker.desks.items u w in
                 let phase = phase_is a.lines.now a.from a.to l.i course.phase line u.begins ends l.invariant.low c.loop-i-test.true at ∙ sym w.turn.phase in
                 let there = subst (λ k. IsUnderWay p.may p.floor p.shelf r.state r.spells a.lines.now home nodes w.course l.counts l.looks.items k a.from l.i l.fabric.journal l.worker.seat l.worker.desks.items) (sym l.invariant.who) now in
-                let went = subst (λ x. OnOk x (LineWent p.may p.floor p.shelf r.state r.spells a.lines.now home nodes w.course l.counts q.new.counts l.looks.items q.new.looks.items l.worker.seat.who a.from (l.i + 1) q.result.fabric.journal q.result.worker.seat q.result.worker.desks.items)) b.in-Ok.is
-                (q.ensures.goes a.lines.now home nodes w.course a.from at (own ∙ sym l.invariant.who) phase there) in
+                let went = on_ok _ b.in-Ok.is (q.ensures.goes a.lines.now home nodes w.course a.from at (own ∙ sym l.invariant.who) phase there) in
                 let here = subst (λ k. LineWent p.may p.floor p.shelf r.state r.spells a.lines.now home nodes w.course l.counts q.new.counts l.looks.items q.new.looks.items k a.from (l.i + 1) q.result.fabric.journal q.result.worker.seat q.result.worker.desks.items) l.invariant.who went in
                 let both = then_went p.may p.floor p.shelf r.state r.spells a.lines.now home nodes course a.counts.now a.looks.now.items a.node a.from l.counts q.new.counts l.looks.items q.new.looks.items l.i l.fabric.journal q.result.fabric.journal l.worker.seat q.result.worker.seat l.worker.desks.items q.result.worker.desks.items w here in
                 subst (λ x. LineWent p.may p.floor p.shelf r.state r.spells a.lines.now home nodes course a.counts.now x a.looks.now.items c.if-eq.looks.items a.node a.from (l.i + 1) c.if-eq.fabric.journal c.if-eq.worker.seat c.if-eq.worker.desks.items) (sym b.counts-is)

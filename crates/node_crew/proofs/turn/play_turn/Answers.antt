@@ -1,5 +1,4 @@
-use Rattle.std.proofs.Common.{◌≡◌, sym, ◌∙◌, subst, ◌+◌}
-use Rattle.std.specs.Prelude.{IfOk, OnOk}
+use Rattle.std.proofs.Common.{sym, ◌∙◌, subst, ◌+◌}
 use Rattle.legal_journal.specs.Sealing.{Unsealed}
 use Rattle.journal_changes.specs.Changes.{Adds}
 use Rattle.one_thread.specs.Alone.{Since}
@@ -7,10 +6,10 @@ use Rattle.one_thread.specs.Seats.{node_of}
 use Rattle.node_lines.specs.Turns.{EndsTurn}
 use Rattle.node_workers.specs.Workers.{WorkerOk, Within, IsOfSessions}
 use Rattle.run_course.specs.Script.{BeginsAt}
-use Rattle.run_course.specs.Workers.{LineWent}
 use Rattle.run_course.proofs.Ending.{phase_ended}
 use Rattle.run_course.proofs.Joining.{turns_join}
 use Rattle.node_crew.proofs.Seeing.{ended_sees}
+use Rattle.node_workers.proofs.Ok.{in_ok, on_ok}
 use Rattle.node_crew.proofs.turn.play_turn.Goals as goal
 
 pub end_phase-worker-requires-clause-worker : goal.end_phase-worker-requires-clause-worker
@@ -20,20 +19,16 @@ end_phase-worker-requires-clause-worker g c =
     let a = c.args in
     let q = c.play_lines-worker in
     let t = c.requires.playing in
-    let who = subst (λ x. OnOk x (q.result.worker.seat.who ≡ a.worker.seat.who)) c.in-Ok.is q.ensures.who ∙ c.requires.node in
-    let w = subst (λ x. OnOk x (LineWent p.may p.floor p.shelf r.state r.spells a.lines.now t.home t.nodes t.course a.counts.now q.new.counts a.looks.now.items q.new.looks.items a.node a.from a.to q.result.fabric.journal q.result.worker.seat q.result.worker.desks.items)) c.in-Ok.is (q.ensures.goes t.home t.nodes t.course t.now t.ends) in
+    let who = on_ok _ c.in-Ok.is q.ensures.who ∙ c.requires.node in
+    let w = on_ok _ c.in-Ok.is (q.ensures.goes t.home t.nodes t.course t.now t.ends) in
     subst (λ k. WorkerOk p.may p.floor p.shelf r.state r.spells k q.new.counts q.result.fabric.journal q.result.worker.seat q.result.worker.desks.items) (sym who)
     (subst (λ j. WorkerOk p.may p.floor p.shelf r.state r.spells a.node q.new.counts j q.result.worker.seat q.result.worker.desks.items) w.journal_is w.worker.ok)
 
 pub end_phase-worker-requires-clause-high : goal.end_phase-worker-requires-clause-high
 end_phase-worker-requires-clause-high g c =
-    let p = g.K.Terms in
-    let r = g.S.Replica in
-    let a = c.args in
     let q = c.play_lines-worker in
     let t = c.requires.playing in
-    let w = subst (λ x. OnOk x (LineWent p.may p.floor p.shelf r.state r.spells a.lines.now t.home t.nodes t.course a.counts.now q.new.counts a.looks.now.items q.new.looks.items a.node a.from a.to q.result.fabric.journal q.result.worker.seat q.result.worker.desks.items)) c.in-Ok.is (q.ensures.goes t.home t.nodes t.course t.now t.ends) in
-    w.high
+    (on_ok _ c.in-Ok.is (q.ensures.goes t.home t.nodes t.course t.now t.ends)).high
 
 pub returns-in-Ok-answer-clause-goes : goal.returns-in-Ok-answer-clause-goes
 returns-in-Ok-answer-clause-goes g c = λ home nodes course u ends.
@@ -50,17 +45,17 @@ returns-in-Ok-answer-clause-goes g c = λ home nodes course u ends.
     let desks' = e.result.worker.desks.items in
     let mid = q.result.fabric.journal in
     let new = e.result.fabric.journal in
-    let who = subst (λ x. OnOk x (seat.who ≡ a.worker.seat.who)) c.in-Ok.is q.ensures.who ∙ c.requires.node in
-    let w = subst (λ x. OnOk x (LineWent p.may p.floor p.shelf r.state r.spells a.lines.now home nodes course a.counts.now counts a.looks.now.items looks a.node a.from a.to mid seat desks)) c.in-Ok.is (q.ensures.goes home nodes course u ends) in
+    let who = on_ok _ c.in-Ok.is q.ensures.who ∙ c.requires.node in
+    let w = on_ok _ c.in-Ok.is (q.ensures.goes home nodes course u ends) in
     let over = subst (λ n. BeginsAt a.lines.now a.to (n + 1)) (sym w.turn.phase) ends in
-    let since = subst (λ x. IfOk x (λ f. Since seat.who mid new)) c.in-Ok-answer.is e.ensures.since in
+    let since = in_ok _ c.in-Ok-answer.is e.ensures.since in
     let since' = subst (λ j. Since a.node j new) (sym w.journal_is) (subst (λ k. Since k mid new) who since) in
     let still = subst (λ j. Unsealed j new) (sym w.journal_is) e.ensures.unsealed in
-    let adds = subst (λ x. IfOk x (λ f. Adds IsOfSessions mid new)) c.in-Ok-answer.is e.ensures.adds in
+    let adds = in_ok _ c.in-Ok-answer.is e.ensures.adds in
     let adds' = subst (λ j. Adds IsOfSessions j new) (sym w.journal_is) adds in
-    let does = subst (λ x. IfOk x (EndsTurn (Within p.may counts) p.floor p.shelf (node_of seat mid) (node_of seat' new) desks desks')) c.in-Ok-answer.is e.ensures.ends in
+    let does = in_ok _ c.in-Ok-answer.is e.ensures.ends in
     let does' = subst (λ j. EndsTurn (Within p.may counts) p.floor p.shelf (node_of seat j) (node_of seat' new) desks desks' c.in-Ok-answer._failed) (sym w.journal_is) does in
-    let now = subst (λ x. IfOk x (λ f. WorkerOk p.may p.floor p.shelf r.state r.spells seat.who counts new seat' desks')) c.in-Ok-answer.is e.ensures.worker in
+    let now = in_ok _ c.in-Ok-answer.is e.ensures.worker in
     let now' = subst (λ k. WorkerOk p.may p.floor p.shelf r.state r.spells k counts new seat' desks') who now in
     let t = phase_ended p.may p.floor p.shelf r.state r.spells c.requires.run a.lines.now home nodes w.course counts looks a.node a.from a.to c.in-Ok-answer._failed seat seat' desks desks' new u.lines_are u.least u.most over w.ok w.worker since' still adds' does' now' in
     record {

@@ -1,9 +1,4 @@
-use Rattle.std.proofs.Common.{subst}
-use Rattle.std.specs.Prelude.{IfOk}
-use Rattle.one_thread.specs.Seats.{node_of}
-use Rattle.node_lines.specs.Leaving.{Leaves}
-use Rattle.node_workers.specs.Workers.{Within}
-use Rattle.node_workers.specs.Steps.{IsDone}
+use Rattle.node_workers.proofs.Ok.{in_ok}
 use Rattle.node_workers.proofs.Working.{none-waits, worker_moves}
 use Rattle.node_workers.proofs.admin.leave_line.Goals as goal
 
@@ -14,20 +9,14 @@ returns-in-Ok-clause-worker g c =
     let a = c.args.worker.seat in
     let b = c.leave_at-seat.result.seat in
     let now = c.leave_at-seat.result.fabric.journal in
-    let done = subst (λ x. IfOk x (λ l. IsDone p.may p.floor p.shelf r.state r.spells c.args.counts.now c.args.fabric.journal c.args.worker.seat c.leave_at-seat.result.fabric.journal c.leave_at-seat.result.seat)) c.in-Ok.is c.leave_at-seat.ensures.done in
-    let came = subst (λ x. IfOk x (Leaves (Within p.may c.args.counts.now) p.floor p.shelf (node_of a c.args.fabric.journal) (node_of b now))) c.in-Ok.is c.leave_at-seat.ensures.leaves in
+    let done = in_ok _ c.in-Ok.is c.leave_at-seat.ensures.done in
+    let came = in_ok _ c.in-Ok.is c.leave_at-seat.ensures.leaves in
     worker_moves p.may p.floor p.shelf c.requires.run r.state r.spells a.who c.args.counts.now c.args.fabric.journal now a b c.args.worker.desks.items came.others c.requires.worker done.ok (none-waits b (came.kept)) came.moves
 
 pub returns-in-Ok-clause-since : goal.returns-in-Ok-clause-since
 returns-in-Ok-clause-since g c =
-    let p = g.K.Terms in
-    let r = g.S.Replica in
-    let done = subst (λ x. IfOk x (λ l. IsDone p.may p.floor p.shelf r.state r.spells c.args.counts.now c.args.fabric.journal c.args.worker.seat c.leave_at-seat.result.fabric.journal c.leave_at-seat.result.seat)) c.in-Ok.is c.leave_at-seat.ensures.done in
-    done.since
+    (in_ok _ c.in-Ok.is c.leave_at-seat.ensures.done).since
 
 pub returns-in-Ok-clause-high : goal.returns-in-Ok-clause-high
 returns-in-Ok-clause-high g c =
-    let p = g.K.Terms in
-    let r = g.S.Replica in
-    let done = subst (λ x. IfOk x (λ l. IsDone p.may p.floor p.shelf r.state r.spells c.args.counts.now c.args.fabric.journal c.args.worker.seat c.leave_at-seat.result.fabric.journal c.leave_at-seat.result.seat)) c.in-Ok.is c.leave_at-seat.ensures.done in
-    done.high
+    (in_ok _ c.in-Ok.is c.leave_at-seat.ensures.done).high

@@ -1,8 +1,7 @@
 use Rattle.std.proofs.Common.{◌≡◌, sym, ap, ◌∙◌, subst, ◌+◌, [], ◌∷◌, true, false, None}
-use Rattle.std.specs.Prelude.{All, IfOk, OnOk}
+use Rattle.std.specs.Prelude.{All}
 use Rattle.engine_api.specs.Packing.{packed, session_item}
 use Rattle.legal_journal.proofs.Sealing.{unsealed_both}
-use Rattle.journal_changes.specs.Changes.{Adds}
 use Rattle.journal_changes.proofs.Changes.{adds_trans}
 use Rattle.base_engine.specs.Settling.{cause_in}
 use Rattle.node_sessions.specs.declared.desk.Desk.{Desk}
@@ -11,8 +10,8 @@ use Rattle.node_lines.specs.Moving.{HandsIn}
 use Rattle.node_lines.specs.Desks.{DeskOk}
 use Rattle.node_lines.specs.Lines.{Readies}
 use Rattle.node_workers.specs.Workers.{Within, IsOfSession, IsOfSessions, LogsIt, sent_of}
-use Rattle.node_workers.specs.Steps.{IsDone}
 use Rattle.node_workers.proofs.Logging.{OneMore, counts-rise, kept_logs, handed_logs}
+use Rattle.node_workers.proofs.Ok.{in_ok, on_ok}
 use Rattle.node_workers.proofs.Stepping.{done_both, left_both, seat_counted}
 use Rattle.node_workers.proofs.turns.log_at.Goals as goal
 
@@ -21,16 +20,14 @@ ready-seat-requires-clause-sent g c = c.requires.sent ∙ ap (sent_of c.args.cou
 
 pub returns-then-not-is_ready-clause-done : goal.returns-then-not-is_ready-clause-done
 returns-then-not-is_ready-clause-done g c =
-    let p = g.K.Terms in
-    let r = g.S.Replica in
-    subst (λ x. OnOk x (IsDone p.may p.floor p.shelf r.state r.spells c.args.counts.now c.args.fabric.journal c.args.seat c.ready-seat.result.fabric.journal c.ready-seat.result.seat)) c.in-Ok.is c.ready-seat.ensures.done
+    on_ok _ c.in-Ok.is c.ready-seat.ensures.done
 
 pub returns-then-not-is_ready-clause-adds : goal.returns-then-not-is_ready-clause-adds
-returns-then-not-is_ready-clause-adds g c = subst (λ x. OnOk x (Adds IsOfSessions c.args.fabric.journal c.ready-seat.result.fabric.journal)) c.in-Ok.is c.ready-seat.ensures.adds
+returns-then-not-is_ready-clause-adds g c = on_ok _ c.in-Ok.is c.ready-seat.ensures.adds
 
 pub returns-then-not-is_ready-clause-waits : goal.returns-then-not-is_ready-clause-waits
 returns-then-not-is_ready-clause-waits g c =
-    let kept = subst (λ x. OnOk x (c.ready-seat.result.seat.node.replica.kept ≡ c.args.seat.node.replica.kept)) c.in-Ok.is c.ready-seat.ensures.kept in
+    let kept = on_ok _ c.in-Ok.is c.ready-seat.ensures.kept in
     subst (All IsOfSession) (sym kept) c.requires.waits
 
 pub returns-then-not-is_ready-clause-logs : goal.returns-then-not-is_ready-clause-logs
@@ -41,7 +38,7 @@ returns-then-not-is_ready-clause-logs g c =
     let d = c.ready-seat.new.desk in
     let s = c.args.session in
     let counts = c.args.counts.now in
-    let r : Readies (Within p.may counts) p.floor p.shelf old mid c.args.desk.now d c.in-Ok.is_ready = subst (λ x. IfOk x (Readies (Within p.may counts) p.floor p.shelf old mid c.args.desk.now d)) c.in-Ok.is c.ready-seat.ensures.readies in
+    let r : Readies (Within p.may counts) p.floor p.shelf old mid c.args.desk.now d c.in-Ok.is_ready = in_ok _ c.in-Ok.is c.ready-seat.ensures.readies in
     let f : c.in-Ok.is_ready ≡ false = c.if-not-is_ready.true in
     subst (λ (x : Desk). LogsIt p.may p.floor p.shelf counts counts old mid s c.args.desk.now x) (sym c.keep.ensures)
     (kept_logs p.may p.floor p.shelf c.requires.run.low counts old mid s c.args.desk.now d (subst (λ b. Readies (Within p.may counts) p.floor p.shelf old mid c.args.desk.now d b) f r) c.requires.sent)
@@ -53,19 +50,16 @@ log-seat-requires-clause-seat g c =
     let counts = c.args.counts.now in
     let counts' = c.count.new.counts in
     let one : OneMore counts counts' c.args.session = record { own = c.count.ensures.own; others = c.count.ensures.others } in
-    let done = subst (λ x. OnOk x (IsDone p.may p.floor p.shelf r.state r.spells counts c.args.fabric.journal c.args.seat c.ready-seat.result.fabric.journal c.ready-seat.result.seat)) c.in-Ok.is c.ready-seat.ensures.done in
+    let done = on_ok _ c.in-Ok.is c.ready-seat.ensures.done in
     seat_counted p.may p.floor p.shelf r.state r.spells counts counts' c.ready-seat.result.fabric.journal c.ready-seat.result.seat (counts-rise counts counts' c.args.session one) done.ok
 
 pub log-seat-requires-clause-high : goal.log-seat-requires-clause-high
 log-seat-requires-clause-high g c =
-    let p = g.K.Terms in
-    let r = g.S.Replica in
-    let done = subst (λ x. OnOk x (IsDone p.may p.floor p.shelf r.state r.spells c.args.counts.now c.args.fabric.journal c.args.seat c.ready-seat.result.fabric.journal c.ready-seat.result.seat)) c.in-Ok.is c.ready-seat.ensures.done in
-    done.high
+    (on_ok _ c.in-Ok.is c.ready-seat.ensures.done).high
 
 pub log-seat-requires-clause-waits : goal.log-seat-requires-clause-waits
 log-seat-requires-clause-waits g c =
-    let kept = subst (λ x. OnOk x (c.ready-seat.result.seat.node.replica.kept ≡ c.args.seat.node.replica.kept)) c.in-Ok.is c.ready-seat.ensures.kept in
+    let kept = on_ok _ c.in-Ok.is c.ready-seat.ensures.kept in
     subst (All IsOfSession) (sym kept) c.requires.waits
 
 pub log-seat-requires-clause-origin : goal.log-seat-requires-clause-origin
@@ -74,7 +68,7 @@ log-seat-requires-clause-origin g c =
     let old = node_of c.args.seat c.args.fabric.journal in
     let mid = node_of c.ready-seat.result.seat c.ready-seat.result.fabric.journal in
     let counts = c.args.counts.now in
-    let r : Readies (Within p.may counts) p.floor p.shelf old mid c.args.desk.now c.ready-seat.new.desk c.in-Ok.is_ready = subst (λ x. IfOk x (Readies (Within p.may counts) p.floor p.shelf old mid c.args.desk.now c.ready-seat.new.desk)) c.in-Ok.is c.ready-seat.ensures.readies in
+    let r : Readies (Within p.may counts) p.floor p.shelf old mid c.args.desk.now c.ready-seat.new.desk c.in-Ok.is_ready = in_ok _ c.in-Ok.is c.ready-seat.ensures.readies in
     r.moves.goes.keeps.origin ∙ (c.requires.origin ∙ sym r.moves.goes.keeps.who)
 
 pub log-seat-requires-clause-sent : goal.log-seat-requires-clause-sent
@@ -85,7 +79,7 @@ log-seat-requires-clause-sent g c =
     let counts = c.args.counts.now in
     let counts' = c.count.new.counts in
     let d = c.ready-seat.new.desk in
-    let r : Readies (Within p.may counts) p.floor p.shelf old mid c.args.desk.now d c.in-Ok.is_ready = subst (λ x. IfOk x (Readies (Within p.may counts) p.floor p.shelf old mid c.args.desk.now d)) c.in-Ok.is c.ready-seat.ensures.readies in
+    let r : Readies (Within p.may counts) p.floor p.shelf old mid c.args.desk.now d c.in-Ok.is_ready = in_ok _ c.in-Ok.is c.ready-seat.ensures.readies in
     let own_s : d.session ≡ c.args.session = ap (λ (x : Desk). x.session) r.desk ∙ c.requires.desk.session in
     let sent : d.sent ≡ c.args.desk.now.sent = ap (λ (x : Desk). x.sent) r.desk in
     ap (λ n. n + 1) (sent ∙ c.requires.sent) ∙ (sym c.count.ensures.own ∙ ap (sent_of counts') (sym own_s))
@@ -99,9 +93,9 @@ log-seat-requires-clause-own g c =
     let d = c.ready-seat.new.desk in
     let cmd = c.args.command.now in
     let counts = c.args.counts.now in
-    let r : Readies (Within p.may counts) p.floor p.shelf old mid was d c.in-Ok.is_ready = subst (λ x. IfOk x (Readies (Within p.may counts) p.floor p.shelf old mid was d)) c.in-Ok.is c.ready-seat.ensures.readies in
+    let r : Readies (Within p.may counts) p.floor p.shelf old mid was d c.in-Ok.is_ready = in_ok _ c.in-Ok.is c.ready-seat.ensures.readies in
     let t : c.in-Ok.is_ready ≡ true = c.if-not-is_ready.false in
-    let ok : DeskOk mid was.session d = subst (λ x. OnOk x (DeskOk mid was.session d)) c.in-Ok.is c.ready-seat.ensures.desk in
+    let ok : DeskOk mid was.session d = on_ok _ c.in-Ok.is c.ready-seat.ensures.desk in
     let free = (r.free t).0 in
     let own_s : d.session ≡ c.args.session = ap (λ (x : Desk). x.session) r.desk ∙ c.requires.desk.session in
     let asked : d.asked ≡ was.asked = ap (λ (x : Desk). x.asked) r.desk in
@@ -115,14 +109,14 @@ pub returns-in-Ok-answer-clause-left : goal.returns-in-Ok-answer-clause-left
 returns-in-Ok-answer-clause-left g c =
     let p = g.K.Terms in
     let r = g.S.Replica in
-    let done = subst (λ x. OnOk x (IsDone p.may p.floor p.shelf r.state r.spells c.args.counts.now c.args.fabric.journal c.args.seat c.ready-seat.result.fabric.journal c.ready-seat.result.seat)) c.in-Ok.is c.ready-seat.ensures.done in
+    let done = on_ok _ c.in-Ok.is c.ready-seat.ensures.done in
     left_both p.may p.floor p.shelf r.state r.spells c.args.counts.now c.args.fabric.journal c.ready-seat.result.fabric.journal c.log-seat.result.fabric.journal c.args.seat c.ready-seat.result.seat c.log-seat.result.seat done c.log-seat.ensures.left
 
 pub returns-in-Err-answer-clause-left : goal.returns-in-Err-answer-clause-left
 returns-in-Err-answer-clause-left g c =
     let p = g.K.Terms in
     let r = g.S.Replica in
-    let done = subst (λ x. OnOk x (IsDone p.may p.floor p.shelf r.state r.spells c.args.counts.now c.args.fabric.journal c.args.seat c.ready-seat.result.fabric.journal c.ready-seat.result.seat)) c.in-Ok.is c.ready-seat.ensures.done in
+    let done = on_ok _ c.in-Ok.is c.ready-seat.ensures.done in
     left_both p.may p.floor p.shelf r.state r.spells c.args.counts.now c.args.fabric.journal c.ready-seat.result.fabric.journal c.log-seat.result.fabric.journal c.args.seat c.ready-seat.result.seat c.log-seat.result.seat done c.log-seat.ensures.left
 
 pub returns-in-Ok-answer-clause-unsealed : goal.returns-in-Ok-answer-clause-unsealed
@@ -139,8 +133,8 @@ returns-in-Ok-answer-clause-done g c =
     let counts' = c.count.new.counts in
     let mid = c.ready-seat.result in
     let new = c.log-seat.result in
-    let first = subst (λ x. OnOk x (IsDone p.may p.floor p.shelf r.state r.spells counts c.args.fabric.journal c.args.seat mid.fabric.journal mid.seat)) c.in-Ok.is c.ready-seat.ensures.done in
-    let next = subst (λ x. OnOk x (IsDone p.may p.floor p.shelf r.state r.spells counts' mid.fabric.journal mid.seat new.fabric.journal new.seat)) c.in-Ok-answer.is c.log-seat.ensures.done in
+    let first = on_ok _ c.in-Ok.is c.ready-seat.ensures.done in
+    let next = on_ok _ c.in-Ok-answer.is c.log-seat.ensures.done in
     done_both p.may p.floor p.shelf r.state r.spells counts counts' c.args.fabric.journal mid.fabric.journal new.fabric.journal c.args.seat mid.seat new.seat first next
 
 pub returns-in-Ok-answer-clause-adds : goal.returns-in-Ok-answer-clause-adds
@@ -148,11 +142,11 @@ returns-in-Ok-answer-clause-adds g c =
     let mid = c.ready-seat.result in
     let new = c.log-seat.result in
     adds_trans IsOfSessions c.args.fabric.journal mid.fabric.journal new.fabric.journal
-    (subst (λ x. OnOk x (Adds IsOfSessions c.args.fabric.journal mid.fabric.journal)) c.in-Ok.is c.ready-seat.ensures.adds)
-    (subst (λ x. OnOk x (Adds IsOfSessions mid.fabric.journal new.fabric.journal)) c.in-Ok-answer.is c.log-seat.ensures.adds)
+    (on_ok _ c.in-Ok.is c.ready-seat.ensures.adds)
+    (on_ok _ c.in-Ok-answer.is c.log-seat.ensures.adds)
 
 pub returns-in-Ok-answer-clause-waits : goal.returns-in-Ok-answer-clause-waits
-returns-in-Ok-answer-clause-waits g c = subst (λ x. OnOk x (All IsOfSession c.log-seat.result.seat.node.replica.kept)) c.in-Ok-answer.is c.log-seat.ensures.waits
+returns-in-Ok-answer-clause-waits g c = on_ok _ c.in-Ok-answer.is c.log-seat.ensures.waits
 
 pub returns-in-Ok-answer-clause-logs : goal.returns-in-Ok-answer-clause-logs
 returns-in-Ok-answer-clause-logs g c =
@@ -165,10 +159,10 @@ returns-in-Ok-answer-clause-logs g c =
     let s = c.args.session in
     let counts = c.args.counts.now in
     let counts' = c.count.new.counts in
-    let r : Readies (Within p.may counts) p.floor p.shelf old mid was d c.in-Ok.is_ready = subst (λ x. IfOk x (Readies (Within p.may counts) p.floor p.shelf old mid was d)) c.in-Ok.is c.ready-seat.ensures.readies in
+    let r : Readies (Within p.may counts) p.floor p.shelf old mid was d c.in-Ok.is_ready = in_ok _ c.in-Ok.is c.ready-seat.ensures.readies in
     let t : c.in-Ok.is_ready ≡ true = c.if-not-is_ready.false in
-    let h = subst (λ x. OnOk x (HandsIn (Within p.may counts') p.floor p.shelf mid new d.session d.sent)) c.in-Ok-answer.is c.log-seat.ensures.hands in
+    let h = on_ok _ c.in-Ok-answer.is c.log-seat.ensures.hands in
     let own_s : d.session ≡ s = ap (λ (x : Desk). x.session) r.desk ∙ c.requires.desk.session in
-    let is_it = subst (λ x. OnOk x (c.log-seat.new.desk ≡ record d { asked = d.asked + 1; sent = d.sent + 1; answers = c.log-seat.new.desk.answers })) c.in-Ok-answer.is c.log-seat.ensures.counts in
+    let is_it = on_ok _ c.in-Ok-answer.is c.log-seat.ensures.counts in
     handed_logs p.may p.floor p.shelf c.requires.run.low counts counts' old mid new s was d c.log-seat.new.desk (record { own = c.count.ensures.own; others = c.count.ensures.others })
     (subst (λ b. Readies (Within p.may counts) p.floor p.shelf old mid was d b) t r) (subst (λ q. HandsIn (Within p.may counts') p.floor p.shelf mid new q d.sent) own_s h) c.requires.sent is_it

@@ -1,11 +1,9 @@
 use Rattle.std.proofs.Common.{◌≡◌, refl, sym, ap, ◌∙◌, subst, Some, length, arith}
-use Rattle.std.specs.Prelude.{All, slice_get, slice_set, OnOk}
+use Rattle.std.specs.Prelude.{slice_get, slice_set}
 use Rattle.std.proofs.lemmas.Option.{slice_get_read}
-use Rattle.one_thread.specs.Seats.{node_of}
-use Rattle.node_lines.specs.Desks.{DeskOk}
-use Rattle.node_workers.specs.Workers.{IsOfSession, WorkerOk, LogsIt}
-use Rattle.node_workers.specs.Steps.{IsDone}
+use Rattle.node_workers.specs.Workers.{WorkerOk}
 use Rattle.node_workers.proofs.Logging.{worker_logs}
+use Rattle.node_workers.proofs.Ok.{on_ok}
 use Rattle.node_workers.proofs.turns.log_line.Goals as goal
 
 pub log_at-seat-requires-clause-desk : goal.log_at-seat-requires-clause-desk
@@ -55,30 +53,23 @@ returns-in-Ok-clause-worker g c =
     let now = c.log_at-seat.result.fabric.journal in
     let e : c.from-i.result ≡ s = c.from-i.ensures ∙ c.number.ensures.value in
     let at : slice_get xs s ≡ Some d = subst (λ k. slice_get xs k ≡ Some d) e (slice_get_read xs (length xs) c.from-i.result d refl (omega (arith, c.requires.worker.size, c.number.ensures.range, e)) c.index_mut.ensures.value) in
-    let done = subst (λ x. OnOk x (IsDone p.may p.floor p.shelf r.state r.spells counts' c.args.fabric.journal a now b)) c.in-Ok.is c.log_at-seat.ensures.done in
-    let waits = subst (λ x. OnOk x (All IsOfSession b.node.replica.kept)) c.in-Ok.is c.log_at-seat.ensures.waits in
-    let fine = subst (λ x. OnOk x (DeskOk (node_of b now) s new)) c.in-Ok.is c.log_at-seat.ensures.desk in
-    let logs = subst (λ x. OnOk x (LogsIt p.may p.floor p.shelf counts counts' (node_of a c.args.fabric.journal) (node_of b now) s d new)) c.in-Ok.is c.log_at-seat.ensures.logs in
+    let done = on_ok _ c.in-Ok.is c.log_at-seat.ensures.done in
+    let waits = on_ok _ c.in-Ok.is c.log_at-seat.ensures.waits in
+    let fine = on_ok _ c.in-Ok.is c.log_at-seat.ensures.desk in
+    let logs = on_ok _ c.in-Ok.is c.log_at-seat.ensures.logs in
     subst (λ k. WorkerOk p.may p.floor p.shelf r.state r.spells a.who counts' now b (slice_set xs k new)) (sym e)
     (worker_logs p.may p.floor p.shelf c.requires.run.low r.state r.spells a.who counts counts' c.args.fabric.journal now a b xs s d new c.requires.worker done.ok waits at fine logs)
 
 pub returns-in-Ok-clause-since : goal.returns-in-Ok-clause-since
 returns-in-Ok-clause-since g c =
-    let p = g.K.Terms in
-    let r = g.S.Replica in
-    let done = subst (λ x. OnOk x (IsDone p.may p.floor p.shelf r.state r.spells c.log_at-seat.new.counts c.args.fabric.journal c.args.worker.seat c.log_at-seat.result.fabric.journal c.log_at-seat.result.seat)) c.in-Ok.is c.log_at-seat.ensures.done in
-    done.since
+    (on_ok _ c.in-Ok.is c.log_at-seat.ensures.done).since
 
 pub returns-in-Ok-clause-high : goal.returns-in-Ok-clause-high
 returns-in-Ok-clause-high g c =
-    let p = g.K.Terms in
-    let r = g.S.Replica in
-    let done = subst (λ x. OnOk x (IsDone p.may p.floor p.shelf r.state r.spells c.log_at-seat.new.counts c.args.fabric.journal c.args.worker.seat c.log_at-seat.result.fabric.journal c.log_at-seat.result.seat)) c.in-Ok.is c.log_at-seat.ensures.done in
-    done.high
+    (on_ok _ c.in-Ok.is c.log_at-seat.ensures.done).high
 
 pub returns-in-Ok-clause-logs : goal.returns-in-Ok-clause-logs
 returns-in-Ok-clause-logs g c =
-    let p = g.K.Terms in
     let xs = c.args.worker.desks.items in
     let d = c.index_mut.result.now in
     let new = c.log_at-seat.new.desk in
@@ -92,5 +83,5 @@ returns-in-Ok-clause-logs g c =
       was_at = at;
       after = new;
       is_at = ap (λ k. slice_set xs k new) e;
-      logs = subst (λ x. OnOk x (LogsIt p.may p.floor p.shelf counts counts' (node_of c.args.worker.seat c.args.fabric.journal) (node_of c.log_at-seat.result.seat c.log_at-seat.result.fabric.journal) s d new)) c.in-Ok.is c.log_at-seat.ensures.logs;
+      logs = on_ok _ c.in-Ok.is c.log_at-seat.ensures.logs;
     }
