@@ -1,5 +1,5 @@
 -- A run in which no fault was counted.
-use Rattle.std.specs.Prelude.{◌≡◌, ℕ, ◌+◌, Bool, true, false, not, List, sum_by}
+use Rattle.std.specs.Prelude.{◌≡◌, ◌+◌, Bool, true, false, not, List, sum_by}
 use Rattle.std.specs.List.{list_all}
 use Rattle.row_text.specs.declared.row.Row.{Row}
 use Rattle.row_text.specs.declared.row.Outcome.{Outcome}

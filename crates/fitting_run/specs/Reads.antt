@@ -1,5 +1,5 @@
 -- Reads are current: each shows the table after all that was placed below it.
-use Rattle.std.specs.Prelude.{◌≡◌, ℕ, Bool, true, not, ◌&&◌, nat_lt, nat_le, List, Option, Some, None}
+use Rattle.std.specs.Prelude.{◌≡◌, ℕ, Bool, true, ◌&&◌, nat_lt, nat_le, List}
 use Rattle.std.specs.List.{list_all, AllByRecursion}
 use Rattle.table_core.specs.Find.{find_in}
 use Rattle.script_text.specs.declared.asks.Asks.{Asks}

@@ -2,11 +2,11 @@
 use Rattle.std.proofs.Common.{◌≡◌, ℕ, ◌+◌, ◌≤◌, ◌<◌, ◌⊎◌, inl, inr, Bool, true, false, cond, ltb, leb, List, [], ◌∷◌, ◌++◌, length, take, slice_index_or, Option, Some, None, Result, Err, refl, sym, ap, subst, ◌∙◌, arith}
 use Rattle.std.specs.Option.{ForSome}
 use Rattle.std.specs.Prelude.{IsErrOf}
-use Rattle.std.proofs.lemmas.Bool.{le-leb, ltb-true, ltb-false, leb-true}
+use Rattle.std.proofs.lemmas.Bool.{ltb-true, ltb-false, leb-true}
 use Rattle.std.proofs.lemmas.List.{take_more, length-append}
 use Rattle.delos_types.specs.Spaces.{SpaceMap}
 use Rattle.disk_model.specs.Disk.{DiskView}
-use Rattle.disk_model.specs.Crash.{AnyCrash, Leaves}
+use Rattle.disk_model.specs.Crash.{AnyCrash}
 use Rattle.disk_model.specs.CrashLaws.{stays, weaker}
 use Rattle.journal_core.specs.Records.{records_of}
 use Rattle.journal_core.specs.Journal as journal
@@ -22,7 +22,7 @@ use Rattle.local_store.specs.declared.base.Base.{Base}
 use Rattle.local_store.specs.declared.store.Asked.{Asked}
 use Rattle.local_store.specs.Slots.{Entries, held, changes_of, AreShort, HaveRoom}
 use Rattle.local_store.specs.View.{View, reopened, up_with, MayFind, MayFindDuring, Survives}
-use Rattle.local_store.specs.Keeping.{saved_with, commit_of_asked, asked_of, view_of, settled, IsAsked, AreTorn, IsKept}
+use Rattle.local_store.specs.Keeping.{saved_with, commit_of_asked, asked_of, view_of, settled, AreTorn, IsKept}
 
 -- ---- what a reopening may find
 

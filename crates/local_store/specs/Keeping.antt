@@ -1,9 +1,7 @@
 -- What a store and a transaction keep in memory, and how that and the journal belong together.
-use Rattle.std.specs.Prelude.{◌≡◌, ℕ, ◌≤◌, Bool, true, false, List, Option, Some, None, unwrap_or, map}
-use Rattle.std.specs.Option.{ForSome}
+use Rattle.std.specs.Prelude.{◌≡◌, ℕ, Bool, false, List, Option, Some, None}
 use Rattle.std.specs.List.Sorted.{IsStrictlySortedBy}
 use Rattle.std.specs.Map.{keys_of}
-use Rattle.delos_types.specs.Spaces.{Text}
 use Rattle.journal_core.specs.Journal as journal
 use Rattle.journal_core.specs.declared.fault.Fault.{Fault}
 use Rattle.journal_core.specs.declared.fault.Fault.TheVariants as why

@@ -1,5 +1,5 @@
 -- A store and a transaction as their callers see them, and what a crash leaves of a store.
-use Rattle.std.specs.Prelude.{◌≡◌, ◌⊎◌, ℕ, Bool, true, false, if◌then◌else◌, List, Option, Some, None, refl}
+use Rattle.std.specs.Prelude.{◌≡◌, ◌⊎◌, ℕ, Bool, false, if◌then◌else◌, List, Option, Some, None, refl}
 use Rattle.std.specs.Coded.{Coded, code_by, coded×, coded_ℕ, coded_list, coded_option, coded_bool}
 use Rattle.delos_types.specs.Spaces.{SpaceMap}
 use Rattle.disk_model.specs.Disk.{DiskView}

@@ -1,14 +1,13 @@
 -- What is held and what the records spell stay together, and what a crash leaves of them.
-use Rattle.std.proofs.Common.{◌≡◌, ℕ, zero, suc, ◌+◌, ◌-◌, ◌^◌, ◌<◌, ◌≤◌, ◌⊎◌, inl, inr, Bool, true, false, not, cond, List, [], ◌∷◌, ◌++◌, length, take, Option, Some, None, refl, sym, ap, subst, ◌∙◌, arith}
+use Rattle.std.proofs.Common.{◌≡◌, ℕ, ◌^◌, ◌<◌, ◌≤◌, ◌⊎◌, inl, inr, Bool, true, false, not, cond, List, [], ◌∷◌, ◌++◌, length, take, Option, Some, None, refl, sym, ap, subst, ◌∙◌, arith}
 use Rattle.std.proofs.lemmas.List.{length-append}
 use Rattle.disk_model.specs.Disk.{DiskView}
-use Rattle.disk_model.specs.Crash.{AnyCrash, Leaves}
+use Rattle.disk_model.specs.Crash.{AnyCrash}
 use Rattle.disk_model.specs.CrashLaws.{stays, weaker}
 use Rattle.journal_core.specs.Records.{records_of}
 use Rattle.journal_core.specs.Journal as journal
 use Rattle.majority_rule.specs.declared.message.Ask.{Ask}
-use Rattle.majority_rule.specs.declared.message.Ask.TheVariants.{Store, Seal, Tail, Repair, Read, Trim}
-use Rattle.majority_rule.specs.Servers.{Server, length_of, writes, wrote, written, restarted}
+use Rattle.majority_rule.specs.Servers.{Server, length_of, writes, wrote}
 use Rattle.std.proofs.Common.{slice_index_or}
 use Rattle.server_records.specs.declared.record.Record.{Record}
 use Rattle.server_records.specs.Reading.{record_of}
@@ -17,7 +16,7 @@ use Rattle.server_records.proofs.Following.{server_of-more, follows_next}
 use Rattle.log_server.specs.declared.held.Held.{Held}
 use Rattle.log_server.specs.View.{View, MayFind, Survives}
 use Rattle.log_server.specs.Answers.{after_ask, MayFindDuring}
-use Rattle.log_server.specs.Holding.{server_with, view_of, IsTornWrite, AreTorn, IsKept, with_torn, IsRecordOf}
+use Rattle.log_server.specs.Holding.{server_with, view_of, AreTorn, IsKept, with_torn, IsRecordOf}
 
 -- the first so many records spell this server
 pub record HoldsFirst (records : List (List ℕ)) (count : ℕ) (s : Server) : Type 0 where

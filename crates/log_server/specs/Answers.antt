@@ -1,5 +1,5 @@
 -- What a log server answers, and what it does.
-use Rattle.std.specs.Prelude.{◌≡◌, ◌⊎◌, ℕ, Bool, true, false, ◌&&◌, if◌then◌else◌, List, Option, Some}
+use Rattle.std.specs.Prelude.{◌≡◌, ◌⊎◌, ℕ, Bool, true, false, ◌&&◌, if◌then◌else◌, List, Some}
 use Rattle.disk_model.specs.Disk.{Rose}
 use Rattle.majority_rule.specs.declared.message.Ask.{Ask}
 use Rattle.majority_rule.specs.declared.message.Told.{Told}

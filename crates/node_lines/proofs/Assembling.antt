@@ -1,6 +1,6 @@
 -- What a node's own lines come to, of the pieces that they are put together of.
-use Rattle.std.proofs.Common.{◌≡◌, refl, sym, ap, ◌∙◌, subst, ℕ, zero, suc, ◌+◌, ◌<◌, ◌≤◌, List, [], ◌∷◌, ◌++◌, Some, None, length, drop, Contains, false, arith, append_assoc}
-use Rattle.std.specs.Prelude.{min, slice_get}
+use Rattle.std.proofs.Common.{◌≡◌, refl, sym, ap, ◌∙◌, subst, ℕ, zero, suc, ◌≤◌, List, [], ◌∷◌, ◌++◌, Some, None, length, drop, Contains, false, arith, append_assoc}
+use Rattle.std.specs.Prelude.{slice_get}
 use Rattle.std.proofs.lemmas.List.Elements.{Contains-append_right}
 use Rattle.delos_types.specs.declared.entry.Entry.{Entry}
 use Rattle.delos_types.specs.declared.item.Item.{Item}
@@ -10,7 +10,6 @@ use Rattle.legal_journal.specs.Journal.{IsLegal}
 use Rattle.virtual_log.specs.Holding.{Holds}
 use Rattle.base_engine.specs.Holding.{held_stays}
 use Rattle.virtual_log.proofs.Agreeing.{holds_agree}
-use Rattle.engine_api.specs.declared.content.Content.{Content}
 use Rattle.engine_api.specs.declared.content.Content.TheVariants as content
 use Rattle.engine_api.specs.declared.content.Placed.{Placed}
 use Rattle.engine_api.specs.Acted.{unpack_all}

@@ -5,7 +5,7 @@ use Rattle.delos_types.specs.declared.cause.Cause.{Cause}
 use Rattle.engine_laws.specs.State.{IsStateOf}
 use Rattle.base_engine.specs.Node.{NodeView}
 use Rattle.node_lines.specs.declared.measure.Measured.TheVariants as measured
-use Rattle.node_lines.specs.Measuring.{MeasuresSo, Measures}
+use Rattle.node_lines.specs.Measuring.{Measures}
 
 pub same_number : (n m : ℕ) → measured.At n ≡ measured.At m → m ≡ n
 same_number n m h = cc

@@ -5,14 +5,14 @@ use Rattle.delos_types.specs.declared.chain.Chain.{Chain}
 use Rattle.chain_map.specs.Step.{dropped_below}
 use Rattle.legal_journal.specs.declared.events.Event.{Event}
 use Rattle.legal_journal.specs.declared.events.FabricCall.{FabricCall}
-use Rattle.legal_journal.specs.declared.events.FabricCall.TheVariants.{Begin, Carry, Forget, ReadChain, WriteChain, Stop, Mend, Stray, StopMeta, MendMeta}
+use Rattle.legal_journal.specs.declared.events.FabricCall.TheVariants.{ReadChain, WriteChain}
 use Rattle.legal_journal.specs.declared.events.FabricAnswer.{FabricAnswer}
-use Rattle.legal_journal.specs.declared.events.FabricAnswer.TheVariants.{Begun, Full, Done, Going, NoTicket, Gone, At, Down, Written, Conflict, MetaFault, Set, Memory}
+use Rattle.legal_journal.specs.declared.events.FabricAnswer.TheVariants.{At, Written, Conflict}
 use Rattle.legal_journal.specs.Moves.{move, move_of}
 use Rattle.legal_journal.specs.Journal.{State, state_of, start, after, trim_of, IsLegal}
 use Rattle.legal_journal.proofs.Legal.{after_all-append, goes_on}
 use Rattle.virtual_log.specs.Turning.{HasEvent}
-use Rattle.virtual_log.specs.Truncating.{Tells, IsTold, IsRaised, IsHigh, IsTruncated, IsPrefixTrimmed}
+use Rattle.virtual_log.specs.Truncating.{Tells, IsTold, IsRaised, IsHigh, IsPrefixTrimmed}
 
 -- after a chain was told the log has its trim
 trim_told : (w : State) (who version : ℕ) (c : Chain) (call : FabricCall) (answer : FabricAnswer) → Tells version c call answer → trim_of (after w who (move_of call answer)) ≡ c.trim

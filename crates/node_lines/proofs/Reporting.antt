@@ -13,25 +13,22 @@ use Rattle.virtual_log.specs.Holding.{Holds}
 use Rattle.engine_api.specs.declared.content.Content.{Content}
 use Rattle.engine_api.specs.declared.content.Content.TheVariants as content
 use Rattle.engine_api.specs.Items.{content_in, content_of, content_under, placed_from, unpack}
-use Rattle.engine_api.specs.Packing.{packed, alive_item, IsProposable, IsBatch}
+use Rattle.engine_api.specs.Packing.{packed, IsProposable, IsBatch}
 use Rattle.engine_api.proofs.Packed.{unpack-packed}
-use Rattle.engine_laws.specs.State.{IsStateOf}
-use Rattle.engine_steps.specs.Layout.{clean_of}
 use Rattle.engine_steps.specs.Words.{under_in}
-use Rattle.replica_api.specs.Replica.{ReplicaView, Queues, Flushes, saved_in}
+use Rattle.replica_api.specs.Replica.{ReplicaView, Queues, Flushes}
 use Rattle.base_engine.specs.declared.outbox.Given.{Given}
 use Rattle.base_engine.specs.Causes.{HasEventOf}
-use Rattle.base_engine.specs.Following.{IsStateAt}
 use Rattle.base_engine.specs.Settling.{OutboxView, Fate, Landed, Lost, Meets, Settles, Settled, Lands, Answers, gives, given_to, first_of, session_of, sessions_among, sessions_in}
 use Rattle.base_engine.specs.Proposing.{Sent, with_entry, IsNear, IsNearAt}
 use Rattle.base_engine.specs.Node.{NodeView, Keeps}
 use Rattle.node_sessions.specs.UnderWay.{rank_under}
 use Rattle.node_sessions.proofs.Settling.{Extends}
 use Rattle.node_lines.specs.Moving.{CanPack, Goes, Moves}
-use Rattle.node_lines.specs.Reporting.{IsPlain, LaysDown, IsAppendedWithin, Tells, HasTold}
+use Rattle.node_lines.specs.Reporting.{IsPlain, LaysDown, IsAppendedWithin, Tells}
 use Rattle.node_lines.proofs.Moving.{moves-both, moves-settle}
 use Rattle.node_lines.proofs.Spending.{spends-none, spends-both, spends-event}
-use Rattle.node_lines.proofs.Ending.{Ended, all, cursor_is, upward}
+use Rattle.node_lines.proofs.Ending.{all}
 
 -- An item of no session
 

@@ -1,5 +1,5 @@
 -- Ends in memory, whose chosen calls fail: what a call answers and leaves, as functions of what there was.
-use Rattle.std.specs.Prelude.{◌==◌, ◌+◌, ◌-◌, ◌&&◌, ℕ, Bool, true, List, ◌++◌, length, drop, take, min, nat_lt, if◌then◌else◌}
+use Rattle.std.specs.Prelude.{◌==◌, ◌-◌, ◌&&◌, ℕ, Bool, true, List, ◌++◌, length, drop, take, min, nat_lt, if◌then◌else◌}
 use Rattle.std.specs.List.{list_any}
 use Rattle.outside_ends.specs.declared.source.Taken.{Taken}
 use Rattle.outside_ends.specs.declared.source.Taken.TheVariants as taken

@@ -1,5 +1,5 @@
 -- How bytes come to a sink.
-use Rattle.std.specs.Prelude.{◌≡◌, ◌≤◌, ◌<◌, ℕ, Bool, true, false, List, [], ◌++◌, Option, Some, None, take}
+use Rattle.std.specs.Prelude.{◌≡◌, ◌≤◌, ◌<◌, ℕ, Bool, true, false, List, ◌++◌, Option, Some, None, take}
 use Rattle.outside_ends.specs.declared.sink.Written.{Written}
 use Rattle.outside_ends.specs.declared.sink.Written.TheVariants.{Put, Failed}
 

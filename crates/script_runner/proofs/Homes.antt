@@ -9,7 +9,6 @@ use Rattle.script_text.specs.declared.line.Line.TheVariants as line
 use Rattle.script_text.specs.declared.line.Session.{Session}
 use Rattle.script_text.specs.declared.line.Admin.{Admin}
 use Rattle.script_text.specs.declared.line.Admin.TheVariants.{Extend, Alive, Retire, Trim}
-use Rattle.script_text.specs.declared.line.Ask.{Ask}
 use Rattle.script_text.specs.declared.line.Ask.TheVariants as ask
 use Rattle.script_text.specs.declared.asks.NamedLine.{NamedLine}
 use Rattle.script_text.specs.declared.asks.Asks.{Asks}

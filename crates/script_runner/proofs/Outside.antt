@@ -1,5 +1,5 @@
 -- What was read of a source, and what is composed of it.
-use Rattle.std.proofs.Common.{◌≡◌, ◌<◌, ◌≤◌, ◌∙◌, ℕ, Bool, true, false, if◌then◌else◌, List, [], ◌∷◌, ◌++◌, length, map, slice_set, take, Option, Some, None, Result, Ok, Err, refl, sym, ap, subst, arith, inl, inr}
+use Rattle.std.proofs.Common.{◌≡◌, ◌≤◌, ◌∙◌, ℕ, Bool, true, false, if◌then◌else◌, List, [], ◌∷◌, length, take, Option, Some, None, Result, Ok, Err, refl, sym, ap, subst, arith, inl, inr}
 use Rattle.std.specs.Prelude.{IfOk, IfSome}
 use Rattle.std.specs.declared.alloc.AllocError.{AllocError}
 use Rattle.std.proofs.lemmas.Bool.{cases_lt, and_parts}
@@ -30,7 +30,7 @@ use Rattle.script_runner.specs.declared.ended.Status.{Status}
 use Rattle.fitting_run.specs.Answered.{is_open}
 use Rattle.fitting_run.specs.Yard.{Shown}
 use Rattle.fitting_run.specs.Calm.{IsCalm, is_answered, all_answered}
-use Rattle.script_runner.specs.Ends.{IsPlan, Ran, ComesFrom, IsRefused, IsAllOf, IsFrontOf, read_limit, text_of, any_open, ComposesScript, Composes, IsRun}
+use Rattle.script_runner.specs.Ends.{IsPlan, Ran, ComesFrom, IsAllOf, IsFrontOf, read_limit, any_open, Composes, IsRun}
 
 front_of : (limit : ℕ) (all bytes : List ℕ) (after : Option (List ℕ)) → length bytes ≡ limit → LeavesBehind all after bytes → bytes ≡ take limit all
 front_of limit all bytes None len h = absurd h

@@ -1,26 +1,23 @@
 -- The lines of a script that is spelled can be played.
-use Rattle.std.proofs.Common.{◌≡◌, refl, sym, ap, ◌∙◌, subst, ℕ, ◌+◌, ◌<◌, ◌≤◌, ◌==◌, Bool, true, false, ◌&&◌, nat_le, List, [], ◌∷◌, ◌++◌, length, arith, append_assoc, append-nil, zero-add, length-append}
+use Rattle.std.proofs.Common.{◌≡◌, refl, sym, ap, ◌∙◌, subst, ℕ, ◌+◌, ◌≤◌, ◌==◌, Bool, true, false, nat_le, List, [], ◌∷◌, ◌++◌, length, arith, append_assoc, append-nil, zero-add, length-append}
 use Rattle.std.specs.Prelude.{count_by, cond, option_to_list}
-use Rattle.std.specs.List.{list_all, AllByRecursion, sum_by, fold}
+use Rattle.std.specs.List.{list_all, AllByRecursion}
 use Rattle.std.proofs.lemmas.Bool.{and_from, and_parts}
 use Rattle.std.proofs.lemmas.Bool.Decides.{nat_tests}
-use Rattle.std.proofs.lemmas.Grind.{common_steps}
 use Rattle.std.proofs.lemmas.List.Sums.{sum_by-append}
 use Rattle.script_text.specs.declared.line.Line.{Line}
 use Rattle.script_text.specs.declared.line.Line.TheVariants as line
 use Rattle.script_text.specs.declared.line.Session.{Session}
-use Rattle.script_text.specs.declared.line.Ask.{Ask}
 use Rattle.script_text.specs.declared.line.Ask.TheVariants as ask
 use Rattle.script_text.specs.declared.asks.NamedLine.{NamedLine}
-use Rattle.script_text.specs.declared.asks.Asks.{Asks}
 use Rattle.table_core.specs.declared.command.Command.{Command}
 use Rattle.table_core.specs.declared.command.Command.TheVariants.{Put, Del, Cas, Add}
 use Rattle.table_core.specs.Spelling.{IsSpellable, command_length}
 use Rattle.script_text.specs.Seen.{Before, nothing_yet}
 use Rattle.script_text.specs.Script.{RawLine, lines_in}
 use Rattle.script_text.specs.Spelling.{IsScript, SpellsFrom, CommandFits, is_print}
-use Rattle.script_text.specs.Lines.{lines_of, lines_after, named_after, asks_after, is_logged_by, is_barrier}
-use Rattle.fitting_run.specs.Lines.{logs_for, has_rank, are_ranked, are_in_phase, CanLog}
+use Rattle.script_text.specs.Lines.{lines_of, lines_after, named_after, is_logged_by, is_barrier}
+use Rattle.fitting_run.specs.Lines.{logs_for, are_ranked, are_in_phase, CanLog}
 use Rattle.fitting_run.proofs.Leaving.{none-retired}
 use Rattle.run_course.specs.Script.{AreLines}
 use Rattle.script_runner.specs.Playing.{CanPlay}

@@ -1,5 +1,5 @@
 -- How a run ends: what stands behind each status.
-use Rattle.std.specs.Prelude.{◌≡◌, ◌<◌, ℕ, Bool, true, false, not, List, [], ◌∷◌, length, count_by, All, Option, Some, None, is_some, Result, Ok, Err, map, take}
+use Rattle.std.specs.Prelude.{◌≡◌, ◌<◌, ℕ, Bool, true, false, not, List, length, count_by, All, Option, Some, None, is_some, Ok, Err, map, take}
 use Rattle.std.specs.List.{list_all, list_any}
 use Rattle.fabric_core.specs.Log.{virtual_tail}
 use Rattle.outside_ends.specs.Sinks.{Gains}

@@ -1,13 +1,12 @@
 -- Records follow the server's own table.
-use Rattle.std.proofs.Common.{◌≡◌, ℕ, Bool, true, false, not, ◌&&◌, cond, eqb, List, [], ◌∷◌, ◌++◌, Option, Some, None, refl, sym, ap, subst, ◌∙◌}
+use Rattle.std.proofs.Common.{◌≡◌, ℕ, Bool, true, false, ◌&&◌, cond, List, [], ◌∷◌, ◌++◌, Option, Some, None, ap, subst, ◌∙◌}
 use Rattle.std.proofs.lemmas.List.Sums.{fold-append}
 use Rattle.majority_rule.specs.declared.message.Ask.{Ask}
 use Rattle.majority_rule.specs.declared.message.Ask.TheVariants.{Store, Seal, Tail, Repair, Read, Trim}
-use Rattle.majority_rule.specs.Servers.{Server, length_of, is_sealed, writes, wrote}
+use Rattle.majority_rule.specs.Servers.{Server, writes, wrote}
 use Rattle.server_records.specs.declared.record.Record.{Record}
 use Rattle.server_records.specs.declared.record.Record.TheVariants.{Stored, Sealed, Trimmed}
 use Rattle.server_records.specs.Format.{SpellsRecord}
-use Rattle.server_records.specs.Reading.{record_of}
 use Rattle.server_records.specs.Spelled.{empty_server, follows, holding, holding_next, server_after, server_of, record_for}
 use Rattle.server_records.proofs.Spellings.{record_again}
 

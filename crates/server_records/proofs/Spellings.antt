@@ -1,17 +1,17 @@
 -- What is read is spelled so, and what is spelled so is read.
-use Rattle.std.proofs.Common.{◌≡◌, ℕ, zero, suc, ◌+◌, ◌-◌, ◌^◌, ◌<◌, ◌≤◌, Bool, true, false, cond, ◌&&◌, ltb, leb, eqb, List, [], ◌∷◌, ◌++◌, length, take, drop, get_or, Option, Some, None, Result, Ok, Err, refl, sym, ap, subst, ◌∙◌, arith}
+use Rattle.std.proofs.Common.{◌≡◌, ℕ, zero, suc, ◌+◌, ◌^◌, ◌<◌, ◌≤◌, Bool, true, false, cond, ◌&&◌, ltb, leb, eqb, List, [], ◌∷◌, ◌++◌, length, take, drop, Option, Some, None, Result, Ok, Err, refl, sym, ap, subst, ◌∙◌, arith}
 use Rattle.std.specs.Prelude.{option_map, IfOk, IfSome}
 use Rattle.std.specs.Result.{result_ok}
 use Rattle.std.proofs.lemmas.Bool.{ltb-false, ltb-true, le-ltb, leb-true, eqb-true}
 use Rattle.std.proofs.lemmas.Bool.Decides.{nat_tests}
 use Rattle.std.proofs.Math.Seq.{take-append_seam, drop-append_seam}
-use Rattle.std.proofs.lemmas.List.{take-append-drop, length-take-le, length-append, append-nil, get_or-drop, nil_from_length, take_at, drop_at}
+use Rattle.std.proofs.lemmas.List.{take-append-drop, length-take-le, length-append, append-nil, get_or-drop, nil_from_length}
 use Rattle.delos_types.specs.Numbers.{IsBytes, u64_bytes, u64_of}
 use Rattle.delos_types.proofs.NumberLaws.{length-u64_bytes, u64_of-u64_bytes, u64_bytes-u64_of}
 use Rattle.delos_types.specs.declared.entry.Entry.{Entry}
 use Rattle.delos_types.specs.Spelling.{IsSpellable}
 use Rattle.entry_codec.specs.declared.fault.BadEntry.{BadEntry}
-use Rattle.entry_codec.specs.Format.{entry_bytes, SpellsEntry}
+use Rattle.entry_codec.specs.Format.{entry_bytes}
 use Rattle.entry_codec.specs.Reading.{entry_read}
 use Rattle.entry_codec.proofs.Spellings.{entry_takes, entry_again}
 use Rattle.server_records.specs.declared.record.Record.{Record}

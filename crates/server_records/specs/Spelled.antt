@@ -1,5 +1,5 @@
 -- Which log server a list of records spells. A record follows where the server would write it.
-use Rattle.std.specs.Prelude.{◌≡◌, ℕ, ◌<◌, not, ◌==◌, nat_lt, Bool, true, if◌then◌else◌, List, [], ◌∷◌, length, take, fold, slice_index_or, Option, Some, None}
+use Rattle.std.specs.Prelude.{◌≡◌, ℕ, ◌<◌, not, ◌==◌, nat_lt, Bool, true, if◌then◌else◌, List, [], length, take, fold, slice_index_or, Option, Some, None}
 use Rattle.majority_rule.specs.declared.message.Ask.{Ask}
 use Rattle.majority_rule.specs.declared.message.Ask.TheVariants.{Store, Seal, Tail, Repair, Read, Trim}
 use Rattle.majority_rule.specs.Servers.{Server, length_of, is_sealed, wrote}

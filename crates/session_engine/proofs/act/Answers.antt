@@ -1,4 +1,4 @@
-use Rattle.std.proofs.Common.{◌∙◌, refl}
+use Rattle.std.proofs.Common.{refl}
 use Rattle.session_engine.proofs.FreesSoFar.{acted}
 use Rattle.session_engine.proofs.act.Goals as goal
 

@@ -1,4 +1,4 @@
-use Rattle.std.proofs.Common.{◌≡◌, ◌+◌, ◌-◌, ◌/◌, suc, ap, sym, arith}
+use Rattle.std.proofs.Common.{◌≡◌, ◌+◌, ◌-◌, ◌/◌, suc, ap, arith}
 use Rattle.stripe_rule.specs.Stripes.{share}
 use Rattle.stripe_rule.proofs.share.Goals as goal
 

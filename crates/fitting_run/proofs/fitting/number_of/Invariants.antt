@@ -1,4 +1,4 @@
-use Rattle.std.proofs.Common.{◌≡◌, ◌≤◌, take, length}
+use Rattle.std.proofs.Common.{◌≡◌, ◌≤◌, take}
 use Rattle.fitting_run.specs.Acts.{number_of}
 use Rattle.fitting_run.proofs.fitting.number_of.Given as goal
 

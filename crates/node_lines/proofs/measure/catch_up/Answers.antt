@@ -1,4 +1,4 @@
-use Rattle.std.proofs.Common.{refl, sym, ap, ◌∙◌, subst, length, [], ◌∷◌}
+use Rattle.std.proofs.Common.{sym, ap, ◌∙◌, subst, [], ◌∷◌}
 use Rattle.base_engine.specs.Settling.{OutboxView}
 use Rattle.replica_api.specs.Replica.{ReplicaView}
 use Rattle.node_lines.specs.Moving.{Moves, failure_of}

@@ -1,4 +1,4 @@
-use Rattle.std.proofs.Common.{◌+◌, length, length-drop, ℕ, take, arith}
+use Rattle.std.proofs.Common.{length-drop, ℕ, arith}
 use Rattle.std.proofs.Math.Seq.{take-add}
 use Rattle.std.proofs.lemmas.List.{take_rest}
 use Rattle.outside_ends.proofs.Moves.{Gains-then}

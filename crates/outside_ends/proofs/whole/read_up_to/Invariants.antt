@@ -1,4 +1,4 @@
-use Rattle.std.proofs.Common.{◌≤◌, ◌-◌, length, vec_len}
+use Rattle.std.proofs.Common.{◌≤◌, ◌-◌, vec_len}
 use Rattle.outside_ends.specs.Sources.{Leaves}
 use Rattle.outside_ends.proofs.whole.read_up_to.Given as goal
 

@@ -1,5 +1,4 @@
-use Rattle.std.proofs.Common.{◌≡◌, sym, subst, List, Ok, rules}
-use Rattle.script_text.specs.declared.line.Line.{Line}
+use Rattle.std.proofs.Common.{◌≡◌, sym, subst, rules}
 use Rattle.script_text.specs.Spelling.{IsScript}
 use Rattle.script_words.specs.Plans.{IsTask}
 use Rattle.made_script.specs.Made.{made_lines, made_text}

@@ -1,4 +1,4 @@
-use Rattle.std.proofs.Common.{◌≡◌, ◌∷◌, Some, subst, sym, ap, ◌∙◌, Option}
+use Rattle.std.proofs.Common.{◌≡◌, ◌∷◌, subst, sym, ap, ◌∙◌, Option}
 use Rattle.std.proofs.lemmas.Map.Iter.{rest_more}
 use Rattle.delos_types.specs.Spaces.{SpaceMap, Text}
 use Rattle.local_store.specs.declared.key.SpaceKey.{SpaceKey}

@@ -1,8 +1,7 @@
-use Rattle.std.proofs.Common.{◌≡◌, ◌∷◌, [], Some, map, subst, sym, ap, ◌∙◌, rules}
+use Rattle.std.proofs.Common.{◌≡◌, ◌∷◌, [], Some, map, subst, sym, ◌∙◌}
 use Rattle.std.specs.Map.Iter.{deref_pair}
 use Rattle.std.proofs.lemmas.List.{map-append}
 use Rattle.std.proofs.lemmas.Map.Views.{All-turn}
-use Rattle.std.proofs.lemmas.Map.Iter.{iter_end}
 use Rattle.local_store.specs.Slots.{Entries, slot_of, HaveRoom}
 use Rattle.local_store.proofs.SlotLaws.{room_grows, room_push}
 use Rattle.local_store.proofs.base.Base.make_room.Goals as goal

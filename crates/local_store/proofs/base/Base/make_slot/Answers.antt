@@ -1,9 +1,7 @@
-use Rattle.std.proofs.Common.{◌≡◌, None, sym, subst, length, ◌^◌, ◌<◌, cond, Option, Some}
-use Rattle.std.specs.BTreeMap.{is_at}
-use Rattle.delos_types.specs.Spaces.{Text}
+use Rattle.std.proofs.Common.{◌≡◌, None, sym, subst, length, ◌^◌, ◌<◌}
 use Rattle.local_store.specs.declared.key.SpaceKey.{SpaceKey}
-use Rattle.local_store.specs.Slots.{slot_of, key_cmp}
-use Rattle.local_store.proofs.SlotLaws.{SetsSlot, no_slot, held-same, grows-set, short-set}
+use Rattle.local_store.specs.Slots.{slot_of}
+use Rattle.local_store.proofs.SlotLaws.{no_slot, held-same, grows-set, short-set}
 use Rattle.local_store.proofs.base.Base.make_slot.Goals as goal
 
 pub returns-clause-same : goal.returns-clause-same

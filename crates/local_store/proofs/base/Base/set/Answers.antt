@@ -1,4 +1,4 @@
-use Rattle.std.proofs.Common.{ap, ◌∙◌, Some, None, subst, sym, ◌≡◌, Option}
+use Rattle.std.proofs.Common.{ap, ◌∙◌, Some, sym, Option}
 use Rattle.delos_types.specs.Spaces.{Text}
 use Rattle.store_records.specs.Changing.{set_at}
 use Rattle.local_store.specs.Slots.{held, key_pair}

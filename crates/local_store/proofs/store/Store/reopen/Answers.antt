@@ -1,8 +1,8 @@
-use Rattle.std.proofs.Common.{◌≡◌, true, refl, sym, ap, ◌∙◌, arith}
+use Rattle.std.proofs.Common.{◌≡◌, true, sym, ap, ◌∙◌}
 use Rattle.std.specs.Prelude.{is_ok}
 use Rattle.std.specs.Arc.{arc_value}
 use Rattle.local_store.specs.View.{View}
-use Rattle.local_store.proofs.Keeping.{seen_survives, kept_survives, stays_reopening, crash_reopening, kept_closed, made_room, made_short, kept_settled, seen_reopened}
+use Rattle.local_store.proofs.Keeping.{seen_survives, kept_survives, stays_reopening, crash_reopening, kept_closed, made_room, made_short}
 use Rattle.local_store.proofs.store.Store.reopen.Goals as goal
 
 pub returns-in_err-base-clause-any_crash : goal.returns-in_err-base-clause-any_crash

@@ -1,4 +1,4 @@
-use Rattle.std.proofs.Common.{◌≡◌, ◌^◌, ◌<◌, length, Some, List, ℕ, subst, sym, ap, ◌∙◌}
+use Rattle.std.proofs.Common.{◌^◌, ◌<◌, length, Some, subst, sym, ap, ◌∙◌}
 use Rattle.std.specs.Arc.{arc_value}
 use Rattle.std.specs.FinMap as map
 use Rattle.delos_types.specs.Spaces.{Text}

@@ -1,4 +1,4 @@
-use Rattle.std.proofs.Common.{◌≡◌, true, Option, Err, rules, arith, refl, sym, ap, subst, ◌∙◌}
+use Rattle.std.proofs.Common.{◌≡◌, true, Option, Err, rules, arith, sym, ap, subst, ◌∙◌}
 use Rattle.disk_model.specs.Crash.{AnyCrash}
 use Rattle.majority_rule.specs.declared.message.Ask.{Ask}
 use Rattle.disk_model.specs.CrashLaws.{stays}

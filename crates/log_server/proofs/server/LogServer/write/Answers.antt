@@ -1,11 +1,11 @@
-use Rattle.std.proofs.Common.{◌≡◌, ◌⊎◌, ◌≤◌, ◌^◌, List, [], ◌∷◌, ◌++◌, ℕ, not, true, false, Option, Some, None, Err, refl, sym, ap, subst, ◌∙◌}
+use Rattle.std.proofs.Common.{◌≡◌, ◌⊎◌, ◌≤◌, ◌^◌, List, [], ◌∷◌, ◌++◌, ℕ, not, true, false, Some, None, Err, sym, ap, subst, ◌∙◌}
 use Rattle.disk_model.specs.Crash.{AnyCrash}
 use Rattle.journal_core.specs.Records.{records_of}
 use Rattle.journal_core.specs.Journal as journal
 use Rattle.majority_rule.specs.Servers.{Server, length_of, writes, wrote}
 use Rattle.log_server.specs.View.{View, Survives}
 use Rattle.log_server.specs.Answers.{MayFindDuring}
-use Rattle.log_server.specs.Holding.{server_with, view_of, IsKept, IsRecordOf}
+use Rattle.log_server.specs.Holding.{server_with, view_of, IsKept}
 use Rattle.log_server.proofs.Keeping.{is_up, kept_same, kept_written, kept_torn, kept_moved, kept_survives, stays_during, during}
 use Rattle.log_server.proofs.server.LogServer.write.Goals.{in-Got-3, in-Down-3, in-Store-2, in-Repair-2, in-Seal-2}
 use Rattle.log_server.proofs.server.LogServer.write.Goals as goal

@@ -1,4 +1,4 @@
-use Rattle.std.proofs.Common.{◌≡◌, ◌+◌, ◌-◌, ◌≤◌, ◌∙◌, List, ℕ, length, drop, take, ap, sym, arith, length-drop}
+use Rattle.std.proofs.Common.{◌≡◌, ◌≤◌, ◌∙◌, length, drop, take, ap, sym, arith}
 use Rattle.std.proofs.lemmas.List.{take_rest}
 use Rattle.outside_ends.specs.Memory.{Reading}
 use Rattle.outside_ends.proofs.Moves.{front_moved}
