@@ -55,7 +55,6 @@ fn finish_node<L: Loglet, R: Register, K: Terms, S: Replica, C: Chooser>(
     requires state { (log : List Entry) (m : SpaceMap) → S.state log m → IsStateOf log m }
     requires floor { FloorIs K.floor (length crew.workers.items) }
     requires there { k < length crew.workers.items }
-    requires eight { length crew.workers.items ≤ 8 }
     requires rests { HasPlayed K.may K.floor K.shelf S.state S.spells _lines.now crew.fabric.journal crew.counts crew.looks.items (λ w. w.seat) (λ w. w.desks.items) crew.workers.items }
     ensures rests { OnOk result.answer (HasPlayed K.may K.floor K.shelf S.state S.spells _lines.now result.crew.fabric.journal result.crew.counts result.crew.looks.items (λ w. w.seat) (λ w. w.desks.items) result.crew.workers.items) }
     ensures finishes { IfOk result.answer (HasFinished crew.fabric.journal result.crew.fabric.journal (λ w. w.seat) crew.workers.items result.crew.workers.items k) }

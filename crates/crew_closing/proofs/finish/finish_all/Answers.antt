@@ -7,7 +7,7 @@ use Rattle.node_workers.proofs.Widening.{grows-both}
 use Rattle.node_crew.proofs.Playing.{grows-none}
 use Rattle.crew_closing.specs.Finishing.{HasMost}
 use Rattle.crew_closing.proofs.Seeing.{sees_most}
-use Rattle.crew_closing.proofs.Finishing.{rests_stand, some_node, few_nodes, most_first, most_next, most_stays, none_passed, passes_next}
+use Rattle.crew_closing.proofs.Finishing.{rests_stand, some_node, most_first, most_next, most_stays, none_passed, passes_next}
 use Rattle.crew_closing.proofs.finish.finish_all.Goals as goal
 
 pub loop-k-init : goal.loop-k-init
@@ -27,13 +27,6 @@ loop-k-init g c =
 
 pub finish_node-now-requires-clause-floor : goal.finish_node-now-requires-clause-floor
 finish_node-now-requires-clause-floor g c = subst (FloorIs g.K.Terms.floor) (sym c.loop-k.invariant.size) c.requires.floor
-
-pub finish_node-now-requires-clause-eight : goal.finish_node-now-requires-clause-eight
-finish_node-now-requires-clause-eight g c =
-    let p = g.K.Terms in
-    let r = g.S.Replica in
-    let l = c.loop-k in
-    few_nodes p.may p.floor p.shelf r.state r.spells c.args.lines.now (λ w. w.seat) (λ w. w.desks.items) l.crew.workers.items (length c.args.lines.now) l.invariant.rests.0 l.crew.fabric.journal l.crew.counts l.crew.looks.items l.invariant.rests.1
 
 pub loop-k-preserved : goal.loop-k-preserved
 loop-k-preserved g c =

@@ -1,4 +1,4 @@
-use Rattle.std.proofs.Common.{◌≡◌, refl, sym, ap, ◌∙◌, subst, length}
+use Rattle.std.proofs.Common.{◌≡◌, refl, sym, ap, ◌∙◌, subst, ◌+◌, ◌≤◌, true≢false, length, arith}
 use Rattle.std.specs.Prelude.{if◌then◌else◌, is_ok, insert}
 use Rattle.std.proofs.lemmas.Option.{slice_get_read}
 use Rattle.node_crew.specs.Crews.{CrewRests, CrewStands}
@@ -6,8 +6,34 @@ use Rattle.node_crew.proofs.Crews.{put_back, still_stands}
 use Rattle.one_thread.specs.Seats.{node_of}
 use Rattle.node_closing.specs.Finishing.{Finishes}
 use Rattle.crew_closing.proofs.Ok.{if_ok2, on_ok6}
-use Rattle.crew_closing.proofs.Finishing.{rests_stand, own_ok, crew_finished}
+use Rattle.crew_closing.proofs.Finishing.{rests_stand, few_nodes, own_ok, crew_finished}
 use Rattle.crew_closing.proofs.finish.finish_node.Goals as goal
+
+pub overflow_cast-k : goal.overflow_cast-k
+overflow_cast-k g c =
+    let p = g.K.Terms in
+    let r = g.S.Replica in
+    let a = c.args in
+    let few = few_nodes p.may p.floor p.shelf r.state r.spells a._lines.now (λ w. w.seat) (λ w. w.desks.items) a.crew.workers.items (length a._lines.now) c.requires.rests.0 a.crew.fabric.journal a.crew.counts a.crew.looks.items c.requires.rests.1 in
+    grind (arith, few, c.requires.there)
+
+pub overflow_add-k : goal.overflow_add-k
+overflow_add-k g c =
+    let p = g.K.Terms in
+    let r = g.S.Replica in
+    let a = c.args in
+    let few = few_nodes p.may p.floor p.shelf r.state r.spells a._lines.now (λ w. w.seat) (λ w. w.desks.items) a.crew.workers.items (length a._lines.now) c.requires.rests.0 a.crew.fabric.journal a.crew.counts a.crew.looks.items c.requires.rests.1 in
+    grind (arith, few, c.requires.there)
+
+pub unreachable-requires : goal.unreachable-requires
+unreachable-requires g c =
+    let p = g.K.Terms in
+    let r = g.S.Replica in
+    let a = c.args in
+    let few = few_nodes p.may p.floor p.shelf r.state r.spells a._lines.now (λ w. w.seat) (λ w. w.desks.items) a.crew.workers.items (length a._lines.now) c.requires.rests.0 a.crew.fabric.journal a.crew.counts a.crew.looks.items c.requires.rests.1 in
+    let low : 1 ≤ a.k + 1 = omega arith in
+    let high : a.k + 1 ≤ 8 = omega (arith, few, c.requires.there) in
+    true≢false (sym (c.in_default.ensures.valid.1 (low, high)))
 
 pub finish_worker-worker-requires-clause-worker : goal.finish_worker-worker-requires-clause-worker
 finish_worker-worker-requires-clause-worker g c =
