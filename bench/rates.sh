@@ -1,7 +1,8 @@
-# Read by the scripts that measure a rate. Each makes the folder $work and says how often a row is measured in $runs.
+# Read by the scripts that measure a rate. Each says how often a row is measured in $runs.
 #
 # A time is that of a whole process: the best of the runs less the best of as many runs with nothing to do, and the
 # median less the median.
+. "$(dirname "$0")/../work.sh"
 
 # nanoseconds PRINTED RUN COUNT ARG..: how long `RUN COUNT ARG..` ran, which must print that number
 nanoseconds() {

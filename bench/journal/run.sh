@@ -8,8 +8,6 @@ set -eu
 
 program=$1
 runs=${2:-7}
-work=$(mktemp -d)
-trap 'rm -rf "$work"' EXIT
 . "$(dirname "$0")/../rates.sh"
 
 # measure RECORDS BYTES: one row

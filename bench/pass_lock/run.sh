@@ -10,8 +10,6 @@ program=$1
 turns=${2:-2000000}
 runs=${3:-7}
 here=$(dirname "$0")
-work=$(mktemp -d)
-trap 'rm -rf "$work"' EXIT
 . "$here/../rates.sh"
 rustc -O -o "$work/mutex" "$here/mutex.rs"
 

@@ -7,8 +7,7 @@
 set -eu
 
 program=$1
-work=$(mktemp -d)
-trap 'rm -rf "$work"' EXIT
+. "$(dirname "$0")/../work.sh"
 
 # count ENTRIES: the instructions of a run, which must print how many commands acted
 count() {

@@ -4,16 +4,15 @@
 # hundreds, whatever else the machine does.
 set -eu
 program=$1
-folder=$(mktemp -d)
-trap 'rm -r "$folder"' EXIT
+. "$(dirname "$0")/../work.sh"
 . "$(dirname "$0")/lines.sh"
 
 # count FILE WORD..: the instructions of a run
 count() {
     file=$1
     shift
-    valgrind --tool=callgrind --callgrind-out-file="$folder/calls" "$program" "$@" < "$file" 2> "$folder/told" > "$folder/text"
-    awk '/ refs:/ { gsub(",", "", $NF); print $NF }' "$folder/told"
+    valgrind --tool=callgrind --callgrind-out-file="$work/calls" "$program" "$@" < "$file" 2> "$work/told" > "$work/text"
+    awk '/ refs:/ { gsub(",", "", $NF); print $NF }' "$work/told"
 }
 
 # row COMMAND SHELF NODES LINES FILE LEAST EMPTY: one row

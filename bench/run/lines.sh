@@ -1,4 +1,4 @@
-# Read by the scripts that measure runs. Each says in $program what is measured, and makes the folder $folder.
+# Read by the scripts that measure runs. Each says in $program what is measured, and has the folder $work.
 
 default_shelf=file,native3,striped2,native5
 
@@ -28,16 +28,16 @@ words() {
 each_row() {
     measure=$1
     shift
-    : > "$folder/empty"
+    : > "$work/empty"
     for command in run make; do
         for shelf in "$@"; do
             for nodes in 1 4 8; do
                 for n in 1000 5000 15000; do
                     case $command in
-                        run) script "$n" "$nodes" > "$folder/script"; least=0 ;;
-                        make) : > "$folder/script"; least=1 ;;
+                        run) script "$n" "$nodes" > "$work/script"; least=0 ;;
+                        make) : > "$work/script"; least=1 ;;
                     esac
-                    "$measure" "$command" "$shelf" "$nodes" "$n" "$folder/script" "$least" "$folder/empty"
+                    "$measure" "$command" "$shelf" "$nodes" "$n" "$work/script" "$least" "$work/empty"
                 done
             done
         done

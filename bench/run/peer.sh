@@ -9,8 +9,6 @@ program=$1
 commands=${2:-15000}
 runs=${3:-7}
 here=$(dirname "$0")
-work=$(mktemp -d)
-trap 'rm -rf "$work"' EXIT
 . "$here/../rates.sh"
 . "$here/lines.sh"
 gcc -O2 -o "$work/peer" "$here/peer.c" -lsqlite3

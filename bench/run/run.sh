@@ -17,8 +17,6 @@ fi
 program=$1
 runs=${2:-5}
 rounds=${3:-3}
-folder=$(mktemp -d)
-trap 'rm -r "$folder"' EXIT
 . "$here/../times.sh"
 . "$here/lines.sh"
 
@@ -31,8 +29,8 @@ least() {
 peak() {
     file=$1
     shift
-    /usr/bin/time -f %M -o "$folder/peak" "$program" "$@" < "$file" > "$folder/text"
-    cat "$folder/peak"
+    /usr/bin/time -f %M -o "$work/peak" "$program" "$@" < "$file" > "$work/text"
+    cat "$work/peak"
 }
 
 # measured COMMAND SHELF NODES LINES FILE LEAST EMPTY: what one round measures of a row
@@ -60,11 +58,11 @@ rows() {
                 if (!(group[row] in first)) first[group[row]] = took / lines[row]
                 printf "| %s | %d | %d | %d | %.2f |\n", row, took, lines[row] * 1000000 / took, peak[row], took / lines[row] / first[group[row]]
             }
-        }' "$folder/measured"
+        }' "$work/measured"
 }
 
 for _ in $(seq "$rounds"); do
-    each_row measured file native3 striped2 "$default_shelf" >> "$folder/measured"
+    each_row measured file native3 striped2 "$default_shelf" >> "$work/measured"
 done
 
 table() {

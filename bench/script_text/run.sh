@@ -8,8 +8,6 @@
 set -eu
 program=$1
 runs=${2:-7}
-folder=$(mktemp -d)
-trap 'rm -r "$folder"' EXIT
 . "$(dirname "$0")/../times.sh"
 
 lines() {
@@ -32,12 +30,12 @@ measure() {
 
 echo "| script | lines | least | median | bytes printed |"
 echo "|---|---|---|---|---|"
-: > "$folder/script"
-echo "| empty | 0 | $(measure 0 "$folder/script") | $(wc -c < "$folder/text") |"
+: > "$work/script"
+echo "| empty | 0 | $(measure 0 "$work/script") | $(wc -c < "$work/text") |"
 for kind in parse reads whole; do
     for n in 1000 5000 20000; do
-        lines "$n" "$kind" > "$folder/script"
+        lines "$n" "$kind" > "$work/script"
         ends=$([ "$kind" = parse ] && echo 2 || echo 0)
-        echo "| $kind | $n | $(measure "$ends" "$folder/script") | $(wc -c < "$folder/text") |"
+        echo "| $kind | $n | $(measure "$ends" "$work/script") | $(wc -c < "$work/text") |"
     done
 done

@@ -8,19 +8,7 @@ set -eu
 
 program=$1
 runs=${2:-7}
-work=$(mktemp -d)
-trap 'rm -rf "$work"' EXIT
-. "$(dirname "$0")/../rates.sh"
-
-# append APPENDS KIND BYTES: one run
-append() {
-    "$program" "$2" "$1" "$3"
-}
-
-# measure KIND APPENDS BYTES: one row
-measure() {
-    echo "| $1 | $2 | $3 | $(rates "$2" append "$2" "$1" "$3") |"
-}
+. "$(dirname "$0")/../appends.sh"
 
 echo "| kind | appends | bytes each | appends a second, best | median |"
 echo "|---|---|---|---|---|"

@@ -261,6 +261,14 @@ impl<E: Layers, D: Disk> Two<E, D> {
         self.node.settle_all()
     }
 
+    /// The write number `after` from now on of the disk of the node that has the log stops inside itself; 0 takes that back.
+    pub fn stop(&mut self, after: u64)
+        requires { AreTwo self.old.number self.old.node self.old.other.number self.old.other.node self.old.other.log }
+        ensures { AreTwo self.new.number self.new.node self.new.other.number self.new.other.node self.new.other.log }
+    {
+        self.node.stop(after);
+    }
+
     pub fn sync(&mut self) -> Result<u64, Fault>
         requires { AreTwo self.old.number self.old.node self.old.other.number self.old.other.node self.old.other.log }
         ensures { AreTwo self.new.number self.new.node self.new.other.number self.new.other.node self.new.other.log }

@@ -42,6 +42,8 @@ pub enum Step<'a> {
     Rows(&'a [Put]),
     Get { session: u8, key: u8 },
     Scan { session: u8, low: u8, high: u8 },
+    /// The write of this number of the node's disk stops inside itself; where it is 0, none does.
+    Stop(u64),
     Alive,
     Trim,
     Retire,
@@ -288,6 +290,10 @@ fn take<E: Layers, D: Disk>(
             put_rows(alloc, two, puts, rows)
         }
         Step::Rows(puts) => put_rows(alloc, two, puts, rows),
+        Step::Stop(after) => {
+            two.stop(after);
+            Ok(())
+        }
         Step::Alive => add(rows, line.number, node, alive(alloc, two)?),
         Step::Trim => add(rows, line.number, node, trim(two)?),
         Step::Retire => add(rows, line.number, node, retire(alloc, two)?),

@@ -93,6 +93,35 @@ fn a_node_recovers_and_plays_again(rt: HostRuntime) -> Result<(), Fail> {
     Ok(())
 }
 
+// Inside which write of the node's disk it stops, and how many faults its disk has then. An entry is kept by two writes, so that
+// a third isn't reached; and 0 takes a stop back.
+const STOPS: [(&[u64], u64); 5] = [(&[1], 1), (&[2], 1), (&[3], 0), (&[0], 0), (&[1, 0], 0)];
+
+const PUT_AFTER_STOP: Put = Put {
+    line: 2,
+    session: b'a',
+    rank: 1,
+    key: b'x',
+    value: b'1',
+};
+
+#[test]
+fn a_node_stops_inside_a_write_and_plays_again(rt: HostRuntime) -> Result<(), Fail> {
+    let text = b"2 a @0.0 ok\n3 a >1 = 1\nend 1\nchain v=1 trim=0\nseg 0 file 0 open\n";
+    for (stops, faults) in STOPS {
+        let mut lines = Vec::new(rt.alloc());
+        for after in stops {
+            lines.push(admin(1, 1, Step::Stop(*after)))?;
+        }
+        lines.push(admin(2, 1, Step::Puts(&[PUT_AFTER_STOP])))?;
+        lines.push(get_x(3, 1, b'a'))?;
+        let ran = run(rt.alloc(), &[], lines.as_slice())?;
+        assert_eq!(rt; ran.text.as_slice(), text.as_slice());
+        assert_eq!(rt; ran.faults, faults);
+    }
+    Ok(())
+}
+
 const SESSIONS: [Put; 3] = [
     Put {
         line: 1,
