@@ -35,7 +35,7 @@ use Rattle.one_thread.proofs.Moments.{held_sent}
 use Rattle.node_sessions.specs.UnderWay.{HasRank}
 use Rattle.node_sessions.proofs.Catching.{appears_in}
 use Rattle.node_lines.specs.declared.lines.Looked.{Looked}
-use Rattle.node_workers.specs.Workers.{MayRun}
+use Rattle.node_lines.specs.Workers.{MayRun}
 use Rattle.worker_laws.proofs.Bounding.{front_below}
 use Rattle.line_rules.specs.Rules.{AreOfLines, may_of}
 use Rattle.line_rules.proofs.Rules.{asked_by}

@@ -43,7 +43,7 @@ use Rattle.node_sessions.specs.UnderWay.{HasRank}
 use Rattle.node_sessions.proofs.Catching.{acted_sent}
 use Rattle.node_lines.specs.declared.lines.Looked.{Looked}
 use Rattle.node_lines.specs.declared.lines.Looked.TheVariants as looked
-use Rattle.node_workers.specs.Workers.{MayRun, Within, sent_of}
+use Rattle.node_lines.specs.Workers.{MayRun, Within, sent_of}
 use Rattle.worker_laws.proofs.Bounding.{tail_bounds}
 use Rattle.run_laws.specs.Ended.{AllAfter, CameOf, CameTo, HasLooked, HasReported, IsLeft, IsAtHome, IsPlaced, IsStoppedBy, IsUnread, LineEnded, Played, SessionEnd, act_of_rank, rank_in, session_in}
 use Rattle.run_laws.proofs.Fronts.{front-acts}

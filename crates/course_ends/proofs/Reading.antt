@@ -25,7 +25,7 @@ use Rattle.replica_api.specs.Replica.{Saved}
 use Rattle.script_text.specs.declared.asks.NamedLine.{NamedLine}
 use Rattle.one_thread.specs.Alone.{AreOwn}
 use Rattle.node_lines.specs.declared.lines.Looked.{Looked}
-use Rattle.node_workers.specs.Workers.{IsOfSessions, Within}
+use Rattle.node_lines.specs.Workers.{IsOfSessions, Within}
 use Rattle.run_course.specs.Script.{BeginsAt}
 use Rattle.run_course.specs.Course.{Course, CourseOk, TurnOf}
 use Rattle.run_course.specs.Replacing.{has_replaced}

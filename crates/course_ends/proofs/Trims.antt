@@ -29,7 +29,7 @@ use Rattle.fitting_run.specs.Yard.{Shown}
 use Rattle.node_sessions.specs.declared.desk.Desk.{Desk}
 use Rattle.node_lines.specs.declared.lines.Looked.{Looked}
 use Rattle.node_lines.specs.declared.lines.Looked.TheVariants as looked
-use Rattle.node_workers.specs.Workers.{MayRun}
+use Rattle.node_lines.specs.Workers.{MayRun}
 use Rattle.line_rules.specs.Rules.{HasAsked, IsLineOf, may_of}
 use Rattle.line_rules.proofs.Contents.{all-contained}
 use Rattle.run_laws.specs.Ended.{IsKnown, LineTrimmed, LetsGo, Played, ReportsAbove, SomeTurn, TellsUpto, TrimsEnded}

@@ -1,7 +1,5 @@
 -- How each session has ended.
 use Rattle.std.specs.Prelude.{ℕ, ◌-◌, List, length, slice_get, Option, Some, None, ◌≡◌, ◌+◌}
-use Rattle.delos_types.specs.declared.chain.Chain.{Chain}
-use Rattle.chain_map.specs.Chain.{last_id}
 use Rattle.script_text.specs.declared.asks.NamedLine.{NamedLine}
 use Rattle.node_sessions.specs.declared.desk.Desk.{Desk}
 use Rattle.run_laws.specs.Ended.{SessionEnd}
@@ -34,9 +32,3 @@ end_at lines when (Some d) = record { stopped = d.stopped; when = when; answered
 
 abbrev pub end_of : List NamedLine → List WorkerEnd → (ℕ → ℕ) → (ℕ → ℕ) → ℕ → SessionEnd
 end_of lines workers home when s = end_at lines (when s) (desk_in (desks_at workers (home s)) s)
-
--- The chain goes from the first loglet of the shelf to the n-th one behind it; as long as nothing is trimmed each of them has a
--- segment.
-pub record GoesTo (chain : Chain) (n : ℕ) : Type 0 where
-  pub segments : chain.trim ≡ 0 → length chain.segments ≡ n + 1
-  pub last : last_id chain ≡ n

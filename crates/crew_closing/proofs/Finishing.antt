@@ -21,7 +21,7 @@ use Rattle.one_thread.specs.Seats.{SeatView, SeatOk, node_of}
 use Rattle.node_sessions.specs.declared.desk.Desk.{Desk}
 use Rattle.node_lines.specs.declared.lines.Looked.{Looked}
 use Rattle.node_lines.specs.Moving.{Moves}
-use Rattle.node_workers.specs.Workers.{Within, WorkerOk, IsOfSessions}
+use Rattle.node_lines.specs.Workers.{Within, WorkerOk, IsOfSessions}
 use Rattle.run_course.specs.Script.{AreLines}
 use Rattle.run_course.specs.Course.{CourseOk}
 use Rattle.run_course.specs.Workers.{Rests, NodeFinished}

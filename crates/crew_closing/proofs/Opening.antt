@@ -21,7 +21,7 @@ use Rattle.one_thread.specs.Alone.{AreOwn, Since}
 use Rattle.one_thread.specs.Seats.{SeatView}
 use Rattle.node_sessions.specs.declared.desk.Desk.{Desk}
 use Rattle.node_lines.specs.declared.lines.Looked.{Looked}
-use Rattle.node_workers.specs.Workers.{IsOfSessions, Within}
+use Rattle.node_lines.specs.Workers.{IsOfSessions, Within}
 use Rattle.run_course.specs.Course.{Course, CourseOk, TurnOf}
 use Rattle.run_course.specs.Replacing.{has_replaced}
 use Rattle.run_course.proofs.Advance.{advanced, advance_still, turned}

@@ -36,7 +36,7 @@ use Rattle.node_sessions.specs.declared.desk.Desk.{Desk}
 use Rattle.node_lines.specs.declared.lines.Looked.{Looked}
 use Rattle.node_lines.specs.declared.lines.Looked.TheVariants as looked
 use Rattle.node_lines.specs.Moving.{is_store}
-use Rattle.node_workers.specs.Workers.{HasNotLeft, IsCommand, IsOfSessions, Sends, Within}
+use Rattle.node_lines.specs.Workers.{HasNotLeft, IsCommand, IsOfSessions, Sends, Within}
 use Rattle.run_laws.specs.Ended.{pays}
 use Rattle.run_laws.proofs.Members.{among-get, contains-among}
 use Rattle.run_course.specs.Script.{failure_of_look, failed_looks}

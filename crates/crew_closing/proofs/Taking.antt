@@ -23,8 +23,8 @@ use Rattle.node_sessions.specs.Desks.{AreAllAnswers}
 use Rattle.node_lines.specs.declared.lines.Looked.{Looked}
 use Rattle.node_lines.specs.Moving.{CanPack, IsQuiet}
 use Rattle.node_lines.specs.Desks.{DesksOk}
-use Rattle.node_workers.specs.Workers.{IsOfSession, Sends, Within, WorkerOk}
-use Rattle.node_workers.proofs.Scoping.{seat_allowed}
+use Rattle.node_lines.specs.Workers.{IsOfSession, Sends, Within, WorkerOk}
+use Rattle.node_lines.proofs.Scoping.{seat_allowed}
 use Rattle.worker_laws.proofs.Bounding.{answers_stay}
 use Rattle.run_laws.specs.Ended.{CameTo}
 use Rattle.run_course.specs.Telling.{ReportsUpTo}

@@ -1,6 +1,6 @@
 -- The register is opened again as a run begins to close.
 use Rattle.fabric_core.specs.Fabric.{FabricView}
-use Rattle.node_workers.specs.Workers.{Grows}
+use Rattle.node_lines.specs.Workers.{Grows}
 use Rattle.last_chain.specs.Last.{OpensOnce}
 
 -- First the chain was read, and the register opened again where it was down, once; whatever else came, came after.

@@ -4,7 +4,7 @@ ghost use Rattle.delos_types.specs.Spaces.{SpaceMap};
 ghost use Rattle.delos_types.specs.declared.entry.Entry.{Entry};
 ghost use Rattle.engine_laws.specs.State.{IsStateOf};
 ghost use Rattle.base_engine.specs.Trimming.{FloorIs};
-ghost use Rattle.node_workers.specs.Workers.{MayRun};
+ghost use Rattle.node_lines.specs.Workers.{MayRun};
 ghost use Rattle.node_crew.specs.Crews.{CrewRests, CrewStands};
 ghost use Rattle.course_ends.specs.Closing.{WorkerEnd, HasClosed};
 ghost use Rattle.crew_closing.specs.Finishing.{SeesAll};

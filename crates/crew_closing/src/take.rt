@@ -3,7 +3,7 @@ ghost use Rattle.std.specs.Prelude.{◌≡◌, ◌≢◌, ◌<◌, ◌≤◌, �
 ghost use Rattle.delos_types.specs.Spaces.{SpaceMap};
 ghost use Rattle.delos_types.specs.declared.entry.Entry.{Entry};
 ghost use Rattle.engine_laws.specs.State.{IsStateOf};
-ghost use Rattle.node_workers.specs.Workers.{MayRun};
+ghost use Rattle.node_lines.specs.Workers.{MayRun};
 ghost use Rattle.node_crew.specs.Crews.{CrewStands};
 ghost use Rattle.crew_closing.specs.Taking.{CrewTakes};
 

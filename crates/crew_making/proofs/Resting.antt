@@ -25,8 +25,8 @@ use Rattle.node_lines.specs.declared.lines.Looked.{Looked}
 use Rattle.node_lines.specs.declared.lines.Looked.TheVariants as looked
 use Rattle.node_lines.specs.Moving.{CanPack, IsQuiet, HasNoneOf}
 use Rattle.node_lines.specs.Desks.{HasAnswers, DeskOk}
-use Rattle.node_workers.specs.Workers.{IsOfSession, Sends, Within, sent_of}
-use Rattle.node_workers.proofs.Scoping.{seat_allowed}
+use Rattle.node_lines.specs.Workers.{IsOfSession, Sends, Within, sent_of}
+use Rattle.node_lines.proofs.Scoping.{seat_allowed}
 use Rattle.run_laws.specs.Ended.{CameTo, pays}
 use Rattle.run_course.specs.Script.{AreLines, asked_by, failure_of_look, failed_looks}
 use Rattle.run_course.specs.Course.{Course, CourseOk}

@@ -4,18 +4,10 @@ use Rattle.delos_types.specs.Spaces.{SpaceMap}
 use Rattle.delos_types.specs.declared.entry.Entry.{Entry}
 use Rattle.chain_map.specs.Chain.{first_chain}
 use Rattle.virtual_log.specs.Log as log
-use Rattle.replica_api.specs.Replica.{Saved, ReplicaView, Survives}
+use Rattle.replica_api.specs.Replica.{Saved, ReplicaView}
+use Rattle.replica_api.specs.Fresh.{IsFreshReplica}
 use Rattle.one_thread.specs.Seats.{SeatView, SeatOk}
 use Rattle.node_sessions.specs.declared.desk.Desk.{Desk}
-
--- a replica that has applied nothing, of the node with this number
-pub record IsFreshReplica (state : List Entry → SpaceMap → Type 0) (spells : List ℕ → Saved → Type 0) (node : ℕ) (v : ReplicaView) : Type 0 where
-  pub empty : state [] v.contents
-  pub start : v.cursor ≡ 0
-  pub none_asked : v.asked ≡ None
-  pub nothing_waits : v.kept ≡ []
-  pub survives : Survives spells v
-  pub origin_is : v.origin ≡ node
 
 -- a log that knows nothing but the first chain, over so many loglets
 abbrev pub IsFreshLog : ℕ → log.RestedView → Type 0

@@ -6,11 +6,11 @@ ghost use Rattle.legal_journal.specs.Journal.{IsLegal};
 ghost use Rattle.crew_making.specs.Fresh.{AreFreshDesks, IsFreshLog};
 
 use crate::early::Early;
-use crate::parts::NodeParts;
 use delos_types::numbers::SessionId;
 use fate_words::chooser::Chooser;
 use node_sessions::desk::Desk;
 use one_thread::terms::Terms;
+use replica_api::node::OpenNode;
 use replica_api::replica::Replica;
 use std::alloc::{AllocError, Global};
 use virtual_log::log::VirtualLog;
@@ -49,9 +49,9 @@ fn new_desks(alloc: Global) -> Result<Vec<Desk>, AllocError>
 fn prepare<K: Terms, S: Replica, C: Chooser>(
     alloc: Global,
     who: u32,
-    node: NodeParts<S, C>,
+    node: OpenNode<S, C>,
     shelf_len: u32,
-) -> Result<Berth<S, C>, NodeParts<S, C>>
+) -> Result<Berth<S, C>, OpenNode<S, C>>
     requires legal { IsLegal K.may K.floor K.shelf [] }
     requires shelf { shelf_len ≡ length K.shelf }
     ensures replica { IfOk result (λ b. b.replica ≡ node.replica) }
@@ -62,7 +62,7 @@ fn prepare<K: Terms, S: Replica, C: Chooser>(
     let Ok(desks) = new_desks(alloc) else {
         return Err(node);
     };
-    let NodeParts { replica, chooser } = node;
+    let OpenNode { replica, chooser } = node;
     match VirtualLog::new(alloc, Early::<K>::new(who), chooser, shelf_len) {
         Ok(log) => {
             let (log, _) = log.rest();
@@ -73,7 +73,7 @@ fn prepare<K: Terms, S: Replica, C: Chooser>(
             });
         }
         Err(parts) => {
-            return Err(NodeParts {
+            return Err(OpenNode {
                 replica,
                 chooser: parts.chooser,
             });
@@ -82,7 +82,7 @@ fn prepare<K: Terms, S: Replica, C: Chooser>(
 }
 
 /// The parts again.
-fn leave<K: Terms, S: Replica, C: Chooser>(berth: Berth<S, C>) -> NodeParts<S, C>
+fn leave<K: Terms, S: Replica, C: Chooser>(berth: Berth<S, C>) -> OpenNode<S, C>
     requires legal { IsLegal K.may K.floor K.shelf [] }
     requires log { IsFreshLog (length K.shelf) berth.log }
     ensures { result.replica ≡ berth.replica }
@@ -93,14 +93,14 @@ fn leave<K: Terms, S: Replica, C: Chooser>(berth: Berth<S, C>) -> NodeParts<S, C
         desks: _,
     } = berth;
     let parts = log.wake(Early::<K>::new(0)).into_parts();
-    NodeParts {
+    OpenNode {
         replica,
         chooser: parts.chooser,
     }
 }
 
 /// Puts a node before the others.
-fn put_first<S: Replica, C: Chooser>(nodes: &mut Vec<NodeParts<S, C>>, node: NodeParts<S, C>)
+fn put_first<S: Replica, C: Chooser>(nodes: &mut Vec<OpenNode<S, C>>, node: OpenNode<S, C>)
     requires room { length nodes.old.items + 1 ≤ vec_capacity nodes.old }
     ensures items { nodes.new.items ≡ node ∷ nodes.old.items }
     ensures room { vec_capacity nodes.old ≤ vec_capacity nodes.new }
@@ -114,7 +114,7 @@ fn put_first<S: Replica, C: Chooser>(nodes: &mut Vec<NodeParts<S, C>>, node: Nod
 /// Puts the parts of all berths before the others. Takes no memory.
 pub fn leave_all<K: Terms, S: Replica, C: Chooser>(
     berths: Vec<Berth<S, C>>,
-    nodes: &mut Vec<NodeParts<S, C>>,
+    nodes: &mut Vec<OpenNode<S, C>>,
 )
     requires legal { IsLegal K.may K.floor K.shelf [] }
     requires logs { AllByRecursion (λ b. IsFreshLog (length K.shelf) b.log) berths.items }
@@ -133,7 +133,7 @@ pub fn leave_all<K: Terms, S: Replica, C: Chooser>(
 /// Makes berths of all nodes, in their order. Without memory they are where they were.
 pub fn prepare_all<K: Terms, S: Replica, C: Chooser>(
     alloc: Global,
-    nodes: &mut Vec<NodeParts<S, C>>,
+    nodes: &mut Vec<OpenNode<S, C>>,
     shelf_len: u32,
 ) -> Result<Vec<Berth<S, C>>, AllocError>
     requires legal { IsLegal K.may K.floor K.shelf [] }

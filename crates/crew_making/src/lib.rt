@@ -1,6 +1,5 @@
 //! The nodes of a run are made of their parts, and taken apart again, so that nothing is lost whatever comes of the run.
 //!
-//! - `parts`: what a node is made of.
 //! - `part`: the nodes are taken apart.
 //! - `make`: the nodes are made.
 //! - `early`: a user of a fabric that isn't there yet.
@@ -11,4 +10,3 @@ pub mod berth;
 pub mod early;
 pub mod make;
 pub mod part;
-pub mod parts;

@@ -6,14 +6,14 @@ ghost use Rattle.delos_types.specs.declared.entry.Entry.{Entry};
 ghost use Rattle.loglet_api.specs.View.{IsFresh};
 ghost use Rattle.loglet_api.specs.Sound.{IsSound};
 ghost use Rattle.register_api.specs.View as view;
-ghost use Rattle.node_workers.specs.Workers.{Sends, sent_of};
+ghost use Rattle.node_lines.specs.Workers.{Sends, sent_of};
 ghost use Rattle.run_course.specs.Script.{AreLines};
 ghost use Rattle.node_crew.specs.Crews.{CrewRests, CrewStands};
 ghost use Rattle.crew_making.specs.Apart.{AreAsTold};
-ghost use Rattle.crew_making.specs.Fresh.{IsFreshReplica, AreFreshFrom, AreFreshDesks, IsFreshLog, IsNewSeat, AreNewWorkers};
+ghost use Rattle.replica_api.specs.Fresh.{IsFreshReplica};
+ghost use Rattle.crew_making.specs.Fresh.{AreFreshFrom, AreFreshDesks, IsFreshLog, IsNewSeat, AreNewWorkers};
 
 use crate::berth::{Berth, leave_all, prepare_all};
-use crate::parts::NodeParts;
 use base_engine::node::Node;
 use fabric_core::fabric::{Fabric, Parts};
 use fate_words::chooser::Chooser;
@@ -25,6 +25,7 @@ use one_thread::alone::Alone;
 use one_thread::seat::{Seat, rest};
 use one_thread::terms::{By, Scope, Terms};
 use register_api::Register;
+use replica_api::node::OpenNode;
 use replica_api::replica::Replica;
 use script_text::asks::NamedLine;
 use std::alloc::{AllocError, Global};
@@ -139,7 +140,7 @@ pub fn make_crew<L: Loglet, R: Register, K: Terms, S: Replica, C: Chooser>(
     alloc: Global,
     cells: Vec<L>,
     register: R,
-    nodes: &mut Vec<NodeParts<S, C>>,
+    nodes: &mut Vec<OpenNode<S, C>>,
     lines: &[NamedLine],
 ) -> Result<Crew<L, R, K, S, C>, Parts<L, R>>
     requires least { 0 < length cells.items }
@@ -149,7 +150,7 @@ pub fn make_crew<L: Loglet, R: Register, K: Terms, S: Replica, C: Chooser>(
     requires sound { All (λ l. IsSound (L.view l)) cells.items }
     requires register { view.IsFresh (R.view register) }
     requires eight { length nodes.old.items ≤ 8 }
-    requires nodes { (j : ℕ) (n : NodeParts S C) → slice_get nodes.old.items j ≡ Some n → IsFreshReplica S.state S.spells (j + 1) (S.shows n.replica) }
+    requires nodes { (j : ℕ) (n : OpenNode S C) → slice_get nodes.old.items j ≡ Some n → IsFreshReplica S.state S.spells (j + 1) (S.shows n.replica) }
     requires lines { (home : ℕ → ℕ) × AreLines lines.now home (length nodes.old.items) }
     ensures rests { IfOk result (λ crew. CrewRests K.may K.floor K.shelf S.state S.spells lines.now 0 0 crew.fabric.journal crew.counts crew.looks.items (λ w. w.seat) (λ w. w.desks.items) crew.workers.items) }
     ensures stands { IfOk result (λ crew. CrewStands K.may K.floor K.shelf S.state S.spells crew.fabric.journal (λ w. w.seat) crew.workers.items) }

@@ -6,7 +6,6 @@ ghost use Rattle.one_thread.specs.Seats.{SeatOk};
 ghost use Rattle.node_crew.specs.Crews.{CrewStands};
 ghost use Rattle.crew_making.specs.Apart.{AreAsTold};
 
-use crate::parts::NodeParts;
 use fabric_core::fabric::{Fabric, Parts};
 use fate_words::chooser::Chooser;
 use loglet_api::loglet::Loglet;
@@ -15,12 +14,13 @@ use node_workers::worker::Worker;
 use one_thread::seat::Seat;
 use one_thread::terms::{By, Scope, Terms};
 use register_api::Register;
+use replica_api::node::OpenNode;
 use replica_api::replica::Replica;
 use std::marker::Brand;
 
 /// A node in its parts, and the fabric, which was lent to it for that.
 struct Apart<L: Loglet, R: Register, K: Terms, S: Replica, C: Chooser> {
-    node: NodeParts<S, C>,
+    node: OpenNode<S, C>,
     fabric: Fabric<L, R, By<K>>,
 }
 
@@ -41,7 +41,7 @@ fn part_within<L: Loglet, R: Register, K: Terms, Q: Scope, S: Replica, C: Choose
     let parts = log.into_parts();
     let fabric = parts.turns.into_fabric();
     Apart {
-        node: NodeParts {
+        node: OpenNode {
             replica,
             chooser: parts.chooser,
         },
@@ -52,7 +52,7 @@ fn part_within<L: Loglet, R: Register, K: Terms, Q: Scope, S: Replica, C: Choose
 /// Takes the nodes apart, in their order, and the fabric. Takes no memory: there is room for them.
 pub fn part_crew<L: Loglet, R: Register, K: Terms, S: Replica, C: Chooser>(
     crew: Crew<L, R, K, S, C>,
-    nodes: &mut Vec<NodeParts<S, C>>,
+    nodes: &mut Vec<OpenNode<S, C>>,
 ) -> Parts<L, R>
     requires stands { CrewStands K.may K.floor K.shelf S.state S.spells crew.fabric.journal (λ w. w.seat) crew.workers.items }
     requires none { nodes.old.items ≡ [] }

@@ -8,7 +8,7 @@ use Rattle.fitting_run.specs.Yard.{Shown}
 use Rattle.fitting_run.specs.Fits.{Fits}
 use Rattle.fitting_run.specs.Replacements.{version_made, version_found}
 use Rattle.fitting_run.specs.Calm.{IsCalm, all_answered}
-use Rattle.course_ends.specs.Ends.{GoesTo}
+use Rattle.fitting_run.specs.Calm.{GoesTo}
 
 -- What is told of these lines fits the yard. Where no fault was counted there, each line has its own answer, the run saw the whole
 -- log, and the chain goes to a loglet as far behind the first as rows tell that the last one was replaced. No row tells that another

@@ -9,17 +9,16 @@ ghost use Rattle.register_api.specs.View as view;
 ghost use Rattle.engine_laws.specs.State.{IsStateOf};
 ghost use Rattle.base_engine.specs.Trimming.{FloorIs};
 ghost use Rattle.fitting_run.specs.Lines.{CanLog};
-ghost use Rattle.node_workers.specs.Workers.{MayRun};
+ghost use Rattle.node_lines.specs.Workers.{MayRun};
 ghost use Rattle.line_rules.specs.Rules.{may_of};
 ghost use Rattle.run_course.specs.Script.{AreLines};
 ghost use Rattle.node_crew.specs.Turns.{MaySendAll};
-ghost use Rattle.crew_making.specs.Fresh.{IsFreshReplica};
+ghost use Rattle.replica_api.specs.Fresh.{IsFreshReplica};
 ghost use Rattle.crew_run.specs.Running.{RunTold};
 
 use crate::tell::{Ended, tell};
 use crew_making::make::make_crew;
 use crew_making::part::part_crew;
-use crew_making::parts::NodeParts;
 use fabric_core::fabric::Parts;
 use fate_words::chooser::Chooser;
 use fitting_run::told::Told;
@@ -29,6 +28,7 @@ use line_rules::laws::{
 use loglet_api::loglet::Loglet;
 use one_thread::terms::Terms;
 use register_api::Register;
+use replica_api::node::OpenNode;
 use replica_api::replica::Replica;
 use script_text::asks::NamedLine;
 use std::alloc::{AllocError, Global};
@@ -38,7 +38,7 @@ use std::marker::Brand;
 pub struct Ran<L: Loglet, R: Register, S: Replica, C: Chooser> {
     pub cells: Vec<L>,
     pub register: R,
-    pub nodes: Vec<NodeParts<S, C>>,
+    pub nodes: Vec<OpenNode<S, C>>,
     pub told: Result<Told, AllocError>,
 }
 
@@ -47,7 +47,7 @@ fn run_by<L: Loglet, R: Register, K: Terms, S: Replica, C: Chooser>(
     alloc: Global,
     cells: Vec<L>,
     register: R,
-    nodes: Vec<NodeParts<S, C>>,
+    nodes: Vec<OpenNode<S, C>>,
     lines: &[NamedLine],
 ) -> Ran<L, R, S, C>
     requires run { MayRun K.may K.floor K.shelf }
@@ -62,7 +62,7 @@ fn run_by<L: Loglet, R: Register, K: Terms, S: Replica, C: Chooser>(
     requires sound { All (λ l. IsSound (L.view l)) cells.items }
     requires register { view.IsFresh (R.view register) }
     requires eight { length nodes.items ≤ 8 }
-    requires nodes { (j : ℕ) (n : NodeParts S C) → slice_get nodes.items j ≡ Some n → IsFreshReplica S.state S.spells (j + 1) (S.shows n.replica) }
+    requires nodes { (j : ℕ) (n : OpenNode S C) → slice_get nodes.items j ≡ Some n → IsFreshReplica S.state S.spells (j + 1) (S.shows n.replica) }
     requires lines { (home : ℕ → ℕ) × AreLines lines.now home (length nodes.items) }
     ensures told { IfOk result.told (RunTold lines.now (record { cells = map L.view result.cells.items; register = R.view result.register; disks = map (λ n. (S.shows n.replica).faults) result.nodes.items })) }
     ensures size { length result.nodes.items ≡ length nodes.items }
@@ -111,7 +111,7 @@ pub fn run_lines<L: Loglet, R: Register, S: Replica, C: Chooser>(
     alloc: Global,
     cells: Vec<L>,
     register: R,
-    nodes: Vec<NodeParts<S, C>>,
+    nodes: Vec<OpenNode<S, C>>,
     lines: &[NamedLine],
 ) -> Ran<L, R, S, C>
     requires state { (log : List Entry) (m : SpaceMap) → S.state log m → IsStateOf log m }
@@ -120,7 +120,7 @@ pub fn run_lines<L: Loglet, R: Register, S: Replica, C: Chooser>(
     requires fresh { All (λ l. IsFresh (L.view l)) cells.items }
     requires register { view.IsFresh (R.view register) }
     requires eight { length nodes.items ≤ 8 }
-    requires nodes { (j : ℕ) (n : NodeParts S C) → slice_get nodes.items j ≡ Some n → IsFreshReplica S.state S.spells (j + 1) (S.shows n.replica) }
+    requires nodes { (j : ℕ) (n : OpenNode S C) → slice_get nodes.items j ≡ Some n → IsFreshReplica S.state S.spells (j + 1) (S.shows n.replica) }
     requires lines { (home : ℕ → ℕ) × AreLines lines.now home (length nodes.items) }
     requires spelled { AllByRecursion (λ l. CanLog l.asks) lines.now }
 

@@ -4,6 +4,7 @@ pub mod Outcomes
 pub mod Acts
 pub mod Reads
 pub mod Yard
+pub mod Fresh
 pub mod Faults
 pub mod Replacements
 pub mod Reports

@@ -20,7 +20,7 @@ use Rattle.script_text.specs.declared.asks.Asks.{Asks}
 use Rattle.script_text.specs.declared.asks.Asks.TheVariants as asks
 use Rattle.script_text.specs.declared.line.Session as script
 use Rattle.run_laws.specs.Ended.{LogsThis}
-use Rattle.node_workers.specs.Workers.{MayRun}
+use Rattle.node_lines.specs.Workers.{MayRun}
 use Rattle.base_engine.specs.Trimming.{MayTrim, FloorIs}
 use Rattle.line_rules.specs.Rules.{LogsRank, IsLineOf, may_of, AreOfLines, IsAskedBy}
 use Rattle.line_rules.proofs.Contents.{all-contained, unpack_all-has, to_packed, one, joined, appearances-has}

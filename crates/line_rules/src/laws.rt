@@ -6,7 +6,7 @@ ghost use Rattle.table_core.specs.Spelling.{IsSpellable, command_length};
 ghost use Rattle.engine_api.specs.Packing.{packed, session_item, alive_item, leave_item, trim_item};
 ghost use Rattle.engine_api.specs.Acted.{Asked, asked_in};
 ghost use Rattle.base_engine.specs.Trimming.{MayTrim, FloorIs};
-ghost use Rattle.node_workers.specs.Workers.{MayRun};
+ghost use Rattle.node_lines.specs.Workers.{MayRun};
 ghost use Rattle.script_text.specs.declared.asks.NamedLine.{NamedLine};
 ghost use Rattle.script_text.specs.declared.line.Session.{Session};
 ghost use Rattle.script_text.specs.declared.line.Admin.TheVariants.{Alive, Retire, Trim};

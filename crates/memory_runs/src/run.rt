@@ -6,7 +6,7 @@ ghost use Rattle.script_words.specs.declared.plan.Plan.{Plan};
 ghost use Rattle.outside_ends.specs.Faults.{Rose};
 ghost use Rattle.script_runner.specs.Ends.{CanRun};
 ghost use Rattle.shelf_loglets.specs.Shelf.{AreRooms};
-ghost use Rattle.node_opening.specs.Kits.{five_kinds};
+ghost use Rattle.fitting_run.specs.Fresh.{five_kinds};
 ghost use Rattle.script_runner.specs.Fresh.{AreFresh, AreFreshKits};
 ghost use Rattle.memory_runs.specs.Disks.{IsFreshDisk};
 ghost use Rattle.memory_runs.specs.Standing.{Stands};

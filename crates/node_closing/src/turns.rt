@@ -8,7 +8,7 @@ ghost use Rattle.engine_laws.specs.State.{IsStateOf};
 ghost use Rattle.one_thread.specs.Alone.{Since};
 ghost use Rattle.one_thread.specs.Seats.{SeatOk, node_of};
 ghost use Rattle.node_lines.specs.Moving.{Moves};
-ghost use Rattle.node_workers.specs.Workers.{WorkerOk, MayRun, Within, Sends, IsOfSessions, Grows};
+ghost use Rattle.node_lines.specs.Workers.{WorkerOk, MayRun, Within, Sends, IsOfSessions, Grows};
 ghost use Rattle.node_closing.specs.Finishing.{Finishes};
 ghost use Rattle.node_closing.specs.Taking.{CanTakeAll, TakesAll};
 

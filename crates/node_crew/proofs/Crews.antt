@@ -17,7 +17,7 @@ use Rattle.script_text.specs.declared.asks.NamedLine.{NamedLine}
 use Rattle.one_thread.specs.Seats.{SeatView, SeatOk}
 use Rattle.node_sessions.specs.declared.desk.Desk.{Desk}
 use Rattle.node_lines.specs.declared.lines.Looked.{Looked}
-use Rattle.node_workers.specs.Workers.{MayRun, Grows, sent_of}
+use Rattle.node_lines.specs.Workers.{MayRun, Grows, sent_of}
 use Rattle.worker_laws.proofs.Staying.{seat_later}
 use Rattle.run_course.specs.Script.{AreLines, BeginsAt, asked_before}
 use Rattle.run_course.specs.Course.{CourseOk}

@@ -9,8 +9,8 @@ use Rattle.script_text.specs.declared.asks.NamedLine.{NamedLine}
 use Rattle.one_thread.specs.Seats.{SeatView, SeatOk}
 use Rattle.node_sessions.specs.declared.desk.Desk.{Desk}
 use Rattle.node_lines.specs.declared.lines.Looked.{Looked}
-use Rattle.node_workers.specs.Workers.{Grows, WorkerOk}
-use Rattle.node_workers.proofs.Scoping.{seat_allowed}
+use Rattle.node_lines.specs.Workers.{Grows, WorkerOk}
+use Rattle.node_lines.proofs.Scoping.{seat_allowed}
 use Rattle.run_course.specs.Script.{BeginsAt}
 use Rattle.run_course.specs.Course.{Course}
 use Rattle.run_course.specs.Workers.{IsUnderWay, LineWent}

@@ -5,7 +5,7 @@ ghost use Rattle.delos_types.specs.declared.entry.Entry.{Entry};
 ghost use Rattle.script_text.specs.declared.asks.NamedLine.{NamedLine};
 ghost use Rattle.engine_laws.specs.State.{IsStateOf};
 ghost use Rattle.base_engine.specs.Trimming.{FloorIs};
-ghost use Rattle.node_workers.specs.Workers.{MayRun};
+ghost use Rattle.node_lines.specs.Workers.{MayRun};
 ghost use Rattle.node_crew.specs.Turns.{MaySendAll};
 ghost use Rattle.node_crew.specs.Crews.{CrewAt, CrewRests, CrewStands, HasNone, HasOne, EndsPhase};
 

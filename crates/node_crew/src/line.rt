@@ -8,7 +8,7 @@ ghost use Rattle.one_thread.specs.Seats.{SeatOk};
 ghost use Rattle.script_text.specs.declared.asks.NamedLine.{NamedLine};
 ghost use Rattle.script_text.specs.declared.asks.Asks.TheVariants as asks;
 ghost use Rattle.node_lines.specs.declared.lines.Looked.{Looked};
-ghost use Rattle.node_workers.specs.Workers.{WorkerOk, MayRun, Grows};
+ghost use Rattle.node_lines.specs.Workers.{WorkerOk, MayRun, Grows};
 ghost use Rattle.run_course.specs.Course.{Course};
 ghost use Rattle.run_course.specs.Workers.{IsUnderWay, CanPlay, CanSend, IsNext, LineWent};
 

@@ -5,7 +5,7 @@ ghost use Rattle.delos_types.specs.declared.entry.Entry.{Entry};
 ghost use Rattle.engine_laws.specs.State.{IsStateOf};
 ghost use Rattle.base_engine.specs.Trimming.{FloorIs};
 ghost use Rattle.one_thread.specs.Seats.{SeatOk};
-ghost use Rattle.node_workers.specs.Workers.{MayRun, Grows};
+ghost use Rattle.node_lines.specs.Workers.{MayRun, Grows};
 ghost use Rattle.run_course.specs.Script.{BeginsAt};
 ghost use Rattle.run_course.specs.Course.{Course};
 ghost use Rattle.run_course.specs.Workers.{IsUnderWay, LineWent};

@@ -14,3 +14,6 @@ pub mod Ending
 pub mod Sessions
 pub mod Turning
 pub mod Closing
+pub mod Widening
+pub mod Scoping
+pub mod Cleaning

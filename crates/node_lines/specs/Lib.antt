@@ -7,3 +7,5 @@ pub mod Leaving
 pub mod Turns
 pub mod Measuring
 pub mod Trimming
+pub mod Workers
+pub mod Steps

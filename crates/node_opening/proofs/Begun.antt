@@ -10,8 +10,8 @@ use Rattle.engine_laws.specs.State.{IsStateOf}
 use Rattle.local_store.specs.View as store
 use Rattle.local_replica.specs.Shown.{pair_of, shown, Spells}
 use Rattle.local_replica.proofs.Showing.{shown_survives}
-use Rattle.crew_making.specs.Fresh.{IsFreshReplica}
-use Rattle.node_opening.specs.Kits.{IsCounted}
+use Rattle.replica_api.specs.Fresh.{IsFreshReplica}
+use Rattle.node_opening.specs.Opened.{IsCounted}
 
 pub fresh_replica : (v s : store.View) (o number : ℕ) (w : List Item) → v ≡ s → store.saved_in s ≡ nothing_saved → s.asked ≡ None → store.Survives s → o ≡ number → w ≡ [] → IsStateOf [] map.empty → IsFreshReplica IsStateOf Spells number (shown v o w)
 fresh_replica v s o number w is start none survives same waits empty = record {

@@ -1,1 +1,1 @@
-pub mod Kits
+pub mod Opened

@@ -3,25 +3,25 @@ ghost use Rattle.std.specs.Prelude.{◌≡◌, ◌≤◌, ◌+◌, [], ◌∷◌
 ghost use Rattle.std.specs.List.{AllByRecursion};
 ghost use Rattle.std.specs.Vec.{vec_capacity};
 ghost use Rattle.local_replica.specs.Shown.{shown};
-ghost use Rattle.node_opening.specs.Kits.{five_kinds};
+ghost use Rattle.fitting_run.specs.Fresh.{five_kinds};
 
 use crate::parts::NodeKit;
-use crew_making::parts::NodeParts;
 use disk_model::Disk;
 use fate_words::chooser::Chooser;
 use local_replica::layers::Layers;
 use local_replica::replica::LocalReplica;
+use replica_api::node::OpenNode;
 
 /// The engines of a node, its disk, and what chooses for it.
 fn close_node<E: Layers, D: Disk, C: Chooser>(
-    node: NodeParts<LocalReplica<E, D>, C>,
+    node: OpenNode<LocalReplica<E, D>, C>,
 ) -> NodeKit<E, D, C>
     ensures engines { result.engines ≡ node.replica.engines }
     ensures kinds { E.kinds result.engines ≡ five_kinds }
     ensures disk { D.view result.disk ≡ node.replica.store.disk }
     ensures chooser { result.chooser ≡ node.chooser }
 {
-    let NodeParts { replica, chooser } = node;
+    let OpenNode { replica, chooser } = node;
     let (engines, store) = replica.into_parts();
     NodeKit {
         engines,
@@ -47,7 +47,7 @@ pub(crate) fn put_first<E: Layers, D: Disk, C: Chooser>(
 
 /// Puts the kits of all nodes before the others. Takes no memory.
 pub(crate) fn close_before<E: Layers, D: Disk, C: Chooser>(
-    nodes: Vec<NodeParts<LocalReplica<E, D>, C>>,
+    nodes: Vec<OpenNode<LocalReplica<E, D>, C>>,
     kits: &mut Vec<NodeKit<E, D, C>>,
 )
     requires room { length nodes.items + length kits.old.items ≤ vec_capacity kits.old }
@@ -68,7 +68,7 @@ pub(crate) fn close_before<E: Layers, D: Disk, C: Chooser>(
 
 /// Takes the state machines of all nodes apart, in their order. Takes no memory: there is room for the kits.
 pub fn close_all<E: Layers, D: Disk, C: Chooser>(
-    nodes: Vec<NodeParts<LocalReplica<E, D>, C>>,
+    nodes: Vec<OpenNode<LocalReplica<E, D>, C>>,
     kits: &mut Vec<NodeKit<E, D, C>>,
 )
     requires none { kits.old.items ≡ [] }

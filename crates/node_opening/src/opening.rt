@@ -4,12 +4,12 @@ ghost use Rattle.std.specs.List.{AllByRecursion};
 ghost use Rattle.std.specs.Vec.{vec_capacity};
 ghost use Rattle.engine_laws.specs.State.{IsStateOf};
 ghost use Rattle.local_replica.specs.Shown.{shown, Spells};
-ghost use Rattle.crew_making.specs.Fresh.{IsFreshReplica};
-ghost use Rattle.node_opening.specs.Kits.{IsFreshKit, IsCounted, AreFreshReplicas};
+ghost use Rattle.replica_api.specs.Fresh.{IsFreshReplica};
+ghost use Rattle.fitting_run.specs.Fresh.{IsFreshKit};
+ghost use Rattle.node_opening.specs.Opened.{IsCounted, AreFreshReplicas};
 
 use crate::closing::{close_before, put_first};
 use crate::parts::NodeKit;
-use crew_making::parts::NodeParts;
 use delos_types::numbers::NodeId;
 use disk_model::Disk;
 use engine_laws::laws::starts_empty;
@@ -17,6 +17,7 @@ use fate_words::chooser::Chooser;
 use local_replica::layers::Layers;
 use local_replica::replica::LocalReplica;
 use local_store::Store;
+use replica_api::node::OpenNode;
 use std::alloc::{AllocError, Global};
 
 /// The engines of a node, over a store on its disk. Without memory the kit comes back.
@@ -24,7 +25,7 @@ fn open_node<E: Layers, D: Disk, C: Chooser>(
     alloc: Global,
     number: NodeId,
     kit: NodeKit<E, D, C>,
-) -> Result<NodeParts<LocalReplica<E, D>, C>, NodeKit<E, D, C>>
+) -> Result<OpenNode<LocalReplica<E, D>, C>, NodeKit<E, D, C>>
     requires { IsFreshKit (E.kinds kit.engines) (E.waiting kit.engines) (D.view kit.disk) }
     ensures fresh { IfOk result (λ n. IsFreshReplica IsStateOf Spells number (shown n.replica.store n.replica.origin (E.waiting n.replica.engines))) }
     ensures counted { IfOk result (λ n. IsCounted (shown n.replica.store n.replica.origin (E.waiting n.replica.engines))) }
@@ -41,7 +42,7 @@ fn open_node<E: Layers, D: Disk, C: Chooser>(
         Ok(store) => {
             starts_empty();
             let replica = LocalReplica::new(alloc, number, engines, store);
-            return Ok(NodeParts { replica, chooser });
+            return Ok(OpenNode { replica, chooser });
         }
         Err(disk) => {
             return Err(NodeKit {
@@ -61,7 +62,7 @@ fn open_node<E: Layers, D: Disk, C: Chooser>(
 pub fn open_all<E: Layers, D: Disk, C: Chooser>(
     alloc: Global,
     kits: &mut Vec<NodeKit<E, D, C>>,
-) -> Result<Vec<NodeParts<LocalReplica<E, D>, C>>, AllocError>
+) -> Result<Vec<OpenNode<LocalReplica<E, D>, C>>, AllocError>
     requires eight { length kits.old.items ≤ 8 }
     requires fresh { AllByRecursion (λ k. IsFreshKit (E.kinds k.engines) (E.waiting k.engines) (D.view k.disk)) kits.old.items }
     ensures fresh { IfOk result (λ nodes. AreFreshReplicas (λ n. shown n.replica.store n.replica.origin (E.waiting n.replica.engines)) nodes.items) }

@@ -21,7 +21,7 @@ use Rattle.node_sessions.specs.UnderWay.{Among, HasRank, rank_under, ranks_in}
 use Rattle.node_sessions.proofs.Ranks.{rank-packed, ranks-append}
 use Rattle.node_lines.specs.Moving.{CanPack}
 use Rattle.node_lines.specs.Desks.{MayJoin}
-use Rattle.node_workers.specs.Workers.{Within, Sends, IsCommand, IsOfSession, IsOfSessions, SaysAlone, sent_of}
+use Rattle.node_lines.specs.Workers.{Within, Sends, IsCommand, IsOfSession, IsOfSessions, SaysAlone, sent_of}
 
 same_number : (a b : ℕ) → (a == b) ≡ true → a ≡ b
 same_number a b e = grind (arith, nat_tests, e)

@@ -1,10 +1,7 @@
 pub mod Joining
-pub mod Widening
-pub mod Scoping
 pub mod Working
 pub mod Logging
 pub mod Ok
-pub mod Cleaning
 pub mod Telling
 pub mod Trimming
 pub mod Stepping

@@ -21,8 +21,8 @@ use Rattle.node_lines.specs.Lines.{IsFree, Readies}
 use Rattle.node_lines.proofs.Moving.{goes-both, stays-both}
 use Rattle.node_lines.proofs.Desks.{desk_goes}
 use Rattle.node_lines.proofs.Turning.{same_at}
-use Rattle.node_workers.specs.Workers.{Within, Sends, IsOfSession, WorkerOk, LogsIt, sent_of}
-use Rattle.node_workers.proofs.Widening.{within-more, goes_wider}
+use Rattle.node_lines.specs.Workers.{Within, Sends, IsOfSession, WorkerOk, LogsIt, sent_of}
+use Rattle.node_lines.proofs.Widening.{within-more, goes_wider}
 
 own-append : (who : ℕ) (xs ys : List Event) → AreOwn who xs → AreOwn who ys → AreOwn who (xs ++ ys)
 own-append who [] ys h k = k

@@ -6,10 +6,10 @@ use Rattle.legal_journal.specs.declared.events.Event.{Event}
 use Rattle.replica_api.specs.Replica.{Saved}
 use Rattle.one_thread.specs.Alone.{Since}
 use Rattle.one_thread.specs.Seats.{SeatView, SeatOk}
-use Rattle.node_workers.specs.Workers.{Sends, sent_of}
-use Rattle.node_workers.specs.Steps.{IsLeft, IsDone}
-use Rattle.node_workers.proofs.Widening.{seat_wider, grows-since, grows-both}
-use Rattle.node_workers.proofs.Scoping.{seat_allowed, sends_more}
+use Rattle.node_lines.specs.Workers.{Sends, sent_of}
+use Rattle.node_lines.specs.Steps.{IsLeft, IsDone}
+use Rattle.node_lines.proofs.Widening.{seat_wider, grows-since, grows-both}
+use Rattle.node_lines.proofs.Scoping.{seat_allowed, sends_more}
 use Rattle.node_workers.proofs.Logging.{since-both}
 
 module _ (may : ℕ → Entry → Type 0) (floor : List Entry → ℕ → Type 0) (shelf : List ℕ) (state : List Entry → SpaceMap → Type 0) (spells : List ℕ → Saved → Type 0) where

@@ -25,10 +25,10 @@ use Rattle.node_lines.specs.Leaving.{Leaves}
 use Rattle.node_lines.proofs.Moving.{moves-both}
 use Rattle.node_lines.proofs.Assembling.{reports_of, reports_told, reports_untold, leaves_of, leaves_done, leaves_untold, leaves_unplayed}
 use Rattle.node_lines.proofs.Reporting.{plain-rank}
-use Rattle.node_workers.specs.Workers.{Within, IsOfSessions, SaysAlone, ReportAdds}
-use Rattle.node_workers.proofs.Cleaning.{clean_later, clean_none, position_clean, position_low}
+use Rattle.node_lines.specs.Workers.{Within, IsOfSessions, SaysAlone, ReportAdds}
+use Rattle.node_lines.proofs.Cleaning.{clean_later, clean_none, position_clean, position_low}
 use Rattle.node_workers.proofs.Joining.{within-plain}
-use Rattle.node_workers.specs.Steps.{TellsAndPlays, came_to}
+use Rattle.node_lines.specs.Steps.{TellsAndPlays, came_to}
 
 -- What was appended meanwhile
 

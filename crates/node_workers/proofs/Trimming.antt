@@ -33,9 +33,9 @@ use Rattle.node_lines.specs.Trimming.{Cuts, TrimsLog}
 use Rattle.node_lines.proofs.Assembling.{trims_of, trims_done, trims_uncut, trims_unplayed, trims_untold}
 use Rattle.node_lines.proofs.Floors.{least-in_state, point-in_state}
 use Rattle.node_lines.proofs.Moving.{keeps-both}
-use Rattle.node_workers.specs.Workers.{IsCommand, IsOfSessions, HasNotLeft, TrimAdds, SaysAlone}
-use Rattle.node_workers.specs.Steps.{TellsAndPlays}
-use Rattle.node_workers.proofs.Cleaning.{AreGood, good_clean, good_adds, good_told, good_point, good_least, said_appended, says_command, says_that, same_front, clean_within, clean_later, clean_in, clean_none}
+use Rattle.node_lines.specs.Workers.{IsCommand, IsOfSessions, HasNotLeft, TrimAdds, SaysAlone}
+use Rattle.node_lines.specs.Steps.{TellsAndPlays}
+use Rattle.node_lines.proofs.Cleaning.{AreGood, good_clean, good_adds, good_told, good_point, good_least, said_appended, says_command, says_that, same_front, clean_within, clean_later, clean_in, clean_none}
 use Rattle.node_workers.proofs.Telling.{tells_moves}
 
 -- What was appended meanwhile

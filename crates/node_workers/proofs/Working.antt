@@ -15,7 +15,7 @@ use Rattle.node_lines.specs.Moving.{Moves, CanPack}
 use Rattle.node_lines.specs.Turns.{ClosesIt, EndsTurn}
 use Rattle.node_lines.proofs.Desks.{desk_moves}
 use Rattle.node_lines.proofs.Turning.{was_at, same_at}
-use Rattle.node_workers.specs.Workers.{Within, Sends, IsOfSession, WorkerOk, MayRun, sent_of}
+use Rattle.node_lines.specs.Workers.{Within, Sends, IsOfSession, WorkerOk, MayRun, sent_of}
 
 -- where nothing waits, all that waits is of sessions
 pub none-waits : (s : SeatView) → s.node.replica.kept ≡ [] → All IsOfSession s.node.replica.kept

@@ -16,8 +16,8 @@ ghost use Rattle.node_lines.specs.Measuring.{AreClean};
 ghost use Rattle.node_lines.specs.Reporting.{Reports};
 ghost use Rattle.node_lines.specs.Leaving.{Leaves};
 ghost use Rattle.node_lines.specs.Trimming.{TrimsLog};
-ghost use Rattle.node_workers.specs.Workers.{WorkerOk, MayRun, Within, Sends, IsOfSessions, ReportAdds, LeaveAdds, TrimAdds, HasNotLeft, Grows};
-ghost use Rattle.node_workers.specs.Steps.{IsLeft, IsDone};
+ghost use Rattle.node_lines.specs.Workers.{WorkerOk, MayRun, Within, Sends, IsOfSessions, ReportAdds, LeaveAdds, TrimAdds, HasNotLeft, Grows};
+ghost use Rattle.node_lines.specs.Steps.{IsLeft, IsDone};
 
 use crate::steps::{came_to, catch_up, clean, cut, extend, least, settle, tell, tell_and_play};
 use crate::turns::Returned;

@@ -26,9 +26,9 @@ ghost use Rattle.node_lines.specs.Reporting.{IsPlain, Tells};
 ghost use Rattle.node_lines.specs.Leaving.{PlaysKnown};
 ghost use Rattle.node_lines.specs.Trimming.{Cuts};
 ghost use Rattle.node_lines.specs.Turns.{EndsTurn};
-ghost use Rattle.node_workers.specs.Workers.{MayRun, Within, Sends, IsOfSession, IsOfSessions, sent_of};
-ghost use Rattle.node_workers.specs.Steps as steps;
-ghost use Rattle.node_workers.specs.Steps.{IsLeft, IsDone, TellsAndPlays};
+ghost use Rattle.node_lines.specs.Workers.{MayRun, Within, Sends, IsOfSession, IsOfSessions, sent_of};
+ghost use Rattle.node_lines.specs.Steps as steps;
+ghost use Rattle.node_lines.specs.Steps.{IsLeft, IsDone, TellsAndPlays};
 
 use crate::admin_within::{
     catch_up_within, clean_within, cut_within, extend_within, least_within, play_within,

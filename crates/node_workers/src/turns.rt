@@ -16,8 +16,8 @@ ghost use Rattle.node_lines.specs.Moving.{CanPack};
 ghost use Rattle.node_lines.specs.Desks.{DeskOk};
 ghost use Rattle.node_lines.specs.Lines.{Looks};
 ghost use Rattle.node_lines.specs.Turns.{EndsTurn};
-ghost use Rattle.node_workers.specs.Workers.{WorkerOk, MayRun, LogsIt, Logs, Within, Sends, IsOfSession, IsOfSessions, Grows, sent_of};
-ghost use Rattle.node_workers.specs.Steps.{IsLeft, IsDone};
+ghost use Rattle.node_lines.specs.Workers.{WorkerOk, MayRun, LogsIt, Logs, Within, Sends, IsOfSession, IsOfSessions, Grows, sent_of};
+ghost use Rattle.node_lines.specs.Steps.{IsLeft, IsDone};
 
 use crate::steps::{end, log, look, ready};
 use crate::within::Back;

@@ -22,7 +22,7 @@ use Rattle.log_acts.proofs.Pairs.{all-append}
 use Rattle.node_lines.specs.declared.lines.Looked.{Looked}
 use Rattle.node_lines.specs.declared.lines.Looked.TheVariants as looked
 use Rattle.node_lines.specs.Moving.{is_store, Rises}
-use Rattle.node_workers.specs.Workers.{Within, sent_of}
+use Rattle.node_lines.specs.Workers.{Within, sent_of}
 use Rattle.run_laws.specs.Ended.{Fault, pays, most_faults}
 use Rattle.run_course.specs.Script.{failure_of_look, failed_looks}
 use Rattle.run_course.specs.Course.{Course, BeganAt, CourseOk, TurnOf}

@@ -16,7 +16,7 @@ use Rattle.fitting_run.specs.Lines.{logs_for}
 use Rattle.one_thread.specs.Seats.{SeatView}
 use Rattle.node_sessions.specs.declared.desk.Desk.{Desk}
 use Rattle.node_lines.specs.declared.lines.Looked.{Looked}
-use Rattle.node_workers.specs.Workers.{sent_of}
+use Rattle.node_lines.specs.Workers.{sent_of}
 use Rattle.run_laws.specs.Ended.{IsAtHome}
 use Rattle.run_course.specs.Script.{BeginsAt, logs_at, asked_by, asked_before}
 use Rattle.run_course.specs.Course.{Course}

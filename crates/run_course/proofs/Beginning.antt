@@ -14,7 +14,7 @@ use Rattle.one_thread.specs.Seats.{SeatView}
 use Rattle.node_sessions.specs.declared.desk.Desk.{Desk}
 use Rattle.node_lines.specs.declared.lines.Looked.{Looked}
 use Rattle.node_lines.specs.declared.lines.Looked.TheVariants as looked
-use Rattle.node_workers.specs.Workers.{sent_of}
+use Rattle.node_lines.specs.Workers.{sent_of}
 use Rattle.run_laws.specs.Ended.{CameTo}
 use Rattle.run_course.specs.Script.{asked_before}
 use Rattle.run_course.specs.Course.{Course, BeganAt, CourseOk}

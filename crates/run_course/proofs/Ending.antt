@@ -34,7 +34,7 @@ use Rattle.node_lines.specs.Moving.{causes_of}
 use Rattle.node_lines.specs.Lines.{Stopped, failure_in}
 use Rattle.node_lines.specs.Turns.{ClosesIt, EndsTurn}
 use Rattle.node_lines.proofs.Turning.{ends_quiet, same_at, was_at}
-use Rattle.node_workers.specs.Workers.{IsOfSessions, MayRun, Within, WorkerOk}
+use Rattle.node_lines.specs.Workers.{IsOfSessions, MayRun, Within, WorkerOk}
 use Rattle.worker_laws.proofs.Bounding.{acted_stays}
 use Rattle.run_laws.specs.Ended.{CameTo, rank_in, session_in}
 use Rattle.run_laws.proofs.Members.{Among, among-right}

@@ -24,7 +24,7 @@ use Rattle.node_lines.specs.declared.lines.Looked.{Looked}
 use Rattle.node_lines.specs.declared.lines.Looked.TheVariants as looked
 use Rattle.node_lines.specs.Moving.{is_store}
 use Rattle.node_lines.specs.Extending.{Extends, ExtendsSo}
-use Rattle.node_workers.specs.Workers.{IsOfSessions, Within, WorkerOk}
+use Rattle.node_lines.specs.Workers.{IsOfSessions, Within, WorkerOk}
 use Rattle.worker_laws.specs.Extending.{made}
 use Rattle.worker_laws.proofs.Lone.{lone_extension}
 use Rattle.worker_laws.proofs.Sealing.{lone_once}

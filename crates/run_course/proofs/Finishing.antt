@@ -16,7 +16,7 @@ use Rattle.one_thread.specs.Seats.{SeatView, node_of}
 use Rattle.node_sessions.specs.declared.desk.Desk.{Desk}
 use Rattle.node_lines.specs.declared.lines.Looked.{Looked}
 use Rattle.node_lines.specs.Moving.{Moves}
-use Rattle.node_workers.specs.Workers.{IsOfSessions, Within, WorkerOk}
+use Rattle.node_lines.specs.Workers.{IsOfSessions, Within, WorkerOk}
 use Rattle.run_laws.specs.Ended.{CameTo, session_in}
 use Rattle.run_course.specs.Script.{BeginsAt}
 use Rattle.run_course.specs.Course.{Course, CourseOk, TurnOf}

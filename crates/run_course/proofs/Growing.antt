@@ -21,7 +21,7 @@ use Rattle.log_acts.proofs.Pairs.{all-imply}
 use Rattle.node_sessions.specs.declared.desk.Desk.{Desk}
 use Rattle.node_lines.specs.declared.lines.Looked.{Looked}
 use Rattle.node_lines.specs.declared.lines.Looked.TheVariants as looked
-use Rattle.node_workers.specs.Workers.{Within}
+use Rattle.node_lines.specs.Workers.{Within}
 use Rattle.run_laws.specs.Ended.{CameTo, Fault, session_in}
 use Rattle.run_laws.proofs.Members.{among-left, contained-among, contains-among}
 use Rattle.run_course.specs.Script.{asked_by}

@@ -21,7 +21,7 @@ use Rattle.one_thread.specs.Seats.{SeatView, node_of}
 use Rattle.node_sessions.specs.declared.desk.Desk.{Desk}
 use Rattle.node_lines.specs.declared.lines.Looked.{Looked}
 use Rattle.node_lines.specs.Moving.{IsQuiet, causes_of}
-use Rattle.node_workers.specs.Workers.{IsOfSessions, Logs, Within, WorkerOk, sent_of}
+use Rattle.node_lines.specs.Workers.{IsOfSessions, Logs, Within, WorkerOk, sent_of}
 use Rattle.run_laws.specs.Ended.{IsAtHome, session_in}
 use Rattle.run_laws.proofs.Members.{among-right, contained-among}
 use Rattle.run_laws.proofs.Placing.{same_some}

@@ -30,7 +30,7 @@ use Rattle.node_sessions.specs.declared.desk.Desk.{Desk}
 use Rattle.node_lines.specs.declared.lines.Looked.{Looked}
 use Rattle.node_lines.specs.declared.lines.Looked.TheVariants as looked
 use Rattle.node_lines.specs.Lines.{Looks, LooksSo}
-use Rattle.node_workers.specs.Workers.{IsOfSessions, MayRun, Within, WorkerOk}
+use Rattle.node_lines.specs.Workers.{IsOfSessions, MayRun, Within, WorkerOk}
 use Rattle.run_laws.specs.Ended.{CameTo}
 use Rattle.run_laws.proofs.Placing.{same_some}
 use Rattle.run_course.specs.Script.{AreLines, BeginsAt, asked_by}

@@ -15,7 +15,7 @@ use Rattle.member_laws.proofs.Membership.{least_at, says_left, says_position}
 use Rattle.script_text.specs.declared.asks.NamedLine.{NamedLine}
 use Rattle.node_lines.specs.declared.lines.Looked.{Looked}
 use Rattle.node_lines.specs.declared.lines.Looked.TheVariants as looked
-use Rattle.node_workers.specs.Workers.{HasNotLeft}
+use Rattle.node_lines.specs.Workers.{HasNotLeft}
 use Rattle.run_laws.proofs.Members.{Among, contained-among}
 use Rattle.run_course.specs.Telling.{GoesFirst, HasToldSo, IsLowest, StaysBelow}
 use Rattle.run_course.proofs.Stands.{said_in}

@@ -26,7 +26,7 @@ use Rattle.node_sessions.specs.declared.desk.Desk.{Desk}
 use Rattle.node_lines.specs.declared.lines.Looked.{Looked}
 use Rattle.node_lines.specs.declared.lines.Looked.TheVariants as looked
 use Rattle.node_lines.specs.Moving.{causes_of, Moves}
-use Rattle.node_workers.specs.Workers.{Within, WorkerOk}
+use Rattle.node_lines.specs.Workers.{Within, WorkerOk}
 use Rattle.run_laws.specs.Ended.{CameTo, session_in}
 use Rattle.run_laws.proofs.Members.{among-map}
 use Rattle.run_laws.proofs.Placing.{same_some}

@@ -21,7 +21,7 @@ use Rattle.node_sessions.specs.declared.desk.Desk.{Desk}
 use Rattle.node_lines.specs.declared.lines.Looked.{Looked}
 use Rattle.node_lines.specs.declared.lines.Looked.TheVariants as looked
 use Rattle.node_lines.specs.Reporting.{HasTold, Reports, ReportsSo}
-use Rattle.node_workers.specs.Workers.{ReportAdds, Within, WorkerOk}
+use Rattle.node_lines.specs.Workers.{ReportAdds, Within, WorkerOk}
 use Rattle.run_course.specs.Script.{AreLines}
 use Rattle.run_course.specs.Course.{Course, CourseOk}
 use Rattle.run_course.specs.Desks.{IsOfNode}

@@ -23,7 +23,7 @@ use Rattle.node_sessions.specs.declared.desk.Desk.{Desk}
 use Rattle.node_lines.specs.declared.lines.Looked.{Looked}
 use Rattle.node_lines.specs.declared.lines.Looked.TheVariants as looked
 use Rattle.node_lines.specs.Trimming.{HasTrimmed, TrimsLog, TrimsSo}
-use Rattle.node_workers.specs.Workers.{HasNotLeft, IsCommand, IsOfSessions, MayRun, SaysAlone, TrimAdds, Within, WorkerOk}
+use Rattle.node_lines.specs.Workers.{HasNotLeft, IsCommand, IsOfSessions, MayRun, SaysAlone, TrimAdds, Within, WorkerOk}
 use Rattle.run_course.specs.Script.{AreLines}
 use Rattle.run_course.specs.Course.{Course, CourseOk}
 use Rattle.run_course.specs.Desks.{IsOfNode}

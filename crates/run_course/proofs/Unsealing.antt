@@ -8,7 +8,7 @@ use Rattle.legal_journal.specs.Sealing.{Unsealed}
 use Rattle.unsealed_chain.specs.Unsealed.{IsUnsealed}
 use Rattle.unsealed_chain.proofs.Staying.{stays_unsealed}
 use Rattle.node_lines.specs.declared.lines.Looked.{Looked}
-use Rattle.node_workers.specs.Workers.{Within}
+use Rattle.node_lines.specs.Workers.{Within}
 use Rattle.run_course.specs.Replacing.{has_replaced}
 use Rattle.run_course.proofs.Replacing.{count_set}
 

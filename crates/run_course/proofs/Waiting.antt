@@ -18,7 +18,7 @@ use Rattle.one_thread.specs.Seats.{SeatView, node_of}
 use Rattle.node_sessions.specs.declared.desk.Desk.{Desk}
 use Rattle.node_lines.specs.declared.lines.Looked.{Looked}
 use Rattle.node_lines.specs.Moving.{IsQuiet}
-use Rattle.node_workers.specs.Workers.{Within, WorkerOk}
+use Rattle.node_lines.specs.Workers.{Within, WorkerOk}
 use Rattle.worker_laws.proofs.Staying.{worker_stays}
 use Rattle.run_laws.specs.Ended.{CameTo, Fault, IsAtHome, most_faults, session_in}
 use Rattle.run_course.specs.Script.{AreLines, BeginsAt, asked_by, failed_looks, logs_at}

@@ -12,7 +12,7 @@ use Rattle.script_text.specs.declared.asks.NamedLine.{NamedLine}
 use Rattle.node_lines.specs.declared.lines.Looked.{Looked}
 use Rattle.node_lines.specs.declared.lines.Looked.TheVariants as looked
 use Rattle.one_thread.specs.Alone.{AreOwn}
-use Rattle.node_workers.specs.Workers.{Within, sent_of}
+use Rattle.node_lines.specs.Workers.{Within, sent_of}
 use Rattle.run_laws.specs.Ended.{Fault}
 use Rattle.run_course.specs.Script.{asked_before, failed_looks}
 use Rattle.run_course.specs.Replacing.{Replaced, has_replaced}

@@ -21,7 +21,7 @@ use Rattle.fitting_run.specs.Lines.{logs_for}
 use Rattle.node_sessions.specs.declared.desk.Desk.{Desk}
 use Rattle.node_lines.specs.declared.lines.Looked.{Looked}
 use Rattle.node_lines.specs.declared.lines.Looked.TheVariants as looked
-use Rattle.node_workers.specs.Workers.{sent_of}
+use Rattle.node_lines.specs.Workers.{sent_of}
 use Rattle.run_laws.specs.Ended.{CameTo, rank_in}
 use Rattle.run_course.specs.Script.{asked_by}
 use Rattle.run_course.specs.Reporting.{ReportedSo}

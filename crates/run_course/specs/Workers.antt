@@ -16,7 +16,7 @@ use Rattle.node_sessions.specs.declared.desk.Desk.{Desk}
 use Rattle.node_lines.specs.declared.lines.Looked.{Looked}
 use Rattle.node_lines.specs.Measuring.{AreClean}
 use Rattle.node_lines.specs.Moving.{IsQuiet}
-use Rattle.node_workers.specs.Workers.{HasNotLeft, WorkerOk, sent_of}
+use Rattle.node_lines.specs.Workers.{HasNotLeft, WorkerOk, sent_of}
 use Rattle.run_laws.specs.Ended.{CameTo, most_faults}
 use Rattle.run_course.specs.Script.{AreLines, BeginsAt, asked_by, failed_looks}
 use Rattle.legal_journal.specs.declared.events.Event.{Event}

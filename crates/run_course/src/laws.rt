@@ -23,7 +23,7 @@ ghost use Rattle.node_lines.specs.Leaving.{Leaves};
 ghost use Rattle.node_lines.specs.Trimming.{TrimsLog};
 ghost use Rattle.node_lines.specs.Moving.{Moves};
 ghost use Rattle.node_lines.specs.Turns.{EndsTurn};
-ghost use Rattle.node_workers.specs.Workers.{WorkerOk, MayRun, Logs, Within, IsOfSessions, ReportAdds, LeaveAdds, TrimAdds, sent_of};
+ghost use Rattle.node_lines.specs.Workers.{WorkerOk, MayRun, Logs, Within, IsOfSessions, ReportAdds, LeaveAdds, TrimAdds, sent_of};
 ghost use Rattle.run_course.specs.Script.{AreLines, BeginsAt, asked_before};
 ghost use Rattle.run_course.specs.Telling.{AskedFor, TellsAtLeast, ReportsUpTo};
 ghost use Rattle.run_course.specs.Course.{Course, CourseOk, TurnOf};

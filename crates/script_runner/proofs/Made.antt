@@ -37,7 +37,7 @@ use Rattle.made_script.specs.Made.{made_lines, amounts}
 use Rattle.made_script.specs.Asked.{logs_something, extends, asks_to_extend, added, added_by, AddsOrExtends}
 use Rattle.run_totals.specs.Totals.{commands_in, acted_in, table_told, sum_of_table}
 use Rattle.run_totals.specs.Adds.{amounts_in, amount_asked, AsksSmallAdd, AreSmallAdds}
-use Rattle.course_ends.specs.Ends.{GoesTo}
+use Rattle.fitting_run.specs.Calm.{GoesTo}
 use Rattle.script_runner.specs.declared.ended.Status.{Status}
 use Rattle.script_runner.specs.declared.ended.Status.TheVariants as status
 use Rattle.script_runner.specs.Ends.{Ran, ComesFrom, any_open, Composes}

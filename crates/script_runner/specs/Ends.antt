@@ -28,7 +28,7 @@ use Rattle.fitting_run.specs.Answered.{is_open}
 use Rattle.fitting_run.specs.Yard.{Shown}
 use Rattle.fitting_run.specs.Fits.{Fits}
 use Rattle.fitting_run.specs.Replacements.{version_made, version_found}
-use Rattle.course_ends.specs.Ends.{GoesTo}
+use Rattle.fitting_run.specs.Calm.{GoesTo}
 use Rattle.fitting_run.specs.Calm.{IsCalm, all_answered}
 
 -- how many bytes of a source are read at most: one more than a script may have

@@ -5,7 +5,7 @@ use Rattle.loglet_api.specs.View.{LogletView, IsFresh}
 use Rattle.register_api.specs.View as register
 use Rattle.disk_model.specs.Disk.{DiskView}
 use Rattle.delos_types.specs.declared.item.Item.{Item}
-use Rattle.node_opening.specs.Kits.{IsFreshKit}
+use Rattle.fitting_run.specs.Fresh.{IsFreshKit}
 use Rattle.script_words.specs.declared.plan.Plan.{Plan}
 use Rattle.script_words.specs.Plans.{plan_of}
 use Rattle.fitting_run.specs.Yard.{Shown}

@@ -15,8 +15,8 @@ use Rattle.one_thread.proofs.Moments.{held_before, held_sent}
 use Rattle.node_sessions.specs.Desks.{AreAnswers}
 use Rattle.node_sessions.specs.UnderWay.{HasRank}
 use Rattle.node_lines.proofs.Fronts.{splits, gap-longer, answers-longer}
-use Rattle.node_workers.specs.Workers.{Within, sent_of}
-use Rattle.node_workers.proofs.Cleaning.{front_within}
+use Rattle.node_lines.specs.Workers.{Within, sent_of}
+use Rattle.node_lines.proofs.Cleaning.{front_within}
 
 module _ (may : ℕ → Entry → Type 0) (floor : List Entry → ℕ → Type 0) (shelf : List ℕ) where
   -- what is held below an early tail was held then, so it was sent within the counts of then

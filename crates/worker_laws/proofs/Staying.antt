@@ -20,9 +20,9 @@ use Rattle.node_sessions.specs.declared.desk.Desk.{Desk}
 use Rattle.node_sessions.specs.UnderWay.{HasLanded, IsUnderWay, IsGiven}
 use Rattle.one_thread.specs.Seats.{SeatView, SeatOk, node_of}
 use Rattle.node_lines.specs.Desks.{DeskOk}
-use Rattle.node_workers.specs.Workers.{Within, Sends, WorkerOk, sent_of}
-use Rattle.node_workers.proofs.Widening.{seat_wider}
-use Rattle.node_workers.proofs.Scoping.{sends_grow, sends_more}
+use Rattle.node_lines.specs.Workers.{Within, Sends, WorkerOk, sent_of}
+use Rattle.node_lines.proofs.Widening.{seat_wider}
+use Rattle.node_lines.proofs.Scoping.{sends_grow, sends_more}
 
 module _ (may : ℕ → Entry → Type 0) (floor : List Entry → ℕ → Type 0) (shelf : List ℕ) (early more : List Event) (legal : IsLegal may floor shelf (early ++ more)) where
   front_later : (log : List Entry) → IsFront Holds early log → IsFront Holds (early ++ more) log

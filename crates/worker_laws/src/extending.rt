@@ -10,7 +10,7 @@ ghost use Rattle.base_engine.specs.Node.{NodeView};
 ghost use Rattle.one_thread.specs.Alone.{Since};
 ghost use Rattle.node_lines.specs.declared.lines.Looked.TheVariants as looked;
 ghost use Rattle.node_lines.specs.Extending.{Extends};
-ghost use Rattle.node_workers.specs.Workers.{Within};
+ghost use Rattle.node_lines.specs.Workers.{Within};
 ghost use Rattle.worker_laws.specs.Extending.{HasStarted, ExtendedSo, made};
 
 use legal_journal::rules::Rules;

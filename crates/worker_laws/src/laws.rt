@@ -12,7 +12,7 @@ ghost use Rattle.node_sessions.specs.declared.desk.Desk.{Desk};
 ghost use Rattle.node_sessions.specs.Desks.{AreAnswers};
 ghost use Rattle.node_sessions.specs.UnderWay.{HasRank};
 ghost use Rattle.one_thread.specs.Seats.{SeatView};
-ghost use Rattle.node_workers.specs.Workers.{Within, WorkerOk, sent_of};
+ghost use Rattle.node_lines.specs.Workers.{Within, WorkerOk, sent_of};
 
 use legal_journal::rules::Rules;
 use replica_api::replica::Replica;

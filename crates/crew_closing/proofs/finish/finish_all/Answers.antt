@@ -3,7 +3,7 @@ use Rattle.std.specs.Prelude.{slice_set}
 use Rattle.std.proofs.lemmas.Bool.{cases_lt}
 use Rattle.base_engine.specs.Trimming.{FloorIs}
 use Rattle.node_workers.proofs.Ok.{in_ok, on_ok}
-use Rattle.node_workers.proofs.Widening.{grows-both}
+use Rattle.node_lines.proofs.Widening.{grows-both}
 use Rattle.node_crew.proofs.Playing.{grows-none}
 use Rattle.crew_closing.specs.Finishing.{HasMost}
 use Rattle.crew_closing.proofs.Seeing.{sees_most}

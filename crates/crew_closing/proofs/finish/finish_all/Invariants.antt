@@ -1,5 +1,5 @@
 use Rattle.std.proofs.Common.{◌≡◌, ◌≤◌, length}
-use Rattle.node_workers.specs.Workers.{Grows}
+use Rattle.node_lines.specs.Workers.{Grows}
 use Rattle.crew_closing.specs.Finishing.{HasPlayed, HasMost, PassesBy}
 use Rattle.crew_closing.proofs.finish.finish_all.Given as goal
 

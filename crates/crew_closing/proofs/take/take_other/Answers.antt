@@ -4,7 +4,7 @@ use Rattle.std.proofs.lemmas.Option.{slice_get_read}
 use Rattle.base_engine.specs.Node.{NodeView}
 use Rattle.one_thread.specs.Seats.{SeatOk, node_of}
 use Rattle.node_workers.specs.declared.worker.Worker.{Worker}
-use Rattle.node_workers.specs.Workers.{Sends}
+use Rattle.node_lines.specs.Workers.{Sends}
 use Rattle.node_crew.specs.Crews.{CrewStands}
 use Rattle.node_crew.proofs.Ok.{on_ok}
 use Rattle.crew_closing.specs.Taking.{CrewTakes}

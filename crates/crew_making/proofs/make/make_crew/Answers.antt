@@ -1,7 +1,7 @@
 use Rattle.std.proofs.Common.{[], length, map, sym, ap, ◌∙◌, subst, arith}
 use Rattle.std.proofs.lemmas.List.{length-map}
 use Rattle.legal_journal.specs.Journal.{IsLegal}
-use Rattle.node_workers.specs.Workers.{Sends}
+use Rattle.node_lines.specs.Workers.{Sends}
 use Rattle.run_course.specs.Script.{AreLines}
 use Rattle.node_crew.specs.Crews.{CrewRests, CrewStands}
 use Rattle.crew_making.specs.Apart.{AreAsTold}

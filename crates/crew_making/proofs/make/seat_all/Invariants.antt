@@ -1,7 +1,7 @@
 use Rattle.std.proofs.Common.{◌≡◌, ◌≤◌, ◌+◌, ◌++◌, [], map, length}
 use Rattle.std.specs.List.{AllByRecursion}
 use Rattle.std.specs.Vec.{vec_capacity}
-use Rattle.node_workers.specs.Workers.{Sends}
+use Rattle.node_lines.specs.Workers.{Sends}
 use Rattle.crew_making.specs.Fresh.{AreFreshFrom, AreFreshDesks, IsFreshLog, AreNewWorkers}
 use Rattle.crew_making.proofs.make.seat_all.Given as goal
 

@@ -6,7 +6,7 @@ use Rattle.delos_types.specs.declared.chain.Chain.{Chain}
 use Rattle.legal_journal.specs.Journal.{IsLegal}
 use Rattle.fitting_run.specs.Yard.{Shown}
 use Rattle.fitting_run.specs.Replacements.{version_made, version_found}
-use Rattle.course_ends.specs.Ends.{GoesTo}
+use Rattle.fitting_run.specs.Calm.{GoesTo}
 use Rattle.fitting_run.specs.declared.told.Told.{Told}
 use Rattle.run_laws.specs.Ended.{RunEnded}
 use Rattle.fabric_core.specs.Fabric.{IsRegisterAsTold}

@@ -2,10 +2,10 @@ use Rattle.std.proofs.Common.{[], sym, subst}
 use Rattle.std.specs.Prelude.{All}
 use Rattle.legal_journal.proofs.Sealing.{unsealed_by}
 use Rattle.one_thread.specs.Seats.{node_of}
-use Rattle.node_workers.specs.Workers.{Within, Sends, IsOfSession}
+use Rattle.node_lines.specs.Workers.{Within, Sends, IsOfSession}
 use Rattle.node_workers.proofs.Ok.{on_ok}
-use Rattle.node_workers.proofs.Widening.{seat_wider, moves_wider, grows-since}
-use Rattle.node_workers.proofs.Scoping.{sends_grow, adds_sends}
+use Rattle.node_lines.proofs.Widening.{seat_wider, moves_wider, grows-since}
+use Rattle.node_lines.proofs.Scoping.{sends_grow, adds_sends}
 use Rattle.node_workers.proofs.Working.{worker_moves}
 use Rattle.node_closing.proofs.turns.finish_worker.Goals as goal
 

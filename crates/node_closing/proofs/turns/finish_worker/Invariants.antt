@@ -1,4 +1,4 @@
-use Rattle.node_workers.specs.Workers.{Sends}
+use Rattle.node_lines.specs.Workers.{Sends}
 use Rattle.node_closing.proofs.turns.finish_worker.Given as goal
 
 abbrev pub ghosts-finish_within : goal.ghosts-finish_within

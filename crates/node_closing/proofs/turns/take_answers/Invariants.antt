@@ -1,4 +1,4 @@
-use Rattle.node_workers.specs.Workers.{Sends}
+use Rattle.node_lines.specs.Workers.{Sends}
 use Rattle.node_closing.proofs.turns.take_answers.Given as goal
 
 abbrev pub ghosts-take_within : goal.ghosts-take_within

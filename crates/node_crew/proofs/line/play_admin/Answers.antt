@@ -9,7 +9,7 @@ use Rattle.node_lines.specs.Extending.{Extends}
 use Rattle.node_lines.specs.Reporting.{Reports}
 use Rattle.node_lines.specs.Leaving.{Leaves}
 use Rattle.node_lines.specs.Trimming.{TrimsLog}
-use Rattle.node_workers.specs.Workers.{WorkerOk, Within, IsOfSessions, ReportAdds, LeaveAdds, TrimAdds}
+use Rattle.node_lines.specs.Workers.{WorkerOk, Within, IsOfSessions, ReportAdds, LeaveAdds, TrimAdds}
 use Rattle.run_course.specs.Workers.{CanSend, LineWent}
 use Rattle.run_course.proofs.Extending.{line_extended}
 use Rattle.run_course.proofs.Reporting.{line_reported}

@@ -6,7 +6,7 @@ use Rattle.node_sessions.specs.declared.desk.Desk.{Desk}
 use Rattle.one_thread.specs.Alone.{Since}
 use Rattle.one_thread.specs.Seats.{node_of}
 use Rattle.node_lines.specs.Lines.{Looks}
-use Rattle.node_workers.specs.Workers.{WorkerOk, Within, Logs, IsOfSessions}
+use Rattle.node_lines.specs.Workers.{WorkerOk, Within, Logs, IsOfSessions}
 use Rattle.run_course.specs.Workers.{LineWent}
 use Rattle.run_course.proofs.Logging.{line_logged}
 use Rattle.run_course.proofs.Looking.{line_looked}

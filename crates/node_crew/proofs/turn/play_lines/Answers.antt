@@ -3,9 +3,9 @@ use Rattle.std.specs.Prelude.{◌==◌}
 use Rattle.std.proofs.lemmas.Option.{slice_get_read}
 use Rattle.base_engine.specs.Trimming.{FloorIs}
 use Rattle.one_thread.specs.Seats.{SeatOk}
-use Rattle.node_workers.specs.Workers.{WorkerOk, Grows}
+use Rattle.node_lines.specs.Workers.{WorkerOk, Grows}
 use Rattle.node_workers.proofs.Ok.{on_ok}
-use Rattle.node_workers.proofs.Widening.{grows-both}
+use Rattle.node_lines.proofs.Widening.{grows-both}
 use Rattle.run_course.specs.Workers.{IsUnderWay, LineWent, CanPlay, CanSend}
 use Rattle.run_course.proofs.Asking.{line_next}
 use Rattle.run_course.proofs.Turning.{can_play}

@@ -1,5 +1,5 @@
 use Rattle.std.proofs.Common.{◌≡◌, ◌≤◌, ◌+◌, ℕ}
-use Rattle.node_workers.specs.Workers.{Grows}
+use Rattle.node_lines.specs.Workers.{Grows}
 use Rattle.run_course.specs.Script.{BeginsAt}
 use Rattle.run_course.specs.Course.{Course}
 use Rattle.run_course.specs.Workers.{IsUnderWay, LineWent}

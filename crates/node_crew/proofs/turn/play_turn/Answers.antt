@@ -4,7 +4,7 @@ use Rattle.journal_changes.specs.Changes.{Adds}
 use Rattle.one_thread.specs.Alone.{Since}
 use Rattle.one_thread.specs.Seats.{node_of}
 use Rattle.node_lines.specs.Turns.{EndsTurn}
-use Rattle.node_workers.specs.Workers.{WorkerOk, Within, IsOfSessions}
+use Rattle.node_lines.specs.Workers.{WorkerOk, Within, IsOfSessions}
 use Rattle.run_course.specs.Script.{BeginsAt}
 use Rattle.run_course.proofs.Ending.{phase_ended}
 use Rattle.run_course.proofs.Joining.{turns_join}

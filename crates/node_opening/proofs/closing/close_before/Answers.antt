@@ -3,7 +3,7 @@ use Rattle.std.proofs.lemmas.Bool.{eqb-true}
 use Rattle.std.proofs.lemmas.List.{nil_from_length}
 use Rattle.std.specs.List.{AllByRecursion}
 use Rattle.crew_making.proofs.Lists.{goes_back, all_there}
-use Rattle.node_opening.specs.Kits.{five_kinds}
+use Rattle.fitting_run.specs.Fresh.{five_kinds}
 use Rattle.node_opening.proofs.closing.close_before.Goals as goal
 
 pub loop-nodes-preserved : goal.loop-nodes-preserved

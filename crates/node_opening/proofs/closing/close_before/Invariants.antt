@@ -1,7 +1,7 @@
 use Rattle.std.proofs.Common.{◌≡◌, ◌≤◌, ◌+◌, ◌++◌, map, length}
 use Rattle.std.specs.List.{AllByRecursion}
 use Rattle.std.specs.Vec.{vec_capacity}
-use Rattle.node_opening.specs.Kits.{five_kinds}
+use Rattle.fitting_run.specs.Fresh.{five_kinds}
 use Rattle.node_opening.proofs.closing.close_before.Given as goal
 
 abbrev pub invariant-loop-nodes : goal.invariant-loop-nodes

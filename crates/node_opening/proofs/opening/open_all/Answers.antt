@@ -5,9 +5,10 @@ use Rattle.std.proofs.lemmas.List.{nil_from_length}
 use Rattle.log_acts.proofs.Pairs.{all-append, all-imply}
 use Rattle.engine_laws.specs.State.{IsStateOf}
 use Rattle.local_replica.specs.Shown.{shown, Spells}
-use Rattle.crew_making.specs.Fresh.{IsFreshReplica}
+use Rattle.replica_api.specs.Fresh.{IsFreshReplica}
 use Rattle.crew_making.proofs.Lists.{taken_first, goes_over, all_over, each_push, as_long}
-use Rattle.node_opening.specs.Kits.{five_kinds, IsFreshKit, IsCounted}
+use Rattle.fitting_run.specs.Fresh.{five_kinds, IsFreshKit}
+use Rattle.node_opening.specs.Opened.{IsCounted}
 use Rattle.node_opening.proofs.Lists.{put_back}
 use Rattle.node_opening.proofs.opening.open_all.Goals as goal
 

@@ -2,7 +2,8 @@ use Rattle.std.proofs.Common.{◌≡◌, ◌≤◌, ◌+◌, ◌++◌, map, leng
 use Rattle.std.specs.List.{AllByRecursion}
 use Rattle.std.specs.Vec.{vec_capacity}
 use Rattle.local_replica.specs.Shown.{shown}
-use Rattle.node_opening.specs.Kits.{IsFreshKit, IsCounted, AreFreshReplicas}
+use Rattle.fitting_run.specs.Fresh.{IsFreshKit}
+use Rattle.node_opening.specs.Opened.{IsCounted, AreFreshReplicas}
 use Rattle.node_opening.proofs.opening.open_all.Given as goal
 
 abbrev pub invariant-loop-k : goal.invariant-loop-k

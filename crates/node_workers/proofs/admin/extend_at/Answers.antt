@@ -1,6 +1,6 @@
 use Rattle.journal_changes.proofs.Changes.{adds_trans}
 use Rattle.one_thread.specs.Seats.{node_of}
-use Rattle.node_workers.specs.Workers.{Within, IsOfSessions}
+use Rattle.node_lines.specs.Workers.{Within, IsOfSessions}
 use Rattle.node_workers.proofs.Ok.{in_ok, on_ok}
 use Rattle.node_workers.proofs.Stepping.{done_both, left_both}
 use Rattle.node_workers.proofs.Telling.{extends_both}

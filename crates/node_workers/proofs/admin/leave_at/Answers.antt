@@ -5,7 +5,7 @@ use Rattle.engine_api.specs.Packing.{packed, leave_item}
 use Rattle.one_thread.specs.Seats.{node_of}
 use Rattle.node_lines.proofs.Assembling.{leaves_unmeasured}
 use Rattle.node_lines.specs.Leaving.{Leaves}
-use Rattle.node_workers.specs.Workers.{Within}
+use Rattle.node_lines.specs.Workers.{Within}
 use Rattle.node_workers.proofs.Joining.{says-one}
 use Rattle.node_workers.proofs.Ok.{in_ok, in_ok_at}
 use Rattle.node_workers.proofs.Stepping.{done_both, left_both}

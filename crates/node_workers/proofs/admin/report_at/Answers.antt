@@ -7,7 +7,7 @@ use Rattle.one_thread.specs.Seats.{node_of}
 use Rattle.node_lines.specs.declared.lines.Looked.TheVariants as looked
 use Rattle.node_lines.specs.Reporting.{Reports}
 use Rattle.node_lines.proofs.Assembling.{reports_unmeasured}
-use Rattle.node_workers.specs.Workers.{Within, ReportAdds}
+use Rattle.node_lines.specs.Workers.{Within, ReportAdds}
 use Rattle.node_workers.proofs.Joining.{says-one}
 use Rattle.node_workers.proofs.Ok.{in_ok, in_ok_at}
 use Rattle.node_workers.proofs.Stepping.{done_both, left_both}

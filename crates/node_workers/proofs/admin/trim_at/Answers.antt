@@ -8,14 +8,14 @@ use Rattle.engine_api.specs.Packing.{packed, trim_item}
 use Rattle.one_thread.specs.Seats.{node_of}
 use Rattle.node_lines.proofs.Reporting.{says_alone}
 use Rattle.node_lines.proofs.Assembling.{trims_unmeasured}
-use Rattle.node_workers.specs.Workers.{Within, Sends, IsOfSessions, SaysAlone}
-use Rattle.node_workers.specs.Steps.{TellsAndPlays}
+use Rattle.node_lines.specs.Workers.{Within, Sends, IsOfSessions, SaysAlone}
+use Rattle.node_lines.specs.Steps.{TellsAndPlays}
 use Rattle.node_workers.proofs.Joining.{says-one}
 use Rattle.node_workers.proofs.Ok.{in_ok, in_ok_at}
 use Rattle.node_workers.proofs.Stepping.{done_both, left_both}
 use Rattle.node_workers.proofs.Telling.{adds_saying, may_say, tells_moves}
 use Rattle.node_workers.proofs.Trimming.{trim_adds_none, trim_adds_told, asks_clean_later, may_trim, trims, trims_not}
-use Rattle.node_workers.proofs.Widening.{legal_wide}
+use Rattle.node_lines.proofs.Widening.{legal_wide}
 use Rattle.node_workers.proofs.admin.trim_at.Goals as goal
 
 pub returns-in-Failed-clause-done : goal.returns-in-Failed-clause-done

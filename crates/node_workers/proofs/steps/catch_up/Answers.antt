@@ -3,10 +3,10 @@ use Rattle.legal_journal.proofs.Sealing.{unsealed_by}
 use Rattle.journal_changes.specs.Changes.{Adds}
 use Rattle.one_thread.specs.Seats.{node_of}
 use Rattle.node_lines.specs.Measuring.{Measures}
-use Rattle.node_workers.specs.Workers.{Within, Sends, IsOfSessions, UpTo}
-use Rattle.node_workers.specs.Steps.{IsDone}
-use Rattle.node_workers.proofs.Widening.{measures_wider}
-use Rattle.node_workers.proofs.Scoping.{seat_begins, keeps_low, left_by, done_by, adds_sends, if_ok, always}
+use Rattle.node_lines.specs.Workers.{Within, Sends, IsOfSessions, UpTo}
+use Rattle.node_lines.specs.Steps.{IsDone}
+use Rattle.node_lines.proofs.Widening.{measures_wider}
+use Rattle.node_lines.proofs.Scoping.{seat_begins, keeps_low, left_by, done_by, adds_sends, if_ok, always}
 use Rattle.node_workers.proofs.steps.catch_up.Goals as goal
 
 pub catch_up_within-requires-clause-floor : goal.catch_up_within-requires-clause-floor

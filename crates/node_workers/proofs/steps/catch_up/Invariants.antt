@@ -1,4 +1,4 @@
-use Rattle.node_workers.specs.Workers.{Sends, UpTo}
+use Rattle.node_lines.specs.Workers.{Sends, UpTo}
 use Rattle.node_workers.proofs.steps.catch_up.Given as goal
 
 abbrev pub ghosts-catch_up_within : goal.ghosts-catch_up_within

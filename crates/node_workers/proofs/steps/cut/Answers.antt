@@ -3,10 +3,10 @@ use Rattle.legal_journal.proofs.Sealing.{unsealed_by}
 use Rattle.journal_changes.specs.Changes.{Adds}
 use Rattle.one_thread.specs.Seats.{node_of}
 use Rattle.node_lines.specs.Trimming.{Cuts}
-use Rattle.node_workers.specs.Workers.{Within, Sends, IsOfSessions, UpTo}
-use Rattle.node_workers.specs.Steps.{IsDone}
-use Rattle.node_workers.proofs.Widening.{cuts_wider}
-use Rattle.node_workers.proofs.Scoping.{seat_begins, left_by, done_by, adds_sends, if_ok, always}
+use Rattle.node_lines.specs.Workers.{Within, Sends, IsOfSessions, UpTo}
+use Rattle.node_lines.specs.Steps.{IsDone}
+use Rattle.node_lines.proofs.Widening.{cuts_wider}
+use Rattle.node_lines.proofs.Scoping.{seat_begins, left_by, done_by, adds_sends, if_ok, always}
 use Rattle.node_workers.proofs.steps.cut.Goals as goal
 
 pub cut_within-requires-clause-floor : goal.cut_within-requires-clause-floor

@@ -1,4 +1,4 @@
-use Rattle.node_workers.specs.Workers.{Sends, UpTo}
+use Rattle.node_lines.specs.Workers.{Sends, UpTo}
 use Rattle.node_workers.proofs.steps.cut.Given as goal
 
 abbrev pub ghosts-cut_within : goal.ghosts-cut_within

@@ -1,4 +1,4 @@
-use Rattle.node_workers.specs.Workers.{Sends, UpTo}
+use Rattle.node_lines.specs.Workers.{Sends, UpTo}
 use Rattle.node_workers.proofs.steps.end.Given as goal
 
 abbrev pub ghosts-end_within : goal.ghosts-end_within

@@ -1,10 +1,10 @@
 use Rattle.journal_changes.specs.Changes.{Adds}
 use Rattle.one_thread.specs.Seats.{node_of}
 use Rattle.node_lines.specs.Extending.{Replaces}
-use Rattle.node_workers.specs.Workers.{Within, Sends, IsOfSessions, UpTo}
-use Rattle.node_workers.specs.Steps.{IsDone}
-use Rattle.node_workers.proofs.Widening.{replaces_wider}
-use Rattle.node_workers.proofs.Scoping.{seat_begins, left_by, done_by, adds_sends, if_ok, always}
+use Rattle.node_lines.specs.Workers.{Within, Sends, IsOfSessions, UpTo}
+use Rattle.node_lines.specs.Steps.{IsDone}
+use Rattle.node_lines.proofs.Widening.{replaces_wider}
+use Rattle.node_lines.proofs.Scoping.{seat_begins, left_by, done_by, adds_sends, if_ok, always}
 use Rattle.node_workers.proofs.steps.extend.Goals as goal
 
 pub extend_within-requires-clause-floor : goal.extend_within-requires-clause-floor

@@ -11,10 +11,10 @@ use Rattle.one_thread.specs.Seats.{node_of}
 use Rattle.node_lines.specs.Moving.{HandsIn}
 use Rattle.node_lines.proofs.Moving.{rank_elsewhere}
 use Rattle.node_lines.proofs.Sessions.{own_under}
-use Rattle.node_workers.specs.Workers.{Within, Sends, IsOfSession, IsOfSessions, UpTo}
-use Rattle.node_workers.specs.Steps.{IsDone}
-use Rattle.node_workers.proofs.Widening.{hands_wider}
-use Rattle.node_workers.proofs.Scoping.{seat_begins, left_by, done_by, adds_sends, if_ok, always}
+use Rattle.node_lines.specs.Workers.{Within, Sends, IsOfSession, IsOfSessions, UpTo}
+use Rattle.node_lines.specs.Steps.{IsDone}
+use Rattle.node_lines.proofs.Widening.{hands_wider}
+use Rattle.node_lines.proofs.Scoping.{seat_begins, left_by, done_by, adds_sends, if_ok, always}
 use Rattle.node_workers.proofs.Joining.{sends-next, session-command, within-one}
 use Rattle.node_workers.proofs.Working.{none-waits}
 use Rattle.node_workers.proofs.steps.log.Goals as goal

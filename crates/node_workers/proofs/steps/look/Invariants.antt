@@ -1,4 +1,4 @@
-use Rattle.node_workers.specs.Workers.{Sends, UpTo}
+use Rattle.node_lines.specs.Workers.{Sends, UpTo}
 use Rattle.node_workers.proofs.steps.look.Given as goal
 
 abbrev pub ghosts-look_within : goal.ghosts-look_within

@@ -1,4 +1,4 @@
-use Rattle.node_workers.specs.Workers.{Sends, UpTo}
+use Rattle.node_lines.specs.Workers.{Sends, UpTo}
 use Rattle.node_workers.proofs.steps.play.Given as goal
 
 abbrev pub ghosts-play_within : goal.ghosts-play_within

@@ -2,10 +2,10 @@ use Rattle.legal_journal.proofs.Sealing.{unsealed_by}
 use Rattle.journal_changes.specs.Changes.{Adds}
 use Rattle.one_thread.specs.Seats.{node_of}
 use Rattle.node_lines.specs.Extending.{CarriesAll}
-use Rattle.node_workers.specs.Workers.{Within, Sends, IsOfSessions, UpTo}
-use Rattle.node_workers.specs.Steps.{IsDone}
-use Rattle.node_workers.proofs.Widening.{carries_wider}
-use Rattle.node_workers.proofs.Scoping.{seat_begins, left_by, done_by, adds_sends, if_ok, always}
+use Rattle.node_lines.specs.Workers.{Within, Sends, IsOfSessions, UpTo}
+use Rattle.node_lines.specs.Steps.{IsDone}
+use Rattle.node_lines.proofs.Widening.{carries_wider}
+use Rattle.node_lines.proofs.Scoping.{seat_begins, left_by, done_by, adds_sends, if_ok, always}
 use Rattle.node_workers.proofs.steps.settle.Goals as goal
 
 pub settle_within-requires-clause-floor : goal.settle_within-requires-clause-floor

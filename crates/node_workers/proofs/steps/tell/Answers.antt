@@ -4,10 +4,10 @@ use Rattle.journal_changes.specs.Changes.{Adds}
 use Rattle.engine_api.specs.Packing.{packed}
 use Rattle.one_thread.specs.Seats.{node_of}
 use Rattle.node_lines.specs.Reporting.{Tells}
-use Rattle.node_workers.specs.Workers.{Within, SendsToo, IsOfSessions, UpTo}
-use Rattle.node_workers.specs.Steps.{IsDone}
-use Rattle.node_workers.proofs.Widening.{tells_wider}
-use Rattle.node_workers.proofs.Scoping.{seat_tells, left_told, done_told, adds_told, if_ok, always}
+use Rattle.node_lines.specs.Workers.{Within, SendsToo, IsOfSessions, UpTo}
+use Rattle.node_lines.specs.Steps.{IsDone}
+use Rattle.node_lines.proofs.Widening.{tells_wider}
+use Rattle.node_lines.proofs.Scoping.{seat_tells, left_told, done_told, adds_told, if_ok, always}
 use Rattle.node_workers.proofs.steps.tell.Goals as goal
 
 pub tell_within-requires-clause-floor : goal.tell_within-requires-clause-floor

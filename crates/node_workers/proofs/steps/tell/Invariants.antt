@@ -1,6 +1,6 @@
 use Rattle.std.proofs.Common.{[], ◌∷◌}
 use Rattle.engine_api.specs.Packing.{packed}
-use Rattle.node_workers.specs.Workers.{SendsToo, UpTo}
+use Rattle.node_lines.specs.Workers.{SendsToo, UpTo}
 use Rattle.node_workers.proofs.steps.tell.Given as goal
 
 abbrev pub ghosts-tell_within : goal.ghosts-tell_within

@@ -4,7 +4,7 @@ use Rattle.journal_changes.proofs.Changes.{adds_trans, adds_wider}
 use Rattle.engine_api.specs.Packing.{packed}
 use Rattle.one_thread.specs.Seats.{node_of}
 use Rattle.node_lines.specs.Reporting.{Tells}
-use Rattle.node_workers.specs.Workers.{Within, IsOfSessions}
+use Rattle.node_lines.specs.Workers.{Within, IsOfSessions}
 use Rattle.node_workers.proofs.Ok.{in_ok}
 use Rattle.node_workers.proofs.Stepping.{done_both, left_both}
 use Rattle.node_workers.proofs.steps.tell_and_play.Goals as goal

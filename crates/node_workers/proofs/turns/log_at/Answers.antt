@@ -9,7 +9,7 @@ use Rattle.one_thread.specs.Seats.{node_of}
 use Rattle.node_lines.specs.Moving.{HandsIn}
 use Rattle.node_lines.specs.Desks.{DeskOk}
 use Rattle.node_lines.specs.Lines.{Readies}
-use Rattle.node_workers.specs.Workers.{Within, IsOfSession, IsOfSessions, LogsIt, sent_of}
+use Rattle.node_lines.specs.Workers.{Within, IsOfSession, IsOfSessions, LogsIt, sent_of}
 use Rattle.node_workers.proofs.Logging.{OneMore, counts-rise, kept_logs, handed_logs}
 use Rattle.node_workers.proofs.Ok.{in_ok, on_ok}
 use Rattle.node_workers.proofs.Stepping.{done_both, left_both, seat_counted}

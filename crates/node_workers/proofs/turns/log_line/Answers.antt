@@ -1,7 +1,7 @@
 use Rattle.std.proofs.Common.{◌≡◌, refl, sym, ap, ◌∙◌, subst, Some, length, arith}
 use Rattle.std.specs.Prelude.{slice_get, slice_set}
 use Rattle.std.proofs.lemmas.Option.{slice_get_read}
-use Rattle.node_workers.specs.Workers.{WorkerOk}
+use Rattle.node_lines.specs.Workers.{WorkerOk}
 use Rattle.node_workers.proofs.Logging.{worker_logs}
 use Rattle.node_workers.proofs.Ok.{on_ok}
 use Rattle.node_workers.proofs.turns.log_line.Goals as goal

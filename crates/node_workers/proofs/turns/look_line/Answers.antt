@@ -6,7 +6,7 @@ use Rattle.one_thread.specs.Seats.{node_of}
 use Rattle.node_lines.specs.Desks.{DeskOk}
 use Rattle.node_lines.specs.Lines.{Looks}
 use Rattle.node_lines.proofs.Turning.{same_at}
-use Rattle.node_workers.specs.Workers.{Within, sent_of}
+use Rattle.node_lines.specs.Workers.{Within, sent_of}
 use Rattle.node_workers.proofs.Ok.{in_ok}
 use Rattle.node_workers.proofs.Working.{none-waits, worker_moves}
 use Rattle.node_workers.proofs.turns.look_line.Goals as goal

@@ -1,4 +1,4 @@
-use Rattle.node_workers.specs.Workers.{Within}
+use Rattle.node_lines.specs.Workers.{Within}
 use Rattle.worker_laws.proofs.Lone.{lone_extension}
 use Rattle.worker_laws.proofs.extending.a_lone_extension.Goals as goal
 

@@ -1,4 +1,4 @@
-use Rattle.node_workers.specs.Workers.{Within}
+use Rattle.node_lines.specs.Workers.{Within}
 use Rattle.worker_laws.proofs.Sealing.{lone_once}
 use Rattle.worker_laws.proofs.extending.a_lone_extension_goes_on_once.Goals as goal
 

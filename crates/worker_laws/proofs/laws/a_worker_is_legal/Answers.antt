@@ -1,5 +1,5 @@
 use Rattle.one_thread.proofs.Widening.{legal_wider}
-use Rattle.node_workers.specs.Workers.{Within, Sends}
+use Rattle.node_lines.specs.Workers.{Within, Sends}
 use Rattle.worker_laws.proofs.laws.a_worker_is_legal.Goals as goal
 
 pub returns-clause-within : goal.returns-clause-within

@@ -14,7 +14,7 @@ use Rattle.node_lines.specs.declared.lines.Looked.{Looked}
 use Rattle.node_lines.specs.declared.lines.Looked.TheVariants as looked
 use Rattle.node_lines.specs.Reporting.{Tells}
 use Rattle.node_lines.specs.Leaving.{PlaysKnown}
-use Rattle.node_workers.specs.Workers.{Sends, Grows}
+use Rattle.node_lines.specs.Workers.{Sends, Grows}
 
 -- whatever it came to, the seat can take the fabric again, and the journal has all of before
 pub record IsLeft (may : ℕ → Entry → Type 0) (floor : List Entry → ℕ → Type 0) (shelf : List ℕ) (state : List Entry → SpaceMap → Type 0) (spells : List ℕ → Saved → Type 0) (old new : List Event) (b : SeatView) : Type 0 where

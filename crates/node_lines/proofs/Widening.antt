@@ -27,7 +27,7 @@ use Rattle.node_lines.specs.Leaving.{PlaysKnown}
 use Rattle.node_lines.specs.Trimming.{Cuts}
 use Rattle.node_lines.specs.Turns.{EndsTurn}
 use Rattle.node_lines.proofs.Relaying.{goes_by, moves_by, measures_by, tells_by, plays_by, cuts_by}
-use Rattle.node_workers.specs.Workers.{Within, Grows, sent_of}
+use Rattle.node_lines.specs.Workers.{Within, Grows, sent_of}
 
 -- what was within the counts is within greater ones
 pub within-more : (may : ℕ → Entry → Type 0) (a b : List ℕ) → ((s : ℕ) → sent_of a s ≤ sent_of b s) → (who : ℕ) (e : Entry) → Within may a who e → Within may b who e

@@ -26,7 +26,7 @@ use Rattle.node_sessions.proofs.Settling.{Extends}
 use Rattle.node_lines.specs.Measuring.{IsCleanPoint, IsCleanContent, AreClean}
 use Rattle.node_lines.proofs.Desks.{front_later}
 use Rattle.node_lines.proofs.Fronts.{splits}
-use Rattle.node_workers.specs.Workers.{IsCommand, IsOfSessions}
+use Rattle.node_lines.specs.Workers.{IsCommand, IsOfSessions}
 
 -- Positions that are told
 

@@ -17,9 +17,9 @@ use Rattle.one_thread.specs.Alone.{Since}
 use Rattle.one_thread.specs.Seats.{SeatView, SeatOk}
 use Rattle.node_lines.specs.Desks.{KeepsFrom}
 use Rattle.node_lines.specs.Leaving.{PlaysKnown}
-use Rattle.node_workers.specs.Workers.{Sends, SendsToo, IsOfSessions, UpTo, Grows, sent_of}
-use Rattle.node_workers.specs.Steps.{IsLeft, IsDone}
-use Rattle.node_workers.proofs.Widening.{within-more, seat_wider, grows-since}
+use Rattle.node_lines.specs.Workers.{Sends, SendsToo, IsOfSessions, UpTo, Grows, sent_of}
+use Rattle.node_lines.specs.Steps.{IsLeft, IsDone}
+use Rattle.node_lines.proofs.Widening.{within-more, seat_wider, grows-since}
 
 module _ (may : ℕ → Entry → Type 0) (counts : List ℕ) where
   -- what may be sent may be sent still once the journal grew

@@ -1,0 +1,15 @@
+-- A node's state machine at first.
+use Rattle.std.specs.Prelude.{◌≡◌, ℕ, ◌+◌, ◌<◌, true, false, List, slice_get, Some}
+use Rattle.engine_laws.specs.State.{IsStateOf}
+use Rattle.replica_api.specs.Replica.{ReplicaView}
+use Rattle.local_replica.specs.Shown.{Spells}
+use Rattle.replica_api.specs.Fresh.{IsFreshReplica}
+
+-- a replica is down just where a fault of its disk was counted
+pub record IsCounted (v : ReplicaView) : Type 0 where
+  pub down : v.down ≡ true → 0 < v.faults
+  pub up : v.down ≡ false → v.faults ≡ 0
+
+-- the replicas of these nodes have applied nothing, and are numbered from 1
+abbrev pub AreFreshReplicas : {A : Type 0} → (A → ReplicaView) → List A → Type 0
+AreFreshReplicas {A} shows nodes = (j : ℕ) (n : A) → slice_get nodes j ≡ Some n → IsFreshReplica IsStateOf Spells (j + 1) (shows n)
