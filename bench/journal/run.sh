@@ -3,16 +3,21 @@
 #
 # usage: bench/journal/run.sh PROGRAM [RUNS]
 #
-# PROGRAM is the built `journal_bench`. RUNS is how often each row is measured (7).
+# PROGRAM is the built `benches`. RUNS is how often each row is measured (7).
 set -eu
 
 program=$1
 runs=${2:-7}
 . "$(dirname "$0")/../rates.sh"
 
+# append RECORDS BYTES: one run
+append() {
+    "$program" journal "$1" "$2"
+}
+
 # measure RECORDS BYTES: one row
 measure() {
-    echo "| $1 | $2 | $(rates "$1" "$program" "$1" "$2") |"
+    echo "| $1 | $2 | $(rates "$1" append "$1" "$2") |"
 }
 
 echo "| records | bytes each | appends a second, best | median |"

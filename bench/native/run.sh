@@ -3,10 +3,11 @@
 #
 # usage: bench/native/run.sh PROGRAM [RUNS]
 #
-# PROGRAM is the built `native_bench`. RUNS is how often each row is measured (7).
+# PROGRAM is the built `benches`. RUNS is how often each row is measured (7).
 set -eu
 
 program=$1
+work_word=native
 runs=${2:-7}
 . "$(dirname "$0")/../appends.sh"
 

@@ -1,4 +1,4 @@
-// The same work as `pass_lock_bench`, over std's `Mutex`: each of THREADS threads pushes TURNS events onto one list, one in a turn.
+// The same work as `benches lock`, over std's `Mutex`: each of THREADS threads pushes TURNS events onto one list, one in a turn.
 use std::env;
 use std::sync::Mutex;
 use std::thread;

@@ -3,7 +3,7 @@
 #
 # usage: bench/pass_lock/run.sh PROGRAM [TURNS [RUNS]]
 #
-# PROGRAM is the built `pass_lock_bench`. TURNS is the number of turns of all threads together (2,000,000), RUNS how often each is measured (7).
+# PROGRAM is the built `benches`. TURNS is the number of turns of all threads together (2,000,000), RUNS how often each is measured (7).
 set -eu
 
 program=$1
@@ -13,20 +13,23 @@ here=$(dirname "$0")
 . "$here/../rates.sh"
 rustc -O -o "$work/mutex" "$here/mutex.rs"
 
-# turn TURNS COMMAND THREADS: one run, in which each thread has so many turns
-turn() {
-    "$2" "$3" "$1"
+# locked TURNS THREADS, in_mutex TURNS THREADS: one run, in which each thread has so many turns
+locked() {
+    "$program" lock "$2" "$1"
+}
+in_mutex() {
+    "$work/mutex" "$2" "$1"
 }
 
-# measure NAME COMMAND THREADS: one row
+# measure NAME RUN THREADS: one row
 measure() {
     each=$((turns / $3))
-    echo "| $1 | $3 | $(rates $((each * $3)) turn "$each" "$2" "$3") |"
+    echo "| $1 | $3 | $(rates $((each * $3)) "$2" "$each" "$3") |"
 }
 
 echo "| lock | threads | turns a second, best | median |"
 echo "|---|---|---|---|"
 for threads in 1 2 4; do
-    measure "pass lock" "$program" $threads
-    measure "std Mutex" "$work/mutex" $threads
+    measure "pass lock" locked $threads
+    measure "std Mutex" in_mutex $threads
 done

@@ -3,7 +3,7 @@
 #
 # usage: bench/replica/run.sh PROGRAM
 #
-# PROGRAM is the built `replica_bench`.
+# PROGRAM is the built `benches`.
 set -eu
 
 program=$1
@@ -11,7 +11,7 @@ program=$1
 
 # count ENTRIES: the instructions of a run, which must print how many commands acted
 count() {
-    valgrind --tool=callgrind --callgrind-out-file="$work/calls" "$program" "$1" 2>"$work/told" >"$work/out"
+    valgrind --tool=callgrind --callgrind-out-file="$work/calls" "$program" replica "$1" 2>"$work/told" >"$work/out"
     [ "$(cat "$work/out")" = "$((16 * $1))" ] || { echo "$1 entries printed $(cat "$work/out")" >&2; exit 1; }
     awk '/ refs:/ { gsub(",", "", $NF); print $NF }' "$work/told"
 }

@@ -1,7 +1,8 @@
 //! A loglet that counts what is appended through it.
 ghost use Rattle.std.specs.Prelude.{◌≡◌, ◌+◌, ◌-◌, ◌^◌, OnErr, OnOk, min};
-ghost use Rattle.loglet_api.specs.Answers.{begin_answer};
+ghost use Rattle.loglet_api.specs.Answers.{begin_answer, carry_answer, stray_answer, restart_answer};
 ghost use Rattle.loglet_api.specs.Step.{CanCall, LogletStep};
+ghost use Rattle.loglet_api.specs.declared.call.LogletAnswer.{LogletAnswer};
 ghost use Rattle.counted_loglet.specs.Counts.{appends_in};
 
 use delos_types::numbers::Ticket;
@@ -35,7 +36,7 @@ fn appends_in(op: &Op) -> u64
     }
 }
 
-/// It shows what the loglet within shows, so each of its calls is the same step.
+/// It shows what the loglet within shows, so each of its calls is the same step. No call but `begin` changes the count.
 impl<L: Loglet> Loglet for Counted<L> {
     ghost view = { λ c. L.view c.inner };
 
@@ -80,15 +81,27 @@ impl<L: Loglet> Loglet for Counted<L> {
         Ok(ticket)
     }
 
-    fn carry(&mut self, ticket: Ticket, word: u64) -> Result<(), Refused> {
+    fn carry(&mut self, ticket: Ticket, word: u64) -> Result<(), Refused>
+        requires { CanCall (L.view self.old.inner) (LogletCall.Carry ticket word) }
+        ensures step { LogletStep (L.view self.old.inner) (LogletCall.Carry ticket word) (carry_answer result) (L.view self.new.inner) }
+        ensures keeps { self.new.appends ≡ self.old.appends }
+    {
         self.inner.carry(ticket, word)
     }
 
-    fn take(&mut self, ticket: Ticket) -> Option<Answer> {
+    fn take(&mut self, ticket: Ticket) -> Option<Answer>
+        requires { CanCall (L.view self.old.inner) (LogletCall.Take ticket) }
+        ensures step { LogletStep (L.view self.old.inner) (LogletCall.Take ticket) (LogletAnswer.Taken result) (L.view self.new.inner) }
+        ensures keeps { self.new.appends ≡ self.old.appends }
+    {
         self.inner.take(ticket)
     }
 
-    fn forget(&mut self, ticket: Ticket) {
+    fn forget(&mut self, ticket: Ticket)
+        requires { CanCall (L.view self.old.inner) (LogletCall.Forget ticket) }
+        ensures step { LogletStep (L.view self.old.inner) (LogletCall.Forget ticket) LogletAnswer.Forgotten (L.view self.new.inner) }
+        ensures keeps { self.new.appends ≡ self.old.appends }
+    {
         self.inner.forget(ticket)
     }
 
@@ -96,15 +109,26 @@ impl<L: Loglet> Loglet for Counted<L> {
         self.inner.left(ticket)
     }
 
-    fn stray(&mut self, word: u64) -> Result<(), Refused> {
+    fn stray(&mut self, word: u64) -> Result<(), Refused>
+        ensures step { LogletStep (L.view self.old.inner) (LogletCall.Stray word) (stray_answer result) (L.view self.new.inner) }
+        ensures keeps { self.new.appends ≡ self.old.appends }
+    {
         self.inner.stray(word)
     }
 
-    fn stop(&mut self, server: u32, after: u64) {
+    fn stop(&mut self, server: u32, after: u64)
+        requires { CanCall (L.view self.old.inner) (LogletCall.Stop server after) }
+        ensures step { LogletStep (L.view self.old.inner) (LogletCall.Stop server after) LogletAnswer.Stopped (L.view self.new.inner) }
+        ensures keeps { self.new.appends ≡ self.old.appends }
+    {
         self.inner.stop(server, after)
     }
 
-    fn restart(&mut self, server: u32, word: u64) -> Result<bool, Refused> {
+    fn restart(&mut self, server: u32, word: u64) -> Result<bool, Refused>
+        requires { CanCall (L.view self.old.inner) (LogletCall.Restart server word) }
+        ensures step { LogletStep (L.view self.old.inner) (LogletCall.Restart server word) (restart_answer result) (L.view self.new.inner) }
+        ensures keeps { self.new.appends ≡ self.old.appends }
+    {
         self.inner.restart(server, word)
     }
 }

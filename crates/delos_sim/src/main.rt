@@ -2,6 +2,8 @@
 //! and prints one row for each command, and the chain of loglets at the end.
 #![tactic(auto)]
 
+mod notes;
+
 use memory_runs::run::run_in_memory;
 use outside_ends::standard::{StdSink, StdSource};
 use script_runner::ended::Status;
@@ -31,17 +33,28 @@ fn words_of(rt: &HostRuntime) -> Result<Vec<String>, AllocError> {
     Ok(words)
 }
 
-/// Runs the script over the loglets and the nodes that the words name, on which nothing was begun.
+/// Runs the script over the loglets and the nodes that the words name, on which nothing was begun. What standard error or a file
+/// can't take of the notes is let go: the status is the run's.
 fn run_script(rt: &HostRuntime) -> Result<Status, AllocError> {
     let alloc = rt.alloc();
     let words = words_of(rt)?;
     let mut source = StdSource::new(rt.stdin());
     let mut sink = StdSink::new(rt.stdout());
     let ran = run_in_memory(rt, alloc, words.as_slice(), ROOMS, &mut source, &mut sink)?;
+    let _ = notes::explain(rt, &ran);
+    if let Some(told) = &ran.told {
+        let _ = notes::show(rt, words.as_slice(), told);
+    }
     Ok(ran.status)
 }
 
 fn main(rt: HostRuntime) -> ExitCode {
-    let status = run_script(&rt).unwrap_or(Status::Memory);
+    let status = match run_script(&rt) {
+        Ok(status) => status,
+        Err(AllocError) => {
+            let _ = notes::no_memory(&rt);
+            Status::Memory
+        }
+    };
     ExitCode::from(status.code())
 }
