@@ -27,6 +27,7 @@ use std::{env, io};
 const MOST_BYTES: usize = 16_000;
 
 /// The words of the command line behind the program's name.
+#[derive(Drop)]
 struct Words {
     words: Vec<String>,
 }

@@ -1,4 +1,3 @@
 pub mod Before
 pub mod Fresh
-pub mod Lists
 pub mod Resting

@@ -1,5 +1,69 @@
--- Lists that are put together again.
-use Rattle.std.proofs.Common.{◌≡◌, ap, sym, ◌∙◌, List, [], ◌∷◌, ◌++◌, map, append-nil}
+-- Lists whose first element is taken out, and lists that are put together again.
+use Rattle.std.proofs.Common.{◌≡◌, refl, sym, ap, ◌∙◌, subst, ℕ, zero, suc, ◌+◌, ◌<◌, List, [], ◌∷◌, ◌++◌, Some, length, map, slice_index_or, append-nil, append_assoc, get_or, replicate, arith}
+use Rattle.std.specs.Prelude.{slice_get, remove}
+use Rattle.std.proofs.lemmas.List.{map-append, length-map}
+
+-- what is left stands behind the element that was taken
+pub taken_first : {A : Type 0} (xs : List A) (x : A) → 0 < length xs → x ≡ slice_index_or xs 0 x → xs ≡ x ∷ remove xs 0
+taken_first [] x some is = absurd (omega (arith, some))
+taken_first (y ∷ ys) x some is = ap (λ z. z ∷ ys) (sym is)
+
+pub first_is : {A : Type 0} (xs ys : List A) (x : A) → xs ≡ x ∷ ys → slice_get xs 0 ≡ Some x
+first_is xs ys x is = ap (λ l. slice_get l 0) is
+
+pub next_is : {A : Type 0} (xs ys : List A) (x y : A) (j : ℕ) → xs ≡ x ∷ ys → slice_get ys j ≡ Some y → slice_get xs (j + 1) ≡ Some y
+next_is xs ys x y j is at =
+    let one : j + 1 ≡ suc j = omega arith in
+    ap (λ l. slice_get l (j + 1)) is ∙ (ap (slice_get (x ∷ ys)) one ∙ at)
+
+-- the last of the first ones is the first of the others
+pub moves : {A B C : Type 0} (f : A → C) (g : B → C) (done : List A) (rest : List B) (x : A) (y : B) → f x ≡ g y → map f (done ++ x ∷ []) ++ map g rest ≡ map f done ++ map g (y ∷ rest)
+moves f g done rest x y same =
+    ap (λ l. l ++ map g rest) (map-append f done (x ∷ []))
+    ∙ (append_assoc (map f done) (f x ∷ []) (map g rest)
+    ∙ ap (λ z. map f done ++ z ∷ map g rest) same)
+
+-- one element goes from the rest to what was done
+pub goes_over : {A B C : Type 0} (f : A → C) (g : B → C) (done : List A) (rest rest' : List B) (x : A) (y : B) (all : List C) → f x ≡ g y → rest ≡ y ∷ rest' → map f done ++ map g rest ≡ all → map f (done ++ x ∷ []) ++ map g rest' ≡ all
+goes_over f g done rest rest' x y all same is before = moves f g done rest' x y same ∙ (ap (λ l. map f done ++ map g l) (sym is) ∙ before)
+
+-- .. and back
+pub goes_back : {A B C : Type 0} (f : A → C) (g : B → C) (done done' : List A) (rest rest' : List B) (x : A) (y : B) (all : List C) → g y ≡ f x → done ≡ done' ++ x ∷ [] → rest' ≡ y ∷ rest → map f done ++ map g rest ≡ all → map f done' ++ map g rest' ≡ all
+goes_back f g done done' rest rest' x y all same was is before =
+    ap (λ l. map f done' ++ map g l) is
+    ∙ (sym (moves f g done' rest x y (sym same)) ∙ (ap (λ l. map f l ++ map g rest) (sym was) ∙ before))
+
+-- all of them are there
+pub all_there : {A B C : Type 0} (f : A → C) (g : B → C) (done : List A) (rest : List B) (all : List C) → done ≡ [] → map f done ++ map g rest ≡ all → map g rest ≡ all
+all_there f g done rest all none before = ap (λ l. map f l ++ map g rest) (sym none) ∙ before
+
+-- none is left
+pub all_over : {A B C : Type 0} (f : A → C) (g : B → C) (done : List A) (rest : List B) (all : List C) → rest ≡ [] → map f done ++ map g rest ≡ all → map f done ≡ all
+all_over f g done rest all none before = sym (append-nil (map f done)) ∙ (ap (λ l. map f done ++ map g l) (sym none) ∙ before)
+
+-- of each element by its number, the one that was added included
+pub each_push : {A : Type 0} (P : ℕ → A → Type 0) (xs : List A) (x : A) → ((j : ℕ) (w : A) → slice_get xs j ≡ Some w → P j w) → P (length xs) x → (j : ℕ) (w : A) → slice_get (xs ++ x ∷ []) j ≡ Some w → P j w
+each_push P [] x h p zero w at = let same : x ≡ w = cc in subst (P 0) same p
+each_push P [] x h p (suc j) w at = absurd (cc)
+each_push P (y ∷ ys) x h p zero w at = h zero w at
+each_push P (y ∷ ys) x h p (suc j) w at = each_push (λ k v. P (suc k) v) ys x (λ k v e. h (suc k) v e) p j w at
+
+-- Lists that show the same
+
+pub as_long : {A B C : Type 0} (f : A → C) (g : B → C) (xs : List A) (ys : List B) → map f xs ≡ map g ys → length xs ≡ length ys
+as_long f g xs ys same = sym (length-map xs f) ∙ (ap length same ∙ length-map ys g)
+
+twice : {A B C : Type 0} (f : A → B) (g : B → C) (xs : List A) → map g (map f xs) ≡ map (λ x. g (f x)) xs
+twice f g [] = refl
+twice f g (x ∷ xs) = ap (λ l. g (f x) ∷ l) (twice f g xs)
+
+pub shown_same : {A B C D : Type 0} (f : A → C) (g : B → C) (show : C → D) (xs : List A) (ys : List B) → map f xs ≡ map g ys → map (λ x. show (f x)) xs ≡ map (λ y. show (g y)) ys
+shown_same f g show xs ys same = sym (twice f show xs) ∙ (ap (map show) same ∙ twice g show ys)
+
+pub all_zero : (n s : ℕ) → ◌≡◌ {A = ℕ} (get_or {A = ℕ} (replicate n 0) s 0) 0
+all_zero zero s = refl
+all_zero (suc n) zero = refl
+all_zero (suc n) (suc s) = all_zero n s
 
 -- nothing stood behind
 pub none_behind : {A B C : Type 0} (f : A → C) (g : B → C) (front : List A) (rest : List B) (made : List C) → made ≡ map f front ++ map g rest → rest ≡ [] → made ≡ map f front

@@ -9,7 +9,7 @@ use Rattle.crew_making.specs.Fresh.{AreFreshFrom, AreNewWorkers}
 use Rattle.fabric_core.specs.Runs.{HasRegisterRun}
 use Rattle.crew_making.proofs.Before.{fresh_register}
 use Rattle.crew_making.proofs.Fresh.{fresh_from}
-use Rattle.crew_making.proofs.Lists.{as_long, shown_same}
+use Rattle.node_opening.proofs.Lists.{as_long, shown_same}
 use Rattle.crew_making.proofs.Resting.{crew_rests, new_stands}
 use Rattle.crew_making.proofs.make.make_crew.Goals as goal
 

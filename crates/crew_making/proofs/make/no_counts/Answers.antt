@@ -1,4 +1,4 @@
-use Rattle.crew_making.proofs.Lists.{all_zero}
+use Rattle.node_opening.proofs.Lists.{all_zero}
 use Rattle.crew_making.proofs.make.no_counts.Goals as goal
 
 pub returns-clause-none : goal.returns-clause-none

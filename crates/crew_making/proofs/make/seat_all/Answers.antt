@@ -4,7 +4,7 @@ use Rattle.std.specs.Prelude.{slice_get}
 use Rattle.std.proofs.lemmas.List.{nil_from_length}
 use Rattle.node_lines.specs.Workers.{Sends}
 use Rattle.crew_making.specs.Fresh.{AreFreshFrom, AreFreshDesks, IsFreshLog, IsNewSeat, IsNewWorker, AreNewWorkers}
-use Rattle.crew_making.proofs.Lists.{taken_first, goes_over, all_over, each_push}
+use Rattle.node_opening.proofs.Lists.{taken_first, goes_over, all_over, each_push}
 use Rattle.crew_making.proofs.make.seat_all.Goals as goal
 
 pub loop-k-preserved : goal.loop-k-preserved

@@ -3,7 +3,7 @@ use Rattle.std.proofs.lemmas.List.{nil_from_length}
 use Rattle.std.specs.Prelude.{remove}
 use Rattle.one_thread.specs.Seats.{SeatOk}
 use Rattle.crew_making.specs.Apart.{AreAsTold}
-use Rattle.crew_making.proofs.Lists.{taken_first, first_is, next_is, goes_over, all_over}
+use Rattle.node_opening.proofs.Lists.{taken_first, first_is, next_is, goes_over, all_over}
 use Rattle.crew_making.proofs.part.part_crew.Goals as goal
 
 pub part_within-node-requires-clause-seat : goal.part_within-node-requires-clause-seat

@@ -1,5 +1,5 @@
 use Rattle.node_opening.proofs.Lists.{none_behind}
-use Rattle.crew_making.proofs.Lists.{as_long, shown_same}
+use Rattle.node_opening.proofs.Lists.{as_long, shown_same}
 use Rattle.node_opening.proofs.closing.close_all.Goals as goal
 
 pub returns-clause-engines : goal.returns-clause-engines

@@ -2,7 +2,7 @@ use Rattle.std.proofs.Common.{◌≡◌, ◌++◌, length, map, sym, ◌∙◌, 
 use Rattle.std.proofs.lemmas.Bool.{eqb-true}
 use Rattle.std.proofs.lemmas.List.{nil_from_length}
 use Rattle.std.specs.List.{AllByRecursion}
-use Rattle.crew_making.proofs.Lists.{goes_back, all_there}
+use Rattle.node_opening.proofs.Lists.{goes_back, all_there}
 use Rattle.fitting_run.specs.Fresh.{five_kinds}
 use Rattle.node_opening.proofs.closing.close_before.Goals as goal
 

@@ -6,7 +6,7 @@ use Rattle.log_acts.proofs.Pairs.{all-append, all-imply}
 use Rattle.engine_laws.specs.State.{IsStateOf}
 use Rattle.local_replica.specs.Shown.{shown, Spells}
 use Rattle.replica_api.specs.Fresh.{IsFreshReplica}
-use Rattle.crew_making.proofs.Lists.{taken_first, goes_over, all_over, each_push, as_long}
+use Rattle.node_opening.proofs.Lists.{taken_first, goes_over, all_over, each_push, as_long}
 use Rattle.fitting_run.specs.Fresh.{five_kinds, IsFreshKit}
 use Rattle.node_opening.specs.Opened.{IsCounted}
 use Rattle.node_opening.proofs.Lists.{put_back}
