@@ -38,14 +38,16 @@ def part_of(words, folder):
 class Timer:
     """Notes each process that ends, in the file of raw figures as it goes."""
 
-    def __init__(self, path, texts):
-        self.path, self.texts, self.lock = path, texts, threading.Lock()
+    def __init__(self, path, texts, is_whole):
+        self.path, self.texts, self.is_whole, self.lock = path, texts, is_whole, threading.Lock()
         self.run = datetime.datetime.now().isoformat("T", "seconds")
         write(path, read(path))
 
     def note(self, words, folder, seconds):
-        """Adds one line for a process that took so many seconds."""
+        """Adds one line for a process that took so many seconds. What isn't of a crate counts for a gate of all crates alone."""
         name, part, what = part_of(words, folder)
+        if not name and not self.is_whole:
+            return
         told = Figure(self.run, name, part, what, f"{seconds:.3f}", self.texts.get(name, ""))
         with self.lock, open(self.path, "a", encoding="utf-8") as it:
             it.write("\t".join(told) + "\n")
@@ -90,7 +92,7 @@ def main(words):
     status = 0
     if words != ["--table"]:
         names = [it for it in words if not it.startswith("-")]
-        timer = Timer(raw, texts)
+        timer = Timer(raw, texts, is_whole=not names)
         tell_edits(rt)
         if names:
             anew_for(rt, names)
