@@ -11,86 +11,21 @@ import threading
 
 import toolchain
 
+from edits import Edit, batches_of, texts_of
+
 CLAUSE, SHAPE, NAME, MISSED, UNKNOWN = "a", "b", "c", "d", "-"
 SORTS = (CLAUSE, SHAPE, NAME, MISSED, UNKNOWN)
 
 # A line of the prover at a place of a file; what it says of a goal that is left; and a proof file's complaint of a name that is gone, or
 # of what cites such a proof.
-AT = re.compile(r"(?:note: )?(?:\./)?(src|specs|proofs)/\S+?:\d+:\d+:")
+AT = re.compile(r"(?:note: )?(?:\./)?((src|specs|proofs)/\S+?):(\d+):\d+:")
 LEFT = re.compile(r"it is not proved that|: error")
 GONE = re.compile(r"has no field|is not in scope|has no `|was not admitted")
-# What a check says of a function that `--only` doesn't find.
+# What a check says of a function that `--only` doesn't find, and of one that its front end refuses.
 NOT_FOUND = re.compile(r"has no function|fits \d+ functions|fits several")
+REJECTED = re.compile(r"\berror\[[\w-]+\]")
 
 Try = collections.namedtuple("Try", "sort said seconds")
-
-
-def places_of(text, old):
-    """The line of a file at which this text begins, and those above it, from the nearest one up."""
-    above = text[: text.index(old) + len(old) - len(old.lstrip())]
-    return [above.rpartition("\n")[2] + old.lstrip(), *reversed(above.split("\n")[:-1])]
-
-
-def function_at(text, old):
-    """The function around this text by the end of the name that a check prints, or None where it stands in none."""
-    method = None
-    for line in places_of(text, old):
-        found = re.match(r"    (?:pub(?:\([^)]*\))? )?fn (\w+)", line)
-        if found and not method:
-            method = found[1]
-        found = re.match(r"(?:pub(?:\([^)]*\))? )?fn (\w+)", line)
-        if found:
-            return found[1]
-        if re.match(r"impl\b", line):
-            return method and method_of(line, method)
-        if re.match(r"[^\s{})\]/#]", line) and not line.startswith("where"):
-            return None
-    return None
-
-
-def method_of(line, method):
-    """The end of the name of a method of this `impl`: of its type, or of its type and trait in one word."""
-    line = re.sub(r"^impl\s*", "", line)
-    if line.startswith("<"):
-        depth = 0
-        for at, letter in enumerate(line):
-            depth += (letter == "<") - (letter == ">" and line[at - 1] != "-")
-            if not depth:
-                line = line[at + 1 :].strip()
-                break
-    trait, _, of = line.partition(" for ")
-    plain = lambda it: re.sub(r"<.*|\s.*|\{.*", "", it.strip()).rpartition("::")[2]
-    return f"{plain(of)}{plain(trait)}::{method}" if of else f"{plain(trait)}::{method}"
-
-
-def functions_of(edit, folder):
-    """The functions that the edit changes, as words for `--only`, or None where it changes more than bodies."""
-    path, found, texts = "", [], {}
-    with open(edit, encoding="utf-8") as it:
-        lines = it.read().split("\n")
-    for line in lines:
-        if line.startswith("file: "):
-            path = line.removeprefix("file: ").strip()
-        elif line.startswith("old: "):
-            if not path.startswith("src/"):
-                return None
-            if path not in texts:
-                with open(f"{folder}/{path}", encoding="utf-8") as it:
-                    texts[path] = it.read()
-            old = line.removeprefix("old: ")
-            if old not in texts[path]:
-                # (it stands in what a pair above it wrote)
-                continue
-            name = function_at(texts[path], old)
-            if not name:
-                return None
-            module = path.removeprefix("src/").removesuffix(".rt").removesuffix("/mod").replace("/", "::")
-            found.append(name if "::" in name or module in ("lib", "main") else f"{module}::{name}")
-    return sorted({*found}) or None
-
-
-def only(functions):
-    return [word for it in functions or () for word in ("--only", it)]
 
 
 class Audit:
@@ -115,10 +50,10 @@ class Audit:
     def edits_of(self, crate, asked):
         """The crate's edits that are asked for: one is named NAME/EDIT, wherever it stands."""
         parts = {it: f"{crate.folder}/{it}" for it in ("audit", "must-fail") if os.path.isdir(f"{crate.folder}/{it}")}
-        found = [f"{at}/{it}" for at in parts.values() for it in sorted(os.listdir(at)) if it.endswith(".edit")]
+        found = [Edit(f"{at}/{it}", crate) for at in parts.values() for it in sorted(os.listdir(at)) if it.endswith(".edit")]
         is_whole = not asked.names or crate.name in asked.names
-        wanted = lambda it: is_whole and (asked.must_fail or it.startswith(f"{parts.get('audit')}/"))
-        return [it for it in found if wanted(it) or f"{crate.name}/{os.path.basename(it).removesuffix('.edit')}" in asked.names]
+        wanted = lambda it: is_whole and (asked.must_fail or "/audit/" in it.label)
+        return [it for it in found if wanted(it) or f"{crate.name}/{it.name}" in asked.names]
 
     def library(self, crate):
         """Has the crate's library in its place: as the gate proved it, or as a check built it in another checkout, or else it is built here."""
@@ -156,115 +91,160 @@ class Audit:
             return True
         return crate.stamp() in [said for _, said in self.rt.places_of(crate)]
 
-    def begin(self, crate, functions):
-        """Gives where the tries of a crate keep what they prove, or None where these functions, or all if there are none, aren't proved as they stand."""
+    def begin(self, crate, edits):
+        """Gives where the tries of a crate keep what they prove, or None where what they change isn't proved as it stands."""
         at = f"{crate.folder}/out/audit"
         self.begin_with(crate, at)
         if self.is_proved(crate):
             return at
-        ran = self.rt.checked(crate, {}, ["--jobs", "1", *only(functions)], at)
+        ran = self.check(crate, {}, () if any(not it.functions for it in edits) else edits, at)
         if ran.returncode:
             print(ran.stdout[-2000:], file=sys.stderr)
         return None if ran.returncode else at
 
-    def attempt(self, crate, edit, functions, at):
-        """What the edit comes to. What is proved of its functions alone is tried once more of the whole crate."""
+    def check(self, crate, texts, edits, at):
+        """Checks the crate with these texts: the functions that the edits change, or all of it where there are none."""
+        names = dict.fromkeys(one.name for it in edits for one in it.functions)
+        flags = ["--jobs", "1", *(word for it in names for word in ("--only", it))]
+        for _ in range(2):
+            ran = self.rt.checked(crate, texts, flags, at)
+            # (else most likely for memory)
+            if ran.returncode != -signal.SIGKILL:
+                break
+        return ran
+
+    def attempt(self, crate, batch, at):
+        """What the edits of a list come to, by edit: they are tried in one check, and those of which it tells nothing alone."""
         self.took.seconds = 0
-        texts, why = self.rt.read_edit(edit, crate.folder)
+        texts = texts_of(batch) if len(batch) > 1 else {}
+        if not texts:
+            return {it: self.alone(crate, it, at) for it in batch}
+        ran = self.check(crate, texts, batch, at)
+        self.keep(ran, [it.name for it in batch], crate)
+        seconds = self.took.seconds / len(batch)
+        tried = {it: fall(ran, it) if ran.returncode == 1 else None for it in batch}
+        return {it: Try(*found, seconds) if found else self.alone(crate, it, at) for it, found in tried.items()}
+
+    def alone(self, crate, edit, at):
+        """What one edit comes to. What is proved of its functions alone is tried once more of the whole crate."""
+        self.took.seconds = 0
+        texts, why = self.rt.read_edit(edit.path, crate.folder)
         if why:
             return Try(UNKNOWN, why, 0)
-        for some in dict.fromkeys((tuple(functions or ()), ())):
-            for _ in range(2):
-                ran = self.rt.checked(crate, texts, ["--jobs", "1", *only(some)], at)
-                # (else most likely for memory)
-                if ran.returncode != -signal.SIGKILL:
-                    break
+        for some in ([edit], []) if edit.functions else ([],):
+            ran = self.check(crate, texts, some, at)
             if ran.returncode and not (ran.returncode == 2 and NOT_FOUND.search(ran.stdout)):
                 break
-        if self.said:
+        self.keep(ran, [edit.name], crate)
+        return Try(*self.sort_of(texts, ran), self.took.seconds)
+
+    def keep(self, ran, names, crate):
+        """Leaves what the prover said where it was asked for."""
+        for name in names if self.said else ():
             os.makedirs(self.said, exist_ok=True)
-            with open(f"{self.said}/{crate.name}.{os.path.basename(edit)}.txt", "w", encoding="utf-8") as it:
+            with open(f"{self.said}/{crate.name}.{name}.txt", "w", encoding="utf-8") as it:
                 it.write(ran.stdout)
-        return Try(*sort_of(self.rt, texts, ran), self.took.seconds)
+
+    def sort_of(self, texts, ran):
+        """How a check of one edit refuses it, and by which line."""
+        lines = ran.stdout.rstrip("\n").split("\n")
+        if not ran.returncode:
+            return MISSED, "the crate is still proved"
+        bad = next((it for it in lines if REJECTED.search(it) or self.rt.unread(it, texts)), None)
+        if ran.returncode != 1 or bad:
+            return UNKNOWN, bad or lines[-1]
+        return first_of([it for it in lines if AT.match(it) and LEFT.search(it)]) or (UNKNOWN, lines[-1])
 
 
-def sort_of(rt, texts, ran):
-    """How a check that ended so refuses an edit, and by which line."""
-    lines = ran.stdout.rstrip("\n").split("\n")
-    if not ran.returncode:
-        return MISSED, "the crate is still proved"
-    if ran.returncode != 1 or any(re.search(r"\berror\[[\w-]+\]", it) for it in lines):
-        return UNKNOWN, next((it for it in lines if "error" in it), lines[-1])
-    unread = next((it for it in lines if rt.unread(it, texts)), None)
-    if unread:
-        return UNKNOWN, unread
-    told = [it for it in lines if AT.match(it) and LEFT.search(it)]
-    goals = [it for it in told if AT.match(it)[1] == "src"]
+def first_of(told):
+    """The sort of what the prover says of goals that are left, and the line that shows it."""
+    goals = [it for it in told if AT.match(it)[2] == "src"]
     shapes = [it for it in told if not GONE.search(it)]
     for sort, found in ((CLAUSE, goals), (SHAPE, shapes), (NAME, told)):
         if found:
             return sort, found[0]
-    return UNKNOWN, lines[-1]
+    return None
+
+
+def fall(ran, edit):
+    """How one of several edits falls in a check, by what the prover says of the functions that it changes, or None where that tells nothing."""
+    if REJECTED.search(ran.stdout):
+        return None
+    is_own = lambda at: any(is_of(at, it) for it in edit.functions)
+    lines = ran.stdout.split("\n")
+    refused = [it for it in edit.functions if re.search(rf"(?m)^fn (\S+::)?{re.escape(it.name)}: (not proved|no proof)", ran.stdout)]
+    return first_of([it for it in lines if AT.match(it) and LEFT.search(it) and is_own(AT.match(it))]) if refused else None
+
+
+def is_of(at, function):
+    """Whether a place is one of the function's body, or of its own proof."""
+    if at[2] == "src":
+        return at[1] == function.file and function.first <= int(at[3]) <= function.last
+    return f"/{function.name.replace('::', '/')}/" in f"/{at[1]}"
 
 
 def say(text):
     print(text, flush=True)
 
 
-def tries_of(audit, crate, edits, whole):
-    """What is to be done for a crate: its edits are tried one after another, each over what the ones before it kept."""
-    named = {edit: None if whole else functions_of(edit, crate.folder) for edit in edits}
-    every = None if None in named.values() else sorted({it for names in named.values() for it in names})
+def tries_of(audit, crate, edits, is_whole):
+    """What is to be done for a crate: its edits are tried one list after another, each over what the ones before it kept."""
+    for it in edits if is_whole else ():
+        it.functions = []
     needs, first = audit.rt.need(crate), (crate.name, "seed")
 
     def begin(given, jobs):
-        if all(audit.library(it) for it in crate.below()):
-            return audit.begin(crate, every)
-        return None
+        return audit.begin(crate, edits) if all(audit.library(it) for it in crate.below()) else None
 
-    def one(given, jobs, edit):
-        tried = audit.attempt(crate, edit, named[edit], given[first]) if given[first] else Try(UNKNOWN, "it, or a library below it, isn't proved as it stands", 0)
-        part, name = edit.split("/")[-2:]
-        say(f"{tried.sort}  {crate.name}/{part}/{name.removesuffix('.edit')}  ({tried.seconds:.0f} s)  {tried.said[:200]}")
+    def attempt(given, jobs, batch):
+        unproved = Try(UNKNOWN, "it, or a library below it, isn't proved as it stands", 0)
+        tried = audit.attempt(crate, batch, given[first]) if given[first] else dict.fromkeys(batch, unproved)
+        for it, found in tried.items():
+            say(f"{found.sort}  {it.label}  ({found.seconds:.0f} s)  {found.said[:200]}")
         return tried
 
     tasks, last = {first: ([], 0, needs, begin)}, first
-    for edit in edits:
-        key = crate.name, "edits", edit
-        tasks[key] = [last], 0, needs, lambda given, jobs, edit=edit: one(given, jobs, edit)
+    for number, batch in enumerate(batches_of(edits)):
+        key = crate.name, "edits", number
+        tasks[key] = [last], 0, needs, lambda given, jobs, batch=batch: attempt(given, jobs, batch)
         last = key
     return tasks
 
 
 def counts(tried):
-    """How many of the tries fell how, in words."""
+    """How many of the tries fell how, in words, and what they took."""
     found = collections.Counter(it.sort for it in tried)
-    return f"{len(tried)} tried: " + ", ".join(f"{sort} {found[sort]}" for sort in SORTS if found[sort])
+    fell = ", ".join(f"{sort} {found[sort]}" for sort in SORTS if found[sort])
+    return f"{len(tried)} tried: {fell or 'none'} ({sum(it.seconds for it in tried):.0f} s)"
 
 
 def main(words):
     reads = argparse.ArgumentParser(prog="audit.sh", description="Tries the wrong bodies of crates/NAME/audit/.")
     reads.add_argument("--must-fail", action="store_true", help="those of must-fail/ too")
-    reads.add_argument("--whole", action="store_true", help="each against the whole crate")
+    reads.add_argument("--whole", action="store_true", help="each alone, against the whole crate")
     reads.add_argument("--said", metavar="FOLDER", help="keep what the prover said of each there")
     reads.add_argument("names", nargs="*", metavar="NAME", help="a crate, or NAME/EDIT")
     asked = reads.parse_args(words)
+    tried = {}
     with tempfile.TemporaryDirectory(prefix="audit-") as room:
         audit = Audit(toolchain.load(), toolchain.repository(), room, asked.said)
         tasks, lacking = {}, {*asked.names} - {it.name for it in audit.crates}
         for crate in audit.crates:
             edits = audit.edits_of(crate, asked)
-            lacking -= {f"{crate.name}/{os.path.basename(it).removesuffix('.edit')}" for it in edits}
+            lacking -= {f"{crate.name}/{it.name}" for it in edits}
             tasks.update(tries_of(audit, crate, edits, asked.whole) if edits else {})
-        if lacking:
-            os.chdir("/")
-            sys.exit(f"audit: there is no {' '.join(sorted(lacking))}")
-        given = {key: it for key, it in audit.rt.in_lanes(tasks).items() if key[1] == "edits"}
+        if not lacking:
+            for key, found in audit.rt.in_lanes(tasks).items():
+                if key[1] == "edits":
+                    tried.setdefault(key[0], []).extend(found.values())
         os.chdir("/")
-    for crate in dict.fromkeys(key[0] for key in given):
-        say(f"{crate}: {counts([it for key, it in given.items() if key[0] == crate])}")
-    say(counts(given.values()))
-    return 1 if any(it.sort in (MISSED, UNKNOWN) for it in given.values()) else 0
+    if lacking:
+        sys.exit(f"audit: there is no {' '.join(sorted(lacking))}")
+    for crate, found in tried.items():
+        say(f"{crate}: {counts(found)}")
+    every = [it for found in tried.values() for it in found]
+    say(counts(every))
+    return 1 if any(it.sort in (MISSED, UNKNOWN) for it in every) else 0
 
 
 if __name__ == "__main__":
