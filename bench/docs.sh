@@ -1,0 +1,7 @@
+#!/bin/sh
+# docs.sh [PROGRAM]: runs each command of README.md, docs/MANUAL.md, docs/GUIDE.md, docs/EMBED.md and docs/THEOREM.md, compares what it prints with
+# what stands below it, compares each excerpt of code with its file, and follows each link to a file. The status is 0 where all agree.
+# PROGRAM is the built delos_sim. Without it `rt try` builds one, with no proof, in minutes. The gate, `rt ci`, isn't run here.
+# How blocks are marked is said at the head of docs.py.
+set -eu
+exec python3 "$(dirname "$0")/docs.py" "$@"
