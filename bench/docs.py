@@ -12,7 +12,6 @@ Each block between ``` has a mark on the line above it, an HTML comment, which s
 A block indented by four spaces, or one without a mark, is refused. So is a link to a file that isn't there."""
 import os
 import re
-import shutil
 import subprocess
 import sys
 import tempfile
@@ -114,17 +113,17 @@ def shell(block, path, extra):
 
 
 def judge(block, status, printed, faults):
-    before = len(faults)
+    """Compares the status, and what was printed, where that is told here."""
     if status is not None and status != block.status:
         faults.append(f"{block.where()}: status {status}, and not {block.status}")
-    if block.prints is not None and printed != block.prints:
+    if printed is not None and block.prints is not None and printed != block.prints:
         faults.append(f"{block.where()}: it prints\n{printed}and not\n{block.prints}")
-    print(f"{'ok' if len(faults) == before else 'NO'} {block.where()} {block.lines[0]}", flush=True)
+    is_ok = not any(it.startswith(block.where() + ":") for it in faults)
+    print(f"{'ok' if is_ok else 'NO'} {block.where()} {block.lines[0]}", flush=True)
 
 
 def is_of_the_program(block):
-    text = commands_of(block)
-    return "delos_sim " in text or "rt try" in text
+    return "delos_sim " in commands_of(block)
 
 
 def run_program(blocks, program, faults):
@@ -149,32 +148,23 @@ def as_program(name, program):
 
 
 def run_cases(blocks, work, faults):
-    """`rt try --cases` builds the program once, with no proof, and runs it for each noted case."""
+    """`rt try --cases` builds the program once, with no proof, runs it for each noted case, and compares what it prints."""
     cases = os.path.join(work, "cases")
     os.mkdir(cases)
     for at, block in enumerate(blocks):
-        shell(block, work, {"DOCS_CASE": os.path.join(cases, f"case{at:02}")})
+        case = os.path.join(cases, f"case{at:02}")
+        shell(block, work, {"DOCS_CASE": case})
+        with open(case + ".stdout", "w", encoding="utf-8") as it:
+            it.write(block.prints or "")
     done = subprocess.run(["rt", "try", "--cases", cases, "--"], cwd=os.path.join(TOP, "crates/delos_sim"), capture_output=True, text=True, timeout=SECONDS)
-    printed = parts_of(done.stdout)
-    statuses = {found.group(1): int(found.group(2)) for found in re.finditer(r"(case\d+).*?status=(\d+)", done.stdout + done.stderr)}
+    told = done.stdout + done.stderr
     for at, block in enumerate(blocks):
-        name = f"case{at:02}"
-        if name not in printed:
-            faults.append(f"{block.where()}: rt try ran nothing: {done.stderr[-400:]}")
-            continue
-        judge(block, statuses.get(name), printed[name], faults)
-
-
-def parts_of(text):
-    """What was printed under each line `== NAME`."""
-    parts, name = {}, None
-    for line in text.splitlines(keepends=True):
-        if line.startswith("== "):
-            name = line[3:].strip()
-            parts[name] = ""
-        elif name is not None:
-            parts[name] += line
-    return parts
+        line = re.search(rf"^case=case{at:02} .*status=(\d+).*$", told, re.MULTILINE)
+        if line is None:
+            faults.append(f"{block.where()}: rt try ran nothing:\n{told[-2000:]}")
+        elif "output=expected" not in line.group(0):
+            faults.append(f"{block.where()}: it prints something else:\n{told}")
+        judge(block, line and int(line.group(1)), None, faults)
 
 
 def check_links(page, faults):
