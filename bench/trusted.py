@@ -4,8 +4,8 @@
 Begins with the names that the contract of `run` imports (`ghost use` in crates/script_runner/src/run.rt), and goes on through the
 specs of the repository: each definition leads to those that its own text names, by the imports of its file. It counts definitions
 and their lines. A line counts where it has text of the definition: comments, blank lines and imports don't. Types that the code
-declares (structs and enums) are counted apart, since a reader finds them in src/. Definitions of the toolchain's own library are
-named and not counted. With --list each definition is printed, by crate and file, in the order in which it was reached."""
+declares (structs and enums) are counted apart, since a reader finds them in src/. Definitions of the kit, as those of std and of clap, are
+counted apart too. With --list each definition is printed, by crate and file, in the order in which it was reached."""
 import os
 import re
 import sys
@@ -155,7 +155,7 @@ def main():
     print(f"definitions: {len(reader.reached)} in {len(files)} files of {len(crates)} crates")
     print(f"lines: {sum(reader.reached.values())}")
     print(f"types declared in code: {len(reader.types)}")
-    print(f"definitions of the toolchain's library, not counted: {len(reader.library)}")
+    print(f"definitions of the kit, not counted: {len(reader.library)}")
 
 
 if __name__ == "__main__":

@@ -1,0 +1,2 @@
+pub mod Five
+pub mod Resting

@@ -1,0 +1,45 @@
+-- Two nodes over one loglet, of which one has the log at a time.
+use Rattle.std.specs.Prelude.{◌≡◌, ℕ, List, [], ◌∷◌, None}
+use Rattle.std.specs.FinMap as map
+use Rattle.delos_types.specs.declared.entry.Entry.{Entry}
+use Rattle.engine_laws.specs.State.{IsStateOf}
+use Rattle.legal_journal.specs.declared.events.Event.{Event}
+use Rattle.legal_journal.specs.Journal.{state_of}
+use Rattle.virtual_log.specs.Holding.{Holds}
+use Rattle.virtual_log.specs.Log.{GoesBy}
+use Rattle.virtual_log.specs.Log as virtual_log
+use Rattle.local_store.specs.View as store
+use Rattle.local_replica.specs.Shown.{Spells}
+use Rattle.base_engine.specs.Node.{NodeView, NodeOk, RestedView, awake}
+
+-- everybody may append anything
+abbrev pub anything : ℕ → Entry → Type 0
+anything who e = Unit {0}
+
+-- no log may be trimmed
+abbrev pub nothing_trimmed : List Entry → ℕ → Type 0
+nothing_trimmed entries n = n ≡ 0
+
+-- one loglet of one server
+abbrev pub one_loglet : List ℕ
+one_loglet = 1 ∷ []
+
+-- what a node without its log has, and what it knows of its log, holds by this journal
+pub record Rests (who : ℕ) (seen : List Event) (node : RestedView) (log : virtual_log.RestedView) : Type 0 where
+  pub ok : NodeOk anything nothing_trimmed one_loglet Holds IsStateOf Spells (awake node who seen log.known)
+  pub goes_by : GoesBy (state_of seen) log.version log.chain log.known
+  pub loglets : log.shelf_len ≡ 1
+  pub nodes : node.nodes ≡ 2
+
+-- the node that has the log goes by its number, and the other one rests
+pub record AreTwo (number : ℕ) (node : NodeView) (other : ℕ) (rested : RestedView) (log : virtual_log.RestedView) : Type 0 where
+  pub who : node.who ≡ number
+  pub nodes : node.nodes ≡ 2
+  pub rests : Rests other node.seen rested log
+
+-- a store to which nothing was committed
+pub record IsNew (v : store.View) : Type 0 where
+  pub start : v.cursor ≡ 0
+  pub empty : v.contents ≡ map.empty
+  pub none_asked : v.asked ≡ None
+  pub survives : store.Survives v
