@@ -1,0 +1,59 @@
+//! What the cases of a file are about: a disk, or what is kept on one.
+use crate::disks::DiskBench;
+use crate::records::RecordBench;
+use crate::stores::StoreBench;
+use crate::workbench::Workbench;
+use anyhow::Result;
+use disk_model::FailDisk;
+use journal_core::Journal;
+use log_server::LogServer;
+use meta_register::MetaRegister;
+use std::alloc::Global;
+use worked_cases::cases::{Line, Topic, play_on};
+
+/// What the cases of a file are about.
+#[derive(Clone, Copy)]
+pub enum Kept {
+    Disks,
+    Journals,
+    Records,
+    Registers,
+    Servers,
+    Stores,
+}
+
+impl Topic for Kept {
+    fn name(&self) -> &'static str {
+        match self {
+            Kept::Disks => "disks",
+            Kept::Journals => "journals",
+            Kept::Records => "records",
+            Kept::Registers => "registers",
+            Kept::Servers => "servers",
+            Kept::Stores => "stores",
+        }
+    }
+
+    fn play(&self, alloc: Global, with: &str, calls: &[Line]) -> Result<String> {
+        match self {
+            Kept::Disks => play_on(alloc, &mut DiskBench::new(alloc), with, calls),
+            Kept::Records => play_on(alloc, &mut RecordBench::new(alloc), with, calls),
+            Kept::Journals => {
+                let mut bench = Workbench::<Journal<FailDisk>>::new(alloc);
+                play_on(alloc, &mut bench, with, calls)
+            }
+            Kept::Registers => {
+                let mut bench = Workbench::<MetaRegister<FailDisk>>::new(alloc);
+                play_on(alloc, &mut bench, with, calls)
+            }
+            Kept::Servers => {
+                let mut bench = Workbench::<LogServer<FailDisk>>::new(alloc);
+                play_on(alloc, &mut bench, with, calls)
+            }
+            Kept::Stores => {
+                let mut bench = Workbench::<StoreBench>::new(alloc);
+                play_on(alloc, &mut bench, with, calls)
+            }
+        }
+    }
+}
