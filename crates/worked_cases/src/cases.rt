@@ -132,9 +132,11 @@ impl Transcript {
             return self.add("");
         }
         writeln!(self.text, "with {with}: the same, but")?;
-        for (line, before) in played.lines().zip(first.lines()) {
-            if line != before {
-                writeln!(self.text, "{line}")?;
+        let mut before = first.lines();
+        for line in played.lines() {
+            match before.next() {
+                Some(old) if old == line => {}
+                _ => writeln!(self.text, "{line}")?,
             }
         }
         self.add("")
