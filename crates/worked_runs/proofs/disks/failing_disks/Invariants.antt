@@ -2,7 +2,7 @@ use Rattle.std.proofs.Common.{◌≡◌, length}
 use Rattle.std.specs.List.{AllByRecursion}
 use Rattle.disk_model.specs.Failing.{shown}
 use Rattle.memory_runs.specs.Disks.{IsFreshDisk}
-use Rattle.run_rows.proofs.disks.failing_disks.Given as goal
+use Rattle.worked_runs.proofs.disks.failing_disks.Given as goal
 
 abbrev pub invariant-disk : goal.invariant-disk
 invariant-disk l = record {

@@ -1,7 +1,7 @@
 use Rattle.std.proofs.Common.{◌≡◌, length, map}
 use Rattle.script_runner.specs.Fresh.{AreFresh}
 use Rattle.shelf_loglets.specs.Shelf.{view_of}
-use Rattle.run_rows.proofs.own.counted_shelf.Given as goal
+use Rattle.worked_runs.proofs.own.counted_shelf.Given as goal
 
 abbrev pub invariant-kind : goal.invariant-kind
 invariant-kind l = record {

@@ -1,0 +1,158 @@
+//! Scripts with rows that answer their lines, and which rules of a fitting run the rows break.
+use crate::rows::row_in;
+use crate::words::{number_in, words_of};
+use anyhow::{Context, bail, ensure};
+use delos_types::chain::Segment;
+use fitting_run::answered::Answered;
+use row_text::row::Row;
+use script_text::asks::{NamedLine, named_lines};
+use script_text::script::parse;
+use std::alloc::Global;
+
+/// The most nodes that a script may name.
+const NODES: u8 = 8;
+
+/// What a case says of the end of its run.
+#[derive(Drop)]
+pub(crate) struct End {
+    pub(crate) end: u64,
+    pub(crate) nodes: u8,
+    pub(crate) trim: u64,
+    pub(crate) version: u64,
+    pub(crate) segments: Vec<Segment>,
+    /// How many loglets the shelf has.
+    pub(crate) shelf: usize,
+}
+
+/// The lines of a script, what they are answered, and the end of the run.
+#[derive(Drop)]
+pub(crate) struct Shown {
+    pub(crate) lines: Vec<NamedLine>,
+    pub(crate) told: Vec<Answered>,
+    pub(crate) end: End,
+}
+
+/// The two parts of a case: its script, and what stands below the line `rows`.
+pub(crate) fn halves<'a, 'b>(
+    input: &'a [&'b str],
+) -> anyhow::Result<(&'a [&'b str], &'a [&'b str])> {
+    let mut parts = input.split(|line| *line == "rows");
+    match (parts.next(), parts.next()) {
+        (Some(script), Some(told)) => Ok((script, told)),
+        _ => bail!("no line `rows`"),
+    }
+}
+
+/// The bytes of a script of these lines.
+pub(crate) fn script_of(alloc: Global, lines: &[&str]) -> anyhow::Result<Vec<u8>> {
+    let mut script = Vec::new(alloc);
+    for line in lines {
+        script.extend_from_slice(line.as_bytes())?;
+        script.push(b'\n')?;
+    }
+    Ok(script)
+}
+
+/// The lines of a script that name a node.
+pub(crate) fn lines_in(alloc: Global, script: &[u8]) -> anyhow::Result<Vec<NamedLine>> {
+    let script = parse(alloc, script, NODES)
+        .ok()
+        .context("a line is refused")?;
+    Ok(named_lines(alloc, script)?.into_vec())
+}
+
+/// A segment that begins at a position, and its end, if it has one.
+fn segment_in(id: &str, start: &str, end: Option<u64>) -> anyhow::Result<Segment> {
+    Ok(Segment {
+        id: id.parse::<u32>()?,
+        start: number_in(start)?,
+        end,
+    })
+}
+
+/// A line on the end of the run.
+fn take_end(end: &mut End, words: &[&str]) -> anyhow::Result<()> {
+    match words {
+        ["end", number] => end.end = number_in(number)?,
+        ["nodes", number] => end.nodes = number.parse::<u8>()?,
+        ["trim", number] => end.trim = number_in(number)?,
+        ["version", number] => end.version = number_in(number)?,
+        ["shelf", number] => end.shelf = number.parse::<usize>()?,
+        ["seg", id, "from", start, "open"] => end.segments.push(segment_in(id, start, None)?)?,
+        ["seg", id, "from", start, "to", stop] => {
+            let stop = number_in(stop)?;
+            end.segments.push(segment_in(id, start, Some(stop))?)?;
+        }
+        _ => bail!("neither a row nor an end"),
+    }
+    Ok(())
+}
+
+/// A row, and how many barriers stand before it among the rows.
+#[derive(Drop)]
+struct Phased {
+    phase: u64,
+    row: Row,
+}
+
+/// The rows of a case, and the end of its run.
+fn rows_and_end(alloc: Global, told: &[&str]) -> anyhow::Result<(Vec<Phased>, End)> {
+    let mut rows = Vec::new(alloc);
+    let mut phase = 0u64;
+    let mut end = End {
+        end: 0,
+        nodes: 1,
+        trim: 0,
+        version: 1,
+        segments: Vec::new(alloc),
+        shelf: 1,
+    };
+    for line in told {
+        let words = words_of(alloc, line)?;
+        match words.as_slice() {
+            ["barrier"] => phase = phase.saturating_add(1),
+            [number, who, outcome @ ..] if number.starts_with(|c: char| c.is_ascii_digit()) => {
+                let row = row_in(alloc, number, who, outcome).context(format_args!("`{line}`"))?;
+                rows.push(Phased { phase, row })?;
+            }
+            words => take_end(&mut end, words).context(format_args!("`{line}`"))?,
+        }
+    }
+    Ok((rows, end))
+}
+
+/// Reads a case: a script, and below the line `rows` its rows and the end of its run. A `barrier` among the rows ends a
+/// phase of a script without barriers of its own.
+pub(crate) fn read_shown(alloc: Global, input: &[&str]) -> anyhow::Result<Shown> {
+    let (script, told) = halves(input)?;
+    let script = script_of(alloc, script)?;
+    let (rows, end) = rows_and_end(alloc, told)?;
+    let lines = lines_in(alloc, script.as_slice())?;
+    ensure!(lines.len() == rows.len(), "each line has one row");
+    let mut told = Vec::new(alloc);
+    for (mut line, phased) in lines.into_iter().zip(rows.into_iter()) {
+        let Phased { phase, row } = phased;
+        line.phase = line.phase.saturating_add(phase);
+        told.push(Answered { line, row })?;
+    }
+    Ok(Shown {
+        lines: lines_in(alloc, script.as_slice())?,
+        told,
+        end,
+    })
+}
+
+/// Prints the rules that don't hold, or that all of them do.
+pub(crate) fn show_rules(rt: &HostRuntime, rules: &[(&str, bool)]) -> anyhow::Result<()> {
+    let mut fits = true;
+    for (rule, holds) in rules {
+        if !*holds {
+            println!(rt; "broken: {rule}")?;
+            fits = false;
+        }
+    }
+    if fits {
+        println!(rt; "fits")?;
+    }
+    Ok(())
+}

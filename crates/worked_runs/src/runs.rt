@@ -1,0 +1,126 @@
+//! Runs of the program.
+ghost use Rattle.std.specs.Prelude.{◌≤◌};
+ghost use Rattle.shelf_loglets.specs.Shelf.{AreRooms};
+
+use crate::disks::failing_disks;
+use crate::own::counted_shelf;
+use crate::setup::{PIECE, ROOMS, Setup, Yard, read_setup};
+use anyhow::{Context, bail, ensure};
+use fitting_run::told::Told;
+use memory_runs::run::{Ran, run_in_memory, run_on, run_over};
+use outside_ends::memory::{MemSink, MemSource};
+use script_words::plan::read_words;
+use shelf_loglets::shelf::Rooms;
+use std::alloc::Global;
+
+/// How many bytes standard output takes.
+const SINK_ROOM: usize = 4096;
+
+/// The greatest room of a loglet, and of a native loglet of a striped one.
+const GREATEST: Rooms = Rooms {
+    single: 0x1_0000_0000,
+    inner: 0x2000_0000,
+};
+
+/// Runs the program over disks that fail.
+fn run_on_failing(
+    rt: &HostRuntime,
+    words: &[String],
+    rooms: Rooms,
+    failing: &[u64],
+    source: &mut MemSource,
+    sink: &mut MemSink,
+) -> anyhow::Result<Ran>
+    requires { AreRooms rooms }
+{
+    let alloc = rt.alloc();
+    let Ok(plan) = read_words(alloc, words) else {
+        bail!("the words aren't taken");
+    };
+    let disks = failing_disks(alloc, plan.nodes, failing)?;
+    Ok(run_on(rt, alloc, words, rooms, disks, source, sink)?)
+}
+
+/// Runs the program over loglets that count, on disks of which no call fails.
+fn run_over_counted(
+    rt: &HostRuntime,
+    words: &[String],
+    rooms: Rooms,
+    source: &mut MemSource,
+    sink: &mut MemSink,
+) -> anyhow::Result<Ran>
+    requires { AreRooms rooms }
+{
+    let alloc = rt.alloc();
+    let Ok(plan) = read_words(alloc, words) else {
+        bail!("the words aren't taken");
+    };
+    let shelf = counted_shelf(alloc, plan.shelf.as_slice(), rooms)?;
+    let disks = failing_disks(alloc, plan.nodes, &[])?;
+    Ok(run_over(rt, alloc, words, shelf, disks, source, sink)?)
+}
+
+/// Runs the program by these words.
+fn run_program(
+    rt: &HostRuntime,
+    setup: &Setup,
+    source: &mut MemSource,
+    sink: &mut MemSink,
+) -> anyhow::Result<Ran> {
+    let rooms = setup.rooms;
+    let Rooms { single, inner } = rooms;
+    ensure!(
+        1 <= single && single <= GREATEST.single,
+        "no room: {single}"
+    );
+    ensure!(1 <= inner && inner <= GREATEST.inner, "no room: {inner}");
+    let words = setup.words.as_slice();
+    match &setup.yard {
+        Yard::Memory => Ok(run_in_memory(rt, rt.alloc(), words, rooms, source, sink)?),
+        Yard::Failing(calls) => run_on_failing(rt, words, rooms, calls.as_slice(), source, sink),
+        Yard::Counted => run_over_counted(rt, words, rooms, source, sink),
+    }
+}
+
+/// Runs a script over a file loglet, and gives what the run told.
+pub(crate) fn run_plainly(rt: &HostRuntime, script: &[u8]) -> anyhow::Result<Told> {
+    let alloc = rt.alloc();
+    let mut words = Vec::new(alloc);
+    for word in ["run", "--shelf", "file"] {
+        words.push(String::from_str(alloc, word)?)?;
+    }
+    let mut source = MemSource::new(Vec::from_slice(alloc, script)?, PIECE, Vec::new(alloc));
+    let mut sink = MemSink::new(alloc, SINK_ROOM, PIECE, Vec::new(alloc))?;
+    let ran = run_in_memory(rt, alloc, words.as_slice(), ROOMS, &mut source, &mut sink)?;
+    ran.told.context("the run told nothing")
+}
+
+/// Prints what a run put, and says where its last line has no end.
+fn show_text(rt: &HostRuntime, text: &[u8]) -> anyhow::Result<()> {
+    let text = str::from_utf8(text)?;
+    print!(rt; "{text}")?;
+    if !text.is_empty() && !text.ends_with("\n") {
+        println!(rt; "{{no LF}}")?;
+    }
+    Ok(())
+}
+
+/// Runs the program as the case says, and prints what it put and its status.
+pub(crate) fn show_run(rt: &HostRuntime, input: &[&str]) -> anyhow::Result<()> {
+    let alloc = rt.alloc();
+    let setup = read_setup(rt, input)?;
+    let piece = setup.piece;
+    ensure!(piece > 0, "an end moves at least one byte");
+    let script = Vec::from_slice(alloc, setup.script.as_slice())?;
+    let failing = Vec::from_slice(alloc, setup.source_fails.as_slice())?;
+    let mut source = MemSource::new(script, piece, failing);
+    let failing = Vec::from_slice(alloc, setup.sink_fails.as_slice())?;
+    let mut sink = MemSink::new(alloc, SINK_ROOM, piece, failing)?;
+    let ran = run_program(rt, &setup, &mut source, &mut sink)?;
+    if !setup.is_silent {
+        show_text(rt, sink.as_slice())?;
+    }
+    let status = ran.status.code();
+    println!(rt; "status {status}")?;
+    Ok(())
+}
