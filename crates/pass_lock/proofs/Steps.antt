@@ -13,11 +13,11 @@ use Rattle.atomic_table.specs.Table.{State, step, Act, keeps, takes, gives, step
 use Rattle.atomic_table.proofs.Lists.{at_set, set_here, set_again, one_turn}
 use Rattle.pass_lock.specs.declared.view.View.{View}
 use Rattle.pass_lock.specs.Journal.{total, InTurns, numbers, IsKnown, Signed}
-use Rattle.pass_lock.specs.Pass.{brought}
+use Rattle.pass_lock.specs.Pass.{all_parts, brought}
 use Rattle.pass_lock.specs.Rule.{parts_with, turns_with, Turned, part_count, in_turn, seeing, Kept}
 use Rattle.pass_lock.specs.Steps.{Held, drew, looked, raised, advanced}
-use Rattle.pass_lock.proofs.Sums.{at_inside, term_le, terms_le, total_le}
-use Rattle.pass_lock.proofs.Known.{brought-length, brought-times, brought-again, brought-same, has_number, known_brought, known_more}
+use Rattle.pass_lock.proofs.Sums.{at_inside, term_le, terms_le, total_le, total_alone}
+use Rattle.pass_lock.proofs.Known.{brought-length, brought-times, brought-again, brought-same, has_number, number_there, times_le, known_brought, known_more}
 use Rattle.pass_lock.proofs.Kept.{some_is, has_part, signs_not, moved, still, alone}
 use Rattle.pass_lock.proofs.Turned.{turned_still, turned_more}
 
@@ -61,8 +61,8 @@ module _ {S E : Type 0} (journal : S → List E) (signer : E → ℕ) (count : �
   unmoved s r i id me at = let P : List ℕ → List (View E) → Type 0 = λ ws vs. Rule record { words = ws; homes = s.homes; views = vs } in
       subst (λ (ws : List ℕ). P ws (set s.views id me.0)) (sym (set-get_or s.words i 0)) (subst (P s.words) (sym (set_again s.views id me.0 at)) r)
 
-  pub looks : (slots id : ℕ) (me : Held S E) → count < 2 ^ 64 → me.0.stage ≡ 1 → me.1 ≡ [] → Allows Rule slots id me 1 (λ n. n) (looked journal signer (step slots 1 0 0 none) me)
-  looks slots id me few waits empty s r deep at small = let v : View E = me.0 in let f = r.fits id v at in let q = f.queued (omega arith) in
+  pub looks : (slots id : ℕ) (me : Held S E) → count ≡ all_parts → me.0.stage ≡ 1 → me.1 ≡ [] → Allows Rule slots id me 1 (λ n. n) (looked journal signer (step slots 1 0 0 none) me)
+  looks slots id me whole waits empty s r deep at small = let few : count < 2 ^ 64 = omega (arith, whole) in let v : View E = me.0 in let f = r.fits id v at in let q = f.queued (omega arith) in
       let n : ℕ = get_or s.words 1 0 in let found : n ≡ r.served % 2 ^ 64 = ap (λ (ws : List ℕ). get_or ws 1 0) r.words in
       let bound : total in_turn s.views ≤ total part_count s.views = total_le in_turn part_count s.views (λ j u e. has_part u (λ h. (((r.fits j u e).queued h).0, tt))) in
       let near : v.ticket < r.served + 2 ^ 64 = let a = r.turns in let b = r.parts in let c = q.2 in omega arith in
@@ -79,6 +79,10 @@ module _ {S E : Type 0} (journal : S → List E) (signer : E → ℕ) (count : �
         told = r.turned.told id v at;
         once = λ n. let a = r.turned.once_made n in let b = term_le (turns_with n) s.views id v at in omega arith;
       } in
+      let signs : length v.parts ≡ all_parts → Signed signer v.parts (journal x) = λ all. subst (λ (l : List E). Signed signer v.parts l) (sym t.2)
+      (All-weaker (λ (e : E). 0 < total (parts_with (signer e)) s.views) (λ (e : E). Contains (numbers v.parts) (signer e))
+      (λ e pos. let one : total (parts_with (signer e)) s.views ≡ parts_with (signer e) v = total_alone (parts_with (signer e)) part_count (λ u. times_le (signer e) u.parts) s.views id v at (all ∙ (sym whole ∙ sym r.parts)) in
+      number_there (signer e) v.parts (omega arith)) r.log r.signed) in
       let in' : in_turn v ≡ 1 = ap (λ (k : ℕ). cond (eqb k 0) 0 1) waits in (
         w,
         takes 0 (Some x),
@@ -95,7 +99,7 @@ module _ {S E : Type 0} (journal : S → List E) (signer : E → ℕ) (count : �
             (λ j u other there g. g)
             (λ j u other there su _ e. other (r.apart j id u v there at su (omega arith) e))
             (inr (ap (λ (l : List (maybe.Option (Option S))). set l 0 none) t.1, id, w, set_here s.views id w (at_inside s.views id v at), omega arith)) r.signed (turned_still r.log r.raised s.views r.turned id v w at refl (λ h. let b = brought-length (journal x) v.parts in omega arith))),
-        ((λ _. (x, ap (λ (l : List (ℕ × Option S)). (0, Some x) ∷ l) empty, refl, known, so_far)), λ no. absurd (no hit)),
+        ((λ _. (x, ap (λ (l : List (ℕ × Option S)). (0, Some x) ∷ l) empty, refl, known, so_far, signs)), λ no. absurd (no hit)),
       ))
       (λ (t : (s.homes ≡ none ∷ []) × (holder : ℕ) × (v : View E) × (get_elem? s.views holder ≡ some v) × (2 ≤ v.stage)).
       let g = (r.fits t.1 t.2 t.3).holds t.4 in let deep' = t.4 in let same : t.1 ≡ id = r.apart t.1 id t.2 v t.3 at (omega arith) (omega arith) (g.0 ∙ now) in

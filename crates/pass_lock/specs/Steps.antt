@@ -4,7 +4,7 @@ use Rattle.atomic_table.specs.Table.{Me, Step}
 use Rattle.atomic_table.specs.Seated.{TableId}
 use Rattle.atomic_table.specs.declared.shared.Seat.{Seat}
 use Rattle.pass_lock.specs.declared.view.View.{View}
-use Rattle.pass_lock.specs.Journal.{IsKnown, InTurns}
+use Rattle.pass_lock.specs.Journal.{IsKnown, Signed, InTurns}
 use Rattle.pass_lock.specs.Pass.{Known, all_parts, brought, first_seen}
 use Rattle.pass_lock.specs.Rule.{seeing, outside, waiting, inside, leaving}
 
@@ -68,10 +68,10 @@ module _ {S E : Type 0} where
   advanced st m n m' = (m'.1 ≡ []) × (m'.0 ≡ seeing m.0.parts m.0.made outside m.0.ticket)
 
   module _ (journal : S → List E) where
-    -- at the drawn turn the value was taken, and its journal seen, which begins with all that was seen
+    -- at the drawn turn the value was taken, and its journal seen, which begins with all that was seen, and which the parts signed, where these are all
     abbrev pub looked : (E → ℕ) → Step (Option S) → Held S E → ℕ → Held S E → Type 0
     looked signer st m n m' =
-        (n ≡ m.0.ticket % 2 ^ 64 → (x : S) × (m'.1 ≡ (0, Some x) ∷ []) × (m'.0 ≡ seeing (brought (journal x) m.0.parts) m.0.made inside m.0.ticket) × IsKnown signer (journal x) m.0.parts × InTurns m.0.ticket (journal x) m.0.made)
+        (n ≡ m.0.ticket % 2 ^ 64 → (x : S) × (m'.1 ≡ (0, Some x) ∷ []) × (m'.0 ≡ seeing (brought (journal x) m.0.parts) m.0.made inside m.0.ticket) × IsKnown signer (journal x) m.0.parts × InTurns m.0.ticket (journal x) m.0.made × (length m.0.parts ≡ all_parts → Signed signer m.0.parts (journal x)))
         × (n ≢ m.0.ticket % 2 ^ 64 → m' ≡ m)
 
     -- the value's journal became the history

@@ -110,6 +110,7 @@ impl<S: Chronicled + Drop> Shared<S> {
         requires outside { pass.old.turn ≡ None }
         requires part { 0 < length pass.old.parts }
         ensures seen { IsKnown S.signer (S.journal result) pass.old.parts }
+        ensures signed { length pass.old.parts ≡ all_parts → Signed S.signer pass.old.parts (S.journal result) }
         ensures turns { InTurns (turn_number pass.new.turn) (S.journal result) pass.old.made }
         ensures pass { pass.new ≡ record pass.old { parts = brought (S.journal result) pass.old.parts; turn = Some (turn_number pass.new.turn, S.journal result) } }
     {

@@ -1,7 +1,7 @@
 // One turn, on the seat of a pass: draw, look and take; put back, raise and advance.
 ghost use Rattle.std.specs.Prelude.{◌≡◌, ℕ, ◌%◌, ◌^◌, ◌<◌, ◌++◌, List, [], ◌∷◌, length, None};
 ghost use Rattle.pass_lock.specs.Journal.{IsKnown, Signed, InTurns};
-ghost use Rattle.pass_lock.specs.Pass.{brought, first_seen, added};
+ghost use Rattle.pass_lock.specs.Pass.{all_parts, brought, first_seen, added};
 ghost use Rattle.pass_lock.specs.Rule.{seeing, outside, inside};
 ghost use Rattle.pass_lock.specs.Steps.{IsLock, IsSameSeat, IsIdle, IsInside};
 
@@ -27,6 +27,7 @@ pub(crate) fn take<S: Chronicled, R: Wait>(rt: &R, top: &Top<S>, place: &mut Pla
     ensures number { result.1 ≡ place.new.me.0.ticket % 2 ^ 64 }
     ensures seen { IsKnown S.signer (S.journal result.0) place.old.me.0.parts }
     ensures turns { InTurns place.new.me.0.ticket (S.journal result.0) place.old.me.0.made }
+    ensures signed { length place.old.me.0.parts ≡ all_parts → Signed S.signer place.old.me.0.parts (S.journal result.0) }
 {
     let ticket = top.fetch_add::<Draw>(place, 0, 1);
     for _ in rt.forever() {
