@@ -1,0 +1,4 @@
+pub mod Writing
+pub mod Reaching
+pub mod Counting
+pub mod Shares

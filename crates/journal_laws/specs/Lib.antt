@@ -1,0 +1,3 @@
+pub mod Own
+pub mod Seals
+pub mod Versions
