@@ -1,0 +1,14 @@
+//! Turns within a scope, for a user of a fabric who is alone or has others beside it.
+//!
+//! - `access`: one of the users of a fabric, with those who may come between its turns.
+//! - `lone`: the one user of a fabric.
+//! - `narrowed`: a user who keeps to a scope for a while.
+//! - `seat`: a node between two times at which it has an access.
+//! - `laws`: what others do keeps to a scope, and how far they trim.
+#![tactic(auto)]
+
+pub mod access;
+pub mod laws;
+pub mod lone;
+pub mod narrowed;
+pub mod seat;
