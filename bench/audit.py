@@ -211,6 +211,20 @@ def tries_of(audit, crate, edits, is_whole):
     return tasks
 
 
+def tell_unapplied(rt, crates):
+    """Says which edits of both folders can't be applied, and returns how many."""
+    found = 0
+    for crate in crates:
+        for part in ("audit", "must-fail"):
+            at = f"{crate.folder}/{part}"
+            for name in sorted(os.listdir(at)) if os.path.isdir(at) else ():
+                why = rt.read_edit(f"{at}/{name}", crate.folder)[1]
+                if why:
+                    say(f"{UNKNOWN}  {crate.name}/{part}/{name}: {why}")
+                    found += 1
+    return found
+
+
 def counts(tried):
     """How many of the tries fell how, in words, and what they took."""
     found = collections.Counter(it.sort for it in tried)
@@ -224,8 +238,12 @@ def main(words):
     reads.add_argument("--whole", action="store_true", help="each alone, against the whole crate")
     reads.add_argument("--said", metavar="FOLDER", help="keep what the prover said of each there")
     reads.add_argument("names", nargs="*", metavar="NAME", help="a crate, or NAME/EDIT")
+    reads.add_argument("--apply", action="store_true", help="try none: say which of both folders can't be applied")
     asked = reads.parse_args(words)
     tried = {}
+    if asked.apply:
+        rt = toolchain.load()
+        return 1 if tell_unapplied(rt, toolchain.crates_of(rt, toolchain.repository())) else 0
     with tempfile.TemporaryDirectory(prefix="audit-") as room:
         audit = Audit(toolchain.load(), toolchain.repository(), room, asked.said)
         tasks, lacking = {}, {*asked.names} - {it.name for it in audit.crates}
