@@ -6,9 +6,7 @@ use run_notes::json_rows::write_rows;
 use run_notes::picture::Picture;
 use script_runner::ended::Status;
 use script_words::plan::read_words;
-use std::env;
-use std::fs;
-use std::io;
+use std::{env, fs, io};
 
 /// Where this variable is set, the chain is drawn on standard error once the run has ended.
 const PICTURE: &str = "DELOS_PICTURE";
@@ -34,7 +32,9 @@ pub(crate) fn explain(rt: &HostRuntime, ran: &Ran) -> io::Result<()> {
             None => Ok(()),
         },
         Status::BadLine => {
-            eprintln!(rt; "no line was run: the script is refused for the line that standard output names")
+            eprintln!(rt;
+                "no line was run: the script is refused for the line that standard output names"
+            )
         }
         Status::BadWords => eprint!(rt; "{USAGE}"),
         Status::SourceFault => eprintln!(rt; "standard input failed: no line was run"),
