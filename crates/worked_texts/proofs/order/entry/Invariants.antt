@@ -1,7 +1,7 @@
 use Rattle.std.proofs.Common.{◌≡◌, length}
 use Rattle.std.specs.Prelude.{All}
 use Rattle.engine_api.specs.Packing.{IsProposable}
-use Rattle.text_rows.proofs.engines.entry.Given as goal
+use Rattle.worked_texts.proofs.order.entry.Given as goal
 
 abbrev pub invariant-loop-rank : goal.invariant-loop-rank
 invariant-loop-rank l = record {

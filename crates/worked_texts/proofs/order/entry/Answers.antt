@@ -1,7 +1,7 @@
 use Rattle.std.proofs.Common.{ap, arith, length, length-append, [], ◌∷◌}
 use Rattle.std.proofs.lemmas.List.Elements.{All-push}
 use Rattle.engine_api.specs.Packing.{IsProposable}
-use Rattle.text_rows.proofs.engines.entry.Goals as goal
+use Rattle.worked_texts.proofs.order.entry.Goals as goal
 
 pub loop-rank-preserved : goal.loop-rank-preserved
 loop-rank-preserved c = record {
