@@ -1,3 +1,0 @@
-pub mod Five
-pub mod Floor
-pub mod Resting

@@ -1,0 +1,325 @@
+//! Two nodes over one fabric, which goes from one to the other.
+ghost use Rattle.std.specs.Prelude.{◌≡◌, [], ◌∷◌, IfSome};
+ghost use Rattle.disk_model.specs.Disk.{IsSynced, reads};
+ghost use Rattle.engine_api.specs.Packing.{IsProposable};
+ghost use Rattle.register_api.specs.View as register;
+ghost use Rattle.legal_journal.specs.Journal.{IsLegal};
+ghost use Rattle.loglet_api.specs.View.{IsFresh};
+ghost use Rattle.worked_nodes.specs.Resting.{anything, least_of_two, one_loglet, Rests, AreTwo, IsNew};
+
+use crate::rules::TwoNodes;
+use base_engine::fault::Fault;
+use base_engine::node::Node;
+use base_engine::over_virtual_log::what_is_held_is_shown;
+use delos_types::bytes::Bytes;
+use delos_types::item::Item;
+use delos_types::numbers::{NodeId, Rank, SessionId};
+use disk_model::{Disk, MemDisk};
+use engine_laws::laws::starts_empty;
+use engine_steps::layout::Kept;
+use fabric_core::fabric::Fabric;
+use fabric_core::own::Own;
+use fate_words::chooser::Calm;
+use file_loglet::file::FileLoglet;
+use file_loglet::memory::in_memory;
+use legal_journal::events::{FabricAnswer, FabricCall};
+use legal_journal::turns::Turns;
+use local_replica::layers::Layers;
+use local_replica::replica::LocalReplica;
+use local_store::Store;
+use loglet_api::loglet::Loglet;
+use meta_register::MetaRegister;
+use std::alloc::{AllocError, Global};
+use table_core::command::{Found, Query};
+use virtual_log::log::VirtualLog;
+
+/// A file loglet on a disk in memory.
+pub type Cell = FileLoglet<MemDisk>;
+
+/// A register on a disk in memory.
+pub type Register = MetaRegister<MemDisk>;
+
+/// The turns of one node.
+pub type Turn = Own<Cell, Register, TwoNodes>;
+
+/// The log of one node.
+pub type Log = VirtualLog<Turn, Calm>;
+
+/// A register to which nothing was written.
+fn fresh_register(alloc: Global) -> Option<Register>
+    ensures { IfSome result (λ made. register.IsFresh made.register) }
+{
+    match MetaRegister::open_on(alloc, MemDisk::new(alloc)) {
+        Ok(register) => Some(register),
+        Err(_) => None,
+    }
+}
+
+/// A fabric over one loglet and a register, with no event.
+fn fresh_fabric(alloc: Global) -> Option<Fabric<Cell, Register, TwoNodes>>
+    ensures { IfSome result (λ made. made.journal ≡ []) }
+{
+    let Ok(cell) = in_memory(alloc, 100) else {
+        return None;
+    };
+    fabric_over(alloc, cell)
+}
+
+/// A fabric over this loglet and a register, with no event.
+fn fabric_over(alloc: Global, cell: Cell) -> Option<Fabric<Cell, Register, TwoNodes>>
+    requires { IsFresh cell.loglet }
+    ensures { IfSome result (λ made. made.journal ≡ []) }
+{
+    let servers = cell.servers();
+    if servers != 1 {
+        return None;
+    }
+    let mut cells = Vec::new(alloc);
+    if cells.push(cell).is_err() {
+        return None;
+    }
+    let register = fresh_register(alloc)?;
+    let Ok(fabric) = Fabric::<Cell, Register, TwoNodes>::new(alloc, cells, register) else {
+        return None;
+    };
+    Some(fabric)
+}
+
+/// A log that knows nothing yet.
+#[tactic(auto, using(crate::proofs::Resting::legal_by))]
+fn fresh_log(alloc: Global, turns: Turn) -> Option<Log>
+    ensures who { IfSome result (λ log. log.who ≡ turns.who) }
+    ensures seen { IfSome result (λ log. log.seen ≡ turns.fabric.journal) }
+    ensures legal { IfSome result (λ log. IsLegal anything least_of_two one_loglet log.seen) }
+{
+    let _seen = turns.fabric.journal();
+    let Ok(log) = VirtualLog::new(alloc, turns, Calm, 1) else {
+        return None;
+    };
+    Some(log)
+}
+
+/// A store on an empty disk.
+pub fn fresh_store<D: Disk>(alloc: Global, disk: D) -> Option<Store<D>>
+    requires synced { IsSynced (D.view disk) }
+    requires empty { reads (D.view disk) ≡ [] }
+    ensures { IfSome result IsNew }
+{
+    let Ok(store) = Store::open_on(alloc, disk) else {
+        return None;
+    };
+    Some(store)
+}
+
+/// A node that did nothing yet.
+fn fresh_node<E: Layers, D: Disk>(
+    alloc: Global,
+    number: NodeId,
+    engines: E,
+    store: Store<D>,
+    log: Log,
+) -> Node<Log, LocalReplica<E, D>>
+    requires kinds { E.kinds engines ≡ 1 ∷ 2 ∷ 3 ∷ 4 ∷ 5 ∷ [] }
+    requires waiting { E.waiting engines ≡ [] }
+    requires store { IsNew store }
+    requires legal { IsLegal anything least_of_two one_loglet log.seen }
+    ensures who { result.who ≡ log.who }
+    ensures seen { result.seen ≡ log.seen }
+    ensures nodes { result.nodes ≡ 2 }
+{
+    starts_empty();
+    let replica = LocalReplica::new(alloc, number, engines, store);
+    Node::new(alloc, 2, log, replica)
+}
+
+/// A node without its log.
+#[derive(Drop)]
+pub struct Resting<E: Layers, D: Disk> {
+    pub(crate) number: NodeId,
+    pub(crate) node: base_engine::rest::Rested<LocalReplica<E, D>>,
+    pub(crate) log: virtual_log::rest::Rested<Calm>,
+}
+
+/// Lays a node down, and gives its fabric out.
+fn lay_down<E: Layers, D: Disk>(
+    number: NodeId,
+    node: Node<Log, LocalReplica<E, D>>,
+) -> (Resting<E, D>, Fabric<Cell, Register, TwoNodes>)
+    requires who { node.who ≡ number }
+    requires nodes { node.nodes ≡ 2 }
+    ensures seen { result.1.journal ≡ node.seen }
+    ensures number { result.0.number ≡ number }
+    ensures rests { Rests number node.seen result.0.node result.0.log }
+{
+    let (node, log) = node.rest();
+    let (log, turns) = log.rest();
+    let Own { who: _, fabric } = turns;
+    (Resting { number, node, log }, fabric)
+}
+
+/// Takes a node up, with this fabric.
+fn take_up<E: Layers, D: Disk>(
+    resting: Resting<E, D>,
+    fabric: Fabric<Cell, Register, TwoNodes>,
+) -> Node<Log, LocalReplica<E, D>>
+    requires { Rests resting.number fabric.journal resting.node resting.log }
+    ensures who { result.who ≡ resting.number }
+    ensures seen { result.seen ≡ fabric.journal }
+    ensures nodes { result.nodes ≡ 2 }
+{
+    let Resting { number, node, log } = resting;
+    let who = u32::from(number.number());
+    let _seen = fabric.journal();
+    let log = log.wake(Own { who, fabric });
+    node.wake(log)
+}
+
+/// Two nodes over one fabric, of which one has it.
+#[derive(Drop)]
+pub struct Two<E: Layers, D: Disk> {
+    pub(crate) number: NodeId,
+    pub(crate) node: Node<Log, LocalReplica<E, D>>,
+    pub(crate) other: Resting<E, D>,
+}
+
+impl<E: Layers, D: Disk> Two<E, D> {
+    /// Two nodes that did nothing yet, over one loglet. The first has the log.
+    pub fn new(
+        alloc: Global,
+        engines: E,
+        store: Store<D>,
+        other_engines: E,
+        other_store: Store<D>,
+    ) -> Option<Self>
+        requires kinds { E.kinds engines ≡ 1 ∷ 2 ∷ 3 ∷ 4 ∷ 5 ∷ [] }
+        requires waiting { E.waiting engines ≡ [] }
+        requires store { IsNew store }
+        requires other_kinds { E.kinds other_engines ≡ 1 ∷ 2 ∷ 3 ∷ 4 ∷ 5 ∷ [] }
+        requires other_waiting { E.waiting other_engines ≡ [] }
+        requires other_store { IsNew other_store }
+        ensures { IfSome result (λ two. AreTwo two.number two.node two.other.number two.other.node two.other.log) }
+    {
+        let fabric = fresh_fabric(alloc)?;
+        let other = NodeId::new(2)?;
+        let log = fresh_log(alloc, Own { who: 2, fabric })?;
+        let node = fresh_node(alloc, other, other_engines, other_store, log);
+        let (other, fabric) = lay_down(other, node);
+        let number = NodeId::new(1)?;
+        let log = fresh_log(alloc, Own { who: 1, fabric })?;
+        let node = fresh_node(alloc, number, engines, store, log);
+        Some(Two {
+            number,
+            node,
+            other,
+        })
+    }
+
+    /// The node that has the log.
+    pub fn number(&self) -> NodeId {
+        self.number
+    }
+
+    /// The log goes to the other node.
+    pub fn turned(self) -> Self
+        requires { AreTwo self.number self.node self.other.number self.other.node self.other.log }
+        ensures { AreTwo result.number result.node result.other.number result.other.node result.other.log }
+    {
+        let Two {
+            number,
+            node,
+            other,
+        } = self;
+        let (resting, fabric) = lay_down(number, node);
+        let number = other.number;
+        let node = take_up(other, fabric);
+        Two {
+            number,
+            node,
+            other: resting,
+        }
+    }
+
+    pub fn propose(&mut self, item: Item) -> Result<(), Fault>
+        requires item { IsProposable item }
+        requires two { AreTwo self.old.number self.old.node self.old.other.number self.old.other.node self.old.other.log }
+        ensures { AreTwo self.new.number self.new.node self.new.other.number self.new.other.node self.new.other.log }
+    {
+        self.node.propose(item)
+    }
+
+    pub fn flush(&mut self) -> Result<(), AllocError>
+        requires { AreTwo self.old.number self.old.node self.old.other.number self.old.other.node self.old.other.log }
+        ensures { AreTwo self.new.number self.new.node self.new.other.number self.new.other.node self.new.other.log }
+    {
+        self.node.flush()
+    }
+
+    pub fn settle_all(&mut self) -> Result<(), Fault>
+        requires { AreTwo self.old.number self.old.node self.old.other.number self.old.other.node self.old.other.log }
+        ensures { AreTwo self.new.number self.new.node self.new.other.number self.new.other.node self.new.other.log }
+    {
+        self.node.settle_all()
+    }
+
+    /// The write number `after` from now on of the disk of the node that has the log stops inside itself; 0 takes that back.
+    pub fn stop(&mut self, after: u64)
+        requires { AreTwo self.old.number self.old.node self.old.other.number self.old.other.node self.old.other.log }
+        ensures { AreTwo self.new.number self.new.node self.new.other.number self.new.other.node self.new.other.log }
+    {
+        self.node.stop(after);
+    }
+
+    pub fn sync(&mut self) -> Result<u64, Fault>
+        requires { AreTwo self.old.number self.old.node self.old.other.number self.old.other.node self.old.other.log }
+        ensures { AreTwo self.new.number self.new.node self.new.other.number self.new.other.node self.new.other.log }
+    {
+        self.node.sync()
+    }
+
+    pub fn trim_now(&mut self) -> Result<u64, Fault>
+        requires { AreTwo self.old.number self.old.node self.old.other.number self.old.other.node self.old.other.log }
+        ensures { AreTwo self.new.number self.new.node self.new.other.number self.new.other.node self.new.other.log }
+    {
+        what_is_held_is_shown::<TwoNodes>();
+        self.node.trim_now()
+    }
+
+    pub fn cursor(&self) -> u64 {
+        self.node.cursor()
+    }
+
+    pub fn clean(&self) -> Result<u64, AllocError> {
+        self.node.clean()
+    }
+
+    /// Whether the node that has the log has left.
+    pub fn has_left(&self) -> Result<bool, AllocError> {
+        self.node.has_left(self.number)
+    }
+
+    pub fn reply_of(&self, session: SessionId, rank: Rank) -> Result<Option<Kept>, AllocError> {
+        self.node.reply_of(session, rank)
+    }
+
+    pub fn value(&self, key: &[u8]) -> Result<Option<Bytes>, AllocError> {
+        self.node.value(key)
+    }
+
+    pub fn read(&self, query: &Query) -> Result<Found, AllocError> {
+        self.node.read(query)
+    }
+
+    /// What the register of the chain answers, and how often the disk of the node that has the log failed.
+    pub fn end(self) -> (FabricAnswer, u64) {
+        let Two {
+            number: _,
+            node,
+            other: _,
+        } = self;
+        let (log, replica) = node.into_parts();
+        let (_, store) = replica.into_parts();
+        let mut turns = log.into_parts().turns;
+        let answer = turns.turn(FabricCall::ReadChain);
+        (answer, store.disk_faults())
+    }
+}

@@ -1,0 +1,19 @@
+//! What the users of the log keep to.
+
+use legal_journal::rules::Rules;
+
+/// Everybody may append anything, over one loglet, which may be trimmed up to the least position of one of two nodes.
+#[derive(Drop)]
+pub struct TwoNodes;
+
+impl Rules for TwoNodes {
+    ghost use Rattle.worked_nodes.specs.Resting.{anything, least_of_two, one_loglet};
+
+    ghost may = { anything };
+
+    ghost seals = { λ _. Unit {0} };
+
+    ghost floor = { least_of_two };
+
+    ghost shelf = { one_loglet };
+}
