@@ -9,6 +9,7 @@ const WIDTH: u64 = 48;
 
 /// What a run told, drawn: a line for each segment of the chain, with the positions that it holds, and which line of the script
 /// closed it. `#` are positions that stand in the segment's loglet, `-` those of it that were trimmed.
+#[derive(Clone, Copy)]
 pub struct Picture<'a> {
     pub told: &'a Told,
     /// The names of the shelf's kinds, in its order.
