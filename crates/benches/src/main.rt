@@ -11,6 +11,8 @@
 //! A word that is missing or no number stands for a small one. With no words at all each work is done once.
 #![tactic(auto)]
 
+ghost use Rattle.std.specs.Prelude.{◌≤◌};
+
 mod appends;
 mod journal;
 mod lock;
@@ -52,7 +54,10 @@ impl Words {
             .unwrap_or(missing)
     }
 
-    fn bytes(&self, at: usize) -> usize {
+    /// The number of bytes at a place, at most as many as a payload may have.
+    fn bytes(&self, at: usize) -> usize
+        ensures { result ≤ 16000 }
+    {
         (self.number(at, 100) as usize).min(MOST_BYTES)
     }
 }
