@@ -1,0 +1,4 @@
+//! What may go to another thread.
+#![tactic(auto)]
+
+pub mod crossing;
