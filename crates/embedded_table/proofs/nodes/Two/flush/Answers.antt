@@ -1,5 +1,0 @@
-use Rattle.embedded_table.proofs.Resting.{two_later}
-use Rattle.embedded_table.proofs.nodes.Two.flush.Goals as goal
-
-pub returns : goal.returns
-returns g c = two_later _ _ _ _ _ _ c.flush.ensures.keeps c.requires
