@@ -7,6 +7,7 @@ use anyhow::{Result, bail};
 use delos_types::numbers::Ticket;
 use loglet_api::call::{Answer, LogletAnswer, LogletCall, Op};
 use std::alloc::{AllocError, Global};
+use std::marker::Model;
 use worked_cases::entries::entry;
 use worked_cases::words::{bytes, nothing, number, shown};
 
@@ -14,7 +15,18 @@ use worked_cases::words::{bytes, nothing, number, shown};
 #[derive(Drop)]
 pub struct Calls {
     items: Vec<LogletCall>,
-    ghost spelled: { BringsSpellable items.items },
+}
+
+impl Model for Calls {
+    ghost use Rattle.std.specs.Prelude.{List};
+    ghost use Rattle.loglet_api.specs.declared.call.LogletCall.{LogletCall};
+    ghost use Rattle.loglet_runs.specs.Runs.{BringsSpellable};
+
+    ghost Value = { List LogletCall };
+
+    ghost view = { λ c. c.items.items };
+
+    ghost invariant = { λ c. BringsSpellable c.items.items };
 }
 
 impl Calls {

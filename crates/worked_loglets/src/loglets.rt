@@ -272,8 +272,8 @@ impl LogletBench {
 
     fn ask_boxed(&self, alloc: Global, question: Question) -> Result<String> {
         let loglet = file::in_memory(alloc, self.room()?)?;
-        let mut boxed: Box<dyn Loglet + Send> = Box::new(alloc, loglet)?;
-        answer(alloc, &mut boxed, &self.calls, question)
+        let boxed: Box<dyn Loglet + Send> = Box::new(alloc, loglet)?;
+        answer_of(alloc, boxed, &self.calls, question)
     }
 }
 
@@ -334,6 +334,19 @@ fn server_call(name: &str, words: &[&str]) -> Result<LogletCall>
     } else {
         Ok(LogletCall::Restart(server, word))
     }
+}
+
+/// Makes the calls on a loglet of any type, and answers the question.
+fn answer_of<L: Loglet + Drop>(
+    alloc: Global,
+    loglet: L,
+    calls: &Calls,
+    question: Question,
+) -> Result<String>
+    requires { IsClosed (L.view loglet) }
+{
+    let mut loglet = loglet;
+    answer(alloc, &mut loglet, calls, question)
 }
 
 /// Makes the calls, and answers the question.
