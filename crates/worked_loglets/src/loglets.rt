@@ -35,8 +35,6 @@ const MOST_ROUNDS: u64 = 100_000;
 enum Kind {
     /// One server, on a disk of which chosen calls may fail.
     File,
-    /// One server, in a box.
-    Boxed,
     /// So many log servers.
     Native(u64),
     /// Two file loglets in turn.
@@ -49,7 +47,7 @@ impl Kind {
     /// As many carries as bring any operation of a case to its end: the rest are skipped.
     fn carries(self) -> u64 {
         match self {
-            Kind::File | Kind::Boxed => 1,
+            Kind::File => 1,
             Kind::Native(_) => 60,
             Kind::Striped | Kind::Nested => 170,
         }
@@ -100,7 +98,7 @@ impl Bench for LogletBench {
             return self.ticketed(alloc, Ticket::new(ticket.parse::<u64>()?), words);
         }
         match name {
-            "file" | "boxed" | "striped" | "nested" | "native" => {
+            "file" | "striped" | "nested" | "native" => {
                 self.make(name, words)?;
                 silent(alloc)
             }
@@ -138,7 +136,6 @@ impl LogletBench {
         }
         nothing(others)?;
         self.kind = match name {
-            "boxed" => Kind::Boxed,
             "striped" => Kind::Striped,
             "nested" => Kind::Nested,
             _ => Kind::File,
@@ -227,7 +224,6 @@ impl LogletBench {
     fn ask(&self, alloc: Global, question: Question) -> Result<String> {
         match self.kind {
             Kind::File => self.ask_file(alloc, question),
-            Kind::Boxed => self.ask_boxed(alloc, question),
             Kind::Native(servers) => {
                 let mut loglet = native_of(alloc, servers, self.room()?)?;
                 answer(alloc, &mut loglet, &self.calls, question)
@@ -268,12 +264,6 @@ impl LogletBench {
             }
             _ => answer(alloc, &mut loglet, &self.calls, question),
         }
-    }
-
-    fn ask_boxed(&self, alloc: Global, question: Question) -> Result<String> {
-        let loglet = file::in_memory(alloc, self.room()?)?;
-        let boxed: Box<dyn Loglet + Send> = Box::new(alloc, loglet)?;
-        answer_of(alloc, boxed, &self.calls, question)
     }
 }
 
@@ -334,19 +324,6 @@ fn server_call(name: &str, words: &[&str]) -> Result<LogletCall>
     } else {
         Ok(LogletCall::Restart(server, word))
     }
-}
-
-/// Makes the calls on a loglet of any type, and answers the question.
-fn answer_of<L: Loglet + Drop>(
-    alloc: Global,
-    loglet: L,
-    calls: &Calls,
-    question: Question,
-) -> Result<String>
-    requires { IsClosed (L.view loglet) }
-{
-    let mut loglet = loglet;
-    answer(alloc, &mut loglet, calls, question)
 }
 
 /// Makes the calls, and answers the question.
