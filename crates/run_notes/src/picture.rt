@@ -10,10 +10,10 @@ const WIDTH: u64 = 48;
 /// What a run told, drawn: a line for each segment of the chain, with the positions that it holds, and which line of the script
 /// closed it. `#` are positions that stand in the segment's loglet, `-` those of it that were trimmed.
 #[derive(Clone, Copy)]
-pub struct Picture<'a> {
+pub struct Picture<'a, 'b> {
     pub told: &'a Told,
     /// The names of the shelf's kinds, in its order.
-    pub kinds: &'a [&'static str],
+    pub kinds: &'b [&'static str],
 }
 
 /// The columns below this one are of positions below `pos`, where the log ends at `end`.
@@ -55,7 +55,7 @@ fn beginning_at(segments: &[Segment], start: u64) -> usize {
         .count()
 }
 
-impl Picture<'_> {
+impl Picture<'_, '_> {
     fn name_of(&self, segment: &Segment) -> &'static str {
         self.kinds.get(segment.id as usize).copied().unwrap_or("?")
     }
@@ -110,7 +110,7 @@ impl Picture<'_> {
     }
 }
 
-impl fmt::Display for Picture<'_> {
+impl fmt::Display for Picture<'_, '_> {
     fn fmt<W: fmt::Write>(&self, f: &mut fmt::Formatter<W>) -> fmt::Result {
         let Told {
             end,
