@@ -1,6 +1,7 @@
 pub mod View
 pub mod Sound
 pub mod Step
+pub mod Servers
 pub mod Answers
 pub mod Run
 pub mod Keeps

@@ -40,15 +40,14 @@ pub record Replaces (old : RegisterView) (expected : ℕ) (chain : Chain) (versi
   pub up : old.down ≡ false
   pub expected_is : expected ≡ old.version
   pub version_is : version ≡ old.version + 1
-  pub stands : new ≡ record (replaced old chain) { faults = new.faults }
-  pub rises : old.faults ≤ new.faults
+  pub stands : new ≡ replaced old chain
 
 -- it failed in the write, and is down
 pub record Fails (old : RegisterView) (expected : ℕ) (chain : Chain) (new : RegisterView) : Type 0 where
   pub up : old.down ≡ false
   pub expected_is : expected ≡ old.version
   pub rose : Rose old.faults new.faults
-  pub torn : new ≡ record old { asked = Some chain; down = true; faults = new.faults }
+  pub torn : new ≡ record old { asked = Some chain; down = true; armed = false; faults = new.faults }
 
 abbrev pub Writes : RegisterView → ℕ → Chain → Result WriteAnswer AllocError → RegisterView → Type 0
 Writes old expected chain (Ok (write.Written version)) new = Replaces old expected chain version new
@@ -64,7 +63,8 @@ reopened v kept (Some chain) =
     let whole = record v { asked = None; down = false } in
     if kept then record whole { version = v.version + 1; chain = chain } else whole
 
-abbrev pub Reopens : RegisterView → Result Bool AllocError → RegisterView → Type 0
-Reopens old (Ok true) new = (old.faults ≤ new.faults) × (old.down ≡ false → new ≡ old) × ((kept : Bool) × (new ≡ record (reopened old kept old.asked) { faults = new.faults }))
-Reopens old (Ok false) new = (old.down ≡ true) × Rose old.faults new.faults × (new ≡ record old { faults = new.faults; misses = bumped old.misses })
-Reopens old (Err e) new = new ≡ old
+-- Where it is up nothing is done. It fails only where a fault came.
+abbrev pub Reopens : RegisterView → ℕ → Result Bool AllocError → RegisterView → Type 0
+Reopens old word (Ok true) new = (old.down ≡ false → new ≡ record old { told = word }) × ((kept : Bool) × (new ≡ record (reopened old kept old.asked) { told = word }))
+Reopens old word (Ok false) new = (old.down ≡ true) × Rose old.faults new.faults × (new ≡ record old { faults = new.faults; misses = bumped old.misses; told = word })
+Reopens old word (Err e) new = new ≡ old

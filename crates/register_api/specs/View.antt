@@ -1,5 +1,5 @@
 -- What a register shows.
-use Rattle.std.specs.Prelude.{◌≡◌, ℕ, ◌+◌, ◌-◌, ◌^◌, ◌≤◌, min, Bool, false, Option, None}
+use Rattle.std.specs.Prelude.{◌≡◌, ℕ, ◌+◌, ◌-◌, ◌^◌, ◌≤◌, ◌&&◌, not, nat_lt, min, Bool, false, Option, None}
 use Rattle.std.specs.Option.{ForSome}
 use Rattle.delos_types.specs.declared.chain.Chain.{Chain}
 use Rattle.chain_map.specs.Chain.{IsChain, first_chain}
@@ -17,6 +17,10 @@ pub record RegisterView : Type 0 where
   pub faults : ℕ
   -- how many reopenings failed
   pub misses : ℕ
+  -- whether its disk is armed: it isn't while the register is down
+  pub armed : Bool
+  -- the count or word that the last stop or reopening was given
+  pub told : ℕ
 
 -- what holds of a register at every moment
 pub record IsSound (v : RegisterView) : Type 0 where
@@ -43,3 +47,7 @@ pub record IsFresh (v : RegisterView) : Type 0 where
 -- one more, up to the end of the count's type
 abbrev pub bumped : ℕ → ℕ
 bumped n = min (n + 1) (2 ^ 64 - 1)
+
+-- its next so-manieth change of a disk is to stop inside itself; 0 takes that back
+abbrev pub armed_by : RegisterView → ℕ → RegisterView
+armed_by v after = record v { armed = not v.down && nat_lt 0 after; told = after }

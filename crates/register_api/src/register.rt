@@ -1,7 +1,7 @@
 //! What each kind of register does.
 ghost use Rattle.std.specs.Prelude.{◌≡◌, ℕ, ◌<◌, ◌^◌};
 ghost use Rattle.chain_map.specs.Chain.{IsChain};
-ghost use Rattle.register_api.specs.View.{RegisterView, IsSound};
+ghost use Rattle.register_api.specs.View.{RegisterView, IsSound, armed_by};
 ghost use Rattle.register_api.specs.Calls.{Reads, Writes, Reopens};
 
 use crate::answer::{ReadAnswer, WriteAnswer};
@@ -28,14 +28,15 @@ pub trait Register: Drop {
         requires chain { IsChain chain.now }
         ensures { Writes (view self.old) expected chain.now result (view self.new) };
 
-    /// Arms the register: its `after`-th change of a disk from now on stops inside itself; 0 takes that back.
+    /// Arms the register, where it is up: its `after`-th change of a disk from now on stops inside itself; 0 takes that
+    /// back.
     fn stop(&mut self, after: u64)
-        ensures { view self.new ≡ view self.old };
+        ensures { view self.new ≡ armed_by (view self.old) after };
 
     /// Brings it up, with the write in which it failed or without. False only where a fault came. Where it is up, nothing
     /// is done.
     fn reopen(&mut self, word: u64) -> Result<bool, AllocError>
-        ensures { Reopens (view self.old) result (view self.new) };
+        ensures { Reopens (view self.old) word result (view self.new) };
 
     /// The version that the last `At`, `Written` or `Conflict` gave, 1 before any. Takes no memory.
     fn version(&self) -> u64

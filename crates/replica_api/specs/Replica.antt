@@ -1,5 +1,5 @@
 -- A replica: the space that a log's entries led to, the cursor, and the store on a disk that keeps both.
-use Rattle.std.specs.Prelude.{◌≡◌, ◌≢◌, ℕ, ◌+◌, ◌≤◌, ◌⊎◌, Bool, true, false, List, [], ◌∷◌, ◌++◌, length, Option, Some, None}
+use Rattle.std.specs.Prelude.{◌≡◌, ◌≢◌, ℕ, ◌+◌, ◌≤◌, ◌⊎◌, ◌&&◌, not, nat_lt, Bool, true, false, List, [], ◌∷◌, ◌++◌, length, Option, Some, None}
 use Rattle.delos_types.specs.Spaces.{SpaceMap}
 use Rattle.delos_types.specs.declared.entry.Entry.{Entry}
 use Rattle.delos_types.specs.Spelling.{IsSpellable}
@@ -18,7 +18,8 @@ pub record Saved : Type 0 where
   pub contents : SpaceMap
 
 -- what it shows; what the disk failed to keep, and a crash may have kept; whether it is down; its disk and the counted
--- faults; the node of its entries; and the items that wait to be packed
+-- faults; the node of its entries; the items that wait to be packed; whether the disk is armed, which it isn't while the
+-- replica is down; and the count or word that the last stop or reopening was given
 pub record ReplicaView : Type 0 where
   pub cursor : ℕ
   pub contents : SpaceMap
@@ -28,6 +29,12 @@ pub record ReplicaView : Type 0 where
   pub faults : ℕ
   pub origin : ℕ
   pub kept : List Item
+  pub armed : Bool
+  pub told : ℕ
+
+-- its write of this number from now on is to stop inside itself; 0 takes that back
+abbrev pub armed_by : ReplicaView → ℕ → ReplicaView
+armed_by v after = record v { armed = not v.down && nat_lt 0 after; told = after }
 
 abbrev pub saved_in : ReplicaView → Saved
 saved_in v = record { cursor = v.cursor; contents = v.contents }
@@ -58,12 +65,14 @@ pub record Advanced (state : List Entry → SpaceMap → Type 0) (old : ReplicaV
   pub faults : new.faults ≡ old.faults
   pub origin : new.origin ≡ old.origin
   pub kept : new.kept ≡ old.kept
+  pub armed : new.armed ≡ old.armed
+  pub told : new.told ≡ old.told
 
 -- the disk failed: the replica is down, and shows what it showed
 pub record Failed (state : List Entry → SpaceMap → Type 0) (old : ReplicaView) (e : Entry) (new : ReplicaView) : Type 0 where
   pub next : SpaceMap
   pub led : Advances state old.contents old.cursor e next
-  pub is : new ≡ record old { asked = Some (record { cursor = old.cursor + 1; contents = next }); down = true; disk = new.disk; faults = new.faults }
+  pub is : new ≡ record old { asked = Some (record { cursor = old.cursor + 1; contents = next }); down = true; armed = false; disk = new.disk; faults = new.faults }
   pub rose : Rose old.faults new.faults
   pub counts : old.faults ≤ new.faults
 
@@ -78,23 +87,34 @@ Takes state old e applied.Memory new = new ≡ record old { disk = new.disk }
 abbrev pub MayFindDuring : (List Entry → SpaceMap → Type 0) → ReplicaView → Entry → Saved → Type 0
 MayFindDuring state v e s = MayFind v s ⊎ ((s.cursor ≡ v.cursor + 1) × Advances state v.contents v.cursor e s.contents)
 
--- the replica is up, with one of the pairs that a reopening may find
-pub record Recovered (old new : ReplicaView) : Type 0 where
+-- The replica is up, with one of the pairs that a reopening may find, and no fault came. Where it was up nothing is done.
+pub record Recovered (word : ℕ) (old new : ReplicaView) : Type 0 where
   pub found : MayFind old (saved_in new)
   pub none_asked : new.asked ≡ None
   pub up : new.down ≡ false
-  pub counts : old.faults ≤ new.faults
+  pub faults : new.faults ≡ old.faults
   pub origin : new.origin ≡ old.origin
   pub kept : new.kept ≡ old.kept
+  pub armed : new.armed ≡ old.armed
+  pub told : new.told ≡ word
+  pub idle : old.down ≡ false → new ≡ record old { told = word }
 
-pub record StaysDown (old new : ReplicaView) : Type 0 where
-  pub is : new ≡ record old { disk = new.disk; faults = new.faults }
+-- it is down still, and its disk failed again
+pub record StaysDown (word : ℕ) (old new : ReplicaView) : Type 0 where
+  pub was : old.down ≡ true
+  pub is : new ≡ record old { disk = new.disk; faults = new.faults; told = word }
   pub counts : old.faults ≤ new.faults
+  pub rose : Rose old.faults new.faults
 
-abbrev pub Reopens : ReplicaView → Reopened → ReplicaView → Type 0
-Reopens old reopened.Done new = Recovered old new
-Reopens old reopened.DiskFault new = StaysDown old new × Rose old.faults new.faults
-Reopens old reopened.Memory new = StaysDown old new
+-- without memory it shows what it showed, but for the disk's bytes
+abbrev pub Reopens : ReplicaView → ℕ → Reopened → ReplicaView → Type 0
+Reopens old word reopened.Done new = Recovered word old new
+Reopens old word reopened.DiskFault new = StaysDown word old new
+Reopens old word reopened.Memory new = new ≡ record old { disk = new.disk }
+
+-- No call but a stop arms or disarms it: the disk is armed as it was, or failed, and the replica is down.
+abbrev pub ArmedAsBefore : ReplicaView → ReplicaView → Type 0
+ArmedAsBefore old new = (new.armed ≡ old.armed) ⊎ ((new.armed ≡ false) × Rose old.faults new.faults)
 
 -- The way down
 

@@ -3,7 +3,7 @@ ghost use Rattle.std.specs.Prelude.{◌≡◌, ℕ, ◌+◌, ◌<◌, ◌^◌, L
 ghost use Rattle.delos_types.specs.Spaces.{SpaceMap, least_key_from};
 ghost use Rattle.delos_types.specs.declared.entry.Entry.{Entry};
 ghost use Rattle.disk_model.specs.Crash.{AnyCrash};
-ghost use Rattle.replica_api.specs.Replica.{Saved, ReplicaView, SpellsOne, Survives, Takes, MayFind, MayFindDuring, Reopens, Queues, Flushes};
+ghost use Rattle.replica_api.specs.Replica.{Saved, ReplicaView, SpellsOne, Survives, Takes, MayFind, MayFindDuring, Reopens, Queues, Flushes, armed_by};
 ghost use Rattle.engine_api.specs.Packing.{IsProposable};
 ghost use Rattle.engine_steps.specs.Layout as layout;
 
@@ -59,7 +59,7 @@ pub trait Replica {
 
     /// Opens the store again, where it is down. The word chooses what the disk kept.
     fn reopen(&mut self, word: u64) -> Reopened
-        ensures reopens { Reopens (shows self.old) result (shows self.new) }
+        ensures reopens { Reopens (shows self.old) word result (shows self.new) }
         ensures survives { Survives spells (shows self.new) }
         ensures any_crash { AnyCrash (shows self.old).disk (shows self.new).disk (SpellsOne spells (MayFind (shows self.old))) };
 
@@ -76,9 +76,10 @@ pub trait Replica {
         ensures ok { shows self.new ≡ record (shows self.old) { kept = (shows self.new).kept } }
         ensures err { OnErr result (shows self.new ≡ shows self.old) };
 
-    /// Arms the disk: its write number `after` from now on stops inside itself, as in a crash; 0 takes that back.
+    /// Arms the disk, where the store is up: its write number `after` from now on stops inside itself, as in a crash; 0
+    /// takes that back.
     fn stop(&mut self, after: u64)
-        ensures { shows self.new ≡ shows self.old };
+        ensures { shows self.new ≡ armed_by (shows self.old) after };
 
     /// The last rank of a session that acted, 0 where none did.
     fn last_rank(&self, session: SessionId) -> Result<u64, AllocError>
