@@ -9,7 +9,7 @@ five_kinds = 1 ∷ 2 ∷ 3 ∷ 4 ∷ 5 ∷ []
 
 -- engines of these kinds in which these items wait, and a disk: nothing waits in the engines, which are of kinds 1 to 5, and the
 -- disk is empty, with nothing pending on it and no fault counted
-pub record IsFreshKit (kinds : List ℕ) (waiting : List Item) (disk : DiskView) : Type 0 where
+pub record IsFreshNode (kinds : List ℕ) (waiting : List Item) (disk : DiskView) : Type 0 where
   pub kinds_are : kinds ≡ five_kinds
   pub nothing_waits : waiting ≡ []
   pub empty : reads disk ≡ []

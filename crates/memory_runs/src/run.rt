@@ -7,7 +7,7 @@ ghost use Rattle.outside_ends.specs.Faults.{Rose};
 ghost use Rattle.script_runner.specs.Ends.{CanRun};
 ghost use Rattle.shelf_loglets.specs.Shelf.{AreRooms};
 ghost use Rattle.fitting_run.specs.Fresh.{five_kinds};
-ghost use Rattle.script_runner.specs.Fresh.{AreFresh, AreFreshKits};
+ghost use Rattle.script_runner.specs.Fresh.{AreFresh, AreFreshNodes};
 ghost use Rattle.memory_runs.specs.Disks.{IsFreshDisk};
 ghost use Rattle.memory_runs.specs.Standing.{Stands};
 
@@ -19,7 +19,7 @@ use fate_words::chooser::Calm;
 use fitting_run::told::Told;
 use local_replica::layers::Layers;
 use loglet_api::loglet::Loglet;
-use node_opening::parts::NodeKit;
+use node_opening::parts::NodeParts;
 use outside_ends::sink::Sink;
 use outside_ends::source::Source;
 use script_runner::ended::{Ended, Status};
@@ -77,18 +77,18 @@ fn empty_disks(alloc: Global, count: u8) -> Result<Vec<MemDisk>, AllocError>
 
 /// One more node, of these engines and on this disk. What chooses for it loses no message.
 fn add_node<E: Layers, D: Disk>(
-    nodes: &mut Vec<NodeKit<E, D, Calm>>,
+    nodes: &mut Vec<NodeParts<E, D, Calm>>,
     engines: E,
     disk: D,
 ) -> Result<(), AllocError>
     requires kinds { E.kinds engines ≡ five_kinds }
     requires waiting { E.waiting engines ≡ [] }
     requires disk { IsFreshDisk (D.view disk) }
-    requires fresh { AreFreshKits (λ k. E.kinds k.engines) (λ k. E.waiting k.engines) (λ k. D.view k.disk) nodes.old.items }
-    ensures fresh { AreFreshKits (λ k. E.kinds k.engines) (λ k. E.waiting k.engines) (λ k. D.view k.disk) nodes.new.items }
+    requires fresh { AreFreshNodes (λ k. E.kinds k.engines) (λ k. E.waiting k.engines) (λ k. D.view k.disk) nodes.old.items }
+    ensures fresh { AreFreshNodes (λ k. E.kinds k.engines) (λ k. E.waiting k.engines) (λ k. D.view k.disk) nodes.new.items }
     ensures count { OnOk result (length nodes.new.items ≡ length nodes.old.items + 1) }
 {
-    nodes.push(NodeKit {
+    nodes.push(NodeParts {
         engines,
         disk,
         chooser: Calm,
@@ -102,12 +102,12 @@ fn run_with<H, L: Loglet, E: Layers, D: Disk, S: Source, K: Sink>(
     alloc: Global,
     words: &[String],
     shelf: Vec<L>,
-    nodes: Vec<NodeKit<E, D, Calm>>,
+    nodes: Vec<NodeParts<E, D, Calm>>,
     source: &mut S,
     sink: &mut K,
 ) -> Result<Ran, AllocError>
     requires shelf { AreFresh (map L.view shelf.items) }
-    requires nodes { AreFreshKits (λ k. E.kinds k.engines) (λ k. E.waiting k.engines) (λ k. D.view k.disk) nodes.items }
+    requires nodes { AreFreshNodes (λ k. E.kinds k.engines) (λ k. E.waiting k.engines) (λ k. D.view k.disk) nodes.items }
     requires loglets { (plan : Plan) → plan_of (map string_bytes words.now) ≡ Some plan → length shelf.items ≡ length plan.shelf }
     requires as_many { (plan : Plan) → plan_of (map string_bytes words.now) ≡ Some plan → length nodes.items ≡ plan.nodes }
     ensures stands { IfOk result (λ ran. Stands (map string_bytes words.now) (S.left source.old) (K.held sink.old) (K.held sink.new) ran) }

@@ -5,11 +5,11 @@ ghost use Rattle.std.specs.Vec.{vec_capacity};
 ghost use Rattle.engine_laws.specs.State.{IsStateOf};
 ghost use Rattle.local_replica.specs.Shown.{shown, Spells};
 ghost use Rattle.replica_api.specs.Fresh.{IsFreshReplica};
-ghost use Rattle.fitting_run.specs.Fresh.{IsFreshKit};
+ghost use Rattle.fitting_run.specs.Fresh.{IsFreshNode};
 ghost use Rattle.node_opening.specs.Opened.{IsCounted, AreFreshReplicas};
 
 use crate::closing::{close_before, put_first};
-use crate::parts::NodeKit;
+use crate::parts::NodeParts;
 use delos_types::numbers::NodeId;
 use disk_model::Disk;
 use engine_laws::laws::starts_empty;
@@ -20,24 +20,24 @@ use local_store::Store;
 use replica_api::node::OpenNode;
 use std::alloc::{AllocError, Global};
 
-/// The engines of a node, over a store on its disk. Without memory the kit comes back.
+/// The engines of a node, over a store on its disk. Without memory the parts come back.
 fn open_node<E: Layers, D: Disk, C: Chooser>(
     alloc: Global,
     number: NodeId,
-    kit: NodeKit<E, D, C>,
-) -> Result<OpenNode<LocalReplica<E, D>, C>, NodeKit<E, D, C>>
-    requires { IsFreshKit (E.kinds kit.engines) (E.waiting kit.engines) (D.view kit.disk) }
+    one: NodeParts<E, D, C>,
+) -> Result<OpenNode<LocalReplica<E, D>, C>, NodeParts<E, D, C>>
+    requires { IsFreshNode (E.kinds one.engines) (E.waiting one.engines) (D.view one.disk) }
     ensures fresh { IfOk result (λ n. IsFreshReplica IsStateOf Spells number (shown n.replica.store n.replica.origin (E.waiting n.replica.engines))) }
     ensures counted { IfOk result (λ n. IsCounted (shown n.replica.store n.replica.origin (E.waiting n.replica.engines))) }
-    ensures engines { IfOk result (λ n. n.replica.engines ≡ kit.engines) }
-    ensures chooser { IfOk result (λ n. n.chooser ≡ kit.chooser) }
-    ensures back { IfErr result (λ k. (k.engines ≡ kit.engines) × (k.chooser ≡ kit.chooser)) }
+    ensures engines { IfOk result (λ n. n.replica.engines ≡ one.engines) }
+    ensures chooser { IfOk result (λ n. n.chooser ≡ one.chooser) }
+    ensures back { IfErr result (λ k. (k.engines ≡ one.engines) × (k.chooser ≡ one.chooser)) }
 {
-    let NodeKit {
+    let NodeParts {
         engines,
         disk,
         chooser,
-    } = kit;
+    } = one;
     match Store::begin_on(alloc, disk) {
         Ok(store) => {
             starts_empty();
@@ -45,7 +45,7 @@ fn open_node<E: Layers, D: Disk, C: Chooser>(
             return Ok(OpenNode { replica, chooser });
         }
         Err(disk) => {
-            return Err(NodeKit {
+            return Err(NodeParts {
                 engines,
                 disk,
                 chooser,
@@ -54,43 +54,43 @@ fn open_node<E: Layers, D: Disk, C: Chooser>(
     }
 }
 
-/// Makes the state machines of all nodes, which are numbered from 1 in their order, each with a store on its disk. The kits'
-/// vector is empty then, and has room for them. A node whose disk fails as its store is begun is down.
+/// Makes the state machines of all nodes, which are numbered from 1 in their order, each with a store on its disk. The vector
+/// of parts is empty then, and has room for them. A node whose disk fails as its store is begun is down.
 ///
-/// Without memory all kits come back, in their order. The stores that were begun are taken off their disks again, which
+/// Without memory all parts come back, in their order. The stores that were begun are taken off their disks again, which
 /// may have been written to.
 pub fn open_all<E: Layers, D: Disk, C: Chooser>(
     alloc: Global,
-    kits: &mut Vec<NodeKit<E, D, C>>,
+    parts: &mut Vec<NodeParts<E, D, C>>,
 ) -> Result<Vec<OpenNode<LocalReplica<E, D>, C>>, AllocError>
-    requires eight { length kits.old.items ≤ 8 }
-    requires fresh { AllByRecursion (λ k. IsFreshKit (E.kinds k.engines) (E.waiting k.engines) (D.view k.disk)) kits.old.items }
+    requires eight { length parts.old.items ≤ 8 }
+    requires fresh { AllByRecursion (λ k. IsFreshNode (E.kinds k.engines) (E.waiting k.engines) (D.view k.disk)) parts.old.items }
     ensures fresh { IfOk result (λ nodes. AreFreshReplicas (λ n. shown n.replica.store n.replica.origin (E.waiting n.replica.engines)) nodes.items) }
 
     // A node is down just where its disk failed, and that was counted.
     ensures counted { IfOk result (λ nodes. AllByRecursion (λ n. IsCounted (shown n.replica.store n.replica.origin (E.waiting n.replica.engines))) nodes.items) }
-    ensures engines { IfOk result (λ nodes. map (λ n. n.replica.engines) nodes.items ≡ map (λ k. k.engines) kits.old.items) }
-    ensures choosers { IfOk result (λ nodes. map (λ n. n.chooser) nodes.items ≡ map (λ k. k.chooser) kits.old.items) }
-    ensures size { IfOk result (λ nodes. length nodes.items ≡ length kits.old.items) }
-    ensures taken { OnOk result (kits.new.items ≡ []) }
+    ensures engines { IfOk result (λ nodes. map (λ n. n.replica.engines) nodes.items ≡ map (λ k. k.engines) parts.old.items) }
+    ensures choosers { IfOk result (λ nodes. map (λ n. n.chooser) nodes.items ≡ map (λ k. k.chooser) parts.old.items) }
+    ensures size { IfOk result (λ nodes. length nodes.items ≡ length parts.old.items) }
+    ensures taken { OnOk result (parts.new.items ≡ []) }
 
-    // Nothing is lost, and there is room to put all kits back.
-    ensures engines_back { OnErr result (map (λ k. k.engines) kits.new.items ≡ map (λ k. k.engines) kits.old.items) }
-    ensures choosers_back { OnErr result (map (λ k. k.chooser) kits.new.items ≡ map (λ k. k.chooser) kits.old.items) }
-    ensures size_back { OnErr result (length kits.new.items ≡ length kits.old.items) }
-    ensures room { length kits.old.items ≤ vec_capacity kits.new }
+    // Nothing is lost, and there is room to put all parts back.
+    ensures engines_back { OnErr result (map (λ k. k.engines) parts.new.items ≡ map (λ k. k.engines) parts.old.items) }
+    ensures choosers_back { OnErr result (map (λ k. k.chooser) parts.new.items ≡ map (λ k. k.chooser) parts.old.items) }
+    ensures size_back { OnErr result (length parts.new.items ≡ length parts.old.items) }
+    ensures room { length parts.old.items ≤ vec_capacity parts.new }
 {
-    let mut nodes = Vec::with_capacity(alloc, kits.len())?;
-    let count = kits.len() as u8;
+    let mut nodes = Vec::with_capacity(alloc, parts.len())?;
+    let count = parts.len() as u8;
     for k in 0..count {
         let Some(number) = NodeId::new(k + 1) else {
             unreachable!()
         };
-        match open_node(alloc, number, kits.remove(0)) {
+        match open_node(alloc, number, parts.remove(0)) {
             Ok(node) => nodes.push_reserved(node),
-            Err(kit) => {
-                put_first(kits, kit);
-                close_before(nodes, kits);
+            Err(one) => {
+                put_first(parts, one);
+                close_before(nodes, parts);
                 return Err(AllocError);
             }
         }

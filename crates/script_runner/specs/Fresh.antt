@@ -5,31 +5,31 @@ use Rattle.loglet_api.specs.View.{LogletView, IsFresh}
 use Rattle.register_api.specs.View as register
 use Rattle.disk_model.specs.Disk.{DiskView}
 use Rattle.delos_types.specs.declared.item.Item.{Item}
-use Rattle.fitting_run.specs.Fresh.{IsFreshKit}
+use Rattle.fitting_run.specs.Fresh.{IsFreshNode}
 use Rattle.script_words.specs.declared.plan.Plan.{Plan}
 use Rattle.script_words.specs.Plans.{plan_of}
 use Rattle.fitting_run.specs.Yard.{Shown}
 
 -- what is read of loglets, a register and what nodes are made of, each seen by a function of its own
 abbrev pub shown : {L R K : Type 0} → (L → LogletView) → (R → register.RegisterView) → (K → ℕ) → List L → R → List K → Shown
-shown view register faults cells r kits = record { cells = map view cells; register = register r; disks = map faults kits }
+shown view register faults cells r parts = record { cells = map view cells; register = register r; disks = map faults parts }
 
 -- nothing was begun on any of its loglets
 abbrev pub AreFresh : List LogletView → Type 0
 AreFresh cells = AllByRecursion IsFresh cells
 
 -- each node's engines are the five and hold nothing, and its disk is empty
-abbrev pub AreFreshKits : {K : Type 0} → (K → List ℕ) → (K → List Item) → (K → DiskView) → List K → Type 0
-AreFreshKits kinds waiting disk kits = AllByRecursion (λ k. IsFreshKit (kinds k) (waiting k) (disk k)) kits
+abbrev pub AreFreshNodes : {K : Type 0} → (K → List ℕ) → (K → List Item) → (K → DiskView) → List K → Type 0
+AreFreshNodes kinds waiting disk parts = AllByRecursion (λ k. IsFreshNode (kinds k) (waiting k) (disk k)) parts
 
 -- as many loglets and nodes as the plan says; nothing was begun or written, and nothing failed
-pub record IsFreshFor {K : Type 0} (kinds : K → List ℕ) (waiting : K → List Item) (disk : K → DiskView) (plan : Plan) (cells : List LogletView) (r : register.RegisterView) (kits : List K) : Type 0 where
+pub record IsFreshFor {K : Type 0} (kinds : K → List ℕ) (waiting : K → List Item) (disk : K → DiskView) (plan : Plan) (cells : List LogletView) (r : register.RegisterView) (parts : List K) : Type 0 where
   pub as_many : length cells ≡ length plan.shelf
-  pub nodes : length kits ≡ plan.nodes
+  pub nodes : length parts ≡ plan.nodes
   pub fresh : AreFresh cells
   pub register_is : register.IsFresh r
-  pub kits_are : AreFreshKits kinds waiting disk kits
+  pub parts_are : AreFreshNodes kinds waiting disk parts
 
 -- where the words have a plan, the yard is fresh for it; else it may be any
 abbrev pub IsFreshYard : {K : Type 0} → (K → List ℕ) → (K → List Item) → (K → DiskView) → List (List ℕ) → List LogletView → register.RegisterView → List K → Type 0
-IsFreshYard kinds waiting disk words cells r kits = (plan : Plan) → plan_of words ≡ Some plan → IsFreshFor kinds waiting disk plan cells r kits
+IsFreshYard kinds waiting disk words cells r parts = (plan : Plan) → plan_of words ≡ Some plan → IsFreshFor kinds waiting disk plan cells r parts

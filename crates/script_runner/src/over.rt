@@ -2,7 +2,7 @@
 ghost use Rattle.std.specs.Prelude.{◌≡◌, ◌<◌, ◌≤◌, IfOk, length, map};
 ghost use Rattle.register_api.specs.View as view;
 ghost use Rattle.crew_run.specs.Running.{RunTold};
-ghost use Rattle.script_runner.specs.Fresh.{AreFresh, AreFreshKits, shown};
+ghost use Rattle.script_runner.specs.Fresh.{AreFresh, AreFreshNodes, shown};
 ghost use Rattle.script_runner.specs.Playing.{CanPlay};
 
 use crate::yard::Yard;
@@ -32,7 +32,7 @@ pub fn play<L: Loglet, R: Register, E: Layers, D: Disk, C: Chooser>(
 ) -> Played<L, R, E, D, C>
     requires cells { AreFresh (map L.view yard.shelf.items) }
     requires register { view.IsFresh (R.view yard.register) }
-    requires kits { AreFreshKits (λ k. E.kinds k.engines) (λ k. E.waiting k.engines) (λ k. D.view k.disk) yard.nodes.items }
+    requires parts { AreFreshNodes (λ k. E.kinds k.engines) (λ k. E.waiting k.engines) (λ k. D.view k.disk) yard.nodes.items }
     requires least { 0 < length yard.shelf.items }
     requires most { length yard.shelf.items ≤ 64 }
     requires eight { length yard.nodes.items ≤ 8 }
@@ -43,10 +43,10 @@ pub fn play<L: Loglet, R: Register, E: Layers, D: Disk, C: Chooser>(
     let Yard {
         shelf,
         register,
-        nodes: kits,
+        nodes: parts,
     } = yard;
-    let mut kits = kits;
-    match open_all(alloc, &mut kits) {
+    let mut parts = parts;
+    match open_all(alloc, &mut parts) {
         Ok(nodes) => {
             let Ran {
                 cells: shelf,
@@ -54,12 +54,12 @@ pub fn play<L: Loglet, R: Register, E: Layers, D: Disk, C: Chooser>(
                 nodes,
                 told,
             } = run_lines(alloc, shelf, register, nodes, lines);
-            close_all(nodes, &mut kits);
+            close_all(nodes, &mut parts);
             return Played {
                 yard: Yard {
                     shelf,
                     register,
-                    nodes: kits,
+                    nodes: parts,
                 },
                 told,
             };
@@ -69,7 +69,7 @@ pub fn play<L: Loglet, R: Register, E: Layers, D: Disk, C: Chooser>(
                 yard: Yard {
                     shelf,
                     register,
-                    nodes: kits,
+                    nodes: parts,
                 },
                 told: Err(fault),
             };

@@ -3,7 +3,7 @@ use disk_model::Disk;
 use fate_words::chooser::Chooser;
 use local_replica::layers::Layers;
 use loglet_api::loglet::Loglet;
-use node_opening::parts::NodeKit;
+use node_opening::parts::NodeParts;
 use register_api::Register;
 
 /// What a run works on, and gives back: a shelf of 1 to 64 loglets, the first of which is the chain's open segment; the register of
@@ -14,5 +14,5 @@ use register_api::Register;
 pub struct Yard<L: Loglet, R: Register, E: Layers, D: Disk, C: Chooser> {
     pub shelf: Vec<L>,
     pub register: R,
-    pub nodes: Vec<NodeKit<E, D, C>>,
+    pub nodes: Vec<NodeParts<E, D, C>>,
 }

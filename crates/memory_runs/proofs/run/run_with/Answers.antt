@@ -9,7 +9,7 @@ run-status-requires g c = λ plan planned. record {
   nodes = c.requires.as_many plan planned;
   fresh = c.requires.shelf;
   register_is = c.in_ok-register.ensures;
-  kits_are = c.requires.nodes;
+  parts_are = c.requires.nodes;
 }
 
 -- what stands over the yard that came back stands over some yard

@@ -7,7 +7,7 @@ use Rattle.engine_laws.specs.State.{IsStateOf}
 use Rattle.local_replica.specs.Shown.{shown, Spells}
 use Rattle.replica_api.specs.Fresh.{IsFreshReplica}
 use Rattle.node_opening.proofs.Lists.{taken_first, goes_over, all_over, each_push, as_long}
-use Rattle.fitting_run.specs.Fresh.{five_kinds, IsFreshKit}
+use Rattle.fitting_run.specs.Fresh.{five_kinds, IsFreshNode}
 use Rattle.node_opening.specs.Opened.{IsCounted}
 use Rattle.node_opening.proofs.Lists.{put_back}
 use Rattle.node_opening.proofs.opening.open_all.Goals as goal
@@ -16,9 +16,9 @@ pub open_node-requires : goal.open_node-requires
 open_node-requires g c =
     let l = c.loop-k in
     let k = c.remove.result in
-    let some : 0 < length l.kits.items = grind (arith, c.loop-k-test.true, l.invariant.left, l.invariant.count) in
-    let is = taken_first l.kits.items k some c.remove.ensures.value in
-    (subst (AllByRecursion (λ k. IsFreshKit (g.E.Layers.kinds k.engines) (g.E.Layers.waiting k.engines) (g.D.Disk.view k.disk))) is l.invariant.rest).0
+    let some : 0 < length l.parts.items = grind (arith, c.loop-k-test.true, l.invariant.left, l.invariant.count) in
+    let is = taken_first l.parts.items k some c.remove.ensures.value in
+    (subst (AllByRecursion (λ k. IsFreshNode (g.E.Layers.kinds k.engines) (g.E.Layers.waiting k.engines) (g.D.Disk.view k.disk))) is l.invariant.rest).0
 
 pub loop-k-preserved : goal.loop-k-preserved
 loop-k-preserved g c =
@@ -28,11 +28,11 @@ loop-k-preserved g c =
     let o = c.in-Ok.ensures in
     let p = c.push_reserved in
     let waiting = g.E.Layers.waiting in
-    let some : 0 < length l.kits.items = grind (arith, c.loop-k-test.true, l.invariant.left, l.invariant.count) in
-    let is = taken_first l.kits.items k some c.remove.ensures.value ∙ ap (λ x. k ∷ x) (sym c.remove.ensures.items) in
+    let some : 0 < length l.parts.items = grind (arith, c.loop-k-test.true, l.invariant.left, l.invariant.count) in
+    let is = taken_first l.parts.items k some c.remove.ensures.value ∙ ap (λ x. k ∷ x) (sym c.remove.ensures.items) in
     let who : c.in-Some.number ≡ length l.nodes.items + 1 = grind (arith, c.in-Some.ensures.value, l.invariant.done) in
     record {
-      rest = (subst (AllByRecursion (λ k. IsFreshKit (g.E.Layers.kinds k.engines) (waiting k.engines) (g.D.Disk.view k.disk))) is l.invariant.rest).1;
+      rest = (subst (AllByRecursion (λ k. IsFreshNode (g.E.Layers.kinds k.engines) (waiting k.engines) (g.D.Disk.view k.disk))) is l.invariant.rest).1;
       fresh = λ j x at. each_push (λ j n. IsFreshReplica IsStateOf Spells (j + 1) (shown n.replica.store n.replica.origin (waiting n.replica.engines))) l.nodes.items n l.invariant.fresh
           (subst (λ i. IsFreshReplica IsStateOf Spells i (shown n.replica.store n.replica.origin (waiting n.replica.engines))) who o.fresh) j x (ap (λ y. slice_get y j) (sym p.ensures.items) ∙ at);
       counted = subst (AllByRecursion (λ n. IsCounted (shown n.replica.store n.replica.origin (waiting n.replica.engines)))) (sym p.ensures.items)
@@ -43,9 +43,9 @@ loop-k-preserved g c =
       room = grind (arith, l.invariant.room, c.remove.ensures.capacity);
       nodes_room = grind (arith, l.invariant.nodes_room, p.ensures.capacity);
       engines = ap (λ x. map (λ n. n.replica.engines) x ++ map (λ k. k.engines) c.remove.new.self.items) p.ensures.items
-          ∙ goes_over (λ n. n.replica.engines) (λ k. k.engines) l.nodes.items l.kits.items c.remove.new.self.items n k (map (λ k. k.engines) c.args.kits.now.items) o.engines is l.invariant.engines;
+          ∙ goes_over (λ n. n.replica.engines) (λ k. k.engines) l.nodes.items l.parts.items c.remove.new.self.items n k (map (λ k. k.engines) c.args.parts.now.items) o.engines is l.invariant.engines;
       choosers = ap (λ x. map (λ n. n.chooser) x ++ map (λ k. k.chooser) c.remove.new.self.items) p.ensures.items
-          ∙ goes_over (λ n. n.chooser) (λ k. k.chooser) l.nodes.items l.kits.items c.remove.new.self.items n k (map (λ k. k.chooser) c.args.kits.now.items) o.chooser is l.invariant.choosers;
+          ∙ goes_over (λ n. n.chooser) (λ k. k.chooser) l.nodes.items l.parts.items c.remove.new.self.items n k (map (λ k. k.chooser) c.args.parts.now.items) o.chooser is l.invariant.choosers;
     }
 
 pub close_before-requires-clause-kinds : goal.close_before-requires-clause-kinds
@@ -53,47 +53,47 @@ close_before-requires-clause-kinds g c =
     let l = c.loop-k in
     let k = c.remove.result in
     let kinds = g.E.Layers.kinds in
-    let some : 0 < length l.kits.items = grind (arith, c.loop-k-test.true, l.invariant.left, l.invariant.count) in
-    let is = taken_first l.kits.items k some c.remove.ensures.value ∙ ap (λ x. k ∷ x) (sym c.remove.ensures.items) in
-    let rest = subst (AllByRecursion (λ k. IsFreshKit (kinds k.engines) (g.E.Layers.waiting k.engines) (g.D.Disk.view k.disk))) is l.invariant.rest in
+    let some : 0 < length l.parts.items = grind (arith, c.loop-k-test.true, l.invariant.left, l.invariant.count) in
+    let is = taken_first l.parts.items k some c.remove.ensures.value ∙ ap (λ x. k ∷ x) (sym c.remove.ensures.items) in
+    let rest = subst (AllByRecursion (λ k. IsFreshNode (kinds k.engines) (g.E.Layers.waiting k.engines) (g.D.Disk.view k.disk))) is l.invariant.rest in
     subst (AllByRecursion (λ k. kinds k.engines ≡ five_kinds)) (sym c.put_first.ensures.items) (
       ap kinds c.in-Err.ensures.back.0 ∙ rest.0.kinds_are,
-      all-imply (λ k. IsFreshKit (kinds k.engines) (g.E.Layers.waiting k.engines) (g.D.Disk.view k.disk)) (λ k. kinds k.engines ≡ five_kinds) c.remove.new.self.items (λ k h. h.kinds_are) rest.1,
+      all-imply (λ k. IsFreshNode (kinds k.engines) (g.E.Layers.waiting k.engines) (g.D.Disk.view k.disk)) (λ k. kinds k.engines ≡ five_kinds) c.remove.new.self.items (λ k h. h.kinds_are) rest.1,
     )
 
 pub returns-in-Err-clause-engines_back : goal.returns-in-Err-clause-engines_back
 returns-in-Err-clause-engines_back g c =
     let l = c.loop-k in
     let k = c.remove.result in
-    let some : 0 < length l.kits.items = grind (arith, c.loop-k-test.true, l.invariant.left, l.invariant.count) in
-    let is = taken_first l.kits.items k some c.remove.ensures.value ∙ ap (λ x. k ∷ x) (sym c.remove.ensures.items) in
-    put_back (λ n. n.replica.engines) (λ k. k.engines) l.nodes.items l.kits.items c.remove.new.self.items c.put_first.new.kits.items k c.in-Err.kit _ _ c.close_before.ensures.engines c.put_first.ensures.items c.in-Err.ensures.back.0 is l.invariant.engines
+    let some : 0 < length l.parts.items = grind (arith, c.loop-k-test.true, l.invariant.left, l.invariant.count) in
+    let is = taken_first l.parts.items k some c.remove.ensures.value ∙ ap (λ x. k ∷ x) (sym c.remove.ensures.items) in
+    put_back (λ n. n.replica.engines) (λ k. k.engines) l.nodes.items l.parts.items c.remove.new.self.items c.put_first.new.parts.items k c.in-Err.one _ _ c.close_before.ensures.engines c.put_first.ensures.items c.in-Err.ensures.back.0 is l.invariant.engines
 
 pub returns-in-Err-clause-choosers_back : goal.returns-in-Err-clause-choosers_back
 returns-in-Err-clause-choosers_back g c =
     let l = c.loop-k in
     let k = c.remove.result in
-    let some : 0 < length l.kits.items = grind (arith, c.loop-k-test.true, l.invariant.left, l.invariant.count) in
-    let is = taken_first l.kits.items k some c.remove.ensures.value ∙ ap (λ x. k ∷ x) (sym c.remove.ensures.items) in
-    put_back (λ n. n.chooser) (λ k. k.chooser) l.nodes.items l.kits.items c.remove.new.self.items c.put_first.new.kits.items k c.in-Err.kit _ _ c.close_before.ensures.choosers c.put_first.ensures.items c.in-Err.ensures.back.1 is l.invariant.choosers
+    let some : 0 < length l.parts.items = grind (arith, c.loop-k-test.true, l.invariant.left, l.invariant.count) in
+    let is = taken_first l.parts.items k some c.remove.ensures.value ∙ ap (λ x. k ∷ x) (sym c.remove.ensures.items) in
+    put_back (λ n. n.chooser) (λ k. k.chooser) l.nodes.items l.parts.items c.remove.new.self.items c.put_first.new.parts.items k c.in-Err.one _ _ c.close_before.ensures.choosers c.put_first.ensures.items c.in-Err.ensures.back.1 is l.invariant.choosers
 
 pub returns-in-Err-clause-size_back : goal.returns-in-Err-clause-size_back
 returns-in-Err-clause-size_back g c =
     let l = c.loop-k in
     let k = c.remove.result in
-    let some : 0 < length l.kits.items = grind (arith, c.loop-k-test.true, l.invariant.left, l.invariant.count) in
-    let is = taken_first l.kits.items k some c.remove.ensures.value ∙ ap (λ x. k ∷ x) (sym c.remove.ensures.items) in
-    as_long (λ k. k.engines) (λ k. k.engines) c.close_before.new.kits.items c.args.kits.now.items
-    (put_back (λ n. n.replica.engines) (λ k. k.engines) l.nodes.items l.kits.items c.remove.new.self.items c.put_first.new.kits.items k c.in-Err.kit _ _ c.close_before.ensures.engines c.put_first.ensures.items c.in-Err.ensures.back.0 is l.invariant.engines)
+    let some : 0 < length l.parts.items = grind (arith, c.loop-k-test.true, l.invariant.left, l.invariant.count) in
+    let is = taken_first l.parts.items k some c.remove.ensures.value ∙ ap (λ x. k ∷ x) (sym c.remove.ensures.items) in
+    as_long (λ k. k.engines) (λ k. k.engines) c.close_before.new.parts.items c.args.parts.now.items
+    (put_back (λ n. n.replica.engines) (λ k. k.engines) l.nodes.items l.parts.items c.remove.new.self.items c.put_first.new.parts.items k c.in-Err.one _ _ c.close_before.ensures.engines c.put_first.ensures.items c.in-Err.ensures.back.0 is l.invariant.engines)
 
 pub returns-clause-engines : goal.returns-clause-engines
 returns-clause-engines g c =
     let l = c.loop-k in
-    let over : length l.kits.items ≡ 0 = grind (arith, c.loop-k-test.false, l.invariant.left, l.invariant.count) in
-    all_over (λ n. n.replica.engines) (λ k. k.engines) l.nodes.items l.kits.items (map (λ k. k.engines) c.args.kits.now.items) (nil_from_length l.kits.items over) l.invariant.engines
+    let over : length l.parts.items ≡ 0 = grind (arith, c.loop-k-test.false, l.invariant.left, l.invariant.count) in
+    all_over (λ n. n.replica.engines) (λ k. k.engines) l.nodes.items l.parts.items (map (λ k. k.engines) c.args.parts.now.items) (nil_from_length l.parts.items over) l.invariant.engines
 
 pub returns-clause-choosers : goal.returns-clause-choosers
 returns-clause-choosers g c =
     let l = c.loop-k in
-    let over : length l.kits.items ≡ 0 = grind (arith, c.loop-k-test.false, l.invariant.left, l.invariant.count) in
-    all_over (λ n. n.chooser) (λ k. k.chooser) l.nodes.items l.kits.items (map (λ k. k.chooser) c.args.kits.now.items) (nil_from_length l.kits.items over) l.invariant.choosers
+    let over : length l.parts.items ≡ 0 = grind (arith, c.loop-k-test.false, l.invariant.left, l.invariant.count) in
+    all_over (λ n. n.chooser) (λ k. k.chooser) l.nodes.items l.parts.items (map (λ k. k.chooser) c.args.parts.now.items) (nil_from_length l.parts.items over) l.invariant.choosers

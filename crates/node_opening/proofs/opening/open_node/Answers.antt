@@ -16,4 +16,4 @@ pub returns-in-Ok-clause-counted : goal.returns-in-Ok-clause-counted
 returns-in-Ok-clause-counted g c =
     let b = c.in-Ok.ensures in
     let n = c.new-replica in
-    is_counted n.result.store c.in-Ok.store n.result.origin (g.D.Disk.view c.args.kit.disk).faults (g.E.Layers.waiting n.result.engines) n.ensures.store c.requires.none_counted b.down b.up
+    is_counted n.result.store c.in-Ok.store n.result.origin (g.D.Disk.view c.args.one.disk).faults (g.E.Layers.waiting n.result.engines) n.ensures.store c.requires.none_counted b.down b.up
