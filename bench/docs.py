@@ -17,7 +17,7 @@ import sys
 import tempfile
 
 TOP = os.path.abspath(os.path.join(os.path.dirname(os.path.abspath(__file__)), ".."))
-PAGES = ["README.md", "docs/MANUAL.md", "docs/GUIDE.md", "docs/THEOREM.md"]
+PAGES = ["README.md", "docs/MANUAL.md", "docs/GUIDE.md", "docs/EMBED.md", "docs/THEOREM.md"]
 LINKED = PAGES + ["docs/PROVED.md", "docs/PLANTED.md", "docs/GLOSSARY.md", "docs/ARCHITECTURE.md"]
 MARK = re.compile(r"^<!-- (run|prints|gate|text|from)(?:, status (\d+))?(?: ([^ :]+): (.*?))? -->$")
 LINK = re.compile(r"\]\(([^)#\s]+)(?:#[^)]*)?\)")
