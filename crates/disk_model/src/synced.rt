@@ -1,5 +1,5 @@
 // A write and a sync, one after the other.
-ghost use Rattle.std.specs.Prelude.{◌≡◌, ◌⊎◌, ◌+◌, ◌-◌, ◌^◌, ◌<◌, ◌≤◌, ℕ, [], length, OnOk, OnErr, IsErrOf};
+ghost use Rattle.std.specs.Prelude.{◌≡◌, ◌≢◌, ◌⊎◌, ◌+◌, ◌-◌, ◌^◌, ◌<◌, ◌≤◌, ℕ, false, [], length, OnOk, OnErr, IsErrOf};
 ghost use Rattle.disk_model.specs.Disk.{Written, changed, at_rest, reads, IsSynced, Rose};
 ghost use Rattle.disk_model.specs.Crash.{AnyCrash};
 ghost use Rattle.disk_model.specs.Torn.{IsTorn};
@@ -21,6 +21,11 @@ pub fn write_synced<D: Disk>(disk: &mut D, at: u64, bytes: &[u8]) -> Result<(), 
     ensures faults { (D.view disk.old).faults ≤ (D.view disk.new).faults }
     ensures no_fault { OnOk result ((D.view disk.new).faults ≡ (D.view disk.old).faults) }
     ensures armed { (D.view disk.new).armed ≤ (D.view disk.old).armed }
+
+    // It is one write of the count that the disk is armed with.
+    ensures counted { OnOk result (((D.view disk.old).armed ≢ 1) × ((D.view disk.new).armed ≡ (D.view disk.old).armed - 1)) }
+    ensures running { OnOk result (((D.view disk.old).stopped ≡ false) × ((D.view disk.new).stopped ≡ false)) }
+    ensures one_write { ((D.view disk.new).armed ≡ (D.view disk.old).armed) ⊎ ((D.view disk.new).armed ≡ (D.view disk.old).armed - 1) }
 {
     disk.write_at(at, bytes)?;
     if disk.sync().is_err() {

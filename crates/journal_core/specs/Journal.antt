@@ -28,10 +28,11 @@ LeavesRecords v P = Leaves v.timeline.now (λ bytes. P (records_of bytes))
 abbrev pub AnyCrashLeaves : DiskView → DiskView → (List (List ℕ) → Type 0) → Type 0
 AnyCrashLeaves old new P = AnyCrash old.timeline new.timeline (λ bytes. P (records_of bytes))
 
--- What outlasts a crash. While the journal isn't shut nothing is torn or pending, and a crash leaves just its records; in
--- any case it leaves them with the torn one or without.
+-- What outlasts a crash. While the journal isn't shut its disk isn't stopped, nothing is torn or pending, and a crash
+-- leaves just its records; in any case it leaves them with the torn one or without.
 pub record Survives (j : View) : Type 0 where
   pub whole : j.shut ≡ false → j.torn ≡ None
   pub synced : j.shut ≡ false → IsSynced j.disk
   pub exact : j.shut ≡ false → LeavesRecords j.disk (λ found. found ≡ j.records)
+  pub running : j.shut ≡ false → j.disk.stopped ≡ false
   pub left : LeavesRecords j.disk (MayFind j)

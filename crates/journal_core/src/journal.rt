@@ -1,5 +1,5 @@
 // A journal: records on a disk, and in memory beside it.
-ghost use Rattle.std.specs.Prelude.{◌≡◌, ◌⊎◌, ◌+◌, ◌^◌, ◌<◌, ◌≤◌, ◌↔◌, ℕ, Some, None, [], ◌∷◌, ◌++◌, length, true, false, if◌then◌else◌, IfOk, IfErr, OnOk, OnErr, IsErrOf, slice_index_or};
+ghost use Rattle.std.specs.Prelude.{◌≡◌, ◌≢◌, ◌⊎◌, ◌+◌, ◌-◌, ◌^◌, ◌<◌, ◌≤◌, ◌↔◌, ℕ, Some, None, [], ◌∷◌, ◌++◌, length, nat_lt, true, false, if◌then◌else◌, IfOk, IfErr, OnOk, OnErr, IsErrOf, slice_index_or};
 ghost use Rattle.disk_model.specs.Disk.{DiskView, reads, IsSynced, Rose};
 ghost use Rattle.journal_core.specs.Records.{records_of};
 ghost use Rattle.journal_core.specs.Journal.{View, MayFind, LeavesRecords, AnyCrashLeaves, Survives};
@@ -39,7 +39,7 @@ impl<D: Disk> Model for Journal<D> {
 
     ghost view = { λ j. record { records = payloads j.found.items; torn = option_map (λ v. v.items) j.torn; shut = j.shut; disk = D.view j.disk } };
 
-    ghost invariant = { λ j. IsKept (payloads j.found.items) (option_map (λ v. v.items) j.torn) j.end j.shut (D.view j.disk).timeline };
+    ghost invariant = { λ j. IsKept (payloads j.found.items) (option_map (λ v. v.items) j.torn) j.end j.shut (D.view j.disk).stopped (D.view j.disk).timeline };
 }
 
 impl<D: Disk> Journal<D> {
@@ -55,6 +55,12 @@ impl<D: Disk> Journal<D> {
         ensures any_crash { IfOk result (λ j. AnyCrashLeaves (D.view disk) j.disk (λ found. found ≡ records_of (reads (D.view disk)))) }
         ensures no_fault { IfOk result (λ j. j.disk.faults ≡ (D.view disk).faults) }
         ensures armed { IfOk result (λ j. j.disk.armed ≤ (D.view disk).armed) }
+
+        // At most one write was made: it is armed where it was, and one that fails may have reached the armed write.
+        ensures one_write { IfOk result (λ j. (j.disk.armed ≡ (D.view disk).armed) ⊎ (((D.view disk).armed ≢ 1) × (j.disk.armed ≡ (D.view disk).armed - 1))) }
+        ensures still_armed { IfOk result (λ j. nat_lt 0 j.disk.armed ≡ nat_lt 0 (D.view disk).armed) }
+        ensures one_write_refused { IfErr result (λ e. ((D.view e.disk).armed ≡ (D.view disk).armed) ⊎ ((D.view e.disk).armed ≡ (D.view disk).armed - 1)) }
+        ensures memory_state { IfErr result (λ e. e.fault ≡ Fault.Memory → ((D.view e.disk).stopped ≡ (D.view disk).stopped) × ((D.view e.disk).armed ≡ (D.view disk).armed)) }
 
         // A disk that is handed back has the same records, and failed where that is said.
         ensures memory { IfErr result (λ e. e.fault ≡ Fault.Memory → ((D.view e.disk).timeline ≡ (D.view disk).timeline) × ((D.view e.disk).faults ≡ (D.view disk).faults)) }
@@ -114,6 +120,11 @@ impl<D: Disk> Journal<D> {
         ensures faults { self.old.disk.faults ≤ self.new.disk.faults }
         ensures no_fault { OnOk result (self.new.disk.faults ≡ self.old.disk.faults) }
         ensures armed { self.new.disk.armed ≤ self.old.disk.armed }
+
+        // It is two of the writes that an armed disk counts.
+        ensures counted { OnOk result ((self.old.disk.armed ≢ 1) × (self.old.disk.armed ≢ 2) × (self.new.disk.armed ≡ self.old.disk.armed - 2)) }
+        ensures still_armed { IsErrOf result AppendFault.Memory → nat_lt 0 self.new.disk.armed ≡ nat_lt 0 self.old.disk.armed }
+        ensures ok_armed { OnOk result (nat_lt 0 self.new.disk.armed ≡ nat_lt 0 self.old.disk.armed) }
     {
         if self.shut {
             return Err(AppendFault::Shut);
@@ -153,6 +164,11 @@ impl<D: Disk> Journal<D> {
         ensures faults { self.old.disk.faults ≤ self.new.disk.faults }
         ensures no_fault { OnOk result (self.new.disk.faults ≡ self.old.disk.faults) }
         ensures armed { self.new.disk.armed ≤ self.old.disk.armed }
+
+        // Nothing is armed then, unless the disk itself refused, and stays as it was.
+        ensures disarmed { OnOk result (self.new.disk.armed ≡ 0) }
+        ensures disarmed_memory { IsErrOf result Fault.Memory → (self.new.disk.armed ≡ 0) × (self.new.disk.stopped ≡ false) }
+        ensures disarmed_or_same { IsErrOf result Fault.Disk → (self.new.disk.armed ≡ 0) ⊎ ((self.new.disk.armed ≡ self.old.disk.armed) × (self.new.disk.stopped ≡ self.old.disk.stopped)) }
     {
         if self.disk.reopen(word).is_err() {
             self.shut = true;
@@ -207,6 +223,7 @@ impl<D: Disk> Journal<D> {
     /// Arms the disk: its write number `after` from now on stops inside itself, as in a crash; 0 takes that back.
     pub fn stop(&mut self, after: u64)
         ensures stops { self.new ≡ record self.old { disk = if self.old.disk.stopped then self.old.disk else record self.old.disk { armed = after } } }
+        ensures arms { self.old.shut ≡ false → self.new.disk ≡ record self.old.disk { armed = after } }
         ensures survives { Survives self.new }
     {
         self.disk.arm(after);

@@ -1,5 +1,5 @@
 // A record on its way to the disk.
-ghost use Rattle.std.specs.Prelude.{◌≡◌, ◌⊎◌, ◌+◌, ◌^◌, ◌<◌, ◌≤◌, ℕ, [], ◌∷◌, ◌++◌, length, IfOk, OnOk, IsErrOf};
+ghost use Rattle.std.specs.Prelude.{◌≡◌, ◌≢◌, ◌⊎◌, ◌+◌, ◌-◌, ◌^◌, ◌<◌, ◌≤◌, ℕ, false, [], ◌∷◌, ◌++◌, length, nat_lt, IfOk, OnOk, IsErrOf};
 ghost use Rattle.disk_model.specs.Disk.{reads, IsSynced, Rose};
 ghost use Rattle.disk_model.specs.Crash.{AnyCrash};
 ghost use Rattle.journal_core.specs.Records.{records_of};
@@ -52,6 +52,11 @@ pub(crate) fn add<D: Disk>(
     ensures no_fault { OnOk result ((D.view disk.new).faults ≡ (D.view disk.old).faults) }
     ensures no_fault_memory { IsErrOf result Fault.Memory → (D.view disk.new).faults ≡ (D.view disk.old).faults }
     ensures armed { (D.view disk.new).armed ≤ (D.view disk.old).armed }
+    ensures counted { OnOk result (((D.view disk.old).armed ≢ 1) × ((D.view disk.old).armed ≢ 2) × ((D.view disk.new).armed ≡ (D.view disk.old).armed - 2)) }
+    ensures still_armed { IsErrOf result Fault.Memory → nat_lt 0 (D.view disk.new).armed ≡ nat_lt 0 (D.view disk.old).armed }
+    ensures ok_armed { OnOk result (nat_lt 0 (D.view disk.new).armed ≡ nat_lt 0 (D.view disk.old).armed) }
+    ensures running { OnOk result ((D.view disk.new).stopped ≡ false) }
+    ensures memory_running { (D.view disk.old).stopped ≡ false → IsErrOf result Fault.Memory → (D.view disk.new).stopped ≡ false }
 {
     let behind = frame(alloc, payload)?;
     write_synced(disk, end + 1, &behind)?;

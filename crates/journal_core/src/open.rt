@@ -1,5 +1,5 @@
 // Reads the records of a disk, and closes the gate where they end.
-ghost use Rattle.std.specs.Prelude.{◌≡◌, ◌≢◌, ◌⊎◌, ◌+◌, ◌^◌, ◌<◌, ◌≤◌, ℕ, Some, None, true, false, [], length, drop, slice_index, IfOk, IfSome, OnOk, IsErrOf, MatchOption};
+ghost use Rattle.std.specs.Prelude.{◌≡◌, ◌≢◌, ◌⊎◌, ◌+◌, ◌-◌, ◌^◌, ◌<◌, ◌≤◌, ℕ, Some, None, true, false, [], length, drop, slice_index, IfOk, IfSome, OnOk, IsErrOf, MatchOption};
 ghost use Rattle.disk_model.specs.Disk.{reads, IsSynced, Rose};
 ghost use Rattle.disk_model.specs.Crash.{AnyCrash};
 ghost use Rattle.journal_core.specs.Records.{first_record, records_of};
@@ -25,6 +25,10 @@ pub(crate) fn scan<D: Disk>(alloc: Global, disk: &mut D) -> Result<(Vec<Vec<u8>>
     ensures no_fault { OnOk result ((D.view disk.new).faults ≡ (D.view disk.old).faults) }
     ensures no_fault_memory { IsErrOf result Fault.Memory → (D.view disk.new).faults ≡ (D.view disk.old).faults }
     ensures armed { (D.view disk.new).armed ≤ (D.view disk.old).armed }
+    ensures running { OnOk result ((D.view disk.new).stopped ≡ false) }
+    ensures memory_state { IsErrOf result Fault.Memory → ((D.view disk.new).stopped ≡ (D.view disk.old).stopped) × ((D.view disk.new).armed ≡ (D.view disk.old).armed) }
+    ensures one_write { ((D.view disk.new).armed ≡ (D.view disk.old).armed) ⊎ ((D.view disk.new).armed ≡ (D.view disk.old).armed - 1) }
+    ensures counted { OnOk result (((D.view disk.new).armed ≡ (D.view disk.old).armed) ⊎ ((D.view disk.old).armed ≢ 1)) }
 {
     let (found, end) = read_records(alloc, disk)?;
     if gate_is_open(disk, end)? {
@@ -45,6 +49,7 @@ fn read_records<D: Disk>(alloc: Global, disk: &mut D) -> Result<(Vec<Vec<u8>>, u
     ensures no_fault { OnOk result ((D.view disk.new).faults ≡ (D.view disk.old).faults) }
     ensures no_fault_memory { IsErrOf result Fault.Memory → (D.view disk.new).faults ≡ (D.view disk.old).faults }
     ensures armed { (D.view disk.new).armed ≤ (D.view disk.old).armed }
+    ensures state { ((D.view disk.new).stopped ≡ (D.view disk.old).stopped) × ((D.view disk.new).armed ≡ (D.view disk.old).armed) }
 {
     let mut found = Vec::new(alloc);
     let mut end = 0;
@@ -67,6 +72,7 @@ fn read_record<D: Disk>(alloc: Global, disk: &mut D, at: u64) -> Result<Option<V
     ensures no_fault { OnOk result ((D.view disk.new).faults ≡ (D.view disk.old).faults) }
     ensures no_fault_memory { IsErrOf result Fault.Memory → (D.view disk.new).faults ≡ (D.view disk.old).faults }
     ensures armed { (D.view disk.new).armed ≤ (D.view disk.old).armed }
+    ensures state { ((D.view disk.new).stopped ≡ (D.view disk.old).stopped) × ((D.view disk.new).armed ≡ (D.view disk.old).armed) }
 {
     let left = disk.len() - at;
     if left < OVERHEAD + 1 {
@@ -100,6 +106,8 @@ fn gate_is_open<D: Disk>(disk: &mut D, end: u64) -> Result<bool, Fault>
     ensures faults { (D.view disk.old).faults ≤ (D.view disk.new).faults }
     ensures no_fault { OnOk result ((D.view disk.new).faults ≡ (D.view disk.old).faults) }
     ensures armed { (D.view disk.new).armed ≤ (D.view disk.old).armed }
+    ensures state { ((D.view disk.new).stopped ≡ (D.view disk.old).stopped) × ((D.view disk.new).armed ≡ (D.view disk.old).armed) }
+    ensures running { IfOk result (λ b. b ≡ false → (D.view disk.old).stopped ≡ false) }
 {
     if end == disk.len() {
         return Ok(true);
@@ -125,6 +133,9 @@ fn close_gate<D: Disk>(disk: &mut D, end: u64) -> Result<(), Fault>
     ensures faults { (D.view disk.old).faults ≤ (D.view disk.new).faults }
     ensures no_fault { OnOk result ((D.view disk.new).faults ≡ (D.view disk.old).faults) }
     ensures armed { (D.view disk.new).armed ≤ (D.view disk.old).armed }
+    ensures running { OnOk result ((D.view disk.new).stopped ≡ false) }
+    ensures one_write { ((D.view disk.new).armed ≡ (D.view disk.old).armed) ⊎ ((D.view disk.new).armed ≡ (D.view disk.old).armed - 1) }
+    ensures counted { OnOk result ((D.view disk.old).armed ≢ 1) }
 {
     write_synced(disk, end, &[CLOSED])?;
     Ok(())

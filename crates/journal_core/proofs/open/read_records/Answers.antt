@@ -24,6 +24,7 @@ loop-found-preserved g c =
       whole = subst (λ (ps : List (List ℕ)). Whole ps (end + (9 + c.len.result)) file) (sym pushed) (subst (λ (n : ℕ). Whole (payloads c.loop-found.found.items ++ v.items ∷ []) (end + (9 + n)) file) long whole);
       inside = omega (arith, there, long, ap length here);
       fits = omega (arith, rw c.in-Some.is at c.in_ok-payload.ensures.fits, long);
-      armed = omega arith;
+      armed = c.read_record.ensures.state.1 ∙ c.loop-found.invariant.armed;
+      stopped = c.read_record.ensures.state.0 ∙ c.loop-found.invariant.stopped;
       faults = c.in_ok-payload.ensures.no_fault ∙ c.loop-found.invariant.faults;
     }

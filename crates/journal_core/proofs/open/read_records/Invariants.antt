@@ -10,7 +10,8 @@ invariant-loop-found g l = record {
   whole : Whole (payloads l.found.items) l.end (content (g.D.Disk.view l.fn.disk).timeline.now);
   inside : l.end ≤ length (content (g.D.Disk.view l.fn.disk).timeline.now);
   fits : l.end + 1 < 2 ^ 64;
-  armed : (g.D.Disk.view l.disk).armed ≤ (g.D.Disk.view l.fn.disk).armed;
+  armed : (g.D.Disk.view l.disk).armed ≡ (g.D.Disk.view l.fn.disk).armed;
+  stopped : (g.D.Disk.view l.disk).stopped ≡ (g.D.Disk.view l.fn.disk).stopped;
   faults : (g.D.Disk.view l.disk).faults ≡ (g.D.Disk.view l.fn.disk).faults;
 }
 

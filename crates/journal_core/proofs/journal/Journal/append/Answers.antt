@@ -79,7 +79,7 @@ invariant_of-self-in-Ok g c =
     let pushed : payloads c.push_reserved.new.self.items ≡ ps ++ payload ∷ [] =
     ap payloads (c.push_reserved.ensures.items ∙ ap (λ (vs : List (Vec ℕ Global)). vs ++ c.in_ok-kept.kept ∷ []) c.reserve.ensures.items)
     ∙ payloads-push i.found.items c.in_ok-kept.kept ∙ ap (λ (p : List ℕ). ps ++ p ∷ []) copied in
-    let kept = kept_ok ps torn i.end i.shut disk.timeline new c.self.invariant c.if-self.false (payloads c.push_reserved.new.self.items) c.in-Ok.ensures.ok_synced payload pushed c.in-Ok.ensures.fits c.in-Ok.ensures.ok in
+    let kept = kept_ok ps torn i.end i.shut disk.timeline new c.self.invariant c.if-self.false (payloads c.push_reserved.new.self.items) c.in-Ok.ensures.ok_synced c.in-Ok.ensures.running payload pushed c.in-Ok.ensures.fits c.in-Ok.ensures.ok in
     kept
 
 pub returns-in-Ok-clause-survives : goal.returns-in-Ok-clause-survives
@@ -94,7 +94,7 @@ returns-in-Ok-clause-survives g c =
     let pushed : payloads c.push_reserved.new.self.items ≡ ps ++ payload ∷ [] =
     ap payloads (c.push_reserved.ensures.items ∙ ap (λ (vs : List (Vec ℕ Global)). vs ++ c.in_ok-kept.kept ∷ []) c.reserve.ensures.items)
     ∙ payloads-push i.found.items c.in_ok-kept.kept ∙ ap (λ (p : List ℕ). ps ++ p ∷ []) copied in
-    let kept = kept_ok ps torn i.end i.shut disk.timeline new c.self.invariant c.if-self.false (payloads c.push_reserved.new.self.items) c.in-Ok.ensures.ok_synced payload pushed c.in-Ok.ensures.fits c.in-Ok.ensures.ok in
+    let kept = kept_ok ps torn i.end i.shut disk.timeline new c.self.invariant c.if-self.false (payloads c.push_reserved.new.self.items) c.in-Ok.ensures.ok_synced c.in-Ok.ensures.running payload pushed c.in-Ok.ensures.fits c.in-Ok.ensures.ok in
     survives (payloads c.push_reserved.new.self.items) torn (i.end + (9 + length payload)) i.shut (g.D.Disk.view c.add.new.disk) kept
 
 pub returns-in-Ok-clause-durable : goal.returns-in-Ok-clause-durable
@@ -109,7 +109,7 @@ returns-in-Ok-clause-durable g c =
     let pushed : payloads c.push_reserved.new.self.items ≡ ps ++ payload ∷ [] =
     ap payloads (c.push_reserved.ensures.items ∙ ap (λ (vs : List (Vec ℕ Global)). vs ++ c.in_ok-kept.kept ∷ []) c.reserve.ensures.items)
     ∙ payloads-push i.found.items c.in_ok-kept.kept ∙ ap (λ (p : List ℕ). ps ++ p ∷ []) copied in
-    let kept = kept_ok ps torn i.end i.shut disk.timeline new c.self.invariant c.if-self.false (payloads c.push_reserved.new.self.items) c.in-Ok.ensures.ok_synced payload pushed c.in-Ok.ensures.fits c.in-Ok.ensures.ok in
+    let kept = kept_ok ps torn i.end i.shut disk.timeline new c.self.invariant c.if-self.false (payloads c.push_reserved.new.self.items) c.in-Ok.ensures.ok_synced c.in-Ok.ensures.running payload pushed c.in-Ok.ensures.fits c.in-Ok.ensures.ok in
     (survives (payloads c.push_reserved.new.self.items) torn (i.end + (9 + length payload)) i.shut (g.D.Disk.view c.add.new.disk) kept).exact c.if-self.false
 
 pub invariant_of-self-in-Memory-1 : goal.invariant_of-self-in-Memory-1
@@ -120,7 +120,7 @@ invariant_of-self-in-Memory-1 g c =
     let torn = option_map (λ (v : Vec ℕ Global). v.items) i.torn in
     let new = (g.D.Disk.view c.add.new.disk).timeline in
     let e = ap Err c.in-Err-Memory.field-0-is in
-    let kept = kept_memory ps torn i.end i.shut disk.timeline new c.self.invariant c.if-self.false (payloads c.reserve.new.self.items) (c.in-Err-Memory.ensures.memory_synced e) (ap payloads c.reserve.ensures.items) (c.in-Err-Memory.ensures.memory e) in
+    let kept = kept_memory ps torn i.end i.shut disk.timeline new c.self.invariant c.if-self.false (payloads c.reserve.new.self.items) (c.in-Err-Memory.ensures.memory_synced e) (c.in-Err-Memory.ensures.memory_running (c.self.invariant.running c.if-self.false) e) (ap payloads c.reserve.ensures.items) (c.in-Err-Memory.ensures.memory e) in
     kept
 
 pub returns-in-Err-Memory-clause-survives : goal.returns-in-Err-Memory-clause-survives
@@ -131,7 +131,7 @@ returns-in-Err-Memory-clause-survives g c =
     let torn = option_map (λ (v : Vec ℕ Global). v.items) i.torn in
     let new = (g.D.Disk.view c.add.new.disk).timeline in
     let e = ap Err c.in-Err-Memory.field-0-is in
-    let kept = kept_memory ps torn i.end i.shut disk.timeline new c.self.invariant c.if-self.false (payloads c.reserve.new.self.items) (c.in-Err-Memory.ensures.memory_synced e) (ap payloads c.reserve.ensures.items) (c.in-Err-Memory.ensures.memory e) in
+    let kept = kept_memory ps torn i.end i.shut disk.timeline new c.self.invariant c.if-self.false (payloads c.reserve.new.self.items) (c.in-Err-Memory.ensures.memory_synced e) (c.in-Err-Memory.ensures.memory_running (c.self.invariant.running c.if-self.false) e) (ap payloads c.reserve.ensures.items) (c.in-Err-Memory.ensures.memory e) in
     survives (payloads c.reserve.new.self.items) torn i.end i.shut (g.D.Disk.view c.add.new.disk) kept
 
 pub invariant_of-self-in-Err-Disk : goal.invariant_of-self-in-Err-Disk

@@ -60,4 +60,4 @@ invariant_of-self-in-Err-Memory g c =
     let k = ok_holds c.reopen.result _ (sym c.is_err.ensures.value ∙ c.if-is_err.false) c.reopen.ensures.ok in
     let mid = (g.D.Disk.view c.reopen.new.self).timeline in
     let new = (g.D.Disk.view c.scan.new.disk).timeline in
-    kept_reopened ps torn i.end i.shut disk.timeline mid c.self.invariant k.0 k.1 new (c.in-Err-Memory.ensures.memory (ap Err c.in-Err-Memory.field-0-is))
+    kept_reopened ps torn i.end i.shut disk.timeline mid c.self.invariant k.0 k.1 new (c.in-Err-Memory.ensures.memory (ap Err c.in-Err-Memory.field-0-is)) ((c.in-Err-Memory.ensures.memory_state (ap Err c.in-Err-Memory.field-0-is)).0 ∙ k.2)
