@@ -14,6 +14,8 @@ use Rattle.loglet_api.specs.View.{LogletView, operation_at}
 use Rattle.loglet_api.specs.Sound.{IsSound}
 use Rattle.loglet_api.specs.Step.{LogletStep}
 use Rattle.loglet_api.specs.Run.{LogletRun}
+use Rattle.loglet_api.specs.Servers.{ServersView}
+use Rattle.loglet_api.proofs.Keeps.{run_keeps}
 use Rattle.legal_journal.specs.declared.events.Event.{Event}
 use Rattle.legal_journal.specs.declared.events.FabricCall.{FabricCall}
 use Rattle.legal_journal.specs.declared.events.FabricCall.TheVariants.{Begin, Carry, Forget, Stop, Mend, Stray}
@@ -26,7 +28,7 @@ use Rattle.legal_journal.specs.Turns.{MayCall, IsOwner}
 use Rattle.legal_journal.proofs.Cells.{put_cases, put_same}
 use Rattle.legal_journal.proofs.Legal.{after_all-append, IsLegalFrom-join}
 use Rattle.fabric_core.specs.Runs.{LogletSteps, StepsOf, StepsOn, CellRun, HasRun, is_on}
-use Rattle.fabric_core.specs.CellEvent.{CellView, Happens, Serves, marks_after}
+use Rattle.fabric_core.specs.CellEvent.{CellView, Worked, Happens, Serves, marks_after}
 use Rattle.fabric_core.specs.Fabric.{FabricView, FabricOk, CellOk, IsAsTold, AreMarked, IsMarked, IsRegisterAsTold}
 use Rattle.fabric_core.proofs.AsTold.{told_open, has_room, begun_as_told, moved_as_told, moved_left, carried_as_told, carried_few, answered_as_told, dropped_as_told}
 use Rattle.fabric_core.proofs.Ran.{register_same, off_register}
@@ -36,13 +38,24 @@ run_more : (i : ℕ) (o v now : LogletView) (es : List Event) (e : Event) (steps
 run_more i o v now [] e steps h s r = (now, (steps, s, subst (λ x. LogletRun x steps now) h r), refl)
 run_more i o v now (x ∷ es) e steps h s r = (h.0, h.1, run_more i h.0 v now es e steps h.2 s r)
 
-pub has_run_more : (i : ℕ) (v now : LogletView) (es : List Event) (e : Event) (steps : LogletSteps) → HasRun i es v → StepsOn i e steps → LogletRun v steps now → now.servers ≡ v.servers → HasRun i (es ++ e ∷ []) now
-has_run_more i v now es e steps h s r same = record { opening = h.opening; fresh = h.fresh; servers = same ∙ h.servers; run = run_more i h.opening v now es e steps h.run s r }
+pub has_run_more : (i : ℕ) (v now : LogletView) (es : List Event) (e : Event) (steps : LogletSteps) → HasRun i es v → StepsOn i e steps → LogletRun v steps now → HasRun i (es ++ e ∷ []) now
+has_run_more i v now es e steps h s r =
+    let k = run_keeps v steps now r in record {
+      opening = h.opening;
+      fresh = h.fresh;
+      kind = k.kind ∙ h.kind;
+      servers = k.servers ∙ h.servers;
+      quorum = k.quorum ∙ h.quorum;
+      room = k.room ∙ h.room;
+      rounds = k.rounds ∙ h.rounds;
+      limit = k.limit ∙ h.limit;
+      run = run_more i h.opening v now es e steps h.run s r;
+    }
 
 -- an event of another cell, or of the register
 pub has_run_same : (i : ℕ) (v : LogletView) (es : List Event) (e : Event) → HasRun i es v → is_on i e.call ≡ false → HasRun i (es ++ e ∷ []) v
 has_run_same i v es e h off =
-    has_run_more i v v es e [] h (subst (λ b. MatchBool b (StepsOf e.call e.answer []) (◌≡◌ {A = LogletSteps} [] [])) (sym off) refl) refl refl
+    has_run_more i v v es e [] h (subst (λ b. MatchBool b (StepsOf e.call e.answer []) (◌≡◌ {A = LogletSteps} [] [])) (sym off) refl) refl
 
 -- faults count nothing that is told
 faulted : (c : CellState) (v now : LogletView) (n : ℕ) → IsAsTold c v → now ≡ record v { faults = n } → IsSound now → IsAsTold c now
@@ -78,12 +91,12 @@ module _ (may : ℕ → Entry → Type 0) (floor : List Entry → ℕ → Type 0
   pub state_more : (j : List Event) (e : Event) → state_of (j ++ e ∷ []) ≡ after (state_of j) e.who (move e)
   state_more j e = after_all-append start j (e ∷ [])
 
-  module _ (f : FabricView) (marks : List (List Bool)) (ok : FabricOk may floor shelf f marks) (i : ℕ) (v : LogletView) (here : List Bool) (at : slice_get f.cells i ≡ Some v) (marked_at : slice_get marks i ≡ Some here) where
+  module _ (f : FabricView) (marks : List (List Bool)) (ok : FabricOk may floor shelf f marks) (i : ℕ) (v : LogletView) (held : ServersView) (here : List Bool) (at : slice_get f.cells i ≡ Some v) (marked_at : slice_get marks i ≡ Some here) where
     here_is : (j : ℕ) → (j == j) ≡ true
     here_is j = grind (arith, nat_tests)
 
     -- one cell takes its steps, and all else stays
-    on_cell : (e : Event) → MayHappen (state_of f.journal) may floor shelf e → (c : CellState) → ((j : ℕ) → (after (state_of f.journal) e.who (move e)).cells j ≡ put (state_of f.journal).cells i c j) → (after (state_of f.journal) e.who (move e)).register ≡ (state_of f.journal).register → ((j : ℕ) → is_on j e.call ≡ (j == i)) → (now : LogletView) (there : List Bool) → IsAsTold c now → AreMarked c there → now.servers ≡ v.servers → (steps : LogletSteps) → StepsOf e.call e.answer steps → LogletRun v steps now → FabricOk may floor shelf (record { cells = slice_set f.cells i now; register = f.register; journal = f.journal ++ e ∷ [] }) (slice_set marks i there)
+    on_cell : (e : Event) → MayHappen (state_of f.journal) may floor shelf e → (c : CellState) → ((j : ℕ) → (after (state_of f.journal) e.who (move e)).cells j ≡ put (state_of f.journal).cells i c j) → (after (state_of f.journal) e.who (move e)).register ≡ (state_of f.journal).register → ((j : ℕ) → is_on j e.call ≡ (j == i)) → (now : LogletView) (there : List Bool) → IsAsTold c now → AreMarked c there → now.servers ≡ v.servers → (steps : LogletSteps) → StepsOf e.call e.answer steps → LogletRun v steps now → FabricOk may floor shelf (record { cells = slice_set f.cells i now; serving = f.serving; register = f.register; journal = f.journal ++ e ∷ [] }) (slice_set marks i there)
     on_cell e can c cells_are register_is on now there told marked servers steps are run =
         let w = state_of f.journal in
         let next = state_more f.journal e in record {
@@ -111,7 +124,7 @@ module _ (may : ℕ → Entry → Type 0) (floor : List Entry → ℕ → Type 0
               ran = subst (λ y. HasRun j (f.journal ++ e ∷ []) y) (sym is_now)
                   (subst (λ k. HasRun k (f.journal ++ e ∷ []) now) (sym same)
                   (has_run_more i v now f.journal e steps (ok.cells i v at).ran
-                  (subst (λ t. MatchBool t (StepsOf e.call e.answer steps) (steps ≡ [])) (sym (subst (λ k. is_on k e.call ≡ true) same (on j ∙ b))) are) run servers));
+                  (subst (λ t. MatchBool t (StepsOf e.call e.answer steps) (steps ≡ [])) (sym (subst (λ k. is_on k e.call ≡ true) same (on j ∙ b))) are) run));
             }
         by_place j x g false b =
             let apart : j ≢ i = grind (arith, nat_tests) in
@@ -137,7 +150,7 @@ module _ (may : ℕ → Entry → Type 0) (floor : List Entry → ℕ → Type 0
 
     -- what the fabric is after an event of the cell
     abbrev pub IsAfter : CellView → Type 0
-    IsAfter new = FabricOk may floor shelf (record { cells = slice_set f.cells i new.loglet; register = f.register; journal = new.journal }) (slice_set marks i new.marks)
+    IsAfter new = FabricOk may floor shelf (record { cells = slice_set f.cells i new.loglet; serving = f.serving; register = f.register; journal = new.journal }) (slice_set marks i new.marks)
 
     same_cells : (j : ℕ) → (state_of f.journal).cells j ≡ put (state_of f.journal).cells i ((state_of f.journal).cells i) j
     same_cells j = put_cases (λ (y : CellState). (state_of f.journal).cells j ≡ y) (state_of f.journal).cells i ((state_of f.journal).cells i) j (λ e. ap (state_of f.journal).cells e) (λ _. refl)
@@ -146,10 +159,10 @@ module _ (may : ℕ → Entry → Type 0) (floor : List Entry → ℕ → Type 0
     only : (lc : LogletCall) (la : LogletAnswer) (now : LogletView) → LogletRun v ((lc, la) ∷ []) now → LogletStep v lc la now
     only lc la now r = subst (LogletStep v lc la) (sym r.2) r.1
 
-    recorded : (new : CellView) (e : Event) → new.journal ≡ f.journal ++ e ∷ [] → IsAfter (record { loglet = new.loglet; marks = new.marks; journal = f.journal ++ e ∷ [] }) → IsAfter new
-    recorded new e is h = subst (λ j. IsAfter (record { loglet = new.loglet; marks = new.marks; journal = j })) (sym is) h
+    recorded : (new : CellView) (e : Event) → new.journal ≡ f.journal ++ e ∷ [] → IsAfter (record { loglet = new.loglet; serving = new.serving; marks = new.marks; journal = f.journal ++ e ∷ [] }) → IsAfter new
+    recorded new e is h = subst (λ j. IsAfter (record { loglet = new.loglet; serving = new.serving; marks = new.marks; journal = j })) (sym is) h
 
-    pub begin_kept : (who : ℕ) (op : Op) (a : FabricAnswer) (new : CellView) → MayCall (state_of f.journal) may floor shelf who (Begin i op) → Happens (record { loglet = v; marks = here; journal = f.journal }) who (Begin i op) a new → IsAfter new
+    pub begin_kept : (who : ℕ) (op : Op) (a : FabricAnswer) (new : CellView) → MayCall (state_of f.journal) may floor shelf who (Begin i op) → Happens (record { loglet = v; serving = held; marks = here; journal = f.journal }) who (Begin i op) a new → IsAfter new
     begin_kept who op (Begun t) new can h =
         let e : Event = record { who = who; call = Begin i op; answer = Begun t } in
         let s = only (call.Begin op) (answer.Begun t) new.loglet (subst (λ x. LogletRun v x new.loglet) h.are h.run) in
@@ -176,7 +189,7 @@ module _ (may : ℕ → Entry → Type 0) (floor : List Entry → ℕ → Type 0
     own who t r owner e = record { is_open = e; own = owner r e }
 
     -- the operation is answered, from a view that tells the same
-    answered_from : (who t word : ℕ) (a : Answer) (mid : LogletView) (new : CellView) → MayCall (state_of f.journal) may floor shelf who (Carry i t word) → Happens (record { loglet = v; marks = here; journal = f.journal }) who (Carry i t word) (Done a) new → IsAsTold ((state_of f.journal).cells i) mid → mid.servers ≡ v.servers → LogletStep mid (call.Take t) (answer.Taken (Some a)) new.loglet → IsAfter new
+    answered_from : (who t word : ℕ) (a : Answer) (mid : LogletView) (new : CellView) → MayCall (state_of f.journal) may floor shelf who (Carry i t word) → Happens (record { loglet = v; serving = held; marks = here; journal = f.journal }) who (Carry i t word) (Done a) new → IsAsTold ((state_of f.journal).cells i) mid → mid.servers ≡ v.servers → LogletStep mid (call.Take t) (answer.Taken (Some a)) new.loglet → IsAfter new
     answered_from who t word a mid new can h m servers s =
         let e : Event = record { who = who; call = Carry i t word; answer = Done a } in
         let c = (state_of f.journal).cells i in
@@ -190,7 +203,7 @@ module _ (may : ℕ → Entry → Type 0) (floor : List Entry → ℕ → Type 0
         (ap (λ (x : LogletView). x.servers) s.does.rest ∙ servers) h.steps h.are h.run)
 
     -- the operation is closed without its answer
-    dropped_from : (who t word : ℕ) (mid : LogletView) (c : FabricCall) (a : FabricAnswer) (new : CellView) → move_of c a ≡ OnCell i (Drops t) → Exists shelf c → IsOwner (state_of f.journal) who i t → ((j : ℕ) → is_on j c ≡ (j == i)) → marks_after here c a ≡ slice_set here t false → Happens (record { loglet = v; marks = here; journal = f.journal }) who c a new → IsAsTold ((state_of f.journal).cells i) mid → mid.servers ≡ v.servers → LogletStep mid (call.Forget t) answer.Forgotten new.loglet → IsAfter new
+    dropped_from : (who t word : ℕ) (mid : LogletView) (c : FabricCall) (a : FabricAnswer) (new : CellView) → move_of c a ≡ OnCell i (Drops t) → Exists shelf c → IsOwner (state_of f.journal) who i t → ((j : ℕ) → is_on j c ≡ (j == i)) → marks_after here c a ≡ slice_set here t false → Happens (record { loglet = v; serving = held; marks = here; journal = f.journal }) who c a new → IsAsTold ((state_of f.journal).cells i) mid → mid.servers ≡ v.servers → LogletStep mid (call.Forget t) answer.Forgotten new.loglet → IsAfter new
     dropped_from who t word mid fc a new drops there owner on marks_are h m servers s =
         let e : Event = record { who = who; call = fc; answer = a } in
         let c = (state_of f.journal).cells i in
@@ -204,7 +217,7 @@ module _ (may : ℕ → Entry → Type 0) (floor : List Entry → ℕ → Type 0
         (ap (λ (x : LogletView). x.servers) s.does.rest ∙ servers) h.steps h.are h.run)
 
     -- the ticket isn't open, and the loglet isn't called
-    missed_by : (who t : ℕ) (c : FabricCall) (a : FabricAnswer) (new : CellView) → move_of c a ≡ OnCell i (Misses t) → Exists shelf c → ((j : ℕ) → is_on j c ≡ (j == i)) → marks_after here c a ≡ here → slice_get here t ≢ Some true → (h : Happens (record { loglet = v; marks = here; journal = f.journal }) who c a new) → h.steps ≡ [] → IsAfter new
+    missed_by : (who t : ℕ) (c : FabricCall) (a : FabricAnswer) (new : CellView) → move_of c a ≡ OnCell i (Misses t) → Exists shelf c → ((j : ℕ) → is_on j c ≡ (j == i)) → marks_after here c a ≡ here → slice_get here t ≢ Some true → (h : Happens (record { loglet = v; serving = held; marks = here; journal = f.journal }) who c a new) → h.steps ≡ [] → IsAfter new
     missed_by who t fc a new misses there on marks_are not_open h none =
         let e : Event = record { who = who; call = fc; answer = a } in
         let c = (state_of f.journal).cells i in
@@ -224,7 +237,7 @@ module _ (may : ℕ → Entry → Type 0) (floor : List Entry → ℕ → Type 0
         let c = (state_of f.journal).cells i in
         moved_as_told c v told_now c mid refl s.does.moves s.after (moved_left c v told_now mid s.does.moves s.after)
 
-    pub carry_kept : (who t word : ℕ) (a : FabricAnswer) (new : CellView) → MayCall (state_of f.journal) may floor shelf who (Carry i t word) → Happens (record { loglet = v; marks = here; journal = f.journal }) who (Carry i t word) a new → IsAfter new
+    pub carry_kept : (who t word : ℕ) (a : FabricAnswer) (new : CellView) → MayCall (state_of f.journal) may floor shelf who (Carry i t word) → Happens (record { loglet = v; serving = held; marks = here; journal = f.journal }) who (Carry i t word) a new → IsAfter new
     carry_kept who t word Going new can h =
         let e : Event = record { who = who; call = Carry i t word; answer = Going } in
         let c = (state_of f.journal).cells i in
@@ -260,7 +273,7 @@ module _ (may : ℕ → Entry → Type 0) (floor : List Entry → ℕ → Type 0
     carry_kept who t word NoTicket new can h = missed_by who t (Carry i t word) NoTicket new refl can.there (λ j. refl) refl h.missed h h.are
     carry_kept who t word a new can h = absurd h.are
 
-    pub forget_kept : (who t : ℕ) (a : FabricAnswer) (new : CellView) → MayCall (state_of f.journal) may floor shelf who (Forget i t) → Happens (record { loglet = v; marks = here; journal = f.journal }) who (Forget i t) a new → IsAfter new
+    pub forget_kept : (who t : ℕ) (a : FabricAnswer) (new : CellView) → MayCall (state_of f.journal) may floor shelf who (Forget i t) → Happens (record { loglet = v; serving = held; marks = here; journal = f.journal }) who (Forget i t) a new → IsAfter new
     forget_kept who t Gone new can h =
         dropped_from who t 0 v (Forget i t) Gone new refl can.there can.asks (λ j. refl) refl h told_now refl (only (call.Forget t) answer.Forgotten new.loglet (subst (λ y. LogletRun v y new.loglet) h.are h.run))
     forget_kept who t NoTicket new can h = missed_by who t (Forget i t) NoTicket new refl can.there (λ j. refl) refl h.missed h h.are
@@ -268,32 +281,32 @@ module _ (may : ℕ → Entry → Type 0) (floor : List Entry → ℕ → Type 0
 
     -- Events that open and close no ticket.
 
-    served : (who : ℕ) (c : FabricCall) (a : FabricAnswer) (now : LogletView) (journal : List Event) → MayHappen (state_of f.journal) may floor shelf (record { who = who; call = c; answer = a }) → ((j : ℕ) → (after (state_of f.journal) who (move_of c a)).cells j ≡ (state_of f.journal).cells j) → (after (state_of f.journal) who (move_of c a)).register ≡ (state_of f.journal).register → ((j : ℕ) → is_on j c ≡ (j == i)) → Serves v f.journal who c a now journal → IsAsTold ((state_of f.journal).cells i) now → now.servers ≡ v.servers → IsAfter (record { loglet = now; marks = here; journal = journal })
-    served who c a now journal can cells register on h told servers =
-        recorded (record { loglet = now; marks = here; journal = journal }) (record { who = who; call = c; answer = a }) h.recorded
+    served : (who : ℕ) (c : FabricCall) (a : FabricAnswer) (now : LogletView) (holds : ServersView) (journal : List Event) → MayHappen (state_of f.journal) may floor shelf (record { who = who; call = c; answer = a }) → ((j : ℕ) → (after (state_of f.journal) who (move_of c a)).cells j ≡ (state_of f.journal).cells j) → (after (state_of f.journal) who (move_of c a)).register ≡ (state_of f.journal).register → ((j : ℕ) → is_on j c ≡ (j == i)) → Serves (record { loglet = v; serving = held }) f.journal who c a (record { loglet = now; serving = holds }) journal → IsAsTold ((state_of f.journal).cells i) now → now.servers ≡ v.servers → IsAfter (record { loglet = now; serving = holds; marks = here; journal = journal })
+    served who c a now holds journal can cells register on h told servers =
+        recorded (record { loglet = now; serving = holds; marks = here; journal = journal }) (record { who = who; call = c; answer = a }) h.recorded
         (on_cell (record { who = who; call = c; answer = a }) can ((state_of f.journal).cells i) (λ j. cells j ∙ same_cells j) register on now here told marked_now servers h.steps h.are h.run)
 
-    pub stop_kept : (who server n : ℕ) (a : FabricAnswer) (now : LogletView) (journal : List Event) → MayCall (state_of f.journal) may floor shelf who (Stop i server n) → Serves v f.journal who (Stop i server n) a now journal → IsAfter (record { loglet = now; marks = here; journal = journal })
-    stop_kept who server n (Set true) now journal can h =
+    pub stop_kept : (who server n : ℕ) (a : FabricAnswer) (now : LogletView) (holds : ServersView) (journal : List Event) → MayCall (state_of f.journal) may floor shelf who (Stop i server n) → Serves (record { loglet = v; serving = held }) f.journal who (Stop i server n) a (record { loglet = now; serving = holds }) journal → IsAfter (record { loglet = now; serving = holds; marks = here; journal = journal })
+    stop_kept who server n (Set true) now holds journal can h =
         let s = only (call.Stop server n) answer.Stopped now (subst (λ x. LogletRun v x now) h.are h.run) in
-        served who (Stop i server n) (Set true) now journal (record { there = can.there; allowed = tt }) (λ j. refl) refl (λ j. refl) h
+        served who (Stop i server n) (Set true) now holds journal (record { there = can.there; allowed = tt }) (λ j. refl) refl (λ j. refl) h
         (subst (IsAsTold ((state_of f.journal).cells i)) (sym s.does) told_now) (ap (λ (x : LogletView). x.servers) s.does)
-    stop_kept who server n a now journal can h = absurd h.are
+    stop_kept who server n a now holds journal can h = absurd h.are
 
-    pub mend_kept : (who server word : ℕ) (a : FabricAnswer) (now : LogletView) (journal : List Event) → MayCall (state_of f.journal) may floor shelf who (Mend i server word) → Serves v f.journal who (Mend i server word) a now journal → IsAfter (record { loglet = now; marks = here; journal = journal })
-    mend_kept who server word (Set b) now journal can h =
+    pub mend_kept : (who server word : ℕ) (a : FabricAnswer) (now : LogletView) (holds : ServersView) (journal : List Event) → MayCall (state_of f.journal) may floor shelf who (Mend i server word) → Serves (record { loglet = v; serving = held }) f.journal who (Mend i server word) a (record { loglet = now; serving = holds }) journal → IsAfter (record { loglet = now; serving = holds; marks = here; journal = journal })
+    mend_kept who server word (Set b) now holds journal can h =
         let c = (state_of f.journal).cells i in
         let s = only (call.Restart server word) (answer.Restarted b) now (subst (λ x. LogletRun v x now) h.are h.run) in
-        served who (Mend i server word) (Set b) now journal (record { there = can.there; allowed = tt }) (λ j. refl) refl (λ j. refl) h
+        served who (Mend i server word) (Set b) now holds journal (record { there = can.there; allowed = tt }) (λ j. refl) refl (λ j. refl) h
         (moved_as_told c v told_now c now refl s.does.moves s.after (moved_left c v told_now now s.does.moves s.after))
         (ap (λ (x : LogletView). x.servers) s.does.moves.rest)
-    mend_kept who server word a now journal can h = absurd h.are
+    mend_kept who server word a now holds journal can h = absurd h.are
 
-    pub stray_kept : (who word : ℕ) (a : FabricAnswer) (now : LogletView) (journal : List Event) → MayCall (state_of f.journal) may floor shelf who (Stray i word) → Serves v f.journal who (Stray i word) a now journal → IsAfter (record { loglet = now; marks = here; journal = journal })
-    stray_kept who word (Set true) now journal can h =
+    pub stray_kept : (who word : ℕ) (a : FabricAnswer) (now : LogletView) (holds : ServersView) (journal : List Event) → MayCall (state_of f.journal) may floor shelf who (Stray i word) → Serves (record { loglet = v; serving = held }) f.journal who (Stray i word) a (record { loglet = now; serving = holds }) journal → IsAfter (record { loglet = now; serving = holds; marks = here; journal = journal })
+    stray_kept who word (Set true) now holds journal can h =
         let c = (state_of f.journal).cells i in
         let s = only (call.Stray word) answer.Strayed now (subst (λ x. LogletRun v x now) h.are h.run) in
-        served who (Stray i word) (Set true) now journal (record { there = can.there; allowed = tt }) (λ j. refl) refl (λ j. refl) h
+        served who (Stray i word) (Set true) now holds journal (record { there = can.there; allowed = tt }) (λ j. refl) refl (λ j. refl) h
         (moved_as_told c v told_now c now refl s.does s.after (moved_left c v told_now now s.does s.after))
         (ap (λ (x : LogletView). x.servers) s.does.rest)
-    stray_kept who word a now journal can h = absurd h.are
+    stray_kept who word a now holds journal can h = absurd h.are

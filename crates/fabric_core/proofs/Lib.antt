@@ -3,6 +3,7 @@ pub mod Carried
 pub mod AsTold
 pub mod Marks
 pub mod Ran
+pub mod Acts
 pub mod Registers
 pub mod Kept
 pub mod Shelf

@@ -7,6 +7,7 @@ use Rattle.std.proofs.lemmas.Option.{slice_get_within}
 use Rattle.delos_types.specs.declared.entry.Entry.{Entry}
 use Rattle.loglet_api.specs.View.{LogletView, operation_at, IsFresh}
 use Rattle.loglet_api.specs.Sound.{IsSound}
+use Rattle.loglet_api.specs.Servers.{ServersView}
 use Rattle.legal_journal.specs.Journal.{fresh_cell}
 use Rattle.register_api.specs.View.{RegisterView}
 use Rattle.register_api.specs.View as register_view
@@ -41,8 +42,8 @@ fresh_as_told v f sound = record {
 no_mark : (t : ℕ) → slice_get {X = Bool} [] t ≢ Some true
 no_mark t e = absurd (cc)
 
-pub opened : (may : ℕ → Entry → Type 0) (floor : List Entry → ℕ → Type 0) (shelf : List ℕ) {A B : Type 0} (view : A → LogletView) (items : B → List Bool) (cells : List A) (marks : List B) (register : RegisterView) → 0 < length cells → length cells ≤ 64 → map (λ v. v.servers) (map view cells) ≡ shelf → All (λ l. IsFresh (view l)) cells → All (λ l. IsSound (view l)) cells → register_view.IsFresh register → length marks ≡ length cells → All (λ m. items m ≡ []) marks → FabricOk may floor shelf (record { cells = map view cells; register = register; journal = [] }) (map items marks)
-opened may floor shelf view items cells marks register least most shelf_is fresh sound r count none =
+pub opened : (may : ℕ → Entry → Type 0) (floor : List Entry → ℕ → Type 0) (shelf : List ℕ) {A B : Type 0} (view : A → LogletView) (serving : A → ServersView) (items : B → List Bool) (cells : List A) (marks : List B) (register : RegisterView) → 0 < length cells → length cells ≤ 64 → map (λ v. v.servers) (map view cells) ≡ shelf → All (λ l. IsFresh (view l)) cells → All (λ l. IsSound (view l)) cells → register_view.IsFresh register → length marks ≡ length cells → All (λ m. items m ≡ []) marks → FabricOk may floor shelf (record { cells = map view cells; serving = map serving cells; register = register; journal = [] }) (map items marks)
+opened may floor shelf view serving items cells marks register least most shelf_is fresh sound r count none =
     let size : length shelf ≡ length cells = sym (ap length shelf_is) ∙ (length-map (map view cells) (λ (v : LogletView). v.servers) ∙ length-map cells view) in record {
       legal = record { least = omega arith; most = omega arith; steps = tt };
       shelf_is = shelf_is;
@@ -52,7 +53,7 @@ opened may floor shelf view items cells marks register least most shelf_is fresh
             here = [];
             is = all_none items marks i (omega (arith, slice_get_within (map view cells) i v e, length-map cells view)) none;
             marked = record { count = refl; each = no_mark };
-            ran = record { opening = v; fresh = f; servers = refl; run = refl };
+            ran = record { opening = v; fresh = f; kind = refl; servers = refl; quorum = refl; room = refl; rounds = refl; limit = refl; run = refl };
           };
       register = record {
         down = r.down;

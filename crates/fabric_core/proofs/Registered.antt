@@ -1,5 +1,5 @@
 -- A fabric goes on after an event of its register.
-use Rattle.std.proofs.Common.{◌≡◌, ℕ, ◌+◌, ◌<◌, ◌^◌, List, [], ◌∷◌, ◌++◌, length, Bool, true, false, refl, sym, ap, ◌∙◌, subst, ⊎_elim, arith}
+use Rattle.std.proofs.Common.{◌≡◌, inl, inr, ℕ, ◌+◌, ◌<◌, ◌^◌, List, [], ◌∷◌, ◌++◌, length, Bool, true, false, refl, sym, ap, ◌∙◌, subst, ⊎_elim, arith}
 use Rattle.std.proofs.lemmas.List.{length-append}
 use Rattle.delos_types.specs.declared.entry.Entry.{Entry}
 use Rattle.delos_types.specs.declared.chain.Chain.{Chain}
@@ -19,7 +19,8 @@ use Rattle.fabric_core.specs.Runs.{RegisterDoes, is_on, is_on_register}
 use Rattle.fabric_core.specs.RegisterEvent.{RegisterActs, RegisterApplies}
 use Rattle.fabric_core.specs.Fabric.{FabricView, FabricOk, IsAsTold, AreMarked, IsRegisterAsTold, Keeps}
 use Rattle.fabric_core.proofs.Ran.{register_more}
-use Rattle.fabric_core.proofs.Registers.{counted, current_is, given_told, written_told, failed_told, mended_told, missed_told, may_stand, expected, small_version}
+use Rattle.fabric_core.proofs.Acts.{register_acts}
+use Rattle.fabric_core.proofs.Registers.{counted, current_is, given_told, written_told, failed_told, armed_told, mended_told, missed_told, may_stand, expected, small_version}
 use Rattle.fabric_core.proofs.Kept.{legal_more, state_more, has_run_same}
 use Rattle.fabric_core.proofs.Shelf.{adds_none}
 
@@ -28,7 +29,7 @@ module _ (may : ℕ → Entry → Type 0) (floor : List Entry → ℕ → Type 0
   state_ok = sound may floor shelf f.journal ok.legal
 
   -- the event is of no cell
-  off_cells : (e : Event) → MayHappen (state_of f.journal) may floor shelf e → ((j : ℕ) → (after (state_of f.journal) e.who (move e)).cells j ≡ (state_of f.journal).cells j) → ((j : ℕ) → is_on j e.call ≡ false) → is_on_register e.call ≡ true → (r : RegisterView) → RegisterDoes f.register e.call e.answer r → IsRegisterAsTold (after (state_of f.journal) e.who (move e)).register r → FabricOk may floor shelf (record { cells = f.cells; register = r; journal = f.journal ++ e ∷ [] }) marks
+  off_cells : (e : Event) → MayHappen (state_of f.journal) may floor shelf e → ((j : ℕ) → (after (state_of f.journal) e.who (move e)).cells j ≡ (state_of f.journal).cells j) → ((j : ℕ) → is_on j e.call ≡ false) → is_on_register e.call ≡ true → (r : RegisterView) → RegisterDoes f.register e.call e.answer r → IsRegisterAsTold (after (state_of f.journal) e.who (move e)).register r → FabricOk may floor shelf (record { cells = f.cells; serving = f.serving; register = r; journal = f.journal ++ e ∷ [] }) marks
   off_cells e can same off on r does register =
       let next = state_more may floor shelf f.journal e in record {
         legal = legal_more may floor shelf f.journal e ok.legal can;
@@ -47,32 +48,34 @@ module _ (may : ℕ → Entry → Type 0) (floor : List Entry → ℕ → Type 0
       }
 
   pub record Goes (who : ℕ) (call : FabricCall) (answer : FabricAnswer) (r : RegisterView) (journal : List Event) : Type 0 where
-    pub now : FabricOk may floor shelf (record { cells = f.cells; register = r; journal = journal }) marks
-    pub keeps : Keeps may floor shelf f who call answer (record { cells = f.cells; register = r; journal = journal })
+    pub now : FabricOk may floor shelf (record { cells = f.cells; serving = f.serving; register = r; journal = journal }) marks
+    pub keeps : Keeps may floor shelf f who call answer (record { cells = f.cells; serving = f.serving; register = r; journal = journal })
 
   -- one event is recorded
   acted : (who : ℕ) (call : FabricCall) (answer : FabricAnswer) (r : RegisterView) (journal : List Event) → MayHappen (state_of f.journal) may floor shelf (record { who = who; call = call; answer = answer }) → ((j : ℕ) → (after (state_of f.journal) who (move_of call answer)).cells j ≡ (state_of f.journal).cells j) → ((j : ℕ) → is_on j call ≡ false) → is_on_register call ≡ true → OwnEvents who call answer (record { who = who; call = call; answer = answer } ∷ []) → RegisterActs f.register f.journal who call answer r journal → IsRegisterAsTold (after (state_of f.journal) who (move_of call answer)).register r → Goes who call answer r journal
   acted who call answer r journal can same off on own h told =
       let e : Event = record { who = who; call = call; answer = answer } in
-      let all : FabricOk may floor shelf (record { cells = f.cells; register = r; journal = journal }) marks = subst (λ j. FabricOk may floor shelf (record { cells = f.cells; register = r; journal = j }) marks) (sym h.recorded) (off_cells e can same off on r h.does told) in record {
+      let all : FabricOk may floor shelf (record { cells = f.cells; serving = f.serving; register = r; journal = journal }) marks = subst (λ j. FabricOk may floor shelf (record { cells = f.cells; serving = f.serving; register = r; journal = j }) marks) (sym h.recorded) (off_cells e can same off on r h.does told) in record {
         now = all;
         keeps = record {
           adds = record { own = e ∷ []; event = own; added = h.recorded };
           legal = all.legal;
           same = λ x. absurd (omega (arith, ap length x, ap length h.recorded, length-append f.journal (e ∷ [])));
+          acts = inr (register_acts f (record { cells = f.cells; serving = f.serving; register = r; journal = journal }) call answer off on refl refl h.does);
         };
       }
 
   -- no event
   unheard : (who : ℕ) (call : FabricCall) (answer : FabricAnswer) (r : RegisterView) (journal : List Event) → answer ≡ Memory → r ≡ f.register → journal ≡ f.journal → Goes who call answer r journal
   unheard who call answer r journal memory same is =
-      let unchanged : ◌≡◌ {A = FabricView} (record { cells = f.cells; register = r; journal = journal }) f = ap (λ x. record { cells = f.cells; register = x; journal = journal }) same ∙ ap (λ x. record { cells = f.cells; register = f.register; journal = x }) is in
+      let unchanged : ◌≡◌ {A = FabricView} (record { cells = f.cells; serving = f.serving; register = r; journal = journal }) f = ap (λ x. record { cells = f.cells; serving = f.serving; register = x; journal = journal }) same ∙ ap (λ x. record { cells = f.cells; serving = f.serving; register = f.register; journal = x }) is in
       let all = subst (λ (x : FabricView). FabricOk may floor shelf x marks) (sym unchanged) ok in record {
         now = all;
         keeps = record {
           adds = adds_none who call f.journal journal answer memory is;
           legal = all.legal;
           same = λ _. unchanged;
+          acts = inl unchanged;
         };
       }
 
@@ -134,7 +137,7 @@ module _ (may : ℕ → Entry → Type 0) (floor : List Entry → ℕ → Type 0
   arm_acts : (who n : ℕ) (answer : FabricAnswer) (r : RegisterView) (journal : List Event) → RegisterActs f.register f.journal who (StopMeta n) answer r journal → Goes who (StopMeta n) answer r journal
   arm_acts who n (Set true) r journal h =
       acted who (StopMeta n) (Set true) r journal (record { there = tt; allowed = tt }) (λ j. refl) (λ j. refl) refl refl h
-      (subst (IsRegisterAsTold (state_of f.journal).register) (sym h.does) ok.register)
+      (armed_told (state_of f.journal).register f.register ok.register r n h.does)
   arm_acts who n answer r journal h = absurd h.does
 
   pub arm_goes : (who n : ℕ) (answer : FabricAnswer) (r : RegisterView) (journal : List Event) → RegisterApplies f.register f.journal who (StopMeta n) answer r journal → Goes who (StopMeta n) answer r journal
@@ -146,10 +149,10 @@ module _ (may : ℕ → Entry → Type 0) (floor : List Entry → ℕ → Type 0
   reopen_acts : (who word : ℕ) (answer : FabricAnswer) (r : RegisterView) (journal : List Event) → RegisterActs f.register f.journal who (MendMeta word) answer r journal → Goes who (MendMeta word) answer r journal
   reopen_acts who word (Set true) r journal h =
       acted who (MendMeta word) (Set true) r journal (record { there = tt; allowed = tt }) (λ j. refl) (λ j. refl) refl refl h
-      (mended_told (state_of f.journal).register f.register ok.register r h.does.2.0 h.does.2.1)
+      (mended_told (state_of f.journal).register f.register ok.register r h.does.1.0 word h.does.1.1)
   reopen_acts who word (Set false) r journal h =
       acted who (MendMeta word) (Set false) r journal (record { there = tt; allowed = tt }) (λ j. refl) (λ j. refl) refl refl h
-      (missed_told (state_of f.journal).register f.register ok.register r _ _ h.does.2)
+      (missed_told (state_of f.journal).register f.register ok.register r _ _ word h.does.2)
   reopen_acts who word answer r journal h = absurd h.does
 
   pub reopen_goes : (who word : ℕ) (answer : FabricAnswer) (r : RegisterView) (journal : List Event) → RegisterApplies f.register f.journal who (MendMeta word) answer r journal → Goes who (MendMeta word) answer r journal

@@ -6,7 +6,7 @@ use Rattle.delos_types.specs.declared.entry.Entry.{Entry}
 use Rattle.delos_types.specs.declared.chain.Chain.{Chain}
 use Rattle.chain_map.specs.Chain.{is_chain}
 use Rattle.chain_map.proofs.Changes.{is_chain-extended, is_chain-dropped}
-use Rattle.register_api.specs.View.{RegisterView, IsSound}
+use Rattle.register_api.specs.View.{RegisterView, IsSound, armed_by}
 use Rattle.register_api.specs.Calls.{GivesNow, Replaces, Fails, reopened}
 use Rattle.legal_journal.specs.Moves as moves
 use Rattle.legal_journal.specs.Journal.{RegisterState, State, ends, known, register_after, IsCurrent, Extends, Raises, IsFree, MayFollow}
@@ -22,6 +22,10 @@ module _ (r : RegisterState) (v : RegisterView) (m : IsRegisterAsTold r v) where
   -- the count of faults tells nothing
   pub counted : (new : RegisterView) (n : ℕ) → new ≡ record v { faults = n } → IsRegisterAsTold r new
   counted new n is = subst (IsRegisterAsTold r) (sym is) (record { down = m.down; given = m.given; given_chain = m.given_chain; current = m.current; torn = m.torn })
+
+  -- nor does whether its disk is armed
+  pub armed_told : (new : RegisterView) (n : ℕ) → new ≡ armed_by v n → IsRegisterAsTold r new
+  armed_told new n is = subst (IsRegisterAsTold r) (sym is) (record { down = m.down; given = m.given; given_chain = m.given_chain; current = m.current; torn = m.torn })
 
   pub current_is : (n : ℕ) (c : Chain) → n ≡ v.version → c ≡ v.chain → IsCurrent r n c
   current_is n c a b = subst (λ k. IsCurrent r k c) (sym a) (subst (IsCurrent r v.version) (sym b) m.current)
@@ -58,10 +62,10 @@ module _ (r : RegisterState) (v : RegisterView) (m : IsRegisterAsTold r v) where
   }
 
   -- it is up again, with the write that faulted or without
-  pub mended_told : (new : RegisterView) (kept : Bool) → new ≡ record (reopened v kept v.asked) { faults = new.faults } → IsRegisterAsTold (register_after r (moves.Mends true)) new
-  mended_told new kept is = by_write v.asked refl kept is
+  pub mended_told : (new : RegisterView) (kept : Bool) (word : ℕ) → new ≡ record (reopened v kept v.asked) { told = word } → IsRegisterAsTold (register_after r (moves.Mends true)) new
+  mended_told new kept word is = by_write v.asked refl kept is
     where
-      by_write : (o : Option Chain) → v.asked ≡ o → (kept : Bool) → new ≡ record (reopened v kept o) { faults = new.faults } → IsRegisterAsTold (register_after r (moves.Mends true)) new
+      by_write : (o : Option Chain) → v.asked ≡ o → (kept : Bool) → new ≡ record (reopened v kept o) { told = word } → IsRegisterAsTold (register_after r (moves.Mends true)) new
       by_write None e kept is = subst (IsRegisterAsTold (register_after r (moves.Mends true))) (sym is) (record {
         down = refl;
         given = m.given;
@@ -89,8 +93,8 @@ module _ (r : RegisterState) (v : RegisterView) (m : IsRegisterAsTold r v) where
           })
 
   -- it didn't come up
-  pub missed_told : (new : RegisterView) (n k : ℕ) → new ≡ record v { faults = n; misses = k } → IsRegisterAsTold (register_after r (moves.Mends false)) new
-  missed_told new n k is = subst (IsRegisterAsTold (register_after r (moves.Mends false))) (sym is) (record { down = m.down; given = m.given; given_chain = m.given_chain; current = m.current; torn = m.torn })
+  pub missed_told : (new : RegisterView) (n k word : ℕ) → new ≡ record v { faults = n; misses = k; told = word } → IsRegisterAsTold (register_after r (moves.Mends false)) new
+  missed_told new n k word is = subst (IsRegisterAsTold (register_after r (moves.Mends false))) (sym is) (record { down = m.down; given = m.given; given_chain = m.given_chain; current = m.current; torn = m.torn })
 
 module _ (cells : ℕ) (w : State) (ok : StateOk cells w) (x : ℕ) (old : Chain) (given : w.register.given x ≡ Some old) where
   -- only what is known has been given

@@ -1,10 +1,11 @@
 -- A shelf of values, one of which takes part in an event.
 use Rattle.std.proofs.Common.{◌≡◌, inl, inr, ℕ, zero, suc, ◌<◌, List, [], ◌∷◌, ◌++◌, length, map, set, Option, Some, None, Bool, true, IsSome, refl, sym, ap, ◌∙◌, subst, ⊎_elim, arith}
-use Rattle.std.specs.Prelude.{slice_get}
+use Rattle.std.specs.Prelude.{slice_get, ◌==◌}
 use Rattle.std.proofs.lemmas.List.{length-append, length-map}
 use Rattle.std.proofs.lemmas.Option.{slice_get_within}
 use Rattle.delos_types.specs.declared.entry.Entry.{Entry}
 use Rattle.loglet_api.specs.View.{LogletView, Operation, operation_at, IsOpen}
+use Rattle.loglet_api.specs.Servers.{ServersView}
 use Rattle.loglet_api.specs.declared.call.Op.{Op}
 use Rattle.legal_journal.specs.declared.events.Event.{Event}
 use Rattle.legal_journal.specs.declared.events.FabricCall.{FabricCall}
@@ -15,9 +16,10 @@ use Rattle.legal_journal.specs.Told.{Running}
 use Rattle.legal_journal.specs.Journal.{state_of}
 use Rattle.legal_journal.specs.Turns.{MayCall, OwnEvents}
 use Rattle.register_api.specs.View.{RegisterView}
-use Rattle.fabric_core.specs.Runs.{LogletSteps, StepsOf}
-use Rattle.fabric_core.specs.CellEvent.{CellView, Happens, Applies, Serves, ServerApplies}
+use Rattle.fabric_core.specs.Runs.{LogletSteps, StepsOf, is_on}
+use Rattle.fabric_core.specs.CellEvent.{CellView, Worked, Happens, Applies, Serves, ServerApplies}
 use Rattle.fabric_core.specs.Fabric.{FabricView, FabricOk, IsMarked, MatchesOperation, Adds, Keeps}
+use Rattle.fabric_core.proofs.Acts.{any_serving, cell_acts}
 use Rattle.fabric_core.proofs.Kept.{IsAfter, begin_kept, carry_kept, forget_kept, stop_kept, mend_kept, stray_kept}
 
 pub map_get : {A C : Type 0} (g : A → C) (xs : List A) (i : ℕ) (x : A) → slice_get xs i ≡ Some x → slice_get (map g xs) i ≡ Some (g x)
@@ -83,7 +85,7 @@ marked_open (Some r) None m h k e = absurd e
 marked_open (Some r) (Some o) m h k e = refl
 
 -- a cell of the shelf is there, and has its marks
-module _ (may : ℕ → Entry → Type 0) (floor : List Entry → ℕ → Type 0) (shelf : List ℕ) {A B : Type 0} (view : A → LogletView) (items : B → List Bool) (cells : List A) (marks : List B) (register : RegisterView) (journal : List Event) (ok : FabricOk may floor shelf (record { cells = map view cells; register = register; journal = journal }) (map items marks)) (i : ℕ) (low : i < length shelf) where
+module _ (may : ℕ → Entry → Type 0) (floor : List Entry → ℕ → Type 0) (shelf : List ℕ) {A B : Type 0} (view : A → LogletView) (serving : A → ServersView) (items : B → List Bool) (cells : List A) (marks : List B) (register : RegisterView) (journal : List Event) (ok : FabricOk may floor shelf (record { cells = map view cells; serving = map serving cells; register = register; journal = journal }) (map items marks)) (i : ℕ) (low : i < length shelf) where
   pub cell_within : i < length cells
   cell_within = omega (arith, ap length ok.shelf_is, length-map (map view cells) (λ (v : LogletView). v.servers), length-map cells view)
 
@@ -93,7 +95,7 @@ module _ (may : ℕ → Entry → Type 0) (floor : List Entry → ℕ → Type 0
       let k = ok.cells i d.0 d.1 in
       omega (arith, slice_get_within (map items marks) i k.here k.is, length-map marks items)
 
-module _ (may : ℕ → Entry → Type 0) (floor : List Entry → ℕ → Type 0) (shelf : List ℕ) {A B : Type 0} (view : A → LogletView) (items : B → List Bool) (cells : List A) (marks : List B) (register : RegisterView) (journal : List Event) (ok : FabricOk may floor shelf (record { cells = map view cells; register = register; journal = journal }) (map items marks)) (i : ℕ) (a : A) (b : B) (at : slice_get cells i ≡ Some a) (marked : slice_get marks i ≡ Some b) (a' : A) (b' : B) (journal' : List Event) where
+module _ (may : ℕ → Entry → Type 0) (floor : List Entry → ℕ → Type 0) (shelf : List ℕ) {A B : Type 0} (view : A → LogletView) (serving : A → ServersView) (items : B → List Bool) (cells : List A) (marks : List B) (register : RegisterView) (journal : List Event) (ok : FabricOk may floor shelf (record { cells = map view cells; serving = map serving cells; register = register; journal = journal }) (map items marks)) (i : ℕ) (a : A) (b : B) (at : slice_get cells i ≡ Some a) (marked : slice_get marks i ≡ Some b) (a' : A) (b' : B) (journal' : List Event) where
   -- a marked ticket is open
   pub open_where_marked : (t : ℕ) → slice_get (items b) t ≡ Some true → IsOpen (view a) t
   open_where_marked t h =
@@ -105,32 +107,35 @@ module _ (may : ℕ → Entry → Type 0) (floor : List Entry → ℕ → Type 0
 
   -- the fabric before and after
   abbrev old : FabricView
-  old = record { cells = map view cells; register = register; journal = journal }
+  old = record { cells = map view cells; serving = map serving cells; register = register; journal = journal }
 
   abbrev new : FabricView
-  new = record { cells = map view (set cells i a'); register = register; journal = journal' }
+  new = record { cells = map view (set cells i a'); serving = map serving (set cells i a'); register = register; journal = journal' }
 
   abbrev cell_old : CellView
-  cell_old = record { loglet = view a; marks = items b; journal = journal }
+  cell_old = record { loglet = view a; serving = serving a; marks = items b; journal = journal }
 
   abbrev cell_new : CellView
-  cell_new = record { loglet = view a'; marks = items b'; journal = journal' }
+  cell_new = record { loglet = view a'; serving = serving a'; marks = items b'; journal = journal' }
 
   pub record Goes (who : ℕ) (call : FabricCall) (answer : FabricAnswer) : Type 0 where
     pub now : FabricOk may floor shelf new (map items (set marks i b'))
     pub keeps : Keeps may floor shelf old who call answer new
 
-  happened : (who : ℕ) (call : FabricCall) (answer : FabricAnswer) → ((steps : LogletSteps) → StepsOf call answer steps → OwnEvents who call answer (record { who = who; call = call; answer = answer } ∷ [])) → Happens cell_old who call answer cell_new → IsAfter may floor shelf old (map items marks) ok i (view a) (items b) (map_get view cells i a at) (map_get items marks i b marked) cell_new → Goes who call answer
-  happened who call answer own h after =
+  happened : (who : ℕ) (call : FabricCall) (answer : FabricAnswer) → ((steps : LogletSteps) → StepsOf call answer steps → OwnEvents who call answer (record { who = who; call = call; answer = answer } ∷ [])) → ((j : ℕ) → is_on j call ≡ (j == i)) → Happens cell_old who call answer cell_new → IsAfter may floor shelf old (map items marks) ok i (view a) (serving a) (items b) (map_get view cells i a at) (map_get items marks i b marked) cell_new → Goes who call answer
+  happened who call answer own on h after =
       let now : FabricOk may floor shelf new (map items (set marks i b')) =
-      subst (λ (cs : List LogletView). FabricOk may floor shelf (record { cells = cs; register = register; journal = journal' }) (map items (set marks i b'))) (sym (map_set view cells i a'))
-      (subst (λ (ms : List (List Bool)). FabricOk may floor shelf (record { cells = set (map view cells) i (view a'); register = register; journal = journal' }) ms) (sym (map_set items marks i b')) after) in
+      subst (λ (cs : List LogletView). FabricOk may floor shelf (record { cells = cs; serving = map serving (set cells i a'); register = register; journal = journal' }) (map items (set marks i b'))) (sym (map_set view cells i a'))
+      (subst (λ (ms : List (List Bool)). FabricOk may floor shelf (record { cells = set (map view cells) i (view a'); serving = map serving (set cells i a'); register = register; journal = journal' }) ms) (sym (map_set items marks i b'))
+      (any_serving may floor shelf _ _ (map serving (set cells i a')) after)) in
       let e : Event = record { who = who; call = call; answer = answer } in record {
         now = now;
         keeps = record {
           adds = record { own = e ∷ []; event = own h.steps h.are; added = h.recorded };
           legal = now.legal;
           same = λ is. absurd (omega (arith, ap length is, ap length h.recorded, length-append journal (e ∷ [])));
+          acts = inr (cell_acts old new call answer i on (view a) (view a') (serving a) (serving a') (map_get view cells i a at) (map_get serving cells i a at)
+              (map_set view cells i a') (map_set serving cells i a') h.steps h.are h.run h.served refl);
         };
       }
 
@@ -141,33 +146,37 @@ module _ (may : ℕ → Entry → Type 0) (floor : List Entry → ℕ → Type 0
       let mark : items b' ≡ items b = ap (λ (x : CellView). x.marks) h.1 in
       let marks_are : map items (set marks i b') ≡ map items marks = map_set items marks i b' ∙ (ap (set (map items marks) i) mark ∙ set_back (map items marks) i (items b) (map_get items marks i b marked)) in
       let journal_is : journal' ≡ journal = ap (λ (x : CellView). x.journal) h.1 in
-      let same : new ≡ old = ap (λ cs. record { cells = cs; register = register; journal = journal' }) cells_are ∙ ap (λ j. record { cells = map view cells; register = register; journal = j }) journal_is in
+      let served : serving a' ≡ serving a = ap (λ (x : CellView). x.serving) h.1 in
+      let serving_are : map serving (set cells i a') ≡ map serving cells = map_set serving cells i a' ∙ (ap (set (map serving cells) i) served ∙ set_back (map serving cells) i (serving a) (map_get serving cells i a at)) in
+      let same : new ≡ old = ap (λ cs. record { cells = cs; serving = map serving (set cells i a'); register = register; journal = journal' }) cells_are
+      ∙ (ap (λ ss. record { cells = map view cells; serving = ss; register = register; journal = journal' }) serving_are
+      ∙ ap (λ j. record { cells = map view cells; serving = map serving cells; register = register; journal = j }) journal_is) in
       let now : FabricOk may floor shelf new (map items (set marks i b')) = subst (λ (f : FabricView). FabricOk may floor shelf f (map items (set marks i b'))) (sym same) (subst (FabricOk may floor shelf old) (sym marks_are) ok) in record {
         now = now;
-        keeps = record { adds = adds_none who call journal journal' answer h.0 journal_is; legal = now.legal; same = λ _. same };
+        keeps = record { adds = adds_none who call journal journal' answer h.0 journal_is; legal = now.legal; same = λ _. same; acts = inl same };
       }
 
   pub begun : (who : ℕ) (op : Op) (answer : FabricAnswer) → MayCall (state_of journal) may floor shelf who (Begin i op) → Applies cell_old who (Begin i op) answer cell_new → Goes who (Begin i op) answer
   begun who op answer can h =
       ⊎_elim
-      (λ (x : Happens cell_old who (Begin i op) answer cell_new). happened who (Begin i op) answer (own_begin who i op answer) x
-      (begin_kept may floor shelf old (map items marks) ok i (view a) (items b) (map_get view cells i a at) (map_get items marks i b marked) who op answer cell_new can x))
+      (λ (x : Happens cell_old who (Begin i op) answer cell_new). happened who (Begin i op) answer (own_begin who i op answer) (λ j. refl) x
+      (begin_kept may floor shelf old (map items marks) ok i (view a) (serving a) (items b) (map_get view cells i a at) (map_get items marks i b marked) who op answer cell_new can x))
       (λ (x : (answer ≡ Memory) × (cell_new ≡ cell_old)). unchanged who (Begin i op) answer x)
       h
 
   pub carried : (who t word : ℕ) (answer : FabricAnswer) → MayCall (state_of journal) may floor shelf who (Carry i t word) → Applies cell_old who (Carry i t word) answer cell_new → Goes who (Carry i t word) answer
   carried who t word answer can h =
       ⊎_elim
-      (λ (x : Happens cell_old who (Carry i t word) answer cell_new). happened who (Carry i t word) answer (own_carry who i t word answer) x
-      (carry_kept may floor shelf old (map items marks) ok i (view a) (items b) (map_get view cells i a at) (map_get items marks i b marked) who t word answer cell_new can x))
+      (λ (x : Happens cell_old who (Carry i t word) answer cell_new). happened who (Carry i t word) answer (own_carry who i t word answer) (λ j. refl) x
+      (carry_kept may floor shelf old (map items marks) ok i (view a) (serving a) (items b) (map_get view cells i a at) (map_get items marks i b marked) who t word answer cell_new can x))
       (λ (x : (answer ≡ Memory) × (cell_new ≡ cell_old)). unchanged who (Carry i t word) answer x)
       h
 
   pub forgotten : (who t : ℕ) (answer : FabricAnswer) → MayCall (state_of journal) may floor shelf who (Forget i t) → Applies cell_old who (Forget i t) answer cell_new → Goes who (Forget i t) answer
   forgotten who t answer can h =
       ⊎_elim
-      (λ (x : Happens cell_old who (Forget i t) answer cell_new). happened who (Forget i t) answer (own_forget who i t answer) x
-      (forget_kept may floor shelf old (map items marks) ok i (view a) (items b) (map_get view cells i a at) (map_get items marks i b marked) who t answer cell_new can x))
+      (λ (x : Happens cell_old who (Forget i t) answer cell_new). happened who (Forget i t) answer (own_forget who i t answer) (λ j. refl) x
+      (forget_kept may floor shelf old (map items marks) ok i (view a) (serving a) (items b) (map_get view cells i a at) (map_get items marks i b marked) who t answer cell_new can x))
       (λ (x : (answer ≡ Memory) × (cell_new ≡ cell_old)). unchanged who (Forget i t) answer x)
       h
 
@@ -184,62 +193,76 @@ own_stray who i word (Set true) steps h = refl
 own_stray who i word a steps h = absurd h
 
 -- an event of a cell's servers, which opens and closes no ticket
-module _ (may : ℕ → Entry → Type 0) (floor : List Entry → ℕ → Type 0) (shelf : List ℕ) {A B : Type 0} (view : A → LogletView) (items : B → List Bool) (cells : List A) (marks : List B) (register : RegisterView) (journal : List Event) (ok : FabricOk may floor shelf (record { cells = map view cells; register = register; journal = journal }) (map items marks)) (i : ℕ) (low : i < length shelf) (a : A) (at : slice_get cells i ≡ Some a) (a' : A) (journal' : List Event) where
+module _ (may : ℕ → Entry → Type 0) (floor : List Entry → ℕ → Type 0) (shelf : List ℕ) {A B : Type 0} (view : A → LogletView) (serving : A → ServersView) (items : B → List Bool) (cells : List A) (marks : List B) (register : RegisterView) (journal : List Event) (ok : FabricOk may floor shelf (record { cells = map view cells; serving = map serving cells; register = register; journal = journal }) (map items marks)) (i : ℕ) (low : i < length shelf) (a : A) (at : slice_get cells i ≡ Some a) (a' : A) (journal' : List Event) where
   mark : (b : B) × (slice_get marks i ≡ Some b)
-  mark = some_at marks i (marks_within may floor shelf view items cells marks register journal ok i low)
+  mark = some_at marks i (marks_within may floor shelf view serving items cells marks register journal ok i low)
+
+  abbrev worked_old : Worked
+  worked_old = record { loglet = view a; serving = serving a }
+
+  abbrev worked_new : Worked
+  worked_new = record { loglet = view a'; serving = serving a' }
 
   abbrev before : FabricView
-  before = record { cells = map view cells; register = register; journal = journal }
+  before = record { cells = map view cells; serving = map serving cells; register = register; journal = journal }
 
   abbrev served_cells : FabricView
-  served_cells = record { cells = map view (set cells i a'); register = register; journal = journal' }
+  served_cells = record { cells = map view (set cells i a'); serving = map serving (set cells i a'); register = register; journal = journal' }
 
   pub record Served (who : ℕ) (call : FabricCall) (answer : FabricAnswer) : Type 0 where
     pub now : FabricOk may floor shelf served_cells (map items marks)
     pub keeps : Keeps may floor shelf before who call answer served_cells
 
-  serves : (who : ℕ) (call : FabricCall) (answer : FabricAnswer) → ((steps : LogletSteps) → StepsOf call answer steps → OwnEvents who call answer (record { who = who; call = call; answer = answer } ∷ [])) → (Serves (view a) journal who call answer (view a') journal' → IsAfter may floor shelf before (map items marks) ok i (view a) (items mark.0) (map_get view cells i a at) (map_get items marks i mark.0 mark.1) (record { loglet = view a'; marks = items mark.0; journal = journal' })) → ServerApplies (view a) journal who call answer (view a') journal' → Served who call answer
-  serves who call answer own after h = ⊎_elim happened unchanged h
+  serves : (who : ℕ) (call : FabricCall) (answer : FabricAnswer) → ((steps : LogletSteps) → StepsOf call answer steps → OwnEvents who call answer (record { who = who; call = call; answer = answer } ∷ [])) → ((j : ℕ) → is_on j call ≡ (j == i)) → (Serves worked_old journal who call answer worked_new journal' → IsAfter may floor shelf before (map items marks) ok i (view a) (serving a) (items mark.0) (map_get view cells i a at) (map_get items marks i mark.0 mark.1) (record { loglet = view a'; serving = serving a'; marks = items mark.0; journal = journal' })) → ServerApplies worked_old journal who call answer worked_new journal' → Served who call answer
+  serves who call answer own on after h = ⊎_elim happened unchanged h
     where
-      happened : Serves (view a) journal who call answer (view a') journal' → Served who call answer
+      happened : Serves worked_old journal who call answer worked_new journal' → Served who call answer
       happened x =
-          let k : FabricOk may floor shelf (record { cells = set (map view cells) i (view a'); register = register; journal = journal' }) (set (map items marks) i (items mark.0)) = after x in
+          let k : FabricOk may floor shelf (record { cells = set (map view cells) i (view a'); serving = map serving (set cells i a'); register = register; journal = journal' }) (set (map items marks) i (items mark.0)) =
+          any_serving may floor shelf _ _ (map serving (set cells i a')) (after x) in
           let same : set (map items marks) i (items mark.0) ≡ map items marks = set_back (map items marks) i (items mark.0) (map_get items marks i mark.0 mark.1) in
           let now : FabricOk may floor shelf served_cells (map items marks) =
-          subst (λ (cs : List LogletView). FabricOk may floor shelf (record { cells = cs; register = register; journal = journal' }) (map items marks)) (sym (map_set view cells i a'))
-          (subst (FabricOk may floor shelf (record { cells = set (map view cells) i (view a'); register = register; journal = journal' })) same k) in
+          subst (λ (cs : List LogletView). FabricOk may floor shelf (record { cells = cs; serving = map serving (set cells i a'); register = register; journal = journal' }) (map items marks)) (sym (map_set view cells i a'))
+          (subst (FabricOk may floor shelf (record { cells = set (map view cells) i (view a'); serving = map serving (set cells i a'); register = register; journal = journal' })) same k) in
           let e : Event = record { who = who; call = call; answer = answer } in record {
             now = now;
             keeps = record {
               adds = record { own = e ∷ []; event = own x.steps x.are; added = x.recorded };
               legal = now.legal;
               same = λ is. absurd (omega (arith, ap length is, ap length x.recorded, length-append journal (e ∷ [])));
+              acts = inr (cell_acts before served_cells call answer i on (view a) (view a') (serving a) (serving a') (map_get view cells i a at) (map_get serving cells i a at)
+                  (map_set view cells i a') (map_set serving cells i a') x.steps x.are x.run x.served refl);
             };
           }
 
-      unchanged : (answer ≡ Memory) × (view a' ≡ view a) × (journal' ≡ journal) → Served who call answer
+      unchanged : (answer ≡ Memory) × (worked_new ≡ worked_old) × (journal' ≡ journal) → Served who call answer
       unchanged x =
-          let cells_are : map view (set cells i a') ≡ map view cells = map_set view cells i a' ∙ (ap (set (map view cells) i) x.1 ∙ set_back (map view cells) i (view a) (map_get view cells i a at)) in
-          let same : served_cells ≡ before = ap (λ cs. record { cells = cs; register = register; journal = journal' }) cells_are ∙ ap (λ j. record { cells = map view cells; register = register; journal = j }) x.2 in
+          let cell : view a' ≡ view a = ap (λ (y : Worked). y.loglet) x.1 in
+          let servers : serving a' ≡ serving a = ap (λ (y : Worked). y.serving) x.1 in
+          let cells_are : map view (set cells i a') ≡ map view cells = map_set view cells i a' ∙ (ap (set (map view cells) i) cell ∙ set_back (map view cells) i (view a) (map_get view cells i a at)) in
+          let serving_are : map serving (set cells i a') ≡ map serving cells = map_set serving cells i a' ∙ (ap (set (map serving cells) i) servers ∙ set_back (map serving cells) i (serving a) (map_get serving cells i a at)) in
+          let same : served_cells ≡ before = ap (λ cs. record { cells = cs; serving = map serving (set cells i a'); register = register; journal = journal' }) cells_are
+          ∙ (ap (λ ss. record { cells = map view cells; serving = ss; register = register; journal = journal' }) serving_are
+          ∙ ap (λ j. record { cells = map view cells; serving = map serving cells; register = register; journal = j }) x.2) in
           let now : FabricOk may floor shelf served_cells (map items marks) = subst (λ (f : FabricView). FabricOk may floor shelf f (map items marks)) (sym same) ok in record {
             now = now;
-            keeps = record { adds = adds_none who call journal journal' answer x.0 x.2; legal = now.legal; same = λ _. same };
+            keeps = record { adds = adds_none who call journal journal' answer x.0 x.2; legal = now.legal; same = λ _. same; acts = inl same };
           }
 
-  pub stopped : (who server n : ℕ) (answer : FabricAnswer) → MayCall (state_of journal) may floor shelf who (Stop i server n) → ServerApplies (view a) journal who (Stop i server n) answer (view a') journal' → Served who (Stop i server n) answer
+  pub stopped : (who server n : ℕ) (answer : FabricAnswer) → MayCall (state_of journal) may floor shelf who (Stop i server n) → ServerApplies worked_old journal who (Stop i server n) answer worked_new journal' → Served who (Stop i server n) answer
   stopped who server n answer can h =
-      serves who (Stop i server n) answer (own_stop who i server n answer)
-      (stop_kept may floor shelf before (map items marks) ok i (view a) (items mark.0) (map_get view cells i a at) (map_get items marks i mark.0 mark.1) who server n answer (view a') journal' can) h
+      serves who (Stop i server n) answer (own_stop who i server n answer) (λ j. refl)
+      (stop_kept may floor shelf before (map items marks) ok i (view a) (serving a) (items mark.0) (map_get view cells i a at) (map_get items marks i mark.0 mark.1) who server n answer (view a') (serving a') journal' can) h
 
-  pub mended : (who server word : ℕ) (answer : FabricAnswer) → MayCall (state_of journal) may floor shelf who (Mend i server word) → ServerApplies (view a) journal who (Mend i server word) answer (view a') journal' → Served who (Mend i server word) answer
+  pub mended : (who server word : ℕ) (answer : FabricAnswer) → MayCall (state_of journal) may floor shelf who (Mend i server word) → ServerApplies worked_old journal who (Mend i server word) answer worked_new journal' → Served who (Mend i server word) answer
   mended who server word answer can h =
-      serves who (Mend i server word) answer (own_mend who i server word answer)
-      (mend_kept may floor shelf before (map items marks) ok i (view a) (items mark.0) (map_get view cells i a at) (map_get items marks i mark.0 mark.1) who server word answer (view a') journal' can) h
+      serves who (Mend i server word) answer (own_mend who i server word answer) (λ j. refl)
+      (mend_kept may floor shelf before (map items marks) ok i (view a) (serving a) (items mark.0) (map_get view cells i a at) (map_get items marks i mark.0 mark.1) who server word answer (view a') (serving a') journal' can) h
 
-  pub strayed : (who word : ℕ) (answer : FabricAnswer) → MayCall (state_of journal) may floor shelf who (Stray i word) → ServerApplies (view a) journal who (Stray i word) answer (view a') journal' → Served who (Stray i word) answer
+  pub strayed : (who word : ℕ) (answer : FabricAnswer) → MayCall (state_of journal) may floor shelf who (Stray i word) → ServerApplies worked_old journal who (Stray i word) answer worked_new journal' → Served who (Stray i word) answer
   strayed who word answer can h =
-      serves who (Stray i word) answer (own_stray who i word answer)
-      (stray_kept may floor shelf before (map items marks) ok i (view a) (items mark.0) (map_get view cells i a at) (map_get items marks i mark.0 mark.1) who word answer (view a') journal' can) h
+      serves who (Stray i word) answer (own_stray who i word answer) (λ j. refl)
+      (stray_kept may floor shelf before (map items marks) ok i (view a) (serving a) (items mark.0) (map_get view cells i a at) (map_get items marks i mark.0 mark.1) who word answer (view a') (serving a') journal' can) h
 
   -- the cell has this server
   pub server_within : (server : ℕ) → (n : ℕ) → slice_get shelf i ≡ Some n → server < n → server < (view a).servers

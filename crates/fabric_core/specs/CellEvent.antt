@@ -7,6 +7,7 @@ use Rattle.loglet_api.specs.declared.call.LogletCall.TheVariants as call
 use Rattle.loglet_api.specs.declared.call.LogletAnswer.TheVariants as answer
 use Rattle.loglet_api.specs.View.{LogletView}
 use Rattle.loglet_api.specs.Run.{LogletRun}
+use Rattle.loglet_api.specs.Servers.{ServersView, ServesAll}
 use Rattle.legal_journal.specs.declared.events.FabricCall.{FabricCall}
 use Rattle.legal_journal.specs.declared.events.FabricCall.TheVariants.{Begin, Carry, Forget}
 use Rattle.legal_journal.specs.declared.events.FabricAnswer.{FabricAnswer}
@@ -19,10 +20,20 @@ abbrev pub IsGot : Answer → Type 0
 IsGot (Got e) = Unit {0}
 IsGot a = ⊥
 
+-- a loglet and its servers
+pub record Worked : Type 0 where
+  pub loglet : LogletView
+  pub serving : ServersView
+
+-- these calls, one after another, are steps of the loglet, and do to its servers what they say
+pub record Works (old : Worked) (steps : LogletSteps) (new : Worked) : Type 0 where
+  pub run : LogletRun old.loglet steps new.loglet
+  pub served : ServesAll old.serving steps new.serving
+
 -- an open operation was carried once, where it was undecided, and its answer taken, where it was decided then
-abbrev pub CarriedOnce : LogletView → ℕ → ℕ → Result (Option Answer) Refused → LogletView → Type 0
-CarriedOnce old t word (Ok (Some a)) new = (steps : LogletSteps) × CarriesFirst t word ((call.Take t, answer.Taken (Some a)) ∷ []) steps × LogletRun old steps new
-CarriedOnce old t word (Ok None) new = LogletRun old ((call.Carry t word, answer.Carried) ∷ (call.Take t, answer.Taken None) ∷ []) new
+abbrev pub CarriedOnce : Worked → ℕ → ℕ → Result (Option Answer) Refused → Worked → Type 0
+CarriedOnce old t word (Ok (Some a)) new = (steps : LogletSteps) × CarriesFirst t word ((call.Take t, answer.Taken (Some a)) ∷ []) steps × Works old steps new
+CarriedOnce old t word (Ok None) new = Works old ((call.Carry t word, answer.Carried) ∷ (call.Take t, answer.Taken None) ∷ []) new
 CarriedOnce old t word (Err refused) new = new ≡ old
 
 -- the tickets that are open after the event
@@ -39,17 +50,20 @@ IsMissed marks (Carry i t word) NoTicket = slice_get marks t ≢ Some true
 IsMissed marks (Forget i t) NoTicket = slice_get marks t ≢ Some true
 IsMissed marks c a = Unit {0}
 
--- a loglet, the marks of its tickets, and the journal
+-- a loglet, its servers, the marks of its tickets, and the journal
 pub record CellView : Type 0 where
   pub loglet : LogletView
+  pub serving : ServersView
   pub marks : List Bool
   pub journal : List Event
 
--- The event is recorded as it happened: its calls of the loglet are steps, and the marks follow.
+-- The event is recorded as it happened: its calls of the loglet are steps, they do to its servers what they say, and the
+-- marks follow.
 pub record Happens (old : CellView) (who : ℕ) (c : FabricCall) (a : FabricAnswer) (new : CellView) : Type 0 where
   pub steps : LogletSteps
   pub are : StepsOf c a steps
   pub run : LogletRun old.loglet steps new.loglet
+  pub served : ServesAll old.serving steps new.serving
   pub missed : IsMissed old.marks c a
   pub marked : new.marks ≡ marks_after old.marks c a
   pub recorded : new.journal ≡ old.journal ++ record { who = who; call = c; answer = a } ∷ []
@@ -59,11 +73,12 @@ abbrev pub Applies : CellView → ℕ → FabricCall → FabricAnswer → CellVi
 Applies old who c a new = Happens old who c a new ⊎ ((a ≡ Memory) × (new ≡ old))
 
 -- An event that closes and opens no ticket is recorded as it happened; or there was no memory, and nothing changed.
-pub record Serves (old : LogletView) (before : List Event) (who : ℕ) (c : FabricCall) (a : FabricAnswer) (new : LogletView) (now : List Event) : Type 0 where
+pub record Serves (old : Worked) (before : List Event) (who : ℕ) (c : FabricCall) (a : FabricAnswer) (new : Worked) (now : List Event) : Type 0 where
   pub steps : LogletSteps
   pub are : StepsOf c a steps
-  pub run : LogletRun old steps new
+  pub run : LogletRun old.loglet steps new.loglet
+  pub served : ServesAll old.serving steps new.serving
   pub recorded : now ≡ before ++ record { who = who; call = c; answer = a } ∷ []
 
-abbrev pub ServerApplies : LogletView → List Event → ℕ → FabricCall → FabricAnswer → LogletView → List Event → Type 0
+abbrev pub ServerApplies : Worked → List Event → ℕ → FabricCall → FabricAnswer → Worked → List Event → Type 0
 ServerApplies old before who c a new now = Serves old before who c a new now ⊎ ((a ≡ Memory) × (new ≡ old) × (now ≡ before))

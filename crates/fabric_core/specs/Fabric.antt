@@ -1,11 +1,13 @@
 -- What a fabric shows, and what holds of it.
-use Rattle.std.specs.Prelude.{◌≡◌, ◌≢◌, ℕ, ◌+◌, ◌≤◌, Bool, true, List, ◌++◌, length, map, slice_get, Option, Some, None}
+use Rattle.std.specs.Prelude.{◌≡◌, ◌≢◌, ◌⊎◌, ℕ, ◌+◌, ◌≤◌, Bool, true, MatchBool, List, [], ◌++◌, length, map, slice_get, Option, Some, None}
 use Rattle.delos_types.specs.declared.entry.Entry.{Entry}
 use Rattle.delos_types.specs.declared.chain.Chain.{Chain}
 use Rattle.loglet_api.specs.View.{LogletView, Operation, operation_at}
 use Rattle.loglet_api.specs.Sound.{IsSound}
 use Rattle.loglet_api.specs.Step.{task_of}
 use Rattle.loglet_api.specs.Keeps.{work_of}
+use Rattle.loglet_api.specs.Run.{LogletRun}
+use Rattle.loglet_api.specs.Servers.{ServersView, ServesAll}
 use Rattle.legal_journal.specs.declared.events.FabricCall.{FabricCall}
 use Rattle.legal_journal.specs.declared.events.FabricAnswer.{FabricAnswer}
 use Rattle.legal_journal.specs.declared.events.Event.{Event}
@@ -13,11 +15,12 @@ use Rattle.legal_journal.specs.Told.{Running}
 use Rattle.legal_journal.specs.Journal.{CellState, RegisterState, State, state_of, IsLegal, IsCurrent, patience}
 use Rattle.legal_journal.specs.Turns.{OwnEvents}
 use Rattle.register_api.specs.View.{RegisterView}
-use Rattle.fabric_core.specs.Runs.{HasRun, HasRegisterRun}
+use Rattle.fabric_core.specs.Runs.{LogletSteps, StepsOf, is_on, RegisterDoes, is_on_register, HasRun, HasRegisterRun}
 
--- the loglets of the shelf, the register, and the journal of all events
+-- the loglets of the shelf, the servers of each, the register, and the journal of all events
 pub record FabricView : Type 0 where
   pub cells : List LogletView
+  pub serving : List ServersView
   pub register : RegisterView
   pub journal : List Event
 
@@ -85,8 +88,25 @@ pub record Adds (old : List Event) (who : ℕ) (call : FabricCall) (answer : Fab
   pub event : OwnEvents who call answer own
   pub added : new ≡ old ++ own
 
--- A call adds its event, and the journal stays legal; with Memory nothing changes, but as a Carry's event tells.
+-- The loglet of this number goes on by the calls that the event makes of it, and its servers by the same calls. An event of
+-- another cell, or of the register, makes none, and leaves it as it was.
+pub record ActsOn (i : ℕ) (call : FabricCall) (answer : FabricAnswer) (old new : FabricView) : Type 0 where
+  pub steps : LogletSteps
+  pub are : MatchBool (is_on i call) (StepsOf call answer steps) (steps ≡ [])
+  pub cell : (u : LogletView) → slice_get old.cells i ≡ Some u → (v : LogletView) × (slice_get new.cells i ≡ Some v) × LogletRun u steps v
+  pub served : (u : ServersView) → slice_get old.serving i ≡ Some u → (v : ServersView) × (slice_get new.serving i ≡ Some v) × ServesAll u steps v
+
+-- what the call and its answer do to each loglet, to its servers and to the register, from the state before it
+pub record Acts (old : FabricView) (call : FabricCall) (answer : FabricAnswer) (new : FabricView) : Type 0 where
+  pub cells : length new.cells ≡ length old.cells
+  pub serving : length new.serving ≡ length old.serving
+  pub each : (i : ℕ) → ActsOn i call answer old new
+  pub register : MatchBool (is_on_register call) (RegisterDoes old.register call answer new.register) (new.register ≡ old.register)
+
+-- A call adds its event, the journal stays legal, and what the event tells is what was done, from the state before; with
+-- Memory nothing changes, but as a Carry's event tells.
 pub record Keeps (may : ℕ → Entry → Type 0) (floor : List Entry → ℕ → Type 0) (shelf : List ℕ) (old : FabricView) (who : ℕ) (call : FabricCall) (answer : FabricAnswer) (new : FabricView) : Type 0 where
   pub adds : Adds old.journal who call answer new.journal
   pub legal : IsLegal may floor shelf new.journal
   pub same : new.journal ≡ old.journal → new ≡ old
+  pub acts : (new ≡ old) ⊎ Acts old call answer new

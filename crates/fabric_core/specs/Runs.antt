@@ -10,7 +10,7 @@ use Rattle.loglet_api.specs.Run.{LogletRun}
 use Rattle.register_api.specs.declared.answer.ReadAnswer.TheVariants as read
 use Rattle.register_api.specs.declared.answer.WriteAnswer.TheVariants as write
 use Rattle.register_api.specs.View as register
-use Rattle.register_api.specs.View.{RegisterView}
+use Rattle.register_api.specs.View.{RegisterView, armed_by}
 use Rattle.register_api.specs.Calls.{Reads, Writes, Reopens}
 use Rattle.legal_journal.specs.declared.events.FabricCall.{FabricCall}
 use Rattle.legal_journal.specs.declared.events.FabricCall.TheVariants.{Begin, Carry, Forget, ReadChain, WriteChain, Stop, Mend, Stray, StopMeta, MendMeta}
@@ -63,11 +63,17 @@ CellRun i old [] new = new ≡ old
 CellRun i old (e ∷ es) new =
     (mid : LogletView) × ((steps : LogletSteps) × StepsOn i e steps × LogletRun old steps mid) × CellRun i mid es new
 
--- the events of cell i are a run of its loglet from a fresh one, with so many servers, to this one
+-- The events of cell i are a run of its loglet from a fresh one to this one. What never changes of a loglet is the same of
+-- both, so there is one such opening.
 pub record HasRun (i : ℕ) (events : List Event) (now : LogletView) : Type 0 where
   pub opening : LogletView
   pub fresh : IsFresh opening
+  pub kind : now.kind ≡ opening.kind
   pub servers : now.servers ≡ opening.servers
+  pub quorum : now.quorum ≡ opening.quorum
+  pub room : now.room ≡ opening.room
+  pub rounds : now.rounds ≡ opening.rounds
+  pub limit : now.limit ≡ opening.limit
   pub run : CellRun i opening events now
 
 -- what the call and its answer do to the register
@@ -78,8 +84,8 @@ RegisterDoes old (WriteChain x c) (Written version) new = Writes old x c (Ok (wr
 RegisterDoes old (WriteChain x c) (Conflict version chain) new = Writes old x c (Ok (write.Conflict version chain)) new
 RegisterDoes old (WriteChain x c) MetaFault new = Writes old x c (Ok write.MetaFault) new
 RegisterDoes old (WriteChain x c) Down new = Writes old x c (Ok write.Down) new
-RegisterDoes old (StopMeta n) (Set true) new = new ≡ old
-RegisterDoes old (MendMeta word) (Set b) new = Reopens old (Ok b) new
+RegisterDoes old (StopMeta n) (Set true) new = new ≡ armed_by old n
+RegisterDoes old (MendMeta word) (Set b) new = Reopens old word (Ok b) new
 RegisterDoes old call answer new = ⊥
 
 -- the call is of the register

@@ -50,7 +50,8 @@ fn carry_once<L: Loglet>(
     word: u64,
 ) -> Result<Option<Answer>, Refused>
     requires { IsOpen (L.view loglet.old) ticket }
-    ensures { CarriedOnce (L.view loglet.old) ticket word result (L.view loglet.new) }
+    ensures { CarriedOnce (record { loglet = L.view loglet.old; serving = L.serving loglet.old }) ticket word result
+        (record { loglet = L.view loglet.new; serving = L.serving loglet.new }) }
 {
     let (rounds, steps) = loglet.left(ticket);
     if rounds == 0 && steps == 0 {
@@ -70,8 +71,8 @@ pub fn begin_in<L: Loglet>(
     op: Op,
 ) -> FabricAnswer
     requires { CanBegin op }
-    ensures { Applies (record { loglet = L.view loglet.old; marks = marks.old.items; journal = journal.old.items }) who (FabricCall.Begin cell op) result
-        (record { loglet = L.view loglet.new; marks = marks.new.items; journal = journal.new.items }) }
+    ensures { Applies (record { loglet = L.view loglet.old; serving = L.serving loglet.old; marks = marks.old.items; journal = journal.old.items }) who (FabricCall.Begin cell op) result
+        (record { loglet = L.view loglet.new; serving = L.serving loglet.new; marks = marks.new.items; journal = journal.new.items }) }
 {
     let Ok(kept) = op.clone() else {
         return FabricAnswer::Memory;
@@ -111,8 +112,8 @@ pub fn carry_in<L: Loglet>(
     word: u64,
 ) -> FabricAnswer
     requires { slice_get marks.old.items ticket ≡ Some true → IsOpen (L.view loglet.old) ticket }
-    ensures { Applies (record { loglet = L.view loglet.old; marks = marks.old.items; journal = journal.old.items }) who (FabricCall.Carry cell ticket word) result
-        (record { loglet = L.view loglet.new; marks = marks.new.items; journal = journal.new.items }) }
+    ensures { Applies (record { loglet = L.view loglet.old; serving = L.serving loglet.old; marks = marks.old.items; journal = journal.old.items }) who (FabricCall.Carry cell ticket word) result
+        (record { loglet = L.view loglet.new; serving = L.serving loglet.new; marks = marks.new.items; journal = journal.new.items }) }
 {
     if journal.reserve(1).is_err() {
         return FabricAnswer::Memory;
@@ -155,8 +156,8 @@ pub fn forget_in<L: Loglet>(
     ticket: Ticket,
 ) -> FabricAnswer
     requires { slice_get marks.old.items ticket ≡ Some true → IsOpen (L.view loglet.old) ticket }
-    ensures { Applies (record { loglet = L.view loglet.old; marks = marks.old.items; journal = journal.old.items }) who (FabricCall.Forget cell ticket) result
-        (record { loglet = L.view loglet.new; marks = marks.new.items; journal = journal.new.items }) }
+    ensures { Applies (record { loglet = L.view loglet.old; serving = L.serving loglet.old; marks = marks.old.items; journal = journal.old.items }) who (FabricCall.Forget cell ticket) result
+        (record { loglet = L.view loglet.new; serving = L.serving loglet.new; marks = marks.new.items; journal = journal.new.items }) }
 {
     if journal.reserve(1).is_err() {
         return FabricAnswer::Memory;

@@ -42,9 +42,9 @@ impl<L: Loglet, R: Register, P: Rules> Model for Fabric<L, R, P> {
 
     ghost Value = { FabricView };
 
-    ghost view = { λ f. record { cells = map L.view f.cells.items; register = R.view f.register; journal = f.journal.items } };
+    ghost view = { λ f. record { cells = map L.view f.cells.items; serving = map L.serving f.cells.items; register = R.view f.register; journal = f.journal.items } };
 
-    ghost invariant = { λ f. FabricOk P.may P.floor P.shelf (record { cells = map L.view f.cells.items; register = R.view f.register; journal = f.journal.items })
+    ghost invariant = { λ f. FabricOk P.may P.floor P.shelf (record { cells = map L.view f.cells.items; serving = map L.serving f.cells.items; register = R.view f.register; journal = f.journal.items })
         (map (λ m. m.items) f.marks.items) };
 }
 
@@ -77,7 +77,7 @@ impl<L: Loglet, R: Register, P: Rules> Fabric<L, R, P> {
         requires fresh { All (λ l. IsFresh (L.view l)) cells.items }
         requires sound { All (λ l. IsSound (L.view l)) cells.items }
         requires register { view.IsFresh (R.view register) }
-        ensures ok { IfOk result (λ f. f ≡ record { cells = map L.view cells.items; register = R.view register; journal = [] }) }
+        ensures ok { IfOk result (λ f. f ≡ record { cells = map L.view cells.items; serving = map L.serving cells.items; register = R.view register; journal = [] }) }
         ensures err { IfErr result (λ p. (p.cells ≡ cells) × (p.register ≡ register)) }
     {
         let Ok(marks) = no_marks(alloc, cells.len()) else {
@@ -96,6 +96,7 @@ impl<L: Loglet, R: Register, P: Rules> Fabric<L, R, P> {
     /// The parts, as they are now. Takes no memory.
     pub fn into_parts(self) -> Parts<L, R>
         ensures cells { map L.view result.cells.items ≡ self.cells }
+        ensures serving { map L.serving result.cells.items ≡ self.serving }
         ensures register { R.view result.register ≡ self.register }
     {
         let Fabric {

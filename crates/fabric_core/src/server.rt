@@ -15,7 +15,8 @@ pub fn stop_in<L: Loglet>(
     after: u64,
 ) -> FabricAnswer
     requires { server < (L.view loglet.old).servers }
-    ensures { ServerApplies (L.view loglet.old) journal.old.items who (FabricCall.Stop cell server after) result (L.view loglet.new) journal.new.items }
+    ensures { ServerApplies (record { loglet = L.view loglet.old; serving = L.serving loglet.old }) journal.old.items who (FabricCall.Stop cell server after) result
+        (record { loglet = L.view loglet.new; serving = L.serving loglet.new }) journal.new.items }
 {
     if journal.reserve(1).is_err() {
         return FabricAnswer::Memory;
@@ -37,7 +38,8 @@ pub fn mend_in<L: Loglet>(
     word: u64,
 ) -> FabricAnswer
     requires { server < (L.view loglet.old).servers }
-    ensures { ServerApplies (L.view loglet.old) journal.old.items who (FabricCall.Mend cell server word) result (L.view loglet.new) journal.new.items }
+    ensures { ServerApplies (record { loglet = L.view loglet.old; serving = L.serving loglet.old }) journal.old.items who (FabricCall.Mend cell server word) result
+        (record { loglet = L.view loglet.new; serving = L.serving loglet.new }) journal.new.items }
 {
     if journal.reserve(1).is_err() {
         return FabricAnswer::Memory;
@@ -59,7 +61,8 @@ pub fn stray_in<L: Loglet>(
     cell: u32,
     word: u64,
 ) -> FabricAnswer
-    ensures { ServerApplies (L.view loglet.old) journal.old.items who (FabricCall.Stray cell word) result (L.view loglet.new) journal.new.items }
+    ensures { ServerApplies (record { loglet = L.view loglet.old; serving = L.serving loglet.old }) journal.old.items who (FabricCall.Stray cell word) result
+        (record { loglet = L.view loglet.new; serving = L.serving loglet.new }) journal.new.items }
 {
     if journal.reserve(1).is_err() {
         return FabricAnswer::Memory;

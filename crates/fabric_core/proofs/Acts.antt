@@ -1,0 +1,86 @@
+-- What an event does to each cell and to the register, from the state before it.
+use Rattle.std.proofs.Common.{◌≡◌, ◌≢◌, ℕ, List, [], length, set, Some, Bool, true, false, refl, sym, ap, ◌∙◌, subst, arith}
+use Rattle.std.specs.Prelude.{slice_get, MatchBool, ◌==◌}
+use Rattle.std.proofs.lemmas.Bool.Decides.{nat_tests}
+use Rattle.std.proofs.lemmas.List.{length-set}
+use Rattle.delos_types.specs.declared.entry.Entry.{Entry}
+use Rattle.loglet_api.specs.View.{LogletView}
+use Rattle.loglet_api.specs.Run.{LogletRun}
+use Rattle.loglet_api.specs.Servers.{ServersView, ServesAll}
+use Rattle.legal_journal.specs.declared.events.FabricCall.{FabricCall}
+use Rattle.legal_journal.specs.declared.events.FabricAnswer.{FabricAnswer}
+use Rattle.fabric_core.specs.Runs.{LogletSteps, StepsOf, RegisterDoes, is_on, is_on_register}
+use Rattle.fabric_core.specs.Fabric.{FabricView, FabricOk, ActsOn, Acts}
+use Rattle.fabric_core.proofs.Ran.{off_register}
+use Rattle.fabric_core.proofs.Marks.{set_same, set_other}
+
+-- what holds of a fabric speaks of no server
+pub any_serving : (may : ℕ → Entry → Type 0) (floor : List Entry → ℕ → Type 0) (shelf : List ℕ) (f : FabricView) (marks : List (List Bool)) (serving : List ServersView) → FabricOk may floor shelf f marks → FabricOk may floor shelf (record f { serving = serving }) marks
+any_serving may floor shelf f marks serving ok = record {
+  legal = ok.legal;
+  shelf_is = ok.shelf_is;
+  cells = ok.cells;
+  register = ok.register;
+  register_ran = ok.register_ran;
+}
+
+-- an event of one cell
+module _ (old new : FabricView) (call : FabricCall) (answer : FabricAnswer) (i : ℕ) (on : (j : ℕ) → is_on j call ≡ (j == i)) (u v : LogletView) (held holds : ServersView) (at : slice_get old.cells i ≡ Some u) (served_at : slice_get old.serving i ≡ Some held) (cells_are : new.cells ≡ set old.cells i v) (serving_are : new.serving ≡ set old.serving i holds) (steps : LogletSteps) (are : StepsOf call answer steps) (run : LogletRun u steps v) (served : ServesAll held steps holds) where
+  here : (j : ℕ) → j ≡ i → ActsOn j call answer old new
+  here j same =
+      let test : (j == i) ≡ true = grind (arith, nat_tests) in record {
+        steps = steps;
+        are = subst (λ b. MatchBool b (StepsOf call answer steps) (steps ≡ [])) (sym (on j ∙ test)) are;
+        cell = λ x h.
+            let both : Some x ≡ Some u = sym h ∙ (ap (slice_get old.cells) same ∙ at) in
+            let is : x ≡ u = cc in (
+              v,
+              ap (λ l. slice_get l j) cells_are ∙ (ap (slice_get (set old.cells i v)) same ∙ set_same old.cells i v u at),
+              subst (λ y. LogletRun y steps v) (sym is) run,
+            );
+        served = λ x h.
+            let both : Some x ≡ Some held = sym h ∙ (ap (slice_get old.serving) same ∙ served_at) in
+            let is : x ≡ held = cc in (
+              holds,
+              ap (λ l. slice_get l j) serving_are ∙ (ap (slice_get (set old.serving i holds)) same ∙ set_same old.serving i holds held served_at),
+              subst (λ y. ServesAll y steps holds) (sym is) served,
+            );
+      }
+
+  there : (j : ℕ) → j ≢ i → ActsOn j call answer old new
+  there j apart =
+      let test : (j == i) ≡ false = grind (arith, nat_tests) in record {
+        steps = [];
+        are = subst (λ b. MatchBool b (StepsOf call answer []) (◌≡◌ {A = LogletSteps} [] [])) (sym (on j ∙ test)) refl;
+        cell = λ x h. (x, ap (λ l. slice_get l j) cells_are ∙ (set_other old.cells i j v apart ∙ h), refl);
+        served = λ x h. (x, ap (λ l. slice_get l j) serving_are ∙ (set_other old.serving i j holds apart ∙ h), refl);
+      }
+
+  place : (j : ℕ) (b : Bool) → (j == i) ≡ b → ActsOn j call answer old new
+  place j true b = let same : j ≡ i = grind (arith, nat_tests) in here j same
+  place j false b = let apart : j ≢ i = grind (arith, nat_tests) in there j apart
+
+  own : is_on i call ≡ true
+  own = let test : (i == i) ≡ true = grind (arith, nat_tests) in on i ∙ test
+
+  pub cell_acts : new.register ≡ old.register → Acts old call answer new
+  cell_acts register = record {
+    cells = ap length cells_are ∙ length-set old.cells i v;
+    serving = ap length serving_are ∙ length-set old.serving i holds;
+    each = λ j. place j (j == i) refl;
+    register = subst (λ b. MatchBool b (RegisterDoes old.register call answer new.register) (new.register ≡ old.register)) (sym (off_register i call own)) register;
+  }
+
+-- an event of the register
+pub register_acts : (old new : FabricView) (call : FabricCall) (answer : FabricAnswer) → ((j : ℕ) → is_on j call ≡ false) → is_on_register call ≡ true → new.cells ≡ old.cells → new.serving ≡ old.serving → RegisterDoes old.register call answer new.register → Acts old call answer new
+register_acts old new call answer off on cells_are serving_are does = record {
+  cells = ap length cells_are;
+  serving = ap length serving_are;
+  each = λ j. record {
+    steps = [];
+    are = subst (λ b. MatchBool b (StepsOf call answer []) (◌≡◌ {A = LogletSteps} [] [])) (sym (off j)) refl;
+    cell = λ x h. (x, ap (λ l. slice_get l j) cells_are ∙ h, refl);
+    served = λ x h. (x, ap (λ l. slice_get l j) serving_are ∙ h, refl);
+  };
+  register = subst (λ b. MatchBool b (RegisterDoes old.register call answer new.register) (new.register ≡ old.register)) (sym on) does;
+}
