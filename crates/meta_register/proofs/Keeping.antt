@@ -1,6 +1,6 @@
 -- What stands and what the records spell stay together, and what a crash leaves of them.
 use Rattle.std.proofs.Common.{◌≡◌, ℕ, ◌+◌, ◌^◌, ◌<◌, ◌≤◌, ◌⊎◌, inl, inr, Bool, true, false, cond, eqb, ltb, List, [], ◌∷◌, ◌++◌, length, take, drop, slice_index_or, Option, Some, None, Result, Ok, refl, sym, ap, subst, ◌∙◌, arith}
-use Rattle.std.specs.Prelude.{option_map}
+use Rattle.std.specs.Prelude.{option_map, ◌&&◌, not, nat_lt}
 use Rattle.std.specs.Option.{ForSome}
 use Rattle.std.specs.Result.{result_ok}
 use Rattle.std.proofs.lemmas.Bool.{le-ltb, ltb-false, ltb-true}
@@ -20,10 +20,11 @@ use Rattle.disk_model.specs.Crash.{AnyCrash}
 use Rattle.disk_model.specs.CrashLaws.{stays, weaker}
 use Rattle.journal_core.specs.Records.{records_of}
 use Rattle.journal_core.specs.Journal as journal
-use Rattle.register_api.specs.View.{IsSound}
+use Rattle.register_api.specs.View.{RegisterView, IsSound}
+use Rattle.register_api.specs.Calls as calls
 use Rattle.meta_register.specs.declared.standing.Standing.{Standing}
 use Rattle.meta_register.specs.Records.{SpellsStanding, standing_in, standing_next, standing_after, standing_of, first_standing, IsFirstBad}
-use Rattle.meta_register.specs.View.{View, MayFind, MayFindDuring, Survives}
+use Rattle.meta_register.specs.View.{View, MayFind, MayFindDuring, Survives, counted}
 use Rattle.meta_register.specs.Keeping.{given_of, view_of, advanced, AreTorn, IsOlder, IsKept, settled, older_settled}
 
 -- the first so many records spell what stands
@@ -62,35 +63,39 @@ standing_of-more records bytes = fold-append standing_after (Some first_standing
 
 -- ---- what a reopening may find
 
-found_by : (s : Standing) (older : Option Standing) (asked : Option Chain) (downs misses : ℕ) (j : journal.View) (t : Option (List ℕ)) (found : List (List ℕ)) → standing_of j.records ≡ Some s → AreTorn s asked t → journal.WithOrWithout j.records t found → MayFind (view_of s older asked downs misses j).register found
-found_by s older None downs misses j None found spelled torn (inl without) = (false, ap standing_of without ∙ spelled)
-found_by s older None downs misses j None found spelled torn (inr with) = absurd (none with.1)
+found_by : (s : Standing) (older : Option Standing) (asked : Option Chain) (downs misses told : ℕ) (j : journal.View) (t : Option (List ℕ)) (found : List (List ℕ)) → standing_of j.records ≡ Some s → AreTorn s asked t → journal.WithOrWithout j.records t found → MayFind (view_of s older asked downs misses told j).register found
+found_by s older None downs misses told j None found spelled torn (inl without) = (false, ap standing_of without ∙ spelled)
+found_by s older None downs misses told j None found spelled torn (inr with) = absurd (none with.1)
   where
     none : {A : Type 0} {x : A} → None ≡ Some x → ⊥
     none e = absurd (cc)
-found_by s older None downs misses j (Some bytes) found spelled torn either = absurd torn
-found_by s older (Some chain) downs misses j None found spelled torn either = absurd torn
-found_by s older (Some chain) downs misses j (Some bytes) found spelled torn (inl without) = (false, ap standing_of without ∙ spelled)
-found_by s older (Some chain) downs misses j (Some bytes) found spelled torn (inr with) =
+found_by s older None downs misses told j (Some bytes) found spelled torn either = absurd torn
+found_by s older (Some chain) downs misses told j None found spelled torn either = absurd torn
+found_by s older (Some chain) downs misses told j (Some bytes) found spelled torn (inl without) = (false, ap standing_of without ∙ spelled)
+found_by s older (Some chain) downs misses told j (Some bytes) found spelled torn (inr with) =
     let same : with.0 ≡ bytes = the_same bytes with.0 with.1 in
     (true, ap standing_of (with.2 ∙ ap (λ (b : List ℕ). j.records ++ b ∷ []) same) ∙ standing_of-more j.records bytes ∙ ap (λ (o : Option Standing). standing_after o bytes) spelled ∙ torn.next)
   where
     the_same : (a b : List ℕ) → Some a ≡ Some b → b ≡ a
     the_same a b e = cc
 
-pub may_find : (s : Standing) (older : Option Standing) (asked : Option Chain) (downs misses : ℕ) (j : journal.View) → IsKept s older asked j → (found : List (List ℕ)) → journal.MayFind j found → MayFind (view_of s older asked downs misses j).register found
-may_find s older asked downs misses j k found either = found_by s older asked downs misses j j.torn found k.spelled k.write either
+pub may_find : (s : Standing) (older : Option Standing) (asked : Option Chain) (downs misses told : ℕ) (j : journal.View) → IsKept s older asked j → (found : List (List ℕ)) → journal.MayFind j found → MayFind (view_of s older asked downs misses told j).register found
+may_find s older asked downs misses told j k found either = found_by s older asked downs misses told j j.torn found k.spelled k.write either
 
-pub kept_survives : (s : Standing) (older : Option Standing) (asked : Option Chain) (downs misses : ℕ) (j : journal.View) → IsKept s older asked j → Survives (view_of s older asked downs misses j)
-kept_survives s older asked downs misses j k = λ image is. may_find s older asked downs misses j k (records_of image) (k.survives.left image is)
+pub kept_survives : (s : Standing) (older : Option Standing) (asked : Option Chain) (downs misses told : ℕ) (j : journal.View) → IsKept s older asked j → Survives (view_of s older asked downs misses told j)
+kept_survives s older asked downs misses told j k = λ image is. may_find s older asked downs misses told j k (records_of image) (k.survives.left image is)
 
 -- the same, of what callers see
-pub seen_survives : (s : Standing) (older : Option Standing) (asked : Option Chain) (downs misses : ℕ) (j : journal.View) (now : View) → IsKept s older asked j → view_of s older asked downs misses j ≡ now → Survives now
-seen_survives s older asked downs misses j now k is = subst (λ (v : View). Survives v) is (kept_survives s older asked downs misses j k)
+pub seen_survives : (s : Standing) (older : Option Standing) (asked : Option Chain) (downs misses told : ℕ) (j : journal.View) (now : View) → IsKept s older asked j → view_of s older asked downs misses told j ≡ now → Survives now
+seen_survives s older asked downs misses told j now k is = subst (λ (v : View). Survives v) is (kept_survives s older asked downs misses told j k)
 
 -- what stays is as it was
 pub stays_during : (v : View) (chain : Chain) (new : DiskView) → new.timeline ≡ v.disk.timeline → Survives v → AnyCrash v.disk.timeline new.timeline (λ c. MayFindDuring v.register chain (records_of c))
 stays_during v chain new same left = stays v.disk.timeline new.timeline (λ c. MayFindDuring v.register chain (records_of c)) same (λ image is. inl (left image is))
+
+-- the same, of a call that asks for no write
+pub stays_found : (v : View) (new : DiskView) → new.timeline ≡ v.disk.timeline → Survives v → AnyCrash v.disk.timeline new.timeline (λ c. MayFind v.register (records_of c))
+stays_found v new same left = stays v.disk.timeline new.timeline (λ c. MayFind v.register (records_of c)) same (λ image is. left image is)
 
 -- ---- what is held
 
@@ -129,23 +134,23 @@ kept_torn s older asked j disk chain bytes new k small joined spelled is left = 
 
 -- ---- a crash inside a write
 
-pub during : (s : Standing) (older : Option Standing) (asked : Option Chain) (downs misses : ℕ) (j : journal.View) (now : View) (chain : Chain) (bytes : List ℕ) (new : DiskView) →
-    IsKept s older asked j → view_of s older asked downs misses j ≡ now → SpellsStanding bytes (advanced s chain) →
+pub during : (s : Standing) (older : Option Standing) (asked : Option Chain) (downs misses told : ℕ) (j : journal.View) (now : View) (chain : Chain) (bytes : List ℕ) (new : DiskView) →
+    IsKept s older asked j → view_of s older asked downs misses told j ≡ now → SpellsStanding bytes (advanced s chain) →
     AnyCrash j.disk.timeline new.timeline (λ c. journal.MayFind j (records_of c) ⊎ (records_of c ≡ j.records ++ bytes ∷ [])) →
     AnyCrash now.disk.timeline new.timeline (λ c. MayFindDuring now.register chain (records_of c))
-during s older asked downs misses j now chain bytes new k is spelled run =
+during s older asked downs misses told j now chain bytes new k is spelled run =
     let next : standing_of (j.records ++ bytes ∷ []) ≡ Some (advanced s chain) =
     standing_of-more j.records bytes ∙ ap (λ (o : Option Standing). standing_after o bytes) k.spelled ∙ record_follows s chain bytes spelled in
     subst (λ (v : View). AnyCrash v.disk.timeline new.timeline (λ c. MayFindDuring v.register chain (records_of c))) is
-    (weaker j.disk.timeline new.timeline (λ c. journal.MayFind j (records_of c) ⊎ (records_of c ≡ j.records ++ bytes ∷ [])) (λ c. MayFindDuring (view_of s older asked downs misses j).register chain (records_of c))
-    (λ c. elim [ inl before ↦ inl (may_find s older asked downs misses j k (records_of c) before) | inr with ↦ inr (ap standing_of with ∙ next) ]) run)
+    (weaker j.disk.timeline new.timeline (λ c. journal.MayFind j (records_of c) ⊎ (records_of c ≡ j.records ++ bytes ∷ [])) (λ c. MayFindDuring (view_of s older asked downs misses told j).register chain (records_of c))
+    (λ c. elim [ inl before ↦ inl (may_find s older asked downs misses told j k (records_of c) before) | inr with ↦ inr (ap standing_of with ∙ next) ]) run)
 
 -- a crash inside a reopening
-pub reopened : (s : Standing) (older : Option Standing) (asked : Option Chain) (downs misses : ℕ) (j : journal.View) (now : View) (new : DiskView) → IsKept s older asked j → view_of s older asked downs misses j ≡ now →
+pub reopened : (s : Standing) (older : Option Standing) (asked : Option Chain) (downs misses told : ℕ) (j : journal.View) (now : View) (new : DiskView) → IsKept s older asked j → view_of s older asked downs misses told j ≡ now →
     AnyCrash j.disk.timeline new.timeline (λ c. journal.MayFind j (records_of c)) → AnyCrash now.disk.timeline new.timeline (λ c. MayFind now.register (records_of c))
-reopened s older asked downs misses j now new k is run =
+reopened s older asked downs misses told j now new k is run =
     subst (λ (v : View). AnyCrash v.disk.timeline new.timeline (λ c. MayFind v.register (records_of c))) is
-    (weaker j.disk.timeline new.timeline (λ c. journal.MayFind j (records_of c)) (λ c. MayFind (view_of s older asked downs misses j).register (records_of c)) (λ c. may_find s older asked downs misses j k (records_of c)) run)
+    (weaker j.disk.timeline new.timeline (λ c. journal.MayFind j (records_of c)) (λ c. MayFind (view_of s older asked downs misses told j).register (records_of c)) (λ c. may_find s older asked downs misses told j k (records_of c)) run)
 
 -- ---- a reopening
 
@@ -207,6 +212,52 @@ kept_settled s older asked after j new disk before now k nothing is found was co
         same_length : now ≤ before → ⊥
         same_length less = omega (arith, less, was, counts, longer with.0 with.2)
 
+-- a reopening that failed
+pub kept_closed : (s : Standing) (older : Option Standing) (asked : Option Chain) (j new : journal.View) (disk : DiskView) → IsKept s older asked j → new ≡ record { records = j.records; torn = j.torn; shut = true; disk = disk } → journal.Survives new → IsKept s older asked new
+kept_closed s older asked j new disk k is left = record {
+  spelled = ap (λ (v : journal.View). standing_of v.records) is ∙ k.spelled;
+  least = k.least;
+  joined = k.joined;
+  before = k.before;
+  whole = λ e. true_false (sym (ap (λ (v : journal.View). v.shut) is) ∙ e);
+  write = subst (λ (t : Option (List ℕ)). AreTorn s asked t) (sym (ap (λ (v : journal.View). v.torn) is)) k.write;
+  survives = left;
+}
+
+abbrev with_state : RegisterView → Bool → ℕ → Bool → RegisterView
+with_state v down faults armed = record v { down = down; faults = faults; armed = armed }
+
+same_state : (v : RegisterView) (d d' : Bool) (n n' : ℕ) (a a' : Bool) → d ≡ d' → n ≡ n' → a ≡ a' → with_state v d n a ≡ with_state v d' n' a'
+same_state v d d' n n' a a' down faults armed =
+    ap (λ (b : Bool). with_state v b n a) down ∙ ap (λ (k : ℕ). with_state v d' k a) faults ∙ ap (λ (b : Bool). with_state v d' n' b) armed
+
+-- it is up again, and nothing is armed
+module _ (s : Standing) (older : Option Standing) (downs misses told word : ℕ) (j new : journal.View) (was : j.shut ≡ true) (up : new.shut ≡ false) (disarmed : new.disk.armed ≡ 0) (no_fault : new.disk.faults ≡ j.disk.faults) where
+  not_armed : (not new.shut && nat_lt 0 new.disk.armed) ≡ (not j.shut && nat_lt 0 j.disk.armed)
+  not_armed =
+      ap (λ (b : Bool). not b && nat_lt 0 new.disk.armed) up ∙ ap (λ (n : ℕ). nat_lt 0 n) disarmed ∙ sym (ap (λ (b : Bool). not b && nat_lt 0 j.disk.armed) was)
+
+  abbrev Shows : Option Chain → Bool → Type 0
+  Shows asked done = (view_of (settled s asked done) (older_settled s older asked done) None downs misses word new).register ≡ record (calls.reopened (view_of s older asked downs misses told j).register done asked) { told = word }
+
+  pub shows_reopened : (asked : Option Chain) (done : Bool) → Shows asked done
+  shows_reopened None done =
+      same_state (record (calls.reopened (view_of s older None downs misses told j).register done None) { told = word }) _ _ _ _ _ _ up (ap (λ (n : ℕ). counted n downs) no_fault) not_armed
+  shows_reopened (Some chain) true =
+      same_state (record (calls.reopened (view_of s older (Some chain) downs misses told j).register true (Some chain)) { told = word }) _ _ _ _ _ _ up (ap (λ (n : ℕ). counted n downs) no_fault) not_armed
+  shows_reopened (Some chain) false =
+      same_state (record (calls.reopened (view_of s older (Some chain) downs misses told j).register false (Some chain)) { told = word }) _ _ _ _ _ _ up (ap (λ (n : ℕ). counted n downs) no_fault) not_armed
+
+  pub reopens_so : (asked taken after : Option Chain) (stands : Standing) (given : Option Standing) (done : Bool) (now : View) → view_of s older asked downs misses told j ≡ now → taken ≡ asked → after ≡ None →
+      stands ≡ settled s taken done → given ≡ older_settled s older taken done → calls.Reopens now.register word (Ok true) (view_of stands given after downs misses word new).register
+  reopens_so asked taken after stands given done now is same none settles gives =
+      let shows : (view_of stands given after downs misses word new).register ≡ record (calls.reopened (view_of s older asked downs misses told j).register done asked) { told = word } =
+      ap (λ (x : Standing). (view_of x given after downs misses word new).register) (settles ∙ ap (λ (a : Option Chain). settled s a done) same)
+      ∙ ap (λ (x : Option Standing). (view_of (settled s asked done) x after downs misses word new).register) (gives ∙ ap (λ (a : Option Chain). older_settled s older a done) same)
+      ∙ ap (λ (x : Option Chain). (view_of (settled s asked done) (older_settled s older asked done) x downs misses word new).register) none
+      ∙ shows_reopened asked done in
+      subst (λ (v : View). calls.Reopens v.register word (Ok true) (view_of stands given after downs misses word new).register) is ((λ running. true_false (sym was ∙ running)), (done, shows))
+
 -- ---- reading the records
 
 pub bad_none : (records : List (List ℕ)) (n : ℕ) (s : Standing) (bytes : List ℕ) (read : Option Standing) → StandsAfter records n s → n < length records → bytes ≡ slice_index_or records n [] → read ≡ standing_in bytes → read ≡ None → IsFirstBad records n
@@ -227,8 +278,8 @@ bad_next records n s next bytes read is_next first within is value some told ref
 
 -- ---- what holds at every moment
 
-sound_of : (s : Standing) (older : Option Standing) (asked : Option Chain) (downs misses : ℕ) (j : journal.View) (t : Option (List ℕ)) → (j.torn ≡ t) → IsKept s older asked j → IsSound (view_of s older asked downs misses j).register
-sound_of s older asked downs misses j t is k = record {
+sound_of : (s : Standing) (older : Option Standing) (asked : Option Chain) (downs misses told : ℕ) (j : journal.View) (t : Option (List ℕ)) → (j.torn ≡ t) → IsKept s older asked j → IsSound (view_of s older asked downs misses told j).register
+sound_of s older asked downs misses told j t is k = record {
   least = k.least;
   chain = k.joined;
   given = given_within older k.before;
@@ -258,5 +309,5 @@ sound_of s older asked downs misses j t is k = record {
     asked_joined (Some chain) None both = absurd both
     asked_joined (Some chain) (Some bytes) both = λ x e. let same : chain ≡ x = cc in subst (λ (c : Chain). IsChain c) same both.joined
 
-pub seen_sound : (s : Standing) (older : Option Standing) (asked : Option Chain) (downs misses : ℕ) (j : journal.View) (now : View) → IsKept s older asked j → view_of s older asked downs misses j ≡ now → IsSound now.register
-seen_sound s older asked downs misses j now k is = subst (λ (v : View). IsSound v.register) is (sound_of s older asked downs misses j j.torn refl k)
+pub seen_sound : (s : Standing) (older : Option Standing) (asked : Option Chain) (downs misses told : ℕ) (j : journal.View) (now : View) → IsKept s older asked j → view_of s older asked downs misses told j ≡ now → IsSound now.register
+seen_sound s older asked downs misses told j now k is = subst (λ (v : View). IsSound v.register) is (sound_of s older asked downs misses told j j.torn refl k)

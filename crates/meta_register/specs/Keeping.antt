@@ -1,5 +1,5 @@
 -- What a register keeps in memory, and how that and its journal belong together.
-use Rattle.std.specs.Prelude.{◌≡◌, ℕ, ◌+◌, ◌^◌, ◌<◌, ◌≤◌, Bool, false, if◌then◌else◌, List, Option, Some, None, unwrap_or}
+use Rattle.std.specs.Prelude.{◌≡◌, ℕ, ◌+◌, ◌^◌, ◌<◌, ◌≤◌, ◌&&◌, not, nat_lt, Bool, false, if◌then◌else◌, List, Option, Some, None, unwrap_or}
 use Rattle.std.specs.Option.{ForSome}
 use Rattle.delos_types.specs.declared.chain.Chain.{Chain}
 use Rattle.chain_map.specs.Chain.{IsChain}
@@ -17,8 +17,8 @@ abbrev pub given_of : Standing → Option Standing → Standing
 given_of s older = unwrap_or older s
 
 -- what callers see
-abbrev pub view_of : Standing → Option Standing → Option Chain → ℕ → ℕ → journal.View → View
-view_of s older asked downs misses j = record {
+abbrev pub view_of : Standing → Option Standing → Option Chain → ℕ → ℕ → ℕ → journal.View → View
+view_of s older asked downs misses told j = record {
   register = record {
     version = s.version;
     chain = s.chain;
@@ -28,7 +28,10 @@ view_of s older asked downs misses j = record {
     down = j.shut;
     faults = counted j.disk.faults downs;
     misses = misses;
+    armed = not j.shut && nat_lt 0 j.disk.armed;
+    told = told;
   };
+  downs = downs;
   disk = j.disk;
 }
 

@@ -1,16 +1,17 @@
 -- A register as its callers see it, and what a crash leaves of it.
-use Rattle.std.specs.Prelude.{◌≡◌, ◌⊎◌, ℕ, ◌+◌, ◌-◌, ◌^◌, min, Bool, List, Some}
+use Rattle.std.specs.Prelude.{◌≡◌, ◌≢◌, ◌⊎◌, ℕ, ◌+◌, ◌-◌, ◌^◌, min, Bool, if◌then◌else◌, List, Some}
 use Rattle.delos_types.specs.declared.chain.Chain.{Chain}
 use Rattle.disk_model.specs.Disk.{DiskView}
 use Rattle.journal_core.specs.Journal.{LeavesRecords}
-use Rattle.register_api.specs.View.{RegisterView}
+use Rattle.register_api.specs.View.{RegisterView, bumped}
 use Rattle.register_api.specs.Calls.{reopened}
 use Rattle.meta_register.specs.declared.standing.Standing.{Standing}
 use Rattle.meta_register.specs.Records.{standing_of}
 
--- what every register shows, and its disk
+-- what every register shows; how often it answered that it was down; and its disk
 pub record View : Type 0 where
   pub register : RegisterView
+  pub downs : ℕ
   pub disk : DiskView
 
 abbrev pub standing_in_view : RegisterView → Standing
@@ -31,3 +32,14 @@ counted faults downs = min (faults + downs) (2 ^ 64 - 1)
 -- what a crash inside a write may leave: what one before it may leave, or the chain under the next version
 abbrev pub MayFindDuring : RegisterView → Chain → List (List ℕ) → Type 0
 MayFindDuring v chain found = MayFind v found ⊎ (standing_of found ≡ Some (record { version = v.version + 1; chain = chain }))
+
+-- how often it has answered that it was down, after a read or a write
+abbrev pub downs_after : View → ℕ
+downs_after v = if v.register.down then bumped v.downs else v.downs
+
+-- A good write is two of the writes that an armed disk counts, and the disk doesn't fail.
+pub record TwoWrites (old new : DiskView) : Type 0 where
+  pub first : old.armed ≢ 1
+  pub second : old.armed ≢ 2
+  pub left : new.armed ≡ old.armed - 2
+  pub no_fault : new.faults ≡ old.faults

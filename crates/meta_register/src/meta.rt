@@ -1,13 +1,13 @@
 //! A register over its disk.
-ghost use Rattle.std.specs.Prelude.{◌≡◌, ◌≢◌, ℕ, ◌+◌, ◌^◌, ◌<◌, ◌≤◌, true, false, Some, None, [], IfOk, IfErr};
+ghost use Rattle.std.specs.Prelude.{◌≡◌, ◌≢◌, ◌⊎◌, ℕ, ◌+◌, ◌-◌, ◌^◌, ◌<◌, ◌≤◌, nat_lt, true, false, if◌then◌else◌, Some, None, [], IfOk, IfErr, OnErr, Ok};
 ghost use Rattle.disk_model.specs.Disk.{reads, IsSynced, Rose};
 ghost use Rattle.journal_core.specs.Records.{records_of};
 ghost use Rattle.journal_core.specs.Journal.{AnyCrashLeaves};
 ghost use Rattle.chain_map.specs.Chain.{IsChain};
-ghost use Rattle.register_api.specs.View.{IsFresh};
-ghost use Rattle.register_api.specs.Calls.{Writes, Reopens};
+ghost use Rattle.register_api.specs.View.{IsFresh, armed_by};
+ghost use Rattle.register_api.specs.Calls.{Reads, Writes, Reopens};
 ghost use Rattle.meta_register.specs.Records.{standing_of, IsFirstBad};
-ghost use Rattle.meta_register.specs.View.{View, MayFind, MayFindDuring, Survives, standing_in_view};
+ghost use Rattle.meta_register.specs.View.{View, MayFind, MayFindDuring, Survives, standing_in_view, counted, downs_after, TwoWrites};
 ghost use Rattle.meta_register.specs.Keeping.{open_fault_of};
 
 use crate::fault::{OpenFault, Refused};
@@ -38,6 +38,8 @@ pub struct MetaRegister<D: Disk> {
     asked: Option<Chain>,
     downs: u64,
     misses: u64,
+    /// The count or word that the last stop or reopening was given.
+    told: u64,
 }
 
 impl<D: Disk> Model for MetaRegister<D> {
@@ -46,7 +48,7 @@ impl<D: Disk> Model for MetaRegister<D> {
 
     ghost Value = { View };
 
-    ghost view = { λ r. view_of r.standing r.older r.asked r.downs r.misses r.journal };
+    ghost view = { λ r. view_of r.standing r.older r.asked r.downs r.misses r.told r.journal };
 
     ghost invariant = { λ r. IsKept r.standing r.older r.asked r.journal };
 }
@@ -64,6 +66,14 @@ impl<D: Disk> MetaRegister<D> {
         ensures survives { IfOk result Survives }
         ensures any_crash { IfOk result (λ r. AnyCrashLeaves (D.view disk) r.disk (λ found. found ≡ records_of (reads (D.view disk)))) }
         ensures faults { IfOk result (λ r. r.disk.faults ≡ (D.view disk).faults) }
+        ensures untold { IfOk result (λ r. (r.downs ≡ 0) × (r.register.told ≡ 0)) }
+
+        // At most one write was made: it is armed where it was, and one that fails may have reached the armed write.
+        ensures one_write { IfOk result (λ r. (r.disk.armed ≡ (D.view disk).armed) ⊎ (((D.view disk).armed ≢ 1) × (r.disk.armed ≡ (D.view disk).armed - 1))) }
+        ensures armed { IfOk result (λ r. r.register.armed ≡ nat_lt 0 (D.view disk).armed) }
+        ensures one_write_refused { IfErr result (λ e. ((D.view e.disk).armed ≡ (D.view disk).armed) ⊎ ((D.view e.disk).armed ≡ (D.view disk).armed - 1)) }
+        ensures armed_refused { IfErr result (λ e. e.fault ≢ OpenFault.Disk → nat_lt 0 (D.view e.disk).armed ≡ nat_lt 0 (D.view disk).armed) }
+        ensures no_fault_refused { IfErr result (λ e. e.fault ≢ OpenFault.Disk → (D.view e.disk).faults ≡ (D.view disk).faults) }
 
         // The first record that is none of a register's or doesn't follow is told; a disk's fault was counted.
         ensures bad { (index : ℕ) → IfErr result (λ e. e.fault ≡ OpenFault.BadRecord index → IsFirstBad (records_of (reads (D.view disk))) index) }
@@ -88,6 +98,7 @@ impl<D: Disk> MetaRegister<D> {
                 asked: None,
                 downs: 0,
                 misses: 0,
+                told: 0,
             }),
             Err(fault) => Err(Refused {
                 fault,
@@ -103,6 +114,8 @@ impl<D: Disk> MetaRegister<D> {
         requires small { self.old.register.version < 2 ^ 48 }
         requires chain { IsChain chain.now }
         ensures writes { Writes self.old.register self.old.register.version chain.now result self.new.register }
+        ensures counted { (next : ℕ) → result ≡ Ok (WriteAnswer.Written next) → TwoWrites self.old.disk self.new.disk }
+        ensures downs { self.new.downs ≡ self.old.downs }
         ensures any_crash { AnyCrashLeaves self.old.disk self.new.disk (MayFindDuring self.old.register chain.now) }
         ensures survives { Survives self.new }
     {
@@ -140,6 +153,7 @@ impl<D: Disk> MetaRegister<D> {
             asked: _,
             downs: _,
             misses: _,
+            told: _,
         } = self;
         journal.into_parts()
     }
@@ -148,7 +162,11 @@ impl<D: Disk> MetaRegister<D> {
 impl<D: Disk> Register for MetaRegister<D> {
     ghost view = { λ r. r.register };
 
-    fn read(&mut self) -> Result<ReadAnswer, AllocError> {
+    fn read(&mut self) -> Result<ReadAnswer, AllocError>
+        ensures reads { Reads self.old.register result self.new.register }
+        ensures disk { self.new.disk ≡ self.old.disk }
+        ensures downs { self.new.downs ≡ downs_after self.old }
+    {
         if self.journal.is_shut() {
             self.downs = self.downs.saturating_add(1);
             return Ok(ReadAnswer::Down);
@@ -162,9 +180,16 @@ impl<D: Disk> Register for MetaRegister<D> {
         requires version { self.old.register.version < 2 ^ 48 }
         requires chain { IsChain chain.now }
         ensures writes { Writes self.old.register expected chain.now result self.new.register }
+        ensures downs { self.new.downs ≡ downs_after self.old }
+
+        // A good write is two of the writes that an armed disk counts; what isn't to write leaves the disk as it was.
+        ensures counted { (next : ℕ) → result ≡ Ok (WriteAnswer.Written next) → TwoWrites self.old.disk self.new.disk }
+        ensures conflict { expected ≢ self.old.register.version → self.new.disk ≡ self.old.disk }
+        ensures down { self.old.register.down ≡ true → self.new.disk ≡ self.old.disk }
 
         // A crash inside it leaves what one before it may leave, or the chain under the next version.
         ensures any_crash { AnyCrashLeaves self.old.disk self.new.disk (MayFindDuring self.old.register chain.now) }
+        ensures wrong { expected ≢ self.old.register.version → AnyCrashLeaves self.old.disk self.new.disk (MayFind self.old.register) }
         ensures survives { Survives self.new }
     {
         if self.journal.is_shut() {
@@ -180,18 +205,32 @@ impl<D: Disk> Register for MetaRegister<D> {
         self.replace(version + 1, chain)
     }
 
-    fn stop(&mut self, after: u64) {
+    fn stop(&mut self, after: u64)
+        ensures stops { self.new.register ≡ armed_by self.old.register after }
+        ensures disk { self.new ≡ record self.old { register = self.new.register; disk = if self.old.disk.stopped then self.old.disk else record self.old.disk { armed = after } } }
+        ensures arms { self.old.register.down ≡ false → self.new.disk ≡ record self.old.disk { armed = after } }
+        ensures survives { Survives self.new }
+    {
         self.journal.stop(after);
+        self.told = after;
     }
 
     fn reopen(&mut self, word: u64) -> Result<bool, AllocError>
-        ensures reopens { Reopens self.old.register result self.new.register }
+        ensures reopens { Reopens self.old.register word result self.new.register }
+        ensures downs { self.new.downs ≡ self.old.downs }
+
+        // Where it is up the disk stays as it was; else nothing is armed where it succeeds, and no fault was counted.
+        ensures idle { self.old.register.down ≡ false → self.new.disk ≡ self.old.disk }
+        ensures disarmed { self.old.register.down ≡ true → IfOk result (λ up. up ≡ true → self.new.disk.armed ≡ 0) }
+        ensures no_fault { IfOk result (λ up. up ≡ true → self.new.disk.faults ≡ self.old.disk.faults) }
+        ensures no_fault_memory { OnErr result (self.new.disk.faults ≡ self.old.disk.faults) }
 
         // A crash inside it leaves what one before it may leave.
         ensures any_crash { AnyCrashLeaves self.old.disk self.new.disk (MayFind self.old.register) }
         ensures survives { Survives self.new }
     {
         if !self.journal.is_shut() {
+            self.told = word;
             return Ok(true);
         }
         let before = self.journal.count();
@@ -200,11 +239,13 @@ impl<D: Disk> Register for MetaRegister<D> {
                 let done = before < self.journal.count();
                 let asked = self.asked.take();
                 settle(&mut self.standing, &mut self.older, asked, done);
+                self.told = word;
                 Ok(true)
             }
             Err(Fault::Memory) => Err(AllocError),
             Err(Fault::Disk) => {
                 self.misses = self.misses.saturating_add(1);
+                self.told = word;
                 Ok(false)
             }
         }
@@ -217,7 +258,10 @@ impl<D: Disk> Register for MetaRegister<D> {
         }
     }
 
-    fn faults(&self) -> u64 {
+    fn faults(&self) -> u64
+        ensures value { result ≡ self.now.register.faults }
+        ensures both { result ≡ counted self.now.disk.faults self.now.downs }
+    {
         self.journal.disk_faults().saturating_add(self.downs)
     }
 
