@@ -146,6 +146,7 @@ pub fn make_crew<L: Loglet, R: Register, K: Terms, S: Replica, C: Chooser>(
     requires least { 0 < length cells.items }
     requires most { length cells.items ≤ 64 }
     requires shelf { map (λ v. v.servers) (map L.view cells.items) ≡ K.shelf }
+    requires kinds { map (λ v. v.kind) (map L.view cells.items) ≡ K.kinds }
     requires fresh { All (λ l. IsFresh (L.view l)) cells.items }
     requires sound { All (λ l. IsSound (L.view l)) cells.items }
     requires register { view.IsFresh (R.view register) }

@@ -58,6 +58,7 @@ pub fn part_crew<L: Loglet, R: Register, K: Terms, S: Replica, C: Chooser>(
     requires none { nodes.old.items ≡ [] }
     requires room { length crew.workers.items ≤ vec_capacity nodes.old }
     ensures told { AreAsTold K.may K.floor K.shelf crew.fabric.journal (map L.view result.cells.items) (R.view result.register) }
+    ensures kinds { map (λ v. v.kind) (map L.view result.cells.items) ≡ K.kinds }
     ensures nodes { map (λ n. S.shows n.replica) nodes.new.items ≡ map (λ w. w.seat.node.replica) crew.workers.items }
 {
     let Crew {

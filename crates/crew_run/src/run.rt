@@ -58,6 +58,7 @@ fn run_by<L: Loglet, R: Register, K: Terms, S: Replica, C: Chooser>(
     requires least { 0 < length cells.items }
     requires most { length cells.items ≤ 64 }
     requires shelf { map (λ v. v.servers) (map L.view cells.items) ≡ K.shelf }
+    requires kinds { map (λ v. v.kind) (map L.view cells.items) ≡ K.kinds }
     requires fresh { All (λ l. IsFresh (L.view l)) cells.items }
     requires sound { All (λ l. IsSound (L.view l)) cells.items }
     requires register { view.IsFresh (R.view register) }
@@ -67,6 +68,7 @@ fn run_by<L: Loglet, R: Register, K: Terms, S: Replica, C: Chooser>(
     ensures told { IfOk result.told (RunTold lines.now (record { cells = map L.view result.cells.items; register = R.view result.register; disks = map (λ n. (S.shows n.replica).faults) result.nodes.items })) }
     ensures size { length result.nodes.items ≡ length nodes.items }
     ensures cells { length result.cells.items ≡ length cells.items }
+    ensures kinds { map (λ v. v.kind) (map L.view result.cells.items) ≡ map (λ v. v.kind) (map L.view cells.items) }
 {
     let mut nodes = nodes;
     match make_crew::<L, R, K, S, C>(alloc, cells, register, &mut nodes, lines) {
@@ -128,6 +130,7 @@ pub fn run_lines<L: Loglet, R: Register, S: Replica, C: Chooser>(
     ensures told { IfOk result.told (RunTold lines.now (record { cells = map L.view result.cells.items; register = R.view result.register; disks = map (λ n. (S.shows n.replica).faults) result.nodes.items })) }
     ensures size { length result.nodes.items ≡ length nodes.items }
     ensures cells { length result.cells.items ≡ length cells.items }
+    ensures kinds { map (λ v. v.kind) (map L.view result.cells.items) ≡ map (λ v. v.kind) (map L.view cells.items) }
 {
     lines_may_run();
     the_floor_is();

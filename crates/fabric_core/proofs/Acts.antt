@@ -4,6 +4,7 @@ use Rattle.std.specs.Prelude.{slice_get, MatchBool, ◌==◌}
 use Rattle.std.proofs.lemmas.Bool.Decides.{nat_tests}
 use Rattle.std.proofs.lemmas.List.{length-set}
 use Rattle.delos_types.specs.declared.entry.Entry.{Entry}
+use Rattle.loglet_api.specs.declared.call.Kind.{Kind}
 use Rattle.loglet_api.specs.View.{LogletView}
 use Rattle.loglet_api.specs.Run.{LogletRun}
 use Rattle.loglet_api.specs.Servers.{ServersView, ServesAll}
@@ -15,10 +16,11 @@ use Rattle.fabric_core.proofs.Ran.{off_register}
 use Rattle.fabric_core.proofs.Marks.{set_same, set_other}
 
 -- what holds of a fabric speaks of no server
-pub any_serving : (may : ℕ → Entry → Type 0) (floor : List Entry → ℕ → Type 0) (shelf : List ℕ) (f : FabricView) (marks : List (List Bool)) (serving : List ServersView) → FabricOk may floor shelf f marks → FabricOk may floor shelf (record f { serving = serving }) marks
+pub any_serving : (may : ℕ → Entry → Type 0) (floor : List Entry → ℕ → Type 0) (shelf : List ℕ) {kinds : List Kind} (f : FabricView) (marks : List (List Bool)) (serving : List ServersView) → FabricOk may floor shelf kinds f marks → FabricOk may floor shelf kinds (record f { serving = serving }) marks
 any_serving may floor shelf f marks serving ok = record {
   legal = ok.legal;
   shelf_is = ok.shelf_is;
+  kinds_are = ok.kinds_are;
   cells = ok.cells;
   register = ok.register;
   register_ran = ok.register_ran;

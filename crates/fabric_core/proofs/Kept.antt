@@ -10,6 +10,7 @@ use Rattle.loglet_api.specs.declared.call.LogletAnswer.TheVariants as answer
 use Rattle.loglet_api.specs.declared.call.Refused.TheVariants as refused
 use Rattle.loglet_api.specs.declared.call.LogletCall.{LogletCall}
 use Rattle.loglet_api.specs.declared.call.LogletAnswer.{LogletAnswer}
+use Rattle.loglet_api.specs.declared.call.Kind.{Kind}
 use Rattle.loglet_api.specs.View.{LogletView, operation_at}
 use Rattle.loglet_api.specs.Sound.{IsSound}
 use Rattle.loglet_api.specs.Step.{LogletStep}
@@ -79,7 +80,7 @@ unmarked : (r : Option Running) (o : Option Bool) → IsMarked r o → o ≢ Som
 unmarked None o h k = refl
 unmarked (Some r) o h k = absurd (k h)
 
-map_same : (g : LogletView → ℕ) (xs : List LogletView) (i : ℕ) (a b : LogletView) → slice_get xs i ≡ Some b → g a ≡ g b → map g (set xs i a) ≡ map g xs
+map_same : {A : Type 0} (g : LogletView → A) (xs : List LogletView) (i : ℕ) (a b : LogletView) → slice_get xs i ≡ Some b → g a ≡ g b → map g (set xs i a) ≡ map g xs
 map_same g [] i a b h k = refl
 map_same g (y ∷ ys) zero a b h k = let same : y ≡ b = cc in ap (λ n. n ∷ map g ys) (k ∙ ap g (sym same))
 map_same g (y ∷ ys) (suc i) a b h k = ap (λ l. g y ∷ l) (map_same g ys i a b h k)
@@ -91,17 +92,18 @@ module _ (may : ℕ → Entry → Type 0) (floor : List Entry → ℕ → Type 0
   pub state_more : (j : List Event) (e : Event) → state_of (j ++ e ∷ []) ≡ after (state_of j) e.who (move e)
   state_more j e = after_all-append start j (e ∷ [])
 
-  module _ (f : FabricView) (marks : List (List Bool)) (ok : FabricOk may floor shelf f marks) (i : ℕ) (v : LogletView) (held : ServersView) (here : List Bool) (at : slice_get f.cells i ≡ Some v) (marked_at : slice_get marks i ≡ Some here) where
+  module _ {kinds : List Kind} (f : FabricView) (marks : List (List Bool)) (ok : FabricOk may floor shelf kinds f marks) (i : ℕ) (v : LogletView) (held : ServersView) (here : List Bool) (at : slice_get f.cells i ≡ Some v) (marked_at : slice_get marks i ≡ Some here) where
     here_is : (j : ℕ) → (j == j) ≡ true
     here_is j = grind (arith, nat_tests)
 
     -- one cell takes its steps, and all else stays
-    on_cell : (e : Event) → MayHappen (state_of f.journal) may floor shelf e → (c : CellState) → ((j : ℕ) → (after (state_of f.journal) e.who (move e)).cells j ≡ put (state_of f.journal).cells i c j) → (after (state_of f.journal) e.who (move e)).register ≡ (state_of f.journal).register → ((j : ℕ) → is_on j e.call ≡ (j == i)) → (now : LogletView) (there : List Bool) → IsAsTold c now → AreMarked c there → now.servers ≡ v.servers → (steps : LogletSteps) → StepsOf e.call e.answer steps → LogletRun v steps now → FabricOk may floor shelf (record { cells = slice_set f.cells i now; serving = f.serving; register = f.register; journal = f.journal ++ e ∷ [] }) (slice_set marks i there)
+    on_cell : (e : Event) → MayHappen (state_of f.journal) may floor shelf e → (c : CellState) → ((j : ℕ) → (after (state_of f.journal) e.who (move e)).cells j ≡ put (state_of f.journal).cells i c j) → (after (state_of f.journal) e.who (move e)).register ≡ (state_of f.journal).register → ((j : ℕ) → is_on j e.call ≡ (j == i)) → (now : LogletView) (there : List Bool) → IsAsTold c now → AreMarked c there → now.servers ≡ v.servers → (steps : LogletSteps) → StepsOf e.call e.answer steps → LogletRun v steps now → FabricOk may floor shelf kinds (record { cells = slice_set f.cells i now; serving = f.serving; register = f.register; journal = f.journal ++ e ∷ [] }) (slice_set marks i there)
     on_cell e can c cells_are register_is on now there told marked servers steps are run =
         let w = state_of f.journal in
         let next = state_more f.journal e in record {
           legal = legal_more f.journal e ok.legal can;
           shelf_is = map_same (λ (x : LogletView). x.servers) f.cells i now v at servers ∙ ok.shelf_is;
+          kinds_are = map_same (λ (x : LogletView). x.kind) f.cells i now v at (run_keeps v steps now run).kind ∙ ok.kinds_are;
           cells = λ j x g. by_place j x g (j == i) refl;
           register = subst (λ (r : RegisterState). IsRegisterAsTold r f.register) (sym (ap (λ (y : State). y.register) next ∙ register_is)) ok.register;
           register_ran = register_same f.register f.journal e ok.register_ran (off_register i e.call (on i ∙ here_is i));
@@ -150,7 +152,7 @@ module _ (may : ℕ → Entry → Type 0) (floor : List Entry → ℕ → Type 0
 
     -- what the fabric is after an event of the cell
     abbrev pub IsAfter : CellView → Type 0
-    IsAfter new = FabricOk may floor shelf (record { cells = slice_set f.cells i new.loglet; serving = f.serving; register = f.register; journal = new.journal }) (slice_set marks i new.marks)
+    IsAfter new = FabricOk may floor shelf kinds (record { cells = slice_set f.cells i new.loglet; serving = f.serving; register = f.register; journal = new.journal }) (slice_set marks i new.marks)
 
     same_cells : (j : ℕ) → (state_of f.journal).cells j ≡ put (state_of f.journal).cells i ((state_of f.journal).cells i) j
     same_cells j = put_cases (λ (y : CellState). (state_of f.journal).cells j ≡ y) (state_of f.journal).cells i ((state_of f.journal).cells i) j (λ e. ap (state_of f.journal).cells e) (λ _. refl)

@@ -1,6 +1,7 @@
 -- A fabric goes on after an event of its register.
 use Rattle.std.proofs.Common.{◌≡◌, inl, inr, ℕ, ◌+◌, ◌<◌, ◌^◌, List, [], ◌∷◌, ◌++◌, length, Bool, true, false, refl, sym, ap, ◌∙◌, subst, ⊎_elim, arith}
 use Rattle.std.proofs.lemmas.List.{length-append}
+use Rattle.loglet_api.specs.declared.call.Kind.{Kind}
 use Rattle.delos_types.specs.declared.entry.Entry.{Entry}
 use Rattle.delos_types.specs.declared.chain.Chain.{Chain}
 use Rattle.chain_map.specs.Chain.{is_chain}
@@ -24,16 +25,17 @@ use Rattle.fabric_core.proofs.Registers.{counted, current_is, given_told, writte
 use Rattle.fabric_core.proofs.Kept.{legal_more, state_more, has_run_same}
 use Rattle.fabric_core.proofs.Shelf.{adds_none}
 
-module _ (may : ℕ → Entry → Type 0) (floor : List Entry → ℕ → Type 0) (shelf : List ℕ) (f : FabricView) (marks : List (List Bool)) (ok : FabricOk may floor shelf f marks) where
+module _ (may : ℕ → Entry → Type 0) (floor : List Entry → ℕ → Type 0) (shelf : List ℕ) {kinds : List Kind} (f : FabricView) (marks : List (List Bool)) (ok : FabricOk may floor shelf kinds f marks) where
   state_ok : StateOk (length shelf) (state_of f.journal)
   state_ok = sound may floor shelf f.journal ok.legal
 
   -- the event is of no cell
-  off_cells : (e : Event) → MayHappen (state_of f.journal) may floor shelf e → ((j : ℕ) → (after (state_of f.journal) e.who (move e)).cells j ≡ (state_of f.journal).cells j) → ((j : ℕ) → is_on j e.call ≡ false) → is_on_register e.call ≡ true → (r : RegisterView) → RegisterDoes f.register e.call e.answer r → IsRegisterAsTold (after (state_of f.journal) e.who (move e)).register r → FabricOk may floor shelf (record { cells = f.cells; serving = f.serving; register = r; journal = f.journal ++ e ∷ [] }) marks
+  off_cells : (e : Event) → MayHappen (state_of f.journal) may floor shelf e → ((j : ℕ) → (after (state_of f.journal) e.who (move e)).cells j ≡ (state_of f.journal).cells j) → ((j : ℕ) → is_on j e.call ≡ false) → is_on_register e.call ≡ true → (r : RegisterView) → RegisterDoes f.register e.call e.answer r → IsRegisterAsTold (after (state_of f.journal) e.who (move e)).register r → FabricOk may floor shelf kinds (record { cells = f.cells; serving = f.serving; register = r; journal = f.journal ++ e ∷ [] }) marks
   off_cells e can same off on r does register =
       let next = state_more may floor shelf f.journal e in record {
         legal = legal_more may floor shelf f.journal e ok.legal can;
         shelf_is = ok.shelf_is;
+        kinds_are = ok.kinds_are;
         cells = λ j x g.
             let old = ok.cells j x g in
             let cell : (state_of (f.journal ++ e ∷ [])).cells j ≡ (state_of f.journal).cells j = ap (λ (y : State). y.cells j) next ∙ same j in record {
@@ -48,14 +50,14 @@ module _ (may : ℕ → Entry → Type 0) (floor : List Entry → ℕ → Type 0
       }
 
   pub record Goes (who : ℕ) (call : FabricCall) (answer : FabricAnswer) (r : RegisterView) (journal : List Event) : Type 0 where
-    pub now : FabricOk may floor shelf (record { cells = f.cells; serving = f.serving; register = r; journal = journal }) marks
+    pub now : FabricOk may floor shelf kinds (record { cells = f.cells; serving = f.serving; register = r; journal = journal }) marks
     pub keeps : Keeps may floor shelf f who call answer (record { cells = f.cells; serving = f.serving; register = r; journal = journal })
 
   -- one event is recorded
   acted : (who : ℕ) (call : FabricCall) (answer : FabricAnswer) (r : RegisterView) (journal : List Event) → MayHappen (state_of f.journal) may floor shelf (record { who = who; call = call; answer = answer }) → ((j : ℕ) → (after (state_of f.journal) who (move_of call answer)).cells j ≡ (state_of f.journal).cells j) → ((j : ℕ) → is_on j call ≡ false) → is_on_register call ≡ true → OwnEvents who call answer (record { who = who; call = call; answer = answer } ∷ []) → RegisterActs f.register f.journal who call answer r journal → IsRegisterAsTold (after (state_of f.journal) who (move_of call answer)).register r → Goes who call answer r journal
   acted who call answer r journal can same off on own h told =
       let e : Event = record { who = who; call = call; answer = answer } in
-      let all : FabricOk may floor shelf (record { cells = f.cells; serving = f.serving; register = r; journal = journal }) marks = subst (λ j. FabricOk may floor shelf (record { cells = f.cells; serving = f.serving; register = r; journal = j }) marks) (sym h.recorded) (off_cells e can same off on r h.does told) in record {
+      let all : FabricOk may floor shelf kinds (record { cells = f.cells; serving = f.serving; register = r; journal = journal }) marks = subst (λ j. FabricOk may floor shelf kinds (record { cells = f.cells; serving = f.serving; register = r; journal = j }) marks) (sym h.recorded) (off_cells e can same off on r h.does told) in record {
         now = all;
         keeps = record {
           adds = record { own = e ∷ []; event = own; added = h.recorded };
@@ -69,7 +71,7 @@ module _ (may : ℕ → Entry → Type 0) (floor : List Entry → ℕ → Type 0
   unheard : (who : ℕ) (call : FabricCall) (answer : FabricAnswer) (r : RegisterView) (journal : List Event) → answer ≡ Memory → r ≡ f.register → journal ≡ f.journal → Goes who call answer r journal
   unheard who call answer r journal memory same is =
       let unchanged : ◌≡◌ {A = FabricView} (record { cells = f.cells; serving = f.serving; register = r; journal = journal }) f = ap (λ x. record { cells = f.cells; serving = f.serving; register = x; journal = journal }) same ∙ ap (λ x. record { cells = f.cells; serving = f.serving; register = f.register; journal = x }) is in
-      let all = subst (λ (x : FabricView). FabricOk may floor shelf x marks) (sym unchanged) ok in record {
+      let all = subst (λ (x : FabricView). FabricOk may floor shelf kinds x marks) (sym unchanged) ok in record {
         now = all;
         keeps = record {
           adds = adds_none who call f.journal journal answer memory is;

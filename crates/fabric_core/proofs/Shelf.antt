@@ -4,6 +4,7 @@ use Rattle.std.specs.Prelude.{slice_get, ◌==◌}
 use Rattle.std.proofs.lemmas.List.{length-append, length-map}
 use Rattle.std.proofs.lemmas.Option.{slice_get_within}
 use Rattle.delos_types.specs.declared.entry.Entry.{Entry}
+use Rattle.loglet_api.specs.declared.call.Kind.{Kind}
 use Rattle.loglet_api.specs.View.{LogletView, Operation, operation_at, IsOpen}
 use Rattle.loglet_api.specs.Servers.{ServersView}
 use Rattle.loglet_api.specs.declared.call.Op.{Op}
@@ -85,7 +86,7 @@ marked_open (Some r) None m h k e = absurd e
 marked_open (Some r) (Some o) m h k e = refl
 
 -- a cell of the shelf is there, and has its marks
-module _ (may : ℕ → Entry → Type 0) (floor : List Entry → ℕ → Type 0) (shelf : List ℕ) {A B : Type 0} (view : A → LogletView) (serving : A → ServersView) (items : B → List Bool) (cells : List A) (marks : List B) (register : RegisterView) (journal : List Event) (ok : FabricOk may floor shelf (record { cells = map view cells; serving = map serving cells; register = register; journal = journal }) (map items marks)) (i : ℕ) (low : i < length shelf) where
+module _ (may : ℕ → Entry → Type 0) (floor : List Entry → ℕ → Type 0) (shelf : List ℕ) {kinds : List Kind} {A B : Type 0} (view : A → LogletView) (serving : A → ServersView) (items : B → List Bool) (cells : List A) (marks : List B) (register : RegisterView) (journal : List Event) (ok : FabricOk may floor shelf kinds (record { cells = map view cells; serving = map serving cells; register = register; journal = journal }) (map items marks)) (i : ℕ) (low : i < length shelf) where
   pub cell_within : i < length cells
   cell_within = omega (arith, ap length ok.shelf_is, length-map (map view cells) (λ (v : LogletView). v.servers), length-map cells view)
 
@@ -95,7 +96,7 @@ module _ (may : ℕ → Entry → Type 0) (floor : List Entry → ℕ → Type 0
       let k = ok.cells i d.0 d.1 in
       omega (arith, slice_get_within (map items marks) i k.here k.is, length-map marks items)
 
-module _ (may : ℕ → Entry → Type 0) (floor : List Entry → ℕ → Type 0) (shelf : List ℕ) {A B : Type 0} (view : A → LogletView) (serving : A → ServersView) (items : B → List Bool) (cells : List A) (marks : List B) (register : RegisterView) (journal : List Event) (ok : FabricOk may floor shelf (record { cells = map view cells; serving = map serving cells; register = register; journal = journal }) (map items marks)) (i : ℕ) (a : A) (b : B) (at : slice_get cells i ≡ Some a) (marked : slice_get marks i ≡ Some b) (a' : A) (b' : B) (journal' : List Event) where
+module _ (may : ℕ → Entry → Type 0) (floor : List Entry → ℕ → Type 0) (shelf : List ℕ) {kinds : List Kind} {A B : Type 0} (view : A → LogletView) (serving : A → ServersView) (items : B → List Bool) (cells : List A) (marks : List B) (register : RegisterView) (journal : List Event) (ok : FabricOk may floor shelf kinds (record { cells = map view cells; serving = map serving cells; register = register; journal = journal }) (map items marks)) (i : ℕ) (a : A) (b : B) (at : slice_get cells i ≡ Some a) (marked : slice_get marks i ≡ Some b) (a' : A) (b' : B) (journal' : List Event) where
   -- a marked ticket is open
   pub open_where_marked : (t : ℕ) → slice_get (items b) t ≡ Some true → IsOpen (view a) t
   open_where_marked t h =
@@ -119,14 +120,14 @@ module _ (may : ℕ → Entry → Type 0) (floor : List Entry → ℕ → Type 0
   cell_new = record { loglet = view a'; serving = serving a'; marks = items b'; journal = journal' }
 
   pub record Goes (who : ℕ) (call : FabricCall) (answer : FabricAnswer) : Type 0 where
-    pub now : FabricOk may floor shelf new (map items (set marks i b'))
+    pub now : FabricOk may floor shelf kinds new (map items (set marks i b'))
     pub keeps : Keeps may floor shelf old who call answer new
 
   happened : (who : ℕ) (call : FabricCall) (answer : FabricAnswer) → ((steps : LogletSteps) → StepsOf call answer steps → OwnEvents who call answer (record { who = who; call = call; answer = answer } ∷ [])) → ((j : ℕ) → is_on j call ≡ (j == i)) → Happens cell_old who call answer cell_new → IsAfter may floor shelf old (map items marks) ok i (view a) (serving a) (items b) (map_get view cells i a at) (map_get items marks i b marked) cell_new → Goes who call answer
   happened who call answer own on h after =
-      let now : FabricOk may floor shelf new (map items (set marks i b')) =
-      subst (λ (cs : List LogletView). FabricOk may floor shelf (record { cells = cs; serving = map serving (set cells i a'); register = register; journal = journal' }) (map items (set marks i b'))) (sym (map_set view cells i a'))
-      (subst (λ (ms : List (List Bool)). FabricOk may floor shelf (record { cells = set (map view cells) i (view a'); serving = map serving (set cells i a'); register = register; journal = journal' }) ms) (sym (map_set items marks i b'))
+      let now : FabricOk may floor shelf kinds new (map items (set marks i b')) =
+      subst (λ (cs : List LogletView). FabricOk may floor shelf kinds (record { cells = cs; serving = map serving (set cells i a'); register = register; journal = journal' }) (map items (set marks i b'))) (sym (map_set view cells i a'))
+      (subst (λ (ms : List (List Bool)). FabricOk may floor shelf kinds (record { cells = set (map view cells) i (view a'); serving = map serving (set cells i a'); register = register; journal = journal' }) ms) (sym (map_set items marks i b'))
       (any_serving may floor shelf _ _ (map serving (set cells i a')) after)) in
       let e : Event = record { who = who; call = call; answer = answer } in record {
         now = now;
@@ -151,7 +152,7 @@ module _ (may : ℕ → Entry → Type 0) (floor : List Entry → ℕ → Type 0
       let same : new ≡ old = ap (λ cs. record { cells = cs; serving = map serving (set cells i a'); register = register; journal = journal' }) cells_are
       ∙ (ap (λ ss. record { cells = map view cells; serving = ss; register = register; journal = journal' }) serving_are
       ∙ ap (λ j. record { cells = map view cells; serving = map serving cells; register = register; journal = j }) journal_is) in
-      let now : FabricOk may floor shelf new (map items (set marks i b')) = subst (λ (f : FabricView). FabricOk may floor shelf f (map items (set marks i b'))) (sym same) (subst (FabricOk may floor shelf old) (sym marks_are) ok) in record {
+      let now : FabricOk may floor shelf kinds new (map items (set marks i b')) = subst (λ (f : FabricView). FabricOk may floor shelf kinds f (map items (set marks i b'))) (sym same) (subst (FabricOk may floor shelf kinds old) (sym marks_are) ok) in record {
         now = now;
         keeps = record { adds = adds_none who call journal journal' answer h.0 journal_is; legal = now.legal; same = λ _. same; acts = inl same };
       }
@@ -193,7 +194,7 @@ own_stray who i word (Set true) steps h = refl
 own_stray who i word a steps h = absurd h
 
 -- an event of a cell's servers, which opens and closes no ticket
-module _ (may : ℕ → Entry → Type 0) (floor : List Entry → ℕ → Type 0) (shelf : List ℕ) {A B : Type 0} (view : A → LogletView) (serving : A → ServersView) (items : B → List Bool) (cells : List A) (marks : List B) (register : RegisterView) (journal : List Event) (ok : FabricOk may floor shelf (record { cells = map view cells; serving = map serving cells; register = register; journal = journal }) (map items marks)) (i : ℕ) (low : i < length shelf) (a : A) (at : slice_get cells i ≡ Some a) (a' : A) (journal' : List Event) where
+module _ (may : ℕ → Entry → Type 0) (floor : List Entry → ℕ → Type 0) (shelf : List ℕ) {kinds : List Kind} {A B : Type 0} (view : A → LogletView) (serving : A → ServersView) (items : B → List Bool) (cells : List A) (marks : List B) (register : RegisterView) (journal : List Event) (ok : FabricOk may floor shelf kinds (record { cells = map view cells; serving = map serving cells; register = register; journal = journal }) (map items marks)) (i : ℕ) (low : i < length shelf) (a : A) (at : slice_get cells i ≡ Some a) (a' : A) (journal' : List Event) where
   mark : (b : B) × (slice_get marks i ≡ Some b)
   mark = some_at marks i (marks_within may floor shelf view serving items cells marks register journal ok i low)
 
@@ -210,7 +211,7 @@ module _ (may : ℕ → Entry → Type 0) (floor : List Entry → ℕ → Type 0
   served_cells = record { cells = map view (set cells i a'); serving = map serving (set cells i a'); register = register; journal = journal' }
 
   pub record Served (who : ℕ) (call : FabricCall) (answer : FabricAnswer) : Type 0 where
-    pub now : FabricOk may floor shelf served_cells (map items marks)
+    pub now : FabricOk may floor shelf kinds served_cells (map items marks)
     pub keeps : Keeps may floor shelf before who call answer served_cells
 
   serves : (who : ℕ) (call : FabricCall) (answer : FabricAnswer) → ((steps : LogletSteps) → StepsOf call answer steps → OwnEvents who call answer (record { who = who; call = call; answer = answer } ∷ [])) → ((j : ℕ) → is_on j call ≡ (j == i)) → (Serves worked_old journal who call answer worked_new journal' → IsAfter may floor shelf before (map items marks) ok i (view a) (serving a) (items mark.0) (map_get view cells i a at) (map_get items marks i mark.0 mark.1) (record { loglet = view a'; serving = serving a'; marks = items mark.0; journal = journal' })) → ServerApplies worked_old journal who call answer worked_new journal' → Served who call answer
@@ -218,12 +219,12 @@ module _ (may : ℕ → Entry → Type 0) (floor : List Entry → ℕ → Type 0
     where
       happened : Serves worked_old journal who call answer worked_new journal' → Served who call answer
       happened x =
-          let k : FabricOk may floor shelf (record { cells = set (map view cells) i (view a'); serving = map serving (set cells i a'); register = register; journal = journal' }) (set (map items marks) i (items mark.0)) =
+          let k : FabricOk may floor shelf kinds (record { cells = set (map view cells) i (view a'); serving = map serving (set cells i a'); register = register; journal = journal' }) (set (map items marks) i (items mark.0)) =
           any_serving may floor shelf _ _ (map serving (set cells i a')) (after x) in
           let same : set (map items marks) i (items mark.0) ≡ map items marks = set_back (map items marks) i (items mark.0) (map_get items marks i mark.0 mark.1) in
-          let now : FabricOk may floor shelf served_cells (map items marks) =
-          subst (λ (cs : List LogletView). FabricOk may floor shelf (record { cells = cs; serving = map serving (set cells i a'); register = register; journal = journal' }) (map items marks)) (sym (map_set view cells i a'))
-          (subst (FabricOk may floor shelf (record { cells = set (map view cells) i (view a'); serving = map serving (set cells i a'); register = register; journal = journal' })) same k) in
+          let now : FabricOk may floor shelf kinds served_cells (map items marks) =
+          subst (λ (cs : List LogletView). FabricOk may floor shelf kinds (record { cells = cs; serving = map serving (set cells i a'); register = register; journal = journal' }) (map items marks)) (sym (map_set view cells i a'))
+          (subst (FabricOk may floor shelf kinds (record { cells = set (map view cells) i (view a'); serving = map serving (set cells i a'); register = register; journal = journal' })) same k) in
           let e : Event = record { who = who; call = call; answer = answer } in record {
             now = now;
             keeps = record {
@@ -244,7 +245,7 @@ module _ (may : ℕ → Entry → Type 0) (floor : List Entry → ℕ → Type 0
           let same : served_cells ≡ before = ap (λ cs. record { cells = cs; serving = map serving (set cells i a'); register = register; journal = journal' }) cells_are
           ∙ (ap (λ ss. record { cells = map view cells; serving = ss; register = register; journal = journal' }) serving_are
           ∙ ap (λ j. record { cells = map view cells; serving = map serving cells; register = register; journal = j }) x.2) in
-          let now : FabricOk may floor shelf served_cells (map items marks) = subst (λ (f : FabricView). FabricOk may floor shelf f (map items marks)) (sym same) ok in record {
+          let now : FabricOk may floor shelf kinds served_cells (map items marks) = subst (λ (f : FabricView). FabricOk may floor shelf kinds f (map items marks)) (sym same) ok in record {
             now = now;
             keeps = record { adds = adds_none who call journal journal' answer x.0 x.2; legal = now.legal; same = λ _. same; acts = inl same };
           }

@@ -7,6 +7,7 @@ use Rattle.std.proofs.lemmas.List.{length-map}
 use Rattle.delos_types.specs.declared.entry.Entry.{Entry}
 use Rattle.delos_types.specs.declared.chain.Segment.{Segment}
 use Rattle.chain_map.specs.Chain.{last_segment}
+use Rattle.loglet_api.specs.declared.call.Kind.{Kind}
 use Rattle.loglet_api.specs.View.{LogletView}
 use Rattle.legal_journal.specs.Shown as shown
 use Rattle.legal_journal.specs.Journal.{State, state_of, log_at, trim_of, tail_of, reach, entries, ends}
@@ -77,7 +78,7 @@ module _ (views : List LogletView) (w : State) (pos : ℕ) where
           ∙ (rest
           ∙ sym (ap (λ t. cond t (slice_get (entries w.cells s.id) (pos - s.start)) (shown.entry_in (reach w.cells) (entries w.cells) ss pos)) b))
 
-module _ (may : ℕ → Entry → Type 0) (floor : List Entry → ℕ → Type 0) (shelf : List ℕ) (f : FabricView) (marks : List (List Bool)) (ok : FabricOk may floor shelf f marks) where
+module _ (may : ℕ → Entry → Type 0) (floor : List Entry → ℕ → Type 0) (shelf : List ℕ) {kinds : List Kind} (f : FabricView) (marks : List (List Bool)) (ok : FabricOk may floor shelf kinds f marks) where
   state_ok : StateOk (length shelf) (state_of f.journal)
   state_ok = sound may floor shelf f.journal ok.legal
 

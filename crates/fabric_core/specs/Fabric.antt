@@ -2,6 +2,7 @@
 use Rattle.std.specs.Prelude.{◌≡◌, ◌≢◌, ◌⊎◌, ℕ, ◌+◌, ◌≤◌, Bool, true, MatchBool, List, [], ◌++◌, length, map, slice_get, Option, Some, None}
 use Rattle.delos_types.specs.declared.entry.Entry.{Entry}
 use Rattle.delos_types.specs.declared.chain.Chain.{Chain}
+use Rattle.loglet_api.specs.declared.call.Kind.{Kind}
 use Rattle.loglet_api.specs.View.{LogletView, Operation, operation_at}
 use Rattle.loglet_api.specs.Sound.{IsSound}
 use Rattle.loglet_api.specs.Step.{task_of}
@@ -75,9 +76,10 @@ pub record CellOk (w : State) (i : ℕ) (journal : List Event) (v : LogletView) 
   pub ran : HasRun i journal v
 
 -- the journal is legal, each loglet's events are a run of it, and all is as the journal tells
-pub record FabricOk (may : ℕ → Entry → Type 0) (floor : List Entry → ℕ → Type 0) (shelf : List ℕ) (f : FabricView) (marks : List (List Bool)) : Type 0 where
+pub record FabricOk (may : ℕ → Entry → Type 0) (floor : List Entry → ℕ → Type 0) (shelf : List ℕ) (kinds : List Kind) (f : FabricView) (marks : List (List Bool)) : Type 0 where
   pub legal : IsLegal may floor shelf f.journal
   pub shelf_is : map (λ v. v.servers) f.cells ≡ shelf
+  pub kinds_are : map (λ v. v.kind) f.cells ≡ kinds
   pub cells : (i : ℕ) (v : LogletView) → slice_get f.cells i ≡ Some v → CellOk (state_of f.journal) i f.journal v (slice_get marks i)
   pub register : IsRegisterAsTold (state_of f.journal).register f.register
   pub register_ran : HasRegisterRun f.journal f.register

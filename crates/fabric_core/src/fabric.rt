@@ -44,7 +44,7 @@ impl<L: Loglet, R: Register, P: Rules> Model for Fabric<L, R, P> {
 
     ghost view = { λ f. record { cells = map L.view f.cells.items; serving = map L.serving f.cells.items; register = R.view f.register; journal = f.journal.items } };
 
-    ghost invariant = { λ f. FabricOk P.may P.floor P.shelf (record { cells = map L.view f.cells.items; serving = map L.serving f.cells.items; register = R.view f.register; journal = f.journal.items })
+    ghost invariant = { λ f. FabricOk P.may P.floor P.shelf P.kinds (record { cells = map L.view f.cells.items; serving = map L.serving f.cells.items; register = R.view f.register; journal = f.journal.items })
         (map (λ m. m.items) f.marks.items) };
 }
 
@@ -74,6 +74,7 @@ impl<L: Loglet, R: Register, P: Rules> Fabric<L, R, P> {
         requires least { 0 < length cells.items }
         requires most { length cells.items ≤ 64 }
         requires shelf { map (λ v. v.servers) (map L.view cells.items) ≡ P.shelf }
+        requires kinds { map (λ v. v.kind) (map L.view cells.items) ≡ P.kinds }
         requires fresh { All (λ l. IsFresh (L.view l)) cells.items }
         requires sound { All (λ l. IsSound (L.view l)) cells.items }
         requires register { view.IsFresh (R.view register) }
@@ -116,6 +117,7 @@ impl<L: Loglet, R: Register, P: Rules> Fabric<L, R, P> {
         ensures legal { IsLegal P.may P.floor P.shelf self.now.journal }
         ensures runs { (i : ℕ) (v : LogletView) → slice_get self.now.cells i ≡ Some v → HasRun i self.now.journal v }
         ensures shelf { map (λ v. v.servers) self.now.cells ≡ P.shelf }
+        ensures kinds { map (λ v. v.kind) self.now.cells ≡ P.kinds }
 
         // The register's events are a run of it, and what it shows is what the journal tells.
         ensures register_runs { HasRegisterRun self.now.journal self.now.register }

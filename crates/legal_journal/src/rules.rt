@@ -1,6 +1,7 @@
 //! What the users of a fabric keep to.
 ghost use Rattle.std.specs.Prelude.{List, ℕ};
 ghost use Rattle.delos_types.specs.declared.entry.Entry.{Entry};
+ghost use Rattle.loglet_api.specs.declared.call.Kind.{Kind};
 
 /// Meanings alone: no value of it is ever made.
 pub trait Rules {
@@ -15,4 +16,7 @@ pub trait Rules {
 
     /// The numbers of servers of the cells.
     ghost shelf: { List ℕ };
+
+    /// The kinds of the cells.
+    ghost kinds: { List Kind };
 }

@@ -3,6 +3,7 @@
 ghost use Rattle.std.specs.Prelude.{List, ℕ, []};
 ghost use Rattle.delos_types.specs.declared.entry.Entry.{Entry};
 ghost use Rattle.legal_journal.specs.declared.events.Event.{Event};
+ghost use Rattle.loglet_api.specs.declared.call.Kind.{Kind};
 
 use legal_journal::rules::Rules;
 use std::marker::{Brand, PhantomData};
@@ -17,6 +18,9 @@ pub trait Terms {
 
     /// The numbers of servers of the cells.
     ghost shelf: { List ℕ };
+
+    /// The kinds of the cells.
+    ghost kinds: { List Kind };
 }
 
 impl Terms for Brand {
@@ -25,6 +29,8 @@ impl Terms for Brand {
     ghost floor = { λ _ _. ⊥ };
 
     ghost shelf = { [] };
+
+    ghost kinds = { [] };
 }
 
 /// The rules by these terms.
@@ -41,6 +47,8 @@ impl<K: Terms> Rules for By<K> {
     ghost floor = { K.floor };
 
     ghost shelf = { K.shelf };
+
+    ghost kinds = { K.kinds };
 }
 
 /// What one user keeps to for a while.
@@ -83,4 +91,6 @@ impl<K: Terms, Q: Scope> Rules for Within<K, Q> {
     ghost floor = { Q.floor };
 
     ghost shelf = { K.shelf };
+
+    ghost kinds = { K.kinds };
 }

@@ -27,6 +27,8 @@ impl<A: Access, Q: Scope> Rules for Within<A, Q> {
     ghost floor = { Q.floor };
 
     ghost shelf = { A.Law.shelf };
+
+    ghost kinds = { A.Law.kinds };
 }
 
 /// An access whose user keeps to a scope. Since it began each event is its own or of one of those beside, each entry that

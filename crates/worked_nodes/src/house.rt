@@ -27,6 +27,7 @@ use legal_journal::turns::Turns;
 use local_replica::layers::Layers;
 use local_replica::replica::LocalReplica;
 use local_store::Store;
+use loglet_api::call::Kind;
 use loglet_api::loglet::Loglet;
 use meta_register::MetaRegister;
 use std::alloc::{AllocError, Global};
@@ -67,7 +68,8 @@ fn fresh_fabric(alloc: Global) -> Option<Fabric<Cell, Register, TwoNodes>>
 
 /// A fabric over this loglet and a register, with no event.
 fn fabric_over(alloc: Global, cell: Cell) -> Option<Fabric<Cell, Register, TwoNodes>>
-    requires { IsFresh cell.loglet }
+    requires fresh { IsFresh cell.loglet }
+    requires kind { cell.loglet.kind ≡ Kind.File }
     ensures { IfSome result (λ made. made.journal ≡ []) }
 {
     let servers = cell.servers();

@@ -7,6 +7,8 @@ use legal_journal::rules::Rules;
 pub struct TwoNodes;
 
 impl Rules for TwoNodes {
+    ghost use Rattle.std.specs.Prelude.{[], ◌∷◌};
+    ghost use Rattle.loglet_api.specs.declared.call.Kind.TheVariants.{File};
     ghost use Rattle.worked_nodes.specs.Resting.{anything, least_of_two, one_loglet};
 
     ghost may = { anything };
@@ -16,4 +18,6 @@ impl Rules for TwoNodes {
     ghost floor = { least_of_two };
 
     ghost shelf = { one_loglet };
+
+    ghost kinds = { File ∷ [] };
 }

@@ -11,6 +11,7 @@ use fate_words::chooser::Calm;
 use file_loglet::file::FileLoglet;
 use file_loglet::memory::in_memory;
 use legal_journal::rules::Rules;
+use loglet_api::call::Kind;
 use loglet_api::loglet::Loglet;
 use meta_register::MetaRegister;
 use std::alloc::Global;
@@ -22,6 +23,7 @@ pub(crate) struct Anyone;
 
 impl Rules for Anyone {
     ghost use Rattle.std.specs.Prelude.{[], ◌∷◌, ◌^◌, ◌≤◌};
+    ghost use Rattle.loglet_api.specs.declared.call.Kind.TheVariants.{File};
 
     ghost may = { λ _ _. Unit {0} };
 
@@ -30,6 +32,8 @@ impl Rules for Anyone {
     ghost floor = { λ _ n. n ≤ 2 ^ 38 };
 
     ghost shelf = { 1 ∷ [] };
+
+    ghost kinds = { File ∷ [] };
 }
 
 /// Who may append anything and trim everything, over a shelf of three cells with one server each.
@@ -38,6 +42,7 @@ pub(crate) struct Free;
 
 impl Rules for Free {
     ghost use Rattle.std.specs.Prelude.{[], ◌∷◌, ◌^◌, ◌≤◌};
+    ghost use Rattle.loglet_api.specs.declared.call.Kind.TheVariants.{File};
 
     ghost may = { λ _ _. Unit {0} };
 
@@ -46,6 +51,8 @@ impl Rules for Free {
     ghost floor = { λ _ n. n ≤ 2 ^ 38 };
 
     ghost shelf = { 1 ∷ 1 ∷ 1 ∷ [] };
+
+    ghost kinds = { File ∷ File ∷ File ∷ [] };
 }
 
 /// A file loglet on a disk in memory.
@@ -87,6 +94,7 @@ fn fresh_cell(alloc: Global) -> Option<Cell>
     ensures fresh { IfSome result (λ made. IsFresh made.loglet) }
     ensures sound { IfSome result (λ made. IsSound made.loglet) }
     ensures one { IfSome result (λ made. made.loglet.servers ≡ 1) }
+    ensures kind { IfSome result (λ made. made.loglet.kind ≡ Kind.File) }
 {
     let Ok(cell) = in_memory(alloc, 10) else {
         return None;

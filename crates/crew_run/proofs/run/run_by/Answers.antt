@@ -44,3 +44,9 @@ returns-in-Ok-clause-cells g c =
 
 pub returns-in-Err-clause-cells : goal.returns-in-Err-clause-cells
 returns-in-Err-clause-cells g c = ap (λ x. length x.items) c.in-Err.ensures.parts.0
+
+pub returns-in-Ok-clause-kinds : goal.returns-in-Ok-clause-kinds
+returns-in-Ok-clause-kinds g c = c.part_crew-cells.ensures.kinds ∙ sym c.requires.kinds
+
+pub returns-in-Err-clause-kinds : goal.returns-in-Err-clause-kinds
+returns-in-Err-clause-kinds g c = ap (λ x. map (λ v. v.kind) (map g.L.Loglet.view x.items)) c.in-Err.ensures.parts.0
