@@ -48,6 +48,7 @@ may_find base cursor asked j k found either = found_by base cursor asked j j.tor
 pub kept_survives : (base : Entries) (cursor : ℕ) (asked : Option Asked) (j : journal.View) → IsKept base cursor asked j → Survives (view_of base cursor asked j)
 kept_survives base cursor asked j k = record {
   whole = λ up. ap asked_of (k.whole up);
+  running = λ up. k.survives.running up;
   left = λ image is. may_find base cursor asked j k (records_of image) (k.survives.left image is);
 }
 

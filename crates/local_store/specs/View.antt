@@ -69,7 +69,8 @@ MayFind v found = (kept : Bool) × (saved_of found ≡ Some (reopened v kept))
 abbrev pub MayFindDuring : View → Commit → List (List ℕ) → Type 0
 MayFindDuring v c found = MayFind v found ⊎ (saved_of found ≡ Some (committed (saved_in v) c))
 
--- A crash leaves what a reopening may find. While the store is up that is just what it keeps.
+-- A crash leaves what a reopening may find. While the store is up that is just what it keeps, and its disk isn't stopped.
 pub record Survives (v : View) : Type 0 where
   pub whole : v.down ≡ false → v.asked ≡ None
+  pub running : v.down ≡ false → v.disk.stopped ≡ false
   pub left : LeavesRecords v.disk (MayFind v)

@@ -1,5 +1,5 @@
 //! A store over its disk.
-ghost use Rattle.std.specs.Prelude.{◌≡◌, ◌≢◌, ℕ, ◌≤◌, ◌↔◌, Bool, true, false, Some, None, Ok, [], IfOk, IfErr, OnOk, IsErrOf, if◌then◌else◌};
+ghost use Rattle.std.specs.Prelude.{◌≡◌, ◌≢◌, ◌⊎◌, ℕ, ◌-◌, ◌≤◌, ◌↔◌, nat_lt, Bool, true, false, Some, None, Ok, [], IfOk, IfErr, OnOk, IsErrOf, if◌then◌else◌};
 ghost use Rattle.disk_model.specs.Disk.{reads, IsSynced, Rose};
 ghost use Rattle.journal_core.specs.Records.{records_of};
 ghost use Rattle.journal_core.specs.Journal.{LeavesRecords, AnyCrashLeaves};
@@ -74,6 +74,13 @@ impl<D: Disk> Store<D> {
         ensures any_crash { IfOk result (λ s. AnyCrashLeaves (D.view disk) s.disk (λ found. found ≡ records_of (reads (D.view disk)))) }
         ensures faults { IfOk result (λ s. s.disk.faults ≡ (D.view disk).faults) }
 
+        // At most one write was made: it is armed where it was, and one that fails may have reached the armed write.
+        ensures one_write { IfOk result (λ s. (s.disk.armed ≡ (D.view disk).armed) ⊎ (((D.view disk).armed ≢ 1) × (s.disk.armed ≡ (D.view disk).armed - 1))) }
+        ensures still_armed { IfOk result (λ s. nat_lt 0 s.disk.armed ≡ nat_lt 0 (D.view disk).armed) }
+        ensures one_write_refused { IfErr result (λ e. ((D.view e.disk).armed ≡ (D.view disk).armed) ⊎ ((D.view e.disk).armed ≡ (D.view disk).armed - 1)) }
+        ensures armed_refused { IfErr result (λ e. e.fault ≢ OpenFault.Disk → nat_lt 0 (D.view e.disk).armed ≡ nat_lt 0 (D.view disk).armed) }
+        ensures no_fault_refused { IfErr result (λ e. e.fault ≢ OpenFault.Disk → (D.view e.disk).faults ≡ (D.view disk).faults) }
+
         // The first record that is none of a store's or whose cursor falls is told; a disk's fault was counted.
         ensures bad { (index : ℕ) → IfErr result (λ e. e.fault ≡ OpenFault.BadRecord index → IsFirstBad (records_of (reads (D.view disk))) index) }
         ensures failed { IfErr result (λ e. e.fault ≡ OpenFault.Disk → Rose (D.view disk).faults (D.view e.disk).faults) }
@@ -120,7 +127,10 @@ impl<D: Disk> Store<D> {
         // It is down just where the disk failed, and then that was counted.
         ensures down { IfOk result (λ s. s.down ≡ true → Rose (D.view disk).faults s.disk.faults) }
         ensures up { IfOk result (λ s. s.down ≡ false → s.disk.faults ≡ (D.view disk).faults) }
+        ensures still_armed { IfOk result (λ s. s.down ≡ false → nat_lt 0 s.disk.armed ≡ nat_lt 0 (D.view disk).armed) }
+        ensures one_write { IfOk result (λ s. (s.disk.armed ≡ (D.view disk).armed) ⊎ (s.disk.armed ≡ (D.view disk).armed - 1)) }
         ensures memory { IfErr result (λ d. ((D.view d).timeline ≡ (D.view disk).timeline) × ((D.view d).faults ≡ (D.view disk).faults)) }
+        ensures memory_state { IfErr result (λ d. ((D.view d).stopped ≡ (D.view disk).stopped) × ((D.view d).armed ≡ (D.view disk).armed)) }
     {
         let Ok(base) = Arc::new(alloc, Base::new(alloc)) else {
             return Err(disk);
@@ -172,6 +182,11 @@ impl<D: Disk> Store<D> {
         ensures faults { self.old.disk.faults ≤ self.new.disk.faults }
         ensures no_fault { IsErrOf result CommitFault.Memory → self.new.disk.faults ≡ self.old.disk.faults }
         ensures ok_faults { OnOk result (self.new.disk.faults ≡ self.old.disk.faults) }
+
+        // It is two of the writes that an armed disk counts.
+        ensures counted { OnOk result ((self.old.disk.armed ≢ 1) × (self.old.disk.armed ≢ 2) × (self.new.disk.armed ≡ self.old.disk.armed - 2)) }
+        ensures ok_armed { OnOk result (nat_lt 0 self.new.disk.armed ≡ nat_lt 0 self.old.disk.armed) }
+        ensures still_armed { IsErrOf result CommitFault.Memory → nat_lt 0 self.new.disk.armed ≡ nat_lt 0 self.old.disk.armed }
     {
         if self.journal.is_shut() {
             return Err(CommitFault::Down);
@@ -210,6 +225,7 @@ impl<D: Disk> Store<D> {
         ensures any_crash { AnyCrashLeaves self.old.disk self.new.disk (MayFind self.old) }
         ensures survives { Survives self.new }
         ensures faults { self.old.disk.faults ≤ self.new.disk.faults }
+        ensures disarmed { self.old.down ≡ true → OnOk result ((self.new.disk.armed ≡ 0) × (self.new.disk.faults ≡ self.old.disk.faults)) }
     {
         if !self.journal.is_shut() {
             return Ok(());
@@ -249,6 +265,7 @@ impl<D: Disk> Store<D> {
     /// Arms the disk: its write number `after` from now on stops inside itself, as in a crash; 0 takes that back.
     pub fn stop(&mut self, after: u64)
         ensures stops { self.new ≡ record self.old { disk = if self.old.disk.stopped then self.old.disk else record self.old.disk { armed = after } } }
+        ensures arms { self.old.down ≡ false → self.new.disk ≡ record self.old.disk { armed = after } }
         ensures survives { Survives self.new }
     {
         self.journal.stop(after);
@@ -280,7 +297,10 @@ fn begin_journal<D: Disk>(alloc: Global, disk: D) -> Result<Journal<D>, D>
     ensures faults { IfOk result (λ j. (D.view disk).faults ≤ j.disk.faults) }
     ensures shut { IfOk result (λ j. j.shut ≡ true → Rose (D.view disk).faults j.disk.faults) }
     ensures opened { IfOk result (λ j. j.shut ≡ false → j.disk.faults ≡ (D.view disk).faults) }
+    ensures armed { IfOk result (λ j. j.shut ≡ false → nat_lt 0 j.disk.armed ≡ nat_lt 0 (D.view disk).armed) }
+    ensures one_write { IfOk result (λ j. (j.disk.armed ≡ (D.view disk).armed) ⊎ (j.disk.armed ≡ (D.view disk).armed - 1)) }
     ensures memory { IfErr result (λ d. ((D.view d).timeline ≡ (D.view disk).timeline) × ((D.view d).faults ≡ (D.view disk).faults)) }
+    ensures memory_state { IfErr result (λ d. ((D.view d).stopped ≡ (D.view disk).stopped) × ((D.view d).armed ≡ (D.view disk).armed)) }
 {
     match Journal::open_on(alloc, disk) {
         Ok(journal) => Ok(journal),
