@@ -1,8 +1,8 @@
 -- One event of a cell.
 use Rattle.std.specs.Prelude.{◌≡◌, ◌≢◌, ◌⊎◌, ℕ, Bool, true, false, List, [], ◌∷◌, ◌++◌, slice_get, slice_set, Option, None, Some, Result, Ok, Err}
+use Rattle.std.specs.declared.alloc.AllocError.{AllocError}
 use Rattle.loglet_api.specs.declared.call.Answer.{Answer}
 use Rattle.loglet_api.specs.declared.call.Answer.TheVariants.{Got}
-use Rattle.loglet_api.specs.declared.call.Refused.{Refused}
 use Rattle.loglet_api.specs.declared.call.LogletCall.TheVariants as call
 use Rattle.loglet_api.specs.declared.call.LogletAnswer.TheVariants as answer
 use Rattle.loglet_api.specs.View.{LogletView}
@@ -31,10 +31,10 @@ pub record Works (old : Worked) (steps : LogletSteps) (new : Worked) : Type 0 wh
   pub served : ServesAll old.serving steps new.serving
 
 -- an open operation was carried once, where it was undecided, and its answer taken, where it was decided then
-abbrev pub CarriedOnce : Worked → ℕ → ℕ → Result (Option Answer) Refused → Worked → Type 0
+abbrev pub CarriedOnce : Worked → ℕ → ℕ → Result (Option Answer) AllocError → Worked → Type 0
 CarriedOnce old t word (Ok (Some a)) new = (steps : LogletSteps) × CarriesFirst t word ((call.Take t, answer.Taken (Some a)) ∷ []) steps × Works old steps new
 CarriedOnce old t word (Ok None) new = Works old ((call.Carry t word, answer.Carried) ∷ (call.Take t, answer.Taken None) ∷ []) new
-CarriedOnce old t word (Err refused) new = new ≡ old
+CarriedOnce old t word (Err e) new = new ≡ old
 
 -- the tickets that are open after the event
 abbrev pub marks_after : List Bool → FabricCall → FabricAnswer → List Bool

@@ -43,12 +43,12 @@ fn copy_of(answer: &Answer) -> Result<Answer, AllocError>
 }
 
 /// Carries an open operation once, where it is undecided, and takes its answer, where it is decided
-/// then. `Memory` leaves all as it was.
+/// then. Want of memory leaves all as it was, and is the only refusal of a carry.
 fn carry_once<L: Loglet>(
     loglet: &mut L,
     ticket: Ticket,
     word: u64,
-) -> Result<Option<Answer>, Refused>
+) -> Result<Option<Answer>, AllocError>
     requires { IsOpen (L.view loglet.old) ticket }
     ensures { CarriedOnce (record { loglet = L.view loglet.old; serving = L.serving loglet.old }) ticket word result
         (record { loglet = L.view loglet.new; serving = L.serving loglet.new }) }
@@ -57,8 +57,11 @@ fn carry_once<L: Loglet>(
     if rounds == 0 && steps == 0 {
         return Ok(loglet.take(ticket));
     }
-    loglet.carry(ticket, word)?;
-    Ok(loglet.take(ticket))
+    match loglet.carry(ticket, word) {
+        Ok(()) => return Ok(loglet.take(ticket)),
+        Err(Refused::Memory) => return Err(AllocError),
+        Err(Refused::Full) => unreachable!(),
+    }
 }
 
 /// Begins an operation.

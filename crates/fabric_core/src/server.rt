@@ -3,6 +3,7 @@ ghost use Rattle.std.specs.Prelude.{◌<◌};
 ghost use Rattle.fabric_core.specs.CellEvent.{ServerApplies};
 
 use legal_journal::events::{Event, FabricAnswer, FabricCall};
+use loglet_api::call::Refused;
 use loglet_api::loglet::Loglet;
 
 /// Arms the disk of a server.
@@ -44,13 +45,16 @@ pub fn mend_in<L: Loglet>(
     if journal.reserve(1).is_err() {
         return FabricAnswer::Memory;
     }
-    let Ok(up) = loglet.restart(server, word) else {
-        return FabricAnswer::Memory;
-    };
-    let call = FabricCall::Mend(cell, server, word);
-    let answer = FabricAnswer::Set(up);
-    journal.push_reserved(Event { who, call, answer });
-    FabricAnswer::Set(up)
+    match loglet.restart(server, word) {
+        Ok(up) => {
+            let call = FabricCall::Mend(cell, server, word);
+            let answer = FabricAnswer::Set(up);
+            journal.push_reserved(Event { who, call, answer });
+            return FabricAnswer::Set(up);
+        }
+        Err(Refused::Memory) => return FabricAnswer::Memory,
+        Err(Refused::Full) => unreachable!(),
+    }
 }
 
 /// Delivers an old message again.
@@ -67,11 +71,14 @@ pub fn stray_in<L: Loglet>(
     if journal.reserve(1).is_err() {
         return FabricAnswer::Memory;
     }
-    if loglet.stray(word).is_err() {
-        return FabricAnswer::Memory;
+    match loglet.stray(word) {
+        Ok(()) => {
+            let call = FabricCall::Stray(cell, word);
+            let answer = FabricAnswer::Set(true);
+            journal.push_reserved(Event { who, call, answer });
+            return FabricAnswer::Set(true);
+        }
+        Err(Refused::Memory) => return FabricAnswer::Memory,
+        Err(Refused::Full) => unreachable!(),
     }
-    let call = FabricCall::Stray(cell, word);
-    let answer = FabricAnswer::Set(true);
-    journal.push_reserved(Event { who, call, answer });
-    FabricAnswer::Set(true)
 }
