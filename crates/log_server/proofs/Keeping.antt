@@ -66,7 +66,7 @@ kept_same h h' torn j e k = record {
   survives = k.survives;
 }
 
-not_true : (b : Bool) → not b ≡ true → b ≡ false
+pub not_true : (b : Bool) → not b ≡ true → b ≡ false
 not_true true e = sym e
 not_true false e = refl
 
@@ -223,3 +223,9 @@ kept_undone h h1 torn after j new disk k same nothing is (inr with) less left = 
   where
     longer : length new.records ≡ length (j.records ++ with.0 ∷ []) → ⊥
     longer e = omega (arith, less, e, length-append j.records (with.0 ∷ []))
+
+-- ---- the disk
+
+-- the disk of a server that is up isn't stopped
+pub kept_running : (h : Held) (torn : Option Ask) (j : journal.View) → IsKept h torn j → not j.shut ≡ true → j.disk.stopped ≡ false
+kept_running h torn j k up = k.survives.running (not_true j.shut up)

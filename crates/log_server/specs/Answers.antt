@@ -1,12 +1,12 @@
 -- What a log server answers, and what it does.
-use Rattle.std.specs.Prelude.{◌≡◌, ◌⊎◌, ℕ, Bool, true, false, ◌&&◌, if◌then◌else◌, List, Some}
+use Rattle.std.specs.Prelude.{◌≡◌, ◌⊎◌, ◌≤◌, ℕ, Bool, true, false, ◌&&◌, if◌then◌else◌, List, Some}
 use Rattle.disk_model.specs.Disk.{Rose}
 use Rattle.majority_rule.specs.declared.message.Ask.{Ask}
 use Rattle.majority_rule.specs.declared.message.Told.{Told}
 use Rattle.majority_rule.specs.declared.message.Told.TheVariants.{DiskFault}
 use Rattle.majority_rule.specs.Servers.{Server, told, writes, written}
 use Rattle.server_records.specs.Spelled.{server_of}
-use Rattle.log_server.specs.View.{View, MayFind}
+use Rattle.log_server.specs.View.{View, Spares, MayFind}
 
 -- what it holds once it has answered
 abbrev pub after_ask : Server → Ask → Server
@@ -21,6 +21,7 @@ pub record Stops (old : View) (ask : Ask) (new : View) : Type 0 where
   pub wanted : wants_write old.server ask ≡ true
   pub server : new.server ≡ record old.server { up = false; torn = Some ask }
   pub rose : Rose old.disk.faults new.disk.faults
+  pub kept : old.disk.faults ≤ new.disk.faults
 
 -- it answers by the table, and does what the table says
 pub record Tells (old : View) (ask : Ask) (answer : Told) (new : View) : Type 0 where
@@ -28,6 +29,8 @@ pub record Tells (old : View) (ask : Ask) (answer : Told) (new : View) : Type 0 
   pub server : new.server ≡ after_ask old.server ask
   -- where nothing is to be written, nothing is touched
   pub calm : wants_write old.server ask ≡ false → new ≡ old
+  -- a write neither arms nor disarms
+  pub disk : Spares old.disk new.disk
 
 abbrev pub Answers : View → Ask → Told → View → Type 0
 Answers old ask DiskFault new = Stops old ask new

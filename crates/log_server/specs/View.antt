@@ -1,5 +1,5 @@
 -- A log server as its callers see it, and what a crash leaves of it.
-use Rattle.std.specs.Prelude.{◌≡◌, ℕ, Bool, List, Some}
+use Rattle.std.specs.Prelude.{◌≡◌, ℕ, nat_lt, Bool, List, Some}
 use Rattle.disk_model.specs.Disk.{DiskView}
 use Rattle.journal_core.specs.Journal.{LeavesRecords}
 use Rattle.majority_rule.specs.Servers.{Server, restarted}
@@ -9,6 +9,11 @@ use Rattle.server_records.specs.Spelled.{server_of}
 pub record View : Type 0 where
   pub server : Server
   pub disk : DiskView
+
+-- the disk counted no fault, and is armed or not as it was
+pub record Spares (old new : DiskView) : Type 0 where
+  pub faults : new.faults ≡ old.faults
+  pub armed : nat_lt 0 new.armed ≡ nat_lt 0 old.armed
 
 -- these records spell what a restart may find: the server, with the write inside which it stopped or without
 abbrev pub MayFind : Server → List (List ℕ) → Type 0

@@ -7,7 +7,7 @@ ghost use Rattle.journal_core.specs.Records.{records_of};
 ghost use Rattle.journal_core.specs.Journal.{AnyCrashLeaves};
 ghost use Rattle.majority_rule.specs.Servers.{length_of, is_sealed, told, told_up, told_place, writes, wrote, restarted};
 ghost use Rattle.server_records.specs.Spelled.{server_of, IsFirstBad};
-ghost use Rattle.log_server.specs.View.{View, MayFind, Survives};
+ghost use Rattle.log_server.specs.View.{View, Spares, MayFind, Survives};
 ghost use Rattle.log_server.specs.Answers.{Answers, MayFindDuring};
 ghost use Rattle.log_server.specs.Holding.{server_with, IsRecordOf, open_fault_of};
 
@@ -98,6 +98,7 @@ impl<D: Disk> LogServer<D> {
         requires entry { IsSpellable entry.now }
         ensures answers { IfOk result (λ answer. Answers self.old (Ask.Store place entry.now) answer self.new) }
         ensures memory { OnErr result (self.new.server ≡ self.old.server) }
+        ensures spared { OnErr result (Spares self.old.disk self.new.disk) }
         ensures any_crash { AnyCrashLeaves self.old.disk self.new.disk (MayFindDuring self.old.server (Ask.Store place entry.now)) }
         ensures survives { Survives self.new }
         ensures faults { self.old.disk.faults ≤ self.new.disk.faults }
@@ -121,6 +122,7 @@ impl<D: Disk> LogServer<D> {
     pub fn seal(&mut self) -> Result<Told, AllocError>
         ensures answers { IfOk result (λ answer. Answers self.old Ask.Seal answer self.new) }
         ensures memory { OnErr result (self.new.server ≡ self.old.server) }
+        ensures spared { OnErr result (Spares self.old.disk self.new.disk) }
         ensures any_crash { AnyCrashLeaves self.old.disk self.new.disk (MayFindDuring self.old.server Ask.Seal) }
         ensures survives { Survives self.new }
         ensures faults { self.old.disk.faults ≤ self.new.disk.faults }
@@ -160,6 +162,7 @@ impl<D: Disk> LogServer<D> {
         requires entry { IsSpellable entry.now }
         ensures answers { IfOk result (λ answer. Answers self.old (Ask.Repair place entry.now) answer self.new) }
         ensures memory { OnErr result (self.new.server ≡ self.old.server) }
+        ensures spared { OnErr result (Spares self.old.disk self.new.disk) }
         ensures any_crash { AnyCrashLeaves self.old.disk self.new.disk (MayFindDuring self.old.server (Ask.Repair place entry.now)) }
         ensures survives { Survives self.new }
         ensures faults { self.old.disk.faults ≤ self.new.disk.faults }
@@ -197,6 +200,7 @@ impl<D: Disk> LogServer<D> {
         requires { place ≤ 2 ^ 32 }
         ensures answers { IfOk result (λ answer. Answers self.old (Ask.Trim place) answer self.new) }
         ensures memory { OnErr result (self.new.server ≡ self.old.server) }
+        ensures spared { OnErr result (Spares self.old.disk self.new.disk) }
         ensures any_crash { AnyCrashLeaves self.old.disk self.new.disk (MayFindDuring self.old.server (Ask.Trim place)) }
         ensures survives { Survives self.new }
         ensures faults { self.old.disk.faults ≤ self.new.disk.faults }
@@ -224,6 +228,11 @@ impl<D: Disk> LogServer<D> {
         ensures any_crash { AnyCrashLeaves self.old.disk self.new.disk (MayFind self.old.server) }
         ensures survives { Survives self.new }
         ensures faults { self.old.disk.faults ≤ self.new.disk.faults }
+
+        // A disk that is opened again isn't armed, and no fault is counted but where it is told.
+        ensures no_fault { result ≡ Ok true → self.new.disk.faults ≡ self.old.disk.faults }
+        ensures disarmed { result ≡ Ok true → self.old.server.up ≡ false → self.new.disk.armed ≡ 0 }
+        ensures memory_no_fault { OnErr result (self.new.disk.faults ≡ self.old.disk.faults) }
     {
         if self.is_up() {
             return Ok(true);
@@ -247,6 +256,7 @@ impl<D: Disk> LogServer<D> {
     pub fn stop(&mut self, after: u64)
         ensures stops { self.new ≡ record self.old { disk = if self.old.disk.stopped then self.old.disk else record self.old.disk { armed = after } } }
         ensures survives { Survives self.new }
+        ensures arms { self.old.server.up ≡ true → self.new.disk.armed ≡ after }
     {
         self.journal.stop(after);
     }
@@ -263,6 +273,7 @@ impl<D: Disk> LogServer<D> {
         ensures value { result ≡ self.now.server.up }
         ensures survives { Survives self.now }
         ensures whole { self.now.server.up ≡ true → self.now.server.torn ≡ None }
+        ensures running { self.now.server.up ≡ true → self.now.disk.stopped ≡ false }
     {
         !self.journal.is_shut()
     }
@@ -276,6 +287,7 @@ impl<D: Disk> LogServer<D> {
         requires told { answer ≡ told self.old.server ask }
         ensures answers { IfOk result (λ given. Answers self.old ask given self.new) }
         ensures memory { OnErr result (self.new.server ≡ self.old.server) }
+        ensures spared { OnErr result (Spares self.old.disk self.new.disk) }
         ensures any_crash { AnyCrashLeaves self.old.disk self.new.disk (MayFindDuring self.old.server ask) }
         ensures survives { Survives self.new }
         ensures faults { self.old.disk.faults ≤ self.new.disk.faults }
