@@ -14,3 +14,5 @@ pub mod Holding
 pub mod Agreeing
 pub mod Sealing
 pub mod Saying
+pub mod Calming
+pub mod Answering

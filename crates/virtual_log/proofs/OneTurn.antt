@@ -62,7 +62,7 @@ module _ (may : ℕ → Entry → Type 0) (floor : List Entry → ℕ → Type 0
       record { there = l; asks = λ q h. ap (λ (w : State). (w.cells i).owner t) (after_all-append start old others) ∙ keeps.own.own }
 
   -- the cell just before an own carry
-  kept : (i t : ℕ) (r : Running) (others : List Event) → AreOthers who others → IsLegal may floor shelf old → IsLegalFrom (state_of old) may floor shelf others → IsOwn ((state_of old).cells i) who t r → Keeps ((state_of (old ++ others)).cells i) who t (((state_of old).cells i).carried t) r
+  pub kept : (i t : ℕ) (r : Running) (others : List Event) → AreOthers who others → IsLegal may floor shelf old → IsLegalFrom (state_of old) may floor shelf others → IsOwn ((state_of old).cells i) who t r → Keeps ((state_of (old ++ others)).cells i) who t (((state_of old).cells i).carried t) r
   kept i t r others apart now legal own =
       subst (λ (w : State). Keeps (w.cells i) who t (((state_of old).cells i).carried t) r) (sym (after_all-append start old others)) (own_stays (state_of old) may floor shelf who i t r others apart (sound may floor shelf old now) legal own)
 

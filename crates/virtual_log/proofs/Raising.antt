@@ -1,5 +1,5 @@
 -- The writes that raise the trim of a chain.
-use Rattle.std.proofs.Common.{◌≡◌, inl, inr, ℕ, zero, suc, ◌+◌, ◌<◌, ◌≤◌, ◌^◌, List, [], ◌∷◌, ◌++◌, length, Some, refl, sym, ap, ◌∙◌, subst, ⊎_elim, arith}
+use Rattle.std.proofs.Common.{◌≡◌, ◌⊎◌, inl, inr, ℕ, zero, suc, ◌+◌, ◌<◌, ◌≤◌, ◌^◌, List, [], ◌∷◌, ◌++◌, length, Some, refl, sym, ap, ◌∙◌, subst, ⊎_elim, arith, append_assoc}
 use Rattle.std.specs.Prelude.{slice_get}
 use Rattle.delos_types.specs.declared.entry.Entry.{Entry}
 use Rattle.delos_types.specs.declared.chain.Segment.{Segment}
@@ -15,10 +15,10 @@ use Rattle.legal_journal.specs.Turns.{IsTurn, MayTurn}
 use Rattle.legal_journal.proofs.Log.{rest_of}
 use Rattle.legal_journal.proofs.Legal.{sound, goes_on}
 use Rattle.legal_journal.proofs.Chains.{chain_ok}
-use Rattle.virtual_log.specs.Turning.{Looked, HasEvent}
+use Rattle.virtual_log.specs.Turning.{Looked, LooksAt, HasEvent}
 use Rattle.virtual_log.specs.Log.{GoesBy}
 use Rattle.virtual_log.specs.Truncating.{IsRaised, IsTold, IsHigh, IsTruncated}
-use Rattle.virtual_log.proofs.OneTurn.{turn_later, event_since, event_until}
+use Rattle.virtual_log.proofs.OneTurn.{nil, turn_later, event_since, event_until}
 use Rattle.virtual_log.proofs.Replacing.{last_started, written_given, lost_ok}
 use Rattle.virtual_log.proofs.Going.{goes_onto}
 
@@ -34,6 +34,27 @@ free_later a b floor n on f = record {
   shows = λ i l. let x = some_at f.log i l in on.shown i x.0 (f.shows i l ∙ x.1) ∙ sym x.1;
   free = f.free;
 }
+
+-- the own event of a read comes first
+abbrev pub looks_now : (who v : ℕ) (c : Chain) (a b : List Event) → Looked who a v c b → LooksAt who a c b
+looks_now who v c a b l = record { others = l.others; apart = l.apart; version = v; looked = b; look = l.seen; rest = []; seen = nil b }
+
+-- .. and stays first
+abbrev pub looks_later : (who : ℕ) (c : Chain) (a b e more : List Event) → e ≡ b ++ more → LooksAt who a c b → LooksAt who a c e
+looks_later who c a b e more is h = record {
+  others = h.others;
+  apart = h.apart;
+  version = h.version;
+  looked = h.looked;
+  look = h.look;
+  rest = h.rest ++ more;
+  seen = is ∙ (ap (λ l. l ++ more) h.seen ∙ append_assoc h.looked h.rest more);
+}
+
+-- where the chain that is known has a lower trim, so has the one that was looked at
+pub low_looked : (n : ℕ) (looked known : Chain) → (looked.trim < n) ⊎ (looked ≡ known) → known.trim < n → looked.trim < n
+low_looked n looked known (inl low) below = low
+low_looked n looked known (inr same) below = subst (λ (c : Chain). c.trim < n) (sym same) below
 
 -- what was told by the own event of a read
 pub looked_told : (who v : ℕ) (c : Chain) (a b : List Event) → Looked who a v c b → HasEvent a (IsTold who v c) b

@@ -73,6 +73,10 @@ seals_trans who a b c f g = record {
 pub seals_as : (who user : ℕ) (a b : List Event) → user ≡ who → SealsNone user a b → SealsNone who a b
 seals_as who user a b same h = subst (λ k. SealsNone k a b) same h
 
+-- none is begun next, by whoever is the same
+pub seals_then : (who user : ℕ) (a b c : List Event) → user ≡ who → SealsNone who a b → SealsNone user b c → SealsNone who a c
+seals_then who user a b c same f g = seals_trans who a b c f (seals_as who user b c same g)
+
 module _ (may : ℕ → Entry → Type 0) (floor : List Entry → ℕ → Type 0) (shelf : List ℕ) (who : ℕ) (old : List Event) where
   -- a turn that begins none
   pub turn_none : (call : FabricCall) (answer : FabricAnswer) (new : List Event) → IsTurn may floor shelf who old call answer new → is_seal call ≡ false → SealsNone who old new

@@ -15,6 +15,7 @@ use Rattle.legal_journal.specs.Moves.{RegisterMove, Gives, Conflicts, Writes, Fa
 use Rattle.legal_journal.specs.Journal.{State, RegisterState, IsCurrent, RegisterAllowed, IsAllowed, register_after, after, after_all, state_of, start, IsLegal, IsLegalFrom}
 use Rattle.legal_journal.specs.Turns.{AreOthers, IsTurn}
 use Rattle.legal_journal.proofs.Legal.{IsLegalFrom-split, after_all-append, legal_front, goes_on}
+use Rattle.legal_journal.proofs.Sealing.{one_or_none}
 use Rattle.legal_journal.proofs.Taken.{took}
 use Rattle.virtual_log.specs.Turning.{HasEvent}
 use Rattle.virtual_log.specs.Writing.{chain_by, WriteNone, WroteNone, IsAnothers}
@@ -37,6 +38,19 @@ turn_wrote may floor shelf who old call answer new t own none = record {
   seen = t.seen ∙ (ap (λ es. (old ++ t.others) ++ es) own ∙ append_assoc old t.others (record { who = who; call = call; answer = answer } ∷ []));
   none = write_append who t.others _ (others_write who t.others t.apart) (λ _. none, tt);
 }
+
+-- .. or that has none
+pub turn_quiet : (may : ℕ → Entry → Type 0) (floor : List Entry → ℕ → Type 0) (shelf : List ℕ) (who : ℕ) (old : List Event) (call : FabricCall) (answer : FabricAnswer) (new : List Event) → IsTurn may floor shelf who old call answer new
+    → chain_by (move_of call answer) ≡ None → WroteNone who old new
+turn_quiet may floor shelf who old call answer new t none = record {
+  more = t.others ++ t.own;
+  seen = t.seen ∙ append_assoc old t.others t.own;
+  none = write_append who t.others t.own (others_write who t.others t.apart) (by (one_or_none who call answer t.own t.event));
+}
+  where
+    by : (t.own ≡ []) ⊎ (t.own ≡ record { who = who; call = call; answer = answer } ∷ []) → WriteNone who t.own
+    by (inl empty) = subst (WriteNone who) (sym empty) tt
+    by (inr one) = subst (WriteNone who) (sym one) (λ _. none, tt)
 
 pub wrote_refl : (who : ℕ) (a : List Event) → a ≡ a ++ [] → WroteNone who a a
 wrote_refl who a nil = record { more = []; seen = nil; none = tt }

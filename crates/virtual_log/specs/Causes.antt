@@ -1,5 +1,6 @@
 -- The cause of each fault: an own event of the call.
-use Rattle.std.specs.Prelude.{◌≡◌, ℕ, List}
+use Rattle.std.specs.Prelude.{◌≡◌, ℕ, List, [], ◌∷◌, ◌++◌}
+use Rattle.loglet_api.specs.declared.call.Answer.{Answer}
 use Rattle.loglet_api.specs.declared.call.Answer.TheVariants as answers
 use Rattle.legal_journal.specs.declared.events.Event.{Event}
 use Rattle.legal_journal.specs.declared.events.FabricCall.{FabricCall}
@@ -38,3 +39,27 @@ HasCause who old Memory new = Unit {0}
 HasCause who old (NoQuorum id unreached) new = HasEvent old (Causes who (NoQuorum id unreached)) new
 HasCause who old (Full id) new = HasEvent old (Causes who (Full id)) new
 HasCause who old Meta new = HasEvent old (Causes who Meta) new
+
+-- the loglet's answer doesn't tell of too few servers
+abbrev pub IsCalmAnswer : Answer → Type 0
+IsCalmAnswer (answers.NoQuorum u) = ⊥
+IsCalmAnswer a = Unit {0}
+
+-- the answer is the cause of no fault
+abbrev pub IsCalm : FabricAnswer → Type 0
+IsCalm (fabric.Done a) = IsCalmAnswer a
+IsCalm fabric.Full = ⊥
+IsCalm fabric.MetaFault = ⊥
+IsCalm fabric.Down = ⊥
+IsCalm a = Unit {0}
+
+-- .. no answer to who's is
+abbrev pub AreCalm : ℕ → List Event → Type 0
+AreCalm who [] = Unit {0}
+AreCalm who (e ∷ es) = (e.who ≡ who → IsCalm e.answer) × AreCalm who es
+
+-- no own event since old tells of a fault
+pub record CalmSince (who : ℕ) (old new : List Event) : Type 0 where
+  pub more : List Event
+  pub seen : new ≡ old ++ more
+  pub calm : AreCalm who more

@@ -9,7 +9,8 @@ use Rattle.legal_journal.specs.declared.events.FabricCall.{FabricCall}
 use Rattle.legal_journal.specs.declared.events.FabricCall.TheVariants.{Begin, ReadChain, WriteChain}
 use Rattle.legal_journal.specs.declared.events.FabricAnswer.{FabricAnswer}
 use Rattle.legal_journal.specs.declared.events.FabricAnswer.TheVariants.{Begun, At, Written, Conflict}
-use Rattle.virtual_log.specs.Turning.{HasEvent}
+use Rattle.virtual_log.specs.Turning.{HasEvent, LooksAt}
+use Rattle.virtual_log.specs.Writing.{WroteNone}
 
 -- an own write stands under this version: it raises the trim to n, over a chain whose trim was lower
 pub record IsRaised (who : ℕ) (old : List Event) (n version : ℕ) (new : List Event) : Type 0 where
@@ -64,3 +65,13 @@ pub record IsPrefixTrimmed (who : ℕ) (old : List Event) (n trim : ℕ) (new : 
   pub written : ℕ
   pub truncated : IsTruncated who old n written trim new
   pub trimmed : AreTrimmed who old chain.segments n new
+
+-- who wrote no chain since old, or its first own event reads a chain whose trim is below n
+abbrev pub Spares : ℕ → List Event → ℕ → List Event → Type 0
+Spares who old n new = WroteNone who old new ⊎ ((chain : Chain) × LooksAt who old chain new × (chain.trim < n))
+
+-- The first own event since old reads a chain, and after it each segment of that chain that starts below n was trimmed.
+pub record TrimsLooked (who : ℕ) (old : List Event) (n : ℕ) (new : List Event) : Type 0 where
+  pub chain : Chain
+  pub looks : LooksAt who old chain new
+  pub trimmed : AreTrimmed who looks.looked chain.segments n new

@@ -43,6 +43,16 @@ pub record Looked (who : ℕ) (old : List Event) (version : ℕ) (chain : Chain)
   pub version_is : (state_of new).register.version ≡ version
   pub chain_is : (state_of new).register.chain ≡ chain
 
+-- the first own event since old reads this chain
+pub record LooksAt (who : ℕ) (old : List Event) (chain : Chain) (new : List Event) : Type 0 where
+  pub others : List Event
+  pub apart : AreOthers who others
+  pub version : ℕ
+  pub looked : List Event
+  pub look : looked ≡ (old ++ others) ++ record { who = who; call = ReadChain; answer = At version chain } ∷ []
+  pub rest : List Event
+  pub seen : new ≡ looked ++ rest
+
 -- the first own event since old, with those of others before it
 pub record FirstTurn (who : ℕ) (old new : List Event) : Type 0 where
   pub others : List Event

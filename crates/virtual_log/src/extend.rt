@@ -1,10 +1,11 @@
 //! The last loglet of the chain is replaced on request (OSDI 2020): it is sealed, its tail is found, and the chain is
 //! written that closes it there. Whoever writes first wins.
-ghost use Rattle.std.specs.Prelude.{◌≡◌, ◌<◌, ◌+◌, ℕ, length, IfOk, IfErr, OnErr, Contains};
+ghost use Rattle.std.specs.Prelude.{◌≡◌, ◌<◌, ◌+◌, ℕ, length, IfOk, OnOk, IfErr, OnErr, Contains};
 ghost use Rattle.chain_map.specs.Chain.{last_segment};
 ghost use Rattle.legal_journal.specs.Journal.{state_of, IsLegal};
 ghost use Rattle.virtual_log.specs.Turning.{Later};
-ghost use Rattle.virtual_log.specs.Causes.{HasCause};
+ghost use Rattle.virtual_log.specs.Causes.{HasCause, CalmSince};
+ghost use Rattle.virtual_log.specs.declared.fault.Fault.TheVariants.{Memory};
 ghost use Rattle.virtual_log.specs.Log.{GoesBy};
 ghost use Rattle.virtual_log.specs.Extending.{Closes, IsExtension};
 ghost use Rattle.virtual_log.specs.Sealing.{SealsNone, SealsLast};
@@ -52,6 +53,8 @@ fn close_at<T: Turns>(
     ensures unknown { OnErr result (known.new.tail ≡ known.old.tail) }
     ensures silent { SaysNone (T.who turns.old) (T.seen turns.old) (T.seen turns.new) }
     ensures err { IfErr result (λ fault. HasCause (T.who turns.old) (T.seen turns.old) fault (T.seen turns.new)) }
+    ensures calm { OnOk result (CalmSince (T.who turns.old) (T.seen turns.old) (T.seen turns.new)) }
+    ensures memory { IfErr result (λ fault. fault ≡ Memory → CalmSince (T.who turns.old) (T.seen turns.old) (T.seen turns.new)) }
 {
     let last = last_of(&known.chain);
     'write: loop {
@@ -75,7 +78,8 @@ fn close_at<T: Turns>(
             }
             FabricAnswer::MetaFault => return Err(Fault::Meta),
             FabricAnswer::Down => return Err(Fault::Meta),
-            _ => return Err(Fault::Memory),
+            FabricAnswer::Memory => return Err(Fault::Memory),
+            _ => unreachable!(),
         }
     }
 }
@@ -102,6 +106,8 @@ pub fn extend_on<T: Turns, C: Chooser>(
     ensures words { SaysOnly (C.may chooser.old) (T.who turns.old) (T.seen turns.old) (T.seen turns.new) }
     ensures same { C.may chooser.new ≡ C.may chooser.old }
     ensures err { IfErr result (λ fault. HasCause (T.who turns.old) (T.seen turns.old) fault (T.seen turns.new)) }
+    ensures calm { OnOk result (CalmSince (T.who turns.old) (T.seen turns.old) (T.seen turns.new)) }
+    ensures memory { IfErr result (λ fault. fault ≡ Memory → CalmSince (T.who turns.old) (T.seen turns.old) (T.seen turns.new)) }
 {
     let (version, chain) = look(turns)?;
     known.version = version;

@@ -5,13 +5,14 @@ ghost use Rattle.chain_map.specs.Chain.{first_chain};
 ghost use Rattle.legal_journal.specs.Journal.{state_of, IsLegal, IsFree, tail_of, trim_of};
 ghost use Rattle.legal_journal.specs.Laws.{Stands};
 ghost use Rattle.virtual_log.specs.Turning.{OnlyOwn, Later, IsAbove};
-ghost use Rattle.virtual_log.specs.Causes.{HasCause};
+ghost use Rattle.virtual_log.specs.Causes.{HasCause, CalmSince};
+ghost use Rattle.virtual_log.specs.declared.fault.Fault.TheVariants.{Memory};
 ghost use Rattle.virtual_log.specs.Next.{IsNext};
 ghost use Rattle.virtual_log.specs.Holding.{Holds, Reads};
 ghost use Rattle.virtual_log.specs.Log.{LogView, GoesBy};
 ghost use Rattle.virtual_log.specs.Extending.{IsExtension};
-ghost use Rattle.virtual_log.specs.Sealing.{SealsLast};
-ghost use Rattle.virtual_log.specs.Truncating.{IsTruncated, IsPrefixTrimmed};
+ghost use Rattle.virtual_log.specs.Sealing.{SealsNone, SealsLast};
+ghost use Rattle.virtual_log.specs.Truncating.{IsTruncated, IsPrefixTrimmed, Spares, TrimsLooked};
 
 use crate::calls::{Known, Next, append_on, read_from, tail_on};
 use crate::extend::{Extension, extend_on};
@@ -150,6 +151,11 @@ impl<T: Turns, C: Chooser> VirtualLog<T, C> {
 
         // Each fault but `Memory` was an own event of this call.
         ensures err { IfErr result (λ fault. HasCause self.old.who self.old.seen fault self.new.seen) }
+
+        // It began no Seal. Where it is answered Ok, and where memory was wanting, no own event told of a fault.
+        ensures unsealed { SealsNone self.old.who self.old.seen self.new.seen }
+        ensures calm { OnOk result (CalmSince self.old.who self.old.seen self.new.seen) }
+        ensures memory { IfErr result (λ fault. fault ≡ Memory → CalmSince self.old.who self.old.seen self.new.seen) }
         ensures unknown { OnErr result (self.new.known ≡ self.old.known) }
     {
         append_on(
@@ -180,6 +186,9 @@ impl<T: Turns, C: Chooser> VirtualLog<T, C> {
         // Where no event of another came meanwhile it isn't below the log's tail either.
         ensures exact { IfOk result (λ tail. OnlyOwn self.old.who self.old.seen self.new.seen → tail_of (state_of self.new.seen) ≤ tail) }
         ensures err { IfErr result (λ fault. HasCause self.old.who self.old.seen fault self.new.seen) }
+        ensures unsealed { SealsNone self.old.who self.old.seen self.new.seen }
+        ensures calm { OnOk result (CalmSince self.old.who self.old.seen self.new.seen) }
+        ensures memory { IfErr result (λ fault. fault ≡ Memory → CalmSince self.old.who self.old.seen self.new.seen) }
         ensures unknown { OnErr result (self.new.known ≡ self.old.known) }
     {
         tail_on(
@@ -211,6 +220,8 @@ impl<T: Turns, C: Chooser> VirtualLog<T, C> {
         // Whatever comes of it, it begins no Seal, or one of the last loglet of that chain.
         ensures seals { SealsLast self.old.who self.old.seen self.new.seen }
         ensures err { IfErr result (λ fault. HasCause self.old.who self.old.seen fault self.new.seen) }
+        ensures calm { OnOk result (CalmSince self.old.who self.old.seen self.new.seen) }
+        ensures memory { IfErr result (λ fault. fault ≡ Memory → CalmSince self.old.who self.old.seen self.new.seen) }
         ensures unknown { OnErr result (self.new.known ≡ self.old.known) }
     {
         extend_on(
@@ -238,7 +249,13 @@ impl<T: Turns, C: Chooser> VirtualLog<T, C> {
         // An own write raised the trim to n; or the register told a chain whose trim isn't below n.
         ensures truncated { IfOk result (λ x. IsTruncated self.old.who self.old.seen n x.0 x.1 self.new.seen) }
         ensures stands { IfOk result (λ x. (x.0 ≡ self.new.version) × (x.1 ≡ self.new.chain.trim)) }
+
+        // It writes only where the chain of this call's first look has a lower trim.
+        ensures spares { Spares self.old.who self.old.seen n self.new.seen }
         ensures err { IfErr result (λ fault. HasCause self.old.who self.old.seen fault self.new.seen) }
+        ensures unsealed { SealsNone self.old.who self.old.seen self.new.seen }
+        ensures calm { OnOk result (CalmSince self.old.who self.old.seen self.new.seen) }
+        ensures memory { IfErr result (λ fault. fault ≡ Memory → CalmSince self.old.who self.old.seen self.new.seen) }
     {
         truncate_on(&mut self.turns, self.alloc, &mut self.known, n)
     }
@@ -257,8 +274,14 @@ impl<T: Turns, C: Chooser> VirtualLog<T, C> {
         // Each segment, of the chain that was looked at first, that starts below n was trimmed up to n or
         // to its end.
         ensures trimmed { IfOk result (λ trim. IsPrefixTrimmed self.old.who self.old.seen n trim self.new.seen) }
+
+        // That chain is the one of this call's first own event, which comes before the trim is raised.
+        ensures looked { OnOk result (TrimsLooked self.old.who self.old.seen n self.new.seen) }
         ensures stands { IfOk result (λ trim. trim ≡ self.new.chain.trim) }
         ensures err { IfErr result (λ fault. HasCause self.old.who self.old.seen fault self.new.seen) }
+        ensures unsealed { SealsNone self.old.who self.old.seen self.new.seen }
+        ensures calm { OnOk result (CalmSince self.old.who self.old.seen self.new.seen) }
+        ensures memory { IfErr result (λ fault. fault ≡ Memory → CalmSince self.old.who self.old.seen self.new.seen) }
     {
         prefix_trim_on(
             &mut self.turns,
@@ -289,6 +312,9 @@ impl<T: Turns, C: Chooser> VirtualLog<T, C> {
         ensures quiet { OnOk result (trim_of (state_of self.new.seen) ≤ least → OnlyOwn self.old.who self.old.seen self.new.seen
             → tail_of (state_of self.new.seen) ≡ tail_of (state_of self.old.seen)) }
         ensures err { IfErr result (λ fault. HasCause self.old.who self.old.seen fault self.new.seen) }
+        ensures unsealed { SealsNone self.old.who self.old.seen self.new.seen }
+        ensures calm { OnOk result (CalmSince self.old.who self.old.seen self.new.seen) }
+        ensures memory { IfErr result (λ fault. fault ≡ Memory → CalmSince self.old.who self.old.seen self.new.seen) }
     {
         let end = most.min(self.known.tail);
         if end <= least {

@@ -4,7 +4,8 @@ ghost use Rattle.delos_types.specs.Spelling.{IsSpellable};
 ghost use Rattle.legal_journal.specs.Journal.{state_of, IsLegal, tail_of};
 ghost use Rattle.legal_journal.specs.Laws.{Stands};
 ghost use Rattle.virtual_log.specs.Turning.{Later, FirstTurn, IsAbove};
-ghost use Rattle.virtual_log.specs.Causes.{HasCause};
+ghost use Rattle.virtual_log.specs.Causes.{HasCause, CalmSince};
+ghost use Rattle.virtual_log.specs.declared.fault.Fault.TheVariants.{Memory};
 ghost use Rattle.virtual_log.specs.Tails.{IsFound, IsSealedTail};
 ghost use Rattle.virtual_log.specs.Writing.{WroteNone};
 ghost use Rattle.virtual_log.specs.Sealing.{SealsNone, SealsAt};
@@ -42,6 +43,9 @@ pub fn append_to<T: Turns, C: Chooser>(
     ensures words { SaysOnly (C.may chooser.old) (T.who turns.old) (T.seen turns.old) (T.seen turns.new) }
     ensures same { C.may chooser.new ≡ C.may chooser.old }
     ensures err { IfErr result (λ fault. HasCause (T.who turns.old) (T.seen turns.old) fault (T.seen turns.new)) }
+    ensures unsealed { SealsNone (T.who turns.old) (T.seen turns.old) (T.seen turns.new) }
+    ensures calm { OnOk result (CalmSince (T.who turns.old) (T.seen turns.old) (T.seen turns.new)) }
+    ensures memory { IfErr result (λ fault. fault ≡ Memory → CalmSince (T.who turns.old) (T.seen turns.old) (T.seen turns.new)) }
 {
     let copy = entry.clone()?;
     let ticket = begin(turns, segment.id, Op::Append(copy))?;
@@ -54,7 +58,7 @@ pub fn append_to<T: Turns, C: Chooser>(
                 unreached,
             });
         }
-        _ => return Err(Fault::Memory),
+        _ => unreachable!(),
     }
 }
 
@@ -84,6 +88,8 @@ pub fn find_tail<T: Turns, C: Chooser>(
     ensures words { SaysOnly (C.may chooser.old) (T.who turns.old) (T.seen turns.old) (T.seen turns.new) }
     ensures same { C.may chooser.new ≡ C.may chooser.old }
     ensures err { IfErr result (λ fault. HasCause (T.who turns.old) (T.seen turns.old) fault (T.seen turns.new)) }
+    ensures calm { OnOk result (CalmSince (T.who turns.old) (T.seen turns.old) (T.seen turns.new)) }
+    ensures memory { IfErr result (λ fault. fault ≡ Memory → CalmSince (T.who turns.old) (T.seen turns.old) (T.seen turns.new)) }
 {
     let ticket = begin(turns, segment.id, Op::Tail)?;
     match carry_on(turns, chooser, segment.id, ticket)? {
@@ -95,7 +101,7 @@ pub fn find_tail<T: Turns, C: Chooser>(
                 unreached,
             });
         }
-        _ => return Err(Fault::Memory),
+        _ => unreachable!(),
     }
 }
 
@@ -112,11 +118,13 @@ pub fn seal<T: Turns, C: Chooser>(turns: &mut T, chooser: &mut C, id: u32) -> Re
     ensures words { SaysOnly (C.may chooser.old) (T.who turns.old) (T.seen turns.old) (T.seen turns.new) }
     ensures same { C.may chooser.new ≡ C.may chooser.old }
     ensures err { IfErr result (λ fault. HasCause (T.who turns.old) (T.seen turns.old) fault (T.seen turns.new)) }
+    ensures calm { OnOk result (CalmSince (T.who turns.old) (T.seen turns.old) (T.seen turns.new)) }
+    ensures memory { IfErr result (λ fault. fault ≡ Memory → CalmSince (T.who turns.old) (T.seen turns.old) (T.seen turns.new)) }
 {
     let ticket = begin(turns, id, Op::Seal)?;
     match carry_on(turns, chooser, id, ticket)? {
         Answer::SealDone => return Ok(()),
         Answer::NoQuorum { unreached } => return Err(Fault::NoQuorum { id, unreached }),
-        _ => return Err(Fault::Memory),
+        _ => unreachable!(),
     }
 }

@@ -4,7 +4,9 @@ ghost use Rattle.std.specs.Prelude.{◌≡◌, ◌<◌, ◌+◌, ℕ, length, If
 ghost use Rattle.chain_map.specs.Chain.{last_of_segments, last_segment};
 ghost use Rattle.legal_journal.specs.Journal.{state_of, IsLegal};
 ghost use Rattle.virtual_log.specs.Turning.{Later};
-ghost use Rattle.virtual_log.specs.Causes.{HasCause};
+ghost use Rattle.virtual_log.specs.Causes.{HasCause, CalmSince};
+ghost use Rattle.virtual_log.specs.declared.fault.Fault.TheVariants.{Memory};
+ghost use Rattle.virtual_log.specs.Sealing.{SealsNone};
 ghost use Rattle.virtual_log.specs.Saying.{SaysOnly, SaysNone};
 
 use crate::fault::Fault;
@@ -48,6 +50,9 @@ fn replace<T: Turns>(
     ensures ok { OnOk result ((last_of_segments chain.now.segments).id < (last_of_segments (state_of (T.seen turns.new)).register.chain.segments).id) }
     ensures silent { SaysNone (T.who turns.old) (T.seen turns.old) (T.seen turns.new) }
     ensures err { IfErr result (λ fault. HasCause (T.who turns.old) (T.seen turns.old) fault (T.seen turns.new)) }
+    ensures unsealed { SealsNone (T.who turns.old) (T.seen turns.old) (T.seen turns.new) }
+    ensures calm { OnOk result (CalmSince (T.who turns.old) (T.seen turns.old) (T.seen turns.new)) }
+    ensures memory { IfErr result (λ fault. fault ≡ Memory → CalmSince (T.who turns.old) (T.seen turns.old) (T.seen turns.new)) }
 {
     let id = last_of(chain).id;
     let mut expected = version;
@@ -64,7 +69,8 @@ fn replace<T: Turns>(
             }
             FabricAnswer::MetaFault => return Err(Fault::Meta),
             FabricAnswer::Down => return Err(Fault::Meta),
-            _ => return Err(Fault::Memory),
+            FabricAnswer::Memory => return Err(Fault::Memory),
+            _ => unreachable!(),
         }
     }
 }
@@ -86,6 +92,9 @@ fn finish<T: Turns, C: Chooser>(
     ensures words { SaysOnly (C.may chooser.old) (T.who turns.old) (T.seen turns.old) (T.seen turns.new) }
     ensures same { C.may chooser.new ≡ C.may chooser.old }
     ensures err { IfErr result (λ fault. HasCause (T.who turns.old) (T.seen turns.old) fault (T.seen turns.new)) }
+    ensures unsealed { SealsNone (T.who turns.old) (T.seen turns.old) (T.seen turns.new) }
+    ensures calm { OnOk result (CalmSince (T.who turns.old) (T.seen turns.old) (T.seen turns.new)) }
+    ensures memory { IfErr result (λ fault. fault ≡ Memory → CalmSince (T.who turns.old) (T.seen turns.old) (T.seen turns.new)) }
 {
     let last = last_of(chain);
     let FoundTail::Sealed(length) = find_tail(turns, chooser, last)? else {
@@ -113,6 +122,9 @@ pub fn chain_behind<T: Turns, C: Chooser>(
     ensures words { SaysOnly (C.may chooser.old) (T.who turns.old) (T.seen turns.old) (T.seen turns.new) }
     ensures same { C.may chooser.new ≡ C.may chooser.old }
     ensures err { IfErr result (λ fault. HasCause (T.who turns.old) (T.seen turns.old) fault (T.seen turns.new)) }
+    ensures unsealed { SealsNone (T.who turns.old) (T.seen turns.old) (T.seen turns.new) }
+    ensures calm { OnOk result (CalmSince (T.who turns.old) (T.seen turns.old) (T.seen turns.new)) }
+    ensures memory { IfErr result (λ fault. fault ≡ Memory → CalmSince (T.who turns.old) (T.seen turns.old) (T.seen turns.new)) }
 {
     let (version, chain) = look(turns)?;
     if last_of(&chain).id > segment.id {

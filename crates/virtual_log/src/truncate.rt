@@ -3,9 +3,11 @@ ghost use Rattle.std.specs.Prelude.{◌≡◌, ◌<◌, ◌≤◌, ℕ, Some, sl
 ghost use Rattle.delos_types.specs.declared.chain.Segment.{Segment};
 ghost use Rattle.legal_journal.specs.Journal.{state_of, trim_of, IsLegal, IsFree};
 ghost use Rattle.virtual_log.specs.Turning.{Later, HasEvent};
-ghost use Rattle.virtual_log.specs.Causes.{HasCause};
+ghost use Rattle.virtual_log.specs.Causes.{HasCause, CalmSince};
+ghost use Rattle.virtual_log.specs.declared.fault.Fault.TheVariants.{Memory};
+ghost use Rattle.virtual_log.specs.Sealing.{SealsNone};
 ghost use Rattle.virtual_log.specs.Log.{GoesBy};
-ghost use Rattle.virtual_log.specs.Truncating.{IsTruncated, length_below, IsTrimOf, AreTrimmed, IsPrefixTrimmed};
+ghost use Rattle.virtual_log.specs.Truncating.{IsTruncated, length_below, IsTrimOf, AreTrimmed, IsPrefixTrimmed, Spares, TrimsLooked};
 ghost use Rattle.virtual_log.specs.Saying.{SaysOnly, SaysNone};
 
 use crate::calls::Known;
@@ -38,8 +40,12 @@ pub fn truncate_on<T: Turns>(
     ensures known { known.new.tail ≡ known.old.tail }
     ensures truncated { IfOk result (λ x. IsTruncated (T.who turns.old) (T.seen turns.old) n x.0 x.1 (T.seen turns.new)) }
     ensures stands { IfOk result (λ x. (x.0 ≡ known.new.version) × (x.1 ≡ known.new.chain.trim)) }
+    ensures spares { Spares (T.who turns.old) (T.seen turns.old) n (T.seen turns.new) }
     ensures silent { SaysNone (T.who turns.old) (T.seen turns.old) (T.seen turns.new) }
     ensures err { IfErr result (λ fault. HasCause (T.who turns.old) (T.seen turns.old) fault (T.seen turns.new)) }
+    ensures unsealed { SealsNone (T.who turns.old) (T.seen turns.old) (T.seen turns.new) }
+    ensures calm { OnOk result (CalmSince (T.who turns.old) (T.seen turns.old) (T.seen turns.new)) }
+    ensures memory { IfErr result (λ fault. fault ≡ Memory → CalmSince (T.who turns.old) (T.seen turns.old) (T.seen turns.new)) }
 {
     let (version, chain) = look(turns)?;
     known.version = version;
@@ -63,7 +69,8 @@ pub fn truncate_on<T: Turns>(
             }
             FabricAnswer::MetaFault => return Err(Fault::Meta),
             FabricAnswer::Down => return Err(Fault::Meta),
-            _ => return Err(Fault::Memory),
+            FabricAnswer::Memory => return Err(Fault::Memory),
+            _ => unreachable!(),
         }
     }
 }
@@ -94,6 +101,9 @@ fn trim_segment<T: Turns, C: Chooser>(
     ensures words { SaysOnly (C.may chooser.old) (T.who turns.old) (T.seen turns.old) (T.seen turns.new) }
     ensures same { C.may chooser.new ≡ C.may chooser.old }
     ensures err { IfErr result (λ fault. HasCause (T.who turns.old) (T.seen turns.old) fault (T.seen turns.new)) }
+    ensures unsealed { SealsNone (T.who turns.old) (T.seen turns.old) (T.seen turns.new) }
+    ensures calm { OnOk result (CalmSince (T.who turns.old) (T.seen turns.old) (T.seen turns.new)) }
+    ensures memory { IfErr result (λ fault. fault ≡ Memory → CalmSince (T.who turns.old) (T.seen turns.old) (T.seen turns.new)) }
 {
     if segment.start >= n {
         return Ok(());
@@ -104,7 +114,7 @@ fn trim_segment<T: Turns, C: Chooser>(
     match carry_on(turns, chooser, id, ticket)? {
         Answer::TrimDone => return Ok(()),
         Answer::NoQuorum { unreached } => return Err(Fault::NoQuorum { id, unreached }),
-        _ => return Err(Fault::Memory),
+        _ => unreachable!(),
     }
 }
 
@@ -124,6 +134,9 @@ fn trim_segments<T: Turns, C: Chooser>(
     ensures words { SaysOnly (C.may chooser.old) (T.who turns.old) (T.seen turns.old) (T.seen turns.new) }
     ensures same { C.may chooser.new ≡ C.may chooser.old }
     ensures err { IfErr result (λ fault. HasCause (T.who turns.old) (T.seen turns.old) fault (T.seen turns.new)) }
+    ensures unsealed { SealsNone (T.who turns.old) (T.seen turns.old) (T.seen turns.new) }
+    ensures calm { OnOk result (CalmSince (T.who turns.old) (T.seen turns.old) (T.seen turns.new)) }
+    ensures memory { IfErr result (λ fault. fault ≡ Memory → CalmSince (T.who turns.old) (T.seen turns.old) (T.seen turns.new)) }
 {
     'segment: for segment in segments {
         trim_segment(turns, chooser, *segment, n)?;
@@ -148,10 +161,14 @@ pub fn prefix_trim_on<T: Turns, C: Chooser>(
     ensures goes_by { GoesBy (state_of (T.seen turns.new)) known.new.version known.new.chain known.new.tail }
     ensures known { known.new.tail ≡ known.old.tail }
     ensures trimmed { IfOk result (λ trim. IsPrefixTrimmed (T.who turns.old) (T.seen turns.old) n trim (T.seen turns.new)) }
+    ensures looked { OnOk result (TrimsLooked (T.who turns.old) (T.seen turns.old) n (T.seen turns.new)) }
     ensures stands { IfOk result (λ trim. trim ≡ known.new.chain.trim) }
     ensures words { SaysOnly (C.may chooser.old) (T.who turns.old) (T.seen turns.old) (T.seen turns.new) }
     ensures same { C.may chooser.new ≡ C.may chooser.old }
     ensures err { IfErr result (λ fault. HasCause (T.who turns.old) (T.seen turns.old) fault (T.seen turns.new)) }
+    ensures unsealed { SealsNone (T.who turns.old) (T.seen turns.old) (T.seen turns.new) }
+    ensures calm { OnOk result (CalmSince (T.who turns.old) (T.seen turns.old) (T.seen turns.new)) }
+    ensures memory { IfErr result (λ fault. fault ≡ Memory → CalmSince (T.who turns.old) (T.seen turns.old) (T.seen turns.new)) }
 {
     let (version, chain) = look(turns)?;
     known.version = version;

@@ -1,11 +1,12 @@
 //! Single turns, and operations that are carried to their end.
-ghost use Rattle.std.specs.Prelude.{◌≡◌, ◌<◌, ℕ, false, length, IfOk, IfErr};
+ghost use Rattle.std.specs.Prelude.{◌≡◌, ◌<◌, ℕ, false, length, IfOk, OnOk, IfErr, OnErr};
 ghost use Rattle.legal_journal.specs.Told.{Running};
 ghost use Rattle.legal_journal.specs.Journal.{state_of, IsOwn, IsLegal};
 ghost use Rattle.legal_journal.specs.Turns.{MayTurn, HasRight};
 ghost use Rattle.legal_journal.specs.Sealing.{is_seal};
 ghost use Rattle.virtual_log.specs.Turning.{Later, Looked, Opened, Answered};
-ghost use Rattle.virtual_log.specs.Causes.{HasCause};
+ghost use Rattle.virtual_log.specs.Causes.{HasCause, CalmSince, IsCalmAnswer};
+ghost use Rattle.virtual_log.specs.declared.fault.Fault.TheVariants.{Memory};
 ghost use Rattle.virtual_log.specs.Writing.{WroteNone};
 ghost use Rattle.virtual_log.specs.Sealing.{SealsNone, SealsAt};
 ghost use Rattle.virtual_log.specs.Saying.{SaysOnly, SaysNone};
@@ -25,14 +26,18 @@ pub fn look<T: Turns>(turns: &mut T) -> Result<(u64, Chain), Fault>
     ensures later { Later T.Law.may T.Law.floor T.Law.shelf (T.seen turns.old) (T.seen turns.new) }
     ensures who { T.who turns.new ≡ T.who turns.old }
     ensures ok { IfOk result (λ x. Looked (T.who turns.old) (T.seen turns.old) x.0 x.1 (T.seen turns.new)) }
+    ensures quiet { WroteNone (T.who turns.old) (T.seen turns.old) (T.seen turns.new) }
     ensures unsealed { SealsNone (T.who turns.old) (T.seen turns.old) (T.seen turns.new) }
     ensures silent { SaysNone (T.who turns.old) (T.seen turns.old) (T.seen turns.new) }
     ensures err { IfErr result (λ fault. HasCause (T.who turns.old) (T.seen turns.old) fault (T.seen turns.new)) }
+    ensures calm { OnOk result (CalmSince (T.who turns.old) (T.seen turns.old) (T.seen turns.new)) }
+    ensures memory { IfErr result (λ fault. fault ≡ Memory → CalmSince (T.who turns.old) (T.seen turns.old) (T.seen turns.new)) }
 {
     match turns.turn(FabricCall::ReadChain) {
         FabricAnswer::At(version, chain) => return Ok((version, chain)),
         FabricAnswer::Down => return Err(Fault::Meta),
-        _ => return Err(Fault::Memory),
+        FabricAnswer::Memory => return Err(Fault::Memory),
+        _ => unreachable!(),
     }
 }
 
@@ -48,11 +53,14 @@ pub fn begin<T: Turns>(turns: &mut T, cell: u32, op: Op) -> Result<Ticket, Fault
     ensures seals { SealsAt (T.who turns.old) cell (T.seen turns.old) (T.seen turns.new) }
     ensures silent { SaysNone (T.who turns.old) (T.seen turns.old) (T.seen turns.new) }
     ensures err { IfErr result (λ fault. HasCause (T.who turns.old) (T.seen turns.old) fault (T.seen turns.new)) }
+    ensures calm { OnOk result (CalmSince (T.who turns.old) (T.seen turns.old) (T.seen turns.new)) }
+    ensures memory { IfErr result (λ fault. fault ≡ Memory → CalmSince (T.who turns.old) (T.seen turns.old) (T.seen turns.new)) }
 {
     match turns.turn(FabricCall::Begin(cell, op)) {
         FabricAnswer::Begun(ticket) => return Ok(ticket),
         FabricAnswer::Full => return Err(Fault::Full { id: cell }),
-        _ => return Err(Fault::Memory),
+        FabricAnswer::Memory => return Err(Fault::Memory),
+        _ => unreachable!(),
     }
 }
 
@@ -74,13 +82,16 @@ pub fn carry_on<T: Turns, C: Chooser>(
     ensures unsealed { SealsNone (T.who turns.old) (T.seen turns.old) (T.seen turns.new) }
     ensures words { SaysOnly (C.may chooser.old) (T.who turns.old) (T.seen turns.old) (T.seen turns.new) }
     ensures same { C.may chooser.new ≡ C.may chooser.old }
+    ensures calm { IfOk result (λ a. IsCalmAnswer a → CalmSince (T.who turns.old) (T.seen turns.old) (T.seen turns.new)) }
+    ensures memory { OnErr result (CalmSince (T.who turns.old) (T.seen turns.old) (T.seen turns.new)) }
 {
     loop {
         let word = chooser.word();
         match turns.turn(FabricCall::Carry(cell, ticket, word)) {
             FabricAnswer::Done(answer) => return Ok(answer),
             FabricAnswer::Going => {}
-            _ => return Err(AllocError),
+            FabricAnswer::Memory => return Err(AllocError),
+            _ => unreachable!(),
         }
     }
 }

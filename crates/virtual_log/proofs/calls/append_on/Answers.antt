@@ -10,6 +10,8 @@ use Rattle.virtual_log.proofs.Appending.{above_since}
 use Rattle.virtual_log.proofs.Going.{last_there, there_later, goes_later, goes_further, reach_fits, goes_behind, fewer}
 use Rattle.virtual_log.proofs.Holding.{placed_held}
 use Rattle.virtual_log.proofs.Saying.{says_refl, says_on}
+use Rattle.virtual_log.proofs.Sealing.{seals_refl, seals_then}
+use Rattle.virtual_log.proofs.Calming.{calm_refl, calm_then}
 use Rattle.virtual_log.proofs.calls.append_on.Goals as goal
 
 pub append_to-requires-clause-started : goal.append_to-requires-clause-started
@@ -198,6 +200,14 @@ segment-preserved g c =
           says_on words (may c.append_to.new.chooser) who (t.who c.append_to.new.turns) old (t.seen c.append_to.new.turns) (t.seen c.chain_behind.new.turns) (c.in_ok-position.ensures.same ∙ i.same) (c.in_ok-position.ensures.who ∙ i.who)
           (says_on words (may l.chooser) who (t.who l.turns) old now (t.seen c.append_to.new.turns) i.same i.who i.words c.in_ok-position.ensures.words)
           c.in_ok-version.ensures.words;
+      unsealed =
+          let who = t.who c.args.turns.now in
+          let old = t.seen c.args.turns.now in
+          seals_then who (t.who c.append_to.new.turns) old (t.seen c.append_to.new.turns) (t.seen c.chain_behind.new.turns) (c.in_ok-position.ensures.who ∙ i.who) (seals_then who (t.who l.turns) old now (t.seen c.append_to.new.turns) i.who i.unsealed c.in_ok-position.ensures.unsealed) c.in_ok-version.ensures.unsealed;
+      calm =
+          let who = t.who c.args.turns.now in
+          let old = t.seen c.args.turns.now in
+          calm_then who (t.who c.append_to.new.turns) old (t.seen c.append_to.new.turns) (t.seen c.chain_behind.new.turns) (c.in_ok-position.ensures.who ∙ i.who) (calm_then who (t.who l.turns) old now (t.seen c.append_to.new.turns) i.who i.calm c.in_ok-position.ensures.calm) c.in_ok-version.ensures.calm;
       same = from.same ∙ (c.in_ok-position.ensures.same ∙ i.same);
     }
 
@@ -251,5 +261,69 @@ segment-init g c =
       tail = refl;
       above = λ pos new later x. x;
       words = says_refl (g.C.Chooser.may c.args.chooser.now) (t.who c.args.turns.now) old;
+      unsealed = seals_refl (t.who c.args.turns.now) old;
+      calm = calm_refl (t.who c.args.turns.now) old;
       same = refl;
     }
+
+pub returns-in_err-position-clause-unsealed : goal.returns-in_err-position-clause-unsealed
+returns-in_err-position-clause-unsealed g c =
+    let t = g.T.Turns in
+    let who = t.who c.args.turns.now in
+    let old = t.seen c.args.turns.now in
+    let l = c.segment in
+    let i = l.invariant in
+    let now = t.seen l.turns in
+    seals_then who (t.who l.turns) old now (t.seen c.append_to.new.turns) i.who i.unsealed c.in_err-position.ensures.unsealed
+
+pub returns-in_err-position-clause-memory : goal.returns-in_err-position-clause-memory
+returns-in_err-position-clause-memory g c =
+    let t = g.T.Turns in
+    let who = t.who c.args.turns.now in
+    let old = t.seen c.args.turns.now in
+    let l = c.segment in
+    let i = l.invariant in
+    let now = t.seen l.turns in
+    let r = err_from_is_err_and c.from_residual.result c.from_residual.ensures.1 in
+    rw (r.1, r.2) (λ is. calm_then who (t.who l.turns) old now (t.seen c.append_to.new.turns) i.who i.calm (c.in_err-position.ensures.memory is))
+
+pub returns-in-Some-clause-unsealed : goal.returns-in-Some-clause-unsealed
+returns-in-Some-clause-unsealed g c =
+    let t = g.T.Turns in
+    let who = t.who c.args.turns.now in
+    let old = t.seen c.args.turns.now in
+    let l = c.segment in
+    let i = l.invariant in
+    let now = t.seen l.turns in
+    seals_then who (t.who l.turns) old now (t.seen c.append_to.new.turns) i.who i.unsealed c.in_ok-position.ensures.unsealed
+
+pub returns-in-Some-clause-calm : goal.returns-in-Some-clause-calm
+returns-in-Some-clause-calm g c =
+    let t = g.T.Turns in
+    let who = t.who c.args.turns.now in
+    let old = t.seen c.args.turns.now in
+    let l = c.segment in
+    let i = l.invariant in
+    let now = t.seen l.turns in
+    calm_then who (t.who l.turns) old now (t.seen c.append_to.new.turns) i.who i.calm c.in_ok-position.ensures.calm
+
+pub returns-in_err-version-clause-unsealed : goal.returns-in_err-version-clause-unsealed
+returns-in_err-version-clause-unsealed g c =
+    let t = g.T.Turns in
+    let who = t.who c.args.turns.now in
+    let old = t.seen c.args.turns.now in
+    let l = c.segment in
+    let i = l.invariant in
+    let now = t.seen l.turns in
+    seals_then who (t.who c.append_to.new.turns) old (t.seen c.append_to.new.turns) (t.seen c.chain_behind.new.turns) (c.in_ok-position.ensures.who ∙ i.who) (seals_then who (t.who l.turns) old now (t.seen c.append_to.new.turns) i.who i.unsealed c.in_ok-position.ensures.unsealed) c.in_err-version.ensures.unsealed
+
+pub returns-in_err-version-clause-memory : goal.returns-in_err-version-clause-memory
+returns-in_err-version-clause-memory g c =
+    let t = g.T.Turns in
+    let who = t.who c.args.turns.now in
+    let old = t.seen c.args.turns.now in
+    let l = c.segment in
+    let i = l.invariant in
+    let now = t.seen l.turns in
+    let r = err_from_is_err_and c.from_residual-in_err-version.result c.from_residual-in_err-version.ensures.1 in
+    rw (r.1, r.2) (λ is. calm_then who (t.who c.append_to.new.turns) old (t.seen c.append_to.new.turns) (t.seen c.chain_behind.new.turns) (c.in_ok-position.ensures.who ∙ i.who) (calm_then who (t.who l.turns) old now (t.seen c.append_to.new.turns) i.who i.calm c.in_ok-position.ensures.calm) (c.in_err-version.ensures.memory is))

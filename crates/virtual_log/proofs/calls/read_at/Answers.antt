@@ -14,6 +14,11 @@ use Rattle.virtual_log.proofs.Levels.{level_tail, silent_level}
 use Rattle.virtual_log.proofs.Reading.{place_of, got_ok, cut_ok}
 use Rattle.virtual_log.proofs.Holding.{got_held}
 use Rattle.virtual_log.proofs.Saying.{says_then}
+use Rattle.virtual_log.proofs.Sealing.{seals_then}
+use Rattle.virtual_log.proofs.Calming.{calm_then}
+use Rattle.virtual_log.proofs.Answering.{read_answers, never_beyond}
+use Rattle.std.proofs.lemmas.Result.{err_from_is_err_and}
+use Rattle.virtual_log.specs.Causes.{IsCalmAnswer, CalmSince}
 use Rattle.virtual_log.proofs.calls.read_at.Goals as goal
 
 pub locate-requires : goal.locate-requires
@@ -185,8 +190,66 @@ returns-in-NoQuorum-clause-words g c =
     let words = g.C.Chooser.may c.args.chooser.now in
     says_then words (t.who c.args.turns.now) (t.who c.begin.new.turns) (t.seen c.args.turns.now) (t.seen c.begin.new.turns) (t.seen c.carry_on.new.turns) c.in_ok-ticket.ensures.who (c.in_ok-ticket.ensures.silent words) c.in_ok-entry.ensures.words
 
-pub returns-in_default-2-clause-words : goal.returns-in_default-2-clause-words
-returns-in_default-2-clause-words g c =
+pub returns-in_err-ticket-clause-unsealed : goal.returns-in_err-ticket-clause-unsealed
+returns-in_err-ticket-clause-unsealed g c = (c.in_err-ticket.ensures.unsealed refl)
+
+pub returns-in_err-ticket-clause-memory : goal.returns-in_err-ticket-clause-memory
+returns-in_err-ticket-clause-memory g c =
+    let r = err_from_is_err_and c.from_residual.result c.from_residual.ensures.1 in
+    rw (r.1, r.2) (λ is. (c.in_err-ticket.ensures.memory is))
+
+pub returns-in_err-entry-clause-unsealed : goal.returns-in_err-entry-clause-unsealed
+returns-in_err-entry-clause-unsealed g c =
     let t = g.T.Turns in
-    let words = g.C.Chooser.may c.args.chooser.now in
-    says_then words (t.who c.args.turns.now) (t.who c.begin.new.turns) (t.seen c.args.turns.now) (t.seen c.begin.new.turns) (t.seen c.carry_on.new.turns) c.in_ok-ticket.ensures.who (c.in_ok-ticket.ensures.silent words) c.in_ok-entry.ensures.words
+    seals_then (t.who c.args.turns.now) (t.who c.begin.new.turns) (t.seen c.args.turns.now) (t.seen c.begin.new.turns) (t.seen c.carry_on.new.turns) c.in_ok-ticket.ensures.who (c.in_ok-ticket.ensures.unsealed refl) c.in_err-entry.ensures.unsealed
+
+pub returns-in_err-entry-clause-memory : goal.returns-in_err-entry-clause-memory
+returns-in_err-entry-clause-memory g c =
+    let t = g.T.Turns in
+    let r = err_from_is_err_and c.from_residual-in_err-entry.result c.from_residual-in_err-entry.ensures.1 in
+    rw (r.1, r.2) (λ _. calm_then (t.who c.args.turns.now) (t.who c.begin.new.turns) (t.seen c.args.turns.now) (t.seen c.begin.new.turns) (t.seen c.carry_on.new.turns) c.in_ok-ticket.ensures.who c.in_ok-ticket.ensures.calm c.in_err-entry.ensures.memory)
+
+pub returns-in-Got-clause-unsealed : goal.returns-in-Got-clause-unsealed
+returns-in-Got-clause-unsealed g c =
+    let t = g.T.Turns in
+    seals_then (t.who c.args.turns.now) (t.who c.begin.new.turns) (t.seen c.args.turns.now) (t.seen c.begin.new.turns) (t.seen c.carry_on.new.turns) c.in_ok-ticket.ensures.who (c.in_ok-ticket.ensures.unsealed refl) c.in_ok-entry.ensures.unsealed
+
+pub returns-in-Got-clause-calm : goal.returns-in-Got-clause-calm
+returns-in-Got-clause-calm g c =
+    let t = g.T.Turns in
+    calm_then (t.who c.args.turns.now) (t.who c.begin.new.turns) (t.seen c.args.turns.now) (t.seen c.begin.new.turns) (t.seen c.carry_on.new.turns) c.in_ok-ticket.ensures.who c.in_ok-ticket.ensures.calm (subst (λ a. IsCalmAnswer a → CalmSince (t.who c.begin.new.turns) (t.seen c.begin.new.turns) (t.seen c.carry_on.new.turns)) c.in-Got.is c.in_ok-entry.ensures.calm tt)
+
+pub returns-in-CutAt-clause-unsealed : goal.returns-in-CutAt-clause-unsealed
+returns-in-CutAt-clause-unsealed g c =
+    let t = g.T.Turns in
+    seals_then (t.who c.args.turns.now) (t.who c.begin.new.turns) (t.seen c.args.turns.now) (t.seen c.begin.new.turns) (t.seen c.carry_on.new.turns) c.in_ok-ticket.ensures.who (c.in_ok-ticket.ensures.unsealed refl) c.in_ok-entry.ensures.unsealed
+
+pub returns-in-CutAt-clause-calm : goal.returns-in-CutAt-clause-calm
+returns-in-CutAt-clause-calm g c =
+    let t = g.T.Turns in
+    calm_then (t.who c.args.turns.now) (t.who c.begin.new.turns) (t.seen c.args.turns.now) (t.seen c.begin.new.turns) (t.seen c.carry_on.new.turns) c.in_ok-ticket.ensures.who c.in_ok-ticket.ensures.calm (subst (λ a. IsCalmAnswer a → CalmSince (t.who c.begin.new.turns) (t.seen c.begin.new.turns) (t.seen c.carry_on.new.turns)) c.in-CutAt.is c.in_ok-entry.ensures.calm tt)
+
+pub returns-in-NoQuorum-clause-unsealed : goal.returns-in-NoQuorum-clause-unsealed
+returns-in-NoQuorum-clause-unsealed g c =
+    let t = g.T.Turns in
+    seals_then (t.who c.args.turns.now) (t.who c.begin.new.turns) (t.seen c.args.turns.now) (t.seen c.begin.new.turns) (t.seen c.carry_on.new.turns) c.in_ok-ticket.ensures.who (c.in_ok-ticket.ensures.unsealed refl) c.in_ok-entry.ensures.unsealed
+
+pub unreachable-requires-in_default-2 : goal.unreachable-requires-in_default-2
+unreachable-requires-in_default-2 g c =
+    let p = g.T.Law.Rules in
+    let t = g.T.Turns in
+    let k = c.args.known.now in
+    let old = t.seen c.args.turns.now in
+    let ok = sound p.may p.floor p.shelf old c.requires.legal in
+    let id = c.in-Inside.id in
+    let index = c.in-Inside.index in
+    let place = place_of (length p.shelf) (state_of old) k.version c.args.pos id index k.chain ok c.requires.goes_by.given c.in-Inside.ensures in
+    let who = t.who c.args.turns.now in
+    let mid = t.seen c.begin.new.turns in
+    let new = t.seen c.carry_on.new.turns in
+    let o = c.in_ok-ticket.ensures.ok in
+    let r = started ((state_of (old ++ o.first.others)).cells id).told (Read index) in
+    let x = subst (λ w. Answered w mid id c.in_ok-ticket.ticket r c.in_ok-entry.field-0 new) c.in_ok-ticket.ensures.who (c.in_ok-entry.ensures.ok r (own_by _ _ _ _ _ c.in_ok-ticket.ensures.who o.own)) in
+    read_answers ((state_of x.moment).cells id).told r index c.in_ok-entry.field-0 x.may c.in_default-2.not-Got c.in_default-2.not-CutAt c.in_default-2.not-NoQuorum
+    (λ n is. never_beyond p.may p.floor p.shelf who old mid new k.version k.tail c.args.pos id index c.in_ok-ticket.ticket n k.chain c.requires.legal c.requires.goes_by c.requires.tail place c.in_ok-ticket.ensures.later c.in_ok-entry.ensures.later o
+    (subst (λ (a : Answer). Answered who mid id c.in_ok-ticket.ticket r a new) is x))

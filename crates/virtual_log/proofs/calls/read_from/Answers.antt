@@ -9,6 +9,8 @@ use Rattle.virtual_log.proofs.Going.{goes_later, goes_now, trim_now}
 use Rattle.virtual_log.specs.Holding.{Holds}
 use Rattle.virtual_log.proofs.Holding.{reads_found}
 use Rattle.virtual_log.proofs.Saying.{says_refl, says_then, says_on}
+use Rattle.virtual_log.proofs.Sealing.{seals_refl, seals_then}
+use Rattle.virtual_log.proofs.Calming.{calm_refl, calm_then}
 use Rattle.virtual_log.proofs.calls.read_from.Goals as goal
 
 pub returns-in_err-entry-clause-goes_by : goal.returns-in_err-entry-clause-goes_by
@@ -136,6 +138,14 @@ trim-preserved g c =
           says_then words who (t.who c.read_at.new.turns) old (t.seen c.read_at.new.turns) (t.seen c.look.new.turns) (c.in_ok-entry.ensures.who ∙ i.who)
           (says_on words (may l.chooser) who (t.who l.turns) old now (t.seen c.read_at.new.turns) i.same i.who i.words c.in_ok-entry.ensures.words)
           (c.in_ok-version.ensures.silent words);
+      unsealed =
+          let who = t.who c.args.turns.now in
+          let old = t.seen c.args.turns.now in
+          seals_then who (t.who c.read_at.new.turns) old (t.seen c.read_at.new.turns) (t.seen c.look.new.turns) (c.in_ok-entry.ensures.who ∙ i.who) (seals_then who (t.who l.turns) old now (t.seen c.read_at.new.turns) i.who i.unsealed c.in_ok-entry.ensures.unsealed) c.in_ok-version.ensures.unsealed;
+      calm =
+          let who = t.who c.args.turns.now in
+          let old = t.seen c.args.turns.now in
+          calm_then who (t.who c.read_at.new.turns) old (t.seen c.read_at.new.turns) (t.seen c.look.new.turns) (c.in_ok-entry.ensures.who ∙ i.who) (calm_then who (t.who l.turns) old now (t.seen c.read_at.new.turns) i.who i.calm c.in_ok-entry.ensures.calm) c.in_ok-version.ensures.calm;
       same = c.in_ok-entry.ensures.same ∙ i.same;
     }
 
@@ -189,5 +199,69 @@ trim-init g c =
       tail = refl;
       first = inl refl;
       words = says_refl (g.C.Chooser.may c.args.chooser.now) (t.who c.args.turns.now) old;
+      unsealed = seals_refl (t.who c.args.turns.now) old;
+      calm = calm_refl (t.who c.args.turns.now) old;
       same = refl;
     }
+
+pub returns-in_err-entry-clause-unsealed : goal.returns-in_err-entry-clause-unsealed
+returns-in_err-entry-clause-unsealed g c =
+    let t = g.T.Turns in
+    let who = t.who c.args.turns.now in
+    let old = t.seen c.args.turns.now in
+    let l = c.trim in
+    let i = l.invariant in
+    let now = t.seen l.turns in
+    seals_then who (t.who l.turns) old now (t.seen c.read_at.new.turns) i.who i.unsealed c.in_err-entry.ensures.unsealed
+
+pub returns-in_err-entry-clause-memory : goal.returns-in_err-entry-clause-memory
+returns-in_err-entry-clause-memory g c =
+    let t = g.T.Turns in
+    let who = t.who c.args.turns.now in
+    let old = t.seen c.args.turns.now in
+    let l = c.trim in
+    let i = l.invariant in
+    let now = t.seen l.turns in
+    let r = err_from_is_err_and c.from_residual.result c.from_residual.ensures.1 in
+    rw (r.1, r.2) (λ is. calm_then who (t.who l.turns) old now (t.seen c.read_at.new.turns) i.who i.calm (c.in_err-entry.ensures.memory is))
+
+pub returns-in-Some-clause-unsealed : goal.returns-in-Some-clause-unsealed
+returns-in-Some-clause-unsealed g c =
+    let t = g.T.Turns in
+    let who = t.who c.args.turns.now in
+    let old = t.seen c.args.turns.now in
+    let l = c.trim in
+    let i = l.invariant in
+    let now = t.seen l.turns in
+    seals_then who (t.who l.turns) old now (t.seen c.read_at.new.turns) i.who i.unsealed c.in_ok-entry.ensures.unsealed
+
+pub returns-in-Some-clause-calm : goal.returns-in-Some-clause-calm
+returns-in-Some-clause-calm g c =
+    let t = g.T.Turns in
+    let who = t.who c.args.turns.now in
+    let old = t.seen c.args.turns.now in
+    let l = c.trim in
+    let i = l.invariant in
+    let now = t.seen l.turns in
+    calm_then who (t.who l.turns) old now (t.seen c.read_at.new.turns) i.who i.calm c.in_ok-entry.ensures.calm
+
+pub returns-in_err-version-clause-unsealed : goal.returns-in_err-version-clause-unsealed
+returns-in_err-version-clause-unsealed g c =
+    let t = g.T.Turns in
+    let who = t.who c.args.turns.now in
+    let old = t.seen c.args.turns.now in
+    let l = c.trim in
+    let i = l.invariant in
+    let now = t.seen l.turns in
+    seals_then who (t.who c.read_at.new.turns) old (t.seen c.read_at.new.turns) (t.seen c.look.new.turns) (c.in_ok-entry.ensures.who ∙ i.who) (seals_then who (t.who l.turns) old now (t.seen c.read_at.new.turns) i.who i.unsealed c.in_ok-entry.ensures.unsealed) c.in_err-version.ensures.unsealed
+
+pub returns-in_err-version-clause-memory : goal.returns-in_err-version-clause-memory
+returns-in_err-version-clause-memory g c =
+    let t = g.T.Turns in
+    let who = t.who c.args.turns.now in
+    let old = t.seen c.args.turns.now in
+    let l = c.trim in
+    let i = l.invariant in
+    let now = t.seen l.turns in
+    let r = err_from_is_err_and c.from_residual-in_err-version.result c.from_residual-in_err-version.ensures.1 in
+    rw (r.1, r.2) (λ is. calm_then who (t.who c.read_at.new.turns) old (t.seen c.read_at.new.turns) (t.seen c.look.new.turns) (c.in_ok-entry.ensures.who ∙ i.who) (calm_then who (t.who l.turns) old now (t.seen c.read_at.new.turns) i.who i.calm c.in_ok-entry.ensures.calm) (c.in_err-version.ensures.memory is))

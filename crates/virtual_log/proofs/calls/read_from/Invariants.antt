@@ -3,6 +3,8 @@ use Rattle.legal_journal.specs.Journal.{state_of, trim_of}
 use Rattle.virtual_log.specs.Turning.{Later}
 use Rattle.virtual_log.specs.Log.{GoesBy}
 use Rattle.virtual_log.specs.Saying.{SaysOnly}
+use Rattle.virtual_log.specs.Sealing.{SealsNone}
+use Rattle.virtual_log.specs.Causes.{CalmSince}
 use Rattle.virtual_log.proofs.calls.read_from.Given as goal
 
 abbrev pub invariant-trim : goal.invariant-trim
@@ -17,6 +19,8 @@ invariant-trim g l =
       tail : l.known.tail ≡ l.fn.known.tail;
       first : (t.seen l.turns ≡ t.seen l.fn.turns) ⊎ (l.min < trim_of (state_of (t.seen l.turns)));
       words : SaysOnly (may l.fn.chooser) (t.who l.fn.turns) (t.seen l.fn.turns) (t.seen l.turns);
+      unsealed : SealsNone (t.who l.fn.turns) (t.seen l.fn.turns) (t.seen l.turns);
+      calm : CalmSince (t.who l.fn.turns) (t.seen l.fn.turns) (t.seen l.turns);
       same : may l.chooser ≡ may l.fn.chooser;
     }
 

@@ -5,6 +5,8 @@ use Rattle.legal_journal.specs.Journal.{state_of}
 use Rattle.virtual_log.specs.Turning.{Later, IsAbove}
 use Rattle.virtual_log.specs.Log.{GoesBy}
 use Rattle.virtual_log.specs.Saying.{SaysOnly}
+use Rattle.virtual_log.specs.Sealing.{SealsNone}
+use Rattle.virtual_log.specs.Causes.{CalmSince}
 use Rattle.virtual_log.proofs.calls.tail_on.Given as goal
 
 abbrev pub invariant-segment : goal.invariant-segment
@@ -19,6 +21,8 @@ invariant-segment g l =
       tail : l.known.tail ≡ l.fn.known.tail;
       above : (pos : ℕ) (new : List Event) → Later p.may p.floor p.shelf (t.seen l.turns) new → IsAbove (t.who l.fn.turns) (t.seen l.turns) pos new → IsAbove (t.who l.fn.turns) (t.seen l.fn.turns) pos new;
       words : SaysOnly (may l.fn.chooser) (t.who l.fn.turns) (t.seen l.fn.turns) (t.seen l.turns);
+      unsealed : SealsNone (t.who l.fn.turns) (t.seen l.fn.turns) (t.seen l.turns);
+      calm : CalmSince (t.who l.fn.turns) (t.seen l.fn.turns) (t.seen l.turns);
       same : may l.chooser ≡ may l.fn.chooser;
     }
 

@@ -10,6 +10,9 @@ use Rattle.virtual_log.proofs.Sealing.{turn_none, seals_refl, seals_trans, seals
 use Rattle.virtual_log.proofs.Going.{goes_later}
 use Rattle.virtual_log.proofs.Closing.{fits_now, may_close, closed_ok, refused, refused_goes, refused_same, refusal_ok, written_since, refusal_since}
 use Rattle.virtual_log.proofs.Saying.{turn_says, says_refl, says_then}
+use Rattle.virtual_log.proofs.Calming.{turn_calm, calm_refl, calm_then}
+use Rattle.virtual_log.proofs.Answering.{write_answers}
+use Rattle.std.proofs.lemmas.Result.{err_from_is_err_and}
 use Rattle.virtual_log.proofs.extend.close_at.Goals as goal
 
 pub extend-requires-clause-chain : goal.extend-requires-clause-chain
@@ -145,8 +148,8 @@ returns-in-Down-clause-goes_by g c =
     let new = t.seen c.turn.new.self in
     goes_later p.may p.floor p.shelf now new k.version k.tail k.chain (turn_later p.may p.floor p.shelf _ _ _ _ _ c.in-Down.ensures.turn) i.goes_by
 
-pub returns-in_default : goal.returns-in_default
-returns-in_default g c =
+pub returns-in-Memory : goal.returns-in-Memory
+returns-in-Memory g c =
     let p = g.T.Law.Rules in
     let t = g.T.Turns in
     let l = c.write in
@@ -154,17 +157,19 @@ returns-in_default g c =
     let k = l.known in
     let now = t.seen l.turns in
     let new = t.seen c.turn.new.self in
-    let step = turn_later p.may p.floor p.shelf _ _ _ _ _ c.turn.ensures.turn in
+    let step = turn_later p.may p.floor p.shelf _ _ _ _ _ c.in-Memory.ensures.turn in
     record {
       later = later_trans p.may p.floor p.shelf (t.seen c.args.turns.now) now new i.later step;
       who = c.turn.ensures.who ∙ i.who;
       goes_by = goes_later p.may p.floor p.shelf now new k.version k.tail k.chain step i.goes_by;
       closed = tt;
       unsealed = seals_trans (t.who c.args.turns.now) (t.seen c.args.turns.now) now new i.unsealed
-          (seals_as _ _ _ _ i.who (turn_none p.may p.floor p.shelf _ _ _ _ _ c.turn.ensures.turn refl));
+          (seals_as _ _ _ _ i.who (turn_none p.may p.floor p.shelf _ _ _ _ _ c.in-Memory.ensures.turn refl));
       silent = λ words.
           says_then words (t.who c.args.turns.now) (t.who l.turns) (t.seen c.args.turns.now) (t.seen l.turns) (t.seen c.turn.new.self) i.who (i.silent words)
-          (turn_says p.may p.floor p.shelf (t.who l.turns) (t.seen l.turns) words _ _ _ c.turn.ensures.turn tt);
+          (turn_says p.may p.floor p.shelf (t.who l.turns) (t.seen l.turns) words _ _ _ c.in-Memory.ensures.turn tt);
+      calm = tt;
+      memory = λ _. calm_then (t.who c.args.turns.now) (t.who l.turns) (t.seen c.args.turns.now) (t.seen l.turns) (t.seen c.turn.new.self) i.who i.calm (turn_calm p.may p.floor p.shelf (t.who l.turns) (t.seen l.turns) _ _ _ c.in-Memory.ensures.turn tt);
       unknown = i.tail;
       err = tt;
     }
@@ -207,6 +212,7 @@ write-preserved g c =
       silent = λ words.
           says_then words (t.who c.args.turns.now) (t.who l.turns) (t.seen c.args.turns.now) (t.seen l.turns) (t.seen c.turn.new.self) i.who (i.silent words)
           (turn_says p.may p.floor p.shelf (t.who l.turns) (t.seen l.turns) words _ _ _ c.in-Conflict.ensures.turn tt);
+      calm = calm_then (t.who c.args.turns.now) (t.who l.turns) (t.seen c.args.turns.now) (t.seen l.turns) (t.seen c.turn.new.self) i.who i.calm (turn_calm p.may p.floor p.shelf (t.who l.turns) (t.seen l.turns) _ _ _ c.in-Conflict.ensures.turn tt);
     }
 
 pub write-init : goal.write-init
@@ -224,6 +230,7 @@ write-init g c =
       quiet = wrote_refl (t.who c.args.turns.now) old (nil old);
       unsealed = seals_refl (t.who c.args.turns.now) old;
       silent = λ words. says_refl words (t.who c.args.turns.now) old;
+      calm = calm_refl (t.who c.args.turns.now) old;
     }
 
 pub returns-in-Written-clause-unsealed : goal.returns-in-Written-clause-unsealed
@@ -307,3 +314,32 @@ returns-in_err-next-clause-silent g c = c.write.invariant.silent
 
 pub returns-in_err-copy-clause-silent : goal.returns-in_err-copy-clause-silent
 returns-in_err-copy-clause-silent g c = c.write.invariant.silent
+
+pub returns-in-Written-clause-calm : goal.returns-in-Written-clause-calm
+returns-in-Written-clause-calm g c =
+    let t = g.T.Turns in
+    let p = g.T.Law.Rules in
+    let l = c.write in
+    let i = l.invariant in
+    calm_then (t.who c.args.turns.now) (t.who l.turns) (t.seen c.args.turns.now) (t.seen l.turns) (t.seen c.turn.new.self) i.who i.calm (turn_calm p.may p.floor p.shelf (t.who l.turns) (t.seen l.turns) _ _ _ c.in-Written.ensures.turn tt)
+
+pub returns-then-newest-last-clause-calm : goal.returns-then-newest-last-clause-calm
+returns-then-newest-last-clause-calm g c =
+    let t = g.T.Turns in
+    let p = g.T.Law.Rules in
+    let l = c.write in
+    let i = l.invariant in
+    calm_then (t.who c.args.turns.now) (t.who l.turns) (t.seen c.args.turns.now) (t.seen l.turns) (t.seen c.turn.new.self) i.who i.calm (turn_calm p.may p.floor p.shelf (t.who l.turns) (t.seen l.turns) _ _ _ c.in-Conflict.ensures.turn tt)
+
+pub returns-in_err-next-clause-memory : goal.returns-in_err-next-clause-memory
+returns-in_err-next-clause-memory g c =
+    let r = err_from_is_err_and c.from_residual.result c.from_residual.ensures.1 in
+    rw (r.1, r.2) (λ _. c.write.invariant.calm)
+
+pub returns-in_err-copy-clause-memory : goal.returns-in_err-copy-clause-memory
+returns-in_err-copy-clause-memory g c =
+    let r = err_from_is_err_and c.from_residual-in_err-copy.result c.from_residual-in_err-copy.ensures.1 in
+    rw (r.1, r.2) (λ _. c.write.invariant.calm)
+
+pub unreachable-requires : goal.unreachable-requires
+unreachable-requires g c = write_answers _ _ _ _ _ _ _ _ _ c.turn.ensures.turn c.in_default.not-Written c.in_default.not-Conflict c.in_default.not-MetaFault c.in_default.not-Down c.in_default.not-Memory

@@ -7,6 +7,7 @@ use Rattle.virtual_log.specs.Writing.{WroteNone}
 use Rattle.virtual_log.specs.Sealing.{SealsNone}
 use Rattle.virtual_log.specs.Log.{GoesBy}
 use Rattle.virtual_log.specs.Saying.{SaysNone}
+use Rattle.virtual_log.specs.Causes.{CalmSince}
 use Rattle.virtual_log.proofs.extend.close_at.Given as goal
 
 abbrev pub invariant-write : goal.invariant-write
@@ -23,6 +24,7 @@ invariant-write g l =
       quiet : WroteNone (t.who l.fn.turns) (t.seen l.fn.turns) (t.seen l.turns);
       unsealed : SealsNone (t.who l.fn.turns) (t.seen l.fn.turns) (t.seen l.turns);
       silent : SaysNone (t.who l.fn.turns) (t.seen l.fn.turns) (t.seen l.turns);
+      calm : CalmSince (t.who l.fn.turns) (t.seen l.fn.turns) (t.seen l.turns);
     }
 
 abbrev pub decreases-write : goal.decreases-write

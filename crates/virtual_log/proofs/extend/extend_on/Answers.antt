@@ -10,6 +10,7 @@ use Rattle.virtual_log.proofs.Writing.{wrote_trans, wrote_by}
 use Rattle.virtual_log.proofs.Sealing.{seals_as, only_none, at_then, at_same, after_look}
 use Rattle.virtual_log.proofs.Closing.{closed_since, follows_closed}
 use Rattle.virtual_log.proofs.Saying.{says_then, says_on}
+use Rattle.virtual_log.proofs.Calming.{calm_then}
 use Rattle.virtual_log.proofs.extend.extend_on.Goals as goal
 
 pub returns-in_err-version-clause-goes_by : goal.returns-in_err-version-clause-goes_by
@@ -448,3 +449,65 @@ returns-clause-words g c =
     let third = c.in_ok-length.ensures in
     let to_d = says_on words (may c.seal.new.chooser) who (t.who c.seal.new.turns) old b d second.same (second.who ∙ first.who) to_b third.words in
     says_then words who (t.who c.find_tail.new.turns) old d (t.seen c.close_at.new.turns) (third.who ∙ (second.who ∙ first.who)) to_d (c.in_ok-closed.ensures.silent words)
+
+pub returns-in_err-version-clause-memory : goal.returns-in_err-version-clause-memory
+returns-in_err-version-clause-memory g c =
+    let r = err_from_is_err_and c.from_residual.result c.from_residual.ensures.1 in
+    rw (r.1, r.2) (λ is. (c.in_err-version.ensures.memory is))
+
+pub returns-then-last-shelf_len-clause-calm : goal.returns-then-last-shelf_len-clause-calm
+returns-then-last-shelf_len-clause-calm g c = c.in_ok-version.ensures.calm
+
+pub returns-in_err-seal-clause-memory : goal.returns-in_err-seal-clause-memory
+returns-in_err-seal-clause-memory g c =
+    let t = g.T.Turns in
+    let who = t.who c.args.turns.now in
+    let old = t.seen c.args.turns.now in
+    let a = t.seen c.look.new.turns in
+    let first = c.in_ok-version.ensures in
+    let r = err_from_is_err_and c.from_residual-in_err-seal.result c.from_residual-in_err-seal.ensures.1 in
+    rw (r.1, r.2) (λ is. calm_then who (t.who c.look.new.turns) old a (t.seen c.seal.new.turns) first.who first.calm (c.in_err-seal.ensures.memory is))
+
+pub returns-in_err-length-clause-memory : goal.returns-in_err-length-clause-memory
+returns-in_err-length-clause-memory g c =
+    let t = g.T.Turns in
+    let who = t.who c.args.turns.now in
+    let old = t.seen c.args.turns.now in
+    let a = t.seen c.look.new.turns in
+    let first = c.in_ok-version.ensures in
+    let b = t.seen c.seal.new.turns in
+    let second = c.in_ok-seal.ensures in
+    let to_b = calm_then who (t.who c.look.new.turns) old a b first.who first.calm second.calm in
+    let r = err_from_is_err_and c.from_residual-in_err-length.result c.from_residual-in_err-length.ensures.1 in
+    rw (r.1, r.2) (λ is. calm_then who (t.who c.seal.new.turns) old b (t.seen c.find_tail.new.turns) (second.who ∙ first.who) to_b (c.in_err-length.ensures.memory is))
+
+pub returns-in_err-closed-clause-memory : goal.returns-in_err-closed-clause-memory
+returns-in_err-closed-clause-memory g c =
+    let t = g.T.Turns in
+    let who = t.who c.args.turns.now in
+    let old = t.seen c.args.turns.now in
+    let a = t.seen c.look.new.turns in
+    let first = c.in_ok-version.ensures in
+    let b = t.seen c.seal.new.turns in
+    let second = c.in_ok-seal.ensures in
+    let to_b = calm_then who (t.who c.look.new.turns) old a b first.who first.calm second.calm in
+    let d = t.seen c.find_tail.new.turns in
+    let third = c.in_ok-length.ensures in
+    let to_d = calm_then who (t.who c.seal.new.turns) old b d (second.who ∙ first.who) to_b third.calm in
+    let r = err_from_is_err_and c.from_residual-in_err-closed.result c.from_residual-in_err-closed.ensures.1 in
+    rw (r.1, r.2) (λ is. calm_then who (t.who c.find_tail.new.turns) old d (t.seen c.close_at.new.turns) (third.who ∙ (second.who ∙ first.who)) to_d (c.in_err-closed.ensures.memory is))
+
+pub returns-clause-calm : goal.returns-clause-calm
+returns-clause-calm g c =
+    let t = g.T.Turns in
+    let who = t.who c.args.turns.now in
+    let old = t.seen c.args.turns.now in
+    let a = t.seen c.look.new.turns in
+    let first = c.in_ok-version.ensures in
+    let b = t.seen c.seal.new.turns in
+    let second = c.in_ok-seal.ensures in
+    let to_b = calm_then who (t.who c.look.new.turns) old a b first.who first.calm second.calm in
+    let d = t.seen c.find_tail.new.turns in
+    let third = c.in_ok-length.ensures in
+    let to_d = calm_then who (t.who c.seal.new.turns) old b d (second.who ∙ first.who) to_b third.calm in
+    calm_then who (t.who c.find_tail.new.turns) old d (t.seen c.close_at.new.turns) (third.who ∙ (second.who ∙ first.who)) to_d c.in_ok-closed.ensures.calm

@@ -1,4 +1,4 @@
-use Rattle.std.proofs.Common.{◌≡◌, ◌+◌, ◌-◌, ◌++◌, Some, sym, subst, arith}
+use Rattle.std.proofs.Common.{◌≡◌, refl, ◌+◌, ◌-◌, ◌++◌, Some, sym, subst, arith}
 use Rattle.std.specs.Prelude.{slice_get}
 use Rattle.delos_types.specs.declared.entry.Entry.{Entry}
 use Rattle.delos_types.specs.Spelling.{IsSpellable}
@@ -12,6 +12,11 @@ use Rattle.virtual_log.specs.declared.fault.Fault.TheVariants as fault
 use Rattle.virtual_log.proofs.OneTurn.{own_by, lack_cause, cause_since, first_later}
 use Rattle.virtual_log.proofs.Appending.{may_append, started_within, placed_ok, sealed_ok}
 use Rattle.virtual_log.proofs.Saying.{says_refl, says_then}
+use Rattle.virtual_log.proofs.Sealing.{seals_refl, seals_then}
+use Rattle.virtual_log.proofs.Calming.{calm_refl, calm_then}
+use Rattle.virtual_log.proofs.Answering.{append_answers}
+use Rattle.std.proofs.lemmas.Result.{err_from_is_err_and}
+use Rattle.virtual_log.specs.Causes.{IsCalmAnswer, CalmSince}
 use Rattle.virtual_log.proofs.operation.append_to.Goals as goal
 
 pub begin-requires-clause-may : goal.begin-requires-clause-may
@@ -162,8 +167,65 @@ returns-in-NoQuorum-clause-words g c =
     let words = g.C.Chooser.may c.args.chooser.now in
     says_then words (t.who c.args.turns.now) (t.who c.begin.new.turns) (t.seen c.args.turns.now) (t.seen c.begin.new.turns) (t.seen c.carry_on.new.turns) c.in_ok-ticket.ensures.who (c.in_ok-ticket.ensures.silent words) c.in_ok-place.ensures.words
 
-pub returns-in_default-clause-words : goal.returns-in_default-clause-words
-returns-in_default-clause-words g c =
+pub returns-in_err-copy-clause-unsealed : goal.returns-in_err-copy-clause-unsealed
+returns-in_err-copy-clause-unsealed g c =
     let t = g.T.Turns in
-    let words = g.C.Chooser.may c.args.chooser.now in
-    says_then words (t.who c.args.turns.now) (t.who c.begin.new.turns) (t.seen c.args.turns.now) (t.seen c.begin.new.turns) (t.seen c.carry_on.new.turns) c.in_ok-ticket.ensures.who (c.in_ok-ticket.ensures.silent words) c.in_ok-place.ensures.words
+    seals_refl (t.who c.args.turns.now) (t.seen c.args.turns.now)
+
+pub returns-in_err-copy-clause-memory : goal.returns-in_err-copy-clause-memory
+returns-in_err-copy-clause-memory g c =
+    let t = g.T.Turns in
+    let r = err_from_is_err_and c.from_residual.result c.from_residual.ensures.1 in
+    rw (r.1, r.2) (λ _. calm_refl (t.who c.args.turns.now) (t.seen c.args.turns.now))
+
+pub returns-in_err-ticket-clause-unsealed : goal.returns-in_err-ticket-clause-unsealed
+returns-in_err-ticket-clause-unsealed g c = (c.in_err-ticket.ensures.unsealed refl)
+
+pub returns-in_err-ticket-clause-memory : goal.returns-in_err-ticket-clause-memory
+returns-in_err-ticket-clause-memory g c =
+    let r = err_from_is_err_and c.from_residual-in_err-ticket.result c.from_residual-in_err-ticket.ensures.1 in
+    rw (r.1, r.2) (λ is. (c.in_err-ticket.ensures.memory is))
+
+pub returns-in_err-place-clause-unsealed : goal.returns-in_err-place-clause-unsealed
+returns-in_err-place-clause-unsealed g c =
+    let t = g.T.Turns in
+    seals_then (t.who c.args.turns.now) (t.who c.begin.new.turns) (t.seen c.args.turns.now) (t.seen c.begin.new.turns) (t.seen c.carry_on.new.turns) c.in_ok-ticket.ensures.who (c.in_ok-ticket.ensures.unsealed refl) c.in_err-place.ensures.unsealed
+
+pub returns-in_err-place-clause-memory : goal.returns-in_err-place-clause-memory
+returns-in_err-place-clause-memory g c =
+    let t = g.T.Turns in
+    let r = err_from_is_err_and c.from_residual-in_err-place.result c.from_residual-in_err-place.ensures.1 in
+    rw (r.1, r.2) (λ _. calm_then (t.who c.args.turns.now) (t.who c.begin.new.turns) (t.seen c.args.turns.now) (t.seen c.begin.new.turns) (t.seen c.carry_on.new.turns) c.in_ok-ticket.ensures.who c.in_ok-ticket.ensures.calm c.in_err-place.ensures.memory)
+
+pub returns-in-Placed-clause-unsealed : goal.returns-in-Placed-clause-unsealed
+returns-in-Placed-clause-unsealed g c =
+    let t = g.T.Turns in
+    seals_then (t.who c.args.turns.now) (t.who c.begin.new.turns) (t.seen c.args.turns.now) (t.seen c.begin.new.turns) (t.seen c.carry_on.new.turns) c.in_ok-ticket.ensures.who (c.in_ok-ticket.ensures.unsealed refl) c.in_ok-place.ensures.unsealed
+
+pub returns-in-Placed-clause-calm : goal.returns-in-Placed-clause-calm
+returns-in-Placed-clause-calm g c =
+    let t = g.T.Turns in
+    calm_then (t.who c.args.turns.now) (t.who c.begin.new.turns) (t.seen c.args.turns.now) (t.seen c.begin.new.turns) (t.seen c.carry_on.new.turns) c.in_ok-ticket.ensures.who c.in_ok-ticket.ensures.calm (subst (λ a. IsCalmAnswer a → CalmSince (t.who c.begin.new.turns) (t.seen c.begin.new.turns) (t.seen c.carry_on.new.turns)) c.in-Placed.is c.in_ok-place.ensures.calm tt)
+
+pub returns-in-Sealed-clause-unsealed : goal.returns-in-Sealed-clause-unsealed
+returns-in-Sealed-clause-unsealed g c =
+    let t = g.T.Turns in
+    seals_then (t.who c.args.turns.now) (t.who c.begin.new.turns) (t.seen c.args.turns.now) (t.seen c.begin.new.turns) (t.seen c.carry_on.new.turns) c.in_ok-ticket.ensures.who (c.in_ok-ticket.ensures.unsealed refl) c.in_ok-place.ensures.unsealed
+
+pub returns-in-Sealed-clause-calm : goal.returns-in-Sealed-clause-calm
+returns-in-Sealed-clause-calm g c =
+    let t = g.T.Turns in
+    calm_then (t.who c.args.turns.now) (t.who c.begin.new.turns) (t.seen c.args.turns.now) (t.seen c.begin.new.turns) (t.seen c.carry_on.new.turns) c.in_ok-ticket.ensures.who c.in_ok-ticket.ensures.calm (subst (λ a. IsCalmAnswer a → CalmSince (t.who c.begin.new.turns) (t.seen c.begin.new.turns) (t.seen c.carry_on.new.turns)) c.in-Sealed.is c.in_ok-place.ensures.calm tt)
+
+pub returns-in-NoQuorum-clause-unsealed : goal.returns-in-NoQuorum-clause-unsealed
+returns-in-NoQuorum-clause-unsealed g c =
+    let t = g.T.Turns in
+    seals_then (t.who c.args.turns.now) (t.who c.begin.new.turns) (t.seen c.args.turns.now) (t.seen c.begin.new.turns) (t.seen c.carry_on.new.turns) c.in_ok-ticket.ensures.who (c.in_ok-ticket.ensures.unsealed refl) c.in_ok-place.ensures.unsealed
+
+pub unreachable-requires : goal.unreachable-requires
+unreachable-requires g c =
+    let t = g.T.Turns in
+    let o = c.in_ok-ticket.ensures.ok in
+    let r = started ((state_of (t.seen c.args.turns.now ++ o.first.others)).cells c.args.segment.id).told (Append c.in_ok-copy.copy) in
+    let x = c.in_ok-place.ensures.ok r (own_by _ _ _ _ _ c.in_ok-ticket.ensures.who o.own) in
+    append_answers ((state_of x.moment).cells c.args.segment.id).told r c.in_ok-copy.copy c.in_ok-place.field-0 x.may c.in_default.not-Placed c.in_default.not-Sealed c.in_default.not-NoQuorum

@@ -10,6 +10,10 @@ use Rattle.virtual_log.proofs.Appending.{may_tail, started_within, tail_ok, end_
 use Rattle.virtual_log.proofs.Writing.{wrote_trans, wrote_by}
 use Rattle.virtual_log.proofs.Sealing.{seals_trans, seals_as}
 use Rattle.virtual_log.proofs.Saying.{says_then}
+use Rattle.virtual_log.proofs.Calming.{calm_then}
+use Rattle.virtual_log.proofs.Answering.{tail_answers}
+use Rattle.std.proofs.lemmas.Result.{err_from_is_err_and}
+use Rattle.virtual_log.specs.Causes.{IsCalmAnswer, CalmSince}
 use Rattle.virtual_log.proofs.operation.find_tail.Goals as goal
 
 pub begin-requires-clause-may : goal.begin-requires-clause-may
@@ -131,12 +135,6 @@ returns-in-NoQuorum-clause-unsealed g c =
     seals_trans (t.who c.args.turns.now) (t.seen c.args.turns.now) (t.seen c.begin.new.turns) (t.seen c.carry_on.new.turns) (c.in_ok-ticket.ensures.unsealed refl)
     (seals_as _ _ _ _ c.in_ok-ticket.ensures.who c.in_ok-length.ensures.unsealed)
 
-pub returns-in_default-clause-unsealed : goal.returns-in_default-clause-unsealed
-returns-in_default-clause-unsealed g c =
-    let t = g.T.Turns in
-    seals_trans (t.who c.args.turns.now) (t.seen c.args.turns.now) (t.seen c.begin.new.turns) (t.seen c.carry_on.new.turns) (c.in_ok-ticket.ensures.unsealed refl)
-    (seals_as _ _ _ _ c.in_ok-ticket.ensures.who c.in_ok-length.ensures.unsealed)
-
 pub returns-in_err-ticket-clause-words : goal.returns-in_err-ticket-clause-words
 returns-in_err-ticket-clause-words g c = c.in_err-ticket.ensures.silent (g.C.Chooser.may c.args.chooser.now)
 
@@ -164,8 +162,31 @@ returns-in-NoQuorum-clause-words g c =
     let words = g.C.Chooser.may c.args.chooser.now in
     says_then words (t.who c.args.turns.now) (t.who c.begin.new.turns) (t.seen c.args.turns.now) (t.seen c.begin.new.turns) (t.seen c.carry_on.new.turns) c.in_ok-ticket.ensures.who (c.in_ok-ticket.ensures.silent words) c.in_ok-length.ensures.words
 
-pub returns-in_default-clause-words : goal.returns-in_default-clause-words
-returns-in_default-clause-words g c =
+pub returns-in_err-ticket-clause-memory : goal.returns-in_err-ticket-clause-memory
+returns-in_err-ticket-clause-memory g c =
+    let r = err_from_is_err_and c.from_residual.result c.from_residual.ensures.1 in
+    rw (r.1, r.2) (λ is. (c.in_err-ticket.ensures.memory is))
+
+pub returns-in_err-length-clause-memory : goal.returns-in_err-length-clause-memory
+returns-in_err-length-clause-memory g c =
     let t = g.T.Turns in
-    let words = g.C.Chooser.may c.args.chooser.now in
-    says_then words (t.who c.args.turns.now) (t.who c.begin.new.turns) (t.seen c.args.turns.now) (t.seen c.begin.new.turns) (t.seen c.carry_on.new.turns) c.in_ok-ticket.ensures.who (c.in_ok-ticket.ensures.silent words) c.in_ok-length.ensures.words
+    let r = err_from_is_err_and c.from_residual-in_err-length.result c.from_residual-in_err-length.ensures.1 in
+    rw (r.1, r.2) (λ _. calm_then (t.who c.args.turns.now) (t.who c.begin.new.turns) (t.seen c.args.turns.now) (t.seen c.begin.new.turns) (t.seen c.carry_on.new.turns) c.in_ok-ticket.ensures.who c.in_ok-ticket.ensures.calm c.in_err-length.ensures.memory)
+
+pub returns-in-OpenTail-clause-calm : goal.returns-in-OpenTail-clause-calm
+returns-in-OpenTail-clause-calm g c =
+    let t = g.T.Turns in
+    calm_then (t.who c.args.turns.now) (t.who c.begin.new.turns) (t.seen c.args.turns.now) (t.seen c.begin.new.turns) (t.seen c.carry_on.new.turns) c.in_ok-ticket.ensures.who c.in_ok-ticket.ensures.calm (subst (λ a. IsCalmAnswer a → CalmSince (t.who c.begin.new.turns) (t.seen c.begin.new.turns) (t.seen c.carry_on.new.turns)) c.in-OpenTail.is c.in_ok-length.ensures.calm tt)
+
+pub returns-in-SealedTail-clause-calm : goal.returns-in-SealedTail-clause-calm
+returns-in-SealedTail-clause-calm g c =
+    let t = g.T.Turns in
+    calm_then (t.who c.args.turns.now) (t.who c.begin.new.turns) (t.seen c.args.turns.now) (t.seen c.begin.new.turns) (t.seen c.carry_on.new.turns) c.in_ok-ticket.ensures.who c.in_ok-ticket.ensures.calm (subst (λ a. IsCalmAnswer a → CalmSince (t.who c.begin.new.turns) (t.seen c.begin.new.turns) (t.seen c.carry_on.new.turns)) c.in-SealedTail.is c.in_ok-length.ensures.calm tt)
+
+pub unreachable-requires : goal.unreachable-requires
+unreachable-requires g c =
+    let t = g.T.Turns in
+    let o = c.in_ok-ticket.ensures.ok in
+    let r = started ((state_of (t.seen c.args.turns.now ++ o.first.others)).cells c.args.segment.id).told Tail in
+    let x = c.in_ok-length.ensures.ok r (own_by _ _ _ _ _ c.in_ok-ticket.ensures.who o.own) in
+    tail_answers ((state_of x.moment).cells c.args.segment.id).told r c.in_ok-length.field-0 x.may c.in_default.not-OpenTail c.in_default.not-SealedTail c.in_default.not-NoQuorum

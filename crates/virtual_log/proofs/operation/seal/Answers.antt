@@ -10,6 +10,10 @@ use Rattle.virtual_log.proofs.Appending.{sealing_ok}
 use Rattle.virtual_log.proofs.Writing.{wrote_trans, wrote_by}
 use Rattle.virtual_log.proofs.Sealing.{seals_as, at_then}
 use Rattle.virtual_log.proofs.Saying.{says_then}
+use Rattle.virtual_log.proofs.Calming.{calm_then}
+use Rattle.virtual_log.proofs.Answering.{seal_answers}
+use Rattle.std.proofs.lemmas.Result.{err_from_is_err_and}
+use Rattle.virtual_log.specs.Causes.{IsCalmAnswer, CalmSince}
 use Rattle.virtual_log.proofs.operation.seal.Goals as goal
 
 pub returns-in-SealDone-clause-sealed : goal.returns-in-SealDone-clause-sealed
@@ -66,12 +70,6 @@ returns-in-NoQuorum-clause-seals g c =
     at_then (t.who c.args.turns.now) c.args.id (t.seen c.args.turns.now) (t.seen c.begin.new.turns) (t.seen c.carry_on.new.turns) c.in_ok-ticket.ensures.seals
     (seals_as _ _ _ _ c.in_ok-ticket.ensures.who c.in_ok-carry_on.ensures.unsealed)
 
-pub returns-in_default-clause-seals : goal.returns-in_default-clause-seals
-returns-in_default-clause-seals g c =
-    let t = g.T.Turns in
-    at_then (t.who c.args.turns.now) c.args.id (t.seen c.args.turns.now) (t.seen c.begin.new.turns) (t.seen c.carry_on.new.turns) c.in_ok-ticket.ensures.seals
-    (seals_as _ _ _ _ c.in_ok-ticket.ensures.who c.in_ok-carry_on.ensures.unsealed)
-
 pub returns-in_err-ticket-clause-words : goal.returns-in_err-ticket-clause-words
 returns-in_err-ticket-clause-words g c = c.in_err-ticket.ensures.silent (g.C.Chooser.may c.args.chooser.now)
 
@@ -93,8 +91,26 @@ returns-in-NoQuorum-clause-words g c =
     let words = g.C.Chooser.may c.args.chooser.now in
     says_then words (t.who c.args.turns.now) (t.who c.begin.new.turns) (t.seen c.args.turns.now) (t.seen c.begin.new.turns) (t.seen c.carry_on.new.turns) c.in_ok-ticket.ensures.who (c.in_ok-ticket.ensures.silent words) c.in_ok-carry_on.ensures.words
 
-pub returns-in_default-clause-words : goal.returns-in_default-clause-words
-returns-in_default-clause-words g c =
+pub returns-in_err-ticket-clause-memory : goal.returns-in_err-ticket-clause-memory
+returns-in_err-ticket-clause-memory g c =
+    let r = err_from_is_err_and c.from_residual.result c.from_residual.ensures.1 in
+    rw (r.1, r.2) (λ is. (c.in_err-ticket.ensures.memory is))
+
+pub returns-in_err-carry_on-clause-memory : goal.returns-in_err-carry_on-clause-memory
+returns-in_err-carry_on-clause-memory g c =
     let t = g.T.Turns in
-    let words = g.C.Chooser.may c.args.chooser.now in
-    says_then words (t.who c.args.turns.now) (t.who c.begin.new.turns) (t.seen c.args.turns.now) (t.seen c.begin.new.turns) (t.seen c.carry_on.new.turns) c.in_ok-ticket.ensures.who (c.in_ok-ticket.ensures.silent words) c.in_ok-carry_on.ensures.words
+    let r = err_from_is_err_and c.from_residual-in_err-carry_on.result c.from_residual-in_err-carry_on.ensures.1 in
+    rw (r.1, r.2) (λ _. calm_then (t.who c.args.turns.now) (t.who c.begin.new.turns) (t.seen c.args.turns.now) (t.seen c.begin.new.turns) (t.seen c.carry_on.new.turns) c.in_ok-ticket.ensures.who c.in_ok-ticket.ensures.calm c.in_err-carry_on.ensures.memory)
+
+pub returns-in-SealDone-clause-calm : goal.returns-in-SealDone-clause-calm
+returns-in-SealDone-clause-calm g c =
+    let t = g.T.Turns in
+    calm_then (t.who c.args.turns.now) (t.who c.begin.new.turns) (t.seen c.args.turns.now) (t.seen c.begin.new.turns) (t.seen c.carry_on.new.turns) c.in_ok-ticket.ensures.who c.in_ok-ticket.ensures.calm (subst (λ a. IsCalmAnswer a → CalmSince (t.who c.begin.new.turns) (t.seen c.begin.new.turns) (t.seen c.carry_on.new.turns)) c.in-SealDone.is c.in_ok-carry_on.ensures.calm tt)
+
+pub unreachable-requires : goal.unreachable-requires
+unreachable-requires g c =
+    let t = g.T.Turns in
+    let o = c.in_ok-ticket.ensures.ok in
+    let r = started ((state_of (t.seen c.args.turns.now ++ o.first.others)).cells c.args.id).told Seal in
+    let x = c.in_ok-carry_on.ensures.ok r (own_by _ _ _ _ _ c.in_ok-ticket.ensures.who o.own) in
+    seal_answers ((state_of x.moment).cells c.args.id).told r c.in_ok-carry_on.field-0 x.may c.in_default.not-SealDone c.in_default.not-NoQuorum

@@ -8,6 +8,8 @@ use Rattle.virtual_log.specs.Causes.{HasCause}
 use Rattle.virtual_log.proofs.OneTurn.{later_continues, later_trans, cause_since}
 use Rattle.virtual_log.proofs.Replacing.{given_now, later_last}
 use Rattle.virtual_log.proofs.Saying.{says_then}
+use Rattle.virtual_log.proofs.Sealing.{seals_then}
+use Rattle.virtual_log.proofs.Calming.{calm_then}
 use Rattle.virtual_log.proofs.replace.chain_behind.Goals as goal
 
 pub returns-then-last_of-segment-clause-given : goal.returns-then-last_of-segment-clause-given
@@ -112,3 +114,85 @@ returns-clause-words g c =
     let second = c.in_ok-finish.ensures in
     let to_b = says_then words who (t.who c.look.new.turns) old a b first.who (first.silent words) second.words in
     says_then words who (t.who c.finish.new.turns) old b (t.seen c.look-2.new.turns) (second.who ∙ first.who) to_b (c.in_ok-newer.ensures.silent words)
+
+pub returns-in_err-version-clause-unsealed : goal.returns-in_err-version-clause-unsealed
+returns-in_err-version-clause-unsealed g c = c.in_err-version.ensures.unsealed
+
+pub returns-in_err-version-clause-memory : goal.returns-in_err-version-clause-memory
+returns-in_err-version-clause-memory g c =
+    let r = err_from_is_err_and c.from_residual.result c.from_residual.ensures.1 in
+    rw (r.1, r.2) (λ is. (c.in_err-version.ensures.memory is))
+
+pub returns-then-last_of-segment-clause-unsealed : goal.returns-then-last_of-segment-clause-unsealed
+returns-then-last_of-segment-clause-unsealed g c = c.in_ok-version.ensures.unsealed
+
+pub returns-then-last_of-segment-clause-calm : goal.returns-then-last_of-segment-clause-calm
+returns-then-last_of-segment-clause-calm g c = c.in_ok-version.ensures.calm
+
+pub returns-in_err-finish-clause-unsealed : goal.returns-in_err-finish-clause-unsealed
+returns-in_err-finish-clause-unsealed g c =
+    let t = g.T.Turns in
+    let who = t.who c.args.turns.now in
+    let old = t.seen c.args.turns.now in
+    let a = t.seen c.look.new.turns in
+    let first = c.in_ok-version.ensures in
+    seals_then who (t.who c.look.new.turns) old a (t.seen c.finish.new.turns) first.who first.unsealed c.in_err-finish.ensures.unsealed
+
+pub returns-in_err-finish-clause-memory : goal.returns-in_err-finish-clause-memory
+returns-in_err-finish-clause-memory g c =
+    let t = g.T.Turns in
+    let who = t.who c.args.turns.now in
+    let old = t.seen c.args.turns.now in
+    let a = t.seen c.look.new.turns in
+    let first = c.in_ok-version.ensures in
+    let r = err_from_is_err_and c.from_residual-in_err-finish.result c.from_residual-in_err-finish.ensures.1 in
+    rw (r.1, r.2) (λ is. calm_then who (t.who c.look.new.turns) old a (t.seen c.finish.new.turns) first.who first.calm (c.in_err-finish.ensures.memory is))
+
+pub returns-in_err-newer-clause-unsealed : goal.returns-in_err-newer-clause-unsealed
+returns-in_err-newer-clause-unsealed g c =
+    let t = g.T.Turns in
+    let who = t.who c.args.turns.now in
+    let old = t.seen c.args.turns.now in
+    let a = t.seen c.look.new.turns in
+    let first = c.in_ok-version.ensures in
+    let b = t.seen c.finish.new.turns in
+    let second = c.in_ok-finish.ensures in
+    let to_b = seals_then who (t.who c.look.new.turns) old a b first.who first.unsealed second.unsealed in
+    seals_then who (t.who c.finish.new.turns) old b (t.seen c.look-2.new.turns) (second.who ∙ first.who) to_b c.in_err-newer.ensures.unsealed
+
+pub returns-in_err-newer-clause-memory : goal.returns-in_err-newer-clause-memory
+returns-in_err-newer-clause-memory g c =
+    let t = g.T.Turns in
+    let who = t.who c.args.turns.now in
+    let old = t.seen c.args.turns.now in
+    let a = t.seen c.look.new.turns in
+    let first = c.in_ok-version.ensures in
+    let b = t.seen c.finish.new.turns in
+    let second = c.in_ok-finish.ensures in
+    let to_b = calm_then who (t.who c.look.new.turns) old a b first.who first.calm second.calm in
+    let r = err_from_is_err_and c.from_residual-in_err-newer.result c.from_residual-in_err-newer.ensures.1 in
+    rw (r.1, r.2) (λ is. calm_then who (t.who c.finish.new.turns) old b (t.seen c.look-2.new.turns) (second.who ∙ first.who) to_b (c.in_err-newer.ensures.memory is))
+
+pub returns-clause-unsealed : goal.returns-clause-unsealed
+returns-clause-unsealed g c =
+    let t = g.T.Turns in
+    let who = t.who c.args.turns.now in
+    let old = t.seen c.args.turns.now in
+    let a = t.seen c.look.new.turns in
+    let first = c.in_ok-version.ensures in
+    let b = t.seen c.finish.new.turns in
+    let second = c.in_ok-finish.ensures in
+    let to_b = seals_then who (t.who c.look.new.turns) old a b first.who first.unsealed second.unsealed in
+    seals_then who (t.who c.finish.new.turns) old b (t.seen c.look-2.new.turns) (second.who ∙ first.who) to_b c.in_ok-newer.ensures.unsealed
+
+pub returns-clause-calm : goal.returns-clause-calm
+returns-clause-calm g c =
+    let t = g.T.Turns in
+    let who = t.who c.args.turns.now in
+    let old = t.seen c.args.turns.now in
+    let a = t.seen c.look.new.turns in
+    let first = c.in_ok-version.ensures in
+    let b = t.seen c.finish.new.turns in
+    let second = c.in_ok-finish.ensures in
+    let to_b = calm_then who (t.who c.look.new.turns) old a b first.who first.calm second.calm in
+    calm_then who (t.who c.finish.new.turns) old b (t.seen c.look-2.new.turns) (second.who ∙ first.who) to_b c.in_ok-newer.ensures.calm

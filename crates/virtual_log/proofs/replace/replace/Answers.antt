@@ -1,4 +1,4 @@
-use Rattle.std.proofs.Common.{◌≡◌, ◌∙◌, length, sym, subst, ap, arith}
+use Rattle.std.proofs.Common.{◌≡◌, refl, ◌∙◌, length, sym, subst, ap, arith}
 use Rattle.std.specs.Prelude.{Contains}
 use Rattle.delos_types.specs.declared.chain.Segment.{Segment}
 use Rattle.chain_map.specs.Chain.{last_of_segments}
@@ -7,6 +7,10 @@ use Rattle.legal_journal.proofs.Legal.{sound}
 use Rattle.virtual_log.proofs.OneTurn.{turn_later, later_trans}
 use Rattle.virtual_log.proofs.Replacing.{fits, may_write, written_ok, conflict_ok}
 use Rattle.virtual_log.proofs.Saying.{turn_says, says_refl, says_then}
+use Rattle.virtual_log.proofs.Sealing.{turn_none, seals_refl, seals_then}
+use Rattle.virtual_log.proofs.Calming.{turn_calm, calm_refl, calm_then}
+use Rattle.virtual_log.proofs.Answering.{write_answers}
+use Rattle.std.proofs.lemmas.Result.{err_from_is_err_and}
 use Rattle.virtual_log.proofs.replace.replace.Goals as goal
 
 pub extend-requires-clause-chain : goal.extend-requires-clause-chain
@@ -147,6 +151,8 @@ write-preserved g c =
       silent = λ words.
           says_then words (t.who c.args.turns.now) (t.who l.turns) (t.seen c.args.turns.now) (t.seen l.turns) (t.seen c.turn.new.self) i.who (i.silent words)
           (turn_says p.may p.floor p.shelf (t.who l.turns) (t.seen l.turns) words _ _ _ c.in-Conflict.ensures.turn tt);
+      unsealed = seals_then (t.who c.args.turns.now) (t.who l.turns) (t.seen c.args.turns.now) (t.seen l.turns) (t.seen c.turn.new.self) i.who i.unsealed (turn_none p.may p.floor p.shelf (t.who l.turns) (t.seen l.turns) _ _ _ c.in-Conflict.ensures.turn refl);
+      calm = calm_then (t.who c.args.turns.now) (t.who l.turns) (t.seen c.args.turns.now) (t.seen l.turns) (t.seen c.turn.new.self) i.who i.calm (turn_calm p.may p.floor p.shelf (t.who l.turns) (t.seen l.turns) _ _ _ c.in-Conflict.ensures.turn tt);
     }
 
 pub returns-in-Written-clause-silent : goal.returns-in-Written-clause-silent
@@ -199,15 +205,107 @@ returns-in-Down-clause-silent g c =
     says_then words (t.who c.args.turns.now) (t.who l.turns) (t.seen c.args.turns.now) (t.seen l.turns) (t.seen c.turn.new.self) i.who (i.silent words)
     (turn_says p.may p.floor p.shelf (t.who l.turns) (t.seen l.turns) words _ _ _ c.in-Down.ensures.turn tt)
 
-pub returns-in_default-clause-silent : goal.returns-in_default-clause-silent
-returns-in_default-clause-silent g c =
+pub returns-in-Memory-clause-silent : goal.returns-in-Memory-clause-silent
+returns-in-Memory-clause-silent g c =
     let t = g.T.Turns in
     let p = g.T.Law.Rules in
     let l = c.write in
     let i = l.invariant in
     λ words.
     says_then words (t.who c.args.turns.now) (t.who l.turns) (t.seen c.args.turns.now) (t.seen l.turns) (t.seen c.turn.new.self) i.who (i.silent words)
-    (turn_says p.may p.floor p.shelf (t.who l.turns) (t.seen l.turns) words _ _ _ c.turn.ensures.turn tt)
+    (turn_says p.may p.floor p.shelf (t.who l.turns) (t.seen l.turns) words _ _ _ c.in-Memory.ensures.turn tt)
 
 pub returns-in_err-next-clause-silent : goal.returns-in_err-next-clause-silent
 returns-in_err-next-clause-silent g c = λ words. says_refl words (g.T.Turns.who c.args.turns.now) (g.T.Turns.seen c.args.turns.now)
+
+pub returns-in-Written-clause-unsealed : goal.returns-in-Written-clause-unsealed
+returns-in-Written-clause-unsealed g c =
+    let t = g.T.Turns in
+    let p = g.T.Law.Rules in
+    let l = c.write in
+    let i = l.invariant in
+    seals_then (t.who c.args.turns.now) (t.who l.turns) (t.seen c.args.turns.now) (t.seen l.turns) (t.seen c.turn.new.self) i.who i.unsealed (turn_none p.may p.floor p.shelf (t.who l.turns) (t.seen l.turns) _ _ _ c.in-Written.ensures.turn refl)
+
+pub returns-in-Written-clause-calm : goal.returns-in-Written-clause-calm
+returns-in-Written-clause-calm g c =
+    let t = g.T.Turns in
+    let p = g.T.Law.Rules in
+    let l = c.write in
+    let i = l.invariant in
+    calm_then (t.who c.args.turns.now) (t.who l.turns) (t.seen c.args.turns.now) (t.seen l.turns) (t.seen c.turn.new.self) i.who i.calm (turn_calm p.may p.floor p.shelf (t.who l.turns) (t.seen l.turns) _ _ _ c.in-Written.ensures.turn tt)
+
+pub returns-then-last_of-id-clause-unsealed : goal.returns-then-last_of-id-clause-unsealed
+returns-then-last_of-id-clause-unsealed g c =
+    let t = g.T.Turns in
+    let p = g.T.Law.Rules in
+    let l = c.write in
+    let i = l.invariant in
+    seals_then (t.who c.args.turns.now) (t.who l.turns) (t.seen c.args.turns.now) (t.seen l.turns) (t.seen c.turn.new.self) i.who i.unsealed (turn_none p.may p.floor p.shelf (t.who l.turns) (t.seen l.turns) _ _ _ c.in-Conflict.ensures.turn refl)
+
+pub returns-then-last_of-id-clause-calm : goal.returns-then-last_of-id-clause-calm
+returns-then-last_of-id-clause-calm g c =
+    let t = g.T.Turns in
+    let p = g.T.Law.Rules in
+    let l = c.write in
+    let i = l.invariant in
+    calm_then (t.who c.args.turns.now) (t.who l.turns) (t.seen c.args.turns.now) (t.seen l.turns) (t.seen c.turn.new.self) i.who i.calm (turn_calm p.may p.floor p.shelf (t.who l.turns) (t.seen l.turns) _ _ _ c.in-Conflict.ensures.turn tt)
+
+pub returns-in_err-next-in-Conflict-clause-unsealed : goal.returns-in_err-next-in-Conflict-clause-unsealed
+returns-in_err-next-in-Conflict-clause-unsealed g c =
+    let t = g.T.Turns in
+    let p = g.T.Law.Rules in
+    let l = c.write in
+    let i = l.invariant in
+    seals_then (t.who c.args.turns.now) (t.who l.turns) (t.seen c.args.turns.now) (t.seen l.turns) (t.seen c.turn.new.self) i.who i.unsealed (turn_none p.may p.floor p.shelf (t.who l.turns) (t.seen l.turns) _ _ _ c.in-Conflict.ensures.turn refl)
+
+pub returns-in_err-next-in-Conflict-clause-memory : goal.returns-in_err-next-in-Conflict-clause-memory
+returns-in_err-next-in-Conflict-clause-memory g c =
+    let t = g.T.Turns in
+    let p = g.T.Law.Rules in
+    let l = c.write in
+    let i = l.invariant in
+    let r = err_from_is_err_and c.from_residual-in_err-next-in-Conflict.result c.from_residual-in_err-next-in-Conflict.ensures.1 in
+    rw (r.1, r.2) (λ _. calm_then (t.who c.args.turns.now) (t.who l.turns) (t.seen c.args.turns.now) (t.seen l.turns) (t.seen c.turn.new.self) i.who i.calm (turn_calm p.may p.floor p.shelf (t.who l.turns) (t.seen l.turns) _ _ _ c.in-Conflict.ensures.turn tt))
+
+pub returns-in-MetaFault-clause-unsealed : goal.returns-in-MetaFault-clause-unsealed
+returns-in-MetaFault-clause-unsealed g c =
+    let t = g.T.Turns in
+    let p = g.T.Law.Rules in
+    let l = c.write in
+    let i = l.invariant in
+    seals_then (t.who c.args.turns.now) (t.who l.turns) (t.seen c.args.turns.now) (t.seen l.turns) (t.seen c.turn.new.self) i.who i.unsealed (turn_none p.may p.floor p.shelf (t.who l.turns) (t.seen l.turns) _ _ _ c.in-MetaFault.ensures.turn refl)
+
+pub returns-in-Down-clause-unsealed : goal.returns-in-Down-clause-unsealed
+returns-in-Down-clause-unsealed g c =
+    let t = g.T.Turns in
+    let p = g.T.Law.Rules in
+    let l = c.write in
+    let i = l.invariant in
+    seals_then (t.who c.args.turns.now) (t.who l.turns) (t.seen c.args.turns.now) (t.seen l.turns) (t.seen c.turn.new.self) i.who i.unsealed (turn_none p.may p.floor p.shelf (t.who l.turns) (t.seen l.turns) _ _ _ c.in-Down.ensures.turn refl)
+
+pub returns-in-Memory-clause-unsealed : goal.returns-in-Memory-clause-unsealed
+returns-in-Memory-clause-unsealed g c =
+    let t = g.T.Turns in
+    let p = g.T.Law.Rules in
+    let l = c.write in
+    let i = l.invariant in
+    seals_then (t.who c.args.turns.now) (t.who l.turns) (t.seen c.args.turns.now) (t.seen l.turns) (t.seen c.turn.new.self) i.who i.unsealed (turn_none p.may p.floor p.shelf (t.who l.turns) (t.seen l.turns) _ _ _ c.in-Memory.ensures.turn refl)
+
+pub returns-in-Memory-clause-memory : goal.returns-in-Memory-clause-memory
+returns-in-Memory-clause-memory g c =
+    let t = g.T.Turns in
+    let p = g.T.Law.Rules in
+    let l = c.write in
+    let i = l.invariant in
+    λ _. calm_then (t.who c.args.turns.now) (t.who l.turns) (t.seen c.args.turns.now) (t.seen l.turns) (t.seen c.turn.new.self) i.who i.calm (turn_calm p.may p.floor p.shelf (t.who l.turns) (t.seen l.turns) _ _ _ c.in-Memory.ensures.turn tt)
+
+pub returns-in_err-next-clause-unsealed : goal.returns-in_err-next-clause-unsealed
+returns-in_err-next-clause-unsealed g c = seals_refl (g.T.Turns.who c.args.turns.now) (g.T.Turns.seen c.args.turns.now)
+
+pub returns-in_err-next-clause-memory : goal.returns-in_err-next-clause-memory
+returns-in_err-next-clause-memory g c =
+    let r = err_from_is_err_and c.from_residual.result c.from_residual.ensures.1 in
+    rw (r.1, r.2) (λ _. calm_refl (g.T.Turns.who c.args.turns.now) (g.T.Turns.seen c.args.turns.now))
+
+pub unreachable-requires : goal.unreachable-requires
+unreachable-requires g c = write_answers _ _ _ _ _ _ _ _ _ c.turn.ensures.turn c.in_default.not-Written c.in_default.not-Conflict c.in_default.not-MetaFault c.in_default.not-Down c.in_default.not-Memory

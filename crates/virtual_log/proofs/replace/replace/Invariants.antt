@@ -6,6 +6,8 @@ use Rattle.chain_map.specs.Step.{extended}
 use Rattle.legal_journal.specs.Journal.{state_of}
 use Rattle.virtual_log.specs.Turning.{Later}
 use Rattle.virtual_log.specs.Saying.{SaysNone}
+use Rattle.virtual_log.specs.Sealing.{SealsNone}
+use Rattle.virtual_log.specs.Causes.{CalmSince}
 use Rattle.virtual_log.proofs.replace.replace.Given as goal
 
 abbrev pub invariant-write : goal.invariant-write
@@ -22,6 +24,8 @@ invariant-write g l =
       first : (last_of_segments l.chain.segments).id ≡ l.id;
       told : Contains ((state_of (t.seen l.turns)).cells l.id).ends l.length;
       silent : SaysNone (t.who l.fn.turns) (t.seen l.fn.turns) (t.seen l.turns);
+      unsealed : SealsNone (t.who l.fn.turns) (t.seen l.fn.turns) (t.seen l.turns);
+      calm : CalmSince (t.who l.fn.turns) (t.seen l.fn.turns) (t.seen l.turns);
     }
 
 abbrev pub decreases-write : goal.decreases-write

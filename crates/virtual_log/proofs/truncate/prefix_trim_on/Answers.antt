@@ -7,9 +7,11 @@ use Rattle.virtual_log.specs.Causes.{HasCause}
 use Rattle.virtual_log.specs.Truncating.{IsTold, IsTruncated, AreTrimmed}
 use Rattle.virtual_log.proofs.OneTurn.{later_trans, later_continues, cause_since, event_until}
 use Rattle.virtual_log.proofs.Going.{there_later, goes_later, goes_now, trim_below}
-use Rattle.virtual_log.proofs.Raising.{free_later, looked_told, truncated_in}
+use Rattle.virtual_log.proofs.Raising.{free_later, looked_told, looks_now, looks_later, truncated_in}
 use Rattle.virtual_log.proofs.Trimming.{segments_started, trimmed_since}
 use Rattle.virtual_log.proofs.Saying.{says_then}
+use Rattle.virtual_log.proofs.Sealing.{seals_then}
+use Rattle.virtual_log.proofs.Calming.{calm_then}
 use Rattle.virtual_log.proofs.truncate.prefix_trim_on.Goals as goal
 
 pub returns-in_err-version-clause-goes_by : goal.returns-in_err-version-clause-goes_by
@@ -247,3 +249,109 @@ returns-clause-words g c =
     let second = c.in_ok-trim.ensures in
     let to_b = says_then words who (t.who c.look.new.turns) old a b first.who (first.silent words) (second.silent words) in
     says_then words who (t.who c.truncate_on.new.turns) old b (t.seen c.trim_segments.new.turns) (second.who ∙ first.who) to_b c.in_ok-trim_segments.ensures.words
+
+pub returns-in_err-version-clause-unsealed : goal.returns-in_err-version-clause-unsealed
+returns-in_err-version-clause-unsealed g c = c.in_err-version.ensures.unsealed
+
+pub returns-in_err-version-clause-memory : goal.returns-in_err-version-clause-memory
+returns-in_err-version-clause-memory g c =
+    let r = err_from_is_err_and c.from_residual.result c.from_residual.ensures.1 in
+    rw (r.1, r.2) (λ is. (c.in_err-version.ensures.memory is))
+
+pub returns-in_err-looked-clause-unsealed : goal.returns-in_err-looked-clause-unsealed
+returns-in_err-looked-clause-unsealed g c = c.in_ok-version.ensures.unsealed
+
+pub returns-in_err-looked-clause-memory : goal.returns-in_err-looked-clause-memory
+returns-in_err-looked-clause-memory g c =
+    let r = err_from_is_err_and c.from_residual-in_err-looked.result c.from_residual-in_err-looked.ensures.1 in
+    rw (r.1, r.2) (λ _. c.in_ok-version.ensures.calm)
+
+pub returns-in_err-trim-clause-unsealed : goal.returns-in_err-trim-clause-unsealed
+returns-in_err-trim-clause-unsealed g c =
+    let t = g.T.Turns in
+    let who = t.who c.args.turns.now in
+    let old = t.seen c.args.turns.now in
+    let a = t.seen c.look.new.turns in
+    let first = c.in_ok-version.ensures in
+    seals_then who (t.who c.look.new.turns) old a (t.seen c.truncate_on.new.turns) first.who first.unsealed c.in_err-trim.ensures.unsealed
+
+pub returns-in_err-trim-clause-memory : goal.returns-in_err-trim-clause-memory
+returns-in_err-trim-clause-memory g c =
+    let t = g.T.Turns in
+    let who = t.who c.args.turns.now in
+    let old = t.seen c.args.turns.now in
+    let a = t.seen c.look.new.turns in
+    let first = c.in_ok-version.ensures in
+    let r = err_from_is_err_and c.from_residual-in_err-trim.result c.from_residual-in_err-trim.ensures.1 in
+    rw (r.1, r.2) (λ is. calm_then who (t.who c.look.new.turns) old a (t.seen c.truncate_on.new.turns) first.who first.calm (c.in_err-trim.ensures.memory is))
+
+pub returns-in_err-trim_segments-clause-unsealed : goal.returns-in_err-trim_segments-clause-unsealed
+returns-in_err-trim_segments-clause-unsealed g c =
+    let t = g.T.Turns in
+    let who = t.who c.args.turns.now in
+    let old = t.seen c.args.turns.now in
+    let a = t.seen c.look.new.turns in
+    let first = c.in_ok-version.ensures in
+    let b = t.seen c.truncate_on.new.turns in
+    let second = c.in_ok-trim.ensures in
+    let to_b = seals_then who (t.who c.look.new.turns) old a b first.who first.unsealed second.unsealed in
+    seals_then who (t.who c.truncate_on.new.turns) old b (t.seen c.trim_segments.new.turns) (second.who ∙ first.who) to_b c.in_err-trim_segments.ensures.unsealed
+
+pub returns-in_err-trim_segments-clause-memory : goal.returns-in_err-trim_segments-clause-memory
+returns-in_err-trim_segments-clause-memory g c =
+    let t = g.T.Turns in
+    let who = t.who c.args.turns.now in
+    let old = t.seen c.args.turns.now in
+    let a = t.seen c.look.new.turns in
+    let first = c.in_ok-version.ensures in
+    let b = t.seen c.truncate_on.new.turns in
+    let second = c.in_ok-trim.ensures in
+    let to_b = calm_then who (t.who c.look.new.turns) old a b first.who first.calm second.calm in
+    let r = err_from_is_err_and c.from_residual-in_err-trim_segments.result c.from_residual-in_err-trim_segments.ensures.1 in
+    rw (r.1, r.2) (λ is. calm_then who (t.who c.truncate_on.new.turns) old b (t.seen c.trim_segments.new.turns) (second.who ∙ first.who) to_b (c.in_err-trim_segments.ensures.memory is))
+
+pub returns-clause-unsealed : goal.returns-clause-unsealed
+returns-clause-unsealed g c =
+    let t = g.T.Turns in
+    let who = t.who c.args.turns.now in
+    let old = t.seen c.args.turns.now in
+    let a = t.seen c.look.new.turns in
+    let first = c.in_ok-version.ensures in
+    let b = t.seen c.truncate_on.new.turns in
+    let second = c.in_ok-trim.ensures in
+    let to_b = seals_then who (t.who c.look.new.turns) old a b first.who first.unsealed second.unsealed in
+    seals_then who (t.who c.truncate_on.new.turns) old b (t.seen c.trim_segments.new.turns) (second.who ∙ first.who) to_b c.in_ok-trim_segments.ensures.unsealed
+
+pub returns-clause-calm : goal.returns-clause-calm
+returns-clause-calm g c =
+    let t = g.T.Turns in
+    let who = t.who c.args.turns.now in
+    let old = t.seen c.args.turns.now in
+    let a = t.seen c.look.new.turns in
+    let first = c.in_ok-version.ensures in
+    let b = t.seen c.truncate_on.new.turns in
+    let second = c.in_ok-trim.ensures in
+    let to_b = calm_then who (t.who c.look.new.turns) old a b first.who first.calm second.calm in
+    calm_then who (t.who c.truncate_on.new.turns) old b (t.seen c.trim_segments.new.turns) (second.who ∙ first.who) to_b c.in_ok-trim_segments.ensures.calm
+
+pub returns-clause-looked : goal.returns-clause-looked
+returns-clause-looked g c =
+    let p = g.T.Law.Rules in
+    let t = g.T.Turns in
+    let who = t.who c.args.turns.now in
+    let old = t.seen c.args.turns.now in
+    let a = t.seen c.look.new.turns in
+    let first = c.in_ok-version.ensures in
+    let v = c.in_ok-version.version in
+    let chain = c.in_ok-version.chain in
+    let b = t.seen c.truncate_on.new.turns in
+    let second = c.in_ok-trim.ensures in
+    let third = c.in_ok-trim_segments.ensures in
+    let e = t.seen c.trim_segments.new.turns in
+    let same : c.as_slice.result.now ≡ chain.segments = c.as_slice.ensures ∙ c.in_ok-looked.ensures.cases in
+    let to_e = later_trans p.may p.floor p.shelf a b e second.later third.later in
+    record {
+      chain = chain;
+      looks = looks_later who chain old a e to_e.more to_e.seen (looks_now who v chain old a first.ok);
+      trimmed = subst (λ (l : List Segment). AreTrimmed who a l c.args.n e) same (trimmed_since who a b e c.as_slice.result.now c.args.n second.later.more second.later.seen (subst (λ w. AreTrimmed w b c.as_slice.result.now c.args.n e) (second.who ∙ first.who) third.trimmed));
+    }

@@ -1,4 +1,4 @@
-use Rattle.std.proofs.Common.{◌++◌, subst, arith}
+use Rattle.std.proofs.Common.{◌++◌, refl, subst, arith}
 use Rattle.loglet_api.specs.declared.call.Op.TheVariants.{Trim}
 use Rattle.loglet_api.specs.declared.call.Answer.{Answer}
 use Rattle.legal_journal.specs.Told.{started}
@@ -10,6 +10,11 @@ use Rattle.virtual_log.proofs.OneTurn.{own_by, lack_cause, cause_since, event_un
 use Rattle.virtual_log.proofs.Appending.{started_within}
 use Rattle.virtual_log.proofs.Trimming.{may_trim, trim_event}
 use Rattle.virtual_log.proofs.Saying.{says_refl, says_then}
+use Rattle.virtual_log.proofs.Sealing.{seals_refl, seals_then}
+use Rattle.virtual_log.proofs.Calming.{calm_refl, calm_then}
+use Rattle.virtual_log.proofs.Answering.{trim_answers}
+use Rattle.std.proofs.lemmas.Result.{err_from_is_err_and}
+use Rattle.virtual_log.specs.Causes.{IsCalmAnswer, CalmSince}
 use Rattle.virtual_log.proofs.truncate.trim_segment.Goals as goal
 
 pub begin-requires-clause-may : goal.begin-requires-clause-may
@@ -71,8 +76,54 @@ returns-in-NoQuorum-clause-words g c =
     let words = g.C.Chooser.may c.args.chooser.now in
     says_then words (t.who c.args.turns.now) (t.who c.begin.new.turns) (t.seen c.args.turns.now) (t.seen c.begin.new.turns) (t.seen c.carry_on.new.turns) c.in_ok-ticket.ensures.who (c.in_ok-ticket.ensures.silent words) c.in_ok-carry_on.ensures.words
 
-pub returns-in_default-clause-words : goal.returns-in_default-clause-words
-returns-in_default-clause-words g c =
+pub returns-then-segment-n-clause-unsealed : goal.returns-then-segment-n-clause-unsealed
+returns-then-segment-n-clause-unsealed g c =
     let t = g.T.Turns in
-    let words = g.C.Chooser.may c.args.chooser.now in
-    says_then words (t.who c.args.turns.now) (t.who c.begin.new.turns) (t.seen c.args.turns.now) (t.seen c.begin.new.turns) (t.seen c.carry_on.new.turns) c.in_ok-ticket.ensures.who (c.in_ok-ticket.ensures.silent words) c.in_ok-carry_on.ensures.words
+    seals_refl (t.who c.args.turns.now) (t.seen c.args.turns.now)
+
+pub returns-then-segment-n-clause-calm : goal.returns-then-segment-n-clause-calm
+returns-then-segment-n-clause-calm g c =
+    let t = g.T.Turns in
+    calm_refl (t.who c.args.turns.now) (t.seen c.args.turns.now)
+
+pub returns-in_err-ticket-clause-unsealed : goal.returns-in_err-ticket-clause-unsealed
+returns-in_err-ticket-clause-unsealed g c = (c.in_err-ticket.ensures.unsealed refl)
+
+pub returns-in_err-ticket-clause-memory : goal.returns-in_err-ticket-clause-memory
+returns-in_err-ticket-clause-memory g c =
+    let r = err_from_is_err_and c.from_residual.result c.from_residual.ensures.1 in
+    rw (r.1, r.2) (λ is. (c.in_err-ticket.ensures.memory is))
+
+pub returns-in_err-carry_on-clause-unsealed : goal.returns-in_err-carry_on-clause-unsealed
+returns-in_err-carry_on-clause-unsealed g c =
+    let t = g.T.Turns in
+    seals_then (t.who c.args.turns.now) (t.who c.begin.new.turns) (t.seen c.args.turns.now) (t.seen c.begin.new.turns) (t.seen c.carry_on.new.turns) c.in_ok-ticket.ensures.who (c.in_ok-ticket.ensures.unsealed refl) c.in_err-carry_on.ensures.unsealed
+
+pub returns-in_err-carry_on-clause-memory : goal.returns-in_err-carry_on-clause-memory
+returns-in_err-carry_on-clause-memory g c =
+    let t = g.T.Turns in
+    let r = err_from_is_err_and c.from_residual-in_err-carry_on.result c.from_residual-in_err-carry_on.ensures.1 in
+    rw (r.1, r.2) (λ _. calm_then (t.who c.args.turns.now) (t.who c.begin.new.turns) (t.seen c.args.turns.now) (t.seen c.begin.new.turns) (t.seen c.carry_on.new.turns) c.in_ok-ticket.ensures.who c.in_ok-ticket.ensures.calm c.in_err-carry_on.ensures.memory)
+
+pub returns-in-TrimDone-clause-unsealed : goal.returns-in-TrimDone-clause-unsealed
+returns-in-TrimDone-clause-unsealed g c =
+    let t = g.T.Turns in
+    seals_then (t.who c.args.turns.now) (t.who c.begin.new.turns) (t.seen c.args.turns.now) (t.seen c.begin.new.turns) (t.seen c.carry_on.new.turns) c.in_ok-ticket.ensures.who (c.in_ok-ticket.ensures.unsealed refl) c.in_ok-carry_on.ensures.unsealed
+
+pub returns-in-TrimDone-clause-calm : goal.returns-in-TrimDone-clause-calm
+returns-in-TrimDone-clause-calm g c =
+    let t = g.T.Turns in
+    calm_then (t.who c.args.turns.now) (t.who c.begin.new.turns) (t.seen c.args.turns.now) (t.seen c.begin.new.turns) (t.seen c.carry_on.new.turns) c.in_ok-ticket.ensures.who c.in_ok-ticket.ensures.calm (subst (λ a. IsCalmAnswer a → CalmSince (t.who c.begin.new.turns) (t.seen c.begin.new.turns) (t.seen c.carry_on.new.turns)) c.in-TrimDone.is c.in_ok-carry_on.ensures.calm tt)
+
+pub returns-in-NoQuorum-clause-unsealed : goal.returns-in-NoQuorum-clause-unsealed
+returns-in-NoQuorum-clause-unsealed g c =
+    let t = g.T.Turns in
+    seals_then (t.who c.args.turns.now) (t.who c.begin.new.turns) (t.seen c.args.turns.now) (t.seen c.begin.new.turns) (t.seen c.carry_on.new.turns) c.in_ok-ticket.ensures.who (c.in_ok-ticket.ensures.unsealed refl) c.in_ok-carry_on.ensures.unsealed
+
+pub unreachable-requires : goal.unreachable-requires
+unreachable-requires g c =
+    let t = g.T.Turns in
+    let o = c.in_ok-ticket.ensures.ok in
+    let r = started ((state_of (t.seen c.args.turns.now ++ o.first.others)).cells c.args.segment.id).told (Trim c.length_below-length.result) in
+    let x = c.in_ok-carry_on.ensures.ok r (own_by _ _ _ _ _ c.in_ok-ticket.ensures.who o.own) in
+    trim_answers ((state_of x.moment).cells c.args.segment.id).told r c.length_below-length.result c.in_ok-carry_on.field-0 x.may c.in_default.not-TrimDone c.in_default.not-NoQuorum

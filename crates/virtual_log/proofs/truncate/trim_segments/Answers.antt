@@ -8,6 +8,9 @@ use Rattle.virtual_log.specs.Truncating.{IsTrimOf}
 use Rattle.virtual_log.proofs.OneTurn.{later_trans, later_continues, event_since, event_until, later_refl}
 use Rattle.virtual_log.proofs.Trimming.{at_index}
 use Rattle.virtual_log.proofs.Saying.{says_refl, says_on}
+use Rattle.virtual_log.proofs.Sealing.{seals_refl, seals_then}
+use Rattle.virtual_log.proofs.Calming.{calm_refl, calm_then}
+use Rattle.std.proofs.lemmas.Result.{err_from_is_err_and}
 use Rattle.virtual_log.proofs.truncate.trim_segments.Goals as goal
 
 pub trim_segment-requires-clause-started : goal.trim_segment-requires-clause-started
@@ -56,6 +59,8 @@ segment-preserved g c =
       who = step.who ∙ i.who;
       trimmed = λ k s h at below. by_test k s h at below (k == l.segment-index) refl;
       words = says_on (g.C.Chooser.may c.args.chooser.now) (g.C.Chooser.may l.chooser) who (t.who l.turns) old now new i.same i.who i.words step.words;
+      unsealed = seals_then who (t.who l.turns) old now new i.who i.unsealed step.unsealed;
+      calm = calm_then who (t.who l.turns) old now new i.who i.calm step.calm;
       same = step.same ∙ i.same;
     }
 
@@ -72,6 +77,8 @@ segment-init g c =
       who = refl;
       trimmed = λ k s h at below. absurd (omega (arith, h));
       words = says_refl (g.C.Chooser.may c.args.chooser.now) (t.who c.args.turns.now) old;
+      unsealed = seals_refl (t.who c.args.turns.now) old;
+      calm = calm_refl (t.who c.args.turns.now) old;
       same = refl;
     }
 
@@ -86,3 +93,24 @@ returns-in_err-trim_segment-clause-words g c =
     let i = l.invariant in
     let now = t.seen l.turns in
     says_on words (may l.chooser) who (t.who l.turns) old now (t.seen c.trim_segment.new.turns) i.same i.who i.words c.in_err-trim_segment.ensures.words
+
+pub returns-in_err-trim_segment-clause-unsealed : goal.returns-in_err-trim_segment-clause-unsealed
+returns-in_err-trim_segment-clause-unsealed g c =
+    let t = g.T.Turns in
+    let who = t.who c.args.turns.now in
+    let old = t.seen c.args.turns.now in
+    let l = c.segment in
+    let i = l.invariant in
+    let now = t.seen l.turns in
+    seals_then who (t.who l.turns) old now (t.seen c.trim_segment.new.turns) i.who i.unsealed c.in_err-trim_segment.ensures.unsealed
+
+pub returns-in_err-trim_segment-clause-memory : goal.returns-in_err-trim_segment-clause-memory
+returns-in_err-trim_segment-clause-memory g c =
+    let t = g.T.Turns in
+    let who = t.who c.args.turns.now in
+    let old = t.seen c.args.turns.now in
+    let l = c.segment in
+    let i = l.invariant in
+    let now = t.seen l.turns in
+    let r = err_from_is_err_and c.from_residual.result c.from_residual.ensures.1 in
+    rw (r.1, r.2) (λ is. calm_then who (t.who l.turns) old now (t.seen c.trim_segment.new.turns) i.who i.calm (c.in_err-trim_segment.ensures.memory is))

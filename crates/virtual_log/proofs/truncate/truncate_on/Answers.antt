@@ -7,8 +7,13 @@ use Rattle.virtual_log.specs.Causes.{HasCause}
 use Rattle.virtual_log.specs.Truncating.{IsRaised, IsTold}
 use Rattle.virtual_log.proofs.OneTurn.{turn_later, later_trans, later_continues, event_since, cause_since, meta_cause, gone_cause}
 use Rattle.virtual_log.proofs.Going.{goes_later, goes_now}
-use Rattle.virtual_log.proofs.Raising.{free_later, looked_told, is_one, may_raise, raised_goes, raised_ok, raised_since, lost_goes, lost_later, lost_told}
+use Rattle.virtual_log.proofs.Raising.{free_later, looked_told, is_one, may_raise, raised_goes, raised_ok, raised_since, lost_goes, lost_later, lost_told, looks_now, looks_later, low_looked}
+use Rattle.virtual_log.proofs.Writing.{turn_quiet, wrote_trans, wrote_by}
 use Rattle.virtual_log.proofs.Saying.{turn_says, says_then}
+use Rattle.virtual_log.proofs.Sealing.{turn_none, seals_then}
+use Rattle.virtual_log.proofs.Calming.{turn_calm, calm_then}
+use Rattle.virtual_log.proofs.Answering.{write_answers}
+use Rattle.std.proofs.lemmas.Result.{err_from_is_err_and}
 use Rattle.virtual_log.proofs.truncate.truncate_on.Goals as goal
 
 pub returns-in_err-version-clause-goes_by : goal.returns-in_err-version-clause-goes_by
@@ -137,8 +142,8 @@ returns-in-Down-clause-goes_by g c =
     let new = t.seen c.turn.new.self in
     goes_later p.may p.floor p.shelf now new k.version k.tail k.chain (turn_later p.may p.floor p.shelf _ _ _ _ _ c.in-Down.ensures.turn) i.goes_by
 
-pub returns-in_default : goal.returns-in_default
-returns-in_default g c =
+pub returns-in-Memory : goal.returns-in-Memory
+returns-in-Memory g c =
     let p = g.T.Law.Rules in
     let t = g.T.Turns in
     let who = t.who c.args.turns.now in
@@ -149,7 +154,7 @@ returns-in_default g c =
     let k = l.known in
     let now = t.seen l.turns in
     let new = t.seen c.turn.new.self in
-    let step = turn_later p.may p.floor p.shelf _ _ _ _ _ c.turn.ensures.turn in
+    let step = turn_later p.may p.floor p.shelf _ _ _ _ _ c.in-Memory.ensures.turn in
     record {
       later = later_trans p.may p.floor p.shelf old now new i.later step;
       who = c.turn.ensures.who ∙ i.who;
@@ -157,9 +162,13 @@ returns-in_default g c =
       known = i.tail;
       truncated = tt;
       stands = tt;
+      spares = inr (let rise : k.chain.trim < n = omega (arith, c.if-n-trim.false) in (i.first.0, looks_later who i.first.0 old now new step.more step.seen i.first.1, low_looked n i.first.0 k.chain i.first.2 rise));
       silent = λ words.
           says_then words (t.who c.args.turns.now) (t.who l.turns) (t.seen c.args.turns.now) (t.seen l.turns) (t.seen c.turn.new.self) i.who (i.silent words)
-          (turn_says p.may p.floor p.shelf (t.who l.turns) (t.seen l.turns) words _ _ _ c.turn.ensures.turn tt);
+          (turn_says p.may p.floor p.shelf (t.who l.turns) (t.seen l.turns) words _ _ _ c.in-Memory.ensures.turn tt);
+      unsealed = seals_then (t.who c.args.turns.now) (t.who l.turns) (t.seen c.args.turns.now) (t.seen l.turns) (t.seen c.turn.new.self) i.who i.unsealed (turn_none p.may p.floor p.shelf (t.who l.turns) (t.seen l.turns) _ _ _ c.in-Memory.ensures.turn refl);
+      calm = tt;
+      memory = λ _. calm_then (t.who c.args.turns.now) (t.who l.turns) (t.seen c.args.turns.now) (t.seen l.turns) (t.seen c.turn.new.self) i.who i.calm (turn_calm p.may p.floor p.shelf (t.who l.turns) (t.seen l.turns) _ _ _ c.in-Memory.ensures.turn tt);
       err = tt;
     }
 
@@ -199,9 +208,15 @@ write-preserved g c =
       free = free_later (state_of now) (state_of new) p.floor n (later_continues p.may p.floor p.shelf now new step) i.free;
       told = event_since (IsTold who c.in-Conflict.version c.in-Conflict.chain) old now new i.later.more i.later.seen
           (subst (λ w. HasEvent now (IsTold w c.in-Conflict.version c.in-Conflict.chain) new) i.who (lost_told p.may p.floor p.shelf (t.who l.turns) now k.version k.tail n k.chain i.later.legal i.goes_by c.in-Conflict.version c.in_ok-next.next c.in-Conflict.chain new c.in-Conflict.ensures.turn));
+      quiet = wrote_trans who old now new i.quiet (wrote_by _ _ _ _ i.who (turn_quiet p.may p.floor p.shelf _ _ _ _ _ c.in-Conflict.ensures.turn refl));
+      first =
+          let rise : k.chain.trim < n = omega (arith, c.if-n-trim.false) in
+          (i.first.0, looks_later who i.first.0 old now new step.more step.seen i.first.1, inl (low_looked n i.first.0 k.chain i.first.2 rise));
       silent = λ words.
           says_then words (t.who c.args.turns.now) (t.who l.turns) (t.seen c.args.turns.now) (t.seen l.turns) (t.seen c.turn.new.self) i.who (i.silent words)
           (turn_says p.may p.floor p.shelf (t.who l.turns) (t.seen l.turns) words _ _ _ c.in-Conflict.ensures.turn tt);
+      unsealed = seals_then (t.who c.args.turns.now) (t.who l.turns) (t.seen c.args.turns.now) (t.seen l.turns) (t.seen c.turn.new.self) i.who i.unsealed (turn_none p.may p.floor p.shelf (t.who l.turns) (t.seen l.turns) _ _ _ c.in-Conflict.ensures.turn refl);
+      calm = calm_then (t.who c.args.turns.now) (t.who l.turns) (t.seen c.args.turns.now) (t.seen l.turns) (t.seen c.turn.new.self) i.who i.calm (turn_calm p.may p.floor p.shelf (t.who l.turns) (t.seen l.turns) _ _ _ c.in-Conflict.ensures.turn tt);
     }
 
 pub write-init : goal.write-init
@@ -220,7 +235,11 @@ write-init g c =
       tail = refl;
       free = free_later (state_of old) (state_of a) p.floor n (later_continues p.may p.floor p.shelf old a first.later) c.requires.free;
       told = looked_told who c.in_ok-version.version c.in_ok-version.chain old a first.ok;
+      quiet = first.quiet;
+      first = (c.in_ok-version.chain, looks_now who c.in_ok-version.version c.in_ok-version.chain old a first.ok, inr refl);
       silent = first.silent;
+      unsealed = first.unsealed;
+      calm = first.calm;
     }
 
 pub returns-in-MetaFault-clause-err : goal.returns-in-MetaFault-clause-err
@@ -290,3 +309,128 @@ returns-in_err-copy-clause-silent g c = c.write.invariant.silent
 
 pub returns-in_err-version-clause-silent : goal.returns-in_err-version-clause-silent
 returns-in_err-version-clause-silent g c = c.in_err-version.ensures.silent
+
+pub returns-in-Written-clause-unsealed : goal.returns-in-Written-clause-unsealed
+returns-in-Written-clause-unsealed g c =
+    let t = g.T.Turns in
+    let p = g.T.Law.Rules in
+    let l = c.write in
+    let i = l.invariant in
+    seals_then (t.who c.args.turns.now) (t.who l.turns) (t.seen c.args.turns.now) (t.seen l.turns) (t.seen c.turn.new.self) i.who i.unsealed (turn_none p.may p.floor p.shelf (t.who l.turns) (t.seen l.turns) _ _ _ c.in-Written.ensures.turn refl)
+
+pub returns-in-Written-clause-calm : goal.returns-in-Written-clause-calm
+returns-in-Written-clause-calm g c =
+    let t = g.T.Turns in
+    let p = g.T.Law.Rules in
+    let l = c.write in
+    let i = l.invariant in
+    calm_then (t.who c.args.turns.now) (t.who l.turns) (t.seen c.args.turns.now) (t.seen l.turns) (t.seen c.turn.new.self) i.who i.calm (turn_calm p.may p.floor p.shelf (t.who l.turns) (t.seen l.turns) _ _ _ c.in-Written.ensures.turn tt)
+
+pub returns-in-MetaFault-clause-unsealed : goal.returns-in-MetaFault-clause-unsealed
+returns-in-MetaFault-clause-unsealed g c =
+    let t = g.T.Turns in
+    let p = g.T.Law.Rules in
+    let l = c.write in
+    let i = l.invariant in
+    seals_then (t.who c.args.turns.now) (t.who l.turns) (t.seen c.args.turns.now) (t.seen l.turns) (t.seen c.turn.new.self) i.who i.unsealed (turn_none p.may p.floor p.shelf (t.who l.turns) (t.seen l.turns) _ _ _ c.in-MetaFault.ensures.turn refl)
+
+pub returns-in-Down-clause-unsealed : goal.returns-in-Down-clause-unsealed
+returns-in-Down-clause-unsealed g c =
+    let t = g.T.Turns in
+    let p = g.T.Law.Rules in
+    let l = c.write in
+    let i = l.invariant in
+    seals_then (t.who c.args.turns.now) (t.who l.turns) (t.seen c.args.turns.now) (t.seen l.turns) (t.seen c.turn.new.self) i.who i.unsealed (turn_none p.may p.floor p.shelf (t.who l.turns) (t.seen l.turns) _ _ _ c.in-Down.ensures.turn refl)
+
+pub returns-then-n-trim-clause-unsealed : goal.returns-then-n-trim-clause-unsealed
+returns-then-n-trim-clause-unsealed g c = c.write.invariant.unsealed
+
+pub returns-then-n-trim-clause-calm : goal.returns-then-n-trim-clause-calm
+returns-then-n-trim-clause-calm g c = c.write.invariant.calm
+
+pub returns-in_err-next-clause-unsealed : goal.returns-in_err-next-clause-unsealed
+returns-in_err-next-clause-unsealed g c = c.write.invariant.unsealed
+
+pub returns-in_err-next-clause-memory : goal.returns-in_err-next-clause-memory
+returns-in_err-next-clause-memory g c =
+    let r = err_from_is_err_and c.from_residual-in_err-next.result c.from_residual-in_err-next.ensures.1 in
+    rw (r.1, r.2) (λ _. c.write.invariant.calm)
+
+pub returns-in_err-copy-clause-unsealed : goal.returns-in_err-copy-clause-unsealed
+returns-in_err-copy-clause-unsealed g c = c.write.invariant.unsealed
+
+pub returns-in_err-copy-clause-memory : goal.returns-in_err-copy-clause-memory
+returns-in_err-copy-clause-memory g c =
+    let r = err_from_is_err_and c.from_residual-in_err-copy.result c.from_residual-in_err-copy.ensures.1 in
+    rw (r.1, r.2) (λ _. c.write.invariant.calm)
+
+pub returns-in_err-version-clause-unsealed : goal.returns-in_err-version-clause-unsealed
+returns-in_err-version-clause-unsealed g c = c.in_err-version.ensures.unsealed
+
+pub returns-in_err-version-clause-memory : goal.returns-in_err-version-clause-memory
+returns-in_err-version-clause-memory g c =
+    let r = err_from_is_err_and c.from_residual.result c.from_residual.ensures.1 in
+    rw (r.1, r.2) (λ is. (c.in_err-version.ensures.memory is))
+
+pub unreachable-requires : goal.unreachable-requires
+unreachable-requires g c = write_answers _ _ _ _ _ _ _ _ _ c.turn.ensures.turn c.in_default.not-Written c.in_default.not-Conflict c.in_default.not-MetaFault c.in_default.not-Down c.in_default.not-Memory
+
+pub returns-in-Written-clause-spares : goal.returns-in-Written-clause-spares
+returns-in-Written-clause-spares g c =
+    let p = g.T.Law.Rules in
+    let t = g.T.Turns in
+    let who = t.who c.args.turns.now in
+    let old = t.seen c.args.turns.now in
+    let n = c.args.n in
+    let l = c.write in
+    let i = l.invariant in
+    let k = l.known in
+    let now = t.seen l.turns in
+    let new = t.seen c.turn.new.self in
+    let rise : k.chain.trim < n = omega (arith, c.if-n-trim.false) in
+    let step = turn_later p.may p.floor p.shelf _ _ _ _ _ c.in-Written.ensures.turn in
+    inr (i.first.0, looks_later who i.first.0 old now new step.more step.seen i.first.1, low_looked n i.first.0 k.chain i.first.2 rise)
+
+pub returns-in-MetaFault-clause-spares : goal.returns-in-MetaFault-clause-spares
+returns-in-MetaFault-clause-spares g c =
+    let p = g.T.Law.Rules in
+    let t = g.T.Turns in
+    let who = t.who c.args.turns.now in
+    let old = t.seen c.args.turns.now in
+    let n = c.args.n in
+    let l = c.write in
+    let i = l.invariant in
+    let k = l.known in
+    let now = t.seen l.turns in
+    let new = t.seen c.turn.new.self in
+    let rise : k.chain.trim < n = omega (arith, c.if-n-trim.false) in
+    let step = turn_later p.may p.floor p.shelf _ _ _ _ _ c.in-MetaFault.ensures.turn in
+    inr (i.first.0, looks_later who i.first.0 old now new step.more step.seen i.first.1, low_looked n i.first.0 k.chain i.first.2 rise)
+
+pub returns-in-Down-clause-spares : goal.returns-in-Down-clause-spares
+returns-in-Down-clause-spares g c =
+    let p = g.T.Law.Rules in
+    let t = g.T.Turns in
+    let who = t.who c.args.turns.now in
+    let old = t.seen c.args.turns.now in
+    let n = c.args.n in
+    let l = c.write in
+    let i = l.invariant in
+    let k = l.known in
+    let now = t.seen l.turns in
+    let new = t.seen c.turn.new.self in
+    let rise : k.chain.trim < n = omega (arith, c.if-n-trim.false) in
+    let step = turn_later p.may p.floor p.shelf _ _ _ _ _ c.in-Down.ensures.turn in
+    inr (i.first.0, looks_later who i.first.0 old now new step.more step.seen i.first.1, low_looked n i.first.0 k.chain i.first.2 rise)
+
+pub returns-then-n-trim-clause-spares : goal.returns-then-n-trim-clause-spares
+returns-then-n-trim-clause-spares g c = inl c.write.invariant.quiet
+
+pub returns-in_err-next-clause-spares : goal.returns-in_err-next-clause-spares
+returns-in_err-next-clause-spares g c = inl c.write.invariant.quiet
+
+pub returns-in_err-copy-clause-spares : goal.returns-in_err-copy-clause-spares
+returns-in_err-copy-clause-spares g c = inl c.write.invariant.quiet
+
+pub returns-in_err-version-clause-spares : goal.returns-in_err-version-clause-spares
+returns-in_err-version-clause-spares g c = inl c.in_err-version.ensures.quiet

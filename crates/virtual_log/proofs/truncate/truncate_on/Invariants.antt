@@ -1,9 +1,13 @@
-use Rattle.std.proofs.Common.{◌≡◌, ◌-◌, ◌^◌}
+use Rattle.std.proofs.Common.{◌≡◌, ◌⊎◌, ◌<◌, ◌-◌, ◌^◌}
+use Rattle.delos_types.specs.declared.chain.Chain.{Chain}
 use Rattle.legal_journal.specs.Journal.{state_of, IsFree}
-use Rattle.virtual_log.specs.Turning.{Later, HasEvent}
+use Rattle.virtual_log.specs.Turning.{Later, LooksAt, HasEvent}
 use Rattle.virtual_log.specs.Log.{GoesBy}
 use Rattle.virtual_log.specs.Truncating.{IsTold}
+use Rattle.virtual_log.specs.Writing.{WroteNone}
 use Rattle.virtual_log.specs.Saying.{SaysNone}
+use Rattle.virtual_log.specs.Sealing.{SealsNone}
+use Rattle.virtual_log.specs.Causes.{CalmSince}
 use Rattle.virtual_log.proofs.truncate.truncate_on.Given as goal
 
 abbrev pub invariant-write : goal.invariant-write
@@ -17,7 +21,11 @@ invariant-write g l =
       tail : l.known.tail ≡ l.fn.known.tail;
       free : IsFree (state_of (t.seen l.turns)).shown p.floor l.n;
       told : HasEvent (t.seen l.fn.turns) (IsTold (t.who l.fn.turns) l.known.version l.known.chain) (t.seen l.turns);
+      quiet : WroteNone (t.who l.fn.turns) (t.seen l.fn.turns) (t.seen l.turns);
+      first : (chain : Chain) × LooksAt (t.who l.fn.turns) (t.seen l.fn.turns) chain (t.seen l.turns) × ((chain.trim < l.n) ⊎ (chain ≡ l.known.chain));
       silent : SaysNone (t.who l.fn.turns) (t.seen l.fn.turns) (t.seen l.turns);
+      unsealed : SealsNone (t.who l.fn.turns) (t.seen l.fn.turns) (t.seen l.turns);
+      calm : CalmSince (t.who l.fn.turns) (t.seen l.fn.turns) (t.seen l.turns);
     }
 
 abbrev pub decreases-write : goal.decreases-write

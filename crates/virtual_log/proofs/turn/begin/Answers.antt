@@ -3,6 +3,8 @@ use Rattle.virtual_log.proofs.OneTurn.{begin_ok}
 use Rattle.virtual_log.proofs.Writing.{turn_wrote}
 use Rattle.virtual_log.proofs.Sealing.{turn_none, turn_at}
 use Rattle.virtual_log.proofs.Saying.{turn_says}
+use Rattle.virtual_log.proofs.Calming.{turn_calm}
+use Rattle.virtual_log.proofs.Answering.{begin_answers}
 use Rattle.virtual_log.proofs.turn.begin.Goals as goal
 
 pub returns-in-Begun-clause-ok : goal.returns-in-Begun-clause-ok
@@ -23,11 +25,11 @@ returns-in-Full-clause-unsealed g c = λ other. turn_none _ _ _ _ _ _ _ _ c.in-F
 pub returns-in-Full-clause-seals : goal.returns-in-Full-clause-seals
 returns-in-Full-clause-seals g c = turn_at _ _ _ _ _ _ _ _ _ c.in-Full.ensures.turn
 
-pub returns-in_default-clause-unsealed : goal.returns-in_default-clause-unsealed
-returns-in_default-clause-unsealed g c = λ other. turn_none _ _ _ _ _ _ _ _ c.turn.ensures.turn other
+pub returns-in-Memory-clause-unsealed : goal.returns-in-Memory-clause-unsealed
+returns-in-Memory-clause-unsealed g c = λ other. turn_none _ _ _ _ _ _ _ _ c.in-Memory.ensures.turn other
 
-pub returns-in_default-clause-seals : goal.returns-in_default-clause-seals
-returns-in_default-clause-seals g c = turn_at _ _ _ _ _ _ _ _ _ c.turn.ensures.turn
+pub returns-in-Memory-clause-seals : goal.returns-in-Memory-clause-seals
+returns-in-Memory-clause-seals g c = turn_at _ _ _ _ _ _ _ _ _ c.in-Memory.ensures.turn
 
 pub returns-in-Begun-clause-silent : goal.returns-in-Begun-clause-silent
 returns-in-Begun-clause-silent g c = λ words. turn_says _ _ _ _ _ words _ _ _ c.in-Begun.ensures.turn tt
@@ -35,5 +37,14 @@ returns-in-Begun-clause-silent g c = λ words. turn_says _ _ _ _ _ words _ _ _ c
 pub returns-in-Full-clause-silent : goal.returns-in-Full-clause-silent
 returns-in-Full-clause-silent g c = λ words. turn_says _ _ _ _ _ words _ _ _ c.in-Full.ensures.turn tt
 
-pub returns-in_default-clause-silent : goal.returns-in_default-clause-silent
-returns-in_default-clause-silent g c = λ words. turn_says _ _ _ _ _ words _ _ _ c.turn.ensures.turn tt
+pub returns-in-Memory-clause-silent : goal.returns-in-Memory-clause-silent
+returns-in-Memory-clause-silent g c = λ words. turn_says _ _ _ _ _ words _ _ _ c.in-Memory.ensures.turn tt
+
+pub returns-in-Begun-clause-calm : goal.returns-in-Begun-clause-calm
+returns-in-Begun-clause-calm g c = turn_calm _ _ _ _ _ _ _ _ c.in-Begun.ensures.turn tt
+
+pub returns-in-Memory-clause-memory : goal.returns-in-Memory-clause-memory
+returns-in-Memory-clause-memory g c = λ _. turn_calm _ _ _ _ _ _ _ _ c.in-Memory.ensures.turn tt
+
+pub unreachable-requires : goal.unreachable-requires
+unreachable-requires g c = begin_answers _ _ _ _ _ _ _ _ _ c.turn.ensures.turn c.in_default.not-Begun c.in_default.not-Full c.in_default.not-Memory

@@ -6,6 +6,8 @@ use Rattle.virtual_log.proofs.Owning.{own_split, still_trans, still_refl}
 use Rattle.virtual_log.proofs.Writing.{turn_wrote, wrote_refl, wrote_trans, wrote_by}
 use Rattle.virtual_log.proofs.Sealing.{turn_none, seals_refl, seals_trans, seals_as}
 use Rattle.virtual_log.proofs.Saying.{turn_says, says_refl, says_on}
+use Rattle.virtual_log.proofs.Calming.{turn_calm, calm_refl, calm_then}
+use Rattle.virtual_log.proofs.Answering.{carry_answers}
 use Rattle.virtual_log.proofs.turn.carry_on.Goals as goal
 
 pub turn-requires-clause-may : goal.turn-requires-clause-may
@@ -59,6 +61,8 @@ loop-answer-preserved g c =
           (wrote_by _ _ _ _ l.invariant.who (turn_wrote p.may p.floor p.shelf _ _ _ _ _ c.in-Going.ensures.turn c.in-Going.ensures.turn.event refl));
       unsealed = seals_trans (t.who c.args.turns.now) (t.seen c.args.turns.now) (t.seen l.turns) (t.seen c.turn.new.self) l.invariant.unsealed
           (seals_as _ _ _ _ l.invariant.who (turn_none p.may p.floor p.shelf _ _ _ _ _ c.in-Going.ensures.turn refl));
+      calm = calm_then (t.who c.args.turns.now) (t.who l.turns) (t.seen c.args.turns.now) (t.seen l.turns) (t.seen c.turn.new.self) l.invariant.who l.invariant.calm
+          (turn_calm p.may p.floor p.shelf _ _ _ _ _ c.in-Going.ensures.turn tt);
       words = says_on (g.C.Chooser.may c.args.chooser.now) (g.C.Chooser.may l.chooser) (t.who c.args.turns.now) (t.who l.turns) (t.seen c.args.turns.now) (t.seen l.turns) (t.seen c.turn.new.self) l.invariant.same l.invariant.who l.invariant.words
           (turn_says p.may p.floor p.shelf (t.who l.turns) (t.seen l.turns) (g.C.Chooser.may l.chooser) _ _ _ c.in-Going.ensures.turn c.word-word.ensures.given);
       same = c.word-word.ensures.same ∙ l.invariant.same;
@@ -86,6 +90,7 @@ loop-answer-init g c =
       still = λ alone. still_refl (state_of old);
       quiet = wrote_refl (t.who c.args.turns.now) old (nil old);
       unsealed = seals_refl (t.who c.args.turns.now) old;
+      calm = calm_refl (t.who c.args.turns.now) old;
       words = says_refl (g.C.Chooser.may c.args.chooser.now) (t.who c.args.turns.now) old;
       same = refl;
     }
@@ -98,13 +103,13 @@ returns-in-Done-clause-unsealed g c =
     seals_trans (t.who c.args.turns.now) (t.seen c.args.turns.now) (t.seen l.turns) (t.seen c.turn.new.self) l.invariant.unsealed
     (seals_as _ _ _ _ l.invariant.who (turn_none p.may p.floor p.shelf _ _ _ _ _ c.in-Done.ensures.turn refl))
 
-pub returns-in_default-clause-unsealed : goal.returns-in_default-clause-unsealed
-returns-in_default-clause-unsealed g c =
+pub returns-in-Memory-clause-unsealed : goal.returns-in-Memory-clause-unsealed
+returns-in-Memory-clause-unsealed g c =
     let t = g.T.Turns in
     let p = g.T.Law.Rules in
     let l = c.loop-answer in
     seals_trans (t.who c.args.turns.now) (t.seen c.args.turns.now) (t.seen l.turns) (t.seen c.turn.new.self) l.invariant.unsealed
-    (seals_as _ _ _ _ l.invariant.who (turn_none p.may p.floor p.shelf _ _ _ _ _ c.turn.ensures.turn refl))
+    (seals_as _ _ _ _ l.invariant.who (turn_none p.may p.floor p.shelf _ _ _ _ _ c.in-Memory.ensures.turn refl))
 
 pub returns-in-Done-clause-words : goal.returns-in-Done-clause-words
 returns-in-Done-clause-words g c =
@@ -114,10 +119,36 @@ returns-in-Done-clause-words g c =
     says_on (g.C.Chooser.may c.args.chooser.now) (g.C.Chooser.may l.chooser) (t.who c.args.turns.now) (t.who l.turns) (t.seen c.args.turns.now) (t.seen l.turns) (t.seen c.turn.new.self) l.invariant.same l.invariant.who l.invariant.words
     (turn_says p.may p.floor p.shelf (t.who l.turns) (t.seen l.turns) (g.C.Chooser.may l.chooser) _ _ _ c.in-Done.ensures.turn c.word-word.ensures.given)
 
-pub returns-in_default-clause-words : goal.returns-in_default-clause-words
-returns-in_default-clause-words g c =
+pub returns-in-Memory-clause-words : goal.returns-in-Memory-clause-words
+returns-in-Memory-clause-words g c =
     let t = g.T.Turns in
     let p = g.T.Law.Rules in
     let l = c.loop-answer in
     says_on (g.C.Chooser.may c.args.chooser.now) (g.C.Chooser.may l.chooser) (t.who c.args.turns.now) (t.who l.turns) (t.seen c.args.turns.now) (t.seen l.turns) (t.seen c.turn.new.self) l.invariant.same l.invariant.who l.invariant.words
-    (turn_says p.may p.floor p.shelf (t.who l.turns) (t.seen l.turns) (g.C.Chooser.may l.chooser) _ _ _ c.turn.ensures.turn c.word-word.ensures.given)
+    (turn_says p.may p.floor p.shelf (t.who l.turns) (t.seen l.turns) (g.C.Chooser.may l.chooser) _ _ _ c.in-Memory.ensures.turn c.word-word.ensures.given)
+
+pub returns-in-Done-clause-calm : goal.returns-in-Done-clause-calm
+returns-in-Done-clause-calm g c = λ is.
+    let t = g.T.Turns in
+    let p = g.T.Law.Rules in
+    let l = c.loop-answer in
+    calm_then (t.who c.args.turns.now) (t.who l.turns) (t.seen c.args.turns.now) (t.seen l.turns) (t.seen c.turn.new.self) l.invariant.who l.invariant.calm
+    (turn_calm p.may p.floor p.shelf _ _ _ _ _ c.in-Done.ensures.turn is)
+
+pub returns-in-Memory-clause-memory : goal.returns-in-Memory-clause-memory
+returns-in-Memory-clause-memory g c =
+    let t = g.T.Turns in
+    let p = g.T.Law.Rules in
+    let l = c.loop-answer in
+    calm_then (t.who c.args.turns.now) (t.who l.turns) (t.seen c.args.turns.now) (t.seen l.turns) (t.seen c.turn.new.self) l.invariant.who l.invariant.calm
+    (turn_calm p.may p.floor p.shelf _ _ _ _ _ c.in-Memory.ensures.turn tt)
+
+pub unreachable-requires : goal.unreachable-requires
+unreachable-requires g c =
+    let t = g.T.Turns in
+    let p = g.T.Law.Rules in
+    let l = c.loop-answer in
+    let r = c.requires.own.0 in
+    carry_answers p.may p.floor p.shelf (t.who l.turns) (t.seen l.turns) (t.seen c.turn.new.self) c.args.cell c.args.ticket _ r _ l.invariant.later.legal
+    (subst (λ k. IsOwn ((state_of (t.seen l.turns)).cells c.args.cell) k c.args.ticket r) (sym l.invariant.who) (l.invariant.own r c.requires.own.1))
+    c.turn.ensures.turn c.in_default.not-Done c.in_default.not-Going c.in_default.not-Memory

@@ -3,6 +3,7 @@ use Rattle.legal_journal.specs.Told.{Running}
 use Rattle.legal_journal.specs.Journal.{state_of, IsOwn, patience}
 use Rattle.virtual_log.specs.Turning.{OnlyOwn, Still, Later}
 use Rattle.virtual_log.specs.Writing.{WroteNone}
+use Rattle.virtual_log.specs.Causes.{CalmSince}
 use Rattle.virtual_log.specs.Sealing.{SealsNone}
 use Rattle.virtual_log.specs.Saying.{SaysOnly}
 use Rattle.virtual_log.proofs.turn.carry_on.Given as goal
@@ -19,6 +20,7 @@ invariant-loop-answer g l =
       still : OnlyOwn (t.who l.fn.turns) (t.seen l.fn.turns) (t.seen l.turns) → Still (state_of (t.seen l.fn.turns)) (state_of (t.seen l.turns));
       quiet : WroteNone (t.who l.fn.turns) (t.seen l.fn.turns) (t.seen l.turns);
       unsealed : SealsNone (t.who l.fn.turns) (t.seen l.fn.turns) (t.seen l.turns);
+      calm : CalmSince (t.who l.fn.turns) (t.seen l.fn.turns) (t.seen l.turns);
       words : SaysOnly (may l.fn.chooser) (t.who l.fn.turns) (t.seen l.fn.turns) (t.seen l.turns);
       same : may l.chooser ≡ may l.fn.chooser;
     }
