@@ -1,10 +1,11 @@
 -- The register counted each write in which it failed, and each call while it was down.
-use Rattle.std.proofs.Common.{◌≡◌, refl, sym, ap, ◌∙◌, subst, inl, inr, ℕ, ◌+◌, ◌-◌, ◌^◌, ◌≤◌, min, Bool, true, false, List, [], ◌∷◌, length, arith}
+use Rattle.std.proofs.Common.{◌≡◌, refl, sym, ap, ◌∙◌, subst, inl, inr, ℕ, ◌+◌, ◌-◌, ◌^◌, ◌≤◌, min, Bool, true, false, List, [], ◌∷◌, length, Option, None, Some, arith}
 use Rattle.std.specs.Prelude.{MatchBool, count_by, filter}
 use Rattle.delos_types.specs.declared.entry.Entry.{Entry}
+use Rattle.delos_types.specs.declared.chain.Chain.{Chain}
 use Rattle.loglet_api.specs.declared.call.Answer.TheVariants as answers
 use Rattle.register_api.specs.View.{RegisterView}
-use Rattle.register_api.specs.Calls.{Rose, IsDown}
+use Rattle.register_api.specs.Calls.{Rose, IsDown, reopened}
 use Rattle.legal_journal.specs.declared.events.Event.{Event}
 use Rattle.legal_journal.specs.declared.events.FabricCall.{FabricCall}
 use Rattle.legal_journal.specs.declared.events.FabricCall.TheVariants.{Begin, Carry, Forget, ReadChain, WriteChain, Stop, Mend, Stray, StopMeta, MendMeta}
@@ -30,16 +31,21 @@ rose : (n : ℕ) (old new : RegisterView) → n ≤ 1 → Rose old.faults new.fa
 rose n old new small (inl h) = omega (arith, small, h)
 rose n old new small (inr h) = omega (arith, small, h)
 
+reopened-faults : (v : RegisterView) (kept : Bool) (o : Option Chain) → (reopened v kept o).faults ≡ v.faults
+reopened-faults v kept None = refl
+reopened-faults v true (Some c) = refl
+reopened-faults v false (Some c) = refl
+
 -- each call counts its fault
 does : (c : FabricCall) (a : FabricAnswer) (old new : RegisterView) → RegisterDoes old c a new → Counted (weight is_meta (fault_of a c)) old new
 does ReadChain (fabric.At version chain) old new d = let e = ap (λ (v : RegisterView). v.faults) d.told in omega (arith, e)
 does ReadChain fabric.Down old new d = down old new d
-does (WriteChain x c) (fabric.Written version) old new d = let k = d.rises in omega (arith, k)
+does (WriteChain x c) (fabric.Written version) old new d = let e = ap (λ (v : RegisterView). v.faults) d.stands in omega (arith, e)
 does (WriteChain x c) (fabric.Conflict version chain) old new d = let e = ap (λ (v : RegisterView). v.faults) d.0.told in omega (arith, e)
 does (WriteChain x c) fabric.MetaFault old new d = rose 1 old new (omega arith) d.rose
 does (WriteChain x c) fabric.Down old new d = down old new d
 does (StopMeta n) (fabric.Set true) old new d = let e = ap (λ (v : RegisterView). v.faults) d in omega (arith, e)
-does (MendMeta word) (fabric.Set true) old new d = let k = d.0 in omega (arith, k)
+does (MendMeta word) (fabric.Set true) old new d = let e = ap (λ (v : RegisterView). v.faults) d.1.1 ∙ reopened-faults old d.1.0 old.asked in omega (arith, e)
 does (MendMeta word) (fabric.Set false) old new d = rose 0 old new (omega arith) d.1
 does c a old new d = absurd d
 
