@@ -2,6 +2,7 @@
 ghost use Rattle.std.specs.Prelude.{◌≡◌, ◌+◌, ◌-◌, ◌^◌, OnErr, OnOk, min};
 ghost use Rattle.loglet_api.specs.Answers.{begin_answer, carry_answer, stray_answer, restart_answer};
 ghost use Rattle.loglet_api.specs.Step.{CanCall, LogletStep};
+ghost use Rattle.loglet_api.specs.Servers.{Serves};
 ghost use Rattle.loglet_api.specs.declared.call.LogletAnswer.{LogletAnswer};
 ghost use Rattle.counted_loglet.specs.Counts.{appends_in};
 
@@ -40,6 +41,8 @@ fn appends_in(op: &Op) -> u64
 impl<L: Loglet> Loglet for Counted<L> {
     ghost view = { λ c. L.view c.inner };
 
+    ghost serving = { λ c. L.serving c.inner };
+
     fn kind(&self) -> Kind {
         self.inner.kind()
     }
@@ -72,6 +75,7 @@ impl<L: Loglet> Loglet for Counted<L> {
     fn begin(&mut self, op: Op) -> Result<Ticket, Refused>
         requires { CanCall (L.view self.old.inner) (LogletCall.Begin op) }
         ensures step { LogletStep (L.view self.old.inner) (LogletCall.Begin op) (begin_answer result) (L.view self.new.inner) }
+        ensures serves { Serves (L.serving self.old.inner) (LogletCall.Begin op) (begin_answer result) (L.serving self.new.inner) }
         ensures counted { OnOk result (self.new.appends ≡ min (self.old.appends + appends_in op) (2 ^ 64 - 1)) }
         ensures refused { OnErr result (self.new.appends ≡ self.old.appends) }
     {
@@ -84,6 +88,7 @@ impl<L: Loglet> Loglet for Counted<L> {
     fn carry(&mut self, ticket: Ticket, word: u64) -> Result<(), Refused>
         requires { CanCall (L.view self.old.inner) (LogletCall.Carry ticket word) }
         ensures step { LogletStep (L.view self.old.inner) (LogletCall.Carry ticket word) (carry_answer result) (L.view self.new.inner) }
+        ensures serves { Serves (L.serving self.old.inner) (LogletCall.Carry ticket word) (carry_answer result) (L.serving self.new.inner) }
         ensures keeps { self.new.appends ≡ self.old.appends }
     {
         self.inner.carry(ticket, word)
@@ -92,6 +97,7 @@ impl<L: Loglet> Loglet for Counted<L> {
     fn take(&mut self, ticket: Ticket) -> Option<Answer>
         requires { CanCall (L.view self.old.inner) (LogletCall.Take ticket) }
         ensures step { LogletStep (L.view self.old.inner) (LogletCall.Take ticket) (LogletAnswer.Taken result) (L.view self.new.inner) }
+        ensures serves { Serves (L.serving self.old.inner) (LogletCall.Take ticket) (LogletAnswer.Taken result) (L.serving self.new.inner) }
         ensures keeps { self.new.appends ≡ self.old.appends }
     {
         self.inner.take(ticket)
@@ -100,6 +106,7 @@ impl<L: Loglet> Loglet for Counted<L> {
     fn forget(&mut self, ticket: Ticket)
         requires { CanCall (L.view self.old.inner) (LogletCall.Forget ticket) }
         ensures step { LogletStep (L.view self.old.inner) (LogletCall.Forget ticket) LogletAnswer.Forgotten (L.view self.new.inner) }
+        ensures serves { Serves (L.serving self.old.inner) (LogletCall.Forget ticket) LogletAnswer.Forgotten (L.serving self.new.inner) }
         ensures keeps { self.new.appends ≡ self.old.appends }
     {
         self.inner.forget(ticket)
@@ -111,6 +118,7 @@ impl<L: Loglet> Loglet for Counted<L> {
 
     fn stray(&mut self, word: u64) -> Result<(), Refused>
         ensures step { LogletStep (L.view self.old.inner) (LogletCall.Stray word) (stray_answer result) (L.view self.new.inner) }
+        ensures serves { Serves (L.serving self.old.inner) (LogletCall.Stray word) (stray_answer result) (L.serving self.new.inner) }
         ensures keeps { self.new.appends ≡ self.old.appends }
     {
         self.inner.stray(word)
@@ -119,6 +127,7 @@ impl<L: Loglet> Loglet for Counted<L> {
     fn stop(&mut self, server: u32, after: u64)
         requires { CanCall (L.view self.old.inner) (LogletCall.Stop server after) }
         ensures step { LogletStep (L.view self.old.inner) (LogletCall.Stop server after) LogletAnswer.Stopped (L.view self.new.inner) }
+        ensures serves { Serves (L.serving self.old.inner) (LogletCall.Stop server after) LogletAnswer.Stopped (L.serving self.new.inner) }
         ensures keeps { self.new.appends ≡ self.old.appends }
     {
         self.inner.stop(server, after)
@@ -127,6 +136,7 @@ impl<L: Loglet> Loglet for Counted<L> {
     fn restart(&mut self, server: u32, word: u64) -> Result<bool, Refused>
         requires { CanCall (L.view self.old.inner) (LogletCall.Restart server word) }
         ensures step { LogletStep (L.view self.old.inner) (LogletCall.Restart server word) (restart_answer result) (L.view self.new.inner) }
+        ensures serves { Serves (L.serving self.old.inner) (LogletCall.Restart server word) (restart_answer result) (L.serving self.new.inner) }
         ensures keeps { self.new.appends ≡ self.old.appends }
     {
         self.inner.restart(server, word)

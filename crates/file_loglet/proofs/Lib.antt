@@ -5,4 +5,5 @@ mod Sound
 mod Told
 mod Steps
 mod Wholes
+mod Serving
 mod Calls

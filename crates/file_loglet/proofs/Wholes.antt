@@ -1,6 +1,6 @@
 -- A file loglet as its parts: its fields, its server and its disk.
 use Rattle.std.proofs.Common.{◌≡◌, ℕ, ◌+◌, ◌-◌, ◌<◌, ◌≤◌, Bool, nat_eq, nat_lt, not, ◌&&◌, true, false, Option, Some, None, List, is_some, refl, inl, inr, ap, sym, ◌∙◌, subst, arith}
-use Rattle.std.specs.Prelude.{slice_get, if◌then◌else◌}
+use Rattle.std.specs.Prelude.{slice_get, if◌then◌else◌, Ok}
 use Rattle.std.specs.HashMap.{get, Updates, hash_map_len}
 use Rattle.std.proofs.lemmas.Bool.{cases_Bool}
 use Rattle.std.proofs.lemmas.Bool.Decides.{nat_tests}
@@ -16,7 +16,7 @@ use Rattle.majority_rule.specs.declared.message.Ask.TheVariants.{Store, Seal, Ta
 use Rattle.majority_rule.specs.Servers.{Server, length_of, is_sealed, writes, wrote, written, restarted}
 use Rattle.file_loglet.specs.declared.marks.Marks.{Marks}
 use Rattle.file_loglet.specs.declared.pending.Pending.{Pending}
-use Rattle.file_loglet.specs.Held.{Held, Rises}
+use Rattle.file_loglet.specs.Held.{Held, Rises, Brings}
 use Rattle.file_loglet.specs.Later.{MayStand, IsLater, MayFail}
 use Rattle.disk_model.specs.Disk.{DiskView}
 use Rattle.file_loglet.specs.Pending.{PendingMap, Fits, left_of}
@@ -167,7 +167,7 @@ wrote_up s (Trim n) h = h
 written_up : (s : Server) (ask : Ask) → s.up ≡ true → (written s ask).up ≡ true
 written_up s ask h = elim (cases_Bool (writes s ask)) [ inl does ↦ rw does (wrote_up s ask h) | inr doesnt ↦ rw doesnt h ]
 
-restarted_up : (s : Server) (kept : Bool) (torn : Option Ask) → (restarted s kept torn).up ≡ true
+pub restarted_up : (s : Server) (kept : Bool) (torn : Option Ask) → (restarted s kept torn).up ≡ true
 restarted_up s kept None = refl
 restarted_up s true (Some ask) = written_up (record s { up = true; torn = None }) ask refl
 restarted_up s false (Some ask) = refl
@@ -182,6 +182,14 @@ restart_later room es old new marks m kept h e =
 
 pub seals_begun : (n : ℕ) → nat_lt 0 n ≡ true → 1 ≤ n
 seals_begun n h = let lt : 0 < n = grind (arith, nat_tests) in omega arith
+
+-- ---- a word is noted
+
+pub given_whole : (room : ℕ) (es : List Entry) (held : Held) (marks marks' : Marks) (m : PendingMap) (word : ℕ) → IsWhole room es held marks m → marks' ≡ record marks { word = word } → IsWhole room es held marks' m
+given_whole room es held marks marks' m word h em = rw em (record { file = h.file; copies = h.copies; torn = h.torn })
+
+pub given_shown : (room : ℕ) (es : List Entry) (held : Held) (marks marks' : Marks) (m : PendingMap) (word : ℕ) → marks' ≡ record marks { word = word } → loglet_of (state_of room es held marks' m) ≡ loglet_of (state_of room es held marks m)
+given_shown room es held marks marks' m word em = rw em refl
 
 -- ---- steps, by the parts
 
@@ -211,9 +219,12 @@ same_stop : (b : Bool) (d : DiskView) (n : ℕ) → (if b then d else record d {
 same_stop true d n = refl
 same_stop false d n = refl
 
+pub stop_faults : (old new : Held) (n : ℕ) → new.disk ≡ (if old.disk.stopped then old.disk else record old.disk { armed = n }) → new.disk.faults ≡ old.disk.faults
+stop_faults old new n d = ap (λ (x : DiskView). x.faults) d ∙ same_stop old.disk.stopped old.disk n
+
 pub stop_shown : (room : ℕ) (es : List Entry) (old new : Held) (marks : Marks) (m : PendingMap) (n : ℕ) → new.server ≡ old.server → new.disk ≡ (if old.disk.stopped then old.disk else record old.disk { armed = n })
     → loglet_of (state_of room es new marks m) ≡ loglet_of (state_of room es old marks m)
-stop_shown room es old new marks m n e d = same_shown room es old new marks m e (ap (λ (x : DiskView). x.faults) d ∙ same_stop old.disk.stopped old.disk n)
+stop_shown room es old new marks m n e d = same_shown room es old new marks m e (stop_faults old new n d)
 
 pub forgotten : (room : ℕ) (es : List Entry) (held : Held) (marks : Marks) (m n : PendingMap) (t : ℕ) → IsWhole room es held marks m → Updates nat_eq m n t None → hash_map_len n ≤ hash_map_len m
     → IsWhole room es held marks n × Forgets (loglet_of (state_of room es held marks m)) t (loglet_of (state_of room es held marks n))
@@ -259,13 +270,6 @@ restarts_not room es old new marks m h was e f =
       },
     )
 
--- nothing is seen of a want of memory
-pub whole_same : (room : ℕ) (es : List Entry) (old new : Held) (marks : Marks) (m : PendingMap) → IsWhole room es old marks m → new.server ≡ old.server → new.disk.faults ≡ old.disk.faults → IsWhole room es new marks m
-whole_same room es old new marks m h e f =
-    let l : IsLater es marks.cut (nat_lt 0 marks.seals) old.server new.server = subst (λ (s : Server). IsLater es marks.cut (nat_lt 0 marks.seals) old.server s) (sym e) (later_same es marks.cut (nat_lt 0 marks.seals) old.server) in
-    let o = carried_onward room es old new marks m (nat_lt 0 marks.seals) h (seals_begun marks.seals) l (inl (ap (λ (s : Server). s.up) e, f)) in
-    whole_onward room es old new marks m (nat_lt 0 marks.seals) h (seals_begun marks.seals) l o
-
 pub idle_restart : (room : ℕ) (es : List Entry) (held : Held) (marks : Marks) (m : PendingMap) → IsWhole room es held marks m → held.server.up ≡ true → Restarts (loglet_of (state_of room es held marks m)) true (loglet_of (state_of room es held marks m))
 idle_restart room es held marks m h up =
     record {
@@ -275,13 +279,32 @@ idle_restart room es held marks m h up =
       idle = λ x. (refl, refl);
     }
 
+-- it is up, or came up, or failed; and the word is noted
+pub brought_whole : (room : ℕ) (es : List Entry) (old new : Held) (marks marks' : Marks) (m : PendingMap) (word : ℕ) (up : Bool) → IsWhole room es old marks m → Brings old (Ok up) new → marks' ≡ record marks { word = word }
+    → IsWhole room es new marks' m × Restarts (loglet_of (state_of room es old marks m)) up (loglet_of (state_of room es new marks' m))
+brought_whole room es old new marks marks' m word true h (inl idle) em = rw (em, idle.1) (record { file = h.file; copies = h.copies; torn = h.torn }, idle_restart room es old marks m h idle.0)
+brought_whole room es old new marks marks' m word true h (inr b) em =
+    let all = restarts_up room es old new marks m b.kept h b.was b.server b.faults in
+    rw em (record { file = all.0.file; copies = all.0.copies; torn = all.0.torn }, all.1)
+brought_whole room es old new marks marks' m word false h b em =
+    let all = restarts_not room es old new marks m h b.0 b.1 b.2 in
+    rw em (record { file = all.0.file; copies = all.0.copies; torn = all.0.torn }, all.1)
+
+-- nothing is seen of a want of memory
+pub whole_same : (room : ℕ) (es : List Entry) (old new : Held) (marks : Marks) (m : PendingMap) → IsWhole room es old marks m → new.server ≡ old.server → new.disk.faults ≡ old.disk.faults → IsWhole room es new marks m
+whole_same room es old new marks m h e f =
+    let l : IsLater es marks.cut (nat_lt 0 marks.seals) old.server new.server = subst (λ (s : Server). IsLater es marks.cut (nat_lt 0 marks.seals) old.server s) (sym e) (later_same es marks.cut (nat_lt 0 marks.seals) old.server) in
+    let o = carried_onward room es old new marks m (nat_lt 0 marks.seals) h (seals_begun marks.seals) l (inl (ap (λ (s : Server). s.up) e, f)) in
+    whole_onward room es old new marks m (nat_lt 0 marks.seals) h (seals_begun marks.seals) l o
+
 -- ---- what ties the parts together
 
 pub served : (room : ℕ) (es : List Entry) (held : Held) (marks : Marks) (m : PendingMap) (w : FileView) → file_view room es held marks m ≡ w → IsWhole room es held marks m
-    → LeavesRecords held.disk (λ found. (kept : Bool) × (server_of found ≡ Some (restarted held.server kept held.server.torn))) → IsServed w
-served room es held marks m w e h left =
+    → LeavesRecords held.disk (λ found. (kept : Bool) × (server_of found ≡ Some (restarted held.server kept held.server.torn))) → (held.server.up ≡ true → held.disk.stopped ≡ false) → IsServed w
+served room es held marks m w e h left running =
     subst IsServed e (record {
       left = left;
+      running = running;
       shut = refl;
       down = refl;
       faults = refl;

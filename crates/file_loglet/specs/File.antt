@@ -1,32 +1,49 @@
 -- What a file loglet shows, and what holds of it.
-use Rattle.std.specs.Prelude.{◌≡◌, ℕ, ◌-◌, ◌≤◌, ◌⊎◌, Bool, Some, List, slice_get}
+use Rattle.std.specs.Prelude.{◌≡◌, ℕ, ◌-◌, ◌≤◌, ◌⊎◌, ◌&&◌, Bool, true, false, Some, List, [], ◌∷◌, slice_get, Result, Ok, Err}
 use Rattle.delos_types.specs.declared.entry.Entry.{Entry}
 use Rattle.disk_model.specs.Disk.{DiskView}
 use Rattle.journal_core.specs.Journal.{LeavesRecords}
+use Rattle.loglet_api.specs.declared.call.Refused.{Refused}
+use Rattle.loglet_api.specs.declared.call.Refused.TheVariants.{Full}
 use Rattle.loglet_api.specs.View.{LogletView, Operation, operation_at, IsDecided}
-use Rattle.loglet_api.specs.Step.{RoseBy}
+use Rattle.loglet_api.specs.Servers.{ServerState, ServersView}
+use Rattle.loglet_api.specs.Step.{RoseBy, bumped}
 use Rattle.majority_rule.specs.Servers.{Server, length_of, is_sealed, restarted}
 use Rattle.server_records.specs.Spelled.{server_of}
 use Rattle.file_loglet.specs.declared.marks.Marks.{Marks}
-use Rattle.file_loglet.specs.Held.{Held}
+use Rattle.file_loglet.specs.Held.{Held, is_armed}
 use Rattle.file_loglet.specs.Pending.{PendingMap}
 use Rattle.file_loglet.specs.State.{counted, down_of, state_of, loglet_of}
 
--- A file loglet: what every loglet shows, its server, its disk, and how many operations it refused as full.
+-- A file loglet: what every loglet shows, its server, its disk, how many operations it refused as full, and the word or
+-- count that it was given last.
 pub record FileView : Type 0 where
   pub loglet : LogletView
   pub server : Server
   pub disk : DiskView
   pub refusals : ℕ
+  pub word : ℕ
 
 abbrev pub file_view : ℕ → List Entry → Held → Marks → PendingMap → FileView
 file_view room entries held marks pending =
-    record { loglet = loglet_of (state_of room entries held marks pending); server = held.server; disk = held.disk; refusals = marks.refusals }
+    record { loglet = loglet_of (state_of room entries held marks pending); server = held.server; disk = held.disk; refusals = marks.refusals; word = marks.word }
+
+abbrev pub held_in : FileView → Held
+held_in v = record { server = v.server; disk = v.disk }
+
+-- what is seen of a server
+abbrev pub state_in : Held → ServerState
+state_in h = record { up = h.server.up; armed = h.server.up && is_armed h; faults = h.disk.faults }
+
+abbrev pub serving_of : FileView → ServersView
+serving_of v = record { states = state_in (held_in v) ∷ []; told = v.word }
 
 -- What ties the parts of a file loglet together, at every moment.
 pub record IsServed (v : FileView) : Type 0 where
   -- a crash leaves records that spell the server, with its torn write or without
   pub left : LeavesRecords v.disk (λ found. (kept : Bool) × (server_of found ≡ Some (restarted v.server kept v.server.torn)))
+  -- the disk of a server that is up isn't stopped
+  pub running : v.server.up ≡ true → v.disk.stopped ≡ false
   -- the loglet is shut where the server is sealed, and has it down where it is down
   pub shut : v.loglet.shut ≡ is_sealed v.server
   pub down : v.loglet.down ≡ down_of v.server.up
@@ -43,3 +60,9 @@ pub record IsDecidedAtOnce (old : LogletView) (t : ℕ) (new : LogletView) : Typ
   pub is : operation_at new.operations t ≡ Some operation
   pub decided : IsDecided operation
   pub failed : ((new.faults ≡ old.faults) × (new.down ≡ old.down)) ⊎ ((new.down ≡ 1) × RoseBy 1 old.faults new.faults)
+
+-- A begin counts a refusal as full, and that alone; it leaves the server and its disk.
+abbrev pub Counts : {U : Type 0} → FileView → Result U Refused → FileView → Type 0
+Counts old (Ok u) new = new ≡ record old { loglet = new.loglet }
+Counts old (Err Full) new = new ≡ record old { loglet = new.loglet; refusals = bumped old.refusals }
+Counts old (Err refused) new = new ≡ old

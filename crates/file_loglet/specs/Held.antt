@@ -1,12 +1,13 @@
 -- The server of a file loglet: what the records of its journal spell, and its disk.
-use Rattle.std.specs.Prelude.{◌≡◌, ℕ, ◌^◌, ◌≤◌, ◌<◌, true, false, not, Option, Some, None, option_map, unwrap_or, List, Result, Ok, Err}
+use Rattle.std.specs.Prelude.{◌≡◌, ◌⊎◌, ℕ, ◌^◌, ◌≤◌, ◌<◌, nat_lt, Bool, true, false, not, Option, Some, None, option_map, unwrap_or, List, Result, Ok, Err}
+use Rattle.std.specs.declared.alloc.AllocError.{AllocError}
 use Rattle.disk_model.specs.Disk.{DiskView, Rose}
 use Rattle.journal_core.specs.Journal.{View, Survives}
 use Rattle.journal_core.specs.declared.fault.Fault.{Fault}
 use Rattle.journal_core.specs.declared.fault.Fault.TheVariants.{Disk, Memory}
 use Rattle.majority_rule.specs.declared.message.Ask.{Ask}
 use Rattle.majority_rule.specs.declared.message.Ask.TheVariants.{Store, Seal, Tail, Trim}
-use Rattle.majority_rule.specs.Servers.{Server, length_of, writes, wrote}
+use Rattle.majority_rule.specs.Servers.{Server, length_of, writes, wrote, restarted}
 use Rattle.server_records.specs.declared.record.Record.{Record}
 use Rattle.server_records.specs.declared.record.Record.TheVariants.{Stored, Sealed, Trimmed}
 use Rattle.server_records.specs.Reading.{record_of}
@@ -21,6 +22,10 @@ use Rattle.file_loglet.specs.Extents.{extent_of}
 pub record Held : Type 0 where
   pub server : Server
   pub disk : DiskView
+
+-- whether the disk is to stop inside a later write
+abbrev pub is_armed : Held → Bool
+is_armed h = nat_lt 0 h.disk.armed
 
 -- the request for which a record is written
 abbrev pub ask_by : Option Record → Ask
@@ -65,8 +70,22 @@ pub record IsHeldBy (j : View) (extent : Extent) (torn : Option Change) : Type 0
 abbrev pub Rises : ℕ → ℕ → Type 0
 Rises before now = (before ≤ now) × Rose before now
 
--- A server that is up writes for this request. Where its disk fails it is down.
+-- A server that is up writes for this request. Where its disk fails it is down; else the disk is armed or not as before.
 abbrev pub Writes : {U : Type 0} → Held → Ask → Result U Fault → Held → Type 0
-Writes old ask (Ok u) new = (new.server ≡ wrote old.server ask) × (new.disk.faults ≡ old.disk.faults)
+Writes old ask (Ok u) new = (new.server ≡ wrote old.server ask) × (new.disk.faults ≡ old.disk.faults) × (is_armed new ≡ is_armed old)
 Writes old ask (Err Disk) new = (new.server ≡ record old.server { up = false; torn = Some ask }) × Rises old.disk.faults new.disk.faults
-Writes old ask (Err Memory) new = (new.server ≡ old.server) × (new.disk.faults ≡ old.disk.faults)
+Writes old ask (Err Memory) new = (new.server ≡ old.server) × (new.disk.faults ≡ old.disk.faults) × (is_armed new ≡ is_armed old)
+
+-- a server that was down came up, with its torn write done or not, and no write of its disk is to stop
+pub record ComesUp (old new : Held) : Type 0 where
+  pub was : old.server.up ≡ false
+  pub kept : Bool
+  pub server : new.server ≡ restarted old.server kept old.server.torn
+  pub faults : new.disk.faults ≡ old.disk.faults
+  pub disarmed : new.disk.armed ≡ 0
+
+-- A restart: one that is up stays as it is. One that is down comes up; or its disk failed, or memory was wanting.
+abbrev pub Brings : Held → Result Bool AllocError → Held → Type 0
+Brings old (Ok true) new = ((old.server.up ≡ true) × (new ≡ old)) ⊎ ComesUp old new
+Brings old (Ok false) new = (old.server.up ≡ false) × (new.server ≡ old.server) × Rises old.disk.faults new.disk.faults
+Brings old (Err u) new = (old.server.up ≡ false) × (new.server ≡ old.server) × (new.disk.faults ≡ old.disk.faults)

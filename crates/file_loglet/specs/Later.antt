@@ -8,7 +8,7 @@ use Rattle.journal_core.specs.declared.fault.Fault.TheVariants.{Disk, Memory}
 use Rattle.majority_rule.specs.declared.message.Ask.{Ask}
 use Rattle.majority_rule.specs.declared.message.Ask.TheVariants.{Store, Seal, Trim}
 use Rattle.majority_rule.specs.Servers.{Server, length_of, is_sealed}
-use Rattle.file_loglet.specs.Held.{Held, Rises}
+use Rattle.file_loglet.specs.Held.{Held, is_armed, Rises}
 
 -- what the server holds stands in the log at its place
 pub record Copies (entries : List Entry) (s : Server) : Type 0 where
@@ -34,13 +34,19 @@ pub record IsLater (entries : List Entry) (cut : ℕ) (sealing : Bool) (old new 
 
 -- a server that was up went on: where its disk failed it is down
 abbrev pub GoesOn : {U : Type 0} → Held → Result U Fault → Held → Type 0
-GoesOn old (Ok u) new = (new.server.up ≡ true) × (new.disk.faults ≡ old.disk.faults)
+GoesOn old (Ok u) new = (new.server.up ≡ true) × (new.disk.faults ≡ old.disk.faults) × (is_armed new ≡ is_armed old)
 GoesOn old (Err Disk) new = (new.server.up ≡ false) × Rises old.disk.faults new.disk.faults
-GoesOn old (Err Memory) new = (new.server.up ≡ true) × (new.disk.faults ≡ old.disk.faults) × (is_sealed new.server ≡ is_sealed old.server)
+GoesOn old (Err Memory) new = (new.server.up ≡ true) × (new.disk.faults ≡ old.disk.faults) × (is_sealed new.server ≡ is_sealed old.server) × (is_armed new ≡ is_armed old)
 
 -- nothing failed, or the disk failed, and the server is down
 abbrev pub MayFail : Held → Held → Type 0
 MayFail old new = ((new.server.up ≡ old.server.up) × (new.disk.faults ≡ old.disk.faults)) ⊎ ((new.server.up ≡ false) × Rises old.disk.faults new.disk.faults)
+
+-- nothing failed, and the disk is armed or not as before; or that of a server that was up failed, and it is down
+abbrev pub Wears : Held → Held → Type 0
+Wears old new =
+    ((new.server.up ≡ old.server.up) × (new.disk.faults ≡ old.disk.faults) × (is_armed new ≡ is_armed old))
+    ⊎ ((old.server.up ≡ true) × (new.server.up ≡ false) × Rises old.disk.faults new.disk.faults)
 
 abbrev pub is_sealing : Task → Bool
 is_sealing Sealing = true

@@ -4,7 +4,8 @@ ghost use Rattle.delos_types.specs.Spelling.{IsSpellable};
 ghost use Rattle.delos_types.specs.declared.entry.Entry as given;
 ghost use Rattle.loglet_api.specs.declared.call.Answer.TheVariants.{Sealed};
 ghost use Rattle.majority_rule.specs.Servers.{length_of, is_sealed};
-ghost use Rattle.file_loglet.specs.Later.{IsLater, GoesOn, MayFail, is_sealing};
+ghost use Rattle.file_loglet.specs.Held.{is_armed};
+ghost use Rattle.file_loglet.specs.Later.{IsLater, GoesOn, MayFail, Wears, is_sealing};
 ghost use Rattle.file_loglet.specs.Pending.{Fits, told_at};
 
 use crate::pending::Pending;
@@ -40,9 +41,11 @@ pub fn decide<D: Disk>(
     requires shut { p.now.shut ≡ true → is_sealed server.old.server ≡ true }
     ensures later { IsLater entries.now cut (is_sealing p.now.task) server.old.server server.new.server }
     ensures may_fail { MayFail server.old server.new }
+    ensures wears { Wears server.old server.new }
     ensures fits { IfOk result (Fits entries.now (length_of server.new.server) (is_sealed server.new.server) (server.new.server.up ≡ false) p.now p.now.task) }
     ensures trimmed { (n : ℕ) → p.now.task ≡ Task.Trimming n → IfOk result (λ answer. answer ≡ Answer.TrimDone → cut ≤ server.new.server.base) }
     ensures memory { OnErr result ((server.new.server.up ≡ server.old.server.up) × (server.new.disk.faults ≡ server.old.disk.faults) × (is_sealed server.new.server ≡ is_sealed server.old.server)) }
+    ensures memory_armed { OnErr result (is_armed server.new ≡ is_armed server.old) }
 {
     if p.is_unspoken() {
         return Ok(Answer::Beyond(p.firm));

@@ -5,7 +5,9 @@ ghost use Rattle.journal_core.specs.Records.{records_of};
 ghost use Rattle.journal_core.specs.Journal.{AnyCrashLeaves};
 ghost use Rattle.loglet_api.specs.Step.{IsAppend};
 ghost use Rattle.loglet_api.specs.View.{IsFresh};
+ghost use Rattle.server_records.specs.Spelled.{empty_server};
 ghost use Rattle.file_loglet.specs.State.{counted};
+ghost use Rattle.file_loglet.specs.Held.{Brings};
 ghost use Rattle.file_loglet.specs.File.{IsServed};
 
 use crate::decide::{decide, told};
@@ -18,7 +20,7 @@ use disk_model::Disk;
 use journal_core::Fault;
 use loglet_api::call::{Answer, Kind, LogletAnswer, LogletCall, Op, Refused};
 use loglet_api::loglet::Loglet;
-use std::alloc::Global;
+use std::alloc::{AllocError, Global};
 use std::collections::HashMap;
 use std::marker::Model;
 
@@ -31,7 +33,7 @@ const LIMIT: u64 = 0x4000_0000_0000_0000;
 /// One `carry` decides an operation. It is `NoQuorum` where the disk fails in it or the server is
 /// down, and then the server is down until a `restart`, which finds the write done or not in which
 /// the disk failed. Its faults are those of its disk, and its `Full` answers. Words are ignored,
-/// but for that of `restart`.
+/// but for that of `restart`; the last is noted.
 ///
 /// Cost: an entry is written as one record, once, by the first `carry` that needs it; a Seal and a
 /// Trim write at most one record; a Read copies one entry; a restart reads the journal. All else
@@ -76,6 +78,8 @@ impl<D: Disk> FileLoglet<D> {
         ensures room { IfOk result (λ made. made.loglet.room ≡ room) }
         ensures kind { IfOk result (λ made. made.loglet.kind ≡ File) }
         ensures limit { IfOk result (λ made. made.loglet.limit ≡ 2 ^ 62) }
+        ensures disk { IfOk result (λ made. (made.server ≡ empty_server) × (made.disk.faults ≡ (D.view disk).faults) × (made.disk.armed ≤ (D.view disk).armed)) }
+        ensures untold { IfOk result (λ made. (made.refusals ≡ 0) × (made.word ≡ 0)) }
 
         // Why the disk came back, and that it is as good as before, or failed.
         ensures memory { IfErr result (λ e. e.fault ≡ Fault.Memory → ((D.view e.disk).timeline ≡ (D.view disk).timeline) × ((D.view e.disk).faults ≡ (D.view disk).faults)) }
@@ -111,11 +115,15 @@ impl<D: Disk> FileLoglet<D> {
 impl<D: Disk> Loglet for FileLoglet<D> {
     ghost use Rattle.std.specs.Prelude.{OnOk};
     ghost use Rattle.loglet_api.specs.Step.{CanCall, LogletStep};
-    ghost use Rattle.loglet_api.specs.Answers.{carry_answer, restart_answer};
+    ghost use Rattle.loglet_api.specs.Servers.{Serves};
+    ghost use Rattle.loglet_api.specs.Answers.{begin_answer, carry_answer, stray_answer, restart_answer};
     ghost use Rattle.majority_rule.specs.Servers.{restarted};
-    ghost use Rattle.file_loglet.specs.File.{IsDecidedAtOnce};
+    ghost use Rattle.file_loglet.specs.Later.{Wears};
+    ghost use Rattle.file_loglet.specs.File.{IsDecidedAtOnce, Counts, held_in, serving_of};
 
     ghost view = { λ v. v.loglet };
+
+    ghost serving = { λ v. serving_of v };
 
     fn kind(&self) -> Kind {
         let _open = &self.room;
@@ -151,7 +159,14 @@ impl<D: Disk> Loglet for FileLoglet<D> {
         if self.server.is_up() { 0 } else { 1 }
     }
 
-    fn begin(&mut self, op: Op) -> Result<Ticket, Refused> {
+    fn begin(&mut self, op: Op) -> Result<Ticket, Refused>
+        requires { CanCall self.old.loglet (LogletCall.Begin op) }
+        ensures step { LogletStep self.old.loglet (LogletCall.Begin op) (begin_answer result) self.new.loglet }
+        ensures serves { Serves (serving_of self.old) (LogletCall.Begin op) (begin_answer result) (serving_of self.new) }
+
+        // Only a refusal as full is counted, and the server and its disk stay as they are.
+        ensures counts { Counts self.old result self.new }
+    {
         let size = self.entries.len() as u64;
         if is_full(&op, size, self.room, self.marks.begun) {
             self.marks = self.marks.refused();
@@ -176,10 +191,15 @@ impl<D: Disk> Loglet for FileLoglet<D> {
         Ok(Ticket::new(number))
     }
 
-    fn carry(&mut self, ticket: Ticket, _word: u64) -> Result<(), Refused>
-        requires { CanCall self.old.loglet (LogletCall.Carry ticket _word) }
-        ensures step { LogletStep self.old.loglet (LogletCall.Carry ticket _word) (carry_answer result) self.new.loglet }
+    fn carry(&mut self, ticket: Ticket, word: u64) -> Result<(), Refused>
+        requires { CanCall self.old.loglet (LogletCall.Carry ticket word) }
+        ensures step { LogletStep self.old.loglet (LogletCall.Carry ticket word) (carry_answer result) self.new.loglet }
+        ensures serves { Serves (serving_of self.old) (LogletCall.Carry ticket word) (carry_answer result) (serving_of self.new) }
         ensures at_once { OnOk result (IsDecidedAtOnce self.old.loglet ticket self.new.loglet) }
+
+        // Its disk counted nothing, or failed; it is no refusal.
+        ensures wears { Wears (held_in self.old) (held_in self.new) }
+        ensures refusals { self.new.refusals ≡ self.old.refusals }
     {
         let number = ticket.number();
         let Ok(answer) = decide(
@@ -191,17 +211,28 @@ impl<D: Disk> Loglet for FileLoglet<D> {
             return Err(Refused::Memory);
         };
         set_answer(&mut self.pending, number, answer);
+        self.marks = self.marks.given(word);
         Ok(())
     }
 
-    fn take(&mut self, ticket: Ticket) -> Option<Answer> {
+    fn take(&mut self, ticket: Ticket) -> Option<Answer>
+        requires { CanCall self.old.loglet (LogletCall.Take ticket) }
+        ensures step { LogletStep self.old.loglet (LogletCall.Take ticket) (LogletAnswer.Taken result) self.new.loglet }
+        ensures serves { Serves (serving_of self.old) (LogletCall.Take ticket) (LogletAnswer.Taken result) (serving_of self.new) }
+        ensures kept { self.new ≡ record self.old { loglet = self.new.loglet } }
+    {
         let Decided { task, size, answer } = take_decided(&mut self.pending, ticket.number())?;
         let answer = told(task, self.marks.cut, answer);
         self.marks = self.marks.told(&answer, task.wanted(size));
         Some(answer)
     }
 
-    fn forget(&mut self, ticket: Ticket) {
+    fn forget(&mut self, ticket: Ticket)
+        requires { CanCall self.old.loglet (LogletCall.Forget ticket) }
+        ensures step { LogletStep self.old.loglet (LogletCall.Forget ticket) LogletAnswer.Forgotten self.new.loglet }
+        ensures serves { Serves (serving_of self.old) (LogletCall.Forget ticket) LogletAnswer.Forgotten (serving_of self.new) }
+        ensures kept { self.new ≡ record self.old { loglet = self.new.loglet } }
+    {
         let _ = self.pending.remove(&ticket.number());
     }
 
@@ -209,35 +240,55 @@ impl<D: Disk> Loglet for FileLoglet<D> {
         self.pending[&ticket.number()].left()
     }
 
-    fn stray(&mut self, _word: u64) -> Result<(), Refused> {
-        let _open = &self.room;
+    fn stray(&mut self, word: u64) -> Result<(), Refused>
+        ensures step { LogletStep self.old.loglet (LogletCall.Stray word) (stray_answer result) self.new.loglet }
+        ensures serves { Serves (serving_of self.old) (LogletCall.Stray word) (stray_answer result) (serving_of self.new) }
+        ensures kept { self.new ≡ record self.old { word = word } }
+    {
+        let marks = self.marks.given(word);
+        self.marks = marks;
         Ok(())
     }
 
     fn stop(&mut self, server: u32, after: u64)
         requires { CanCall self.old.loglet (LogletCall.Stop server after) }
         ensures step { LogletStep self.old.loglet (LogletCall.Stop server after) LogletAnswer.Stopped self.new.loglet }
-        ensures arms { self.new ≡ record self.old { disk = if self.old.disk.stopped then self.old.disk else record self.old.disk { armed = after } } }
+        ensures serves { Serves (serving_of self.old) (LogletCall.Stop server after) LogletAnswer.Stopped (serving_of self.new) }
+        ensures arms { self.new ≡ record self.old { disk = (if self.old.disk.stopped then self.old.disk else record self.old.disk { armed = after }); word = after } }
     {
         self.server.stop(after);
+        self.marks = self.marks.given(after);
     }
 
     fn restart(&mut self, server: u32, word: u64) -> Result<bool, Refused>
         requires { CanCall self.old.loglet (LogletCall.Restart server word) }
         ensures step { LogletStep self.old.loglet (LogletCall.Restart server word) (restart_answer result) self.new.loglet }
+        ensures serves { Serves (serving_of self.old) (LogletCall.Restart server word) (restart_answer result) (serving_of self.new) }
+        ensures refusals { self.new.refusals ≡ self.old.refusals }
 
         // It comes up with the write done or not in which its disk failed.
         ensures restarted { self.old.server.up ≡ false → IfOk result (λ up. up ≡ true → (kept : Bool) × (self.new.server ≡ restarted self.old.server kept self.old.server.torn)) }
-        ensures idle { self.old.server.up ≡ true → self.new ≡ self.old }
+        ensures idle { self.old.server.up ≡ true → self.new ≡ record self.old { word = word } }
     {
-        if self.server.is_up() {
-            return Ok(true);
-        }
-        match self.server.restart(word) {
-            Ok(()) => Ok(true),
-            Err(Fault::Disk) => Ok(false),
-            Err(Fault::Memory) => Err(Refused::Memory),
-        }
+        let Ok(up) = bring_up(&mut self.server, word) else {
+            return Err(Refused::Memory);
+        };
+        self.marks = self.marks.given(word);
+        Ok(up)
+    }
+}
+
+/// Restarts a server that is down, and says whether it is up.
+fn bring_up<D: Disk>(server: &mut FileServer<D>, word: u64) -> Result<bool, AllocError>
+    ensures { Brings server.old result server.new }
+{
+    if server.is_up() {
+        return Ok(true);
+    }
+    match server.restart(word) {
+        Ok(()) => Ok(true),
+        Err(Fault::Disk) => Ok(false),
+        Err(Fault::Memory) => Err(AllocError),
     }
 }
 

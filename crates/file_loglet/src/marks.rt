@@ -23,12 +23,14 @@ pub struct Marks {
     pub lacks: u64,
     /// How many operations were refused as `Full`; it stands still at 2^64 - 1.
     pub refusals: u64,
+    /// The word or count of the last carry, stray, stop or restart that was done.
+    pub word: u64,
 }
 
 impl Marks {
     /// Nothing was asked yet.
     pub fn new() -> Marks
-        ensures { result ≡ record { cut = 0; reach = 0; firm = 0; cap = None; begun = 0; seals = 0; lacks = 0; refusals = 0 } }
+        ensures { result ≡ record { cut = 0; reach = 0; firm = 0; cap = None; begun = 0; seals = 0; lacks = 0; refusals = 0; word = 0 } }
     {
         Marks {
             cut: 0,
@@ -39,6 +41,7 @@ impl Marks {
             seals: 0,
             lacks: 0,
             refusals: 0,
+            word: 0,
         }
     }
 
@@ -64,6 +67,13 @@ impl Marks {
             refusals: self.refusals.saturating_add(1),
             ..self
         }
+    }
+
+    /// Once a call was done that has this word or count.
+    pub fn given(self, word: u64) -> Marks
+        ensures { result ≡ record self { word = word } }
+    {
+        Marks { word, ..self }
     }
 
     /// Once an answer is given to an operation that speaks of this length.

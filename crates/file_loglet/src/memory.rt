@@ -12,6 +12,7 @@ pub fn in_memory(alloc: Global, room: u64) -> Result<FileLoglet<MemDisk>, AllocE
     requires { (1 ≤ room) × (room ≤ 2 ^ 32) }
     ensures fresh { IfOk result (λ made. IsFresh made.loglet) }
     ensures room { IfOk result (λ made. made.loglet.room ≡ room) }
+    ensures disarmed { IfOk result (λ made. made.disk.armed ≡ 0) }
 {
     match FileLoglet::new(alloc, MemDisk::new(alloc), room) {
         Ok(loglet) => Ok(loglet),

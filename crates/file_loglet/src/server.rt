@@ -52,6 +52,7 @@ impl<D: Disk> FileServer<D> {
         requires empty { records_of (reads (D.view disk)) ≡ [] }
         ensures empty { IfOk result (λ s. s.server ≡ empty_server) }
         ensures no_fault { IfOk result (λ s. s.disk.faults ≡ (D.view disk).faults) }
+        ensures armed { IfOk result (λ s. s.disk.armed ≤ (D.view disk).armed) }
         ensures memory { IfErr result (λ e. e.fault ≡ Fault.Memory → ((D.view e.disk).timeline ≡ (D.view disk).timeline) × ((D.view e.disk).faults ≡ (D.view disk).faults)) }
         ensures failed { IfErr result (λ e. e.fault ≡ Fault.Disk → Rose (D.view disk).faults (D.view e.disk).faults) }
         ensures any_crash { IfErr result (λ e. AnyCrashLeaves (D.view disk) (D.view e.disk) (λ found. found ≡ [])) }
@@ -161,6 +162,7 @@ impl<D: Disk> FileServer<D> {
         requires down { self.old.server.up ≡ false }
         ensures ok { OnOk result ((kept : Bool) × (self.new.server ≡ restarted self.old.server kept self.old.server.torn)) }
         ensures no_fault { OnOk result (self.new.disk.faults ≡ self.old.disk.faults) }
+        ensures disarmed { OnOk result (self.new.disk.armed ≡ 0) }
         ensures memory { IsErrOf result Fault.Memory → (self.new.server ≡ self.old.server) × (self.new.disk.faults ≡ self.old.disk.faults) }
         ensures failed { IsErrOf result Fault.Disk → (self.new.server ≡ self.old.server) × Rises self.old.disk.faults self.new.disk.faults }
     {
@@ -176,6 +178,7 @@ impl<D: Disk> FileServer<D> {
     pub fn stop(&mut self, after: u64)
         ensures server { self.new.server ≡ self.old.server }
         ensures disk { self.new.disk ≡ (if self.old.disk.stopped then self.old.disk else record self.old.disk { armed = after }) }
+        ensures armed { self.old.server.up ≡ true → self.new.disk ≡ record self.old.disk { armed = after } }
     {
         self.journal.stop(after);
     }
@@ -183,6 +186,7 @@ impl<D: Disk> FileServer<D> {
     /// The disk. Its records spell what the server holds, with the torn write or without.
     pub fn into_disk(self) -> D
         ensures disk { D.view result ≡ self.disk }
+        ensures running { self.server.up ≡ true → self.disk.stopped ≡ false }
         ensures left { LeavesRecords self.disk (λ found. (kept : Bool) × (server_of found ≡ Some (restarted self.server kept self.server.torn))) }
     {
         let FileServer {

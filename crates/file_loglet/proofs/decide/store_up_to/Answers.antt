@@ -20,6 +20,7 @@ loop-server-preserved g c =
       up = ap (λ (s : Server). s.up) c.in_ok-store.ensures.0 ∙ c.loop-server.invariant.up;
       unsealed = ap (λ (s : Server). is_sealed s) c.in_ok-store.ensures.0 ∙ c.loop-server.invariant.unsealed;
       faults = c.in_ok-store.ensures.1 ∙ c.loop-server.invariant.faults;
+      armed = c.in_ok-store.ensures.2 ∙ c.loop-server.invariant.armed;
     }
 
 pub returns-in_err-store-clause-later : goal.returns-in_err-store-clause-later

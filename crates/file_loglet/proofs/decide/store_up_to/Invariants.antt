@@ -1,5 +1,6 @@
 use Rattle.std.proofs.Common.{◌≡◌, ℕ, ◌-◌, Bool, true, false}
 use Rattle.majority_rule.specs.Servers.{length_of, is_sealed}
+use Rattle.file_loglet.specs.Held.{is_armed}
 use Rattle.file_loglet.specs.Later.{IsLater}
 use Rattle.file_loglet.proofs.decide.store_up_to.Given as goal
 
@@ -9,6 +10,7 @@ invariant-loop-server g l = record {
   up : l.server.server.up ≡ true;
   unsealed : is_sealed l.server.server ≡ false;
   faults : l.server.disk.faults ≡ l.initial.server.disk.faults;
+  armed : is_armed l.server ≡ is_armed l.initial.server;
 }
 
 abbrev pub decreases-loop-server : goal.decreases-loop-server

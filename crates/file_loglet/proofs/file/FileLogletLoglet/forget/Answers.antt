@@ -8,8 +8,8 @@ invariant_of-self g c =
     (let fewer : hash_map_len c.remove.new.self ≤ hash_map_len c.self.inside.pending = omega (arith, c.remove.ensures.len) in
     (forgotten _ _ _ _ _ c.remove.new.self c.args.ticket c.self.invariant (rw c.number.ensures at c.remove.ensures.updates) fewer).0)
 
-pub returns : goal.returns
-returns g c =
+pub returns-clause-step : goal.returns-clause-step
+returns-clause-step g c =
     (let fewer : hash_map_len c.remove.new.self ≤ hash_map_len c.self.inside.pending = omega (arith, c.remove.ensures.len) in
     step_whole _ _ _ _ _ _ _ _ _ _ _ _ c.self.view_is c.self.invariant (invariant_of-self g c) c.requires
     (forgotten _ _ _ _ _ c.remove.new.self c.args.ticket c.self.invariant (rw c.number.ensures at c.remove.ensures.updates) fewer).1)

@@ -1,36 +1,51 @@
-use Rattle.std.proofs.Common.{◌≡◌, false, Err, sym, ◌∙◌, ap, refl}
-use Rattle.file_loglet.proofs.Wholes.{step_whole, same_whole, alike_whole, idle_restart, restarts_up, restarts_not, whole_same, same_shown}
+use Rattle.std.proofs.Common.{ap, refl}
+use Rattle.majority_rule.specs.Servers.{Server}
+use Rattle.file_loglet.proofs.Wholes.{step_whole, alike_whole, brought_whole, whole_same, same_shown}
+use Rattle.file_loglet.proofs.Serving.{unmoved_served, restarted_served, restarted_shown, idle_shown, is_down}
 use Rattle.file_loglet.proofs.file.FileLogletLoglet.restart.Goals as goal
-use Rattle.file_loglet.proofs.file.FileLogletLoglet.restart.Goals.{in-Ok, in-Err-Disk, in-Err-Memory}
-
-pub returns-then-is_up-clause-step : goal.returns-then-is_up-clause-step
-returns-then-is_up-clause-step g c = same_whole _ _ _ _ _ _ _ _ c.self.view_is c.self.invariant c.requires (idle_restart _ _ _ _ _ c.self.invariant (sym c.is_up.ensures ∙ c.if-is_up.true))
 
 pub invariant_of-self : goal.invariant_of-self
 invariant_of-self g c =
-    let was : c.self.inside.server.server.up ≡ false = sym c.is_up.ensures ∙ c.if-is_up.false in
-    elim c.match-restart.branch [
-      | in-Ok w ↦ (restarts_up _ _ _ c.restart.new.self _ _ w.in-Ok.ensures.ok.0 c.self.invariant was w.in-Ok.ensures.ok.1 w.in-Ok.ensures.no_fault).0
-      | in-Err-Disk w ↦ (let failed = w.in-Err-Disk.ensures.failed (ap Err w.in-Err-Disk.field-0-is) in
-          (restarts_not _ _ _ c.restart.new.self _ _ c.self.invariant was failed.0 failed.1).0)
-      | in-Err-Memory w ↦ (let none = w.in-Err-Memory.ensures.memory (ap Err w.in-Err-Memory.field-0-is) in
-          whole_same _ _ _ c.restart.new.self _ _ c.self.invariant none.0 none.1)
-    ]
+    let none = c.in_default.ensures in
+    whole_same _ _ _ c.bring_up.new.server _ _ c.self.invariant none.1 none.2
+
+pub returns-in_default-clause-step : goal.returns-in_default-clause-step
+returns-in_default-clause-step g c =
+    let i = c.self.inside in
+    let none = c.in_default.ensures in
+    alike_whole i.room i.entries.items i.server i.marks i.pending i.entries.items c.bring_up.new.server i.marks i.pending _ _ _ c.self.view_is c.self.invariant
+    (same_shown i.room i.entries.items i.server c.bring_up.new.server i.marks i.pending none.1 none.2) c.requires refl
+
+pub returns-in_default-clause-serves : goal.returns-in_default-clause-serves
+returns-in_default-clause-serves g c =
+    let i = c.self.inside in
+    let none = c.in_default.ensures in
+    unmoved_served i.room i.entries.items i.server c.bring_up.new.server i.marks i.pending i.pending _ c.self.view_is (ap (λ (s : Server). s.up) none.1) none.2 (λ up. absurd (let was = none.0 in cc))
+
+pub invariant_of-self-2 : goal.invariant_of-self-2
+invariant_of-self-2 g c = (brought_whole _ _ _ c.bring_up.new.server _ _ _ c.args.word c.in-Ok.up c.self.invariant c.in-Ok.ensures c.given-self-inside.ensures).0
 
 pub returns-clause-step : goal.returns-clause-step
 returns-clause-step g c =
+    step_whole _ _ _ _ _ _ _ _ _ _ _ _ c.self.view_is c.self.invariant (invariant_of-self-2 g c) c.requires
+    (brought_whole _ _ _ c.bring_up.new.server _ _ _ c.args.word c.in-Ok.up c.self.invariant c.in-Ok.ensures c.given-self-inside.ensures).1
+
+pub returns-clause-serves : goal.returns-clause-serves
+returns-clause-serves g c =
     let i = c.self.inside in
-    let was : i.server.server.up ≡ false = sym c.is_up.ensures ∙ c.if-is_up.false in
-    elim c.match-restart.branch [
-      | in-Ok w ↦ rw w.result-is
-          (step_whole _ _ _ _ _ _ _ _ _ _ _ _ c.self.view_is c.self.invariant (invariant_of-self g c) c.requires
-          (restarts_up _ _ _ c.restart.new.self _ _ w.in-Ok.ensures.ok.0 c.self.invariant was w.in-Ok.ensures.ok.1 w.in-Ok.ensures.no_fault).1)
-      | in-Err-Disk w ↦ (let failed = w.in-Err-Disk.ensures.failed (ap Err w.in-Err-Disk.field-0-is) in
-          rw w.result-is
-          (step_whole _ _ _ _ _ _ _ _ _ _ _ _ c.self.view_is c.self.invariant (invariant_of-self g c) c.requires
-          (restarts_not _ _ _ c.restart.new.self _ _ c.self.invariant was failed.0 failed.1).1))
-      | in-Err-Memory w ↦ (let none = w.in-Err-Memory.ensures.memory (ap Err w.in-Err-Memory.field-0-is) in
-          rw w.result-is
-          (alike_whole i.room i.entries.items i.server i.marks i.pending i.entries.items c.restart.new.self i.marks i.pending _ _ _ c.self.view_is c.self.invariant
-          (same_shown i.room i.entries.items i.server c.restart.new.self i.marks i.pending none.0 none.1) c.requires refl))
-    ]
+    restarted_served i.room i.entries.items i.server c.bring_up.new.server i.marks c.given-self-inside.result i.pending _ c.args.server c.args.word c.in-Ok.up c.self.view_is c.requires c.in-Ok.ensures c.given-self-inside.ensures
+
+pub returns-in_default-clause-idle : goal.returns-in_default-clause-idle
+returns-in_default-clause-idle g c up =
+    let i = c.self.inside in
+    absurd (let was = is_down i.room i.entries.items i.server i.marks i.pending _ c.self.view_is c.in_default.ensures.0 in cc)
+
+pub returns-clause-restarted : goal.returns-clause-restarted
+returns-clause-restarted g c =
+    let i = c.self.inside in
+    restarted_shown i.room i.entries.items i.server c.bring_up.new.server i.marks i.pending _ c.in-Ok.up c.self.view_is c.in-Ok.ensures
+
+pub returns-clause-idle : goal.returns-clause-idle
+returns-clause-idle g c =
+    let i = c.self.inside in
+    idle_shown i.room i.entries.items i.server c.bring_up.new.server i.marks c.given-self-inside.result i.pending _ c.args.word c.bring_up.result c.self.view_is c.bring_up.ensures c.given-self-inside.ensures

@@ -6,8 +6,8 @@ use Rattle.file_loglet.proofs.file.FileLogletLoglet.take.Goals as goal
 pub invariant_of-self : goal.invariant_of-self
 invariant_of-self g c = whole_unchanged _ _ _ _ _ c.self.inside.entries.items c.take_decided.new.pending c.self.invariant refl c.in_err-task.ensures.none
 
-pub returns-in_err-task : goal.returns-in_err-task
-returns-in_err-task g c =
+pub returns-in_err-task-clause-step : goal.returns-in_err-task-clause-step
+returns-in_err-task-clause-step g c =
     let i = c.self.inside in
     rw c.from_residual.ensures
     (alike_whole i.room i.entries.items i.server i.marks i.pending i.entries.items i.server i.marks c.take_decided.new.pending _ _ _ c.self.view_is c.self.invariant
@@ -28,8 +28,8 @@ invariant_of-self-2 g c =
     (whole_taken _ _ _ _ _ _ _ c.args.ticket c.in_ok-task.field-0 c.told-answer.result c.wanted.result c.self.invariant
     (rw c.number.ensures at c.in_ok-task.ensures.taken) c.told-answer.ensures c.wanted.ensures c.told-self-inside.ensures).0
 
-pub returns : goal.returns
-returns g c =
+pub returns-clause-step : goal.returns-clause-step
+returns-clause-step g c =
     step_whole _ _ _ _ _ _ _ _ _ _ _ _ c.self.view_is c.self.invariant (invariant_of-self-2 g c) c.requires
     (whole_taken _ _ _ _ _ _ _ c.args.ticket c.in_ok-task.field-0 c.told-answer.result c.wanted.result c.self.invariant
     (rw c.number.ensures at c.in_ok-task.ensures.taken) c.told-answer.ensures c.wanted.ensures c.told-self-inside.ensures).1
