@@ -17,3 +17,5 @@ pub mod Asks
 pub mod Opening
 pub mod Begins
 pub mod Fresh
+pub mod Serving
+pub mod Handing

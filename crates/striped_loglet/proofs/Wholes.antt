@@ -10,6 +10,7 @@ use Rattle.loglet_api.specs.declared.call.LogletAnswer.TheVariants.{Begun, Refus
 use Rattle.loglet_api.specs.declared.call.Refused.{Refused}
 use Rattle.loglet_api.specs.declared.call.Refused.TheVariants.{Full, Memory}
 use Rattle.loglet_api.specs.View.{LogletView, IsOpen}
+use Rattle.loglet_api.specs.Servers.{ServersView}
 use Rattle.loglet_api.specs.Step.{LogletStep, Does, RoseBy, Moves, Restarts, TakesAnswer, Forgets, Carries, wanted_by, told_reach, told_firm, told_cap, told_lacks}
 use Rattle.loglet_api.proofs.Keeps.{step_keeps}
 use Rattle.striped_loglet.specs.declared.marks.Marks.{Marks}
@@ -28,10 +29,10 @@ use Rattle.loglet_api.specs.declared.call.Answer.TheVariants.{Beyond}
 use Rattle.striped_loglet.specs.Views.{total}
 use Rattle.striped_loglet.specs.State.{Plain, State, PendingMap, plain_of, plain_at, state_of, loglet_of}
 use Rattle.striped_loglet.specs.Going.{IsPending, IsStriped}
-use Rattle.striped_loglet.specs.Calls.{CallsServer, Strays, CarriedOn, CarriesInner, RefusedInner, BeginsNext, BegunNext, IsBeyond, RefusedNext, Hears, HearsOf}
+use Rattle.striped_loglet.specs.Calls.{CallsServer, Strays, CarriedOn, CarriedInner, RefusedInner, BegunNext, IsBeyond, RefusedNext, Hears, HearsOf}
 use Rattle.striped_loglet.specs.Pendings.{Sets, TakesOut}
 use Rattle.striped_loglet.proofs.Lists.{map_set, map_get, set_back, within, set_here, total_same, total_less, total_set, total_at}
-use Rattle.loglet_api.specs.Answers.{carry_answer, stray_answer, restart_answer}
+use Rattle.loglet_api.specs.Answers.{restart_answer}
 use Rattle.std.specs.Prelude.{Result, Ok, Err}
 use Rattle.std.proofs.Common.{get_or}
 use Rattle.striped_loglet.specs.Shapes.{HasServer}
@@ -160,17 +161,16 @@ module _ {L : Type 0} (view : L → LogletView) where
 
   -- ---- calls of one stripe that are handed through
 
-  strayed : {U : Type 0} (shape : Shape) (xs : List L) (marks : Marks) (m : PendingMap L) (i word word' : ℕ) (old new : L) (r : Result U Refused) → IsStriped (state_of view shape xs marks m) → slice_get xs i ≡ Some old → LogletStep (view old) (Stray word') (stray_answer r) (view new)
-      → IsStriped (state_of view shape (set xs i new) marks m) × Does (loglet_of (state_of view shape xs marks m)) (Stray word) (stray_answer r) (loglet_of (state_of view shape (set xs i new) marks m))
-  strayed shape xs marks m i word word' old new (Ok u) h here step = moved_whole shape xs marks m i old new (Stray word') Strayed h here step step.does
-  strayed shape xs marks m i word word' old new (Err Memory) h here step =
-      let e = unmoved shape xs marks m i old new here step.does in
-      (subst IsStriped (sym e) h, ap loglet_of e)
-  strayed shape xs marks m i word word' old new (Err Full) h here step = absurd step.does
+  pub stray_done : (shape : Shape) (xs : List L) (marks : Marks) (m : PendingMap L) (i word word' : ℕ) (old new : L) → IsStriped (state_of view shape xs marks m) → i < length xs → old ≡ get_or xs i old → LogletStep (view old) (Stray word') Strayed (view new)
+      → IsStriped (state_of view shape (set xs i new) marks m) × Does (loglet_of (state_of view shape xs marks m)) (Stray word) Strayed (loglet_of (state_of view shape (set xs i new) marks m))
+  stray_done shape xs marks m i word word' old new h l e step = moved_whole shape xs marks m i old new (Stray word') Strayed h (got_at xs i old l e) step step.does
 
-  pub stray_whole : {U : Type 0} (shape : Shape) (xs : List L) (marks : Marks) (m : PendingMap L) (i word word' : ℕ) (old new : L) (r : Result U Refused) → IsStriped (state_of view shape xs marks m) → i < length xs → old ≡ get_or xs i old → LogletStep (view old) (Stray word') (stray_answer r) (view new)
-      → IsStriped (state_of view shape (set xs i new) marks m) × Does (loglet_of (state_of view shape xs marks m)) (Stray word) (stray_answer r) (loglet_of (state_of view shape (set xs i new) marks m))
-  stray_whole shape xs marks m i word word' old new r h l e step = strayed shape xs marks m i word word' old new r h (got_at xs i old l e) step
+  pub stray_refused : (shape : Shape) (xs : List L) (marks : Marks) (m : PendingMap L) (i word word' : ℕ) (old new : L) (refused : Refused) → IsStriped (state_of view shape xs marks m) → i < length xs → old ≡ get_or xs i old → LogletStep (view old) (Stray word') (Refusal refused) (view new)
+      → IsStriped (state_of view shape (set xs i new) marks m) × Does (loglet_of (state_of view shape xs marks m)) (Stray word) (Refusal refused) (loglet_of (state_of view shape (set xs i new) marks m))
+  stray_refused shape xs marks m i word word' old new Memory h l e step =
+      let same = unmoved shape xs marks m i old new (got_at xs i old l e) step.does in
+      (subst IsStriped (sym same) h, ap loglet_of same)
+  stray_refused shape xs marks m i word word' old new Full h l e step = absurd step.does
 
   restarts : (shape : Shape) (xs : List L) (marks : Marks) (m : PendingMap L) (i server server' word : ℕ) (old new : L) (r : Result Bool Refused) → IsStriped (state_of view shape xs marks m) → slice_get xs i ≡ Some old → LogletStep (view old) (Restart server' word) (restart_answer r) (view new)
       → IsStriped (state_of view shape (set xs i new) marks m) × Does (loglet_of (state_of view shape xs marks m)) (Restart server word) (restart_answer r) (loglet_of (state_of view shape (set xs i new) marks m))
@@ -205,13 +205,13 @@ module _ {L : Type 0} (view : L → LogletView) where
       some_view : (a c : LogletView) → Some a ≡ Some c → a ≡ c
       some_view a c k = cc
 
-  pub server_of_all : (shape : Shape) (xs : List L) (marks : Marks) (m : PendingMap L) (w : StripedView) (server : ℕ) → striped_view view shape xs marks m ≡ w → IsStriped (state_of view shape xs marks m) → server < w.loglet.servers → server < total (λ v. v.servers) (map view xs)
-  server_of_all shape xs marks m w server e h l = let a = ap (λ (v : StripedView). v.loglet.servers) e in let b = h.shaped.servers in omega (arith, l, a, b)
+  pub server_of_all : (serving : L → ServersView) {told : ℕ} (shape : Shape) (xs : List L) (marks : Marks) (m : PendingMap L) (w : StripedView) (server : ℕ) → striped_view view serving shape xs marks m told ≡ w → IsStriped (state_of view shape xs marks m) → server < w.loglet.servers → server < total (λ v. v.servers) (map view xs)
+  server_of_all serving shape xs marks m w server e h l = let a = ap (λ (v : StripedView). v.loglet.servers) e in let b = h.shaped.servers in omega (arith, l, a, b)
 
   -- which stripe it was
-  pub server_called : (shape : Shape) (xs : List L) (marks : Marks) (m : PendingMap L) (w : StripedView) (number i server : ℕ) (call : ℕ → LogletCall) (answer : LogletAnswer) (old new : L) → striped_view view shape xs marks m ≡ w → HasServer (map view xs) number i server → old ≡ get_or xs i old
+  pub server_called : (serving : L → ServersView) {told : ℕ} (shape : Shape) (xs : List L) (marks : Marks) (m : PendingMap L) (w : StripedView) (number i server : ℕ) (call : ℕ → LogletCall) (answer : LogletAnswer) (old new : L) → striped_view view serving shape xs marks m told ≡ w → HasServer (map view xs) number i server → old ≡ get_or xs i old
       → LogletStep (view old) (call server) answer (view new) → CallsServer w.stripes number call answer (map view (set xs i new))
-  server_called shape xs marks m w number i server call answer old new e h is step =
+  server_called serving shape xs marks m w number i server call answer old new e h is step =
       let at = view_at view xs i old (server_there xs i server h) is in
       let same : view old ≡ h.view = some_view (view old) h.view (sym at ∙ h.is) in
       subst (λ (vs : List LogletView). CallsServer vs number call answer (map view (set xs i new))) (ap (λ (v : StripedView). v.stripes) e) (record {
@@ -226,9 +226,9 @@ module _ {L : Type 0} (view : L → LogletView) where
       some_view : (a c : LogletView) → Some a ≡ Some c → a ≡ c
       some_view a c k = cc
 
-  pub stray_called : (shape : Shape) (xs : List L) (marks : Marks) (m : PendingMap L) (w : StripedView) (word count : ℕ) (answer : LogletAnswer) (old new : L) → striped_view view shape xs marks m ≡ w → count ≡ length xs → word % count < length xs → old ≡ get_or xs (word % count) old
+  pub stray_called : (serving : L → ServersView) {told : ℕ} (shape : Shape) (xs : List L) (marks : Marks) (m : PendingMap L) (w : StripedView) (word count : ℕ) (answer : LogletAnswer) (old new : L) → striped_view view serving shape xs marks m told ≡ w → count ≡ length xs → word % count < length xs → old ≡ get_or xs (word % count) old
       → LogletStep (view old) (Stray (word / count)) answer (view new) → Strays w.stripes word answer (map view (set xs (word % count) new))
-  stray_called shape xs marks m w word count answer old new e ec l is step =
+  stray_called serving shape xs marks m w word count answer old new e ec l is step =
       let k : count ≡ length (map view xs) = ec ∙ sym (length_view view xs) in
       subst (λ (vs : List LogletView). Strays vs word answer (map view (set xs (word % count) new))) (ap (λ (v : StripedView). v.stripes) e) (record {
         before = view old;
@@ -271,20 +271,19 @@ module _ {L : Type 0} (view : L → LogletView) where
       let e : map view ys ≡ map view xs = rest ∙ ap (λ v. set (map view xs) i v) same ∙ set_back (map view xs) i before here in
       ap (λ (views : List LogletView). record { views = views; shape = shape; marks = marks; at = plain_at view n }) e ∙ ap (λ (k : PendingMap L). state_of view shape xs marks k) em
 
-  refused_inner : (shape : Shape) (xs ys : List L) (marks : Marks) (m n : PendingMap L) (t word : ℕ) (x : Inner) (refused : Refused) → IsStriped (state_of view shape xs marks m) → RefusedInner (map view xs) m x word refused (map view ys) n
+  pub refused_inner : (shape : Shape) (xs ys : List L) (marks : Marks) (m n : PendingMap L) (t word : ℕ) (x : Inner) (refused : Refused) → IsStriped (state_of view shape xs marks m) → RefusedInner (map view xs) m x word refused (map view ys) n
       → IsStriped (state_of view shape ys marks n) × Does (loglet_of (state_of view shape xs marks m)) (Carry t word) (Refusal refused) (loglet_of (state_of view shape ys marks n))
   refused_inner shape xs ys marks m n t word x Memory h r =
       let e = same_shown shape xs ys marks m n x.stripe r.before r.after r.is r.carried.does r.rest r.same in
       (subst IsStriped (sym e) h, ap loglet_of e)
   refused_inner shape xs ys marks m n t word x Full h r = absurd r.carried.does
 
-  pub inner_carried : {U : Type 0} (shape : Shape) (xs ys : List L) (marks : Marks) (m n : PendingMap L) (t word : ℕ) (p : Pending L) (course : Course) (x : Inner) (r : Result U Refused) → IsStriped (state_of view shape xs marks m) → get nat_eq m t ≡ Some p → p.answer ≡ None → p.inner ≡ Some x
-      → course ≡ record { asked = p.asked; plan = p.plan } → CarriesInner (map view xs) m t course x word r (map view ys) n
-      → IsStriped (state_of view shape ys marks n) × Does (loglet_of (state_of view shape xs marks m)) (Carry t word) (carry_answer r) (loglet_of (state_of view shape ys marks n))
-  inner_carried shape xs ys marks m n t word p course x (Ok u) h is none mine ec r = carried_outcome shape xs ys marks m n t word p course x r.before r.after r.outcome h is none mine ec r.is r.carried r.rest r.hears
-  inner_carried shape xs ys marks m n t word p course x (Err refused) h is none mine ec r = refused_inner shape xs ys marks m n t word x refused h r
+  pub inner_done : (shape : Shape) (xs ys : List L) (marks : Marks) (m n : PendingMap L) (t word : ℕ) (p : Pending L) (course : Course) (x : Inner) → IsStriped (state_of view shape xs marks m) → get nat_eq m t ≡ Some p → p.answer ≡ None → p.inner ≡ Some x
+      → course ≡ record { asked = p.asked; plan = p.plan } → CarriedInner (map view xs) m t course x word (map view ys) n
+      → IsStriped (state_of view shape ys marks n) × Carries (loglet_of (state_of view shape xs marks m)) t (loglet_of (state_of view shape ys marks n))
+  inner_done shape xs ys marks m n t word p course x h is none mine ec r = carried_outcome shape xs ys marks m n t word p course x r.before r.after r.outcome h is none mine ec r.is r.carried r.rest r.hears
 
-  next_carried : (shape : Shape) (xs ys : List L) (marks : Marks) (m n : PendingMap L) (t word : ℕ) (p : Pending L) (course : Course) → IsStriped (state_of view shape xs marks m) → get nat_eq m t ≡ Some p → p.answer ≡ None → p.inner ≡ None
+  pub next_carried : (shape : Shape) (xs ys : List L) (marks : Marks) (m n : PendingMap L) (t word : ℕ) (p : Pending L) (course : Course) → IsStriped (state_of view shape xs marks m) → get nat_eq m t ≡ Some p → p.answer ≡ None → p.inner ≡ None
       → course ≡ record { asked = p.asked; plan = p.plan } → BegunNext (map view xs) m t course marks.cut (map view ys) n ⊎ IsBeyond (map view xs) m t course (map view ys) n
       → IsStriped (state_of view shape ys marks n) × Carries (loglet_of (state_of view shape xs marks m)) t (loglet_of (state_of view shape ys marks n))
   next_carried shape xs ys marks m n t word p course h is none mine ec (inl r') =
@@ -299,7 +298,7 @@ module _ {L : Type 0} (view : L → LogletView) where
       carried_as s (plain_at view n) t word (map view xs) (map view ys) r.rest
       (carried_beyond s (plain_at view n) t (plain_of view p) h (at_by view m t p is) mine none r.unspoken (sets_puts m n t p p.plan None (Some (Beyond p.asked.firm)) is r.sets))
 
-  refused_next : (shape : Shape) (xs ys : List L) (marks : Marks) (m n : PendingMap L) (t word : ℕ) (p : Pending L) (course : Course) (refused : Refused) → IsStriped (state_of view shape xs marks m) → get nat_eq m t ≡ Some p → p.answer ≡ None → p.inner ≡ None → course ≡ record { asked = p.asked; plan = p.plan }
+  pub refused_next : (shape : Shape) (xs ys : List L) (marks : Marks) (m n : PendingMap L) (t word : ℕ) (p : Pending L) (course : Course) (refused : Refused) → IsStriped (state_of view shape xs marks m) → get nat_eq m t ≡ Some p → p.answer ≡ None → p.inner ≡ None → course ≡ record { asked = p.asked; plan = p.plan }
       → RefusedNext (map view xs) m course marks.cut refused (map view ys) n
       → IsStriped (state_of view shape ys marks n) × Does (loglet_of (state_of view shape xs marks m)) (Carry t word) (Refusal refused) (loglet_of (state_of view shape ys marks n))
   refused_next shape xs ys marks m n t word p course Memory h is none mine ec r =
@@ -308,9 +307,3 @@ module _ {L : Type 0} (view : L → LogletView) where
   refused_next shape xs ys marks m n t word p course Full h is none mine ec r' =
       let r : RefusedNext (map view xs) m (record { asked = p.asked; plan = p.plan }) marks.cut Full (map view ys) n = subst (λ (c : Course). RefusedNext (map view xs) m c marks.cut Full (map view ys) n) ec r' in
       absurd (never_full (state_of view shape xs marks m) t (plain_of view p) r.stripe r.before h (at_by view m t p is) mine none r.is r.target r.step.does.0)
-
-  pub next_begun : {U : Type 0} (shape : Shape) (xs ys : List L) (marks : Marks) (m n : PendingMap L) (t word : ℕ) (p : Pending L) (course : Course) (r : Result U Refused) → IsStriped (state_of view shape xs marks m) → get nat_eq m t ≡ Some p → p.answer ≡ None → p.inner ≡ None
-      → course ≡ record { asked = p.asked; plan = p.plan } → BeginsNext (map view xs) m t course marks.cut r (map view ys) n
-      → IsStriped (state_of view shape ys marks n) × Does (loglet_of (state_of view shape xs marks m)) (Carry t word) (carry_answer r) (loglet_of (state_of view shape ys marks n))
-  next_begun shape xs ys marks m n t word p course (Ok u) h is none mine ec r = next_carried shape xs ys marks m n t word p course h is none mine ec r
-  next_begun shape xs ys marks m n t word p course (Err refused) h is none mine ec r = refused_next shape xs ys marks m n t word p course refused h is none mine ec r

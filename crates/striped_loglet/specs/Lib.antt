@@ -6,3 +6,4 @@ pub mod Shapes
 pub mod Calls
 pub mod Going
 pub mod Striped
+pub mod Servings

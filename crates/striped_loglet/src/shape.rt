@@ -1,7 +1,9 @@
 //! The numbers of a striped loglet that never change, and sums over its stripes.
-ghost use Rattle.std.specs.Prelude.{◌≡◌, ℕ, ◌+◌, ◌-◌, ◌*◌, ◌/◌, ◌^◌, ◌<◌, ◌≤◌, min, map, sum, length, slice_get, Some};
+ghost use Rattle.std.specs.Prelude.{◌≡◌, ℕ, ◌+◌, ◌-◌, ◌*◌, ◌/◌, ◌^◌, ◌<◌, ◌≤◌, min, map, take, sum, length, slice_get, Some};
 ghost use Rattle.loglet_api.specs.View.{LogletView};
+ghost use Rattle.loglet_api.specs.Servers.{downs_of};
 ghost use Rattle.striped_loglet.specs.Views.{total, least_of};
+ghost use Rattle.striped_loglet.specs.Servings.{states_of};
 ghost use Rattle.striped_loglet.specs.Shapes.{HasServer, IsShapeOf, kind_of_two as kind_of_these, kind_by, most_of};
 
 use loglet_api::call::Kind;
@@ -26,7 +28,8 @@ pub fn shape_of<L: Loglet>(stripes: &[L]) -> Shape
     requires servers { total (λ v. v.servers) (map L.view stripes.now) ≤ 64 }
     requires rounds { total (λ v. v.rounds) (map L.view stripes.now) ≤ 2 ^ 24 }
     requires room { (i : ℕ) (v : LogletView) → slice_get (map L.view stripes.now) i ≡ Some v → length stripes.now * v.room ≤ 2 ^ 32 }
-    ensures { IsShapeOf (map L.view stripes.now) result }
+    ensures shape { IsShapeOf (map L.view stripes.now) result }
+    ensures each { result.servers ≡ length (states_of (map L.serving stripes.now)) }
 {
     let count = stripes.len() as u64;
     let room = stripes[0].room();
@@ -44,7 +47,8 @@ pub fn shape_of<L: Loglet>(stripes: &[L]) -> Shape
 /// How many servers the stripes have.
 fn servers_of<L: Loglet>(stripes: &[L]) -> u32
     requires { total (λ v. v.servers) (map L.view stripes.now) ≤ 64 }
-    ensures { result ≡ total (λ v. v.servers) (map L.view stripes.now) }
+    ensures value { result ≡ total (λ v. v.servers) (map L.view stripes.now) }
+    ensures each { result ≡ length (states_of (map L.serving stripes.now)) }
 {
     let mut servers = 0;
     for stripe in stripes {
@@ -116,7 +120,8 @@ pub fn faults_of<L: Loglet>(stripes: &[L]) -> u64
 /// How many servers of the stripes are down.
 pub fn down_of<L: Loglet>(stripes: &[L]) -> u32
     requires { total (λ v. v.down) (map L.view stripes.now) ≤ 64 }
-    ensures { result ≡ total (λ v. v.down) (map L.view stripes.now) }
+    ensures value { result ≡ total (λ v. v.down) (map L.view stripes.now) }
+    ensures each { result ≡ downs_of (states_of (map L.serving stripes.now)) }
 {
     let mut down = 0;
     for stripe in stripes {
@@ -129,7 +134,8 @@ pub fn down_of<L: Loglet>(stripes: &[L]) -> u32
 /// stripe.
 pub fn place_of<L: Loglet>(stripes: &[L], server: u32) -> (usize, u32)
     requires { server < total (λ v. v.servers) (map L.view stripes.now) }
-    ensures { HasServer (map L.view stripes.now) server result.0 result.1 }
+    ensures place { HasServer (map L.view stripes.now) server result.0 result.1 }
+    ensures each { server ≡ length (states_of (take result.0 (map L.serving stripes.now))) + result.1 }
 {
     let mut rest = server;
     let mut i = 0;

@@ -3,6 +3,7 @@ ghost use Rattle.std.specs.Prelude.{◌≡◌};
 ghost use Rattle.loglet_api.specs.View.{IsOpen};
 ghost use Rattle.loglet_api.specs.Step.{CanCall};
 ghost use Rattle.striped_loglet.specs.Calls.{BegunOn, CarriedOn, TakenOn};
+ghost use Rattle.striped_loglet.specs.Servings.{ServesCarry};
 
 use delos_types::numbers::Ticket;
 use loglet_api::call::{Answer, LogletCall, Op, Refused};
@@ -28,7 +29,8 @@ pub enum Outcome {
 /// Begins an operation on the stripe of this number.
 pub fn begin_on<L: Loglet>(stripe: &mut L, number: u64, op: Op) -> Result<Inner, Refused>
     requires { CanCall (L.view stripe.old) (LogletCall.Begin op) }
-    ensures { BegunOn (L.view stripe.old) number op result (L.view stripe.new) }
+    ensures step { BegunOn (L.view stripe.old) number op result (L.view stripe.new) }
+    ensures serves { L.serving stripe.new ≡ L.serving stripe.old }
 {
     let ticket = match stripe.begin(op) {
         Ok(ticket) => ticket,
@@ -47,7 +49,8 @@ pub fn begin_on<L: Loglet>(stripe: &mut L, number: u64, op: Op) -> Result<Inner,
 /// decided then.
 pub fn carry_on<L: Loglet>(stripe: &mut L, inner: Inner, word: u64) -> Result<Outcome, Refused>
     requires { IsOpen (L.view stripe.old) inner.ticket }
-    ensures { CarriedOn (L.view stripe.old) inner word result (L.view stripe.new) }
+    ensures step { CarriedOn (L.view stripe.old) inner word result (L.view stripe.new) }
+    ensures serves { ServesCarry (L.serving stripe.old) inner.ticket word result (L.serving stripe.new) }
 {
     let (rounds, steps) = stripe.left(inner.ticket);
     if rounds == 0 && steps == 0 {
@@ -62,7 +65,8 @@ pub fn carry_on<L: Loglet>(stripe: &mut L, inner: Inner, word: u64) -> Result<Ou
 /// Takes the answer of an operation of a stripe, or looks at what is left of it.
 fn taken<L: Loglet>(stripe: &mut L, inner: Inner) -> Outcome
     requires { IsOpen (L.view stripe.old) inner.ticket }
-    ensures { TakenOn (L.view stripe.old) inner result (L.view stripe.new) }
+    ensures step { TakenOn (L.view stripe.old) inner result (L.view stripe.new) }
+    ensures serves { L.serving stripe.new ≡ L.serving stripe.old }
 {
     match stripe.take(inner.ticket) {
         Some(answer) => Outcome::Answered(answer),

@@ -3,11 +3,14 @@ ghost use Rattle.std.specs.Prelude.{◌≡◌, ℕ, ◌+◌, ◌*◌, ◌/◌, �
 ghost use Rattle.loglet_api.specs.View.{LogletView, IsFresh, IsOpen};
 ghost use Rattle.loglet_api.specs.Sound.{IsSound};
 ghost use Rattle.loglet_api.specs.Step.{CanBegin, CanCall, LogletStep};
-ghost use Rattle.loglet_api.specs.Answers.{stray_answer, restart_answer};
+ghost use Rattle.loglet_api.specs.Servers.{Serves};
+ghost use Rattle.loglet_api.specs.Answers.{carry_answer, stray_answer, restart_answer};
 ghost use Rattle.striped_loglet.specs.Views.{total, least_of};
 ghost use Rattle.striped_loglet.specs.Shapes.{kind_by, most_of};
 ghost use Rattle.striped_loglet.specs.Plans.{heard_by, told_tail};
 ghost use Rattle.striped_loglet.specs.Calls.{CallsServer, Strays, Starts, Hears, CarriesInner, BeginsNext};
+ghost use Rattle.striped_loglet.specs.Servings.{ServesServer, ServesStray, CarriesAt, CarriesSome};
+ghost use Rattle.striped_loglet.specs.Striped.{serving_of};
 
 use crate::marks::Marks;
 use crate::pending::{Course, Decided, Pending, put, set, take_decided};
@@ -34,18 +37,22 @@ pub struct StripedLoglet<L: Loglet> {
     marks: Marks,
     /// The open operations, by ticket.
     pending: HashMap<u64, Pending<L>>,
+    /// The word or count that the last carry, stray, stop or restart was given.
+    told: u64,
 }
 
 impl<L: Loglet> Model for StripedLoglet<L> {
+    ghost use Rattle.std.specs.Prelude.{◌≡◌, map, length};
     ghost use Rattle.striped_loglet.specs.State.{state_of};
     ghost use Rattle.striped_loglet.specs.Going.{IsStriped};
+    ghost use Rattle.striped_loglet.specs.Servings.{states_of};
     ghost use Rattle.striped_loglet.specs.Striped.{StripedView, striped_view};
 
     ghost Value = { StripedView };
 
-    ghost view = { λ a. striped_view L.view a.shape a.stripes.items a.marks a.pending };
+    ghost view = { λ a. striped_view L.view L.serving a.shape a.stripes.items a.marks a.pending a.told };
 
-    ghost invariant = { λ a. IsStriped (state_of L.view a.shape a.stripes.items a.marks a.pending) };
+    ghost invariant = { λ a. IsStriped (state_of L.view a.shape a.stripes.items a.marks a.pending) × (length (states_of (map L.serving a.stripes.items)) ≡ a.shape.servers) };
 }
 
 impl<L: Loglet> StripedLoglet<L> {
@@ -67,6 +74,8 @@ impl<L: Loglet> StripedLoglet<L> {
         ensures rounds { result.loglet.rounds ≡ (3 * length inner.items + 1) * (most_of (λ v. v.rounds) (map L.view inner.items) + 2) }
         ensures limit { result.loglet.limit ≡ least_of (map (λ v. v.limit) (map L.view inner.items)) / 4 }
         ensures stripes { result.stripes ≡ map L.view inner.items }
+        ensures servings { result.servings ≡ map L.serving inner.items }
+        ensures told { result.told ≡ 0 }
         ensures room { (i : ℕ) (v : LogletView) → slice_get (map L.view inner.items) i ≡ Some v → result.loglet.room ≡ length inner.items * v.room }
     {
         StripedLoglet {
@@ -74,12 +83,15 @@ impl<L: Loglet> StripedLoglet<L> {
             stripes: inner,
             marks: Marks::new(),
             pending: HashMap::new(alloc),
+            told: 0,
         }
     }
 }
 
 impl<L: Loglet> Loglet for StripedLoglet<L> {
     ghost view = { λ v. v.loglet };
+
+    ghost serving = { serving_of };
 
     fn kind(&self) -> Kind {
         self.shape.kind
@@ -147,17 +159,34 @@ impl<L: Loglet> Loglet for StripedLoglet<L> {
         Ok(Ticket::new(number))
     }
 
-    fn carry(&mut self, ticket: Ticket, word: u64) -> Result<(), Refused> {
+    fn carry(&mut self, ticket: Ticket, word: u64) -> Result<(), Refused>
+        requires { CanCall self.old.loglet (LogletCall.Carry ticket word) }
+        ensures step { LogletStep self.old.loglet (LogletCall.Carry ticket word) (carry_answer result) self.new.loglet }
+        ensures serves { Serves (serving_of self.old) (LogletCall.Carry ticket word) (carry_answer result) (serving_of self.new) }
+        ensures handed { CarriesSome self.old.servings word result self.new.servings }
+    {
         let number = ticket.number();
         let course = self.pending[&number].course();
         match self.pending[&number].inner {
             Some(inner) => {
                 let stripes = &mut self.stripes;
-                return carry_inner(stripes, &mut self.pending, number, &course, inner, word);
+                match carry_inner(stripes, &mut self.pending, number, &course, inner, word) {
+                    Ok(()) => {
+                        self.told = word;
+                        return Ok(());
+                    }
+                    Err(refused) => return Err(refused),
+                }
             }
             None => {
                 let cut = self.marks.cut;
-                return begin_next(&mut self.stripes, &mut self.pending, number, &course, cut);
+                match begin_next(&mut self.stripes, &mut self.pending, number, &course, cut) {
+                    Ok(()) => {
+                        self.told = word;
+                        return Ok(());
+                    }
+                    Err(refused) => return Err(refused),
+                }
             }
         }
     }
@@ -186,29 +215,48 @@ impl<L: Loglet> Loglet for StripedLoglet<L> {
 
     fn stray(&mut self, word: u64) -> Result<(), Refused>
         ensures step { LogletStep self.old.loglet (LogletCall.Stray word) (stray_answer result) self.new.loglet }
+        ensures serves { Serves (serving_of self.old) (LogletCall.Stray word) (stray_answer result) (serving_of self.new) }
         ensures stripe { Strays self.old.stripes word (stray_answer result) self.new.stripes }
+        ensures handed { ServesStray self.old.servings word (stray_answer result) self.new.servings }
     {
         let count = self.stripes.len() as u64;
         let i = (word % count) as usize;
-        self.stripes[i].stray(word / count)
+        match self.stripes[i].stray(word / count) {
+            Ok(()) => {
+                self.told = word;
+                return Ok(());
+            }
+            Err(refused) => return Err(refused),
+        }
     }
 
     fn stop(&mut self, server: u32, after: u64)
         requires { CanCall self.old.loglet (LogletCall.Stop server after) }
         ensures step { LogletStep self.old.loglet (LogletCall.Stop server after) LogletAnswer.Stopped self.new.loglet }
+        ensures serves { Serves (serving_of self.old) (LogletCall.Stop server after) LogletAnswer.Stopped (serving_of self.new) }
         ensures stripe { CallsServer self.old.stripes server (λ inner. LogletCall.Stop inner after) LogletAnswer.Stopped self.new.stripes }
+        ensures handed { ServesServer self.old.stripes self.old.servings server (λ inner. LogletCall.Stop inner after) LogletAnswer.Stopped self.new.servings }
     {
         let (i, server) = place_of(self.stripes.as_slice(), server);
         self.stripes[i].stop(server, after);
+        self.told = after;
     }
 
     fn restart(&mut self, server: u32, word: u64) -> Result<bool, Refused>
         requires { CanCall self.old.loglet (LogletCall.Restart server word) }
         ensures step { LogletStep self.old.loglet (LogletCall.Restart server word) (restart_answer result) self.new.loglet }
+        ensures serves { Serves (serving_of self.old) (LogletCall.Restart server word) (restart_answer result) (serving_of self.new) }
         ensures stripe { CallsServer self.old.stripes server (λ inner. LogletCall.Restart inner word) (restart_answer result) self.new.stripes }
+        ensures handed { ServesServer self.old.stripes self.old.servings server (λ inner. LogletCall.Restart inner word) (restart_answer result) self.new.servings }
     {
         let (i, server) = place_of(self.stripes.as_slice(), server);
-        self.stripes[i].restart(server, word)
+        match self.stripes[i].restart(server, word) {
+            Ok(up) => {
+                self.told = word;
+                return Ok(up);
+            }
+            Err(refused) => return Err(refused),
+        }
     }
 }
 
@@ -216,7 +264,8 @@ impl<L: Loglet> Loglet for StripedLoglet<L> {
 fn start<L: Loglet>(stripes: &mut Vec<L>, op: Op, size: u64) -> Result<Option<Inner>, Refused>
     requires count { 0 < length stripes.old.items }
     requires can { CanBegin op }
-    ensures { Starts (map L.view stripes.old.items) op size result (map L.view stripes.new.items) }
+    ensures step { Starts (map L.view stripes.old.items) op size result (map L.view stripes.new.items) }
+    ensures serves { map L.serving stripes.new.items ≡ map L.serving stripes.old.items }
 {
     match op {
         Op::Append(entry) => {
@@ -243,7 +292,8 @@ fn carry_inner<L: Loglet>(
     requires count { length stripes.old.items ≤ 8 }
     requires next { course.now.plan.next ≤ 8 }
     requires is_there { (v : LogletView) → slice_get (map L.view stripes.old.items) inner.stripe ≡ Some v → IsOpen v inner.ticket }
-    ensures { CarriesInner (map L.view stripes.old.items) pending.old number course.now inner word result (map L.view stripes.new.items) pending.new }
+    ensures step { CarriesInner (map L.view stripes.old.items) pending.old number course.now inner word result (map L.view stripes.new.items) pending.new }
+    ensures serves { CarriesAt (map L.serving stripes.old.items) inner.stripe inner.ticket word result (map L.serving stripes.new.items) }
 {
     let count = stripes.len() as u64;
     let plan = course.plan;
@@ -276,7 +326,8 @@ fn begin_next<L: Loglet>(
     requires count { length stripes.old.items ≤ 8 }
     requires size { course.now.asked.size ≤ 2 ^ 32 }
     requires cut { cut ≤ 2 ^ 32 }
-    ensures { BeginsNext (map L.view stripes.old.items) pending.old number course.now cut result (map L.view stripes.new.items) pending.new }
+    ensures step { BeginsNext (map L.view stripes.old.items) pending.old number course.now cut result (map L.view stripes.new.items) pending.new }
+    ensures serves { map L.serving stripes.new.items ≡ map L.serving stripes.old.items }
 {
     let count = stripes.len() as u64;
     let asked = course.asked;

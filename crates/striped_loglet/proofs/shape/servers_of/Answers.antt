@@ -1,13 +1,15 @@
-use Rattle.std.proofs.Common.{◌≡◌, ◌+◌, map, drop, arith}
+use Rattle.std.proofs.Common.{◌≡◌, ◌+◌, List, length, map, drop, ap, arith}
+use Rattle.loglet_api.specs.Servers.{ServerState}
 use Rattle.striped_loglet.specs.Views.{total}
 use Rattle.striped_loglet.proofs.Places.{total_drop}
+use Rattle.striped_loglet.proofs.Serving.{length_drop, states_end}
 use Rattle.striped_loglet.proofs.shape.servers_of.Goals as goal
 
 pub overflow_add-servers : goal.overflow_add-servers
 overflow_add-servers g c =
     let next : total (λ v. v.servers) (drop c.loop-stripe.stripe-index (map g.L.Loglet.view c.args.stripes.now)) ≡ (g.L.Loglet.view c.stripe-item.result).servers + total (λ v. v.servers) (drop (c.loop-stripe.stripe-index + 1) (map g.L.Loglet.view c.args.stripes.now)) =
     total_drop (λ v. v.servers) g.L.Loglet.view c.args.stripes.now c.loop-stripe.stripe-index c.stripe-item.result c.loop-stripe-test.true c.stripe-item.is in
-    let so_far = c.loop-stripe.invariant in
+    let so_far = c.loop-stripe.invariant.all in
     let most = c.requires in
     let here = c.servers-servers.ensures.value in
     omega (arith, next, so_far, most, here)
@@ -16,6 +18,15 @@ pub loop-stripe-preserved : goal.loop-stripe-preserved
 loop-stripe-preserved g c =
     let next : total (λ v. v.servers) (drop c.loop-stripe.stripe-index (map g.L.Loglet.view c.args.stripes.now)) ≡ (g.L.Loglet.view c.stripe-item.result).servers + total (λ v. v.servers) (drop (c.loop-stripe.stripe-index + 1) (map g.L.Loglet.view c.args.stripes.now)) =
     total_drop (λ v. v.servers) g.L.Loglet.view c.args.stripes.now c.loop-stripe.stripe-index c.stripe-item.result c.loop-stripe-test.true c.stripe-item.is in
-    let so_far = c.loop-stripe.invariant in
+    let so_far = c.loop-stripe.invariant.all in
     let here = c.servers-servers.ensures.value in
-    omega (arith, next, so_far, here)
+    let more = length_drop g.L.Loglet.serving c.args.stripes.now c.loop-stripe.stripe-index c.stripe-item.result c.loop-stripe-test.true c.stripe-item.is in
+    let seen = c.loop-stripe.invariant.each in
+    let each = c.servers-servers.ensures.each in
+    record { all = omega (arith, next, so_far, here); each = omega (arith, more, seen, each) }
+
+pub returns-clause-each : goal.returns-clause-each
+returns-clause-each g c =
+    let end = ap (λ (x : List ServerState). length x) (states_end g.L.Loglet.serving c.args.stripes.now c.loop-stripe.stripe-index (let e = c.loop-stripe-test.false in omega (arith, e))) in
+    let seen = c.loop-stripe.invariant.each in
+    omega (arith, end, seen)

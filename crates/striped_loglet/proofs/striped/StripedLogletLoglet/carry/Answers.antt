@@ -1,77 +1,64 @@
-use Rattle.std.proofs.Common.{ap, arith}
+use Rattle.std.proofs.Common.{List, length, map, inl, ap, ◌∙◌, arith}
+use Rattle.loglet_api.specs.declared.call.LogletCall.TheVariants.{Carry}
+use Rattle.loglet_api.specs.declared.call.LogletAnswer.TheVariants.{Carried}
+use Rattle.loglet_api.specs.Servers.{ServersView}
+use Rattle.striped_loglet.specs.Servings.{states_of}
 use Rattle.striped_loglet.specs.declared.pending.Course.{Course}
 use Rattle.striped_loglet.proofs.Places.{length_view}
 use Rattle.striped_loglet.proofs.Bridge.{undecided_there, undecided_none, next_whole, size_whole, step_whole, waits_next, course_of}
-use Rattle.striped_loglet.proofs.Wholes.{inner_open, inner_carried, next_begun}
+use Rattle.striped_loglet.proofs.Wholes.{inner_open, inner_done, refused_inner, next_carried, refused_next}
+use Rattle.striped_loglet.proofs.Serving.{served, same_served, carry_served, carry_length}
+use Rattle.striped_loglet.proofs.Handing.{serves_from, same_from, same_handed, carry_handed}
 use Rattle.striped_loglet.proofs.striped.StripedLogletLoglet.carry.Goals as goal
 
 pub index-requires : goal.index-requires
 index-requires g c =
     let i = c.self.inside in
-    rw c.number-number.ensures (undecided_there g.L.Loglet.view i.shape i.stripes.items i.marks i.pending _ c.args.ticket c.self.view_is c.self.invariant c.requires)
+    rw c.number-number.ensures (undecided_there g.L.Loglet.view g.L.Loglet.serving i.shape i.stripes.items i.marks i.pending _ c.args.ticket c.self.view_is c.self.invariant.0 c.requires)
 
 pub carry_inner-requires-clause-stripe : goal.carry_inner-requires-clause-stripe
 carry_inner-requires-clause-stripe g c =
     let i = c.self.inside in
-    (inner_open g.L.Loglet.view i.shape i.stripes.items i.marks i.pending c.number-number.result c.index-2.result.now c.in-Some.inner c.self.invariant c.index-2.ensures c.in-Some.is).0
+    (inner_open g.L.Loglet.view i.shape i.stripes.items i.marks i.pending c.number-number.result c.index-2.result.now c.in-Some.inner c.self.invariant.0 c.index-2.ensures c.in-Some.is).0
 
 pub carry_inner-requires-clause-is_there : goal.carry_inner-requires-clause-is_there
 carry_inner-requires-clause-is_there g c =
     let i = c.self.inside in
-    (inner_open g.L.Loglet.view i.shape i.stripes.items i.marks i.pending c.number-number.result c.index-2.result.now c.in-Some.inner c.self.invariant c.index-2.ensures c.in-Some.is).1
+    (inner_open g.L.Loglet.view i.shape i.stripes.items i.marks i.pending c.number-number.result c.index-2.result.now c.in-Some.inner c.self.invariant.0 c.index-2.ensures c.in-Some.is).1
 
 pub carry_inner-requires-clause-next : goal.carry_inner-requires-clause-next
 carry_inner-requires-clause-next g c =
     let i = c.self.inside in
     let view = g.L.Loglet.view in
     let at = rw c.number-number.ensures at c.index.ensures in
-    let none = undecided_none view i.shape i.stripes.items i.marks i.pending _ c.args.ticket c.index.result.now c.self.view_is c.self.invariant c.requires at in
-    let l = next_whole view i.shape i.stripes.items i.marks i.pending c.args.ticket c.index.result.now c.self.invariant at none in
+    let none = undecided_none view g.L.Loglet.serving i.shape i.stripes.items i.marks i.pending _ c.args.ticket c.index.result.now c.self.view_is c.self.invariant.0 c.requires at in
+    let l = next_whole view i.shape i.stripes.items i.marks i.pending c.args.ticket c.index.result.now c.self.invariant.0 at none in
     let e = length_view view i.stripes.items in
-    let k = c.self.invariant.shaped.count.1 in
+    let k = c.self.invariant.0.shaped.count.1 in
     let p = ap (λ (z : Course). z.plan.next) c.course-course.ensures in
     omega (arith, l, e, k, p)
-
-pub invariant_of-self : goal.invariant_of-self
-invariant_of-self g c =
-    let i = c.self.inside in
-    let view = g.L.Loglet.view in
-    let at = rw c.number-number.ensures at c.index-2.ensures in
-    let none = undecided_none view i.shape i.stripes.items i.marks i.pending _ c.args.ticket c.index-2.result.now c.self.view_is c.self.invariant c.requires at in
-    let course = course_of view i.pending c.number-number.result c.index.result.now c.index-2.result.now c.course-course.result c.index.ensures c.index-2.ensures c.course-course.ensures in
-    (inner_carried view i.shape i.stripes.items c.carry_inner.new.stripes.items i.marks i.pending c.carry_inner.new.pending c.args.ticket c.args.word c.index-2.result.now c.course-course.result c.in-Some.inner c.carry_inner.result c.self.invariant at none c.in-Some.is course (rw c.number-number.ensures at c.carry_inner.ensures)).0
-
-pub returns-in-Some : goal.returns-in-Some
-returns-in-Some g c =
-    let i = c.self.inside in
-    let view = g.L.Loglet.view in
-    let at = rw c.number-number.ensures at c.index-2.ensures in
-    let none = undecided_none view i.shape i.stripes.items i.marks i.pending _ c.args.ticket c.index-2.result.now c.self.view_is c.self.invariant c.requires at in
-    let course = course_of view i.pending c.number-number.result c.index.result.now c.index-2.result.now c.course-course.result c.index.ensures c.index-2.ensures c.course-course.ensures in
-    let all = inner_carried view i.shape i.stripes.items c.carry_inner.new.stripes.items i.marks i.pending c.carry_inner.new.pending c.args.ticket c.args.word c.index-2.result.now c.course-course.result c.in-Some.inner c.carry_inner.result c.self.invariant at none c.in-Some.is course (rw c.number-number.ensures at c.carry_inner.ensures) in
-    step_whole view i.shape i.stripes.items c.carry_inner.new.stripes.items i.marks i.marks i.pending c.carry_inner.new.pending _ _ _ c.self.view_is c.self.invariant all.0 c.requires all.1
 
 pub begin_next-requires-clause-next : goal.begin_next-requires-clause-next
 begin_next-requires-clause-next g c =
     let i = c.self.inside in
     let view = g.L.Loglet.view in
     let at = rw c.number-number.ensures at c.index-2.ensures in
-    let none = undecided_none view i.shape i.stripes.items i.marks i.pending _ c.args.ticket c.index-2.result.now c.self.view_is c.self.invariant c.requires at in
+    let none = undecided_none view g.L.Loglet.serving i.shape i.stripes.items i.marks i.pending _ c.args.ticket c.index-2.result.now c.self.view_is c.self.invariant.0 c.requires at in
     let course = course_of view i.pending c.number-number.result c.index.result.now c.index-2.result.now c.course-course.result c.index.ensures c.index-2.ensures c.course-course.ensures in
-    let l = waits_next view i.shape i.stripes.items i.marks i.pending c.args.ticket c.index-2.result.now c.self.invariant at none c.in-None.is in
+    let l = waits_next view i.shape i.stripes.items i.marks i.pending c.args.ticket c.index-2.result.now c.self.invariant.0 at none c.in-None.is in
     let p = ap (λ (z : Course). z.plan.next) course in
     omega (arith, l, p)
 
 pub begin_next-requires-clause-size : goal.begin_next-requires-clause-size
 begin_next-requires-clause-size g c =
     let i = c.self.inside in
-    let l = size_whole g.L.Loglet.view i.shape i.stripes.items i.marks i.pending c.number-number.result c.index.result.now c.self.invariant c.index.ensures in
+    let l = size_whole g.L.Loglet.view i.shape i.stripes.items i.marks i.pending c.number-number.result c.index.result.now c.self.invariant.0 c.index.ensures in
     let p = ap (λ (z : Course). z.asked.size) c.course-course.ensures in
     omega (arith, l, p)
 
 pub begin_next-requires-clause-cut : goal.begin_next-requires-clause-cut
 begin_next-requires-clause-cut g c =
-    let h = c.self.invariant in
+    let h = c.self.invariant.0 in
     let a = h.cut in
     let b = h.reach in
     let d = h.firm in
@@ -79,21 +66,128 @@ begin_next-requires-clause-cut g c =
     let f = h.shaped.room.1 in
     omega (arith, a, b, d, e, f)
 
-pub invariant_of-self-in-None : goal.invariant_of-self-in-None
-invariant_of-self-in-None g c =
+pub invariant_of-self : goal.invariant_of-self
+invariant_of-self g c =
     let i = c.self.inside in
     let view = g.L.Loglet.view in
     let at = rw c.number-number.ensures at c.index-2.ensures in
-    let none = undecided_none view i.shape i.stripes.items i.marks i.pending _ c.args.ticket c.index-2.result.now c.self.view_is c.self.invariant c.requires at in
+    let none = undecided_none view g.L.Loglet.serving i.shape i.stripes.items i.marks i.pending _ c.args.ticket c.index-2.result.now c.self.view_is c.self.invariant.0 c.requires at in
     let course = course_of view i.pending c.number-number.result c.index.result.now c.index-2.result.now c.course-course.result c.index.ensures c.index-2.ensures c.course-course.ensures in
-    (next_begun view i.shape i.stripes.items c.begin_next.new.stripes.items i.marks i.pending c.begin_next.new.pending c.args.ticket c.args.word c.index-2.result.now c.course-course.result c.begin_next.result c.self.invariant at none c.in-None.is course (rw c.number-number.ensures at c.begin_next.ensures)).0
+    let all = inner_done view i.shape i.stripes.items c.carry_inner.new.stripes.items i.marks i.pending c.carry_inner.new.pending c.args.ticket c.args.word c.index-2.result.now c.course-course.result c.in-Some.inner c.self.invariant.0 at none c.in-Some.is course (rw c.number-number.ensures at c.in-Ok.ensures.step) in
+    (all.0, carry_length (map g.L.Loglet.serving i.stripes.items) (map g.L.Loglet.serving c.carry_inner.new.stripes.items) c.in-Some.inner.stripe c.in-Some.inner.ticket c.args.word c.in-Ok.ensures.serves ∙ c.self.invariant.1)
 
-pub returns-in-None : goal.returns-in-None
-returns-in-None g c =
+pub returns-in-Ok-clause-step : goal.returns-in-Ok-clause-step
+returns-in-Ok-clause-step g c =
     let i = c.self.inside in
     let view = g.L.Loglet.view in
     let at = rw c.number-number.ensures at c.index-2.ensures in
-    let none = undecided_none view i.shape i.stripes.items i.marks i.pending _ c.args.ticket c.index-2.result.now c.self.view_is c.self.invariant c.requires at in
+    let none = undecided_none view g.L.Loglet.serving i.shape i.stripes.items i.marks i.pending _ c.args.ticket c.index-2.result.now c.self.view_is c.self.invariant.0 c.requires at in
     let course = course_of view i.pending c.number-number.result c.index.result.now c.index-2.result.now c.course-course.result c.index.ensures c.index-2.ensures c.course-course.ensures in
-    let all = next_begun view i.shape i.stripes.items c.begin_next.new.stripes.items i.marks i.pending c.begin_next.new.pending c.args.ticket c.args.word c.index-2.result.now c.course-course.result c.begin_next.result c.self.invariant at none c.in-None.is course (rw c.number-number.ensures at c.begin_next.ensures) in
-    step_whole view i.shape i.stripes.items c.begin_next.new.stripes.items i.marks i.marks i.pending c.begin_next.new.pending _ _ _ c.self.view_is c.self.invariant all.0 c.requires all.1
+    let all = inner_done view i.shape i.stripes.items c.carry_inner.new.stripes.items i.marks i.pending c.carry_inner.new.pending c.args.ticket c.args.word c.index-2.result.now c.course-course.result c.in-Some.inner c.self.invariant.0 at none c.in-Some.is course (rw c.number-number.ensures at c.in-Ok.ensures.step) in
+    step_whole view g.L.Loglet.serving i.shape i.stripes.items c.carry_inner.new.stripes.items i.marks i.marks i.pending c.carry_inner.new.pending _ _ _ c.self.view_is c.self.invariant.0 all.0 c.requires all.1
+
+pub returns-in-Ok-clause-serves : goal.returns-in-Ok-clause-serves
+returns-in-Ok-clause-serves g c =
+    let i = c.self.inside in
+    let view = g.L.Loglet.view in
+    serves_from view g.L.Loglet.serving i.shape i.stripes.items i.marks i.pending i.told _ (Carry c.args.ticket c.args.word) Carried (served (map g.L.Loglet.serving c.carry_inner.new.stripes.items) c.args.word) c.self.view_is
+    (carry_served (map g.L.Loglet.serving i.stripes.items) (map g.L.Loglet.serving c.carry_inner.new.stripes.items) c.in-Some.inner.stripe c.in-Some.inner.ticket c.args.ticket c.args.word i.told c.in-Ok.ensures.serves)
+
+pub returns-in-Ok-clause-handed : goal.returns-in-Ok-clause-handed
+returns-in-Ok-clause-handed g c =
+    let i = c.self.inside in
+    let view = g.L.Loglet.view in
+    carry_handed view g.L.Loglet.serving i.shape i.stripes.items i.marks i.pending i.told _ c.in-Some.inner.stripe c.in-Some.inner.ticket c.args.word _ c.self.view_is c.in-Ok.ensures.serves
+
+pub invariant_of-self-in-Err : goal.invariant_of-self-in-Err
+invariant_of-self-in-Err g c =
+    let i = c.self.inside in
+    let view = g.L.Loglet.view in
+    let all = refused_inner view i.shape i.stripes.items c.carry_inner.new.stripes.items i.marks i.pending c.carry_inner.new.pending c.args.ticket c.args.word c.in-Some.inner c.in-Err.refused c.self.invariant.0 c.in-Err.ensures.step in
+    (all.0, ap (λ (vs : List ServersView). length (states_of vs)) c.in-Err.ensures.serves ∙ c.self.invariant.1)
+
+pub returns-in-Err-clause-step : goal.returns-in-Err-clause-step
+returns-in-Err-clause-step g c =
+    let i = c.self.inside in
+    let view = g.L.Loglet.view in
+    let all = refused_inner view i.shape i.stripes.items c.carry_inner.new.stripes.items i.marks i.pending c.carry_inner.new.pending c.args.ticket c.args.word c.in-Some.inner c.in-Err.refused c.self.invariant.0 c.in-Err.ensures.step in
+    step_whole view g.L.Loglet.serving i.shape i.stripes.items c.carry_inner.new.stripes.items i.marks i.marks i.pending c.carry_inner.new.pending _ _ _ c.self.view_is c.self.invariant.0 all.0 c.requires all.1
+
+pub returns-in-Err-clause-serves : goal.returns-in-Err-clause-serves
+returns-in-Err-clause-serves g c =
+    let i = c.self.inside in
+    let view = g.L.Loglet.view in
+    same_from view g.L.Loglet.serving i.shape i.stripes.items i.marks i.pending i.told _ _ c.self.view_is
+    (same_served (map g.L.Loglet.serving i.stripes.items) (map g.L.Loglet.serving c.carry_inner.new.stripes.items) i.told c.in-Err.ensures.serves)
+
+pub returns-in-Err-clause-handed : goal.returns-in-Err-clause-handed
+returns-in-Err-clause-handed g c =
+    let i = c.self.inside in
+    let view = g.L.Loglet.view in
+    same_handed view g.L.Loglet.serving i.shape i.stripes.items i.marks i.pending i.told _ _ c.self.view_is c.in-Err.ensures.serves
+
+pub invariant_of-self-in-Ok-begin_next : goal.invariant_of-self-in-Ok-begin_next
+invariant_of-self-in-Ok-begin_next g c =
+    let i = c.self.inside in
+    let view = g.L.Loglet.view in
+    let at = rw c.number-number.ensures at c.index-2.ensures in
+    let none = undecided_none view g.L.Loglet.serving i.shape i.stripes.items i.marks i.pending _ c.args.ticket c.index-2.result.now c.self.view_is c.self.invariant.0 c.requires at in
+    let course = course_of view i.pending c.number-number.result c.index.result.now c.index-2.result.now c.course-course.result c.index.ensures c.index-2.ensures c.course-course.ensures in
+    let all = next_carried view i.shape i.stripes.items c.begin_next.new.stripes.items i.marks i.pending c.begin_next.new.pending c.args.ticket c.args.word c.index-2.result.now c.course-course.result c.self.invariant.0 at none c.in-None.is course (rw c.number-number.ensures at c.in-Ok-begin_next.ensures.step) in
+    (all.0, ap (λ (vs : List ServersView). length (states_of vs)) c.in-Ok-begin_next.ensures.serves ∙ c.self.invariant.1)
+
+pub returns-in-Ok-begin_next-clause-step : goal.returns-in-Ok-begin_next-clause-step
+returns-in-Ok-begin_next-clause-step g c =
+    let i = c.self.inside in
+    let view = g.L.Loglet.view in
+    let at = rw c.number-number.ensures at c.index-2.ensures in
+    let none = undecided_none view g.L.Loglet.serving i.shape i.stripes.items i.marks i.pending _ c.args.ticket c.index-2.result.now c.self.view_is c.self.invariant.0 c.requires at in
+    let course = course_of view i.pending c.number-number.result c.index.result.now c.index-2.result.now c.course-course.result c.index.ensures c.index-2.ensures c.course-course.ensures in
+    let all = next_carried view i.shape i.stripes.items c.begin_next.new.stripes.items i.marks i.pending c.begin_next.new.pending c.args.ticket c.args.word c.index-2.result.now c.course-course.result c.self.invariant.0 at none c.in-None.is course (rw c.number-number.ensures at c.in-Ok-begin_next.ensures.step) in
+    step_whole view g.L.Loglet.serving i.shape i.stripes.items c.begin_next.new.stripes.items i.marks i.marks i.pending c.begin_next.new.pending _ _ _ c.self.view_is c.self.invariant.0 all.0 c.requires all.1
+
+pub returns-in-Ok-begin_next-clause-serves : goal.returns-in-Ok-begin_next-clause-serves
+returns-in-Ok-begin_next-clause-serves g c =
+    let i = c.self.inside in
+    let view = g.L.Loglet.view in
+    serves_from view g.L.Loglet.serving i.shape i.stripes.items i.marks i.pending i.told _ (Carry c.args.ticket c.args.word) Carried (served (map g.L.Loglet.serving c.begin_next.new.stripes.items) c.args.word) c.self.view_is
+    (carry_served (map g.L.Loglet.serving i.stripes.items) (map g.L.Loglet.serving c.begin_next.new.stripes.items) 0 0 c.args.ticket c.args.word i.told (inl c.in-Ok-begin_next.ensures.serves))
+
+pub returns-in-Ok-begin_next-clause-handed : goal.returns-in-Ok-begin_next-clause-handed
+returns-in-Ok-begin_next-clause-handed g c =
+    let i = c.self.inside in
+    let view = g.L.Loglet.view in
+    inl (same_handed view g.L.Loglet.serving i.shape i.stripes.items i.marks i.pending i.told _ _ c.self.view_is c.in-Ok-begin_next.ensures.serves)
+
+pub invariant_of-self-in-Err-begin_next : goal.invariant_of-self-in-Err-begin_next
+invariant_of-self-in-Err-begin_next g c =
+    let i = c.self.inside in
+    let view = g.L.Loglet.view in
+    let at = rw c.number-number.ensures at c.index-2.ensures in
+    let none = undecided_none view g.L.Loglet.serving i.shape i.stripes.items i.marks i.pending _ c.args.ticket c.index-2.result.now c.self.view_is c.self.invariant.0 c.requires at in
+    let course = course_of view i.pending c.number-number.result c.index.result.now c.index-2.result.now c.course-course.result c.index.ensures c.index-2.ensures c.course-course.ensures in
+    let all = refused_next view i.shape i.stripes.items c.begin_next.new.stripes.items i.marks i.pending c.begin_next.new.pending c.args.ticket c.args.word c.index-2.result.now c.course-course.result c.in-Err-begin_next.refused c.self.invariant.0 at none c.in-None.is course c.in-Err-begin_next.ensures.step in
+    (all.0, ap (λ (vs : List ServersView). length (states_of vs)) c.in-Err-begin_next.ensures.serves ∙ c.self.invariant.1)
+
+pub returns-in-Err-begin_next-clause-step : goal.returns-in-Err-begin_next-clause-step
+returns-in-Err-begin_next-clause-step g c =
+    let i = c.self.inside in
+    let view = g.L.Loglet.view in
+    let at = rw c.number-number.ensures at c.index-2.ensures in
+    let none = undecided_none view g.L.Loglet.serving i.shape i.stripes.items i.marks i.pending _ c.args.ticket c.index-2.result.now c.self.view_is c.self.invariant.0 c.requires at in
+    let course = course_of view i.pending c.number-number.result c.index.result.now c.index-2.result.now c.course-course.result c.index.ensures c.index-2.ensures c.course-course.ensures in
+    let all = refused_next view i.shape i.stripes.items c.begin_next.new.stripes.items i.marks i.pending c.begin_next.new.pending c.args.ticket c.args.word c.index-2.result.now c.course-course.result c.in-Err-begin_next.refused c.self.invariant.0 at none c.in-None.is course c.in-Err-begin_next.ensures.step in
+    step_whole view g.L.Loglet.serving i.shape i.stripes.items c.begin_next.new.stripes.items i.marks i.marks i.pending c.begin_next.new.pending _ _ _ c.self.view_is c.self.invariant.0 all.0 c.requires all.1
+
+pub returns-in-Err-begin_next-clause-serves : goal.returns-in-Err-begin_next-clause-serves
+returns-in-Err-begin_next-clause-serves g c =
+    let i = c.self.inside in
+    let view = g.L.Loglet.view in
+    same_from view g.L.Loglet.serving i.shape i.stripes.items i.marks i.pending i.told _ _ c.self.view_is
+    (same_served (map g.L.Loglet.serving i.stripes.items) (map g.L.Loglet.serving c.begin_next.new.stripes.items) i.told c.in-Err-begin_next.ensures.serves)
+
+pub returns-in-Err-begin_next-clause-handed : goal.returns-in-Err-begin_next-clause-handed
+returns-in-Err-begin_next-clause-handed g c =
+    let i = c.self.inside in
+    let view = g.L.Loglet.view in
+    same_handed view g.L.Loglet.serving i.shape i.stripes.items i.marks i.pending i.told _ _ c.self.view_is c.in-Err-begin_next.ensures.serves

@@ -1,0 +1,63 @@
+-- What the stripes of a striped loglet are handed.
+use Rattle.std.proofs.Common.{◌≡◌, ℕ, suc, ◌/◌, ◌%◌, ◌<◌, List, [], ◌∷◌, length, map, set, get_or, Some, refl, sym, ap, ◌∙◌, subst}
+use Rattle.std.specs.Prelude.{◌⊎◌, slice_get}
+use Rattle.loglet_api.specs.declared.call.LogletCall.{LogletCall}
+use Rattle.loglet_api.specs.declared.call.LogletCall.TheVariants.{Stray}
+use Rattle.loglet_api.specs.declared.call.LogletAnswer.{LogletAnswer}
+use Rattle.loglet_api.specs.View.{LogletView}
+use Rattle.loglet_api.specs.Servers.{ServersView, Serves}
+use Rattle.striped_loglet.specs.declared.marks.Marks.{Marks}
+use Rattle.striped_loglet.specs.declared.shape.Shape.{Shape}
+use Rattle.striped_loglet.specs.Shapes.{HasServer}
+use Rattle.striped_loglet.specs.State.{PendingMap}
+use Rattle.striped_loglet.specs.Servings.{ServesServer, ServesStray, CarriesOne}
+use Rattle.striped_loglet.specs.Striped.{StripedView, striped_view, serving_of}
+use Rattle.striped_loglet.proofs.Lists.{map_set}
+use Rattle.striped_loglet.proofs.Serving.{serving_at, served, carries_some}
+use Rattle.striped_loglet.proofs.Wholes.{server_there}
+
+length_serving : {L : Type 0} (serving : L → ServersView) (xs : List L) → length (map serving xs) ≡ length xs
+length_serving serving [] = refl
+length_serving serving (x ∷ xs) = ap suc (length_serving serving xs)
+
+module _ {L : Type 0} (view : L → LogletView) (serving : L → ServersView) where
+  -- as it is of the fields, so it is of what is shown
+  pub serves_from : (shape : Shape) (xs : List L) (marks : Marks) (m : PendingMap L) (told : ℕ) (w : StripedView) (call : LogletCall) (answer : LogletAnswer) (new : ServersView) → striped_view view serving shape xs marks m told ≡ w → Serves (served (map serving xs) told) call answer new → Serves (serving_of w) call answer new
+  serves_from shape xs marks m told w call answer new e h = subst (λ (v : StripedView). Serves (serving_of v) call answer new) e h
+
+  pub same_from : (shape : Shape) (xs : List L) (marks : Marks) (m : PendingMap L) (told : ℕ) (w : StripedView) (new : ServersView) → striped_view view serving shape xs marks m told ≡ w → new ≡ served (map serving xs) told → new ≡ serving_of w
+  same_from shape xs marks m told w new e h = h ∙ ap serving_of e
+
+  pub server_handed : (shape : Shape) (xs : List L) (marks : Marks) (m : PendingMap L) (told : ℕ) (w : StripedView) (number i server : ℕ) (call : ℕ → LogletCall) (answer : LogletAnswer) (old new : L) → striped_view view serving shape xs marks m told ≡ w → HasServer (map view xs) number i server → old ≡ get_or xs i old
+      → Serves (serving old) (call server) answer (serving new) → ServesServer w.stripes w.servings number call answer (map serving (set xs i new))
+  server_handed shape xs marks m told w number i server call answer old new e h is serves =
+      subst (λ (v : StripedView). ServesServer v.stripes v.servings number call answer (map serving (set xs i new))) e (record {
+        stripe = i;
+        inner = server;
+        place = h;
+        before = serving old;
+        after = serving new;
+        is = serving_at serving xs i old (server_there view xs i server h) is;
+        serves = serves;
+        rest = map_set serving xs i new;
+      })
+
+  pub stray_handed : (shape : Shape) (xs : List L) (marks : Marks) (m : PendingMap L) (told : ℕ) (w : StripedView) (word count : ℕ) (answer : LogletAnswer) (old new : L) → striped_view view serving shape xs marks m told ≡ w → count ≡ length xs → word % count < length xs → old ≡ get_or xs (word % count) old
+      → Serves (serving old) (Stray (word / count)) answer (serving new) → ServesStray w.servings word answer (map serving (set xs (word % count) new))
+  stray_handed shape xs marks m told w word count answer old new e ec l is serves =
+      let k : count ≡ length (map serving xs) = ec ∙ sym (length_serving serving xs) in
+      subst (λ (v : StripedView). ServesStray v.servings word answer (map serving (set xs (word % count) new))) e (record {
+        before = serving old;
+        after = serving new;
+        is = subst (λ (n : ℕ). slice_get (map serving xs) (word % n) ≡ Some (serving old)) k (serving_at serving xs (word % count) old l is);
+        serves = subst (λ (n : ℕ). Serves (serving old) (Stray (word / n)) answer (serving new)) k serves;
+        rest = map_set serving xs (word % count) new ∙ ap (λ (n : ℕ). set (map serving xs) (word % n) (serving new)) k;
+      })
+
+  pub same_handed : (shape : Shape) (xs : List L) (marks : Marks) (m : PendingMap L) (told : ℕ) (w : StripedView) (new : List ServersView) → striped_view view serving shape xs marks m told ≡ w → new ≡ map serving xs → new ≡ w.servings
+  same_handed shape xs marks m told w new e h = h ∙ ap (λ (v : StripedView). v.servings) e
+
+  pub carry_handed : (shape : Shape) (xs : List L) (marks : Marks) (m : PendingMap L) (told : ℕ) (w : StripedView) (i t word : ℕ) (new : List ServersView) → striped_view view serving shape xs marks m told ≡ w → (new ≡ map serving xs) ⊎ CarriesOne (map serving xs) i t word new
+      → (new ≡ w.servings) ⊎ ((j : ℕ) × (u : ℕ) × CarriesOne w.servings j u word new)
+  carry_handed shape xs marks m told w i t word new e h =
+      subst (λ (v : StripedView). (new ≡ v.servings) ⊎ ((j : ℕ) × (u : ℕ) × CarriesOne v.servings j u word new)) e (carries_some (map serving xs) new i t word h)

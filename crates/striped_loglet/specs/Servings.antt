@@ -1,0 +1,56 @@
+-- The servers of a striped loglet: those of its stripes, one after another.
+use Rattle.std.specs.Prelude.{◌≡◌, ◌⊎◌, ℕ, ◌/◌, ◌%◌, Some, Result, Ok, Err, List, [], ◌∷◌, ◌++◌, length, set, slice_get}
+use Rattle.loglet_api.specs.declared.call.Refused.{Refused}
+use Rattle.loglet_api.specs.declared.call.LogletCall.{LogletCall}
+use Rattle.loglet_api.specs.declared.call.LogletCall.TheVariants.{Carry, Stray}
+use Rattle.loglet_api.specs.declared.call.LogletAnswer.{LogletAnswer}
+use Rattle.loglet_api.specs.declared.call.LogletAnswer.TheVariants.{Carried}
+use Rattle.loglet_api.specs.View.{LogletView}
+use Rattle.loglet_api.specs.Servers.{ServerState, ServersView, Serves}
+use Rattle.striped_loglet.specs.Shapes.{HasServer}
+
+-- the servers of all stripes
+abbrev pub states_of : List ServersView → List ServerState
+states_of [] = []
+states_of (v ∷ vs) = v.states ++ states_of vs
+
+-- what a call of one server does to the servers of the stripe that has it, and what that stripe is handed
+pub record ServesServer (views : List LogletView) (old : List ServersView) (server : ℕ) (call : ℕ → LogletCall) (answer : LogletAnswer) (new : List ServersView) : Type 0 where
+  pub stripe : ℕ
+  pub inner : ℕ
+  pub place : HasServer views server stripe inner
+  pub before : ServersView
+  pub after : ServersView
+  pub is : slice_get old stripe ≡ Some before
+  pub serves : Serves before (call inner) answer after
+  pub rest : new ≡ set old stripe after
+
+-- what a stray does to the servers of the stripe that its word picks: the rest of it is that stripe's word
+pub record ServesStray (old : List ServersView) (word : ℕ) (answer : LogletAnswer) (new : List ServersView) : Type 0 where
+  pub before : ServersView
+  pub after : ServersView
+  pub is : slice_get old (word % length old) ≡ Some before
+  pub serves : Serves before (Stray (word / length old)) answer after
+  pub rest : new ≡ set old (word % length old) after
+
+-- what carrying an operation of a stripe does to its servers: nothing where that was decided
+abbrev pub ServesCarry : {A : Type 0} → ServersView → ℕ → ℕ → Result A Refused → ServersView → Type 0
+ServesCarry old t word (Ok outcome) new = (new ≡ old) ⊎ Serves old (Carry t word) Carried new
+ServesCarry old t word (Err refused) new = new ≡ old
+
+-- an operation of one stripe was carried by this word
+pub record CarriesOne (old : List ServersView) (i t word : ℕ) (new : List ServersView) : Type 0 where
+  pub before : ServersView
+  pub after : ServersView
+  pub is : slice_get old i ≡ Some before
+  pub serves : Serves before (Carry t word) Carried after
+  pub rest : new ≡ set old i after
+
+abbrev pub CarriesAt : {A : Type 0} → List ServersView → ℕ → ℕ → ℕ → Result A Refused → List ServersView → Type 0
+CarriesAt old i t word (Ok u) new = (new ≡ old) ⊎ CarriesOne old i t word new
+CarriesAt old i t word (Err refused) new = new ≡ old
+
+-- what a carry of the loglet does to the servers of its stripes: it hands its word to one of them, or does nothing to any
+abbrev pub CarriesSome : {A : Type 0} → List ServersView → ℕ → Result A Refused → List ServersView → Type 0
+CarriesSome old word (Ok u) new = (new ≡ old) ⊎ ((i : ℕ) × (t : ℕ) × CarriesOne old i t word new)
+CarriesSome old word (Err refused) new = new ≡ old
