@@ -3,6 +3,7 @@ ghost use Rattle.std.specs.Prelude.{◌≡◌, ◌+◌, ◌<◌, ◌≤◌, IfOk
 ghost use Rattle.std.specs.HashSet.{spare};
 ghost use Rattle.loglet_api.specs.Step.{CanBegin};
 ghost use Rattle.loglet_api.specs.Run.{LogletRun};
+ghost use Rattle.loglet_api.specs.Servers.{Serves, ServesAll};
 ghost use Rattle.loglet_runs.specs.Runs.{CanBring, OpsStep, OpsRun, BringsSpellable, IsClosed, Tracks, made};
 
 use delos_types::numbers::Ticket;
@@ -27,7 +28,9 @@ pub fn run_ops(
 
     // The calls that were made are a run of the loglet.
     ensures run { IfOk result (λ answers. LogletRun (view loglet.old) (made calls.now answers.items) (view loglet.new)) }
+    ensures serves { IfOk result (λ answers. ServesAll (serving loglet.old) (made calls.now answers.items) (serving loglet.new)) }
     ensures err { OnErr result (view loglet.new ≡ view loglet.old) }
+    ensures err_serves { OnErr result (serving loglet.new ≡ serving loglet.old) }
 {
     let mut answers = Vec::with_capacity(alloc, calls.len())?;
     let mut tickets = HashSet::with_capacity(alloc, calls.len())?;
@@ -50,6 +53,7 @@ fn step(
     requires tracked { Tracks (view loglet.old) servers tickets.old }
     requires room { 0 < spare tickets.old }
     ensures step { OpsStep (view loglet.old) call.now result (view loglet.new) }
+    ensures serves { Serves (serving loglet.old) call.now result (serving loglet.new) }
     ensures tracked { Tracks (view loglet.new) servers tickets.new }
     ensures room { spare tickets.old ≤ spare tickets.new + 1 }
 {
@@ -71,6 +75,7 @@ fn begin(loglet: &mut dyn Loglet, tickets: &mut HashSet<u64>, op: &Op, servers: 
     requires tracked { Tracks (view loglet.old) servers tickets.old }
     requires room { 0 < spare tickets.old }
     ensures step { OpsStep (view loglet.old) (LogletCall.Begin op.now) result (view loglet.new) }
+    ensures serves { Serves (serving loglet.old) (LogletCall.Begin op.now) result (serving loglet.new) }
     ensures tracked { Tracks (view loglet.new) servers tickets.new }
     ensures room { spare tickets.old ≤ spare tickets.new + 1 }
 {
@@ -96,6 +101,7 @@ fn carry(
 ) -> LogletAnswer
     requires { Tracks (view loglet.old) servers tickets.now }
     ensures step { OpsStep (view loglet.old) (LogletCall.Carry ticket word) result (view loglet.new) }
+    ensures serves { Serves (serving loglet.old) (LogletCall.Carry ticket word) result (serving loglet.new) }
     ensures tracked { Tracks (view loglet.new) servers tickets.now }
 {
     if !tickets.contains(&ticket.number()) {
@@ -119,6 +125,7 @@ fn take(
 ) -> LogletAnswer
     requires { Tracks (view loglet.old) servers tickets.old }
     ensures step { OpsStep (view loglet.old) (LogletCall.Take ticket) result (view loglet.new) }
+    ensures serves { Serves (serving loglet.old) (LogletCall.Take ticket) result (serving loglet.new) }
     ensures tracked { Tracks (view loglet.new) servers tickets.new }
     ensures room { spare tickets.old ≤ spare tickets.new }
 {
@@ -143,6 +150,7 @@ fn forget(
 ) -> LogletAnswer
     requires { Tracks (view loglet.old) servers tickets.old }
     ensures step { OpsStep (view loglet.old) (LogletCall.Forget ticket) result (view loglet.new) }
+    ensures serves { Serves (serving loglet.old) (LogletCall.Forget ticket) result (serving loglet.new) }
     ensures tracked { Tracks (view loglet.new) servers tickets.new }
     ensures room { spare tickets.old ≤ spare tickets.new }
 {
@@ -168,6 +176,7 @@ fn left(loglet: &dyn Loglet, tickets: &HashSet<u64>, ticket: Ticket, servers: u3
 fn stray(loglet: &mut dyn Loglet, tickets: &HashSet<u64>, word: u64, servers: u32) -> LogletAnswer
     requires { Tracks (view loglet.old) servers tickets.now }
     ensures step { OpsStep (view loglet.old) (LogletCall.Stray word) result (view loglet.new) }
+    ensures serves { Serves (serving loglet.old) (LogletCall.Stray word) result (serving loglet.new) }
     ensures tracked { Tracks (view loglet.new) servers tickets.now }
 {
     match calls::stray(loglet, word) {
@@ -185,6 +194,7 @@ fn stop(
 ) -> LogletAnswer
     requires { Tracks (view loglet.old) servers tickets.now }
     ensures step { OpsStep (view loglet.old) (LogletCall.Stop server after) result (view loglet.new) }
+    ensures serves { Serves (serving loglet.old) (LogletCall.Stop server after) result (serving loglet.new) }
     ensures tracked { Tracks (view loglet.new) servers tickets.now }
 {
     if server >= servers {
@@ -203,6 +213,7 @@ fn restart(
 ) -> LogletAnswer
     requires { Tracks (view loglet.old) servers tickets.now }
     ensures step { OpsStep (view loglet.old) (LogletCall.Restart server word) result (view loglet.new) }
+    ensures serves { Serves (serving loglet.old) (LogletCall.Restart server word) result (serving loglet.new) }
     ensures tracked { Tracks (view loglet.new) servers tickets.now }
 {
     if server >= servers {
