@@ -10,3 +10,5 @@ pub mod Beginning
 pub mod Starting
 pub mod Rules
 pub mod Wholes
+pub mod Serving
+pub mod Counting

@@ -73,7 +73,7 @@ moved_by_answer entries cut i p q vs here turn h =
     let t : (e : Errand) × (told : Told) × ((get_or p.members.items i no_member).message ≡ Some (Answered e told)) = tells_of _ turn in
     record { server = i; here = here; moves = inr (inr (record { errand = t.0; told = t.1; was_told = t.2; hears = h t.0 t.1 t.2; servers = refl; fault = refl })) }
 
-there_is : (vs : List View) (i : ℕ) (d : View) → i < length vs → slice_get vs i ≡ Some (get_or vs i d)
+pub there_is : (vs : List View) (i : ℕ) (d : View) → i < length vs → slice_get vs i ≡ Some (get_or vs i d)
 there_is [] i d h = absurd (omega (arith, h))
 there_is (v ∷ vs) zero d h = refl
 there_is (v ∷ vs) (suc i) d h = there_is vs i d (omega (arith, h))
@@ -107,24 +107,24 @@ pub tail_answers : (v : View) → ServerAnswers v asks.Tail (table v.server asks
 tail_answers v = by v.server.up refl
   where
     by : (b : Bool) → v.server.up ≡ b → ServerAnswers v asks.Tail (if b then told_up v.server asks.Tail else Down) v
-    by false u = record { told = rw u refl; server = rw u refl; calm = λ _. refl }
+    by false u = record { told = rw u refl; server = rw u refl; calm = λ _. refl; disk = record { faults = refl; armed = refl } }
     by true u = at (is_sealed v.server) refl
       where
         at : (s : Bool) → is_sealed v.server ≡ s → ServerAnswers v asks.Tail (if s then Sealed (length_of v.server) else Unsealed (length_of v.server)) v
-        at true e = record { told = rw (u, e) refl; server = rw u refl; calm = λ _. refl }
-        at false e = record { told = rw (u, e) refl; server = rw u refl; calm = λ _. refl }
+        at true e = record { told = rw (u, e) refl; server = rw u refl; calm = λ _. refl; disk = record { faults = refl; armed = refl } }
+        at false e = record { told = rw (u, e) refl; server = rw u refl; calm = λ _. refl; disk = record { faults = refl; armed = refl } }
 
 pub read_answers : (v : View) (place : ℕ) → ServerAnswers v (asks.Read place) (table v.server (asks.Read place)) v
 read_answers v place = by v.server.up refl
   where
     by : (b : Bool) → v.server.up ≡ b → ServerAnswers v (asks.Read place) (if b then told_up v.server (asks.Read place) else Down) v
-    by false u = record { told = rw u refl; server = rw u refl; calm = λ _. refl }
+    by false u = record { told = rw u refl; server = rw u refl; calm = λ _. refl; disk = record { faults = refl; armed = refl } }
     by true u = at (nat_lt place v.server.base) refl (slice_get v.server.entries (place - v.server.base)) refl
       where
         at : (b : Bool) → nat_lt place v.server.base ≡ b → (z : Option Entry) → slice_get v.server.entries (place - v.server.base) ≡ z → ServerAnswers v (asks.Read place) (if b then Cut v.server.base else told_entry (length_of v.server) z) v
-        at true e z f = record { told = rw (u, e) refl; server = rw u refl; calm = λ _. refl }
-        at false e None f = record { told = rw (u, e, f) refl; server = rw u refl; calm = λ _. refl }
-        at false e (Some x) f = record { told = rw (u, e, f) refl; server = rw u refl; calm = λ _. refl }
+        at true e z f = record { told = rw (u, e) refl; server = rw u refl; calm = λ _. refl; disk = record { faults = refl; armed = refl } }
+        at false e None f = record { told = rw (u, e, f) refl; server = rw u refl; calm = λ _. refl; disk = record { faults = refl; armed = refl } }
+        at false e (Some x) f = record { told = rw (u, e, f) refl; server = rw u refl; calm = λ _. refl; disk = record { faults = refl; armed = refl } }
 
 ---- whether a server is sealed
 

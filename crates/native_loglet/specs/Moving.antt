@@ -1,6 +1,8 @@
 -- How an open operation begins, and goes on by one message.
 use Rattle.std.specs.Prelude.{◌≡◌, ◌⊎◌, ℕ, ◌^◌, ◌<◌, ◌≤◌, Bool, true, false, List, length, count_by, get_or, set, Some, slice_get, map}
 use Rattle.delos_types.specs.declared.entry.Entry.{Entry}
+use Rattle.fate_words.specs.declared.fates.Fate.{Fate}
+use Rattle.fate_words.specs.declared.fates.Fate.TheVariants.{Lose}
 use Rattle.loglet_api.specs.declared.call.Op.{Op}
 use Rattle.majority_rule.specs.declared.message.Ask.{Ask}
 use Rattle.majority_rule.specs.declared.message.Told.{Told}
@@ -49,6 +51,11 @@ pub record CanMove (entries : List Entry) (cut n : ℕ) (p : Pending) : Type 0 w
   pub losses : (i : ℕ) → is_out (get_or p.members.items i no_member) ≡ true → (get_or p.members.items i no_member).losses < 8
   pub asks : (i : ℕ) (e : Errand) → (get_or p.members.items i no_member).message ≡ Some (Asked e) → (ask : Ask) × (asked_by entries cut e ≡ Some ask)
   pub turns : (j : ℕ) → p.phase ≡ Reading j → j < 2 ^ 32
+
+-- a message is lost by this fate and no other
+abbrev pub LosesAs : Fate → Bool → Type 0
+LosesAs Lose lost = lost ≡ true
+LosesAs fate lost = lost ≡ false
 
 -- a fault came just where the server's disk failed
 abbrev pub FailsAs : Told → Bool → Type 0

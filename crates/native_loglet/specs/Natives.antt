@@ -1,11 +1,12 @@
 -- What a native loglet shows, and what ties it to the quorum cell that it is.
-use Rattle.std.specs.Prelude.{◌≡◌, ◌⊎◌, ℕ, zero, suc, ◌+◌, ◌*◌, ◌^◌, ◌≤◌, nat_eq, nat_le, not, Bool, true, List, [], ◌∷◌, map, drop, length, count_by, Option, None, Some}
+use Rattle.std.specs.Prelude.{◌≡◌, ◌⊎◌, ℕ, zero, suc, ◌+◌, ◌*◌, ◌^◌, ◌≤◌, nat_eq, nat_le, nat_lt, not, ◌&&◌, Bool, true, List, [], ◌∷◌, map, drop, length, count_by, Option, None, Some}
 use Rattle.std.specs.HashMap.{HashMap, get}
 use Rattle.std.specs.declared.hash.FoldHasher.{FoldHasher}
 use Rattle.std.specs.declared.hash.BuildHasherDefault.{BuildHasherDefault}
 use Rattle.delos_types.specs.declared.entry.Entry.{Entry}
 use Rattle.loglet_api.specs.declared.call.Kind.TheVariants.{Native as NativeKind}
 use Rattle.loglet_api.specs.View.{LogletView, Operation as OpenOperation}
+use Rattle.loglet_api.specs.Servers.{ServerState, ServersView}
 use Rattle.majority_rule.specs.declared.operation.Outcome.{Outcome}
 use Rattle.majority_rule.specs.Majority.{majority}
 use Rattle.majority_rule.specs.Servers.{Server, is_sealed}
@@ -88,13 +89,29 @@ loglet_of a = record {
   lacks = a.marks.lacks;
 }
 
--- a native loglet: what every loglet shows, and its servers with their disks
+-- a native loglet: what every loglet shows, its servers with their disks, and the word or count that it was told last
 pub record NativeView : Type 0 where
   pub loglet : LogletView
   pub replicas : List View
+  pub told : ℕ
 
-abbrev pub native_view : ℕ → List Entry → List View → Marks → PendingMap → NativeView
-native_view room entries replicas marks pending = record { loglet = loglet_of (native_of room entries replicas marks pending); replicas = replicas }
+abbrev pub native_view : ℕ → List Entry → List View → Marks → PendingMap → ℕ → NativeView
+native_view room entries replicas marks pending told = record { loglet = loglet_of (native_of room entries replicas marks pending); replicas = replicas; told = told }
+
+---- what is seen of its servers
+
+-- one that is down isn't armed
+abbrev pub state_of : Bool → Bool → ℕ → ServerState
+state_of up armed faults = record { up = up; armed = up && armed; faults = faults }
+
+abbrev pub state_in : View → ServerState
+state_in v = state_of v.server.up (nat_lt 0 v.disk.armed) v.disk.faults
+
+abbrev pub states_in : List View → List ServerState
+states_in vs = map state_in vs
+
+abbrev pub serving_of : NativeView → ServersView
+serving_of v = record { states = states_in v.replicas; told = v.told }
 
 ---- the cell that it is
 

@@ -7,8 +7,10 @@ ghost use Rattle.majority_rule.specs.declared.message.Told as tolds;
 ghost use Rattle.log_server.specs.Answers.{Answers as ServerAnswers};
 ghost use Rattle.native_plan.specs.Pendings.{Answers};
 ghost use Rattle.native_ties.specs.Parts.{asked_by};
-ghost use Rattle.native_loglet.specs.Natives.{server_in};
-ghost use Rattle.native_loglet.specs.Moving.{CanMove, Moves, FailsAs, AnswersFor};
+ghost use Rattle.loglet_api.specs.Servers.{Wear};
+ghost use Rattle.native_loglet.specs.Natives.{server_in, state_in, states_in, down_in};
+ghost use Rattle.native_loglet.specs.Faults.{is_failed};
+ghost use Rattle.native_loglet.specs.Moving.{CanMove, Moves, LosesAs, FailsAs, AnswersFor};
 
 use crate::replica::Replica;
 use delos_types::entry::Entry;
@@ -39,9 +41,12 @@ pub fn carry_one<D: Disk>(
     ensures moves { IfOk result (Moves entries.now cut p.old p.new replicas.old replicas.new) }
     ensures p { OnErr result (p.new ≡ p.old) }
     ensures memory { OnErr result (map server_in replicas.new ≡ map server_in replicas.old) }
+    ensures wear { IfOk result (λ _. Wear (states_in replicas.old) (states_in replicas.new)) }
+    ensures spared { OnErr result (states_in replicas.new ≡ states_in replicas.old) }
+    ensures failed { IfOk result (λ failed. failed ≡ is_failed word (down_in replicas.old) (down_in replicas.new)) }
 {
     let server = p.pick(pick(word, p.outstanding() as u64));
-    if fate(word) == Fate::Lose {
+    if is_lost(fate(word)) {
         p.lose(server, cut);
         return Ok(true);
     }
@@ -53,6 +58,13 @@ pub fn carry_one<D: Disk>(
         }
         Turn::Rests => Ok(false),
     }
+}
+
+/// Whether the message doesn't come.
+fn is_lost(fate: Fate) -> bool
+    ensures { LosesAs fate result }
+{
+    matches!(fate, Fate::Lose)
 }
 
 /// A request comes to its server, and the answer is on its way. True where the server's disk failed.
@@ -72,6 +84,7 @@ fn ask<D: Disk>(
     ensures answers { IfOk result (AnswersFor entries.now cut server errand p.old p.new replica.old replica.new) }
     ensures p { OnErr result (p.new ≡ p.old) }
     ensures memory { OnErr result (replica.new.server ≡ replica.old.server) }
+    ensures spared { OnErr result (state_in replica.new ≡ state_in replica.old) }
 {
     let told = replica.ask(errand, entries, cut)?;
     let failed = is_fault(&told);

@@ -1,13 +1,16 @@
 //! A loglet of several servers.
-ghost use Rattle.std.specs.Prelude.{◌≡◌, ℕ, ◌<◌, ◌≤◌, ◌^◌, ◌⊎◌, ◌↔◌, IsTrue, true, All, Some, length, slice_get, nat_eq, map, IfOk, OnErr};
+ghost use Rattle.std.specs.Prelude.{◌≡◌, ◌≢◌, ℕ, ◌<◌, ◌≤◌, ◌^◌, ◌⊎◌, ◌↔◌, IsTrue, true, All, Some, length, slice_get, nat_eq, map, not, IfOk, OnOk, OnErr};
 ghost use Rattle.std.specs.HashMap.{IsUnchanged};
 ghost use Rattle.delos_types.specs.Spelling.{IsSpellable};
 ghost use Rattle.delos_types.specs.declared.entry.Entry as entries_of;
-ghost use Rattle.loglet_api.specs.Step.{IsAppend};
+ghost use Rattle.loglet_api.specs.Step.{IsAppend, CanCall, LogletStep};
+ghost use Rattle.loglet_api.specs.Answers.{carry_answer, stray_answer, restart_answer};
 ghost use Rattle.loglet_api.specs.View.{IsFresh};
 ghost use Rattle.majority_rule.specs.Cells.{no_server};
 ghost use Rattle.native_plan.specs.declared.pending.Pending as pendings;
-ghost use Rattle.native_loglet.specs.Natives.{IsCount, look_in, server_in};
+ghost use Rattle.loglet_api.specs.Servers.{Wear, Serves};
+ghost use Rattle.native_loglet.specs.Natives.{IsCount, look_in, server_in, states_in, serving_of, down_in};
+ghost use Rattle.native_loglet.specs.Faults.{faults_after, is_failed};
 ghost use Rattle.native_loglet.specs.Moving.{CanMove, CarriesAt};
 
 use crate::carrying::carry_one;
@@ -18,7 +21,7 @@ use crate::replica::Replica;
 use delos_types::entry::Entry;
 use delos_types::numbers::Ticket;
 use disk_model::Disk;
-use loglet_api::call::{Answer, Kind, Op, Refused};
+use loglet_api::call::{Answer, Kind, LogletAnswer, LogletCall, Op, Refused};
 use loglet_api::loglet::Loglet;
 use native_plan::pending::Pending;
 use std::alloc::{AllocError, Global};
@@ -50,6 +53,8 @@ pub struct NativeLoglet<D: Disk> {
     marks: Marks,
     /// The open operations, by ticket.
     pending: HashMap<u64, Pending>,
+    /// The word or count of the last carry, stray, stop or restart that wasn't refused.
+    told: u64,
 }
 
 impl<D: Disk> Model for NativeLoglet<D> {
@@ -57,7 +62,7 @@ impl<D: Disk> Model for NativeLoglet<D> {
 
     ghost Value = { NativeView };
 
-    ghost view = { λ a. native_view a.room a.entries.items a.replicas.items a.marks a.pending };
+    ghost view = { λ a. native_view a.room a.entries.items a.replicas.items a.marks a.pending a.told };
 
     ghost invariant = { λ a. IsNative a.room a.entries.items a.replicas.items a.marks a.pending };
 }
@@ -78,6 +83,7 @@ impl<D: Disk> NativeLoglet<D> {
         ensures rounds { result.loglet.rounds ≡ 7 }
         ensures limit { result.loglet.limit ≡ 2 ^ 62 }
         ensures replicas { result.replicas ≡ replicas.items }
+        ensures told { result.told ≡ 0 }
     {
         NativeLoglet {
             alloc,
@@ -86,12 +92,15 @@ impl<D: Disk> NativeLoglet<D> {
             replicas,
             marks: Marks::new(),
             pending: HashMap::new(alloc),
+            told: 0,
         }
     }
 }
 
 impl<D: Disk> Loglet for NativeLoglet<D> {
     ghost view = { λ v. v.loglet };
+
+    ghost serving = { serving_of };
 
     fn kind(&self) -> Kind {
         Kind::Native(self.replicas.len() as u8)
@@ -141,7 +150,14 @@ impl<D: Disk> Loglet for NativeLoglet<D> {
         Ok(Ticket::new(number))
     }
 
-    fn carry(&mut self, ticket: Ticket, word: u64) -> Result<(), Refused> {
+    fn carry(&mut self, ticket: Ticket, word: u64) -> Result<(), Refused>
+        requires { CanCall self.old.loglet (LogletCall.Carry ticket word) }
+        ensures step { LogletStep self.old.loglet (LogletCall.Carry ticket word) (carry_answer result) self.new.loglet }
+        ensures serves { Serves (serving_of self.old) (LogletCall.Carry ticket word) (carry_answer result) (serving_of self.new) }
+
+        // A fault is counted where the message is lost and where the disk of its server failed, and else none.
+        ensures counts { OnOk result (self.new.loglet.faults ≡ faults_after (is_failed word self.old.loglet.down self.new.loglet.down) self.old.loglet.faults) }
+    {
         let Ok(failed) = carry_at(
             &mut self.pending,
             &mut self.replicas,
@@ -153,6 +169,7 @@ impl<D: Disk> Loglet for NativeLoglet<D> {
             return Err(Refused::Memory);
         };
         self.marks = self.marks.after(failed);
+        self.told = word;
         Ok(())
     }
 
@@ -176,20 +193,47 @@ impl<D: Disk> Loglet for NativeLoglet<D> {
         p.left()
     }
 
-    fn stray(&mut self, _word: u64) -> Result<(), Refused> {
-        let _open = &self.room;
+    fn stray(&mut self, word: u64) -> Result<(), Refused>
+        ensures step { LogletStep self.old.loglet (LogletCall.Stray word) (stray_answer result) self.new.loglet }
+        ensures serves { Serves (serving_of self.old) (LogletCall.Stray word) (stray_answer result) (serving_of self.new) }
+
+        // No message comes twice.
+        ensures idle { self.new ≡ record self.old { told = word } }
+    {
+        self.told = word;
         Ok(())
     }
 
-    fn stop(&mut self, server: u32, after: u64) {
+    #[tactic(auto, using(crate::proofs::Serving::other_stays))]
+    fn stop(&mut self, server: u32, after: u64)
+        requires { CanCall self.old.loglet (LogletCall.Stop server after) }
+        ensures step { LogletStep self.old.loglet (LogletCall.Stop server after) LogletAnswer.Stopped self.new.loglet }
+        ensures serves { Serves (serving_of self.old) (LogletCall.Stop server after) LogletAnswer.Stopped (serving_of self.new) }
+
+        // The other servers and their disks stay as they are.
+        ensures others { (i : ℕ) → i ≢ server → slice_get self.new.replicas i ≡ slice_get self.old.replicas i }
+    {
         self.replicas[server as usize].stop(after);
+        self.told = after;
     }
 
-    fn restart(&mut self, server: u32, word: u64) -> Result<bool, Refused> {
+    #[tactic(auto, using(crate::proofs::Serving::other_stays))]
+    fn restart(&mut self, server: u32, word: u64) -> Result<bool, Refused>
+        requires { CanCall self.old.loglet (LogletCall.Restart server word) }
+        ensures step { LogletStep self.old.loglet (LogletCall.Restart server word) (restart_answer result) self.new.loglet }
+        ensures serves { Serves (serving_of self.old) (LogletCall.Restart server word) (restart_answer result) (serving_of self.new) }
+
+        // The other servers and their disks stay as they are.
+        ensures others { (i : ℕ) → i ≢ server → slice_get self.new.replicas i ≡ slice_get self.old.replicas i }
+
+        // A fault is counted where it stays down, and else none.
+        ensures counts { IfOk result (λ up. self.new.loglet.faults ≡ faults_after (not up) self.old.loglet.faults) }
+    {
         let Ok(up) = self.replicas[server as usize].restart(word) else {
             return Err(Refused::Memory);
         };
         self.marks = self.marks.after(!up);
+        self.told = word;
         Ok(up)
     }
 }
@@ -217,6 +261,9 @@ fn carry_at<D: Disk>(
     ensures carries { (p : pendings.Pending) → look_in pending.old number ≡ Some p → IfOk result (CarriesAt entries.now cut number p pending.old pending.new replicas.old replicas.new) }
     ensures pending { OnErr result ((t : ℕ) → look_in pending.new t ≡ look_in pending.old t) }
     ensures memory { OnErr result (map server_in replicas.new ≡ map server_in replicas.old) }
+    ensures wear { IfOk result (λ _. Wear (states_in replicas.old) (states_in replicas.new)) }
+    ensures spared { OnErr result (states_in replicas.new ≡ states_in replicas.old) }
+    ensures failed { (p : pendings.Pending) → look_in pending.old number ≡ Some p → IfOk result (λ failed. failed ≡ is_failed word (down_in replicas.old) (down_in replicas.new)) }
 {
     match pending.get_mut(&number) {
         Some(p) => carry_one(p, replicas, entries, cut, word),

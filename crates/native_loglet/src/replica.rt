@@ -4,9 +4,11 @@ ghost use Rattle.delos_types.specs.Spelling.{IsSpellable};
 ghost use Rattle.delos_types.specs.declared.entry.Entry as entries_of;
 ghost use Rattle.majority_rule.specs.declared.message.Ask as asks;
 ghost use Rattle.majority_rule.specs.Servers.{length_of, is_sealed, restarted};
-ghost use Rattle.log_server.specs.View.{View as server_views};
+ghost use Rattle.log_server.specs.View.{View as server_views, Spares};
+ghost use Rattle.loglet_api.specs.Servers.{IsArmed, RestartsTo};
 ghost use Rattle.log_server.specs.Answers.{Answers};
 ghost use Rattle.native_ties.specs.Parts.{asked_by};
+ghost use Rattle.native_loglet.specs.Natives.{state_in};
 ghost use Rattle.native_loglet.specs.Telling.{seal_told_by, length_told_by};
 
 use delos_types::entry::Entry;
@@ -76,6 +78,7 @@ impl<D: Disk> Replica<D> {
         requires cut { cut ≤ 2 ^ 32 }
         ensures answers { IfOk result (λ told. (ask : asks.Ask) → asked_by entries.now cut errand ≡ Some ask → Answers self.old ask told self.new) }
         ensures memory { OnErr result (self.new.server ≡ self.old.server) }
+        ensures spared { OnErr result (state_in self.new ≡ state_in self.old) }
     {
         let told = send(&mut self.server, errand, entries, cut)?;
         self.sealed = is_sealed_now(&self.server, self.sealed);
@@ -84,7 +87,9 @@ impl<D: Disk> Replica<D> {
 
     /// Arms its disk: the write number `after` from now on stops inside itself; 0 takes that back.
     pub fn stop(&mut self, after: u64)
-        ensures { self.new.server ≡ self.old.server }
+        ensures server { self.new.server ≡ self.old.server }
+        ensures arms { IsArmed after (state_in self.old) (state_in self.new) }
+        ensures count { self.old.server.up ≡ true → self.new.disk.armed ≡ after }
     {
         self.server.stop(after);
     }
@@ -98,6 +103,8 @@ impl<D: Disk> Replica<D> {
         ensures restarted { result ≡ Ok true → (kept : Bool) × (self.new.server ≡ restarted self.old.server kept self.old.server.torn) }
         ensures failed { result ≡ Ok false → self.new.server ≡ self.old.server }
         ensures memory { OnErr result (self.new.server ≡ self.old.server) }
+        ensures rises { IfOk result (λ up. RestartsTo up (state_in self.old) (state_in self.new)) }
+        ensures spared { OnErr result (state_in self.new ≡ state_in self.old) }
     {
         let up = self.server.restart(word)?;
         self.sealed = is_sealed_now(&self.server, self.sealed);
@@ -147,6 +154,7 @@ fn send<D: Disk>(
     requires cut { cut ≤ 2 ^ 32 }
     ensures answers { IfOk result (λ told. (ask : asks.Ask) → asked_by entries.now cut errand ≡ Some ask → Answers server.old ask told server.new) }
     ensures memory { OnErr result (server.new.server ≡ server.old.server) }
+    ensures spared { OnErr result (Spares server.old.disk server.new.disk) }
 {
     match errand {
         Errand::Store(place) => server.store(place, &entries[place as usize]),

@@ -3,8 +3,10 @@ use Rattle.log_server.specs.View.{View}
 use Rattle.native_plan.specs.declared.member.Member.{Member}
 use Rattle.native_plan.specs.Members.{no_member, turn_of}
 use Rattle.native_plan.proofs.Counts.{same_default}
-use Rattle.native_loglet.proofs.Rules.{nth_is_out, asks_of, rests_of, moved_by_loss, moved_by_answer, moved_by_request, if_ok, on_err}
+use Rattle.native_loglet.proofs.Rules.{there_is, nth_is_out, asks_of, rests_of, moved_by_loss, moved_by_answer, moved_by_request, if_ok, on_err}
 use Rattle.native_loglet.proofs.Alike.{set_same}
+use Rattle.native_loglet.proofs.Serving.{wear_same, moves_wear, states_same, lost_failed, none_failed, asked_failed, is_lost_by, is_kept_by}
+use Rattle.native_loglet.specs.Natives.{states_in, down_in}
 use Rattle.native_loglet.proofs.carrying.carry_one.Goals as goal
 
 pub pick-requires : goal.pick-requires
@@ -31,8 +33,8 @@ hear-requires-clause-server g c = c.requires.can.turns
 pub bounds-replicas-server : goal.bounds-replicas-server
 bounds-replicas-server g c = omega (arith, c.pick-server.ensures.here, c.requires.can.members)
 
-pub returns-then-eq-clause-moves : goal.returns-then-eq-clause-moves
-returns-then-eq-clause-moves g c = moved_by_loss _ _ c.pick-server.result _ _ _ c.pick-server.ensures.here (rw c.pick-server.ensures.value (nth_is_out c.pick.result c.args.p.now.members.items (omega (arith, c.pick.ensures.one, c.outstanding.ensures)))) c.lose.ensures
+pub returns-then-is_lost-clause-moves : goal.returns-then-is_lost-clause-moves
+returns-then-is_lost-clause-moves g c = moved_by_loss _ _ c.pick-server.result _ _ _ c.pick-server.ensures.here (rw c.pick-server.ensures.value (nth_is_out c.pick.result c.args.p.now.members.items (omega (arith, c.pick.ensures.one, c.outstanding.ensures)))) c.lose.ensures
 
 pub ask-requires-clause-there : goal.ask-requires-clause-there
 ask-requires-clause-there g c =
@@ -61,3 +63,39 @@ pub returns-in-Rests-clause-moves : goal.returns-in-Rests-clause-moves
 returns-in-Rests-clause-moves g c =
     let member : c.index.result.now ≡ get_or c.args.p.now.members.items c.pick-server.result no_member = c.index.ensures ∙ same_default _ _ _ _ c.pick-server.ensures.here in
     absurd (rests_of _ (ap (λ (m : Member). turn_of m.message) (sym member) ∙ sym c.turn.ensures ∙ c.in-Rests.is) (rw c.pick-server.ensures.value (nth_is_out c.pick.result c.args.p.now.members.items (omega (arith, c.pick.ensures.one, c.outstanding.ensures)))))
+
+pub returns-then-is_lost-clause-wear : goal.returns-then-is_lost-clause-wear
+returns-then-is_lost-clause-wear g c = wear_same (states_in c.args.replicas.now)
+
+pub returns-in-Asks-clause-wear : goal.returns-in-Asks-clause-wear
+returns-in-Asks-clause-wear g c = if_ok c.ask.result _ _ (λ failed m. moves_wear _ _ _ _ _ _ _ failed c.requires.can m) (returns-in-Asks-clause-moves g c)
+
+pub returns-in-Asks-clause-spared : goal.returns-in-Asks-clause-spared
+returns-in-Asks-clause-spared g c =
+    let here : c.pick-server.result < length c.args.replicas.now = omega (arith, c.pick-server.ensures.here, c.requires.can.members) in
+    on_err c.ask.result _ _ (λ same. states_same c.args.replicas.now c.pick-server.result (get_or c.args.replicas.now c.pick-server.result c.index-replicas-server.result) c.ask.new.replica here (ap (λ (v : View). get_or c.args.replicas.now c.pick-server.result v) c.index-replicas-server.is) same) c.ask.ensures.spared
+
+pub returns-in-Tells-clause-wear : goal.returns-in-Tells-clause-wear
+returns-in-Tells-clause-wear g c = wear_same (states_in c.args.replicas.now)
+
+pub returns-in-Rests-clause-wear : goal.returns-in-Rests-clause-wear
+returns-in-Rests-clause-wear g c = wear_same (states_in c.args.replicas.now)
+
+pub returns-then-is_lost-clause-failed : goal.returns-then-is_lost-clause-failed
+returns-then-is_lost-clause-failed g c = lost_failed c.args.word (down_in c.args.replicas.now) (down_in c.args.replicas.now) (is_lost_by c.fate.result c.is_lost.result c.args.word c.fate.ensures c.is_lost.ensures c.if-is_lost.true)
+
+pub returns-in-Asks-clause-failed : goal.returns-in-Asks-clause-failed
+returns-in-Asks-clause-failed g c =
+    let member : c.index.result.now ≡ get_or c.args.p.now.members.items c.pick-server.result no_member = c.index.ensures ∙ same_default _ _ _ _ c.pick-server.ensures.here in
+    let here : c.pick-server.result < length c.args.replicas.now = omega (arith, c.pick-server.ensures.here, c.requires.can.members) in
+    let was : View = get_or c.args.replicas.now c.pick-server.result c.index-replicas-server.result in
+    let ask = c.requires.can.asks c.pick-server.result c.in-Asks.errand (asks_of _ c.in-Asks.errand (ap (λ (m : Member). turn_of m.message) (sym member) ∙ sym c.turn.ensures ∙ c.in-Asks.is)) in
+    if_ok c.ask.result _ _
+    (λ failed a. asked_failed c.args.word c.args.replicas.now c.pick-server.result was c.ask.new.replica ask.0 a.told failed (is_kept_by c.fate.result c.is_lost.result c.args.word c.fate.ensures c.is_lost.ensures c.if-is_lost.false) (there_is c.args.replicas.now c.pick-server.result _ here) (a.tells ask.0 ask.1) a.fault)
+    c.ask.ensures.answers
+
+pub returns-in-Tells-clause-failed : goal.returns-in-Tells-clause-failed
+returns-in-Tells-clause-failed g c = none_failed c.args.word (down_in c.args.replicas.now) (is_kept_by c.fate.result c.is_lost.result c.args.word c.fate.ensures c.is_lost.ensures c.if-is_lost.false)
+
+pub returns-in-Rests-clause-failed : goal.returns-in-Rests-clause-failed
+returns-in-Rests-clause-failed g c = none_failed c.args.word (down_in c.args.replicas.now) (is_kept_by c.fate.result c.is_lost.result c.args.word c.fate.ensures c.is_lost.ensures c.if-is_lost.false)

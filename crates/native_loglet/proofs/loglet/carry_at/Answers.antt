@@ -8,6 +8,8 @@ use Rattle.log_server.specs.View.{View}
 use Rattle.native_plan.specs.declared.pending.Pending.{Pending}
 use Rattle.native_loglet.specs.Natives.{PendingMap, look_in}
 use Rattle.native_loglet.specs.Moving.{Moves, CarriesAt}
+use Rattle.native_loglet.specs.Natives.{states_in}
+use Rattle.native_loglet.proofs.Serving.{wear_same}
 use Rattle.native_loglet.proofs.Stepping.{not_at}
 use Rattle.native_loglet.proofs.loglet.carry_at.Goals as goal
 
@@ -40,3 +42,6 @@ pub returns-in-Some-clause-pending : goal.returns-in-Some-clause-pending
 returns-in-Some-clause-pending g c =
     put_back c.args.number c.in-Some.p.now c.carry_one.new.p c.args.pending.now (c.get_mut.follows.lender c.carry_one.new.p) c.carry_one.result
     (sym c.in-Some.ensures.value) ((c.get_mut.follows.holds c.carry_one.new.p).3 (ap is_some (sym c.in-Some.ensures.value))) c.carry_one.ensures.p
+
+pub returns-in-None-clause-wear : goal.returns-in-None-clause-wear
+returns-in-None-clause-wear g c = wear_same (states_in c.args.replicas.now)

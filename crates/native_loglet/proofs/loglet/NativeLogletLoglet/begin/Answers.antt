@@ -13,8 +13,8 @@ invariant_of-self g c =
     let many : c.len-size.result ≡ length i.entries.items = omega (arith, c.len-size.ensures, i.entries.ok.0) in
     (refuses_whole a c.after-self-inside.result _ c.args.op (shows a _ c.self.view_is) c.self.invariant c.requires (full_of a c.args.op c.len-size.result many (c.if-is_full.ensures.0 refl)) c.after-self-inside.ensures).0
 
-pub returns-then-is_full : goal.returns-then-is_full
-returns-then-is_full g c =
+pub returns-then-is_full-clause-step : goal.returns-then-is_full-clause-step
+returns-then-is_full-clause-step g c =
     let i = c.self.inside in
     let a : Native = native_of i.room i.entries.items i.replicas.items i.marks i.pending in
     let many : c.len-size.result ≡ length i.entries.items = omega (arith, c.len-size.ensures, i.entries.ok.0) in
@@ -54,14 +54,14 @@ invariant_of-self-in_default-add g c =
     let b : Native = native_of i.room c.add.new.entries.items i.replicas.items i.marks c.add.new.pending in
     alike_owned a b (added_alike i.room i.entries.items c.add.new.entries.items i.replicas.items i.marks i.pending c.add.new.pending c.in_default-add.ensures.err.0 c.in_default-add.ensures.err.1) c.self.invariant
 
-pub returns-in_default : goal.returns-in_default
-returns-in_default g c =
+pub returns-in_default-clause-step : goal.returns-in_default-clause-step
+returns-in_default-clause-step g c =
     let i = c.self.inside in
     let a : Native = native_of i.room i.entries.items i.replicas.items i.marks i.pending in
     same_owned a _ _ _ (shows a _ c.self.view_is) c.self.invariant c.requires refl
 
-pub returns-in_default-add : goal.returns-in_default-add
-returns-in_default-add g c =
+pub returns-in_default-add-clause-step : goal.returns-in_default-add-clause-step
+returns-in_default-add-clause-step g c =
     let i = c.self.inside in
     let a : Native = native_of i.room i.entries.items i.replicas.items i.marks i.pending in
     let b : Native = native_of i.room c.add.new.entries.items i.replicas.items i.marks c.add.new.pending in
@@ -76,8 +76,8 @@ invariant_of-self-2 g c =
     (begun_on a c.args.op c.len-size.result c.begun-marks.result.cut c.deref.result.now c.in-Ok.p many (ap (λ (m : Marks). m.cut) c.begun-marks.ensures) c.deref.ensures.value c.in-Ok.ensures)
     c.in-Ok-add.ensures.pending c.in-Ok-add.ensures.entries c.begun-marks.ensures).0
 
-pub returns : goal.returns
-returns g c =
+pub returns-clause-step : goal.returns-clause-step
+returns-clause-step g c =
     let i = c.self.inside in
     let a : Native = native_of i.room i.entries.items i.replicas.items i.marks i.pending in
     let many : c.len-size.result ≡ length i.entries.items = omega (arith, c.len-size.ensures, i.entries.ok.0) in

@@ -9,6 +9,12 @@ use Rattle.native_loglet.specs.Natives.{Native, native_of, server_in, loglet_of}
 use Rattle.native_loglet.proofs.Alike.{IsOwned, Alike, shows, alike_owned, step_alike, entries_spelled, entries_small, cut_small}
 use Rattle.native_loglet.proofs.Messages.{can_carry}
 use Rattle.native_loglet.proofs.Wholes.{carries_whole}
+use Rattle.loglet_api.specs.Servers.{ServerState, Wear}
+use Rattle.native_loglet.specs.Natives.{NativeView, serving_of, states_in}
+use Rattle.native_loglet.specs.Natives.{down_in}
+use Rattle.native_loglet.specs.Faults.{faults_after, is_failed}
+use Rattle.native_loglet.proofs.Counting.{carry_counts}
+use Rattle.native_loglet.proofs.Serving.{serving_with, states_with}
 use Rattle.native_loglet.proofs.loglet.NativeLogletLoglet.carry.Goals as goal
 
 -- the servers that were lent come back
@@ -48,8 +54,8 @@ invariant_of-self g c =
     let back = lent_back i.replicas.len i.replicas.items c.carry_at.new.replicas i.replicas.ok.0 (c.carry_at.auto.replicas ∙ ap (λ (vs : List View). length vs) c.deref_mut.ensures.value) in
     subst (λ (vs : List View). IsOwned (native_of i.room i.entries.items vs i.marks c.carry_at.new.pending)) (sym back) (alike_owned a b same c.self.invariant)
 
-pub returns-in_default : goal.returns-in_default
-returns-in_default g c =
+pub returns-in_default-clause-step : goal.returns-in_default-clause-step
+returns-in_default-clause-step g c =
     let i = c.self.inside in
     let a : Native = native_of i.room i.entries.items i.replicas.items i.marks i.pending in
     let b : Native = native_of i.room i.entries.items c.carry_at.new.replicas i.marks c.carry_at.new.pending in
@@ -66,10 +72,34 @@ invariant_of-self-2 g c =
     subst (λ (vs : List View). IsOwned (native_of i.room i.entries.items vs c.after-self-inside.result c.carry_at.new.pending)) (sym back)
     (carries_whole a c.carry_at.new.replicas c.carry_at.new.pending c.after-self-inside.result _ c.args.ticket c.args.word c.in-Ok.failed (shows a _ c.self.view_is) c.self.invariant c.requires (rw (c.number.ensures, c.deref.ensures.value, c.deref_mut.ensures.value) at c.in-Ok.ensures.carries) c.after-self-inside.ensures).0
 
-pub returns : goal.returns
-returns g c =
+pub returns-clause-step : goal.returns-clause-step
+returns-clause-step g c =
     let i = c.self.inside in
     let a : Native = native_of i.room i.entries.items i.replicas.items i.marks i.pending in
     let back = lent_back i.replicas.len i.replicas.items c.carry_at.new.replicas i.replicas.ok.0 (c.carry_at.auto.replicas ∙ ap (λ (vs : List View). length vs) c.deref_mut.ensures.value) in
     subst (λ (vs : List View). LogletStep c.args.self.now.loglet (Carry c.args.ticket c.args.word) Carried (loglet_of (native_of i.room i.entries.items vs c.after-self-inside.result c.carry_at.new.pending))) (sym back)
     (carries_whole a c.carry_at.new.replicas c.carry_at.new.pending c.after-self-inside.result _ c.args.ticket c.args.word c.in-Ok.failed (shows a _ c.self.view_is) c.self.invariant c.requires (rw (c.number.ensures, c.deref.ensures.value, c.deref_mut.ensures.value) at c.in-Ok.ensures.carries) c.after-self-inside.ensures).1
+
+pub returns-in_default-clause-serves : goal.returns-in_default-clause-serves
+returns-in_default-clause-serves g c =
+    let i = c.self.inside in
+    let back = lent_back i.replicas.len i.replicas.items c.carry_at.new.replicas i.replicas.ok.0 (c.carry_at.auto.replicas ∙ ap (λ (vs : List View). length vs) c.deref_mut.ensures.value) in
+    ap (λ (vs : List View). serving_with vs i.told) back ∙ ap (λ (ss : List ServerState). states_with ss i.told) (c.in_default.ensures.spared ∙ ap states_in c.deref_mut.ensures.value) ∙ ap serving_of c.self.view_is
+
+pub returns-clause-serves : goal.returns-clause-serves
+returns-clause-serves g c =
+    let i = c.self.inside in
+    let back = lent_back i.replicas.len i.replicas.items c.carry_at.new.replicas i.replicas.ok.0 (c.carry_at.auto.replicas ∙ ap (λ (vs : List View). length vs) c.deref_mut.ensures.value) in (
+      subst (λ (vs : List View). Wear (states_in c.args.self.now.replicas) (states_in vs)) (sym back)
+          (subst (λ (x : NativeView). Wear (states_in x.replicas) (states_in c.carry_at.new.replicas)) c.self.view_is
+          (subst (λ (vs : List View). Wear (states_in vs) (states_in c.carry_at.new.replicas)) c.deref_mut.ensures.value c.in-Ok.ensures.wear)),
+      refl,
+    )
+
+pub returns-clause-counts : goal.returns-clause-counts
+returns-clause-counts g c =
+    let i = c.self.inside in
+    let a : Native = native_of i.room i.entries.items i.replicas.items i.marks i.pending in
+    let back = lent_back i.replicas.len i.replicas.items c.carry_at.new.replicas i.replicas.ok.0 (c.carry_at.auto.replicas ∙ ap (λ (vs : List View). length vs) c.deref_mut.ensures.value) in
+    subst (λ (vs : List View). c.after-self-inside.result.faults ≡ faults_after (is_failed c.args.word c.args.self.now.loglet.down (down_in vs)) c.args.self.now.loglet.faults) (sym back)
+    (carry_counts a c.carry_at.new.replicas c.after-self-inside.result _ c.args.ticket c.args.word c.in-Ok.failed (shows a _ c.self.view_is) c.self.invariant c.requires (rw (c.number.ensures, c.deref_mut.ensures.value) at c.in-Ok.ensures.failed) c.after-self-inside.ensures)

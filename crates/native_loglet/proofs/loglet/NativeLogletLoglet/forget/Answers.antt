@@ -10,8 +10,8 @@ invariant_of-self g c =
     let b : Native = native_of i.room i.entries.items i.replicas.items i.marks c.remove.new.self in
     (forgets_owned a b _ c.args.ticket (shows a _ c.self.view_is) c.self.invariant c.requires (record { room = refl; entries = refl; replicas = refl; cut = refl; faults = refl; begun = refl; seals_are = refl }) refl (rw c.number.ensures at c.remove.ensures.updates)).0
 
-pub returns : goal.returns
-returns g c =
+pub returns-clause-step : goal.returns-clause-step
+returns-clause-step g c =
     let i = c.self.inside in
     let a : Native = native_of i.room i.entries.items i.replicas.items i.marks i.pending in
     let b : Native = native_of i.room i.entries.items i.replicas.items i.marks c.remove.new.self in

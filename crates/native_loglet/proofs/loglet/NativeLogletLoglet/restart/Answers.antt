@@ -1,9 +1,14 @@
-use Rattle.std.proofs.Common.{set, ap, refl, false, arith}
+use Rattle.std.proofs.Common.{set, ap, subst, ◌∙◌, refl, false, arith, List}
 use Rattle.std.specs.Prelude.{Ok}
 use Rattle.native_loglet.specs.Natives.{Native, native_of}
 use Rattle.native_loglet.proofs.Alike.{shows, alike_owned, step_alike, put_alike, within_servers}
 use Rattle.native_loglet.proofs.Rules.{value_or}
 use Rattle.native_loglet.proofs.Wholes.{restarts_whole}
+use Rattle.loglet_api.specs.Servers.{ServerState, ChangesAt, RestartsTo}
+use Rattle.native_loglet.specs.Natives.{NativeView, states_in, serving_of}
+use Rattle.std.specs.Prelude.{not}
+use Rattle.native_loglet.proofs.Counting.{marks_count}
+use Rattle.native_loglet.proofs.Serving.{changes_at, states_same, states_with}
 use Rattle.native_loglet.proofs.loglet.NativeLogletLoglet.restart.Goals as goal
 
 pub index_mut-requires : goal.index_mut-requires
@@ -19,8 +24,8 @@ invariant_of-self g c =
     let b : Native = native_of i.room i.entries.items (set i.replicas.items c.args.server c.restart.new.self) i.marks i.pending in
     alike_owned a b (put_alike i.room i.entries.items i.replicas.items i.marks i.pending c.args.server c.index_mut.result.now c.restart.new.self (within_servers a _ c.args.server (shows a _ c.self.view_is) c.requires) c.index_mut.ensures.value c.in_default.ensures.memory) c.self.invariant
 
-pub returns-in_default : goal.returns-in_default
-returns-in_default g c =
+pub returns-in_default-clause-step : goal.returns-in_default-clause-step
+returns-in_default-clause-step g c =
     let i = c.self.inside in
     let a : Native = native_of i.room i.entries.items i.replicas.items i.marks i.pending in
     let b : Native = native_of i.room i.entries.items (set i.replicas.items c.args.server c.restart.new.self) i.marks i.pending in
@@ -33,9 +38,32 @@ invariant_of-self-2 g c =
     (restarts_whole a c.after-self-inside.result _ c.args.server c.args.word c.index_mut.result.now c.restart.new.self c.in-Ok.up (shows a _ c.self.view_is) c.self.invariant (within_servers a _ c.args.server (shows a _ c.self.view_is) c.requires) c.index_mut.ensures.value
     (λ u. (let y = c.in-Ok.ensures.up u in (ap (value_or false) y.0, y.1))) (λ u. c.in-Ok.ensures.restarted (ap (λ x. Ok x) u)) (λ u. c.in-Ok.ensures.failed (ap (λ x. Ok x) u)) c.after-self-inside.ensures).0
 
-pub returns : goal.returns
-returns g c =
+pub returns-clause-step : goal.returns-clause-step
+returns-clause-step g c =
     let i = c.self.inside in
     let a : Native = native_of i.room i.entries.items i.replicas.items i.marks i.pending in
     (restarts_whole a c.after-self-inside.result _ c.args.server c.args.word c.index_mut.result.now c.restart.new.self c.in-Ok.up (shows a _ c.self.view_is) c.self.invariant (within_servers a _ c.args.server (shows a _ c.self.view_is) c.requires) c.index_mut.ensures.value
     (λ u. (let y = c.in-Ok.ensures.up u in (ap (value_or false) y.0, y.1))) (λ u. c.in-Ok.ensures.restarted (ap (λ x. Ok x) u)) (λ u. c.in-Ok.ensures.failed (ap (λ x. Ok x) u)) c.after-self-inside.ensures).1
+
+pub returns-in_default-clause-serves : goal.returns-in_default-clause-serves
+returns-in_default-clause-serves g c =
+    let i = c.self.inside in
+    let a : Native = native_of i.room i.entries.items i.replicas.items i.marks i.pending in
+    let here = within_servers a _ c.args.server (shows a _ c.self.view_is) c.requires in
+    ap (λ (ss : List ServerState). states_with ss i.told) (states_same i.replicas.items c.args.server c.index_mut.result.now c.restart.new.self here c.index_mut.ensures.value c.in_default.ensures.spared) ∙ ap serving_of c.self.view_is
+
+pub returns-clause-serves : goal.returns-clause-serves
+returns-clause-serves g c =
+    let i = c.self.inside in
+    let a : Native = native_of i.room i.entries.items i.replicas.items i.marks i.pending in
+    let here = within_servers a _ c.args.server (shows a _ c.self.view_is) c.requires in (
+      subst (λ (x : NativeView). ChangesAt (RestartsTo c.in-Ok.up) c.args.server (states_in x.replicas) (states_in (set i.replicas.items c.args.server c.restart.new.self))) c.self.view_is
+          (changes_at (RestartsTo c.in-Ok.up) i.replicas.items c.args.server c.index_mut.result.now c.restart.new.self here c.index_mut.ensures.value c.in-Ok.ensures.rises),
+      refl,
+    )
+
+pub returns-clause-counts : goal.returns-clause-counts
+returns-clause-counts g c =
+    let i = c.self.inside in
+    let a : Native = native_of i.room i.entries.items i.replicas.items i.marks i.pending in
+    marks_count a c.after-self-inside.result _ (not c.in-Ok.up) (shows a _ c.self.view_is) c.after-self-inside.ensures

@@ -1,6 +1,9 @@
-use Rattle.std.proofs.Common.{refl, set, arith}
+use Rattle.std.proofs.Common.{refl, set, arith, subst}
 use Rattle.native_loglet.specs.Natives.{Native, native_of}
 use Rattle.native_loglet.proofs.Alike.{shows, alike_owned, step_alike, put_alike, within_servers}
+use Rattle.loglet_api.specs.Servers.{ChangesAt, IsArmed}
+use Rattle.native_loglet.specs.Natives.{NativeView, states_in}
+use Rattle.native_loglet.proofs.Serving.{changes_at}
 use Rattle.native_loglet.proofs.loglet.NativeLogletLoglet.stop.Goals as goal
 
 pub index_mut-requires : goal.index_mut-requires
@@ -14,11 +17,21 @@ invariant_of-self g c =
     let i = c.self.inside in
     let a : Native = native_of i.room i.entries.items i.replicas.items i.marks i.pending in
     let b : Native = native_of i.room i.entries.items (set i.replicas.items c.args.server c.stop.new.self) i.marks i.pending in
-    alike_owned a b (put_alike i.room i.entries.items i.replicas.items i.marks i.pending c.args.server c.index_mut.result.now c.stop.new.self (within_servers a _ c.args.server (shows a _ c.self.view_is) c.requires) c.index_mut.ensures.value c.stop.ensures) c.self.invariant
+    alike_owned a b (put_alike i.room i.entries.items i.replicas.items i.marks i.pending c.args.server c.index_mut.result.now c.stop.new.self (within_servers a _ c.args.server (shows a _ c.self.view_is) c.requires) c.index_mut.ensures.value c.stop.ensures.server) c.self.invariant
 
-pub returns : goal.returns
-returns g c =
+pub returns-clause-step : goal.returns-clause-step
+returns-clause-step g c =
     let i = c.self.inside in
     let a : Native = native_of i.room i.entries.items i.replicas.items i.marks i.pending in
     let b : Native = native_of i.room i.entries.items (set i.replicas.items c.args.server c.stop.new.self) i.marks i.pending in
-    step_alike a b _ _ _ (shows a _ c.self.view_is) c.self.invariant (put_alike i.room i.entries.items i.replicas.items i.marks i.pending c.args.server c.index_mut.result.now c.stop.new.self (within_servers a _ c.args.server (shows a _ c.self.view_is) c.requires) c.index_mut.ensures.value c.stop.ensures) c.requires refl
+    step_alike a b _ _ _ (shows a _ c.self.view_is) c.self.invariant (put_alike i.room i.entries.items i.replicas.items i.marks i.pending c.args.server c.index_mut.result.now c.stop.new.self (within_servers a _ c.args.server (shows a _ c.self.view_is) c.requires) c.index_mut.ensures.value c.stop.ensures.server) c.requires refl
+
+pub returns-clause-serves : goal.returns-clause-serves
+returns-clause-serves g c =
+    let i = c.self.inside in
+    let a : Native = native_of i.room i.entries.items i.replicas.items i.marks i.pending in
+    let here = within_servers a _ c.args.server (shows a _ c.self.view_is) c.requires in (
+      subst (λ (x : NativeView). ChangesAt (IsArmed c.args.after) c.args.server (states_in x.replicas) (states_in (set i.replicas.items c.args.server c.stop.new.self))) c.self.view_is
+          (changes_at (IsArmed c.args.after) i.replicas.items c.args.server c.index_mut.result.now c.stop.new.self here c.index_mut.ensures.value c.stop.ensures.arms),
+      refl,
+    )

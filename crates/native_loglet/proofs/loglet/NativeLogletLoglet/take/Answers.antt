@@ -11,8 +11,8 @@ invariant_of-self g c =
     let b : Native = native_of i.room i.entries.items i.replicas.items i.marks c.take_decided.new.pending in
     alike_owned a b (map_alike i.room i.entries.items i.replicas.items i.marks i.pending c.take_decided.new.pending c.in_err-decided.ensures.none) c.self.invariant
 
-pub returns-in_err-decided : goal.returns-in_err-decided
-returns-in_err-decided g c =
+pub returns-in_err-decided-clause-step : goal.returns-in_err-decided-clause-step
+returns-in_err-decided-clause-step g c =
     let i = c.self.inside in
     let a : Native = native_of i.room i.entries.items i.replicas.items i.marks i.pending in
     let b : Native = native_of i.room i.entries.items i.replicas.items i.marks c.take_decided.new.pending in
@@ -56,8 +56,8 @@ invariant_of-self-2 g c =
     let a : Native = native_of i.room i.entries.items i.replicas.items i.marks i.pending in
     (takes_whole a c.take_decided.new.pending c.told-self-inside.result _ c.args.ticket c.in_ok-decided.decided c.answer-answer.result c.wanted-length.result (shows a _ c.self.view_is) c.self.invariant c.requires (rw c.number.ensures at c.in_ok-decided.ensures.taken) c.answer-answer.ensures c.wanted-length.ensures c.told-self-inside.ensures).0
 
-pub returns : goal.returns
-returns g c =
+pub returns-clause-step : goal.returns-clause-step
+returns-clause-step g c =
     let i = c.self.inside in
     let a : Native = native_of i.room i.entries.items i.replicas.items i.marks i.pending in
     (takes_whole a c.take_decided.new.pending c.told-self-inside.result _ c.args.ticket c.in_ok-decided.decided c.answer-answer.result c.wanted-length.result (shows a _ c.self.view_is) c.self.invariant c.requires (rw c.number.ensures at c.in_ok-decided.ensures.taken) c.answer-answer.ensures c.wanted-length.ensures c.told-self-inside.ensures).1

@@ -1,7 +1,11 @@
-use Rattle.std.proofs.Common.{◌∙◌, ap, sym}
+use Rattle.std.proofs.Common.{◌≡◌, ◌∙◌, false, ap, sym, subst}
 use Rattle.std.specs.Prelude.{Ok}
 use Rattle.majority_rule.specs.Servers.{is_sealed}
-use Rattle.native_loglet.proofs.Rules.{known_sealed, restart_sealed}
+use Rattle.log_server.specs.View.{View}
+use Rattle.loglet_api.specs.Servers.{RestartsTo}
+use Rattle.native_loglet.specs.Natives.{state_in}
+use Rattle.native_loglet.proofs.Rules.{known_sealed, restart_sealed, value_or}
+use Rattle.native_loglet.proofs.Serving.{state_reopened, state_down, down_where, refused}
 use Rattle.native_loglet.proofs.replica.Replica.restart.Goals as goal
 
 pub invariant_of-self : goal.invariant_of-self
@@ -11,3 +15,23 @@ pub invariant_of-self-2 : goal.invariant_of-self-2
 invariant_of-self-2 g c =
     known_sealed c.restart.new.self.server c.self.inside.sealed c.is_sealed_now-self-inside.result c.is_sealed_now-self-inside.ensures
     (restart_sealed c.self.inside.server.server c.restart.new.self.server c.self.inside.sealed c.in_ok-up.up c.self.invariant (λ u. c.in_ok-up.ensures.restarted (ap (λ x. Ok x) u)) (λ u. (c.in_ok-up.ensures.failed (ap (λ x. Ok x) u)).0))
+
+pub returns-in_err-up-clause-spared : goal.returns-in_err-up-clause-spared
+returns-in_err-up-clause-spared g c =
+    let v : View = c.self.inside.server in
+    refused c.from_residual.result
+    (subst (λ (x : View). state_in c.restart.new.self ≡ state_in x) c.self.view_is
+    (state_down v c.restart.new.self (down_where v.server.up (λ u. (c.in_err-up.ensures.up u).0)) c.in_err-up.ensures.memory c.in_err-up.ensures.memory_no_fault))
+
+pub returns-clause-rises : goal.returns-clause-rises
+returns-clause-rises g c =
+    let v : View = c.self.inside.server in
+    subst (λ (x : View). RestartsTo c.in_ok-up.up (state_in x) (state_in c.restart.new.self)) c.self.view_is
+    (state_reopened v c.restart.new.self c.in_ok-up.up (record {
+      calm = λ u. (let y = c.in_ok-up.ensures.up u in (ap (value_or false) y.0, y.1));
+      restarted = λ u. c.in_ok-up.ensures.restarted (ap (λ x. Ok x) u);
+      failed = λ u. c.in_ok-up.ensures.failed (ap (λ x. Ok x) u);
+      kept = c.restart.ensures.faults;
+      no_fault = λ u. c.in_ok-up.ensures.no_fault (ap (λ x. Ok x) u);
+      disarmed = λ u. c.in_ok-up.ensures.disarmed (ap (λ x. Ok x) u);
+    }))
