@@ -24,8 +24,8 @@ own_none who (MendMeta word) = refl
 pub no_turn : (may : ℕ → Entry → Type 0) (floor : List Entry → ℕ → Type 0) (shelf : List ℕ) (who : ℕ) (call : FabricCall) → IsLegal may floor shelf [] → IsTurn may floor shelf who [] call Memory []
 no_turn may floor shelf who call legal = record { others = []; own = []; apart = tt; event = own_none who call; seen = refl; legal = legal }
 
--- fresh registers show the same
-pub fresh_register : (a b : RegisterView) → IsFresh a → IsFresh b → a ≡ b
+-- fresh registers show the same, but for what is seen of their disks and words
+pub fresh_register : (a b : RegisterView) → IsFresh a → IsFresh b → a ≡ record b { armed = a.armed; told = a.told }
 fresh_register a b h k = λ i. record {
   version = (h.version ∙ sym k.version) i;
   chain = (h.chain ∙ sym k.chain) i;
@@ -35,4 +35,6 @@ fresh_register a b h k = λ i. record {
   down = (h.down ∙ sym k.down) i;
   faults = (h.faults ∙ sym k.faults) i;
   misses = (h.misses ∙ sym k.misses) i;
+  armed = a.armed;
+  told = a.told;
 }

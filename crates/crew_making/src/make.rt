@@ -157,7 +157,9 @@ pub fn make_crew<L: Loglet, R: Register, K: Terms, S: Replica, C: Chooser>(
     ensures stands { IfOk result (λ crew. CrewStands K.may K.floor K.shelf S.state S.spells crew.fabric.journal (λ w. w.seat) crew.workers.items) }
     ensures none { IfOk result (λ crew. crew.fabric.journal ≡ []) }
     ensures told { IfOk result (λ crew. AreAsTold K.may K.floor K.shelf [] crew.fabric.cells crew.fabric.register) }
-    ensures register { IfOk result (λ crew. crew.fabric.register ≡ R.view register) }
+
+    // Whether a fresh register's disk is armed, and what it was told, is left open; all else is as it was.
+    ensures register { IfOk result (λ crew. crew.fabric.register ≡ record (R.view register) { armed = crew.fabric.register.armed; told = crew.fabric.register.told }) }
     ensures replicas { IfOk result (λ crew. map (λ w. w.seat.node.replica) crew.workers.items ≡ map (λ n. S.shows n.replica) nodes.old.items) }
     ensures taken { OnOk result (nodes.new.items ≡ []) }
 

@@ -48,7 +48,7 @@ does (WriteChain x c) (fabric.Conflict version chain) old new d = same old new (
 does (WriteChain x c) fabric.MetaFault old new d = same old new (ap (λ (v : RegisterView). v.misses) d.torn)
 does (WriteChain x c) fabric.Down old new d = same old new (ap (λ (v : RegisterView). v.misses) d.counted)
 does (StopMeta n) (fabric.Set true) old new d = same old new (ap (λ (v : RegisterView). v.misses) d)
-does (MendMeta word) (fabric.Set true) old new d = same old new (ap (λ (v : RegisterView). v.misses) d.2.1 ∙ reopened-misses old d.2.0 old.asked)
+does (MendMeta word) (fabric.Set true) old new d = same old new (ap (λ (v : RegisterView). v.misses) d.1.1 ∙ reopened-misses old d.1.0 old.asked)
 does (MendMeta word) (fabric.Set false) old new d = λ small. let e = ap (λ (v : RegisterView). v.misses) d.2 in omega (arith, e)
 does c a old new d = absurd d
 

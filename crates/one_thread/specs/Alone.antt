@@ -2,6 +2,7 @@
 use Rattle.std.specs.Prelude.{◌≡◌, ℕ, List, [], ◌∷◌, ◌++◌}
 use Rattle.delos_types.specs.declared.entry.Entry.{Entry}
 use Rattle.loglet_api.specs.View.{LogletView}
+use Rattle.loglet_api.specs.Servers.{ServersView}
 use Rattle.register_api.specs.View.{RegisterView}
 use Rattle.legal_journal.specs.declared.events.Event.{Event}
 use Rattle.legal_journal.specs.Journal.{IsLegal}
@@ -11,6 +12,7 @@ use Rattle.legal_journal.specs.Sealing.{SealsBy}
 pub record AloneView : Type 0 where
   pub who : ℕ
   pub cells : List LogletView
+  pub serving : List ServersView
   pub register : RegisterView
   pub journal : List Event
 

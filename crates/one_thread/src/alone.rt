@@ -28,7 +28,7 @@ impl<L: Loglet, R: Register, K: Terms, Q: Scope> Model for Alone<L, R, K, Q> {
 
     ghost Value = { AloneView };
 
-    ghost view = { λ a. record { who = a.who; cells = a.fabric.cells; register = a.fabric.register; journal = a.fabric.journal } };
+    ghost view = { λ a. record { who = a.who; cells = a.fabric.cells; serving = a.fabric.serving; register = a.fabric.register; journal = a.fabric.journal } };
 
     ghost invariant = { λ a. IsAlone K.may Q.sends Q.seals K.floor Q.floor K.shelf Q.since a.who a.fabric.journal };
 }
@@ -40,7 +40,7 @@ impl<L: Loglet, R: Register, K: Terms, Q: Scope> Alone<L, R, K, Q> {
         requires narrower { (who : ℕ) (e : Entry) → Q.sends who e → K.may who e }
         requires lower { (log : List Entry) (n : ℕ) → Q.floor log n → K.floor log n }
         requires since { Q.since ≡ fabric.journal }
-        ensures { result ≡ record { who = who; cells = fabric.cells; register = fabric.register; journal = fabric.journal } }
+        ensures { result ≡ record { who = who; cells = fabric.cells; serving = fabric.serving; register = fabric.register; journal = fabric.journal } }
     {
         Alone {
             who,
@@ -58,7 +58,7 @@ impl<L: Loglet, R: Register, K: Terms, Q: Scope> Alone<L, R, K, Q> {
 
     /// Gives the fabric back. Makes no event, and takes no memory.
     pub fn into_fabric(self) -> Fabric<L, R, By<K>>
-        ensures fabric { result ≡ record { cells = self.cells; register = self.register; journal = self.journal } }
+        ensures fabric { result ≡ record { cells = self.cells; serving = self.serving; register = self.register; journal = self.journal } }
         ensures legal { IsLegal Q.sends Q.floor K.shelf self.journal }
 
         // All events since it was taken are this user's.

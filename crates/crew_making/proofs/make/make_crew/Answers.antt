@@ -1,4 +1,4 @@
-use Rattle.std.proofs.Common.{[], length, map, sym, ap, ◌∙◌, subst, arith}
+use Rattle.std.proofs.Common.{◌≡◌, [], length, map, sym, ap, ◌∙◌, subst, arith}
 use Rattle.std.proofs.lemmas.List.{length-map}
 use Rattle.legal_journal.specs.Journal.{IsLegal}
 use Rattle.node_lines.specs.Workers.{Sends}
@@ -6,6 +6,7 @@ use Rattle.run_course.specs.Script.{AreLines}
 use Rattle.node_crew.specs.Crews.{CrewRests, CrewStands}
 use Rattle.crew_making.specs.Apart.{AreAsTold}
 use Rattle.crew_making.specs.Fresh.{AreFreshFrom, AreNewWorkers}
+use Rattle.register_api.specs.View.{RegisterView}
 use Rattle.fabric_core.specs.Runs.{HasRegisterRun}
 use Rattle.crew_making.proofs.Before.{fresh_register}
 use Rattle.crew_making.proofs.Fresh.{fresh_from}
@@ -83,4 +84,5 @@ pub returns-in-Ok-new-clause-register : goal.returns-in-Ok-new-clause-register
 returns-in-Ok-new-clause-register g c =
     let q = c.seat_all-workers in
     let h = subst (λ j. HasRegisterRun j q.result.fabric.register) q.ensures.none c.journal-told.ensures.register_runs in
-    h.run ∙ fresh_register h.opening (g.R.Register.view c.args.register) h.fresh c.requires.register
+    let r = g.R.Register.view c.args.register in
+    subst (λ (x : RegisterView). x ≡ record r { armed = x.armed; told = x.told }) (sym h.run) (fresh_register h.opening r h.fresh c.requires.register)
