@@ -1,5 +1,6 @@
 //! A file loglet on a disk in memory.
 ghost use Rattle.std.specs.Prelude.{◌≡◌, ◌≤◌, ◌^◌, IfOk};
+ghost use Rattle.loglet_api.specs.declared.call.Kind.TheVariants.{File};
 ghost use Rattle.loglet_api.specs.View.{IsFresh};
 
 use crate::file::FileLoglet;
@@ -12,6 +13,7 @@ pub fn in_memory(alloc: Global, room: u64) -> Result<FileLoglet<MemDisk>, AllocE
     requires { (1 ≤ room) × (room ≤ 2 ^ 32) }
     ensures fresh { IfOk result (λ made. IsFresh made.loglet) }
     ensures room { IfOk result (λ made. made.loglet.room ≡ room) }
+    ensures kind { IfOk result (λ made. made.loglet.kind ≡ File) }
     ensures disarmed { IfOk result (λ made. made.disk.armed ≡ 0) }
 {
     match FileLoglet::new(alloc, MemDisk::new(alloc), room) {

@@ -4,6 +4,7 @@ ghost use Rattle.disk_model.specs.Disk.{IsSynced, reads};
 ghost use Rattle.engine_api.specs.Packing.{IsProposable};
 ghost use Rattle.register_api.specs.View as register;
 ghost use Rattle.legal_journal.specs.Journal.{IsLegal};
+ghost use Rattle.loglet_api.specs.declared.call.Kind.TheVariants.{File};
 ghost use Rattle.loglet_api.specs.View.{IsFresh};
 ghost use Rattle.worked_nodes.specs.Resting.{anything, least_of_two, one_loglet, Rests, AreTwo, IsNew};
 
@@ -27,7 +28,6 @@ use legal_journal::turns::Turns;
 use local_replica::layers::Layers;
 use local_replica::replica::LocalReplica;
 use local_store::Store;
-use loglet_api::call::Kind;
 use loglet_api::loglet::Loglet;
 use meta_register::MetaRegister;
 use std::alloc::{AllocError, Global};
@@ -69,7 +69,7 @@ fn fresh_fabric(alloc: Global) -> Option<Fabric<Cell, Register, TwoNodes>>
 /// A fabric over this loglet and a register, with no event.
 fn fabric_over(alloc: Global, cell: Cell) -> Option<Fabric<Cell, Register, TwoNodes>>
     requires fresh { IsFresh cell.loglet }
-    requires kind { cell.loglet.kind ≡ Kind.File }
+    requires kind { cell.loglet.kind ≡ File }
     ensures { IfSome result (λ made. made.journal ≡ []) }
 {
     let servers = cell.servers();

@@ -1,5 +1,6 @@
 //! Shelves of one loglet and of three.
 ghost use Rattle.loglet_api.specs.Sound.{IsSound};
+ghost use Rattle.loglet_api.specs.declared.call.Kind.TheVariants.{File};
 ghost use Rattle.loglet_api.specs.View.{IsFresh};
 ghost use Rattle.register_api.specs.View as view;
 ghost use Rattle.std.specs.Prelude.{◌≡◌, [], IfSome};
@@ -11,7 +12,6 @@ use fate_words::chooser::Calm;
 use file_loglet::file::FileLoglet;
 use file_loglet::memory::in_memory;
 use legal_journal::rules::Rules;
-use loglet_api::call::Kind;
 use loglet_api::loglet::Loglet;
 use meta_register::MetaRegister;
 use std::alloc::Global;
@@ -94,7 +94,7 @@ fn fresh_cell(alloc: Global) -> Option<Cell>
     ensures fresh { IfSome result (λ made. IsFresh made.loglet) }
     ensures sound { IfSome result (λ made. IsSound made.loglet) }
     ensures one { IfSome result (λ made. made.loglet.servers ≡ 1) }
-    ensures kind { IfSome result (λ made. made.loglet.kind ≡ Kind.File) }
+    ensures kind { IfSome result (λ made. made.loglet.kind ≡ File) }
 {
     let Ok(cell) = in_memory(alloc, 10) else {
         return None;
