@@ -13,7 +13,7 @@ use Rattle.virtual_log.specs.Turning.{Later, FirstTurn, IsAbove}
 use Rattle.virtual_log.proofs.OneTurn.{later_continues}
 use Rattle.virtual_log.specs.Holding.{IsTrimmed, Stays}
 use Rattle.base_engine.specs.Reading.{IsFront}
-use Rattle.replica_api.specs.Replica.{Saved, ReplicaView, saved_in, MayFind, SpellsOne, Survives, Advances, Advanced, Failed, MayFindDuring, Recovered}
+use Rattle.replica_api.specs.Replica.{Saved, ReplicaView, saved_in, MayFind, SpellsOne, Survives, Advances, Advanced, Failed, MayFindDuring, Recovered, armed_by}
 use Rattle.base_engine.specs.Following.{IsStateAt, Follows, IsKnown, Reaches, IsAt, IsFound}
 
 push_cases : (log : List Entry) (e x : Entry) (pos : ℕ) → slice_get (log ++ e ∷ []) pos ≡ Some x → (slice_get log pos ≡ Some x) ⊎ ((pos ≡ length log) × (x ≡ e))
@@ -72,8 +72,8 @@ module _ (holds : List Event → ℕ → Entry → Type 0) (state : List Entry �
       next : Saved
       next = record { cursor = old.cursor + 1; contents = f.next }
 
-  pub follows_reopened : (old new : ReplicaView) → Follows holds state spells seen old → Recovered old new → Survives spells new → Follows holds state spells seen new
-  follows_reopened old new h r survives = record {
+  pub follows_reopened : (word : ℕ) (old new : ReplicaView) → Follows holds state spells seen old → Recovered word old new → Survives spells new → Follows holds state spells seen new
+  follows_reopened word old new h r survives = record {
     now = (found_state old (saved_in new) h r.found).at;
     asked = λ s is. absurd (none s is);
     survives = survives;
@@ -89,6 +89,10 @@ module _ (holds : List Event → ℕ → Entry → Type 0) (state : List Entry �
     asked = λ s is. let k = h.asked s (sym asked ∙ is) in record { at = k.at; next = k.next ∙ ap (λ (x : Saved). x.cursor + 1) (sym same) };
     survives = survives;
   }
+
+  -- its disk is armed
+  pub follows_armed : (v : ReplicaView) (after : ℕ) → Follows holds state spells seen v → Follows holds state spells seen (armed_by v after)
+  follows_armed v after h = record { now = h.now; asked = h.asked; survives = h.survives }
 
   pub found_near : (v : ReplicaView) (s : Saved) → Follows holds state spells seen v → MayFind v s → s.cursor ≤ v.cursor + 1
   found_near v s h (inl same) = omega (arith, ap (λ (x : Saved). x.cursor) same)
@@ -189,8 +193,8 @@ known_same known old new h same asked = record {
   asked = λ s is. h.asked s (sym asked ∙ is);
 }
 
-pub known_reopened : (known : ℕ) (old new : ReplicaView) → IsKnown known old → Recovered old new → IsKnown known new
-known_reopened known old new h r = record { now = found r.found; asked = λ s is. absurd (none s is) }
+pub known_reopened : (word known : ℕ) (old new : ReplicaView) → IsKnown known old → Recovered word old new → IsKnown known new
+known_reopened word known old new h r = record { now = found r.found; asked = λ s is. absurd (none s is) }
   where
     found : MayFind old (saved_in new) → new.cursor ≤ known
     found (inl same) = omega (arith, h.now, ap (λ (x : Saved). x.cursor) same)
@@ -198,6 +202,9 @@ known_reopened known old new h r = record { now = found r.found; asked = λ s is
 
     none : (s : Saved) → new.asked ≡ Some s → ⊥
     none s is = let no : None ≡ Some s = sym r.none_asked ∙ is in cc
+
+pub known_armed : (known : ℕ) (v : ReplicaView) (after : ℕ) → IsKnown known v → IsKnown known (armed_by v after)
+known_armed known v after h = record { now = h.now; asked = h.asked }
 
 pub known_rest : (a b : ℕ) (v w : ReplicaView) → a ≤ b → w ≡ record v { kept = w.kept } → IsKnown a v → IsKnown b w
 known_rest a b v w le is h = subst (λ x. IsKnown b x) (sym is) record { now = omega (arith, h.now); asked = λ s at. omega (arith, h.asked s at) }

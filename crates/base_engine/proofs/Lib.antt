@@ -8,3 +8,4 @@ pub mod Landing
 pub mod Freeing
 pub mod Showing
 pub mod Scanning
+pub mod Arming

@@ -8,3 +8,4 @@ pub mod Trimming
 pub mod Proposing
 pub mod Node
 pub mod Codes
+pub mod Arming

@@ -1,7 +1,8 @@
 //! A node.
-ghost use Rattle.std.specs.Prelude.{◌≡◌, ◌≢◌, ◌<◌, ◌^◌, ◌≤◌, ◌+◌, ℕ, List, None, Some, [], ◌∷◌, ◌++◌, false, IfOk, OnOk, OnErr, IfErr, length};
+ghost use Rattle.std.specs.Prelude.{◌≡◌, ◌≢◌, ◌<◌, ◌^◌, ◌≤◌, ◌+◌, ◌⊎◌, ℕ, List, None, Some, [], ◌∷◌, ◌++◌, false, true, IfOk, OnOk, OnErr, IfErr, length};
 ghost use Rattle.delos_types.specs.declared.entry.Entry.{Entry};
 ghost use Rattle.disk_model.specs.Crash.{AnyCrash};
+ghost use Rattle.disk_model.specs.Disk.{Rose};
 ghost use Rattle.engine_api.specs.Packing.{IsProposable, packed, trim_item};
 ghost use Rattle.engine_steps.specs.Layout as layout;
 ghost use Rattle.legal_journal.specs.Journal.{IsLegal};
@@ -9,8 +10,9 @@ ghost use Rattle.virtual_log.specs.Truncating.{IsPrefixTrimmed};
 ghost use Rattle.virtual_log.specs.Turning.{Later, IsAbove};
 ghost use Rattle.virtual_log.specs.Sealing.{SealsLast};
 ghost use Rattle.base_engine.specs.Causes.{Blames};
+ghost use Rattle.base_engine.specs.Arming.{StoreTwice, FailsToOpen};
 ghost use Rattle.base_engine.specs.Following.{Follows, IsFound, Reaches, IsAt, EndsBy};
-ghost use Rattle.replica_api.specs.Replica.{SpellsOne, Survives, Flushes, Queues};
+ghost use Rattle.replica_api.specs.Replica.{SpellsOne, Survives, Flushes, Queues, Recovered, ArmedAsBefore, armed_by};
 ghost use Rattle.base_engine.specs.Settling.{view_of, Settled, Lands, Answers, Failing, cause_in};
 ghost use Rattle.base_engine.specs.Proposing.{Sent, Proposed, Refused, IsNear};
 ghost use Rattle.base_engine.specs.Node.{NodeView, NodeOk, Keeps};
@@ -192,6 +194,13 @@ impl<L: SharedLog, R: Replica> Node<L, R> {
         ensures any_crash { AnyCrash self.old.replica.disk self.new.replica.disk (SpellsOne R.spells (IsFound L.holds R.state self.new.seen self.old.replica.cursor)) }
         ensures kept { self.new.replica.kept ≡ self.old.replica.kept }
         ensures outbox { self.new.outbox ≡ self.old.outbox }
+
+        // Nobody but a stop arms the disk, and a store is opened again with word 0 alone. The store is a cause where its disk
+        // failed twice, or failed again.
+        ensures armed { ArmedAsBefore self.old.replica self.new.replica }
+        ensures told { (self.new.replica.told ≡ self.old.replica.told) ⊎ (self.new.replica.told ≡ 0) }
+        ensures down { self.new.replica.down ≡ true → (self.old.replica.down ≡ true) ⊎ Rose self.old.replica.faults self.new.replica.faults }
+        ensures twice { IfErr result (λ f. StoreTwice self.old.replica f self.new.replica) }
     {
         sync(&mut self.log, &mut self.replica)
     }
@@ -207,6 +216,13 @@ impl<L: SharedLog, R: Replica> Node<L, R> {
         ensures any_crash { AnyCrash self.old.replica.disk self.new.replica.disk (SpellsOne R.spells (IsFound L.holds R.state self.new.seen self.old.replica.cursor)) }
         ensures kept { self.new.replica.kept ≡ self.old.replica.kept }
         ensures outbox { self.new.outbox ≡ self.old.outbox }
+
+        // Nobody but a stop arms the disk, and a store is opened again with word 0 alone. The store is a cause where its disk
+        // failed twice, or failed again.
+        ensures armed { ArmedAsBefore self.old.replica self.new.replica }
+        ensures told { (self.new.replica.told ≡ self.old.replica.told) ⊎ (self.new.replica.told ≡ 0) }
+        ensures down { self.new.replica.down ≡ true → (self.old.replica.down ≡ true) ⊎ Rose self.old.replica.faults self.new.replica.faults }
+        ensures twice { IfErr result (λ f. StoreTwice self.old.replica f self.new.replica) }
     {
         play(&mut self.log, &mut self.replica, to)
     }
@@ -225,6 +241,13 @@ impl<L: SharedLog, R: Replica> Node<L, R> {
         ensures near { IsNear self.old.replica.contents item → OnOk result (Sent L.holds self.old.who self.old.seen self.old.outbox (λ packed. Queues self.old.replica.origin self.old.replica.kept item packed self.new.replica.kept) self.new.seen self.new.outbox) × IfErr result (λ f. f ≡ Fault.Memory) × (self.new.replica ≡ record self.old.replica { kept = self.new.replica.kept }) }
         ensures blames { IfErr result (λ f. Blames self.old.who self.old.seen self.old.replica.faults f self.new.seen self.new.replica.faults) }
         ensures any_crash { AnyCrash self.old.replica.disk self.new.replica.disk (SpellsOne R.spells (IsFound L.holds R.state self.new.seen self.old.replica.cursor)) }
+
+        // Nobody but a stop arms the disk, and a store is opened again with word 0 alone. The store is a cause where its disk
+        // failed twice, or failed again.
+        ensures armed { ArmedAsBefore self.old.replica self.new.replica }
+        ensures told { (self.new.replica.told ≡ self.old.replica.told) ⊎ (self.new.replica.told ≡ 0) }
+        ensures down { self.new.replica.down ≡ true → (self.old.replica.down ≡ true) ⊎ Rose self.old.replica.faults self.new.replica.faults }
+        ensures twice { IfErr result (λ f. StoreTwice self.old.replica f self.new.replica) }
     {
         propose(
             self.alloc,
@@ -290,13 +313,22 @@ impl<L: SharedLog, R: Replica> Node<L, R> {
         ensures seen { self.new.seen ≡ self.old.seen }
         ensures blames { IfErr result (λ f. Blames self.old.who self.old.seen self.old.replica.faults f self.new.seen self.new.replica.faults) }
         ensures any_crash { AnyCrash self.old.replica.disk self.new.replica.disk (SpellsOne R.spells (IsFound L.holds R.state self.new.seen self.old.replica.cursor)) }
+
+        // Where it was up nothing is done; and it fails for the store only where the disk failed again.
+        ensures recovered { OnOk result (Recovered word self.old.replica self.new.replica) }
+        ensures fails { IfErr result (λ f. FailsToOpen word self.old.replica f self.new.replica) }
+        ensures armed { ArmedAsBefore self.old.replica self.new.replica }
+        ensures told { (self.new.replica.told ≡ self.old.replica.told) ⊎ (self.new.replica.told ≡ word) }
+        ensures down { self.new.replica.down ≡ true → (self.old.replica.down ≡ true) ⊎ Rose self.old.replica.faults self.new.replica.faults }
+        ensures twice { IfErr result (λ f. StoreTwice self.old.replica f self.new.replica) }
     {
         restore(&self.log, &mut self.replica, word)
     }
 
-    /// Arms the disk: its write number `after` from now on stops inside itself, as in a crash; 0 takes that back.
+    /// Arms the disk, where the store is up: its write number `after` from now on stops inside itself, as in a crash; 0 takes
+    /// that back.
     pub fn stop(&mut self, after: u64)
-        ensures { self.new ≡ self.old }
+        ensures { self.new ≡ record self.old { replica = armed_by self.old.replica after } }
     {
         self.replica.stop(after);
     }
@@ -337,6 +369,13 @@ impl<L: SharedLog, R: Replica> Node<L, R> {
         // Where no earlier cause waits for a settling.
         ensures blames { self.old.outbox.unsettled ≡ None → IfErr result (λ f. Blames self.old.who self.old.seen self.old.replica.faults f self.new.seen self.new.replica.faults) }
         ensures any_crash { AnyCrash self.old.replica.disk self.new.replica.disk (SpellsOne R.spells (IsFound L.holds R.state self.new.seen self.old.replica.cursor)) }
+
+        // Nobody but a stop arms the disk, and a store is opened again with word 0 alone. The store is a cause where its disk
+        // failed twice, or failed again.
+        ensures armed { ArmedAsBefore self.old.replica self.new.replica }
+        ensures told { (self.new.replica.told ≡ self.old.replica.told) ⊎ (self.new.replica.told ≡ 0) }
+        ensures down { self.new.replica.down ≡ true → (self.old.replica.down ≡ true) ⊎ Rose self.old.replica.faults self.new.replica.faults }
+        ensures twice { self.old.outbox.unsettled ≡ None → IfErr result (λ f. StoreTwice self.old.replica f self.new.replica) }
     {
         trim_now(
             self.alloc,

@@ -1,13 +1,14 @@
 //! A replica follows its log.
-ghost use Rattle.std.specs.Prelude.{◌≡◌, ◌+◌, false, ◌<◌, ◌≤◌, ℕ, List, IfOk, OnOk, OnErr, IfErr};
+ghost use Rattle.std.specs.Prelude.{◌≡◌, ◌≢◌, ◌+◌, false, ◌<◌, ◌≤◌, ℕ, List, IfOk, OnOk, OnErr, IfErr};
 ghost use Rattle.legal_journal.specs.declared.events.Event.{Event};
 ghost use Rattle.legal_journal.specs.Journal.{state_of, tail_of, IsLegal};
 ghost use Rattle.virtual_log.specs.Turning.{Later, IsAbove};
 ghost use Rattle.disk_model.specs.Disk.{Rose};
 ghost use Rattle.disk_model.specs.Crash.{AnyCrash};
-ghost use Rattle.replica_api.specs.Replica.{ReplicaView, SpellsOne, MayFind, Survives, Recovered, StaysDown};
+ghost use Rattle.replica_api.specs.Replica.{ReplicaView, SpellsOne, MayFind, Survives, Recovered};
 ghost use Rattle.base_engine.specs.Following.{Follows, IsKnown, Plays, Reaches, IsAt, IsFound, KeepsTail, EndsBy};
 ghost use Rattle.base_engine.specs.Causes.{Blames};
+ghost use Rattle.base_engine.specs.Arming.{LeavesArming, StoreTwice, StaysShut, FailsToOpen};
 
 use crate::fault::{Fault, told};
 use crate::shared_log::SharedLog;
@@ -48,6 +49,8 @@ pub fn apply_next<L: SharedLog, R: Replica>(
     ensures calm { IfErr result (λ f. ((R.shows replica.new).faults ≡ (R.shows replica.old).faults) × ((R.shows replica.new).cursor ≡ (R.shows replica.old).cursor)) }
     ensures kept { (R.shows replica.new).kept ≡ (R.shows replica.old).kept }
     ensures origin { (R.shows replica.new).origin ≡ (R.shows replica.old).origin }
+    ensures arming { LeavesArming 0 (R.shows replica.old) (R.shows replica.new) }
+    ensures never_store { IfErr result (λ f. f ≢ Fault.Because Cause.Store) }
 
     // A crash inside it leaves the state of some of the log's first entries, and of no fewer than before.
     ensures any_crash { AnyCrash (R.shows replica.old).disk (R.shows replica.new).disk (SpellsOne R.spells (IsFound L.holds R.state (L.seen log.new) (R.shows replica.old).cursor)) }
@@ -76,8 +79,11 @@ pub fn apply_next<L: SharedLog, R: Replica>(
 
 /// Opens the store again. The word chooses what a stopped commit left.
 pub fn recover<R: Replica>(replica: &mut R, word: u64) -> Result<(), Fault>
-    ensures up { OnOk result (Recovered (R.shows replica.old) (R.shows replica.new)) }
-    ensures down { OnErr result (StaysDown (R.shows replica.old) (R.shows replica.new)) }
+    ensures up { OnOk result (Recovered word (R.shows replica.old) (R.shows replica.new)) }
+    ensures down { OnErr result (StaysShut (R.shows replica.old) (R.shows replica.new)) }
+    ensures fails { IfErr result (λ f. FailsToOpen word (R.shows replica.old) f (R.shows replica.new)) }
+    ensures arming { LeavesArming word (R.shows replica.old) (R.shows replica.new) }
+    ensures twice { IfErr result (λ f. StoreTwice (R.shows replica.old) f (R.shows replica.new)) }
     ensures rose { IfErr result (λ f. f ≡ Fault.Because Cause.Store → Rose (R.shows replica.old).faults (R.shows replica.new).faults) }
     ensures blames { IfErr result (λ f. (who : ℕ) (old new : List Event) → Blames who old (R.shows replica.old).faults f new (R.shows replica.new).faults) }
     ensures survives { Survives R.spells (R.shows replica.new) }
@@ -103,6 +109,10 @@ pub fn restore<L: SharedLog, R: Replica>(_log: &L, replica: &mut R, word: u64) -
     ensures counts { (R.shows replica.old).faults ≤ (R.shows replica.new).faults }
     ensures kept { (R.shows replica.new).kept ≡ (R.shows replica.old).kept }
     ensures origin { (R.shows replica.new).origin ≡ (R.shows replica.old).origin }
+    ensures recovered { OnOk result (Recovered word (R.shows replica.old) (R.shows replica.new)) }
+    ensures fails { IfErr result (λ f. FailsToOpen word (R.shows replica.old) f (R.shows replica.new)) }
+    ensures arming { LeavesArming word (R.shows replica.old) (R.shows replica.new) }
+    ensures twice { IfErr result (λ f. StoreTwice (R.shows replica.old) f (R.shows replica.new)) }
     ensures any_crash { AnyCrash (R.shows replica.old).disk (R.shows replica.new).disk (SpellsOne R.spells (IsFound L.holds R.state (L.seen _log.now) (R.shows replica.old).cursor)) }
 {
     match recover(replica, word) {
@@ -132,6 +142,8 @@ pub fn play<L: SharedLog, R: Replica>(log: &mut L, replica: &mut R, to: u64) -> 
     ensures counts { (R.shows replica.old).faults ≤ (R.shows replica.new).faults }
     ensures kept { (R.shows replica.new).kept ≡ (R.shows replica.old).kept }
     ensures origin { (R.shows replica.new).origin ≡ (R.shows replica.old).origin }
+    ensures arming { LeavesArming 0 (R.shows replica.old) (R.shows replica.new) }
+    ensures twice { IfErr result (λ f. StoreTwice (R.shows replica.old) f (R.shows replica.new)) }
     ensures any_crash { AnyCrash (R.shows replica.old).disk (R.shows replica.new).disk (SpellsOne R.spells (IsFound L.holds R.state (L.seen log.new) (R.shows replica.old).cursor)) }
 {
     let mut spare = true;
@@ -177,6 +189,8 @@ pub fn sync<L: SharedLog, R: Replica>(log: &mut L, replica: &mut R) -> Result<u6
     ensures counts { (R.shows replica.old).faults ≤ (R.shows replica.new).faults }
     ensures kept { (R.shows replica.new).kept ≡ (R.shows replica.old).kept }
     ensures origin { (R.shows replica.new).origin ≡ (R.shows replica.old).origin }
+    ensures arming { LeavesArming 0 (R.shows replica.old) (R.shows replica.new) }
+    ensures twice { IfErr result (λ f. StoreTwice (R.shows replica.old) f (R.shows replica.new)) }
     ensures any_crash { AnyCrash (R.shows replica.old).disk (R.shows replica.new).disk (SpellsOne R.spells (IsFound L.holds R.state (L.seen log.new) (R.shows replica.old).cursor)) }
 {
     let tail = match log.check_tail() {

@@ -6,6 +6,7 @@ ghost use Rattle.engine_steps.specs.Layout as layout;
 ghost use Rattle.legal_journal.specs.Journal.{IsLegal};
 ghost use Rattle.virtual_log.specs.Turning.{Later};
 ghost use Rattle.base_engine.specs.Causes.{Blames};
+ghost use Rattle.base_engine.specs.Arming.{LeavesArming, StoreTwice};
 ghost use Rattle.base_engine.specs.Following.{Follows, IsKnown, IsFound};
 ghost use Rattle.replica_api.specs.Replica.{SpellsOne, Queues, Flushes};
 ghost use Rattle.base_engine.specs.Settling.{view_of, Settled, MaySend};
@@ -192,6 +193,8 @@ fn catch_up<L: SharedLog, R: Replica>(
     ensures caught { OnOk result (CaughtUp L.holds (L.who log.old) (L.seen log.old) (view_of outbox.old) (L.seen log.new) (view_of outbox.new) (R.shows replica.new)) }
     ensures gave_up { IfErr result (λ f. GaveUp L.holds (L.who log.old) (L.seen log.old) (view_of outbox.old) session f (L.seen log.new) (view_of outbox.new)) }
     ensures kept { (R.shows replica.new).kept ≡ (R.shows replica.old).kept }
+    ensures arming { LeavesArming 0 (R.shows replica.old) (R.shows replica.new) }
+    ensures twice { IfErr result (λ f. StoreTwice (R.shows replica.old) f (R.shows replica.new)) }
 {
     carry_all(alloc, log, outbox)?;
     let sessions = only(alloc, session)?;
@@ -239,6 +242,8 @@ fn is_ready<L: SharedLog, R: Replica>(
     ensures ready { IfOk result (λ ready. Readied L.holds (L.who log.old) (L.seen log.old) (view_of outbox.old) item.now ready (L.seen log.new) (view_of outbox.new) (R.shows replica.new)) }
     ensures refused { IfErr result (λ f. Refused L.holds (L.who log.old) (L.seen log.old) (view_of outbox.old) item.now f (L.seen log.new) (view_of outbox.new)) }
     ensures kept { (R.shows replica.new).kept ≡ (R.shows replica.old).kept }
+    ensures arming { LeavesArming 0 (R.shows replica.old) (R.shows replica.new) }
+    ensures twice { IfErr result (λ f. StoreTwice (R.shows replica.old) f (R.shows replica.new)) }
 {
     let Some(word) = session_word(item) else {
         return Ok(true);
@@ -298,6 +303,8 @@ pub fn propose<L: SharedLog, R: Replica>(
     ensures near { IsNear (R.shows replica.old).contents item → OnOk result (Sent L.holds (L.who log.old) (L.seen log.old) (view_of outbox.old) (λ packed. Queues (R.shows replica.old).origin (R.shows replica.old).kept item packed (R.shows replica.new).kept) (L.seen log.new) (view_of outbox.new)) × IfErr result (λ f. f ≡ Fault.Memory) × (R.shows replica.new ≡ record (R.shows replica.old) { kept = (R.shows replica.new).kept }) }
     ensures waiting { (R.shows replica.new).kept ≢ [] → L.Law.may (L.who log.old) (packed (R.shows replica.old).origin (R.shows replica.new).kept) }
     ensures same { OnErr result ((R.shows replica.new).kept ≡ (R.shows replica.old).kept) }
+    ensures arming { LeavesArming 0 (R.shows replica.old) (R.shows replica.new) }
+    ensures twice { IfErr result (λ f. StoreTwice (R.shows replica.old) f (R.shows replica.new)) }
 {
     let ready = match is_ready(alloc, log, replica, outbox, &item) {
         Ok(ready) => ready,

@@ -11,6 +11,7 @@ ghost use Rattle.virtual_log.specs.Turning.{Later};
 ghost use Rattle.virtual_log.specs.Sealing.{SealsLast};
 ghost use Rattle.replica_api.specs.Replica.{SpellsOne};
 ghost use Rattle.base_engine.specs.Causes.{Blames};
+ghost use Rattle.base_engine.specs.Arming.{LeavesArming, StoreTwice};
 ghost use Rattle.base_engine.specs.Reading.{IsFront, IsExtendedBy};
 ghost use Rattle.base_engine.specs.Following.{Follows, IsKnown, IsFound};
 ghost use Rattle.base_engine.specs.Settling.{view_of, MaySend};
@@ -78,6 +79,8 @@ fn find_least<L: SharedLog, R: Replica>(
     ensures counts { (R.shows replica.old).faults ≤ (R.shows replica.new).faults }
     ensures kept { (R.shows replica.new).kept ≡ (R.shows replica.old).kept }
     ensures origin { (R.shows replica.new).origin ≡ (R.shows replica.old).origin }
+    ensures arming { LeavesArming 0 (R.shows replica.old) (R.shows replica.new) }
+    ensures twice { IfErr result (λ f. StoreTwice (R.shows replica.old) f (R.shows replica.new)) }
     ensures any_crash { AnyCrash (R.shows replica.old).disk (R.shows replica.new).disk (SpellsOne R.spells (IsFound L.holds R.state (L.seen log.new) (R.shows replica.old).cursor)) }
     ensures blames { IfErr result (λ f. Blames (L.who log.old) (L.seen log.old) (R.shows replica.old).faults f (L.seen log.new) (R.shows replica.new).faults) }
     ensures found { IfOk result (IsLeastAtTail L.holds R.state nodes (L.who log.old) (L.seen log.old) (L.seen log.new) (R.shows replica.new)) }
@@ -119,10 +122,12 @@ fn push_through<L: SharedLog, R: Replica>(
     ensures forward { (R.shows replica.old).cursor ≤ (R.shows replica.new).cursor }
     ensures counts { (R.shows replica.old).faults ≤ (R.shows replica.new).faults }
     ensures origin { (R.shows replica.new).origin ≡ (R.shows replica.old).origin }
+    ensures arming { LeavesArming 0 (R.shows replica.old) (R.shows replica.new) }
     ensures waiting { (R.shows replica.new).kept ≢ [] → L.Law.may (L.who log.old) (packed (R.shows replica.old).origin (R.shows replica.new).kept) }
     ensures any_crash { AnyCrash (R.shows replica.old).disk (R.shows replica.new).disk (SpellsOne R.spells (IsFound L.holds R.state (L.seen log.new) (R.shows replica.old).cursor)) }
     ensures landed { OnOk result (HasLanded L.holds (L.who log.old) (R.shows replica.old).origin (L.seen log.old) item (L.seen log.new)) }
     ensures blames { (view_of outbox.old).unsettled ≡ None → IfErr result (λ f. Blames (L.who log.old) (L.seen log.old) (R.shows replica.old).faults f (L.seen log.new) (R.shows replica.new).faults) }
+    ensures twice { (view_of outbox.old).unsettled ≡ None → IfErr result (λ f. StoreTwice (R.shows replica.old) f (R.shows replica.new)) }
 {
     match propose(alloc, log, replica, outbox, item) {
         Ok(()) => {}
@@ -199,6 +204,8 @@ fn trim_below<L: SharedLog, R: Replica>(
     ensures counts { (R.shows replica.old).faults ≤ (R.shows replica.new).faults }
     ensures kept { (R.shows replica.new).kept ≡ (R.shows replica.old).kept }
     ensures origin { (R.shows replica.new).origin ≡ (R.shows replica.old).origin }
+    ensures arming { LeavesArming 0 (R.shows replica.old) (R.shows replica.new) }
+    ensures twice { IfErr result (λ f. StoreTwice (R.shows replica.old) f (R.shows replica.new)) }
     ensures any_crash { AnyCrash (R.shows replica.old).disk (R.shows replica.new).disk (SpellsOne R.spells (IsFound L.holds R.state (L.seen log.new) (R.shows replica.old).cursor)) }
     ensures blames { IfErr result (λ f. Blames (L.who log.old) (L.seen log.old) (R.shows replica.old).faults f (L.seen log.new) (R.shows replica.new).faults) }
     ensures trims { IfOk result (TrimsBelow nodes (L.who log.old) (L.seen log.old) (L.seen log.new) (R.shows replica.new) (L.reaches log.new)) }
@@ -246,10 +253,12 @@ pub fn trim_now<L: SharedLog, R: Replica>(
     ensures forward { (R.shows replica.old).cursor ≤ (R.shows replica.new).cursor }
     ensures counts { (R.shows replica.old).faults ≤ (R.shows replica.new).faults }
     ensures origin { (R.shows replica.new).origin ≡ (R.shows replica.old).origin }
+    ensures arming { LeavesArming 0 (R.shows replica.old) (R.shows replica.new) }
     ensures waiting { (R.shows replica.new).kept ≢ [] → L.Law.may (L.who log.old) (packed (R.shows replica.old).origin (R.shows replica.new).kept) }
     ensures any_crash { AnyCrash (R.shows replica.old).disk (R.shows replica.new).disk (SpellsOne R.spells (IsFound L.holds R.state (L.seen log.new) (R.shows replica.old).cursor)) }
     ensures trims { IfOk result (Trims L.holds R.state nodes (L.who log.old) (R.shows replica.old).origin (L.seen log.old) (L.seen log.new) (R.shows replica.new) (L.reaches log.new)) }
     ensures blames { (view_of outbox.old).unsettled ≡ None → IfErr result (λ f. Blames (L.who log.old) (L.seen log.old) (R.shows replica.old).faults f (L.seen log.new) (R.shows replica.new).faults) }
+    ensures twice { (view_of outbox.old).unsettled ≡ None → IfErr result (λ f. StoreTwice (R.shows replica.old) f (R.shows replica.new)) }
 {
     let position = match find_least(log, replica, nodes) {
         Ok(position) => position,

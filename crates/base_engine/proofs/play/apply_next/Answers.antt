@@ -4,6 +4,7 @@ use Rattle.virtual_log.specs.Holding.{Reads}
 use Rattle.replica_api.specs.Replica.{ReplicaView, saved_in}
 use Rattle.base_engine.specs.Following.{Follows}
 use Rattle.base_engine.proofs.Following.{follows_later, follows_done, follows_fault, follows_same, crash_at_rest, crash_in_apply, known_done, known_fault}
+use Rattle.base_engine.proofs.Arming.{arming_refl, arming_same, arming_bytes, arming_advanced, arming_failed, told_of_log}
 use Rattle.base_engine.proofs.play.apply_next.Goals as goal
 
 pub returns-in-Err-clause-follows : goal.returns-in-Err-clause-follows
@@ -217,3 +218,31 @@ returns-in-DiskFault-clause-bounded g c =
     let known = g.L.SharedLog.reaches c.read_next.new.self in
     let low : v.cursor < known = omega (arith, c.requires.below, c.requires.within, c.in-Ok.ensures.known) in
     known_fault state known v w c.in-Found.entry low c.in-DiskFault.ensures.takes
+
+pub returns-in-Err-clause-arming : goal.returns-in-Err-clause-arming
+returns-in-Err-clause-arming g c = arming_refl 0 (g.R.Replica.shows c.args.replica.now)
+
+pub returns-in-Trimmed-clause-arming : goal.returns-in-Trimmed-clause-arming
+returns-in-Trimmed-clause-arming g c = arming_refl 0 (g.R.Replica.shows c.args.replica.now)
+
+pub returns-then-found-position-clause-arming : goal.returns-then-found-position-clause-arming
+returns-then-found-position-clause-arming g c = arming_refl 0 (g.R.Replica.shows c.args.replica.now)
+
+pub returns-in-Done-clause-arming : goal.returns-in-Done-clause-arming
+returns-in-Done-clause-arming g c =
+    let r = g.R.Replica in
+    arming_advanced 0 r.state (r.shows c.args.replica.now) c.in-Found.entry (r.shows c.apply.new.self) c.in-Done.ensures.takes
+
+pub returns-in-DiskFault-clause-arming : goal.returns-in-DiskFault-clause-arming
+returns-in-DiskFault-clause-arming g c =
+    let r = g.R.Replica in
+    arming_failed 0 r.state (r.shows c.args.replica.now) c.in-Found.entry (r.shows c.apply.new.self) c.in-DiskFault.ensures.takes
+
+pub returns-in-Down-clause-arming : goal.returns-in-Down-clause-arming
+returns-in-Down-clause-arming g c = let r = g.R.Replica in arming_same 0 (r.shows c.args.replica.now) (r.shows c.apply.new.self) c.in-Down.ensures.takes.1
+
+pub returns-in-Memory-clause-arming : goal.returns-in-Memory-clause-arming
+returns-in-Memory-clause-arming g c = let r = g.R.Replica in arming_bytes 0 (r.shows c.args.replica.now) (r.shows c.apply.new.self) c.in-Memory.ensures.takes
+
+pub returns-in-Err-clause-never_store : goal.returns-in-Err-clause-never_store
+returns-in-Err-clause-never_store g c = λ is. told_of_log c.in-Err.fault (sym c.told.ensures ∙ is)

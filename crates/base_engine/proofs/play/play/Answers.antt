@@ -1,9 +1,11 @@
-use Rattle.std.proofs.Common.{◌≡◌, ◌∙◌, ◌≤◌, inl, inr, subst, refl, ap, arith}
+use Rattle.std.proofs.Common.{◌≡◌, ◌⊎◌, ◌∙◌, ◌≤◌, true, false, inl, inr, subst, refl, sym, ap, ⊎_elim, arith}
+use Rattle.disk_model.specs.Disk.{Rose}
 use Rattle.replica_api.specs.Replica.{ReplicaView, saved_in}
 use Rattle.base_engine.specs.Following.{Plays, KeepsTail}
 use Rattle.virtual_log.proofs.OneTurn.{later_refl, later_trans}
 use Rattle.base_engine.proofs.Following.{follows_same, follows_reopened, found_state, found_near, crash_at_rest, crash_on, crash_in_reopen, known_reopened, known_same, turns_left}
 use Rattle.base_engine.proofs.Tails.{keeps_same, keeps_on}
+use Rattle.base_engine.proofs.Arming.{arming_refl, arming_trans, down_since, twice_again, store_since}
 use Rattle.base_engine.proofs.play.play.Goals as goal
 
 pub entry-init : goal.entry-init
@@ -21,6 +23,8 @@ entry-init g c =
       below = inl refl;
       counts = omega (arith);
       up = λ h. absurd (cc);
+      arming = arming_refl 0 (r.shows c.args.replica.now);
+      used = λ h. absurd (cc);
       kept = refl;
       origin = refl;
       quiet = keeps_same (t.who c.args.log.now) (r.shows c.args.replica.now).cursor (t.seen c.args.log.now);
@@ -49,6 +53,8 @@ entry-preserved-in-Ok-Applied g c =
       below = inr (omega (arith, plays.0, c.cursor.ensures.cursor, c.entry-test.true));
       counts = omega (arith, i.counts, plays.1);
       up = λ h. plays.2;
+      arming = arming_trans 0 (r.shows c.args.replica.now) (r.shows l.replica) (r.shows c.apply_next.new.replica) i.arming e.arming;
+      used = λ h. subst (λ n. ((r.shows c.args.replica.now).down ≡ true) ⊎ Rose (r.shows c.args.replica.now).faults n) (sym plays.1) (i.used h);
       kept = e.kept ∙ i.kept;
       origin = e.origin ∙ i.origin;
       quiet = keeps_on p.may p.floor p.shelf (t.who c.args.log.now) (r.shows c.args.replica.now).cursor first now new i.later e.later (r.shows l.replica).cursor i.forward i.quiet
@@ -168,12 +174,14 @@ entry-preserved g c =
       later = later_trans p.may p.floor p.shelf first now new i.later e.later;
       who = e.who ∙ i.who;
       known = e.known ∙ i.known;
-      follows = follows_reopened t.holds r.state r.spells new v w e.follows up c.in-Ok.ensures.survives;
-      bounded = known_reopened (t.reaches c.apply_next.new.log) v w e.bounded up;
+      follows = follows_reopened t.holds r.state r.spells new 0 v w e.follows up c.in-Ok.ensures.survives;
+      bounded = known_reopened 0 (t.reaches c.apply_next.new.log) v w e.bounded up;
       forward = omega (arith, i.forward, e.forward, found.forward);
       below = inr (omega (arith, near, plays.0, c.cursor.ensures.cursor, c.entry-test.true));
-      counts = omega (arith, i.counts, plays.1, up.counts);
+      counts = omega (arith, i.counts, plays.1, up.faults);
       up = λ h. up.up;
+      arming = arming_trans 0 a v w (arming_trans 0 a b v i.arming e.arming) c.in-Ok.ensures.arming;
+      used = λ h. subst (λ n. (a.down ≡ true) ⊎ Rose a.faults n) (sym up.faults) (down_since 0 a b v.faults i.arming plays.1 plays.2);
       kept = up.kept ∙ (e.kept ∙ i.kept);
       origin = up.origin ∙ (e.origin ∙ i.origin);
       quiet = keeps_on p.may p.floor p.shelf (t.who c.args.log.now) (r.shows c.args.replica.now).cursor first now new i.later e.later (r.shows l.replica).cursor i.forward i.quiet
@@ -182,3 +190,52 @@ entry-preserved g c =
           (crash_on p.may p.floor p.shelf t.holds r.state r.spells g.met.L.SharedLog.stays now new a b v e.later i.forward i.any_crash e.any_crash)
           (crash_in_reopen t.holds r.state r.spells new v w e.follows c.in-Ok.ensures.any_crash);
     }
+
+pub returns-in-Ok-Trimmed-clause-arming : goal.returns-in-Ok-Trimmed-clause-arming
+returns-in-Ok-Trimmed-clause-arming g c =
+    let r = g.R.Replica in
+    let l = c.entry in
+    arming_trans 0 (r.shows c.args.replica.now) (r.shows l.replica) (r.shows c.apply_next.new.replica) l.invariant.arming c.in-Ok-Trimmed.ensures.arming
+
+pub returns-then-not-spare-clause-arming : goal.returns-then-not-spare-clause-arming
+returns-then-not-spare-clause-arming g c =
+    let r = g.R.Replica in
+    let l = c.entry in
+    arming_trans 0 (r.shows c.args.replica.now) (r.shows l.replica) (r.shows c.apply_next.new.replica) l.invariant.arming c.in-Ok-Broken.ensures.arming
+
+pub returns-in-Err-clause-arming : goal.returns-in-Err-clause-arming
+returns-in-Err-clause-arming g c =
+    let r = g.R.Replica in
+    let l = c.entry in
+    arming_trans 0 (r.shows c.args.replica.now) (r.shows l.replica) (r.shows c.apply_next.new.replica) l.invariant.arming c.in-Err.ensures.arming
+
+pub returns-in-Err-recover-clause-arming : goal.returns-in-Err-recover-clause-arming
+returns-in-Err-recover-clause-arming g c =
+    let r = g.R.Replica in
+    let l = c.entry in
+    let a = r.shows c.args.replica.now in
+    let v = r.shows c.apply_next.new.replica in
+    arming_trans 0 a v (r.shows c.recover.new.replica) (arming_trans 0 a (r.shows l.replica) v l.invariant.arming c.in-Ok-Broken.ensures.arming) c.in-Err-recover.ensures.arming
+
+-- the first failure was repaired, so this is the second
+pub returns-then-not-spare-clause-twice : goal.returns-then-not-spare-clause-twice
+returns-then-not-spare-clause-twice g c = λ is.
+    let t = g.L.SharedLog in
+    let r = g.R.Replica in
+    let l = c.entry in
+    let i = l.invariant in
+    let b = r.shows l.replica in
+    let v = r.shows c.apply_next.new.replica in
+    let plays = subst (λ x. Plays x b v (t.seen c.apply_next.new.log)) c.in-Ok-Broken.field-0-is c.in-Ok-Broken.ensures.plays in
+    let none = c.if-not-spare.true in
+    let rose : Rose b.faults v.faults = ⊎_elim (λ (d : b.down ≡ true). let no : true ≡ false = sym d ∙ i.up none in absurd (cc)) (λ x. x) plays.2 in
+    twice_again (r.shows c.args.replica.now) b.faults v i.counts plays.1 (i.used none) rose
+
+pub returns-in-Err-recover-clause-twice : goal.returns-in-Err-recover-clause-twice
+returns-in-Err-recover-clause-twice g c =
+    let r = g.R.Replica in
+    let l = c.entry in
+    let a = r.shows c.args.replica.now in
+    let v = r.shows c.apply_next.new.replica in
+    let w = r.shows c.recover.new.replica in
+    store_since 0 a v w c.in-Err-recover.fault (arming_trans 0 a (r.shows l.replica) v l.invariant.arming c.in-Ok-Broken.ensures.arming) c.in-Err-recover.ensures.down.counts c.in-Err-recover.ensures.twice

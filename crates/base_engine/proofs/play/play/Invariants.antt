@@ -1,7 +1,9 @@
-use Rattle.std.proofs.Common.{◌≡◌, ◌⊎◌, false, ◌≤◌, ◌+◌, ◌-◌, ◌*◌}
+use Rattle.std.proofs.Common.{◌≡◌, ◌⊎◌, true, false, ◌≤◌, ◌+◌, ◌-◌, ◌*◌}
 use Rattle.disk_model.specs.Crash.{AnyCrash}
+use Rattle.disk_model.specs.Disk.{Rose}
 use Rattle.virtual_log.specs.Turning.{Later}
 use Rattle.replica_api.specs.Replica.{SpellsOne}
+use Rattle.base_engine.specs.Arming.{LeavesArming}
 use Rattle.base_engine.specs.Following.{Follows, IsKnown, IsFound, KeepsTail}
 use Rattle.base_engine.proofs.Following.{turns_left}
 use Rattle.base_engine.proofs.play.play.Given as goal
@@ -23,6 +25,8 @@ invariant-entry g l =
       below : (v.cursor ≡ w.cursor) ⊎ (v.cursor ≤ l.to);
       counts : w.faults ≤ v.faults;
       up : l.spare ≡ false → v.down ≡ false;
+      arming : LeavesArming 0 w v;
+      used : l.spare ≡ false → (w.down ≡ true) ⊎ Rose w.faults v.faults;
       kept : v.kept ≡ w.kept;
       origin : v.origin ≡ w.origin;
       quiet : KeepsTail (t.who l.fn.log) w.cursor (t.seen l.fn.log) (t.seen l.log);

@@ -10,7 +10,7 @@ returns-in-Ok-clause-follows g c =
     let seen = t.seen c.args._log.now in
     let v = r.shows c.args.replica.now in
     let w = r.shows c.recover.new.replica in
-    follows_reopened t.holds r.state r.spells seen v w c.requires.follows c.in-Ok.ensures.up c.in-Ok.ensures.survives
+    follows_reopened t.holds r.state r.spells seen c.args.word v w c.requires.follows c.in-Ok.ensures.up c.in-Ok.ensures.survives
 
 pub returns-in-Ok-clause-bounded : goal.returns-in-Ok-clause-bounded
 returns-in-Ok-clause-bounded g c =
@@ -19,7 +19,7 @@ returns-in-Ok-clause-bounded g c =
     let seen = t.seen c.args._log.now in
     let v = r.shows c.args.replica.now in
     let w = r.shows c.recover.new.replica in
-    known_reopened (t.reaches c.args._log.now) v w c.requires.bounded c.in-Ok.ensures.up
+    known_reopened c.args.word (t.reaches c.args._log.now) v w c.requires.bounded c.in-Ok.ensures.up
 
 pub returns-in-Ok-clause-forward : goal.returns-in-Ok-clause-forward
 returns-in-Ok-clause-forward g c =

@@ -2,6 +2,7 @@ use Rattle.std.proofs.Common.{◌≤◌, subst, arith}
 use Rattle.base_engine.specs.Following.{KeepsTail}
 use Rattle.base_engine.proofs.Tails.{ends_on}
 use Rattle.base_engine.proofs.Following.{follows_later, crash_at_rest, above_later, at_tail}
+use Rattle.base_engine.proofs.Arming.{arming_refl, twice_told}
 use Rattle.base_engine.proofs.play.sync.Goals as goal
 
 pub returns-in-Err-clause-follows : goal.returns-in-Err-clause-follows
@@ -50,3 +51,11 @@ returns-in-Ok-play-clause-exact g c =
     let new = t.seen c.play.new.log in
     ends_on p.may p.floor p.shelf who pos (t.seen c.args.log.now) mid new c.in-Ok.ensures.later c.play.ensures.later c.in-Ok.tail c.in-Ok.ensures.exact
     (subst (λ w. KeepsTail w pos mid new) c.in-Ok.ensures.who c.in-Ok-play.ensures.quiet)
+
+pub returns-in-Err-clause-arming : goal.returns-in-Err-clause-arming
+returns-in-Err-clause-arming g c = arming_refl 0 (g.R.Replica.shows c.args.replica.now)
+
+pub returns-in-Err-clause-twice : goal.returns-in-Err-clause-twice
+returns-in-Err-clause-twice g c =
+    let a = g.R.Replica.shows c.args.replica.now in
+    twice_told a a c.in-Err.fault c.told.result c.told.ensures

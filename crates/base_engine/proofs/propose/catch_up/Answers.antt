@@ -4,6 +4,7 @@ use Rattle.virtual_log.specs.Turning.{IsAbove}
 use Rattle.base_engine.specs.Settling.{view_of}
 use Rattle.base_engine.proofs.Following.{follows_later, crash_at_rest}
 use Rattle.base_engine.proofs.Settling.{settled_on, settled_given, more_of, gave_is}
+use Rattle.base_engine.proofs.Arming.{arming_refl}
 use Rattle.base_engine.proofs.propose.catch_up.Goals as goal
 
 pub returns-in_err-carry_all-clause-follows : goal.returns-in_err-carry_all-clause-follows
@@ -129,3 +130,12 @@ returns-in-Because-clause-gave_up g c =
           (c.in-Ok-push.ensures.items ∙ ap (λ (x : List Given). x ++ record { sessions = c.in_ok-sessions.sessions; cause = c.in-Because.cause } ∷ []) c.reserve.ensures.items)
           c.in_ok-sessions.ensures;
     }
+
+pub returns-in_err-carry_all-clause-arming : goal.returns-in_err-carry_all-clause-arming
+returns-in_err-carry_all-clause-arming g c = arming_refl 0 (g.R.Replica.shows c.args.replica.now)
+
+pub returns-in_err-sessions-clause-arming : goal.returns-in_err-sessions-clause-arming
+returns-in_err-sessions-clause-arming g c = arming_refl 0 (g.R.Replica.shows c.args.replica.now)
+
+pub returns-in_err-reserve-clause-arming : goal.returns-in_err-reserve-clause-arming
+returns-in_err-reserve-clause-arming g c = arming_refl 0 (g.R.Replica.shows c.args.replica.now)

@@ -6,6 +6,7 @@ use Rattle.base_engine.specs.Proposing.{IsNearBy}
 use Rattle.base_engine.proofs.Following.{crash_at_rest}
 use Rattle.base_engine.proofs.Settling.{settled_none}
 use Rattle.base_engine.proofs.Proposing.{refused_memory, refused_by, readied_at_once}
+use Rattle.base_engine.proofs.Arming.{arming_refl}
 use Rattle.base_engine.proofs.propose.is_ready.Goals as goal
 
 pub returns-in_default-clause-any_crash : goal.returns-in_default-clause-any_crash
@@ -61,3 +62,12 @@ returns-in-Err-catch_up-clause-refused g c =
     let is = view_of c.catch_up.new.outbox in
     let u = r.shows c.catch_up.new.replica in
     refused_by t.holds w old was c.args.item.now c.in-Some.word.0 c.in-Some.word.1 _ _ new is c.in-Some.ensures c.in-Err-catch_up.ensures.gave_up
+
+pub returns-in_default-clause-arming : goal.returns-in_default-clause-arming
+returns-in_default-clause-arming g c = arming_refl 0 (g.R.Replica.shows c.args.replica.now)
+
+pub returns-in-Err-clause-arming : goal.returns-in-Err-clause-arming
+returns-in-Err-clause-arming g c = arming_refl 0 (g.R.Replica.shows c.args.replica.now)
+
+pub returns-then-near-clause-arming : goal.returns-then-near-clause-arming
+returns-then-near-clause-arming g c = arming_refl 0 (g.R.Replica.shows c.args.replica.now)

@@ -7,6 +7,7 @@ use Rattle.engine_steps.specs.Words.{under}
 use Rattle.base_engine.proofs.Following.{follows_rest, crash_rest, known_rest}
 use Rattle.base_engine.proofs.Proposing.{sent_after, settled_after, refused_memory}
 use Rattle.base_engine.proofs.Whole.{kept_waiting, queued_waiting}
+use Rattle.base_engine.proofs.Arming.{arming_rest, arming_trans}
 use Rattle.base_engine.proofs.propose.propose.Goals as goal
 
 pub returns-then-not-ready-clause-proposed : goal.returns-then-not-ready-clause-proposed
@@ -228,3 +229,17 @@ returns-in-Err-send-clause-waiting g c =
     let e = c.in-Ok.ensures in
     let u = r.shows c.send.new.replica in
     kept_waiting p.may w a.origin a.kept u.kept (ap (λ (x : ReplicaView). x.kept) c.in-Err-send.ensures.same ∙ e.kept) c.requires.waits
+
+pub returns-in-Ok-send-clause-arming : goal.returns-in-Ok-send-clause-arming
+returns-in-Ok-send-clause-arming g c =
+    let r = g.R.Replica in
+    let v = r.shows c.is_ready.new.replica in
+    let u = r.shows c.send.new.replica in
+    arming_trans 0 (r.shows c.args.replica.now) v u c.in-Ok.ensures.arming (arming_rest 0 v u c.send.ensures.rest)
+
+pub returns-in-Err-send-clause-arming : goal.returns-in-Err-send-clause-arming
+returns-in-Err-send-clause-arming g c =
+    let r = g.R.Replica in
+    let v = r.shows c.is_ready.new.replica in
+    let u = r.shows c.send.new.replica in
+    arming_trans 0 (r.shows c.args.replica.now) v u c.in-Ok.ensures.arming (arming_rest 0 v u c.send.ensures.rest)

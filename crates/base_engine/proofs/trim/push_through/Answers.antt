@@ -6,6 +6,7 @@ use Rattle.base_engine.specs.Settling.{view_of, Answers, Failing}
 use Rattle.base_engine.proofs.Following.{follows_rest, crash_rest}
 use Rattle.base_engine.proofs.Settling.{more_of, no_more}
 use Rattle.base_engine.proofs.Landing.{item_landed, owned_none, owned_sent, blames_failing}
+use Rattle.base_engine.proofs.Arming.{arming_rest, arming_trans, never_store}
 use Rattle.base_engine.proofs.trim.push_through.Goals as goal
 
 pub returns-in-Err-flush-clause-follows : goal.returns-in-Err-flush-clause-follows
@@ -102,5 +103,53 @@ returns-in-Err-settle_all-clause-blames g c none =
     let on2 = more_of p.may p.floor p.shelf m1 m2 c.flush.ensures.later in
     ⊎_elim
     (λ k. blames_failing t.holds w old m1 m2 new o1 o2 is _ c.in-Err-settle_all.fault a.faults v2.faults on1 on2 (owned_sent t.holds w old old m1 was o1 _ (no_more old) (owned_none w old old was none) k.0) flushed failing)
+    (λ k. absurd (subst (IsFarAt v1.contents) c.requires.plain k.1))
+    c.in-Ok.ensures.proposed
+
+pub returns-in-Err-flush-clause-arming : goal.returns-in-Err-flush-clause-arming
+returns-in-Err-flush-clause-arming g c =
+    let r = g.R.Replica in
+    let v = r.shows c.propose.new.replica in
+    let u = r.shows c.flush.new.replica in
+    arming_trans 0 (r.shows c.args.replica.now) v u c.propose.ensures.arming (arming_rest 0 v u c.flush.ensures.rest)
+
+pub returns-in-Ok-settle_all-clause-arming : goal.returns-in-Ok-settle_all-clause-arming
+returns-in-Ok-settle_all-clause-arming g c =
+    let r = g.R.Replica in
+    let v = r.shows c.propose.new.replica in
+    let u = r.shows c.flush.new.replica in
+    arming_trans 0 (r.shows c.args.replica.now) v u c.propose.ensures.arming (arming_rest 0 v u c.flush.ensures.rest)
+
+pub returns-in-Err-settle_all-clause-arming : goal.returns-in-Err-settle_all-clause-arming
+returns-in-Err-settle_all-clause-arming g c =
+    let r = g.R.Replica in
+    let v = r.shows c.propose.new.replica in
+    let u = r.shows c.flush.new.replica in
+    arming_trans 0 (r.shows c.args.replica.now) v u c.propose.ensures.arming (arming_rest 0 v u c.flush.ensures.rest)
+
+-- a settling's cause is none of the store
+pub returns-in-Err-settle_all-clause-twice : goal.returns-in-Err-settle_all-clause-twice
+returns-in-Err-settle_all-clause-twice g c none =
+    let p = g.L.Law.Rules in
+    let t = g.L.SharedLog in
+    let r = g.R.Replica in
+    let w = t.who c.args.log.now in
+    let old = t.seen c.args.log.now in
+    let m1 = t.seen c.propose.new.log in
+    let m2 = t.seen c.flush.new.log in
+    let new = t.seen c.settle_all.new.log in
+    let was = view_of c.args.outbox.now in
+    let o1 = view_of c.propose.new.outbox in
+    let o2 = view_of c.flush.new.outbox in
+    let is = view_of c.settle_all.new.outbox in
+    let f = c.in-Err-settle_all.fault in
+    let v1 = r.shows c.propose.new.replica in
+    let v2 = r.shows c.flush.new.replica in
+    let flushed = subst (λ x. Sent t.holds x m1 o1 (λ packed. Flushes v1.origin v1.kept packed v2.kept) m2 o2) c.propose.ensures.who c.in-Ok-flush.ensures.sent in
+    let failing = subst (λ x. Failing t.holds x m2 o2 f new is) (c.flush.ensures.who ∙ c.propose.ensures.who) c.in-Err-settle_all.ensures.failing in
+    let on1 = more_of p.may p.floor p.shelf old m1 c.propose.ensures.later in
+    let on2 = more_of p.may p.floor p.shelf m1 m2 c.flush.ensures.later in
+    ⊎_elim
+    (λ k. λ store. absurd (never_store w old new f (λ faults faults'. blames_failing t.holds w old m1 m2 new o1 o2 is _ f faults faults' on1 on2 (owned_sent t.holds w old old m1 was o1 _ (no_more old) (owned_none w old old was none) k.0) flushed failing) store))
     (λ k. absurd (subst (IsFarAt v1.contents) c.requires.plain k.1))
     c.in-Ok.ensures.proposed

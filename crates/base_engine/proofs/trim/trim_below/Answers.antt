@@ -7,6 +7,7 @@ use Rattle.base_engine.proofs.Following.{follows_later, crash_at_rest, crash_on,
 use Rattle.base_engine.proofs.Settling.{more_of}
 use Rattle.base_engine.proofs.Landing.{blames_since}
 use Rattle.base_engine.proofs.Freeing.{floor_applied}
+use Rattle.base_engine.proofs.Arming.{never_store}
 use Rattle.base_engine.proofs.trim.trim_below.Goals as goal
 
 pub trim_applied-requires-clause-free : goal.trim_applied-requires-clause-free
@@ -83,3 +84,8 @@ returns-in-Err-trim_applied-clause-blames g c =
     let f = c.in-Err-trim_applied.fault in
     blames_since w old played new before after after f (more_of p.may p.floor p.shelf old played c.play.ensures.later) c.play.ensures.counts (omega arith)
     (subst (λ x. Blames x played after f new after) c.play.ensures.who (c.in-Err-trim_applied.ensures.blames after after))
+
+pub returns-in-Err-trim_applied-clause-twice : goal.returns-in-Err-trim_applied-clause-twice
+returns-in-Err-trim_applied-clause-twice g c = λ store.
+    let t = g.L.SharedLog in
+    absurd (never_store (t.who c.play.new.log) (t.seen c.play.new.log) (t.seen c.trim_applied.new.log) c.in-Err-trim_applied.fault c.in-Err-trim_applied.ensures.blames store)

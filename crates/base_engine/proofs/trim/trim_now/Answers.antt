@@ -10,6 +10,7 @@ use Rattle.base_engine.proofs.Following.{crash_on}
 use Rattle.base_engine.proofs.Settling.{more_of}
 use Rattle.base_engine.proofs.Whole.{kept_waiting}
 use Rattle.base_engine.proofs.Landing.{on_on, blames_since, plain_trim}
+use Rattle.base_engine.proofs.Arming.{arming_trans, store_since}
 use Rattle.base_engine.proofs.trim.trim_now.Goals as goal
 
 pub push_through-requires-clause-plain : goal.push_through-requires-clause-plain
@@ -183,3 +184,37 @@ returns-in-Err-trim_below-clause-blames g c none =
     let on = on_on old mid asked (more_of p.may p.floor p.shelf old mid c.find_least.ensures.later) (more_of p.may p.floor p.shelf mid asked c.push_through.ensures.later) in
     blames_since (t.who c.args.log.now) old asked new (r.shows c.args.replica.now).faults u.faults y.faults f on (omega (arith, c.find_least.ensures.counts, c.push_through.ensures.counts)) c.trim_below.ensures.counts
     (subst (λ x. Blames x asked u.faults f new y.faults) (c.push_through.ensures.who ∙ c.find_least.ensures.who) c.in-Err-trim_below.ensures.blames)
+
+pub returns-in-Err-push_through-clause-arming : goal.returns-in-Err-push_through-clause-arming
+returns-in-Err-push_through-clause-arming g c =
+    let r = g.R.Replica in
+    arming_trans 0 (r.shows c.args.replica.now) (r.shows c.find_least.new.replica) (r.shows c.push_through.new.replica) c.find_least.ensures.arming c.push_through.ensures.arming
+
+pub returns-in-Ok-trim_below-clause-arming : goal.returns-in-Ok-trim_below-clause-arming
+returns-in-Ok-trim_below-clause-arming g c =
+    let r = g.R.Replica in
+    let a = r.shows c.args.replica.now in
+    let v = r.shows c.find_least.new.replica in
+    let u = r.shows c.push_through.new.replica in
+    arming_trans 0 a u (r.shows c.trim_below.new.replica) (arming_trans 0 a v u c.find_least.ensures.arming c.push_through.ensures.arming) c.trim_below.ensures.arming
+
+pub returns-in-Err-trim_below-clause-arming : goal.returns-in-Err-trim_below-clause-arming
+returns-in-Err-trim_below-clause-arming g c =
+    let r = g.R.Replica in
+    let a = r.shows c.args.replica.now in
+    let v = r.shows c.find_least.new.replica in
+    let u = r.shows c.push_through.new.replica in
+    arming_trans 0 a u (r.shows c.trim_below.new.replica) (arming_trans 0 a v u c.find_least.ensures.arming c.push_through.ensures.arming) c.trim_below.ensures.arming
+
+pub returns-in-Err-push_through-clause-twice : goal.returns-in-Err-push_through-clause-twice
+returns-in-Err-push_through-clause-twice g c none =
+    let r = g.R.Replica in
+    store_since 0 (r.shows c.args.replica.now) (r.shows c.find_least.new.replica) (r.shows c.push_through.new.replica) c.in-Err-push_through.fault c.find_least.ensures.arming c.push_through.ensures.counts (c.in-Err-push_through.ensures.twice none)
+
+pub returns-in-Err-trim_below-clause-twice : goal.returns-in-Err-trim_below-clause-twice
+returns-in-Err-trim_below-clause-twice g c none =
+    let r = g.R.Replica in
+    let a = r.shows c.args.replica.now in
+    let v = r.shows c.find_least.new.replica in
+    let u = r.shows c.push_through.new.replica in
+    store_since 0 a u (r.shows c.trim_below.new.replica) c.in-Err-trim_below.fault (arming_trans 0 a v u c.find_least.ensures.arming c.push_through.ensures.arming) c.trim_below.ensures.counts c.in-Err-trim_below.ensures.twice

@@ -1,7 +1,8 @@
-use Rattle.std.proofs.Common.{subst, OnOk}
+use Rattle.std.proofs.Common.{subst, OnOk, IfErr}
 use Rattle.base_engine.specs.Settling.{view_of}
 use Rattle.base_engine.specs.Node.{NodeView}
 use Rattle.base_engine.specs.Proposing.{Proposed}
+use Rattle.base_engine.specs.Arming.{StoreTwice}
 use Rattle.base_engine.proofs.Whole.{ok_waiting}
 use Rattle.base_engine.proofs.node.Node.propose.Goals as goal
 
@@ -23,3 +24,7 @@ returns-clause-proposed g c =
     subst
     (λ (n : NodeView). OnOk c.propose.result (Proposed t.holds n.who n.seen n.outbox n.replica c.args.item (t.seen c.propose.new.log) (view_of c.propose.new.outbox) (r.shows c.propose.new.replica)))
     c.self.view_is c.propose.ensures.proposed
+
+pub returns-clause-twice : goal.returns-clause-twice
+returns-clause-twice g c =
+    subst (λ (n : NodeView). IfErr c.propose.result (λ f. StoreTwice n.replica f (g.R.Replica.shows c.propose.new.replica))) c.self.view_is c.propose.ensures.twice
