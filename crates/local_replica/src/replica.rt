@@ -4,7 +4,7 @@ ghost use Rattle.engine_laws.specs.State.{IsStateOf};
 ghost use Rattle.replica_api.specs.Replica.{Survives};
 ghost use Rattle.local_replica.specs.Shown.{shown, Spells};
 
-use crate::applying::{apply, reopen};
+use crate::applying::{apply, reopen, stop};
 use crate::layers::Layers;
 use crate::reading;
 use delos_types::bytes::Bytes;
@@ -27,6 +27,8 @@ pub struct LocalReplica<E: Layers, D: Disk> {
     // Whether the engines go on from what the store shows.
     loaded: bool,
     store: Store<D>,
+    // The count of the last stop, or the word of the last reopening, whichever came later.
+    told: u64,
     ghost kinds: { E.kinds engines ≡ 1 ∷ 2 ∷ 3 ∷ 4 ∷ 5 ∷ [] },
 }
 
@@ -37,6 +39,7 @@ impl<E: Layers, D: Disk> LocalReplica<E, D> {
         ensures store { result.store ≡ store }
         ensures engines { result.engines ≡ engines }
         ensures origin { result.origin ≡ origin }
+        ensures told { result.told ≡ 0 }
     {
         LocalReplica {
             alloc,
@@ -44,6 +47,7 @@ impl<E: Layers, D: Disk> LocalReplica<E, D> {
             engines,
             loaded: false,
             store,
+            told: 0,
         }
     }
 
@@ -59,13 +63,14 @@ impl<E: Layers, D: Disk> LocalReplica<E, D> {
             engines,
             loaded: _,
             store,
+            told: _,
         } = self;
         (engines, store)
     }
 }
 
 impl<E: Layers, D: Disk> Replica for LocalReplica<E, D> {
-    ghost shows = { λ r. shown r.store r.origin (E.waiting r.engines) };
+    ghost shows = { λ r. shown r.store r.origin (E.waiting r.engines) r.told };
 
     ghost spells = { Spells };
 
@@ -92,7 +97,7 @@ impl<E: Layers, D: Disk> Replica for LocalReplica<E, D> {
 
     fn reopen(&mut self, word: u64) -> Reopened {
         self.loaded = false;
-        reopen(&mut self.store, word)
+        reopen(&mut self.store, &mut self.told, word)
     }
 
     fn send(&mut self, item: Item) -> Result<Option<Entry>, AllocError> {
@@ -104,7 +109,7 @@ impl<E: Layers, D: Disk> Replica for LocalReplica<E, D> {
     }
 
     fn stop(&mut self, after: u64) {
-        self.store.stop(after);
+        stop(&mut self.store, &mut self.told, after);
     }
 
     fn last_rank(&self, session: SessionId) -> Result<u64, AllocError> {

@@ -7,27 +7,27 @@ use Rattle.local_replica.proofs.Showing.{stays_so}
 use Rattle.local_replica.proofs.applying.apply.Goals as goal
 
 pub returns-then-is_down-clause-survives : goal.returns-then-is_down-clause-survives
-returns-then-is_down-clause-survives g c = c.is_down.ensures.survives c.args.origin []
+returns-then-is_down-clause-survives g c = λ t. c.is_down.ensures.survives c.args.origin [] t
 
 pub returns-then-is_down-clause-any_crash : goal.returns-then-is_down-clause-any_crash
-returns-then-is_down-clause-any_crash g c = stays_so c.args.store.now c.args.origin [] c.args.entry.now (c.is_down.ensures.survives c.args.origin [])
+returns-then-is_down-clause-any_crash g c = λ t. stays_so c.args.store.now c.args.origin [] t c.args.entry.now (c.is_down.ensures.survives c.args.origin [] t)
 
 pub returns-in_default-clause-takes : goal.returns-in_default-clause-takes
-returns-in_default-clause-takes g c = ap (λ (l : List Item). shown c.args.store.now c.args.origin l) c.prepare.ensures.waiting
+returns-in_default-clause-takes g c = λ t. ap (λ (l : List Item). shown c.args.store.now c.args.origin l t) c.prepare.ensures.waiting
 
 pub returns-in_default-clause-survives : goal.returns-in_default-clause-survives
-returns-in_default-clause-survives g c = c.is_down.ensures.survives c.args.origin []
+returns-in_default-clause-survives g c = λ t. c.is_down.ensures.survives c.args.origin [] t
 
 pub returns-in_default-clause-any_crash : goal.returns-in_default-clause-any_crash
-returns-in_default-clause-any_crash g c = stays_so c.args.store.now c.args.origin [] c.args.entry.now (c.is_down.ensures.survives c.args.origin [])
+returns-in_default-clause-any_crash g c = λ t. stays_so c.args.store.now c.args.origin [] t c.args.entry.now (c.is_down.ensures.survives c.args.origin [] t)
 
 pub returns-clause-takes : goal.returns-clause-takes
-returns-clause-takes g c =
-    subst (λ (l : List Item). Takes IsStateOf (shown c.args.store.now c.args.origin (g.E.Layers.waiting c.args.engines.now)) c.args.entry.now c.keep-kept.result (shown c.keep-kept.new.store c.args.origin l)) (sym (c.tell.ensures.waiting ∙ c.prepare.ensures.waiting))
-    (c.keep-kept.ensures.takes c.args.origin (g.E.Layers.waiting c.args.engines.now) c.args.entry.now (sym c.is_down.ensures.down ∙ c.if-is_down.false) c.in-Ok.ensures.advances)
+returns-clause-takes g c = λ t.
+    subst (λ (l : List Item). Takes IsStateOf (shown c.args.store.now c.args.origin (g.E.Layers.waiting c.args.engines.now) t) c.args.entry.now c.keep-kept.result (shown c.keep-kept.new.store c.args.origin l t)) (sym (c.tell.ensures.waiting ∙ c.prepare.ensures.waiting))
+    (c.keep-kept.ensures.takes c.args.origin (g.E.Layers.waiting c.args.engines.now) t c.args.entry.now (sym c.is_down.ensures.down ∙ c.if-is_down.false) c.in-Ok.ensures.advances)
 
 pub returns-clause-survives : goal.returns-clause-survives
-returns-clause-survives g c = c.keep-kept.ensures.survives c.args.origin []
+returns-clause-survives g c = λ t. c.keep-kept.ensures.survives c.args.origin [] t
 
 pub returns-clause-any_crash : goal.returns-clause-any_crash
-returns-clause-any_crash g c = c.keep-kept.ensures.any_crash c.args.origin [] c.args.entry.now c.in-Ok.ensures.advances
+returns-clause-any_crash g c = λ t. c.keep-kept.ensures.any_crash c.args.origin [] t c.args.entry.now c.in-Ok.ensures.advances
