@@ -1,8 +1,12 @@
 -- What the loglet of a kind shows.
 use Rattle.std.specs.Prelude.{◌*◌, ◌^◌, ◌≤◌, ℕ}
 use Rattle.loglet_api.specs.View.{LogletView}
+use Rattle.loglet_api.specs.Servers.{ServersView}
 use Rattle.loglet_api.specs.declared.call.Kind.{Kind as LogletKind}
 use Rattle.loglet_api.specs.declared.call.Kind.TheVariants as kinds
+use Rattle.file_loglet.specs.File.{serving_of as file_serving}
+use Rattle.native_loglet.specs.Natives.{serving_of as native_serving}
+use Rattle.striped_loglet.specs.Striped.{serving_of as striped_serving}
 use Rattle.script_words.specs.declared.shelf.Kind.{Kind}
 use Rattle.script_words.specs.declared.shelf.Kind.TheVariants.{File, Native1, Native3, Native5, Native7, Striped2, Striped3, Striped4, Striped5, Striped6, Striped7, Striped8, Nested}
 use Rattle.shelf_loglets.specs.declared.shelf.Rooms.{Rooms}
@@ -15,6 +19,13 @@ view_of (made.File l) = l.loglet
 view_of (made.Native l) = l.loglet
 view_of (made.Striped l) = l.loglet
 view_of (made.Nested l) = l.loglet
+
+-- what is seen of its servers
+abbrev pub serving_in : ShelfLoglet → ServersView
+serving_in (made.File l) = file_serving l
+serving_in (made.Native l) = native_serving l
+serving_in (made.Striped l) = striped_serving l
+serving_in (made.Nested l) = striped_serving l
 
 -- its kind; a file loglet has but one
 abbrev pub kind_of : ShelfLoglet → LogletKind

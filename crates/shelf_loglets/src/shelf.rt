@@ -1,7 +1,7 @@
 //! The loglet of a kind.
 ghost use Rattle.std.specs.Prelude.{◌≡◌, IfOk};
 ghost use Rattle.loglet_api.specs.View.{IsFresh};
-ghost use Rattle.shelf_loglets.specs.Shelf.{AreRooms, view_of, kind_of, kind_for, room_for};
+ghost use Rattle.shelf_loglets.specs.Shelf.{AreRooms, view_of, serving_in, kind_of, kind_for, room_for};
 
 use crate::striped::{Native, nested, striped};
 use delos_types::numbers::Ticket;
@@ -39,6 +39,8 @@ macro_rules! inside {
 
 impl Loglet for ShelfLoglet {
     ghost view = { view_of };
+
+    ghost serving = { serving_in };
 
     fn kind(&self) -> call::Kind {
         inside!(self, loglet => loglet.kind())
