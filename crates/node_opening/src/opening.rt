@@ -27,8 +27,8 @@ fn open_node<E: Layers, D: Disk, C: Chooser>(
     one: NodeParts<E, D, C>,
 ) -> Result<OpenNode<LocalReplica<E, D>, C>, NodeParts<E, D, C>>
     requires { IsFreshNode (E.kinds one.engines) (E.waiting one.engines) (D.view one.disk) }
-    ensures fresh { IfOk result (λ n. IsFreshReplica IsStateOf Spells number (shown n.replica.store n.replica.origin (E.waiting n.replica.engines))) }
-    ensures counted { IfOk result (λ n. IsCounted (shown n.replica.store n.replica.origin (E.waiting n.replica.engines))) }
+    ensures fresh { IfOk result (λ n. IsFreshReplica IsStateOf Spells number (shown n.replica.store n.replica.origin (E.waiting n.replica.engines) n.replica.told)) }
+    ensures counted { IfOk result (λ n. IsCounted (shown n.replica.store n.replica.origin (E.waiting n.replica.engines) n.replica.told)) }
     ensures engines { IfOk result (λ n. n.replica.engines ≡ one.engines) }
     ensures chooser { IfOk result (λ n. n.chooser ≡ one.chooser) }
     ensures back { IfErr result (λ k. (k.engines ≡ one.engines) × (k.chooser ≡ one.chooser)) }
@@ -65,10 +65,10 @@ pub fn open_all<E: Layers, D: Disk, C: Chooser>(
 ) -> Result<Vec<OpenNode<LocalReplica<E, D>, C>>, AllocError>
     requires eight { length parts.old.items ≤ 8 }
     requires fresh { AllByRecursion (λ k. IsFreshNode (E.kinds k.engines) (E.waiting k.engines) (D.view k.disk)) parts.old.items }
-    ensures fresh { IfOk result (λ nodes. AreFreshReplicas (λ n. shown n.replica.store n.replica.origin (E.waiting n.replica.engines)) nodes.items) }
+    ensures fresh { IfOk result (λ nodes. AreFreshReplicas (λ n. shown n.replica.store n.replica.origin (E.waiting n.replica.engines) n.replica.told) nodes.items) }
 
     // A node is down just where its disk failed, and that was counted.
-    ensures counted { IfOk result (λ nodes. AllByRecursion (λ n. IsCounted (shown n.replica.store n.replica.origin (E.waiting n.replica.engines))) nodes.items) }
+    ensures counted { IfOk result (λ nodes. AllByRecursion (λ n. IsCounted (shown n.replica.store n.replica.origin (E.waiting n.replica.engines) n.replica.told)) nodes.items) }
     ensures engines { IfOk result (λ nodes. map (λ n. n.replica.engines) nodes.items ≡ map (λ k. k.engines) parts.old.items) }
     ensures choosers { IfOk result (λ nodes. map (λ n. n.chooser) nodes.items ≡ map (λ k. k.chooser) parts.old.items) }
     ensures size { IfOk result (λ nodes. length nodes.items ≡ length parts.old.items) }

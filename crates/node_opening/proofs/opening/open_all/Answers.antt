@@ -33,10 +33,10 @@ loop-k-preserved g c =
     let who : c.in-Some.number ≡ length l.nodes.items + 1 = grind (arith, c.in-Some.ensures.value, l.invariant.done) in
     record {
       rest = (subst (AllByRecursion (λ k. IsFreshNode (g.E.Layers.kinds k.engines) (waiting k.engines) (g.D.Disk.view k.disk))) is l.invariant.rest).1;
-      fresh = λ j x at. each_push (λ j n. IsFreshReplica IsStateOf Spells (j + 1) (shown n.replica.store n.replica.origin (waiting n.replica.engines))) l.nodes.items n l.invariant.fresh
-          (subst (λ i. IsFreshReplica IsStateOf Spells i (shown n.replica.store n.replica.origin (waiting n.replica.engines))) who o.fresh) j x (ap (λ y. slice_get y j) (sym p.ensures.items) ∙ at);
-      counted = subst (AllByRecursion (λ n. IsCounted (shown n.replica.store n.replica.origin (waiting n.replica.engines)))) (sym p.ensures.items)
-          (all-append (λ n. IsCounted (shown n.replica.store n.replica.origin (waiting n.replica.engines))) l.nodes.items (n ∷ []) l.invariant.counted (o.counted, tt));
+      fresh = λ j x at. each_push (λ j n. IsFreshReplica IsStateOf Spells (j + 1) (shown n.replica.store n.replica.origin (waiting n.replica.engines) n.replica.told)) l.nodes.items n l.invariant.fresh
+          (subst (λ i. IsFreshReplica IsStateOf Spells i (shown n.replica.store n.replica.origin (waiting n.replica.engines) n.replica.told)) who o.fresh) j x (ap (λ y. slice_get y j) (sym p.ensures.items) ∙ at);
+      counted = subst (AllByRecursion (λ n. IsCounted (shown n.replica.store n.replica.origin (waiting n.replica.engines) n.replica.told))) (sym p.ensures.items)
+          (all-append (λ n. IsCounted (shown n.replica.store n.replica.origin (waiting n.replica.engines) n.replica.told)) l.nodes.items (n ∷ []) l.invariant.counted (o.counted, tt));
       count = l.invariant.count;
       done = grind (arith, l.invariant.done, p.ensures.len);
       left = grind (arith, l.invariant.left, c.remove.ensures.len);

@@ -9,8 +9,8 @@ use Rattle.node_opening.proofs.opening.open_all.Given as goal
 abbrev pub invariant-loop-k : goal.invariant-loop-k
 invariant-loop-k g l = record {
   rest : AllByRecursion (λ k. IsFreshNode (g.E.Layers.kinds k.engines) (g.E.Layers.waiting k.engines) (g.D.Disk.view k.disk)) l.parts.items;
-  fresh : AreFreshReplicas (λ n. shown n.replica.store n.replica.origin (g.E.Layers.waiting n.replica.engines)) l.nodes.items;
-  counted : AllByRecursion (λ n. IsCounted (shown n.replica.store n.replica.origin (g.E.Layers.waiting n.replica.engines))) l.nodes.items;
+  fresh : AreFreshReplicas (λ n. shown n.replica.store n.replica.origin (g.E.Layers.waiting n.replica.engines) n.replica.told) l.nodes.items;
+  counted : AllByRecursion (λ n. IsCounted (shown n.replica.store n.replica.origin (g.E.Layers.waiting n.replica.engines) n.replica.told)) l.nodes.items;
   count : l.count ≡ length l.initial.parts.items;
   done : length l.nodes.items ≡ l.k;
   left : length l.parts.items + l.k ≡ length l.initial.parts.items;

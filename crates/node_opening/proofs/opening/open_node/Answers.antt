@@ -10,10 +10,10 @@ pub returns-in-Ok-clause-fresh : goal.returns-in-Ok-clause-fresh
 returns-in-Ok-clause-fresh g c =
     let b = c.in-Ok.ensures in
     let n = c.new-replica in
-    fresh_replica n.result.store c.in-Ok.store n.result.origin c.args.number (g.E.Layers.waiting n.result.engines) n.ensures.store b.start b.none_asked b.survives n.ensures.origin (ap g.E.Layers.waiting n.ensures.engines ∙ c.requires.nothing_waits) c.starts_empty.ensures
+    fresh_replica n.result.store c.in-Ok.store n.result.origin c.args.number (g.E.Layers.waiting n.result.engines) n.result.told n.ensures.store b.start b.none_asked b.survives n.ensures.origin (ap g.E.Layers.waiting n.ensures.engines ∙ c.requires.nothing_waits) c.starts_empty.ensures
 
 pub returns-in-Ok-clause-counted : goal.returns-in-Ok-clause-counted
 returns-in-Ok-clause-counted g c =
     let b = c.in-Ok.ensures in
     let n = c.new-replica in
-    is_counted n.result.store c.in-Ok.store n.result.origin (g.D.Disk.view c.args.one.disk).faults (g.E.Layers.waiting n.result.engines) n.ensures.store c.requires.none_counted b.down b.up
+    is_counted n.result.store c.in-Ok.store n.result.origin (g.D.Disk.view c.args.one.disk).faults (g.E.Layers.waiting n.result.engines) n.result.told n.ensures.store c.requires.none_counted b.down b.up
