@@ -27,13 +27,6 @@ serving_in (made.Native l) = native_serving l
 serving_in (made.Striped l) = striped_serving l
 serving_in (made.Nested l) = striped_serving l
 
--- its kind; a file loglet has but one
-abbrev pub kind_of : ShelfLoglet → LogletKind
-kind_of (made.File l) = kinds.File
-kind_of (made.Native l) = l.loglet.kind
-kind_of (made.Striped l) = l.loglet.kind
-kind_of (made.Nested l) = l.loglet.kind
-
 -- the kind of loglet that a word names
 abbrev pub kind_for : Kind → LogletKind
 kind_for File = kinds.File
