@@ -13,7 +13,7 @@ use Rattle.store_records.specs.Spelled.{Saved, committed, saved_of, nothing_save
 use Rattle.local_store.specs.View as store
 use Rattle.local_replica.specs.Shown.{pair_of, shown, Spells}
 use Rattle.local_replica.proofs.Showing.{shown_survives}
-use Rattle.replica_api.specs.Replica.{Survives}
+use Rattle.replica_api.specs.Replica.{Survives, armed_by}
 use Rattle.delos_types.specs.declared.item.Item.{Item}
 use Rattle.std.specs.Option.{option_map}
 use Rattle.base_engine.specs.Holding.{held_stays}
@@ -33,6 +33,14 @@ rests_later who early late node log on r = record {
 
 pub two_later : (number : ℕ) (old new : NodeView) (other : ℕ) (rested : RestedView) (log : virtual_log.RestedView) → Keeps anything least_of_two one_loglet old new → AreTwo number old other rested log → AreTwo number new other rested log
 two_later number old new other rested log kept two = record { who = kept.who ∙ two.who; nodes = kept.nodes ∙ two.nodes; rests = rests_later other old.seen new.seen rested log kept.later two.rests }
+
+-- the disk of the node that has the log is armed
+pub two_armed : (number : ℕ) (old new : NodeView) (after other : ℕ) (rested : RestedView) (log : virtual_log.RestedView) → new ≡ record old { replica = armed_by old.replica after } → AreTwo number old other rested log → AreTwo number new other rested log
+two_armed number old new after other rested log is two = record {
+  who = ap (λ (v : NodeView). v.who) is ∙ two.who;
+  nodes = ap (λ (v : NodeView). v.nodes) is ∙ two.nodes;
+  rests = subst (λ (seen : List Event). Rests other seen rested log) (sym (ap (λ (v : NodeView). v.seen) is)) two.rests;
+}
 
 -- a node that is laid down
 pub laid_down : (number : ℕ) (view : NodeView) (rested : RestedView) (log : virtual_log.LogView) (kept : virtual_log.RestedView) → view.who ≡ number → view.nodes ≡ 2 → rested ≡ record { nodes = view.nodes; replica = view.replica; outbox = view.outbox }
@@ -68,11 +76,11 @@ new_store v bytes empty spelled asked survives =
     let is : nothing_saved ≡ store.saved_in v = cc in
     record { start = sym (ap (λ (s : Saved). s.cursor) is); empty = sym (ap (λ (s : Saved). s.contents) is); none_asked = asked; survives = survives }
 
-pub none_asked_so : (v v' : store.View) (o : ℕ) (w : List Item) → v ≡ v' → v'.asked ≡ None → (shown v o w).asked ≡ None
-none_asked_so v v' o w same none = ap (λ a. option_map (λ c. pair_of (committed (store.saved_in v) c)) a) (ap (λ (x : store.View). x.asked) same ∙ none)
+pub none_asked_so : (v v' : store.View) (o : ℕ) (w : List Item) (t : ℕ) → v ≡ v' → v'.asked ≡ None → (shown v o w t).asked ≡ None
+none_asked_so v v' o w t same none = ap (λ a. option_map (λ c. pair_of (committed (store.saved_in v) c)) a) (ap (λ (x : store.View). x.asked) same ∙ none)
 
-pub survives_so : (v v' : store.View) (o : ℕ) (w : List Item) → v ≡ v' → store.Survives v' → Survives Spells (shown v o w)
-survives_so v v' o w same survives = shown_survives v o w (subst store.Survives (sym same) survives)
+pub survives_so : (v v' : store.View) (o : ℕ) (w : List Item) (t : ℕ) → v ≡ v' → store.Survives v' → Survives Spells (shown v o w t)
+survives_so v v' o w t same survives = shown_survives v o w t (subst store.Survives (sym same) survives)
 
 pub legal_by : (es es' : List Event) → es ≡ es' → IsLegal anything least_of_two one_loglet es' → IsLegal anything least_of_two one_loglet es
 legal_by es es' same legal = subst (IsLegal anything least_of_two one_loglet) (sym same) legal
