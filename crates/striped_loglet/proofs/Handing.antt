@@ -42,16 +42,17 @@ module _ {L : Type 0} (view : L → LogletView) (serving : L → ServersView) wh
         rest = map_set serving xs i new;
       })
 
-  pub stray_handed : (shape : Shape) (xs : List L) (marks : Marks) (m : PendingMap L) (told : ℕ) (w : StripedView) (word count : ℕ) (answer : LogletAnswer) (old new : L) → striped_view view serving shape xs marks m told ≡ w → count ≡ length xs → word % count < length xs → old ≡ get_or xs (word % count) old
-      → Serves (serving old) (Stray (word / count)) answer (serving new) → ServesStray w.servings word answer (map serving (set xs (word % count) new))
-  stray_handed shape xs marks m told w word count answer old new e ec l is serves =
+  pub stray_handed : (shape : Shape) (xs : List L) (marks : Marks) (m : PendingMap L) (told : ℕ) (w : StripedView) (word count i inner : ℕ) (answer : LogletAnswer) (old new : L) → striped_view view serving shape xs marks m told ≡ w → count ≡ length xs → i ≡ word % count → inner ≡ word / count → i < length xs → old ≡ get_or xs i old
+      → Serves (serving old) (Stray inner) answer (serving new) → ServesStray w.servings word answer (map serving (set xs i new))
+  stray_handed shape xs marks m told w word count i inner answer old new e ec ei en l is serves =
       let k : count ≡ length (map serving xs) = ec ∙ sym (length_serving serving xs) in
-      subst (λ (v : StripedView). ServesStray v.servings word answer (map serving (set xs (word % count) new))) e (record {
+      let place : i ≡ word % length (map serving xs) = ei ∙ ap (λ (n : ℕ). word % n) k in
+      subst (λ (v : StripedView). ServesStray v.servings word answer (map serving (set xs i new))) e (record {
         before = serving old;
         after = serving new;
-        is = subst (λ (n : ℕ). slice_get (map serving xs) (word % n) ≡ Some (serving old)) k (serving_at serving xs (word % count) old l is);
-        serves = subst (λ (n : ℕ). Serves (serving old) (Stray (word / n)) answer (serving new)) k serves;
-        rest = map_set serving xs (word % count) new ∙ ap (λ (n : ℕ). set (map serving xs) (word % n) (serving new)) k;
+        is = subst (λ (n : ℕ). slice_get (map serving xs) n ≡ Some (serving old)) place (serving_at serving xs i old l is);
+        serves = subst (λ (n : ℕ). Serves (serving old) (Stray n) answer (serving new)) (en ∙ ap (λ (n : ℕ). word / n) k) serves;
+        rest = map_set serving xs i new ∙ ap (λ (n : ℕ). set (map serving xs) n (serving new)) place;
       })
 
   pub same_handed : (shape : Shape) (xs : List L) (marks : Marks) (m : PendingMap L) (told : ℕ) (w : StripedView) (new : List ServersView) → striped_view view serving shape xs marks m told ≡ w → new ≡ map serving xs → new ≡ w.servings

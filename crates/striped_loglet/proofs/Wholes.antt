@@ -226,16 +226,17 @@ module _ {L : Type 0} (view : L → LogletView) where
       some_view : (a c : LogletView) → Some a ≡ Some c → a ≡ c
       some_view a c k = cc
 
-  pub stray_called : (serving : L → ServersView) {told : ℕ} (shape : Shape) (xs : List L) (marks : Marks) (m : PendingMap L) (w : StripedView) (word count : ℕ) (answer : LogletAnswer) (old new : L) → striped_view view serving shape xs marks m told ≡ w → count ≡ length xs → word % count < length xs → old ≡ get_or xs (word % count) old
-      → LogletStep (view old) (Stray (word / count)) answer (view new) → Strays w.stripes word answer (map view (set xs (word % count) new))
-  stray_called serving shape xs marks m w word count answer old new e ec l is step =
+  pub stray_called : (serving : L → ServersView) {told : ℕ} (shape : Shape) (xs : List L) (marks : Marks) (m : PendingMap L) (w : StripedView) (word count i inner : ℕ) (answer : LogletAnswer) (old new : L) → striped_view view serving shape xs marks m told ≡ w → count ≡ length xs → i ≡ word % count → inner ≡ word / count → i < length xs → old ≡ get_or xs i old
+      → LogletStep (view old) (Stray inner) answer (view new) → Strays w.stripes word answer (map view (set xs i new))
+  stray_called serving shape xs marks m w word count i inner answer old new e ec ei en l is step =
       let k : count ≡ length (map view xs) = ec ∙ sym (length_view view xs) in
-      subst (λ (vs : List LogletView). Strays vs word answer (map view (set xs (word % count) new))) (ap (λ (v : StripedView). v.stripes) e) (record {
+      let place : i ≡ word % length (map view xs) = ei ∙ ap (λ (n : ℕ). word % n) k in
+      subst (λ (vs : List LogletView). Strays vs word answer (map view (set xs i new))) (ap (λ (v : StripedView). v.stripes) e) (record {
         before = view old;
         after = view new;
-        is = subst (λ (n : ℕ). slice_get (map view xs) (word % n) ≡ Some (view old)) k (view_at view xs (word % count) old l is);
-        step = subst (λ (n : ℕ). LogletStep (view old) (Stray (word / n)) answer (view new)) k step;
-        rest = map_set view xs (word % count) new ∙ ap (λ (n : ℕ). set (map view xs) (word % n) (view new)) k;
+        is = subst (λ (n : ℕ). slice_get (map view xs) n ≡ Some (view old)) place (view_at view xs i old l is);
+        step = subst (λ (n : ℕ). LogletStep (view old) (Stray n) answer (view new)) (en ∙ ap (λ (n : ℕ). word / n) k) step;
+        rest = map_set view xs i new ∙ ap (λ (n : ℕ). set (map view xs) n (view new)) place;
       })
 
   -- ---- Carry

@@ -1,5 +1,5 @@
 //! The numbers of a striped loglet that never change, and sums over its stripes.
-ghost use Rattle.std.specs.Prelude.{◌≡◌, ℕ, ◌+◌, ◌-◌, ◌*◌, ◌/◌, ◌^◌, ◌<◌, ◌≤◌, min, map, take, sum, length, slice_get, Some};
+ghost use Rattle.std.specs.Prelude.{◌≡◌, ℕ, ◌+◌, ◌-◌, ◌*◌, ◌/◌, ◌%◌, ◌^◌, ◌<◌, ◌≤◌, min, map, take, sum, length, slice_get, Some};
 ghost use Rattle.loglet_api.specs.View.{LogletView};
 ghost use Rattle.loglet_api.specs.Servers.{downs_of};
 ghost use Rattle.striped_loglet.specs.Views.{total, least_of};
@@ -148,4 +148,13 @@ pub fn place_of<L: Loglet>(stripes: &[L], server: u32) -> (usize, u32)
         i += 1;
     }
     (i, rest)
+}
+
+/// The stripe that a stray's word picks, and the word of that stripe's own stray.
+pub fn picked(word: u64, count: u64) -> (usize, u64)
+    requires { 0 < count }
+    ensures stripe { result.0 ≡ word % count }
+    ensures rest { result.1 ≡ word / count }
+{
+    ((word % count) as usize, word / count)
 }

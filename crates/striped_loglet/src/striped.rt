@@ -15,7 +15,7 @@ ghost use Rattle.striped_loglet.specs.Striped.{serving_of};
 use crate::marks::Marks;
 use crate::pending::{Course, Decided, Pending, put, set, take_decided};
 use crate::plan::{Asked, Heard, Plan, told};
-use crate::shape::{Shape, down_of, faults_of, place_of, shape_of};
+use crate::shape::{Shape, down_of, faults_of, picked, place_of, shape_of};
 use crate::stripe::{Inner, Outcome, begin_on, carry_on};
 use delos_types::numbers::Ticket;
 use loglet_api::call::{Answer, Kind, LogletAnswer, LogletCall, Op, Refused};
@@ -220,8 +220,8 @@ impl<L: Loglet> Loglet for StripedLoglet<L> {
         ensures handed { ServesStray self.old.servings word (stray_answer result) self.new.servings }
     {
         let count = self.stripes.len() as u64;
-        let i = (word % count) as usize;
-        match self.stripes[i].stray(word / count) {
+        let (i, rest) = picked(word, count);
+        match self.stripes[i].stray(rest) {
             Ok(()) => {
                 self.told = word;
                 return Ok(());

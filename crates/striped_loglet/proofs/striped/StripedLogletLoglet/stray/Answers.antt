@@ -1,4 +1,4 @@
-use Rattle.std.proofs.Common.{◌≡◌, ℕ, ◌/◌, ◌%◌, ◌<◌, List, length, map, set, ap, ◌∙◌, arith}
+use Rattle.std.proofs.Common.{◌≡◌, ℕ, ◌%◌, ◌<◌, List, length, map, set, ap, ◌∙◌, arith}
 use Rattle.loglet_api.specs.declared.call.LogletCall.TheVariants.{Stray}
 use Rattle.loglet_api.specs.declared.call.LogletAnswer.TheVariants.{Refusal, Strayed}
 use Rattle.loglet_api.specs.Servers.{ServersView}
@@ -11,89 +11,96 @@ use Rattle.striped_loglet.proofs.Serving.{kept_set, served, same_served, stray_s
 use Rattle.striped_loglet.proofs.Handing.{serves_from, same_from, stray_handed}
 use Rattle.striped_loglet.proofs.striped.StripedLogletLoglet.stray.Goals as goal
 
-inside : (word count len : ℕ) → count ≡ len → 0 < len → word % count < len
-inside word count len e some = rw e (mod-lt word some)
+inside : (word count len i : ℕ) → i ≡ word % count → count ≡ len → 0 < len → i < len
+inside word count len i p e some = rw p (rw e (mod-lt word some))
+
+pub picked-i-requires : goal.picked-i-requires
+picked-i-requires g c =
+    let i = c.self.inside in
+    let some : 0 < length i.stripes.items = (let a = c.self.invariant.0.shaped.count.0 in let b = length_view g.L.Loglet.view i.stripes.items in omega (arith, a, b)) in
+    let e : c.len-count.result ≡ length i.stripes.items = (let k = c.len-count.ensures in omega (arith, k)) in
+    omega (arith, some, e)
 
 pub invariant_of-self : goal.invariant_of-self
 invariant_of-self g c =
     let i = c.self.inside in
     let some : 0 < length i.stripes.items = (let a = c.self.invariant.0.shaped.count.0 in let b = length_view g.L.Loglet.view i.stripes.items in omega (arith, a, b)) in
     let e : c.len-count.result ≡ length i.stripes.items = (let k = c.len-count.ensures in omega (arith, k)) in
-    let l = inside c.args.word c.len-count.result (length i.stripes.items) e some in
-    ((stray_done g.L.Loglet.view i.shape i.stripes.items i.marks i.pending (c.args.word % c.len-count.result) c.args.word (c.args.word / c.len-count.result) c.index_mut.result.now c.stray.new.self c.self.invariant.0 l c.index_mut.ensures.value c.in-Ok.ensures.step).0, stray_length g.L.Loglet.serving i.stripes.items (c.args.word % c.len-count.result) (c.args.word / c.len-count.result) c.args.word i.told c.index_mut.result.now c.stray.new.self l c.index_mut.ensures.value c.in-Ok.ensures.serves ∙ c.self.invariant.1)
+    let l = inside c.args.word c.len-count.result (length i.stripes.items) c.picked-i.result.0 c.picked-i.ensures.stripe e some in
+    ((stray_done g.L.Loglet.view i.shape i.stripes.items i.marks i.pending c.picked-i.result.0 c.args.word c.picked-i.result.1 c.index_mut.result.now c.stray.new.self c.self.invariant.0 l c.index_mut.ensures.value c.in-Ok.ensures.step).0, stray_length g.L.Loglet.serving i.stripes.items c.picked-i.result.0 c.picked-i.result.1 c.args.word i.told c.index_mut.result.now c.stray.new.self l c.index_mut.ensures.value c.in-Ok.ensures.serves ∙ c.self.invariant.1)
 
 pub invariant_of-self-in-Err : goal.invariant_of-self-in-Err
 invariant_of-self-in-Err g c =
     let i = c.self.inside in
     let some : 0 < length i.stripes.items = (let a = c.self.invariant.0.shaped.count.0 in let b = length_view g.L.Loglet.view i.stripes.items in omega (arith, a, b)) in
     let e : c.len-count.result ≡ length i.stripes.items = (let k = c.len-count.ensures in omega (arith, k)) in
-    let l = inside c.args.word c.len-count.result (length i.stripes.items) e some in
-    ((stray_refused g.L.Loglet.view i.shape i.stripes.items i.marks i.pending (c.args.word % c.len-count.result) c.args.word (c.args.word / c.len-count.result) c.index_mut.result.now c.stray.new.self c.in-Err.refused c.self.invariant.0 l c.index_mut.ensures.value c.in-Err.ensures.step).0, ap (λ (vs : List ServersView). length (states_of vs)) (kept_set g.L.Loglet.serving i.stripes.items (c.args.word % c.len-count.result) c.index_mut.result.now c.stray.new.self l c.index_mut.ensures.value c.in-Err.ensures.serves) ∙ c.self.invariant.1)
+    let l = inside c.args.word c.len-count.result (length i.stripes.items) c.picked-i.result.0 c.picked-i.ensures.stripe e some in
+    ((stray_refused g.L.Loglet.view i.shape i.stripes.items i.marks i.pending c.picked-i.result.0 c.args.word c.picked-i.result.1 c.index_mut.result.now c.stray.new.self c.in-Err.refused c.self.invariant.0 l c.index_mut.ensures.value c.in-Err.ensures.step).0, ap (λ (vs : List ServersView). length (states_of vs)) (kept_set g.L.Loglet.serving i.stripes.items c.picked-i.result.0 c.index_mut.result.now c.stray.new.self l c.index_mut.ensures.value c.in-Err.ensures.serves) ∙ c.self.invariant.1)
 
 pub returns-in-Ok-clause-step : goal.returns-in-Ok-clause-step
 returns-in-Ok-clause-step g c =
     let i = c.self.inside in
     let some : 0 < length i.stripes.items = (let a = c.self.invariant.0.shaped.count.0 in let b = length_view g.L.Loglet.view i.stripes.items in omega (arith, a, b)) in
     let e : c.len-count.result ≡ length i.stripes.items = (let k = c.len-count.ensures in omega (arith, k)) in
-    let l = inside c.args.word c.len-count.result (length i.stripes.items) e some in
+    let l = inside c.args.word c.len-count.result (length i.stripes.items) c.picked-i.result.0 c.picked-i.ensures.stripe e some in
     step_whole g.L.Loglet.view g.L.Loglet.serving i.shape i.stripes.items _ i.marks i.marks i.pending i.pending _ _ _ c.self.view_is c.self.invariant.0 (invariant_of-self g c).0 tt
-    (stray_done g.L.Loglet.view i.shape i.stripes.items i.marks i.pending (c.args.word % c.len-count.result) c.args.word (c.args.word / c.len-count.result) c.index_mut.result.now c.stray.new.self c.self.invariant.0 l c.index_mut.ensures.value c.in-Ok.ensures.step).1
+    (stray_done g.L.Loglet.view i.shape i.stripes.items i.marks i.pending c.picked-i.result.0 c.args.word c.picked-i.result.1 c.index_mut.result.now c.stray.new.self c.self.invariant.0 l c.index_mut.ensures.value c.in-Ok.ensures.step).1
 
 pub returns-in-Ok-clause-stripe : goal.returns-in-Ok-clause-stripe
 returns-in-Ok-clause-stripe g c =
     let i = c.self.inside in
     let some : 0 < length i.stripes.items = (let a = c.self.invariant.0.shaped.count.0 in let b = length_view g.L.Loglet.view i.stripes.items in omega (arith, a, b)) in
     let e : c.len-count.result ≡ length i.stripes.items = (let k = c.len-count.ensures in omega (arith, k)) in
-    let l = inside c.args.word c.len-count.result (length i.stripes.items) e some in
-    stray_called g.L.Loglet.view g.L.Loglet.serving i.shape i.stripes.items i.marks i.pending _ c.args.word c.len-count.result Strayed c.index_mut.result.now c.stray.new.self c.self.view_is e l c.index_mut.ensures.value c.in-Ok.ensures.step
+    let l = inside c.args.word c.len-count.result (length i.stripes.items) c.picked-i.result.0 c.picked-i.ensures.stripe e some in
+    stray_called g.L.Loglet.view g.L.Loglet.serving i.shape i.stripes.items i.marks i.pending _ c.args.word c.len-count.result c.picked-i.result.0 c.picked-i.result.1 Strayed c.index_mut.result.now c.stray.new.self c.self.view_is e c.picked-i.ensures.stripe c.picked-i.ensures.rest l c.index_mut.ensures.value c.in-Ok.ensures.step
 
 pub returns-in-Ok-clause-handed : goal.returns-in-Ok-clause-handed
 returns-in-Ok-clause-handed g c =
     let i = c.self.inside in
     let some : 0 < length i.stripes.items = (let a = c.self.invariant.0.shaped.count.0 in let b = length_view g.L.Loglet.view i.stripes.items in omega (arith, a, b)) in
     let e : c.len-count.result ≡ length i.stripes.items = (let k = c.len-count.ensures in omega (arith, k)) in
-    let l = inside c.args.word c.len-count.result (length i.stripes.items) e some in
-    stray_handed g.L.Loglet.view g.L.Loglet.serving i.shape i.stripes.items i.marks i.pending i.told _ c.args.word c.len-count.result Strayed c.index_mut.result.now c.stray.new.self c.self.view_is e l c.index_mut.ensures.value c.in-Ok.ensures.serves
+    let l = inside c.args.word c.len-count.result (length i.stripes.items) c.picked-i.result.0 c.picked-i.ensures.stripe e some in
+    stray_handed g.L.Loglet.view g.L.Loglet.serving i.shape i.stripes.items i.marks i.pending i.told _ c.args.word c.len-count.result c.picked-i.result.0 c.picked-i.result.1 Strayed c.index_mut.result.now c.stray.new.self c.self.view_is e c.picked-i.ensures.stripe c.picked-i.ensures.rest l c.index_mut.ensures.value c.in-Ok.ensures.serves
 
 pub returns-in-Err-clause-step : goal.returns-in-Err-clause-step
 returns-in-Err-clause-step g c =
     let i = c.self.inside in
     let some : 0 < length i.stripes.items = (let a = c.self.invariant.0.shaped.count.0 in let b = length_view g.L.Loglet.view i.stripes.items in omega (arith, a, b)) in
     let e : c.len-count.result ≡ length i.stripes.items = (let k = c.len-count.ensures in omega (arith, k)) in
-    let l = inside c.args.word c.len-count.result (length i.stripes.items) e some in
+    let l = inside c.args.word c.len-count.result (length i.stripes.items) c.picked-i.result.0 c.picked-i.ensures.stripe e some in
     step_whole g.L.Loglet.view g.L.Loglet.serving i.shape i.stripes.items _ i.marks i.marks i.pending i.pending _ _ _ c.self.view_is c.self.invariant.0 (invariant_of-self-in-Err g c).0 tt
-    (stray_refused g.L.Loglet.view i.shape i.stripes.items i.marks i.pending (c.args.word % c.len-count.result) c.args.word (c.args.word / c.len-count.result) c.index_mut.result.now c.stray.new.self c.in-Err.refused c.self.invariant.0 l c.index_mut.ensures.value c.in-Err.ensures.step).1
+    (stray_refused g.L.Loglet.view i.shape i.stripes.items i.marks i.pending c.picked-i.result.0 c.args.word c.picked-i.result.1 c.index_mut.result.now c.stray.new.self c.in-Err.refused c.self.invariant.0 l c.index_mut.ensures.value c.in-Err.ensures.step).1
 
 pub returns-in-Err-clause-stripe : goal.returns-in-Err-clause-stripe
 returns-in-Err-clause-stripe g c =
     let i = c.self.inside in
     let some : 0 < length i.stripes.items = (let a = c.self.invariant.0.shaped.count.0 in let b = length_view g.L.Loglet.view i.stripes.items in omega (arith, a, b)) in
     let e : c.len-count.result ≡ length i.stripes.items = (let k = c.len-count.ensures in omega (arith, k)) in
-    let l = inside c.args.word c.len-count.result (length i.stripes.items) e some in
-    stray_called g.L.Loglet.view g.L.Loglet.serving i.shape i.stripes.items i.marks i.pending _ c.args.word c.len-count.result (Refusal c.in-Err.refused) c.index_mut.result.now c.stray.new.self c.self.view_is e l c.index_mut.ensures.value c.in-Err.ensures.step
+    let l = inside c.args.word c.len-count.result (length i.stripes.items) c.picked-i.result.0 c.picked-i.ensures.stripe e some in
+    stray_called g.L.Loglet.view g.L.Loglet.serving i.shape i.stripes.items i.marks i.pending _ c.args.word c.len-count.result c.picked-i.result.0 c.picked-i.result.1 (Refusal c.in-Err.refused) c.index_mut.result.now c.stray.new.self c.self.view_is e c.picked-i.ensures.stripe c.picked-i.ensures.rest l c.index_mut.ensures.value c.in-Err.ensures.step
 
 pub returns-in-Err-clause-handed : goal.returns-in-Err-clause-handed
 returns-in-Err-clause-handed g c =
     let i = c.self.inside in
     let some : 0 < length i.stripes.items = (let a = c.self.invariant.0.shaped.count.0 in let b = length_view g.L.Loglet.view i.stripes.items in omega (arith, a, b)) in
     let e : c.len-count.result ≡ length i.stripes.items = (let k = c.len-count.ensures in omega (arith, k)) in
-    let l = inside c.args.word c.len-count.result (length i.stripes.items) e some in
-    stray_handed g.L.Loglet.view g.L.Loglet.serving i.shape i.stripes.items i.marks i.pending i.told _ c.args.word c.len-count.result (Refusal c.in-Err.refused) c.index_mut.result.now c.stray.new.self c.self.view_is e l c.index_mut.ensures.value c.in-Err.ensures.serves
+    let l = inside c.args.word c.len-count.result (length i.stripes.items) c.picked-i.result.0 c.picked-i.ensures.stripe e some in
+    stray_handed g.L.Loglet.view g.L.Loglet.serving i.shape i.stripes.items i.marks i.pending i.told _ c.args.word c.len-count.result c.picked-i.result.0 c.picked-i.result.1 (Refusal c.in-Err.refused) c.index_mut.result.now c.stray.new.self c.self.view_is e c.picked-i.ensures.stripe c.picked-i.ensures.rest l c.index_mut.ensures.value c.in-Err.ensures.serves
 
 pub returns-in-Ok-clause-serves : goal.returns-in-Ok-clause-serves
 returns-in-Ok-clause-serves g c =
     let i = c.self.inside in
     let some : 0 < length i.stripes.items = (let a = c.self.invariant.0.shaped.count.0 in let b = length_view g.L.Loglet.view i.stripes.items in omega (arith, a, b)) in
     let e : c.len-count.result ≡ length i.stripes.items = (let k = c.len-count.ensures in omega (arith, k)) in
-    let l = inside c.args.word c.len-count.result (length i.stripes.items) e some in
-    serves_from g.L.Loglet.view g.L.Loglet.serving i.shape i.stripes.items i.marks i.pending i.told _ (Stray c.args.word) Strayed (served (map g.L.Loglet.serving (set i.stripes.items (c.args.word % c.len-count.result) c.stray.new.self)) c.args.word) c.self.view_is
-    (stray_served g.L.Loglet.serving i.stripes.items (c.args.word % c.len-count.result) (c.args.word / c.len-count.result) c.args.word i.told c.index_mut.result.now c.stray.new.self l c.index_mut.ensures.value c.in-Ok.ensures.serves)
+    let l = inside c.args.word c.len-count.result (length i.stripes.items) c.picked-i.result.0 c.picked-i.ensures.stripe e some in
+    serves_from g.L.Loglet.view g.L.Loglet.serving i.shape i.stripes.items i.marks i.pending i.told _ (Stray c.args.word) Strayed (served (map g.L.Loglet.serving (set i.stripes.items c.picked-i.result.0 c.stray.new.self)) c.args.word) c.self.view_is
+    (stray_served g.L.Loglet.serving i.stripes.items c.picked-i.result.0 c.picked-i.result.1 c.args.word i.told c.index_mut.result.now c.stray.new.self l c.index_mut.ensures.value c.in-Ok.ensures.serves)
 
 pub returns-in-Err-clause-serves : goal.returns-in-Err-clause-serves
 returns-in-Err-clause-serves g c =
     let i = c.self.inside in
     let some : 0 < length i.stripes.items = (let a = c.self.invariant.0.shaped.count.0 in let b = length_view g.L.Loglet.view i.stripes.items in omega (arith, a, b)) in
     let e : c.len-count.result ≡ length i.stripes.items = (let k = c.len-count.ensures in omega (arith, k)) in
-    let l = inside c.args.word c.len-count.result (length i.stripes.items) e some in
+    let l = inside c.args.word c.len-count.result (length i.stripes.items) c.picked-i.result.0 c.picked-i.ensures.stripe e some in
     same_from g.L.Loglet.view g.L.Loglet.serving i.shape i.stripes.items i.marks i.pending i.told _ _ c.self.view_is
-    (same_served (map g.L.Loglet.serving i.stripes.items) (map g.L.Loglet.serving (set i.stripes.items (c.args.word % c.len-count.result) c.stray.new.self)) i.told (kept_set g.L.Loglet.serving i.stripes.items (c.args.word % c.len-count.result) c.index_mut.result.now c.stray.new.self l c.index_mut.ensures.value c.in-Err.ensures.serves))
+    (same_served (map g.L.Loglet.serving i.stripes.items) (map g.L.Loglet.serving (set i.stripes.items c.picked-i.result.0 c.stray.new.self)) i.told (kept_set g.L.Loglet.serving i.stripes.items c.picked-i.result.0 c.index_mut.result.now c.stray.new.self l c.index_mut.ensures.value c.in-Err.ensures.serves))
