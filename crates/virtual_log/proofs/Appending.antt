@@ -24,7 +24,7 @@ use Rattle.virtual_log.proofs.Owning.{own_split}
 use Rattle.virtual_log.proofs.OneTurn.{later_continues, first_later}
 
 -- a started cell that no answer told sealed is the last
-unsealed_last : (cells : ℕ) (w : State) (i s : ℕ) → StateOk cells w → w.starts i ≡ Some s → (w.cells i).told.sealed ≡ false → tail_of w ≡ s + (w.cells i).told.reach
+pub unsealed_last : (cells : ℕ) (w : State) (i s : ℕ) → StateOk cells w → w.starts i ≡ Some s → (w.cells i).told.sealed ≡ false → tail_of w ≡ s + (w.cells i).told.reach
 unsealed_last cells w i s ok at unsealed = by_test (i == (last_segment w).id) refl
   where
     by_test : (b : Bool) → (i == (last_segment w).id) ≡ b → tail_of w ≡ s + (w.cells i).told.reach

@@ -14,5 +14,7 @@ pub mod Holding
 pub mod Agreeing
 pub mod Sealing
 pub mod Saying
+pub mod Sparing
+pub mod Stepping
 pub mod Calming
 pub mod Answering

@@ -3,6 +3,7 @@
 //!
 //! - `log`: the virtual log.
 //! - `calls`: its calls, each over as many turns as it takes.
+//! - `underway`: an append that is begun before another ends, turn by turn.
 //! - `rest`: a virtual log between two times at which it has turns.
 //! - `held`: what a log holds, for good.
 //! - `fault`: why a call failed.
@@ -14,7 +15,7 @@
 //!
 //! The definitions stand in `specs/`: `Turning` (what turns bring), `Causes` (the cause of each fault), `Writing`
 //! (which events write a chain), `Sealing` (which Seals a call begins), `Saying` (which words it carries with), `Log` (what a
-//! virtual log shows), `Next` and `Holding` (what its reads say), `Extending` and `Truncating`.
+//! virtual log shows), `Next` and `Holding` (what its reads say), `Extending`, `Truncating` and `Underway` (what an append that is underway rests on, and its turns).
 #![tactic(auto)]
 
 pub mod calls;
@@ -27,3 +28,4 @@ mod replace;
 pub mod rest;
 pub mod truncate;
 mod turn;
+pub mod underway;

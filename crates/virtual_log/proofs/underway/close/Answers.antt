@@ -1,0 +1,150 @@
+use Rattle.std.proofs.Common.{refl, sym, subst, arith}
+use Rattle.std.specs.Prelude.{Contains}
+use Rattle.legal_journal.specs.declared.events.FabricAnswer.TheVariants as fabric
+use Rattle.legal_journal.specs.declared.events.FabricCall.TheVariants.{WriteChain}
+use Rattle.legal_journal.specs.Journal.{state_of}
+use Rattle.virtual_log.specs.declared.fault.Fault.TheVariants as fault
+use Rattle.virtual_log.specs.declared.underway.Step.TheVariants.{Closing}
+use Rattle.virtual_log.proofs.OneTurn.{meta_cause, gone_cause}
+use Rattle.virtual_log.proofs.Closing.{fits_now, may_close}
+use Rattle.virtual_log.proofs.Answering.{write_answers}
+use Rattle.virtual_log.proofs.Stepping.{went_by, went_still, going_by, failed, no_memory, wrote, lost}
+use Rattle.virtual_log.proofs.underway.close.Goals as goal
+
+pub extend-requires-clause-chain : goal.extend-requires-clause-chain
+extend-requires-clause-chain g c =
+    let p = g.T.Law.Rules in
+    let t = g.T.Turns in
+    let who = t.who c.args.turns.now in
+    let old = t.seen c.args.turns.now in
+    let k = c.args.known.now in
+    let s = c.args.segment in
+    let n = c.args.length in
+    let going = c.args.going.now in
+    let x = going_by going (Closing s n) c.requires.step c.requires.going.1 in
+    let told = subst (λ i. Contains ((state_of old).cells i).ends n) (sym c.requires.last) x.at.1 in
+    (fits_now p.may p.floor p.shelf who old k.version k.tail n k.chain c.requires.legal c.requires.goes_by told).chain
+
+pub extend-requires-clause-seam : goal.extend-requires-clause-seam
+extend-requires-clause-seam g c =
+    let p = g.T.Law.Rules in
+    let t = g.T.Turns in
+    let who = t.who c.args.turns.now in
+    let old = t.seen c.args.turns.now in
+    let k = c.args.known.now in
+    let s = c.args.segment in
+    let n = c.args.length in
+    let going = c.args.going.now in
+    let x = going_by going (Closing s n) c.requires.step c.requires.going.1 in
+    let told = subst (λ i. Contains ((state_of old).cells i).ends n) (sym c.requires.last) x.at.1 in
+    (fits_now p.may p.floor p.shelf who old k.version k.tail n k.chain c.requires.legal c.requires.goes_by told).seam
+
+pub extend-requires-clause-next : goal.extend-requires-clause-next
+extend-requires-clause-next g c =
+    let p = g.T.Law.Rules in
+    let t = g.T.Turns in
+    let who = t.who c.args.turns.now in
+    let old = t.seen c.args.turns.now in
+    let k = c.args.known.now in
+    let s = c.args.segment in
+    let n = c.args.length in
+    let going = c.args.going.now in
+    let x = going_by going (Closing s n) c.requires.step c.requires.going.1 in
+    let told = subst (λ i. Contains ((state_of old).cells i).ends n) (sym c.requires.last) x.at.1 in
+    let f = fits_now p.may p.floor p.shelf who old k.version k.tail n k.chain c.requires.legal c.requires.goes_by told in omega (arith, f.spare, f.few)
+
+pub turn-requires-clause-may : goal.turn-requires-clause-may
+turn-requires-clause-may g c =
+    let p = g.T.Law.Rules in
+    let t = g.T.Turns in
+    let who = t.who c.args.turns.now in
+    let old = t.seen c.args.turns.now in
+    let k = c.args.known.now in
+    let s = c.args.segment in
+    let n = c.args.length in
+    let going = c.args.going.now in
+    let x = going_by going (Closing s n) c.requires.step c.requires.going.1 in
+    let told = subst (λ i. Contains ((state_of old).cells i).ends n) (sym c.requires.last) x.at.1 in
+    may_close p.may p.floor p.shelf who old k.version k.tail n k.chain c.requires.legal c.requires.goes_by told _ c.in_ok-next.ensures.value
+
+pub returns-in-Written-clause-went : goal.returns-in-Written-clause-went
+returns-in-Written-clause-went g c = λ words.
+    let p = g.T.Law.Rules in
+    let t = g.T.Turns in
+    let who = t.who c.args.turns.now in
+    let old = t.seen c.args.turns.now in
+    let k = c.args.known.now in
+    let s = c.args.segment in
+    let n = c.args.length in
+    let going = c.args.going.now in
+    let x = going_by going (Closing s n) c.requires.step c.requires.going.1 in
+    let told = subst (λ i. Contains ((state_of old).cells i).ends n) (sym c.requires.last) x.at.1 in
+    went_by going (Closing s n) c.requires.step
+    (wrote p.may p.floor p.shelf words who old k c.requires.legal c.requires.goes_by s n _ c.in_ok-next.next going.entry (t.seen c.turn.new.self) c.in_ok-next.ensures.value c.in-Written.ensures.turn)
+
+pub returns-in-Conflict-clause-went : goal.returns-in-Conflict-clause-went
+returns-in-Conflict-clause-went g c = λ words.
+    let p = g.T.Law.Rules in
+    let t = g.T.Turns in
+    let who = t.who c.args.turns.now in
+    let old = t.seen c.args.turns.now in
+    let k = c.args.known.now in
+    let s = c.args.segment in
+    let n = c.args.length in
+    let going = c.args.going.now in
+    let x = going_by going (Closing s n) c.requires.step c.requires.going.1 in
+    let told = subst (λ i. Contains ((state_of old).cells i).ends n) (sym c.requires.last) x.at.1 in
+    went_still going (Closing s n) c.requires.step
+    (lost p.may p.floor p.shelf words who old k c.requires.legal c.requires.goes_by s n c.in-Conflict.version c.in_ok-next.next c.in-Conflict.chain going.entry (t.seen c.turn.new.self) c.in_ok-next.ensures.value told c.in-Conflict.ensures.turn)
+
+pub returns-in-MetaFault-clause-went : goal.returns-in-MetaFault-clause-went
+returns-in-MetaFault-clause-went g c = λ words.
+    let p = g.T.Law.Rules in
+    let t = g.T.Turns in
+    let who = t.who c.args.turns.now in
+    let old = t.seen c.args.turns.now in
+    let k = c.args.known.now in
+    let s = c.args.segment in
+    let n = c.args.length in
+    let going = c.args.going.now in
+    let x = going_by going (Closing s n) c.requires.step c.requires.going.1 in
+    let told = subst (λ i. Contains ((state_of old).cells i).ends n) (sym c.requires.last) x.at.1 in
+    let new = t.seen c.turn.new.self in
+    failed p.may p.floor p.shelf words who old k c.requires.legal c.requires.goes_by
+    (WriteChain k.version c.in_ok-next.next) fabric.MetaFault new going fault.Meta c.in-MetaFault.ensures.turn tt refl (λ i u. tt)
+    (refl, meta_cause p.may p.floor p.shelf who old new k.version c.in_ok-next.next c.in-MetaFault.ensures.turn)
+
+pub returns-in-Down-clause-went : goal.returns-in-Down-clause-went
+returns-in-Down-clause-went g c = λ words.
+    let p = g.T.Law.Rules in
+    let t = g.T.Turns in
+    let who = t.who c.args.turns.now in
+    let old = t.seen c.args.turns.now in
+    let k = c.args.known.now in
+    let s = c.args.segment in
+    let n = c.args.length in
+    let going = c.args.going.now in
+    let x = going_by going (Closing s n) c.requires.step c.requires.going.1 in
+    let told = subst (λ i. Contains ((state_of old).cells i).ends n) (sym c.requires.last) x.at.1 in
+    let new = t.seen c.turn.new.self in
+    failed p.may p.floor p.shelf words who old k c.requires.legal c.requires.goes_by
+    (WriteChain k.version c.in_ok-next.next) fabric.Down new going fault.Meta c.in-Down.ensures.turn tt refl (λ i u. tt)
+    (refl, gone_cause p.may p.floor p.shelf who old new k.version c.in_ok-next.next c.in-Down.ensures.turn)
+
+pub returns-in-Memory-clause-went : goal.returns-in-Memory-clause-went
+returns-in-Memory-clause-went g c = λ words.
+    let p = g.T.Law.Rules in
+    let t = g.T.Turns in
+    let who = t.who c.args.turns.now in
+    let old = t.seen c.args.turns.now in
+    let k = c.args.known.now in
+    let s = c.args.segment in
+    let n = c.args.length in
+    let going = c.args.going.now in
+    let x = going_by going (Closing s n) c.requires.step c.requires.going.1 in
+    let told = subst (λ i. Contains ((state_of old).cells i).ends n) (sym c.requires.last) x.at.1 in
+    no_memory p.may p.floor p.shelf words who old k c.requires.legal c.requires.goes_by
+    (WriteChain k.version c.in_ok-next.next) (t.seen c.turn.new.self) going c.in-Memory.ensures.turn tt refl (λ i u. tt)
+
+pub unreachable-requires : goal.unreachable-requires
+unreachable-requires g c = write_answers _ _ _ _ _ _ _ _ _ c.turn.ensures.turn c.in_default.not-Written c.in_default.not-Conflict c.in_default.not-MetaFault c.in_default.not-Down c.in_default.not-Memory

@@ -1,0 +1,63 @@
+use Rattle.std.proofs.Common.{sym, subst}
+use Rattle.virtual_log.specs.Underway.{IsGoing, Went}
+use Rattle.virtual_log.proofs.Stepping.{at_step, due_going, outcome_above, outcome_going, outcome_again, due_others}
+use Rattle.virtual_log.proofs.underway.go_on_with.Goals as goal
+
+pub advance-made-requires-clause-going : goal.advance-made-requires-clause-going
+advance-made-requires-clause-going g c =
+    let p = g.T.Law.Rules in
+    let t = g.T.Turns in
+    let who = t.who c.args.turns.now in
+    let old = t.seen c.args.turns.now in
+    let k = c.args.known.now in
+    let going = c.args.going.now in
+    let x = c.requires.going in
+    (x.0, subst (λ s. IsGoing p.may who x.0 old k.chain (at_step going.entry s)) (sym c.due-going.ensures) (due_going p.may who x.0 old k.chain going x.1))
+
+pub returns-clause-above : goal.returns-clause-above
+returns-clause-above g c =
+    let p = g.T.Law.Rules in
+    let t = g.T.Turns in
+    let who = t.who c.args.turns.now in
+    let old = t.seen c.args.turns.now in
+    let k = c.args.known.now in
+    let going = c.args.going.now in
+    let m = c.advance-made in
+    let w = subst (λ x. Went p.may p.floor p.shelf (g.C.Chooser.may c.args.chooser.now) who old k (at_step going.entry x) (t.seen m.new.turns) m.new.known m.new.going m.result) c.due-going.ensures m.ensures.went in
+    outcome_above p.may who old k going (t.seen m.new.turns) m.new.known m.new.going m.result w.outcome
+
+pub returns-clause-going : goal.returns-clause-going
+returns-clause-going g c =
+    let p = g.T.Law.Rules in
+    let t = g.T.Turns in
+    let who = t.who c.args.turns.now in
+    let old = t.seen c.args.turns.now in
+    let k = c.args.known.now in
+    let going = c.args.going.now in
+    let m = c.advance-made in
+    let w = subst (λ x. Went p.may p.floor p.shelf (g.C.Chooser.may c.args.chooser.now) who old k (at_step going.entry x) (t.seen m.new.turns) m.new.known m.new.going m.result) c.due-going.ensures m.ensures.went in
+    outcome_going p.may who old k going (t.seen m.new.turns) m.new.known m.new.going m.result w.outcome
+
+pub returns-clause-again : goal.returns-clause-again
+returns-clause-again g c =
+    let p = g.T.Law.Rules in
+    let t = g.T.Turns in
+    let who = t.who c.args.turns.now in
+    let old = t.seen c.args.turns.now in
+    let k = c.args.known.now in
+    let going = c.args.going.now in
+    let m = c.advance-made in
+    let w = subst (λ x. Went p.may p.floor p.shelf (g.C.Chooser.may c.args.chooser.now) who old k (at_step going.entry x) (t.seen m.new.turns) m.new.known m.new.going m.result) c.due-going.ensures m.ensures.went in
+    outcome_again p.may who old k going (t.seen m.new.turns) m.new.known m.new.going m.result w.outcome
+
+pub returns-clause-others : goal.returns-clause-others
+returns-clause-others g c =
+    let p = g.T.Law.Rules in
+    let t = g.T.Turns in
+    let who = t.who c.args.turns.now in
+    let old = t.seen c.args.turns.now in
+    let k = c.args.known.now in
+    let going = c.args.going.now in
+    let m = c.advance-made in
+    let w = subst (λ x. Went p.may p.floor p.shelf (g.C.Chooser.may c.args.chooser.now) who old k (at_step going.entry x) (t.seen m.new.turns) m.new.known m.new.going m.result) c.due-going.ensures m.ensures.went in
+    due_others p.may who old k going (t.seen m.new.turns) m.new.known m.new.going w.others
