@@ -1,5 +1,5 @@
 -- What is underway stays so.
-use Rattle.std.proofs.Common.{◌≡◌, ◌≢◌, ◌⊎◌, inl, inr, ℕ, ◌<◌, ◌≤◌, List, [], ◌∷◌, ◌++◌, length, Some, None, Bool, true, false, refl, sym, ap, ◌∙◌, subst, arith, append_assoc}
+use Rattle.std.proofs.Common.{◌≡◌, ◌≢◌, ◌⊎◌, inl, inr, ℕ, ◌<◌, ◌≤◌, List, [], ◌∷◌, ◌++◌, length, Option, Some, None, Bool, true, false, refl, sym, ap, ◌∙◌, subst, arith, append_assoc}
 use Rattle.std.specs.Prelude.{◌==◌}
 use Rattle.std.proofs.lemmas.Bool.Decides.{nat_tests}
 use Rattle.delos_types.specs.declared.entry.Entry.{Entry}
@@ -24,8 +24,8 @@ use Rattle.legal_journal.proofs.Taken.{own_stays}
 use Rattle.virtual_log.specs.declared.underway.Step.{Step}
 use Rattle.virtual_log.specs.declared.underway.Step.TheVariants.{Starting, Appending, Reading, Asking, Finding, Closing, Dropping}
 use Rattle.virtual_log.specs.declared.underway.Going.{Going}
-use Rattle.virtual_log.specs.Turning.{Later, FirstTurn}
-use Rattle.virtual_log.specs.Underway.{IsLast, IsShut, IsAppending, IsFinding, IsDropping, IsAt, IsKnown, IsGoing, HasTicket, AreApart, Leaves, LeaveTicket, LeaveStep}
+use Rattle.virtual_log.specs.Turning.{Later}
+use Rattle.virtual_log.specs.Underway.{IsLast, IsShut, IsDropping, IsAt, IsKnown, IsGoing, HasTicket, Leaves, LeaveTicket, LeaveStep}
 use Rattle.virtual_log.proofs.OneTurn.{first_later}
 
 -- Own events that leave a ticket alone
@@ -115,6 +115,44 @@ spared_all w may floor shelf who i t r [] leave ok legal own = own
 spared_all w may floor shelf who i t r (e ∷ es) leave ok legal own =
     spared_all (after w e.who (move e)) may floor shelf who i t r es leave.1 (step_ok may floor (length shelf) w e.who (move e) ok legal.0.allowed).0 legal.1
     (spared_event w may floor shelf who i t r e ok legal.0 leave.0 own)
+
+-- A ticket that was closed
+
+abbrev IsClosed : CellState → ℕ → Type 0
+IsClosed c t = (c.told.ops t ≡ None) × (t < c.told.begun)
+
+closed_cell : (w : State) (may : ℕ → Entry → Type 0) (cells by j t : ℕ) → IsClosed (w.cells j) t → (m : CellMove) → CellAllowed w may cells by j m → IsClosed (cell_after by (w.cells j) m) t
+closed_cell w may cells by j t h (Begins op u) a =
+    let other : t ≢ u = λ e. absurd (omega (arith, h.1, a.2)) in
+    (put_other (w.cells j).told.ops u _ t other ∙ h.0, omega (arith, h.1))
+closed_cell w may cells by j t h (Carries u) a = h
+closed_cell w may cells by j t h (Answers u x) a =
+    subst (λ (o : Option Running). ((answered_by (w.cells j).told u x o).ops t ≡ None) × (t < (answered_by (w.cells j).told u x o).begun)) (sym a.1.is_open)
+    (put_cases (λ (o : Option Running). o ≡ None) (w.cells j).told.ops u None t (λ _. refl) (λ _. h.0), h.1)
+closed_cell w may cells by j t h (Drops u) a = (put_cases (λ (o : Option Running). o ≡ None) (w.cells j).told.ops u None t (λ _. refl) (λ _. h.0), h.1)
+closed_cell w may cells by j t h (Misses u) a = h
+
+closed_step : (w : State) (may : ℕ → Entry → Type 0) (floor : List Entry → ℕ → Type 0) (cells by i t : ℕ) → IsClosed (w.cells i) t → (m : Move) → IsAllowed w may floor cells by m → IsClosed ((after w by m).cells i) t
+closed_step w may floor cells by i t h (OnCell j m) a =
+    put_cases (λ (c : CellState). IsClosed c t) w.cells j (cell_after by (w.cells j) m) i
+    (λ e. closed_cell w may cells by j t (subst (λ k. IsClosed (w.cells k) t) e h) m a)
+    (λ _. h)
+closed_step w may floor cells by i t h (OnRegister m) a = h
+closed_step w may floor cells by i t h Nothing a = h
+closed_step w may floor cells by i t h Never a = absurd a
+
+closed_all : (w : State) (may : ℕ → Entry → Type 0) (floor : List Entry → ℕ → Type 0) (shelf : List ℕ) (i t : ℕ) (es : List Event) → IsLegalFrom w may floor shelf es → IsClosed (w.cells i) t → IsClosed ((after_all w es).cells i) t
+closed_all w may floor shelf i t [] legal h = h
+closed_all w may floor shelf i t (e ∷ es) legal h =
+    closed_all (after w e.who (move e)) may floor shelf i t es legal.1 (closed_step w may floor (length shelf) e.who i t h (move e) legal.0.allowed)
+
+-- it stays closed
+pub closed_later : (may : ℕ → Entry → Type 0) (floor : List Entry → ℕ → Type 0) (shelf : List ℕ) (a b : List Event) (i t : ℕ) → Later may floor shelf a b → t < ((state_of a).cells i).told.begun → ((state_of a).cells i).told.ops t ≡ None → ((state_of b).cells i).told.ops t ≡ None
+closed_later may floor shelf a b i t later low none =
+    let legal = subst (IsLegal may floor shelf) later.seen later.legal in
+    let there : state_of b ≡ after_all (state_of a) later.more = ap state_of later.seen ∙ after_all-append start a later.more in
+    (subst (λ (w : State). IsClosed (w.cells i) t) (sym there)
+    (closed_all (state_of a) may floor shelf i t later.more (IsLegalFrom-split may floor shelf start a later.more legal.steps).1 (none, low))).0
 
 -- From one moment to a later one
 

@@ -1,5 +1,5 @@
 -- What the turns of an append that is underway bring.
-use Rattle.std.proofs.Common.{◌≡◌, ◌≢◌, ◌⊎◌, inl, inr, ℕ, ◌+◌, ◌-◌, ◌<◌, ◌≤◌, ◌^◌, max, List, [], ◌∷◌, ◌++◌, length, Option, Some, None, Bool, true, false, refl, sym, ap, ◌∙◌, subst, arith, append_assoc, IfOk, IfErr, IfSome, IfNone}
+use Rattle.std.proofs.Common.{◌≡◌, ◌≢◌, ◌⊎◌, inl, inr, ℕ, ◌+◌, ◌-◌, ◌<◌, ◌≤◌, ◌^◌, max, List, [], ◌∷◌, ◌++◌, length, Option, Some, None, Bool, true, false, refl, sym, ap, ◌∙◌, subst, ⊎_elim, arith, append_assoc, IfOk, IfErr, IfSome, IfNone}
 use Rattle.std.specs.Prelude.{Contains, slice_get, nat_lt, IsTrue, Result, Ok, Err, if◌then◌else◌}
 use Rattle.std.proofs.lemmas.Bool.Decides.{nat_tests}
 use Rattle.delos_types.specs.declared.entry.Entry.{Entry}
@@ -18,12 +18,13 @@ use Rattle.legal_journal.specs.declared.events.FabricCall.{FabricCall}
 use Rattle.legal_journal.specs.declared.events.FabricAnswer.{FabricAnswer}
 use Rattle.legal_journal.specs.declared.events.FabricCall.TheVariants.{Begin, Carry, Forget, ReadChain, WriteChain}
 use Rattle.legal_journal.specs.declared.events.FabricAnswer.TheVariants as fabric
-use Rattle.legal_journal.specs.Journal.{State, state_of, IsOwn, IsLegal, entries, reach, tail_of}
-use Rattle.legal_journal.specs.Laws.{Continues, Stands, Clears}
+use Rattle.legal_journal.specs.Moves.{Answers, Drops, Misses}
+use Rattle.legal_journal.specs.Journal.{CellState, State, cell_after, answered_by, state_of, IsOwn, IsLegal, entries}
+use Rattle.legal_journal.specs.Laws.{Continues, Stands}
 use Rattle.legal_journal.specs.Sealing.{is_seal}
-use Rattle.legal_journal.specs.Turns.{AreOthers, IsTurn, MayTurn}
+use Rattle.legal_journal.specs.Turns.{IsTurn, MayTurn}
+use Rattle.legal_journal.proofs.Cells.{put_same}
 use Rattle.legal_journal.proofs.Log.{slice_get_front}
-use Rattle.legal_journal.proofs.Sound.{StateOk}
 use Rattle.legal_journal.proofs.Legal.{sound, legal_front, reached_stands, goes_on, clears_on, last_clears}
 use Rattle.legal_journal.proofs.Taken.{took}
 use Rattle.virtual_log.specs.declared.calls.Known.{Known}
@@ -32,22 +33,21 @@ use Rattle.virtual_log.specs.declared.fault.Fault.TheVariants as fault
 use Rattle.virtual_log.specs.declared.underway.Step.{Step}
 use Rattle.virtual_log.specs.declared.underway.Step.TheVariants.{Starting, Appending, Reading, Asking, Finding, Closing, Dropping}
 use Rattle.virtual_log.specs.declared.underway.Going.{Going}
-use Rattle.virtual_log.specs.Turning.{Later, FirstTurn, IsAbove, Opened, Answered}
-use Rattle.virtual_log.specs.Causes.{IsCalm, HasCause, CalmSince}
+use Rattle.virtual_log.specs.Turning.{IsAbove, Opened}
+use Rattle.virtual_log.specs.Causes.{IsCalm}
 use Rattle.virtual_log.specs.Saying.{HasWord}
 use Rattle.virtual_log.specs.Holding.{Holds}
 use Rattle.virtual_log.specs.Log.{GoesBy}
-use Rattle.virtual_log.specs.Underway.{IsLast, IsShut, IsAppending, IsFinding, IsDropping, IsAt, IsKnown, IsGoing, HasTicket, AreApart, Leaves, LeavesOthers, StaysGoing, OneTurn, due, Moves, ClosesTicket, LeavesOpen, Places, Forgets, Outcome, Went}
+use Rattle.virtual_log.specs.Underway.{IsLast, IsAppending, IsDropping, IsAt, IsKnown, IsGoing, HasTicket, AreApart, Leaves, LeavesNone, LeavesOthers, StaysGoing, OneTurn, due, Moves, ClosesTicket, Places, Forgets, Outcome, Went}
 use Rattle.virtual_log.proofs.OneTurn.{nil, look_ok, begin_ok, going_ok, done_ok, turn_later, later_refl, later_trans, first_later, lack_cause, cause_since}
 use Rattle.virtual_log.proofs.Appending.{unsealed_last, started_within, sealed_ok, end_ok}
 use Rattle.virtual_log.proofs.Closing.{refused, refused_goes}
-use Rattle.virtual_log.proofs.Replacing.{Conflicted}
 use Rattle.virtual_log.proofs.Going.{last_there, goes_later, goes_onto, goes_now}
 use Rattle.virtual_log.proofs.Holding.{placed_held}
 use Rattle.virtual_log.proofs.Saying.{turn_says, says_refl, says_then}
 use Rattle.virtual_log.proofs.Sealing.{turn_none, seals_refl, seals_trans}
 use Rattle.virtual_log.proofs.Calming.{turn_calm, calm_refl, calm_then}
-use Rattle.virtual_log.proofs.Sparing.{last_later, going_later, turn_is, turn_going, turn_last, turn_shut, turn_dropping, ticket_begun}
+use Rattle.virtual_log.proofs.Sparing.{closed_later, last_later, turn_is, turn_going, turn_last, turn_shut, turn_dropping, ticket_begun}
 
 abbrev pub at_step : Entry → Step → Going
 at_step e step = record { entry = e; step = step }
@@ -85,6 +85,17 @@ forgets_less j u fabric.Memory before after f has i t h =
     let same : (j ≡ i) × (u ≡ t) = subst (λ x. HasTicket x i t) f h in
     subst (λ x. HasTicket before x t) same.0 (subst (λ y. HasTicket before j y) same.1 has)
 forgets_less j u answer before after f has i t h = absurd f
+
+one_ticket : (step : Step) (j u i t : ℕ) → HasTicket step j u → HasTicket step i t → (j ≡ i) × (u ≡ t)
+one_ticket (Appending s n) j u i t h k = (sym h.0 ∙ k.0, sym h.1 ∙ k.1)
+one_ticket (Finding s n) j u i t h k = (sym h.0 ∙ k.0, sym h.1 ∙ k.1)
+one_ticket (Dropping c n) j u i t h k = (sym h.0 ∙ k.0, sym h.1 ∙ k.1)
+one_ticket step j u i t h k = absurd h
+
+forgot_all : (before after : Step) (j u i t : ℕ) (new : List Event) → HasTicket before j u → HasTicket before i t → HasTicket after j u ⊎ (((state_of new).cells j).told.ops u ≡ None) → HasTicket after i t ⊎ (((state_of new).cells i).told.ops t ≡ None)
+forgot_all before after j u i t new has mine h =
+    let same = one_ticket before j u i t has mine in
+    subst (λ x. HasTicket after x t ⊎ (((state_of new).cells x).told.ops t ≡ None)) same.0 (subst (λ y. HasTicket after j y ⊎ (((state_of new).cells j).told.ops y ≡ None)) same.1 h)
 
 forgets_calm : (j u : ℕ) (answer : FabricAnswer) (step : Step) → Forgets j u answer step → IsCalm answer
 forgets_calm j u fabric.Gone step f = tt
@@ -144,6 +155,11 @@ due_ticket last (Closing s n) i t h = by (nat_lt s.id last) h
     by true h = h
     by false h = h
 due_ticket last step i t h = h
+
+pub due_keeps : (last : ℕ) (step : Step) (i t : ℕ) → HasTicket step i t → HasTicket (due last step) i t
+due_keeps last (Asking s) i t h = absurd h
+due_keeps last (Closing s n) i t h = absurd h
+due_keeps last step i t h = h
 
 pub due_twice : (last : ℕ) (step : Step) → due last (due last step) ≡ due last step
 due_twice last (Asking s) = by (nat_lt s.id last) refl
@@ -206,6 +222,19 @@ module _ (may : ℕ → Entry → Type 0) (floor : List Entry → ℕ → Type 0
       let own = ((goes_on may floor shelf old others now).cell j).owner u h.begun ∙ h.own in
       record { there = started_within may floor shelf old j h.start legal h.there; asks = λ r is. own }
 
+  -- once it was asked that a ticket be closed, it is closed, or left to be
+  forgot_left : (j u : ℕ) (answer : FabricAnswer) (step : Step) (new : List Event) → IsTurn may floor shelf who old (Forget j u) answer new → Forgets j u answer step → HasTicket step j u ⊎ (((state_of new).cells j).told.ops u ≡ None)
+  forgot_left j u fabric.Gone step new h f =
+      let n = took may floor shelf old h.others _ new h.legal (h.seen ∙ ap (λ es. (old ++ h.others) ++ es) h.event) in
+      let w = state_of (old ++ h.others) in
+      inr (ap (λ (x : State). (x.cells j).told.ops u) n.now ∙ (ap (λ (c : CellState). c.told.ops u) (put_same w.cells j (cell_after who (w.cells j) (Drops u))) ∙ put_same (w.cells j).told.ops u None))
+  forgot_left j u fabric.NoTicket step new h f =
+      let n = took may floor shelf old h.others _ new h.legal (h.seen ∙ ap (λ es. (old ++ h.others) ++ es) h.event) in
+      let w = state_of (old ++ h.others) in
+      inr (ap (λ (x : State). (x.cells j).told.ops u) n.now ∙ (ap (λ (c : CellState). c.told.ops u) (put_same w.cells j (cell_after who (w.cells j) (Misses u))) ∙ n.allowed))
+  forgot_left j u fabric.Memory step new h f = inl (subst (λ (x : Step). HasTicket x j u) (sym f) (refl, refl))
+  forgot_left j u answer step new h f = absurd f
+
   pub forget_answers : (j u : ℕ) (answer : FabricAnswer) (new : List Event) → IsTurn may floor shelf who old (Forget j u) answer new → answer ≢ fabric.Gone → answer ≢ fabric.NoTicket → answer ≢ fabric.Memory → ⊥
   forget_answers j u fabric.Gone new h gone none memory = gone refl
   forget_answers j u fabric.NoTicket new h gone none memory = none refl
@@ -217,16 +246,26 @@ module _ (may : ℕ → Entry → Type 0) (floor : List Entry → ℕ → Type 0
   still_goes call answer new h = goes_later may floor shelf old new k.version k.tail k.chain (turn_later may floor shelf who old call answer new h) goes
 
   made : (call : FabricCall) (answer : FabricAnswer) (new : List Event) (k' : Known) (g g' : Going) (r : Result (Option ℕ) Fault) → IsTurn may floor shelf who old call answer new → HasWord words call → is_seal call ≡ false → GoesBy (state_of new) k'.version k'.chain k'.tail
-      → g'.entry ≡ g.entry → LeavesOthers may who old k.chain g new k'.chain g' → Outcome may who old k g new k' g' r → Went may floor shelf words who old k g new k' g' r
-  made call answer new k' g g' r h has other goes' same others outcome = record {
+      → g'.entry ≡ g.entry → LeavesNone g.step new g'.step → LeavesOthers may who old k.chain g new k'.chain g' → Outcome may who old k g new k' g' r → Went may floor shelf words who old k g new k' g' r
+  made call answer new k' g g' r h has other goes' same left others outcome = record {
     later = turn_later may floor shelf who old call answer new h;
     goes_by = goes';
     says = turn_says may floor shelf who old words call answer new h has;
     unsealed = turn_none may floor shelf who old call answer new h other;
     entry = same;
+    left = left;
     others = others;
     outcome = outcome;
   }
+
+  -- an answer closes its ticket
+  answered_closed : (j u word : ℕ) (a : Answer) (new : List Event) → IsTurn may floor shelf who old (Carry j u word) (fabric.Done a) new → ((state_of new).cells j).told.ops u ≡ None
+  answered_closed j u word a new h =
+      let n = took may floor shelf old h.others _ new h.legal (h.seen ∙ ap (λ es. (old ++ h.others) ++ es) h.event) in
+      let w = state_of (old ++ h.others) in
+      ap (λ (x : State). (x.cells j).told.ops u) n.now
+      ∙ (ap (λ (c : CellState). c.told.ops u) (put_same w.cells j (cell_after who (w.cells j) (Answers u a)))
+      ∙ (ap (λ (o : Option Running). (answered_by (w.cells j).told u a o).ops u) n.allowed.1.is_open ∙ put_same (w.cells j).told.ops u None))
 
   one_turn : (call : FabricCall) (answer : FabricAnswer) (new : List Event) (P : FabricCall → FabricAnswer → Type 0) → (h : IsTurn may floor shelf who old call answer new) → h.own ≡ record { who = who; call = call; answer = answer } ∷ [] → P call answer → OneTurn who old P new
   one_turn call answer new P h own is = record {
@@ -272,23 +311,24 @@ module _ (may : ℕ → Entry → Type 0) (floor : List Entry → ℕ → Type 0
     says = says_refl words who old;
     unsealed = seals_refl who old;
     entry = refl;
+    left = λ i u x. inl x;
     others = λ early other x apart. (x, apart);
     outcome = (refl, calm_refl who old, λ early x. x);
   }
 
   pub no_memory : (call : FabricCall) (new : List Event) (g : Going) → IsTurn may floor shelf who old call fabric.Memory new → HasWord words call → is_seal call ≡ false → ((i t : ℕ) → Leaves i t call) → Went may floor shelf words who old k g new k g (Err fault.Memory)
   no_memory call new g h has other leaves =
-      made call fabric.Memory new k g g (Err fault.Memory) h has other (still_goes call fabric.Memory new h) refl
+      made call fabric.Memory new k g g (Err fault.Memory) h has other (still_goes call fabric.Memory new h) refl (λ i u x. inl x)
       (free_others call fabric.Memory new k.chain g g h leaves (omega arith) (λ i t x. x))
       (refl, turn_calm may floor shelf who old call fabric.Memory new h tt, λ early x. turn_going may floor shelf who old call fabric.Memory new h early k.chain k.chain g (omega arith) (λ i t _. leaves i t) x)
 
   pub failed : (call : FabricCall) (answer : FabricAnswer) (new : List Event) (g : Going) (f : Fault) → IsTurn may floor shelf who old call answer new → HasWord words call → is_seal call ≡ false → ((i t : ℕ) → Leaves i t call) → Outcome may who old k g new k g (Err f) → Went may floor shelf words who old k g new k g (Err f)
   failed call answer new g f h has other leaves outcome =
-      made call answer new k g g (Err f) h has other (still_goes call answer new h) refl (free_others call answer new k.chain g g h leaves (omega arith) (λ i t x. x)) outcome
+      made call answer new k g g (Err f) h has other (still_goes call answer new h) refl (λ i u x. inl x) (free_others call answer new k.chain g g h leaves (omega arith) (λ i t x. x)) outcome
 
   pub lacked : (j u word n : ℕ) (new : List Event) (g : Going) (r : Running) → IsTurn may floor shelf who old (Carry j u word) (fabric.Done (answers.NoQuorum n)) new → IsOwn ((state_of old).cells j) who u r → HasTicket g.step j u → IsTrue (words word) → Went may floor shelf words who old k g new k g (Err (fault.NoQuorum j n))
   lacked j u word n new g r h own has word_ok =
-      made (Carry j u word) (fabric.Done (answers.NoQuorum n)) new k g g (Err (fault.NoQuorum j n)) h word_ok refl (still_goes _ _ new h) refl
+      made (Carry j u word) (fabric.Done (answers.NoQuorum n)) new k g g (Err (fault.NoQuorum j n)) h word_ok refl (still_goes _ _ new h) refl (λ i u x. inl x)
       (carry_others j u word _ new g g h has (λ i t x. x))
       (refl, lack_cause who j u n old new (done_ok may floor shelf who old new j u word r (answers.NoQuorum n) legal h own).event)
 
@@ -317,7 +357,7 @@ module _ (may : ℕ → Entry → Type 0) (floor : List Entry → ℕ → Type 0
   pub began : (s : Segment) (t : ℕ) (x e : Entry) (new : List Event) → s ≡ last_segment k.chain → x ≡ e → IsTurn may floor shelf who old (Begin s.id (Append x)) (fabric.Begun t) new → Went may floor shelf words who old k (at_step e Starting) new k (at_step e (Appending s t)) (Ok None)
   began s t x e new is same h =
       let o = begin_ok may floor shelf who old new s.id (Append x) t h in
-      made (Begin s.id (Append x)) (fabric.Begun t) new k (at_step e Starting) (at_step e (Appending s t)) (Ok None) h tt refl (still_goes _ _ new h) refl
+      made (Begin s.id (Append x)) (fabric.Begun t) new k (at_step e Starting) (at_step e (Appending s t)) (Ok None) h tt refl (still_goes _ _ new h) refl (λ i u x. absurd x)
       (λ early other y apart. begin_others s.id t (Append x) new h early other y) (
         refl,
         turn_calm may floor shelf who old _ _ new h tt,
@@ -352,7 +392,7 @@ module _ (may : ℕ → Entry → Type 0) (floor : List Entry → ℕ → Type 0
   append_going s t word e new h word_ok =
       let g = at_step e (Appending s t) in
       let more = h.others ++ h.own in
-      made (Carry s.id t word) fabric.Going new k g g (Ok None) h word_ok refl (still_goes _ _ new h) refl
+      made (Carry s.id t word) fabric.Going new k g g (Ok None) h word_ok refl (still_goes _ _ new h) refl (λ i u x. inl x)
       (carry_others s.id t word _ new g g h (refl, refl) (λ i u x. x)) (
         refl,
         turn_calm may floor shelf who old _ _ new h tt,
@@ -375,7 +415,7 @@ module _ (may : ℕ → Entry → Type 0) (floor : List Entry → ℕ → Type 0
   pub append_sealed : (s : Segment) (t word : ℕ) (e : Entry) (new : List Event) → IsTurn may floor shelf who old (Carry s.id t word) (fabric.Done answers.Sealed) new → IsTrue (words word) → Went may floor shelf words who old k (at_step e (Appending s t)) new k (at_step e (Reading s)) (Ok None)
   append_sealed s t word e new h word_ok =
       let g = at_step e (Appending s t) in
-      made (Carry s.id t word) (fabric.Done answers.Sealed) new k g (at_step e (Reading s)) (Ok None) h word_ok refl (still_goes _ _ new h) refl
+      made (Carry s.id t word) (fabric.Done answers.Sealed) new k g (at_step e (Reading s)) (Ok None) h word_ok refl (still_goes _ _ new h) refl (λ i u x. inr (subst (λ j. ((state_of new).cells j).told.ops u ≡ None) x.0 (subst (λ n. ((state_of new).cells s.id).told.ops n ≡ None) x.1 (answered_closed s.id t word answers.Sealed new h))))
       (carry_others s.id t word _ new g (at_step e (Reading s)) h (refl, refl) (λ i u x. absurd x)) (
         refl,
         turn_calm may floor shelf who old _ _ new h tt,
@@ -448,7 +488,7 @@ module _ (may : ℕ → Entry → Type 0) (floor : List Entry → ℕ → Type 0
       let z = placing s t word p e early new h x in
       let still = still_goes _ _ new h in
       made (Carry s.id t word) (fabric.Done (answers.Placed p)) new (record { version = k.version; chain = k.chain; tail = n }) g g (Ok (Some (s.start + p))) h word_ok refl
-      (record { given = still.given; reached = omega (arith, still.reached, z.goes_by.reached, max_is) }) refl
+      (record { given = still.given; reached = omega (arith, still.reached, z.goes_by.reached, max_is) }) refl (λ i u x. inl x)
       (carry_others s.id t word _ new g g h (refl, refl) (λ i u y. y)) (
         max_is,
         turn_calm may floor shelf who old _ _ new h tt,
@@ -472,6 +512,7 @@ module _ (may : ℕ → Entry → Type 0) (floor : List Entry → ℕ → Type 0
         says = says_then words who who old mid new refl (turn_says may floor shelf who old words _ _ mid h word_ok) (turn_says may floor shelf who mid words _ _ new h' tt);
         unsealed = seals_trans who old mid new (turn_none may floor shelf who old _ _ mid h refl) (turn_none may floor shelf who mid _ _ new h' refl);
         entry = refl;
+        left = λ i t mine. forgot_all g.step step j u i t new has mine (forgot_left may floor shelf who mid h.legal j u answer step new h' f);
         others = λ early other x apart.
             let y = turn_going may floor shelf who old _ _ mid h early k.chain k.chain other (omega arith) (λ i t theirs. named g other j u has apart i t theirs) x in (
               turn_going may floor shelf who mid _ _ new h' early k.chain k.chain other (omega arith) (λ i t theirs. named g other j u has apart i t theirs) y,
@@ -495,7 +536,7 @@ module _ (may : ℕ → Entry → Type 0) (floor : List Entry → ℕ → Type 0
   pub undropped : (j u : ℕ) (e : Entry) (answer : FabricAnswer) (step : Step) (new : List Event) → IsTurn may floor shelf who old (Forget j u) answer new → Forgets j u answer step → Went may floor shelf words who old k (at_step e (Dropping j u)) new k (at_step e (Dropping j u)) (Err fault.Memory)
   undropped j u e answer step new h f =
       let g = at_step e (Dropping j u) in
-      made (Forget j u) answer new k g g (Err fault.Memory) h tt refl (still_goes _ _ new h) refl
+      made (Forget j u) answer new k g g (Err fault.Memory) h tt refl (still_goes _ _ new h) refl (λ i u x. inl x)
       (forget_others j u answer new g g h (refl, refl) (λ i t x. x)) (
         refl,
         turn_calm may floor shelf who old _ _ new h (forgets_calm j u answer step f),
@@ -540,8 +581,8 @@ module _ (may : ℕ → Entry → Type 0) (floor : List Entry → ℕ → Type 0
   dropped_outcome j u e answer mid new k' g' (Err (fault.Full i)) h f o = (o.0, cause_since who (fault.Full i) old mid new (h.others ++ h.own) (turn_is may floor shelf who old _ _ mid h) o.1)
   dropped_outcome j u e answer mid new k' g' (Err fault.Meta) h f o = (o.0, cause_since who fault.Meta old mid new (h.others ++ h.own) (turn_is may floor shelf who old _ _ mid h) o.1)
 
-  pub dropped : (j u : ℕ) (e : Entry) (answer : FabricAnswer) (mid new : List Event) (k' : Known) (g' : Going) (r : Result (Option ℕ) Fault) → IsTurn may floor shelf who old (Forget j u) answer mid → Forgets j u answer Starting → Went may floor shelf words who mid k (at_step e Starting) new k' g' r → Went may floor shelf words who old k (at_step e (Dropping j u)) new k' g' r
-  dropped j u e answer mid new k' g' r h f w =
+  pub dropped : (j u : ℕ) (e : Entry) (answer : FabricAnswer) (mid new : List Event) (k' : Known) (g' : Going) (r : Result (Option ℕ) Fault) → IsTurn may floor shelf who old (Forget j u) answer mid → Forgets j u answer Starting → IsDropping who old j u → Went may floor shelf words who mid k (at_step e Starting) new k' g' r → Went may floor shelf words who old k (at_step e (Dropping j u)) new k' g' r
+  dropped j u e answer mid new k' g' r h f drop w =
       let g = at_step e (Dropping j u) in
       record {
         later = later_trans may floor shelf old mid new (turn_later may floor shelf who old _ _ mid h) w.later;
@@ -549,6 +590,13 @@ module _ (may : ℕ → Entry → Type 0) (floor : List Entry → ℕ → Type 0
         says = says_then words who who old mid new refl (turn_says may floor shelf who old words _ _ mid h tt) w.says;
         unsealed = seals_trans who old mid new (turn_none may floor shelf who old _ _ mid h refl) w.unsealed;
         entry = w.entry;
+        left = λ i t mine.
+            let low = (turn_dropping may floor shelf who old _ _ mid h j u drop).begun in
+            let closed : ((state_of new).cells j).told.ops u ≡ None = ⊎_elim
+            (λ (x : HasTicket Starting j u). absurd x)
+            (λ (x : ((state_of mid).cells j).told.ops u ≡ None). closed_later may floor shelf mid new j u w.later low x)
+            (forgot_left may floor shelf who old legal j u answer Starting mid h f) in
+            forgot_all (Dropping j u) g'.step j u i t new (refl, refl) mine (inr closed);
         others = λ early other x apart.
             w.others early other (turn_going may floor shelf who old _ _ mid h early k.chain k.chain other (omega arith) (λ i t theirs. named g other j u (refl, refl) apart i t theirs) x) (λ i t mine theirs. mine);
         outcome = dropped_outcome j u e answer mid new k' g' r h f w.outcome;
@@ -571,7 +619,7 @@ module _ (may : ℕ → Entry → Type 0) (floor : List Entry → ℕ → Type 0
       let g = at_step e (Reading s) in
       let up = looked_up v c new h in
       made ReadChain (fabric.At v c) new (record { version = v; chain = c; tail = k.tail }) g (at_step e (Asking s)) (Ok None) h tt refl
-      (goes_now may floor shelf who k.version k.tail v k.chain c old new legal (turn_later may floor shelf who old _ _ new h) goes (look_ok may floor shelf who old new v c h)) refl
+      (goes_now may floor shelf who k.version k.tail v k.chain c old new legal (turn_later may floor shelf who old _ _ new h) goes (look_ok may floor shelf who old new v c h)) refl (λ i u x. absurd x)
       (free_others ReadChain _ new c g (at_step e (Asking s)) h (λ i t. tt) up (λ i t x. x)) (
         refl,
         turn_calm may floor shelf who old _ _ new h tt,
@@ -585,7 +633,7 @@ module _ (may : ℕ → Entry → Type 0) (floor : List Entry → ℕ → Type 0
   asked s t e new h =
       let o = begin_ok may floor shelf who old new s.id Tail t h in
       let begin_legal = legal_front may floor shelf (old ++ o.first.others) (o.first.event ∷ o.first.rest) (subst (IsLegal may floor shelf) o.first.seen h.legal) in
-      made (Begin s.id Tail) (fabric.Begun t) new k (at_step e (Asking s)) (at_step e (Finding s t)) (Ok None) h tt refl (still_goes _ _ new h) refl
+      made (Begin s.id Tail) (fabric.Begun t) new k (at_step e (Asking s)) (at_step e (Finding s t)) (Ok None) h tt refl (still_goes _ _ new h) refl (λ i u x. absurd x)
       (λ early other y apart. begin_others s.id t Tail new h early other y) (
         refl,
         turn_calm may floor shelf who old _ _ new h tt,
@@ -608,7 +656,7 @@ module _ (may : ℕ → Entry → Type 0) (floor : List Entry → ℕ → Type 0
   pub find_going : (s : Segment) (t word : ℕ) (e : Entry) (new : List Event) → IsTurn may floor shelf who old (Carry s.id t word) fabric.Going new → IsTrue (words word) → Went may floor shelf words who old k (at_step e (Finding s t)) new k (at_step e (Finding s t)) (Ok None)
   find_going s t word e new h word_ok =
       let g = at_step e (Finding s t) in
-      made (Carry s.id t word) fabric.Going new k g g (Ok None) h word_ok refl (still_goes _ _ new h) refl
+      made (Carry s.id t word) fabric.Going new k g g (Ok None) h word_ok refl (still_goes _ _ new h) refl (λ i u x. inl x)
       (carry_others s.id t word _ new g g h (refl, refl) (λ i u x. x)) (
         refl,
         turn_calm may floor shelf who old _ _ new h tt,
@@ -631,7 +679,7 @@ module _ (may : ℕ → Entry → Type 0) (floor : List Entry → ℕ → Type 0
   pub find_ended : (s : Segment) (t word n : ℕ) (e : Entry) (new : List Event) → IsTurn may floor shelf who old (Carry s.id t word) (fabric.Done (answers.SealedTail n)) new → IsTrue (words word) → Went may floor shelf words who old k (at_step e (Finding s t)) new k (at_step e (Closing s n)) (Ok None)
   find_ended s t word n e new h word_ok =
       let g = at_step e (Finding s t) in
-      made (Carry s.id t word) (fabric.Done (answers.SealedTail n)) new k g (at_step e (Closing s n)) (Ok None) h word_ok refl (still_goes _ _ new h) refl
+      made (Carry s.id t word) (fabric.Done (answers.SealedTail n)) new k g (at_step e (Closing s n)) (Ok None) h word_ok refl (still_goes _ _ new h) refl (λ i u x. inr (subst (λ j. ((state_of new).cells j).told.ops u ≡ None) x.0 (subst (λ m. ((state_of new).cells s.id).told.ops m ≡ None) x.1 (answered_closed s.id t word (answers.SealedTail n) new h))))
       (carry_others s.id t word _ new g (at_step e (Closing s n)) h (refl, refl) (λ i u x. absurd x)) (
         refl,
         turn_calm may floor shelf who old _ _ new h tt,
@@ -654,7 +702,7 @@ module _ (may : ℕ → Entry → Type 0) (floor : List Entry → ℕ → Type 0
   pub wrote : (s : Segment) (n m : ℕ) (d : Chain) (e : Entry) (new : List Event) → d ≡ extended k.chain n → IsTurn may floor shelf who old (WriteChain k.version d) (fabric.Written m) new → Went may floor shelf words who old k (at_step e (Closing s n)) new k (at_step e (Reading s)) (Ok None)
   wrote s n m d e new is h =
       let g = at_step e (Closing s n) in
-      made (WriteChain k.version d) (fabric.Written m) new k g (at_step e (Reading s)) (Ok None) h tt refl (still_goes _ _ new h) refl
+      made (WriteChain k.version d) (fabric.Written m) new k g (at_step e (Reading s)) (Ok None) h tt refl (still_goes _ _ new h) refl (λ i u x. absurd x)
       (free_others (WriteChain k.version d) _ new k.chain g (at_step e (Reading s)) h (λ i t. tt) (omega arith) (λ i t x. x)) (
         refl,
         turn_calm may floor shelf who old _ _ new h tt,
@@ -670,7 +718,7 @@ module _ (may : ℕ → Entry → Type 0) (floor : List Entry → ℕ → Type 0
       let g = at_step e (Closing s n) in
       let up = (refused may floor shelf who old k.version k.tail n k.chain legal goes told m d c new is h).last in
       made (WriteChain k.version d) (fabric.Conflict m c) new (record { version = m; chain = c; tail = k.tail }) g g (Ok None) h tt refl
-      (refused_goes may floor shelf who old k.version k.tail n k.chain legal goes told m d c new is h) refl
+      (refused_goes may floor shelf who old k.version k.tail n k.chain legal goes told m d c new is h) refl (λ i u x. absurd x)
       (free_others (WriteChain k.version d) _ new c g g h (λ i t. tt) up (λ i t x. x)) (
         refl,
         turn_calm may floor shelf who old _ _ new h tt,
@@ -700,6 +748,9 @@ module _ (may : ℕ → Entry → Type 0) (who : ℕ) (old : List Event) (k : Kn
   outcome_again (Err (fault.NoQuorum id n)) o = λ is. absurd (cc)
   outcome_again (Err (fault.Full id)) o = λ is. absurd (cc)
   outcome_again (Err fault.Meta) o = λ is. absurd (cc)
+
+  pub due_left : LeavesNone (due_of k g).step new g'.step → LeavesNone g.step new g'.step
+  due_left h = λ i t mine. h i t (due_keeps (last_segment k.chain).id g.step i t mine)
 
   pub due_others : LeavesOthers may who old k.chain (due_of k g) new k'.chain g' → LeavesOthers may who old k.chain g new k'.chain g'
   due_others h = λ early other x apart. h early other x (λ i t mine theirs. apart i t (due_ticket (last_segment k.chain).id g.step i t mine) theirs)

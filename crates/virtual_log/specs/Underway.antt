@@ -1,5 +1,5 @@
 -- Appends that were begun and aren't answered.
-use Rattle.std.specs.Prelude.{◌≡◌, ℕ, ◌+◌, ◌<◌, ◌≤◌, max, Bool, true, if◌then◌else◌, nat_lt, List, [], ◌∷◌, ◌++◌, Option, None, Some, Contains, Result, Ok, Err}
+use Rattle.std.specs.Prelude.{◌≡◌, ◌⊎◌, ℕ, ◌+◌, ◌<◌, ◌≤◌, max, Bool, true, if◌then◌else◌, nat_lt, List, [], ◌∷◌, ◌++◌, Option, None, Some, Contains, Result, Ok, Err}
 use Rattle.delos_types.specs.declared.entry.Entry.{Entry}
 use Rattle.delos_types.specs.Spelling.{IsSpellable}
 use Rattle.delos_types.specs.declared.chain.Segment.{Segment}
@@ -132,6 +132,10 @@ LeavesOthers may who old c g new c' g' =
 abbrev pub StaysGoing : (ℕ → Entry → Type 0) → ℕ → List Event → Chain → Going → List Event → Chain → Going → Type 0
 StaysGoing may who old c g new c' g' = (early : List Event) → IsGoing may who early old c g → IsGoing may who early new c' g'
 
+-- no ticket of the step is left behind: it is the next step's, or it is open no more
+abbrev pub LeavesNone : Step → List Event → Step → Type 0
+LeavesNone before new after = (i t : ℕ) → HasTicket before i t → HasTicket after i t ⊎ (((state_of new).cells i).told.ops t ≡ None)
+
 -- Turns.
 
 -- the one own event since old is such
@@ -216,5 +220,6 @@ pub record Went (may : ℕ → Entry → Type 0) (floor : List Entry → ℕ →
   pub says : SaysOnly words who old new
   pub unsealed : SealsNone who old new
   pub entry : g'.entry ≡ g.entry
+  pub left : LeavesNone g.step new g'.step
   pub others : LeavesOthers may who old k.chain g new k'.chain g'
   pub outcome : Outcome may who old k g new k' g' answer

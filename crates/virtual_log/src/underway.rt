@@ -19,7 +19,7 @@ ghost use Rattle.virtual_log.specs.Sealing.{SealsNone};
 ghost use Rattle.virtual_log.specs.Saying.{SaysOnly};
 ghost use Rattle.virtual_log.specs.Log.{GoesBy};
 ghost use Rattle.virtual_log.specs.Holding.{Holds};
-ghost use Rattle.virtual_log.specs.Underway.{IsGoing, IsDropping, AreApart, LeaveStep, LeavesOthers, StaysGoing, LeavesOpen, OneTurn, Places, Moves, Forgets, Went, due};
+ghost use Rattle.virtual_log.specs.Underway.{IsGoing, IsDropping, AreApart, LeaveStep, LeavesNone, LeavesOthers, StaysGoing, LeavesOpen, OneTurn, Places, Moves, Forgets, Went, due};
 
 use crate::calls::Known;
 use crate::fault::Fault;
@@ -423,6 +423,7 @@ pub fn go_on_with<T: Turns, C: Chooser>(
     ensures unknown { OnErr result (known.new.tail ≡ known.old.tail) }
     ensures going { IfOk result (λ o. IfNone o (StaysGoing T.Law.may (T.who turns.old) (T.seen turns.old) known.old.chain going.old (T.seen turns.new) known.new.chain going.new)) }
     ensures again { IfErr result (λ fault. fault ≡ Memory → StaysGoing T.Law.may (T.who turns.old) (T.seen turns.old) known.old.chain going.old (T.seen turns.new) known.new.chain going.new) }
+    ensures left { LeavesNone going.old.step (T.seen turns.new) going.new.step }
     ensures others { LeavesOthers T.Law.may (T.who turns.old) (T.seen turns.old) known.old.chain going.old (T.seen turns.new) known.new.chain going.new }
     ensures words { SaysOnly (C.may chooser.old) (T.who turns.old) (T.seen turns.old) (T.seen turns.new) }
     ensures same { C.may chooser.new ≡ C.may chooser.old }
@@ -544,6 +545,9 @@ impl<T: Turns, C: Chooser> VirtualLog<T, C> {
         // Undecided or without memory, it can go on, after all that it was begun after.
         ensures going { IfOk result (λ o. IfNone o (StaysGoing T.Law.may self.old.who self.old.seen self.old.chain going.old self.new.seen self.new.chain going.new)) }
         ensures again { IfErr result (λ fault. fault ≡ Memory → StaysGoing T.Law.may self.old.who self.old.seen self.old.chain going.old self.new.seen self.new.chain going.new) }
+
+        // No ticket is left behind: it is the next step's, or it is open no more.
+        ensures left { LeavesNone going.old.step self.new.seen going.new.step }
 
         // Whatever else is underway, under another ticket, stays so.
         ensures others { LeavesOthers T.Law.may self.old.who self.old.seen self.old.chain going.old self.new.seen self.new.chain going.new }

@@ -1,5 +1,4 @@
 use Rattle.std.proofs.Common.{◌++◌, refl, sym, subst, arith}
-use Rattle.legal_journal.specs.declared.events.FabricAnswer.{FabricAnswer}
 use Rattle.legal_journal.specs.declared.events.FabricAnswer.TheVariants as fabric
 use Rattle.loglet_api.specs.declared.call.Answer.{Answer}
 use Rattle.legal_journal.specs.declared.events.FabricCall.TheVariants.{Carry, Forget}
@@ -10,7 +9,7 @@ use Rattle.virtual_log.proofs.OneTurn.{may_carry, done_ok}
 use Rattle.virtual_log.proofs.Appending.{started_within}
 use Rattle.virtual_log.proofs.Answering.{carry_answers, append_answers}
 use Rattle.virtual_log.proofs.Sparing.{turn_dropping}
-use Rattle.virtual_log.proofs.Stepping.{at_step, went_by, went_still, going_by, last_starts, appending_last, dropping_of, append_going, append_sealed, placing, append_placed, find_going, find_ended, find_answers, lacked, gave_up}
+use Rattle.virtual_log.proofs.Stepping.{at_step, went_by, went_still, going_by, last_starts, appending_last, dropping_of, append_going, append_sealed, placing, append_placed, lacked, gave_up}
 use Rattle.virtual_log.proofs.underway.carry_append.Goals as goal
 
 pub turn-requires-clause-may : goal.turn-requires-clause-may

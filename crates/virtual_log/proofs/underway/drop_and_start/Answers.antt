@@ -1,5 +1,4 @@
-use Rattle.std.proofs.Common.{true, refl, sym, subst}
-use Rattle.legal_journal.specs.Turns.{IsTurn}
+use Rattle.std.proofs.Common.{true, sym, subst}
 use Rattle.virtual_log.specs.declared.underway.Step.{Step}
 use Rattle.virtual_log.specs.declared.underway.Step.TheVariants.{Starting, Dropping}
 use Rattle.virtual_log.specs.Underway.{IsGoing, Forgets, Went}
@@ -55,8 +54,9 @@ returns-in-Starting-clause-went g c = λ words.
     let new = t.seen c.start-started.new.turns in
     let f = subst (λ (x : Step). Forgets j u last.0 x) c.in-Starting.is last.1 in
     let w = subst (λ by. Went p.may p.floor p.shelf words by mid k (at_step going.entry Starting) new k c.start-started.new.going c.start-started.result) c.forget.ensures.who (c.start-started.ensures.went words) in
+    let x = going_by going (Dropping j u) c.requires.step c.requires.going.1 in
     went_by going (Dropping j u) c.requires.step
-    (dropped p.may p.floor p.shelf words who old k c.requires.legal c.requires.goes_by j u going.entry last.0 mid new k c.start-started.new.going c.start-started.result last.2 f w)
+    (dropped p.may p.floor p.shelf words who old k c.requires.legal c.requires.goes_by j u going.entry last.0 mid new k c.start-started.new.going c.start-started.result last.2 f x.at w)
 
 pub returns-in_default-clause-went : goal.returns-in_default-clause-went
 returns-in_default-clause-went g c = λ words.

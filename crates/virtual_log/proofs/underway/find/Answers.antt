@@ -1,16 +1,15 @@
-use Rattle.std.proofs.Common.{◌++◌, refl, sym, subst, arith}
-use Rattle.legal_journal.specs.declared.events.FabricAnswer.{FabricAnswer}
+use Rattle.std.proofs.Common.{refl, sym, subst}
 use Rattle.legal_journal.specs.declared.events.FabricAnswer.TheVariants as fabric
 use Rattle.loglet_api.specs.declared.call.Answer.{Answer}
 use Rattle.legal_journal.specs.declared.events.FabricCall.TheVariants.{Carry, Forget}
 use Rattle.legal_journal.specs.Turns.{IsTurn}
 use Rattle.virtual_log.specs.Underway.{IsDropping}
 use Rattle.virtual_log.specs.declared.underway.Step.TheVariants.{Finding}
-use Rattle.virtual_log.proofs.OneTurn.{may_carry, done_ok}
+use Rattle.virtual_log.proofs.OneTurn.{may_carry}
 use Rattle.virtual_log.proofs.Appending.{started_within}
-use Rattle.virtual_log.proofs.Answering.{carry_answers, append_answers}
+use Rattle.virtual_log.proofs.Answering.{carry_answers}
 use Rattle.virtual_log.proofs.Sparing.{turn_dropping}
-use Rattle.virtual_log.proofs.Stepping.{at_step, went_by, went_still, going_by, last_starts, appending_last, dropping_of, append_going, append_sealed, placing, append_placed, find_going, find_ended, find_answers, lacked, gave_up}
+use Rattle.virtual_log.proofs.Stepping.{at_step, went_by, went_still, going_by, last_starts, dropping_of, find_going, find_ended, find_answers, lacked, gave_up}
 use Rattle.virtual_log.proofs.underway.find.Goals as goal
 
 pub turn-requires-clause-may : goal.turn-requires-clause-may

@@ -1,6 +1,6 @@
 use Rattle.std.proofs.Common.{sym, subst}
 use Rattle.virtual_log.specs.Underway.{IsGoing, Went}
-use Rattle.virtual_log.proofs.Stepping.{at_step, due_going, outcome_above, outcome_going, outcome_again, due_others}
+use Rattle.virtual_log.proofs.Stepping.{at_step, due_going, outcome_above, outcome_going, outcome_again, due_left, due_others}
 use Rattle.virtual_log.proofs.underway.go_on_with.Goals as goal
 
 pub advance-made-requires-clause-going : goal.advance-made-requires-clause-going
@@ -49,6 +49,18 @@ returns-clause-again g c =
     let m = c.advance-made in
     let w = subst (λ x. Went p.may p.floor p.shelf (g.C.Chooser.may c.args.chooser.now) who old k (at_step going.entry x) (t.seen m.new.turns) m.new.known m.new.going m.result) c.due-going.ensures m.ensures.went in
     outcome_again p.may who old k going (t.seen m.new.turns) m.new.known m.new.going m.result w.outcome
+
+pub returns-clause-left : goal.returns-clause-left
+returns-clause-left g c =
+    let p = g.T.Law.Rules in
+    let t = g.T.Turns in
+    let who = t.who c.args.turns.now in
+    let old = t.seen c.args.turns.now in
+    let k = c.args.known.now in
+    let going = c.args.going.now in
+    let m = c.advance-made in
+    let w = subst (λ x. Went p.may p.floor p.shelf (g.C.Chooser.may c.args.chooser.now) who old k (at_step going.entry x) (t.seen m.new.turns) m.new.known m.new.going m.result) c.due-going.ensures m.ensures.went in
+    due_left p.may who old k going (t.seen m.new.turns) m.new.known m.new.going w.left
 
 pub returns-clause-others : goal.returns-clause-others
 returns-clause-others g c =
