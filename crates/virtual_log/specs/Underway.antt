@@ -67,7 +67,7 @@ pub record IsDropping (who : ℕ) (seen : List Event) (i t : ℕ) : Type 0 where
   pub begun : t < ((state_of seen).cells i).told.begun
   pub own : ((state_of seen).cells i).owner t ≡ who
 
--- what each step rests on; no append since front was begun before front
+-- what each step rests on; where the append is begun, it was so no earlier than front
 abbrev pub IsAt : ℕ → List Event → List Event → Entry → Step → Type 0
 IsAt who front seen e Starting = Unit {0}
 IsAt who front seen e (Appending s t) = IsAppending who front seen e s t
@@ -77,7 +77,7 @@ IsAt who front seen e (Finding s t) = IsFinding who seen s t
 IsAt who front seen e (Closing s n) = IsShut seen s × Contains ((state_of seen).cells s.id).ends n
 IsAt who front seen e (Dropping i t) = IsDropping who seen i t
 
--- the loglet that the step is about isn't behind the last one of the known chain
+-- the loglet that the step is about is no later than the last one of the known chain
 abbrev pub IsKnown : ℕ → Step → Type 0
 IsKnown last (Appending s t) = s.id ≤ last
 IsKnown last (Reading s) = s.id ≤ last

@@ -35,6 +35,7 @@ use legal_journal::rules::Rules;
 use legal_journal::turns::Turns;
 use loglet_api::call::{Answer, Op};
 use std::alloc::Global;
+use std::mem;
 
 /// What an append that is underway does next.
 #[derive(Drop)]
@@ -63,46 +64,24 @@ pub struct Going {
 }
 
 /// The step that is due, by the chain as it is known now.
-fn due(known: &Known, step: &Step) -> Step
-    ensures { result ≡ due (last_segment known.now.chain).id step.now }
+fn due(known: &Known, step: Step) -> Step
+    ensures { result ≡ due (last_segment known.now.chain).id step }
 {
     let id = last_of(&known.chain).id;
     match step {
-        Step::Starting => return Step::Starting,
-        Step::Appending { segment, ticket } => {
-            return Step::Appending {
-                segment: *segment,
-                ticket: *ticket,
-            };
-        }
-        Step::Reading { segment } => return Step::Reading { segment: *segment },
         Step::Asking { segment } => {
             if segment.id < id {
                 return Step::Starting;
             }
-            return Step::Asking { segment: *segment };
-        }
-        Step::Finding { segment, ticket } => {
-            return Step::Finding {
-                segment: *segment,
-                ticket: *ticket,
-            };
+            return Step::Asking { segment };
         }
         Step::Closing { segment, length } => {
             if segment.id < id {
                 return Step::Starting;
             }
-            return Step::Closing {
-                segment: *segment,
-                length: *length,
-            };
+            return Step::Closing { segment, length };
         }
-        Step::Dropping { cell, ticket } => {
-            return Step::Dropping {
-                cell: *cell,
-                ticket: *ticket,
-            };
-        }
+        step => return step,
     }
 }
 
@@ -432,7 +411,8 @@ pub fn go_on_with<T: Turns, C: Chooser>(
     ensures calm { OnOk result (CalmSince (T.who turns.old) (T.seen turns.old) (T.seen turns.new)) }
     ensures memory { IfErr result (λ fault. fault ≡ Memory → CalmSince (T.who turns.old) (T.seen turns.old) (T.seen turns.new)) }
 {
-    going.step = due(known, &going.step);
+    let step = mem::replace(&mut going.step, Step::Starting);
+    going.step = due(known, step);
     let made = advance(turns, chooser, alloc, known, going);
     made
 }

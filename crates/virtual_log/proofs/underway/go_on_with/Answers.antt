@@ -1,5 +1,6 @@
-use Rattle.std.proofs.Common.{sym, subst}
-use Rattle.virtual_log.specs.Underway.{IsGoing, Went}
+use Rattle.std.proofs.Common.{◌∙◌, sym, ap, subst}
+use Rattle.chain_map.specs.Chain.{last_segment}
+use Rattle.virtual_log.specs.Underway.{IsGoing, Went, due}
 use Rattle.virtual_log.proofs.Stepping.{at_step, due_going, outcome_above, outcome_going, outcome_again, due_left, due_others}
 use Rattle.virtual_log.proofs.underway.go_on_with.Goals as goal
 
@@ -11,8 +12,9 @@ advance-made-requires-clause-going g c =
     let old = t.seen c.args.turns.now in
     let k = c.args.known.now in
     let going = c.args.going.now in
+    let is = c.due-going.ensures ∙ ap (due (last_segment k.chain).id) c.replace-step.ensures.value in
     let x = c.requires.going in
-    (x.0, subst (λ s. IsGoing p.may who x.0 old k.chain (at_step going.entry s)) (sym c.due-going.ensures) (due_going p.may who x.0 old k.chain going x.1))
+    (x.0, subst (λ s. IsGoing p.may who x.0 old k.chain (at_step going.entry s)) (sym is) (due_going p.may who x.0 old k.chain going x.1))
 
 pub returns-clause-above : goal.returns-clause-above
 returns-clause-above g c =
@@ -23,7 +25,8 @@ returns-clause-above g c =
     let k = c.args.known.now in
     let going = c.args.going.now in
     let m = c.advance-made in
-    let w = subst (λ x. Went p.may p.floor p.shelf (g.C.Chooser.may c.args.chooser.now) who old k (at_step going.entry x) (t.seen m.new.turns) m.new.known m.new.going m.result) c.due-going.ensures m.ensures.went in
+    let is = c.due-going.ensures ∙ ap (due (last_segment k.chain).id) c.replace-step.ensures.value in
+    let w = subst (λ x. Went p.may p.floor p.shelf (g.C.Chooser.may c.args.chooser.now) who old k (at_step going.entry x) (t.seen m.new.turns) m.new.known m.new.going m.result) is m.ensures.went in
     outcome_above p.may who old k going (t.seen m.new.turns) m.new.known m.new.going m.result w.outcome
 
 pub returns-clause-going : goal.returns-clause-going
@@ -35,7 +38,8 @@ returns-clause-going g c =
     let k = c.args.known.now in
     let going = c.args.going.now in
     let m = c.advance-made in
-    let w = subst (λ x. Went p.may p.floor p.shelf (g.C.Chooser.may c.args.chooser.now) who old k (at_step going.entry x) (t.seen m.new.turns) m.new.known m.new.going m.result) c.due-going.ensures m.ensures.went in
+    let is = c.due-going.ensures ∙ ap (due (last_segment k.chain).id) c.replace-step.ensures.value in
+    let w = subst (λ x. Went p.may p.floor p.shelf (g.C.Chooser.may c.args.chooser.now) who old k (at_step going.entry x) (t.seen m.new.turns) m.new.known m.new.going m.result) is m.ensures.went in
     outcome_going p.may who old k going (t.seen m.new.turns) m.new.known m.new.going m.result w.outcome
 
 pub returns-clause-again : goal.returns-clause-again
@@ -47,7 +51,8 @@ returns-clause-again g c =
     let k = c.args.known.now in
     let going = c.args.going.now in
     let m = c.advance-made in
-    let w = subst (λ x. Went p.may p.floor p.shelf (g.C.Chooser.may c.args.chooser.now) who old k (at_step going.entry x) (t.seen m.new.turns) m.new.known m.new.going m.result) c.due-going.ensures m.ensures.went in
+    let is = c.due-going.ensures ∙ ap (due (last_segment k.chain).id) c.replace-step.ensures.value in
+    let w = subst (λ x. Went p.may p.floor p.shelf (g.C.Chooser.may c.args.chooser.now) who old k (at_step going.entry x) (t.seen m.new.turns) m.new.known m.new.going m.result) is m.ensures.went in
     outcome_again p.may who old k going (t.seen m.new.turns) m.new.known m.new.going m.result w.outcome
 
 pub returns-clause-left : goal.returns-clause-left
@@ -59,7 +64,8 @@ returns-clause-left g c =
     let k = c.args.known.now in
     let going = c.args.going.now in
     let m = c.advance-made in
-    let w = subst (λ x. Went p.may p.floor p.shelf (g.C.Chooser.may c.args.chooser.now) who old k (at_step going.entry x) (t.seen m.new.turns) m.new.known m.new.going m.result) c.due-going.ensures m.ensures.went in
+    let is = c.due-going.ensures ∙ ap (due (last_segment k.chain).id) c.replace-step.ensures.value in
+    let w = subst (λ x. Went p.may p.floor p.shelf (g.C.Chooser.may c.args.chooser.now) who old k (at_step going.entry x) (t.seen m.new.turns) m.new.known m.new.going m.result) is m.ensures.went in
     due_left p.may who old k going (t.seen m.new.turns) m.new.known m.new.going w.left
 
 pub returns-clause-others : goal.returns-clause-others
@@ -71,5 +77,6 @@ returns-clause-others g c =
     let k = c.args.known.now in
     let going = c.args.going.now in
     let m = c.advance-made in
-    let w = subst (λ x. Went p.may p.floor p.shelf (g.C.Chooser.may c.args.chooser.now) who old k (at_step going.entry x) (t.seen m.new.turns) m.new.known m.new.going m.result) c.due-going.ensures m.ensures.went in
+    let is = c.due-going.ensures ∙ ap (due (last_segment k.chain).id) c.replace-step.ensures.value in
+    let w = subst (λ x. Went p.may p.floor p.shelf (g.C.Chooser.may c.args.chooser.now) who old k (at_step going.entry x) (t.seen m.new.turns) m.new.known m.new.going m.result) is m.ensures.went in
     due_others p.may who old k going (t.seen m.new.turns) m.new.known m.new.going w.others
