@@ -11,7 +11,7 @@ use Rattle.node_sessions.specs.declared.desk.Desk.{Desk}
 
 -- a log that knows nothing but the first chain, over so many loglets
 abbrev pub IsFreshLog : ℕ → log.RestedView → Type 0
-IsFreshLog cells l = l ≡ record { known = 0; version = 1; chain = first_chain; shelf_len = cells }
+IsFreshLog cells l = (l.known ≡ 0) × (l.version ≡ 1) × (l.chain ≡ first_chain) × (l.shelf_len ≡ cells)
 
 -- a session's desk at which nothing was asked
 pub record IsFreshDesk (s : ℕ) (d : Desk) : Type 0 where
