@@ -9,3 +9,4 @@ pub mod Next
 pub mod Holding
 pub mod Extending
 pub mod Truncating
+pub mod Changing
