@@ -10,8 +10,11 @@ use Rattle.one_thread.specs.Seats.{SeatView, SeatOk}
 use Rattle.node_sessions.specs.declared.desk.Desk.{Desk}
 
 -- a log that knows nothing but the first chain, over so many loglets
-abbrev pub IsFreshLog : ℕ → log.RestedView → Type 0
-IsFreshLog cells l = l ≡ record { known = 0; version = 1; chain = first_chain; shelf_len = cells }
+pub record IsFreshLog (cells : ℕ) (l : log.RestedView) : Type 0 where
+  pub none_known : l.known ≡ 0
+  pub version_is : l.version ≡ 1
+  pub chain_is : l.chain ≡ first_chain
+  pub shelf_is : l.shelf_len ≡ cells
 
 -- a session's desk at which nothing was asked
 pub record IsFreshDesk (s : ℕ) (d : Desk) : Type 0 where

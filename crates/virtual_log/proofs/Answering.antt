@@ -1,5 +1,5 @@
 -- Which answers never come.
-use Rattle.std.proofs.Common.{◌≡◌, ◌≢◌, ℕ, ◌+◌, ◌<◌, ◌≤◌, List, [], ◌∷◌, ◌++◌, length, Some, None, refl, sym, ap, ◌∙◌, subst, ⊎_elim, arith}
+use Rattle.std.proofs.Common.{◌≡◌, ◌≢◌, ℕ, ◌+◌, ◌<◌, List, [], ◌∷◌, ◌++◌, length, Some, None, refl, sym, ap, ◌∙◌, subst, ⊎_elim, arith}
 use Rattle.std.specs.Prelude.{Contains}
 use Rattle.delos_types.specs.declared.entry.Entry.{Entry}
 use Rattle.delos_types.specs.declared.chain.Chain.{Chain}
@@ -14,8 +14,8 @@ use Rattle.legal_journal.specs.declared.events.FabricCall.{FabricCall}
 use Rattle.legal_journal.specs.declared.events.FabricAnswer.{FabricAnswer}
 use Rattle.legal_journal.specs.declared.events.FabricCall.TheVariants.{Begin, Carry, ReadChain, WriteChain}
 use Rattle.legal_journal.specs.declared.events.FabricAnswer.TheVariants.{Begun, Full, Done, Going, NoTicket, At, Down, Written, Conflict, MetaFault, Memory}
-use Rattle.legal_journal.specs.Moves.{Move, Never, move_of}
-use Rattle.legal_journal.specs.Journal.{State, state_of, start, ends, IsOwn, IsAllowed, IsLegal}
+use Rattle.legal_journal.specs.Moves.{Never, move_of}
+use Rattle.legal_journal.specs.Journal.{state_of, ends, IsOwn, IsAllowed, IsLegal}
 use Rattle.legal_journal.specs.Turns.{IsTurn}
 use Rattle.legal_journal.proofs.Log.{closed_or_last}
 use Rattle.legal_journal.proofs.Taken.{took}

@@ -1,5 +1,5 @@
 -- The writes that close the last segment of a chain.
-use Rattle.std.proofs.Common.{◌≡◌, ℕ, ◌+◌, ◌<◌, ◌≤◌, max, List, [], ◌∷◌, ◌++◌, length, Some, refl, sym, ap, ◌∙◌, subst, arith}
+use Rattle.std.proofs.Common.{◌≡◌, ℕ, ◌+◌, ◌<◌, ◌^◌, max, List, [], ◌∷◌, ◌++◌, length, Some, refl, sym, ap, ◌∙◌, subst, arith}
 use Rattle.std.specs.Prelude.{Contains}
 use Rattle.delos_types.specs.declared.entry.Entry.{Entry}
 use Rattle.delos_types.specs.declared.chain.Segment.{Segment}
@@ -10,19 +10,20 @@ use Rattle.legal_journal.specs.declared.events.Event.{Event}
 use Rattle.legal_journal.specs.declared.events.FabricCall.TheVariants.{ReadChain, WriteChain}
 use Rattle.legal_journal.specs.declared.events.FabricAnswer.TheVariants.{At, Written, Conflict}
 use Rattle.legal_journal.specs.Journal.{State, state_of, IsLegal, ends}
-use Rattle.legal_journal.specs.Turns.{IsTurn, MayTurn}
 use Rattle.legal_journal.proofs.Log.{next, last_open, last_of_segments-extended_segments}
 use Rattle.legal_journal.proofs.Sound.{StateOk}
 use Rattle.legal_journal.proofs.Legal.{sound}
 use Rattle.virtual_log.specs.Log.{GoesBy}
+use Rattle.virtual_log.specs.declared.write.Change.TheVariants.{Close}
+use Rattle.virtual_log.specs.Changing.{IsMade}
 use Rattle.virtual_log.specs.declared.extend.Extension.{Extension}
 use Rattle.virtual_log.specs.declared.extend.Extension.TheVariants.{Extended, Moved, NoSpare}
 use Rattle.virtual_log.specs.Extending.{IsWritten, IsRefused, Closes, IsClosed, Follows}
 use Rattle.virtual_log.specs.Writing.{WroteNone}
-use Rattle.virtual_log.proofs.OneTurn.{turn_later, event_since}
+use Rattle.virtual_log.proofs.OneTurn.{event_since}
 use Rattle.virtual_log.proofs.Writing.{wrote_trans, another_wrote, refusal_tells}
-use Rattle.virtual_log.proofs.Replacing.{Fits, fits, last_started, may_write, written_given, Conflicted, conflict_ok}
-use Rattle.virtual_log.proofs.Going.{goes_later, goes_onto, goes_behind, goes_further}
+use Rattle.virtual_log.proofs.Replacing.{fits, last_started}
+use Rattle.virtual_log.proofs.Going.{goes_further}
 
 segment_is : (a b : Segment) → a.id ≡ b.id → a.start ≡ b.start → a.end ≡ b.end → a ≡ b
 segment_is a b i s e =
@@ -38,66 +39,27 @@ same_last cells w v n c d ok given given' same =
     let start_is : (last_segment d).start ≡ (last_segment c).start = cc in
     segment_is (last_segment d) (last_segment c) (sym same) start_is (last_open (ends w.cells) h.id h.from d.segments h.joined ∙ sym (last_open (ends w.cells) g.id g.from c.segments g.joined))
 
-module _ (may : ℕ → Entry → Type 0) (floor : List Entry → ℕ → Type 0) (shelf : List ℕ) (who : ℕ) (old : List Event) (v k t : ℕ) (c : Chain) (legal : IsLegal may floor shelf old) (goes : GoesBy (state_of old) v c k) (told : Contains ((state_of old).cells (last_segment c).id).ends t) where
-  pub fits_now : Fits (length shelf) c t
-  fits_now = fits (length shelf) (state_of old) v t c (sound may floor shelf old legal) goes.given told
+module _ (may : ℕ → Entry → Type 0) (floor : List Entry → ℕ → Type 0) (shelf : List ℕ) where
+  -- where a sealed tail was answered the chain goes on
+  pub seam : (es : List Event) (v k t : ℕ) (c : Chain) → IsLegal may floor shelf es → GoesBy (state_of es) v c k → Contains ((state_of es).cells (last_segment c).id).ends t → (last_segment c).start + t < 2 ^ 64
+  seam es v k t c legal goes told = (fits (length shelf) (state_of es) v t c (sound may floor shelf es legal) goes.given told).seam
 
-  pub may_close : (d : Chain) → d ≡ extended c t → MayTurn may floor shelf who old (WriteChain v d)
-  may_close d is = may_write may floor shelf who old v t c d goes.given told is legal
+  -- more is known where the last segment was closed
+  pub closed_goes : (who : ℕ) (old new : List Event) (last : Segment) (t n k k' start : ℕ) (c : Chain) → IsLegal may floor shelf new → IsMade who old (Close last t) n c new → GoesBy (state_of new) n c k → start ≡ last.start + t → k' ≡ max k start → GoesBy (state_of new) n c k'
+  closed_goes who old new last t n k k' start c legal m goes start_is max_is =
+      let g = (sound may floor shelf new legal).olds m.expected m.before m.given in
+      let last_is : last_segment c ≡ next (last_segment m.before) t = ap (λ (x : Chain). last_of_segments x.segments) m.chain_is ∙ last_of_segments-extended_segments (ends (state_of new).cells) g.id g.from m.before.segments t g.joined in
+      goes_further may floor shelf new n k start k' c (last_segment c) goes refl (omega (arith, start_is, ap (λ (s : Segment). s.start) last_is, ap (λ (s : Segment). s.start) m.lacks)) max_is
 
-  -- the written chain may be gone by, and more is known
-  pub record Closed (n start k' : ℕ) (d : Chain) (new : List Event) : Type 0 where
-    pub goes_by : GoesBy (state_of new) n d k'
-    pub written : IsWritten who old (last_segment c) n start new
-
-  pub closed_ok : (n start k' : ℕ) (d e : Chain) (new : List Event) → d ≡ extended c t → e ≡ d → start ≡ (last_segment c).start + t → k' ≡ max k start → IsTurn may floor shelf who old (WriteChain v d) (Written n) new → Closed n start k' e new
-  closed_ok n start k' d e new is copy start_is max_is h =
-      let later = turn_later may floor shelf who old (WriteChain v d) (Written n) new h in
-      let given : (state_of new).register.given n ≡ Some e = written_given may floor shelf who old v c d goes.given n new h ∙ ap (λ (x : Chain). Some x) (sym copy) in
-      let w = state_of old in
-      let ok = sound may floor shelf old legal in
-      let g = ok.olds v c goes.given in
-      let last_is : last_segment e ≡ next (last_segment c) t =
-      ap (λ (x : Chain). last_of_segments x.segments) (copy ∙ is) ∙ last_of_segments-extended_segments (ends w.cells) g.id g.from c.segments t g.joined in
-      let up : (last_segment c).id < (last_segment e).id = omega (arith, ap (λ (s : Segment). s.id) last_is) in
-      let behind = goes_behind may floor shelf old new v k n c e (last_segment c) legal later goes refl given up in
-      let low : start ≤ (last_segment e).start + ((state_of new).cells (last_segment e).id).told.reach = omega (arith, start_is, ap (λ (s : Segment). s.start) last_is) in
-      record {
-        goes_by = goes_further may floor shelf new n k start k' e (last_segment e) behind refl low max_is;
-        written = record {
-          expected = v;
-          before = c;
-          at = t;
-          event = record { event = record { who = who; call = WriteChain v d; answer = Written n }; is = ap (λ (x : Chain). record { who = who; call = WriteChain v x; answer = Written n }) is; before = h.others; after = []; seen = h.seen ∙ ap (λ es. (old ++ h.others) ++ es) h.event };
-          last_is = refl;
-          start_is = start_is;
-        };
-      }
-
-  pub refused : (n : ℕ) (d e : Chain) (new : List Event) → d ≡ extended c t → IsTurn may floor shelf who old (WriteChain v d) (Conflict n e) new → Conflicted v t c n e new
-  refused n d e new is h = conflict_ok may floor shelf who old v t c d goes.given told is n e new h
-
-  pub refused_goes : (n : ℕ) (d e : Chain) (new : List Event) → d ≡ extended c t → IsTurn may floor shelf who old (WriteChain v d) (Conflict n e) new → GoesBy (state_of new) n e k
-  refused_goes n d e new is h =
-      let x = refused n d e new is h in
-      goes_onto may floor shelf v k n c e old new legal (turn_later may floor shelf who old (WriteChain v d) (Conflict n e) new h) goes x.given x.last
-
-  -- the same loglet is still the last
-  pub refused_same : (n : ℕ) (d e : Chain) (new : List Event) → d ≡ extended c t → IsTurn may floor shelf who old (WriteChain v d) (Conflict n e) new → (last_segment e).id ≤ (last_segment c).id → last_segment e ≡ last_segment c
-  refused_same n d e new is h low =
-      let x = refused n d e new is h in
-      let later = turn_later may floor shelf who old (WriteChain v d) (Conflict n e) new h in
-      let on = goes_later may floor shelf old new v k c later goes in
-      same_last (length shelf) (state_of new) v n c e (sound may floor shelf new h.legal) on.given x.given (omega (arith, x.last))
-
-  pub refusal_ok : (n : ℕ) (d e : Chain) (new : List Event) → IsTurn may floor shelf who old (WriteChain v d) (Conflict n e) new → (last_segment c).id < (last_segment e).id → IsRefused who old (last_segment c) n new
-  refusal_ok n d e new h up = record {
-    expected = v;
-    asked = d;
-    chain = e;
-    event = record { event = record { who = who; call = WriteChain v d; answer = Conflict n e }; is = refl; before = h.others; after = []; seen = h.seen ∙ ap (λ es. (old ++ h.others) ++ es) h.event };
-    behind = up;
-  }
+pub closed_so : (who : ℕ) (old new : List Event) (last s : Segment) (t n : ℕ) (c : Chain) → last ≡ s → IsMade who old (Close last t) n c new → IsWritten who old s n (last.start + t) new
+closed_so who old new last s t n c is m = record {
+  expected = m.expected;
+  before = m.before;
+  at = t;
+  event = m.event;
+  last_is = m.lacks ∙ is;
+  start_is = ap (λ (x : Segment). x.start + t) is;
+}
 
 -- what was written or refused since a later moment was since an earlier one
 pub written_since : (who : ℕ) (a b : List Event) (s z : Segment) (n start : ℕ) (new more : List Event) → b ≡ a ++ more → s ≡ z → IsWritten who b s n start new → IsWritten who a z n start new

@@ -8,6 +8,7 @@ pub mod Lasts
 pub mod Going
 pub mod Closing
 pub mod Raising
+pub mod Changing
 pub mod Trimming
 pub mod Reading
 pub mod Holding

@@ -1,25 +1,28 @@
 -- The writes that raise the trim of a chain.
-use Rattle.std.proofs.Common.{◌≡◌, ◌⊎◌, inl, inr, ℕ, zero, suc, ◌+◌, ◌<◌, ◌≤◌, ◌^◌, List, [], ◌∷◌, ◌++◌, length, Some, refl, sym, ap, ◌∙◌, subst, ⊎_elim, arith, append_assoc}
+use Rattle.std.proofs.Common.{◌≡◌, inl, inr, ℕ, zero, suc, ◌<◌, ◌≤◌, ◌^◌, List, [], ◌∷◌, ◌++◌, length, Some, refl, sym, ap, ◌∙◌, subst, ⊎_elim, arith, append_assoc}
 use Rattle.std.specs.Prelude.{slice_get}
 use Rattle.delos_types.specs.declared.entry.Entry.{Entry}
 use Rattle.delos_types.specs.declared.chain.Segment.{Segment}
 use Rattle.delos_types.specs.declared.chain.Chain.{Chain}
-use Rattle.chain_map.specs.Chain.{IsChain, last_of_segments, last_segment}
+use Rattle.chain_map.specs.Chain.{last_of_segments, last_segment}
 use Rattle.chain_map.specs.Step.{dropped_below}
 use Rattle.legal_journal.specs.declared.events.Event.{Event}
 use Rattle.legal_journal.specs.declared.events.FabricCall.TheVariants.{WriteChain, ReadChain}
-use Rattle.legal_journal.specs.declared.events.FabricAnswer.TheVariants.{Written, Conflict, At}
+use Rattle.legal_journal.specs.declared.events.FabricAnswer.TheVariants.{Written, At}
 use Rattle.legal_journal.specs.Journal.{State, state_of, IsLegal, IsFree, ends}
 use Rattle.legal_journal.specs.Laws.{Continues}
 use Rattle.legal_journal.specs.Turns.{IsTurn, MayTurn}
 use Rattle.legal_journal.proofs.Log.{rest_of}
 use Rattle.legal_journal.proofs.Legal.{sound, goes_on}
-use Rattle.legal_journal.proofs.Chains.{chain_ok}
 use Rattle.virtual_log.specs.Turning.{Looked, LooksAt, HasEvent}
 use Rattle.virtual_log.specs.Log.{GoesBy}
+use Rattle.virtual_log.specs.declared.write.Change.TheVariants.{Raise}
+use Rattle.virtual_log.specs.declared.write.Settled.{Settled}
+use Rattle.virtual_log.specs.declared.write.Settled.TheVariants as settled
+use Rattle.virtual_log.specs.Changing.{Has, Settles}
 use Rattle.virtual_log.specs.Truncating.{IsRaised, IsTold, IsHigh, IsTruncated}
 use Rattle.virtual_log.proofs.OneTurn.{nil, turn_later, event_since, event_until}
-use Rattle.virtual_log.proofs.Replacing.{last_started, written_given, lost_ok}
+use Rattle.virtual_log.proofs.Replacing.{last_started, written_given}
 use Rattle.virtual_log.proofs.Going.{goes_onto}
 
 some_at : (xs : List Entry) (i : ℕ) → i < length xs → (x : Entry) × (slice_get xs i ≡ Some x)
@@ -51,11 +54,6 @@ looks_later who c a b e more is h = record {
   seen = is ∙ (ap (λ l. l ++ more) h.seen ∙ append_assoc h.looked h.rest more);
 }
 
--- where the chain that is known has a lower trim, so has the one that was looked at
-pub low_looked : (n : ℕ) (looked known : Chain) → (looked.trim < n) ⊎ (looked ≡ known) → known.trim < n → looked.trim < n
-low_looked n looked known (inl low) below = low
-low_looked n looked known (inr same) below = subst (λ (c : Chain). c.trim < n) (sym same) below
-
 -- what was told by the own event of a read
 pub looked_told : (who v : ℕ) (c : Chain) (a b : List Event) → Looked who a v c b → HasEvent a (IsTold who v c) b
 looked_told who v c a b l = record {
@@ -75,9 +73,6 @@ module _ (may : ℕ → Entry → Type 0) (floor : List Entry → ℕ → Type 0
       let cell = ok.cell s.id in
       let at = last_started (length shelf) (state_of old) v c ok goes.given in
       omega (arith, goes.reached, ok.rooms s.id s.start at, ok.ids s.id s.start at, ok.shelf, ok.few, cell.reach, cell.firm, cell.room)
-
-  pub is_one : IsChain c
-  is_one = chain_ok (length shelf) (state_of old) v c (sound may floor shelf old legal) goes.given
 
   pub may_raise : (d : Chain) → d ≡ dropped_below c n → c.trim < n → n ≤ k → IsFree (state_of old).shown floor n → MayTurn may floor shelf who old (WriteChain v d)
   may_raise d is rise low free others apart now =
@@ -102,32 +97,6 @@ module _ (may : ℕ → Entry → Type 0) (floor : List Entry → ℕ → Type 0
       let g = (sound may floor shelf old legal).olds v c goes.given in
       let last : last_segment e ≡ last_segment c = ap (λ (x : Chain). last_of_segments x.segments) (copy ∙ is) ∙ (rest_of (ends (state_of old).cells) n g.id g.from c.segments g.joined).last in
       goes_onto may floor shelf v k m c e old new legal later goes given (omega (arith, ap (λ (s : Segment). s.id) last))
-
-  pub raised_ok : (m : ℕ) (d : Chain) (new : List Event) → d ≡ dropped_below c n → c.trim < n → IsTurn may floor shelf who old (WriteChain v d) (Written m) new → IsRaised who old n m new
-  raised_ok m d new is rise h = record {
-    expected = v;
-    before = c;
-    above = rise;
-    event = record { event = record { who = who; call = WriteChain v d; answer = Written m }; is = ap (λ (x : Chain). record { who = who; call = WriteChain v x; answer = Written m }) is; before = h.others; after = []; seen = h.seen ∙ ap (λ es. (old ++ h.others) ++ es) h.event };
-  }
-
-  pub lost_goes : (m : ℕ) (d e : Chain) (new : List Event) → IsTurn may floor shelf who old (WriteChain v d) (Conflict m e) new → GoesBy (state_of new) m e k
-  lost_goes m d e new h =
-      let x = lost_ok may floor shelf who old v c d goes.given m e new h in
-      goes_onto may floor shelf v k m c e old new legal (turn_later may floor shelf who old (WriteChain v d) (Conflict m e) new h) goes x.given x.last
-
-  -- the version that an own write lost to is later, and not great
-  pub lost_later : (m : ℕ) (d e : Chain) (new : List Event) → IsTurn may floor shelf who old (WriteChain v d) (Conflict m e) new → (v < m) × (m ≤ 2 ^ 38 + 64)
-  lost_later m d e new h = let x = lost_ok may floor shelf who old v c d goes.given m e new h in (x.later, x.few)
-
-  pub lost_told : (m : ℕ) (d e : Chain) (new : List Event) → IsTurn may floor shelf who old (WriteChain v d) (Conflict m e) new → HasEvent old (IsTold who m e) new
-  lost_told m d e new h = record {
-    event = record { who = who; call = WriteChain v d; answer = Conflict m e };
-    is = (refl, (refl, refl));
-    before = h.others;
-    after = [];
-    seen = h.seen ∙ ap (λ es. (old ++ h.others) ++ es) h.event;
-  }
 
 pub raised_since : (who : ℕ) (a b : List Event) (n m : ℕ) (new more : List Event) → b ≡ a ++ more → IsRaised who b n m new → IsRaised who a n m new
 raised_since who a b n m new more is w = record {
@@ -159,4 +128,16 @@ truncated_in who a b c d n m trim before after is is' t = record {
         event = event_until (IsTold who m x.chain) a c d after is' (event_since (IsTold who m x.chain) a b c before is x.event);
       }))
       t.how;
+}
+
+-- what a raise of the trim came to
+pub truncated_by : (who : ℕ) (old new : List Event) (n v : ℕ) (c : Chain) (o : Settled) → Has (Raise n) c → Settles who old (Raise n) v c new o → IsTruncated who old n v c.trim new
+truncated_by who old new n v c settled.Written has m = record { reached = has; how = inl (record { expected = m.expected; before = m.before; above = m.lacks; event = m.event }, ap (λ (x : Chain). x.trim) m.chain_is) }
+truncated_by who old new n v c settled.Found has m = record {
+  reached = has;
+  how = inr (record {
+    chain = c;
+    trim_is = refl;
+    event = record { event = m.event.event; is = subst (IsTold who v c) (sym m.event.is) (refl, (refl, refl)); before = m.event.before; after = m.event.after; seen = m.event.seen };
+  });
 }

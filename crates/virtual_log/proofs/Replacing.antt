@@ -6,13 +6,13 @@ use Rattle.delos_types.specs.declared.entry.Entry.{Entry}
 use Rattle.delos_types.specs.declared.chain.Segment.{Segment}
 use Rattle.delos_types.specs.declared.chain.Chain.{Chain}
 use Rattle.chain_map.specs.Chain.{last_of_segments, IsChain}
-use Rattle.chain_map.specs.Step.{extended, extended_segments}
+use Rattle.chain_map.specs.Step.{extended}
 use Rattle.legal_journal.specs.declared.events.Event.{Event}
 use Rattle.legal_journal.specs.declared.events.FabricCall.TheVariants.{WriteChain}
 use Rattle.legal_journal.specs.declared.events.FabricAnswer.TheVariants.{Written, Conflict}
 use Rattle.legal_journal.specs.Journal.{State, state_of, IsLegal, last_segment, ends, IsCurrent}
 use Rattle.legal_journal.specs.Turns.{IsTurn, MayTurn}
-use Rattle.legal_journal.proofs.Log.{next, last_of_segments-extended_segments, last_starts}
+use Rattle.legal_journal.proofs.Log.{last_starts}
 use Rattle.legal_journal.proofs.Sound.{StateOk}
 use Rattle.legal_journal.proofs.Legal.{sound, goes_on}
 use Rattle.legal_journal.proofs.Chains.{chain_ok}
@@ -53,15 +53,6 @@ pub record Lost (v : ℕ) (c : Chain) (n : ℕ) (e : Chain) (new : List Event) :
   pub given : (state_of new).register.given n ≡ Some e
   pub last : (last_of_segments c.segments).id ≤ (last_of_segments e.segments).id
   pub is_last : last_segment (state_of new) ≡ last_of_segments e.segments
-  pub few : n ≤ 2 ^ 38 + 64
-
--- and sealed tails stay answered
-pub record Conflicted (v t : ℕ) (c : Chain) (n : ℕ) (e : Chain) (new : List Event) : Type 0 where
-  pub later : v < n
-  pub given : (state_of new).register.given n ≡ Some e
-  pub last : (last_of_segments c.segments).id ≤ (last_of_segments e.segments).id
-  pub is_last : last_segment (state_of new) ≡ last_of_segments e.segments
-  pub told : Contains ((state_of new).cells (last_of_segments c.segments).id).ends t
   pub few : n ≤ 2 ^ 38 + 64
 
 module _ (may : ℕ → Entry → Type 0) (floor : List Entry → ℕ → Type 0) (shelf : List ℕ) (who : ℕ) (old : List Event) (v : ℕ) (c d : Chain) (given : (state_of old).register.given v ≡ Some c) where
@@ -106,29 +97,6 @@ module _ (may : ℕ → Entry → Type 0) (floor : List Entry → ℕ → Type 0
       let goes = goes_on may floor shelf old others now in
       let f = fits (length shelf) (state_of old) v t c (sound may floor shelf old legal) given told in
       record { there = tt; asks = (c, goes.given v c given, inl (record { at = t; told = (goes.cell (last_of_segments c.segments).id).ends t told; spare = f.spare; is = is })) }
-
-  pub written_ok : (n : ℕ) (new : List Event) → IsTurn may floor shelf who old (WriteChain v d) (Written n) new → (last_of_segments c.segments).id < (last_segment (state_of new)).id
-  written_ok n new h =
-      let k = took may floor shelf old h.others _ new h.legal (h.seen ∙ ap (λ es. (old ++ h.others) ++ es) h.event) in
-      let w = state_of (old ++ h.others) in
-      let both : Some c ≡ Some w.register.chain = sym (k.before.given v c given) ∙ (ap w.register.given k.allowed.1 ∙ k.ok.given) in
-      let same : c ≡ w.register.chain = cc in
-      let now : last_segment (state_of new) ≡ last_of_segments d.segments = ap last_segment k.now in
-      let after : last_of_segments d.segments ≡ next (last_of_segments w.register.chain.segments) t =
-      ap (λ (x : Chain). last_of_segments x.segments) is ∙ (ap (λ (x : Chain). last_of_segments (extended_segments x.segments t)) same ∙ last_of_segments-extended_segments (ends w.cells) k.ok.id k.ok.from w.register.chain.segments t k.ok.joined) in
-      omega (arith, ap (λ (s : Segment). s.id) now, ap (λ (s : Segment). s.id) after, ap (λ (x : Chain). (last_of_segments x.segments).id) same)
-
-  pub conflict_ok : (n : ℕ) (e : Chain) (new : List Event) → IsTurn may floor shelf who old (WriteChain v d) (Conflict n e) new → Conflicted v t c n e new
-  conflict_ok n e new h =
-      let k = took may floor shelf old h.others _ new h.legal (h.seen ∙ ap (λ es. (old ++ h.others) ++ es) h.event) in
-      let x = lost_ok may floor shelf who old v c d given n e new h in record {
-        later = x.later;
-        given = x.given;
-        last = x.last;
-        is_last = x.is_last;
-        told = (k.goes.cell (last_of_segments c.segments).id).ends t ((k.before.cell (last_of_segments c.segments).id).ends t told);
-        few = x.few;
-      }
 
 -- a chain that the register just gave
 pub given_now : (may : ℕ → Entry → Type 0) (floor : List Entry → ℕ → Type 0) (shelf : List ℕ) (who v : ℕ) (c : Chain) (old new : List Event) → IsLegal may floor shelf new → Looked who old v c new → (state_of new).register.given v ≡ Some c

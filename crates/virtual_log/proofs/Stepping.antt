@@ -1,6 +1,6 @@
 -- What the turns of an append that is underway bring.
 use Rattle.std.proofs.Common.{◌≡◌, ◌≢◌, ◌⊎◌, inl, inr, ℕ, ◌+◌, ◌-◌, ◌<◌, ◌≤◌, ◌^◌, max, List, [], ◌∷◌, ◌++◌, length, Option, Some, None, Bool, true, false, refl, sym, ap, ◌∙◌, subst, ⊎_elim, arith, append_assoc, IfOk, IfErr, IfSome, IfNone}
-use Rattle.std.specs.Prelude.{Contains, slice_get, nat_lt, IsTrue, Result, Ok, Err, if◌then◌else◌}
+use Rattle.std.specs.Prelude.{slice_get, nat_lt, IsTrue, Result, Ok, Err, if◌then◌else◌}
 use Rattle.std.proofs.lemmas.Bool.Decides.{nat_tests}
 use Rattle.delos_types.specs.declared.entry.Entry.{Entry}
 use Rattle.delos_types.specs.Spelling.{IsSpellable}
@@ -41,7 +41,7 @@ use Rattle.virtual_log.specs.Log.{GoesBy}
 use Rattle.virtual_log.specs.Underway.{IsLast, IsAppending, IsDropping, IsAt, IsKnown, IsGoing, HasTicket, AreApart, Leaves, LeavesNone, LeavesOthers, StaysGoing, OneTurn, due, Moves, ClosesTicket, Places, Forgets, Outcome, Went}
 use Rattle.virtual_log.proofs.OneTurn.{nil, look_ok, begin_ok, going_ok, done_ok, turn_later, later_refl, later_trans, first_later, lack_cause, cause_since}
 use Rattle.virtual_log.proofs.Appending.{unsealed_last, started_within, sealed_ok, end_ok}
-use Rattle.virtual_log.proofs.Closing.{refused, refused_goes}
+use Rattle.virtual_log.proofs.Replacing.{lost_ok}
 use Rattle.virtual_log.proofs.Going.{last_there, goes_later, goes_onto, goes_now}
 use Rattle.virtual_log.proofs.Holding.{placed_held}
 use Rattle.virtual_log.proofs.Saying.{turn_says, says_refl, says_then}
@@ -326,7 +326,7 @@ module _ (may : ℕ → Entry → Type 0) (floor : List Entry → ℕ → Type 0
   failed call answer new g f h has other leaves outcome =
       made call answer new k g g (Err f) h has other (still_goes call answer new h) refl (λ i u x. inl x) (free_others call answer new k.chain g g h leaves (omega arith) (λ i t x. x)) outcome
 
-  pub lacked : (j u word n : ℕ) (new : List Event) (g : Going) (r : Running) → IsTurn may floor shelf who old (Carry j u word) (fabric.Done (answers.NoQuorum n)) new → IsOwn ((state_of old).cells j) who u r → HasTicket g.step j u → IsTrue (words word) → Went may floor shelf words who old k g new k g (Err (fault.NoQuorum j n))
+  pub lacked : (j u word n : ℕ) (new : List Event) (g : Going) (r : Running) → IsTurn may floor shelf who old (Carry j u word) (fabric.Done (answers.NoQuorum n)) new → IsOwn ((state_of old).cells j) who u r → HasTicket g.step j u → IsTrue (words word) × (word < 2 ^ 64) → Went may floor shelf words who old k g new k g (Err (fault.NoQuorum j n))
   lacked j u word n new g r h own has word_ok =
       made (Carry j u word) (fabric.Done (answers.NoQuorum n)) new k g g (Err (fault.NoQuorum j n)) h word_ok refl (still_goes _ _ new h) refl (λ i u x. inl x)
       (carry_others j u word _ new g g h has (λ i t x. x))
@@ -388,7 +388,7 @@ module _ (may : ℕ → Entry → Type 0) (floor : List Entry → ℕ → Type 0
 
   -- The append is carried
 
-  pub append_going : (s : Segment) (t word : ℕ) (e : Entry) (new : List Event) → IsTurn may floor shelf who old (Carry s.id t word) fabric.Going new → IsTrue (words word) → Went may floor shelf words who old k (at_step e (Appending s t)) new k (at_step e (Appending s t)) (Ok None)
+  pub append_going : (s : Segment) (t word : ℕ) (e : Entry) (new : List Event) → IsTurn may floor shelf who old (Carry s.id t word) fabric.Going new → IsTrue (words word) × (word < 2 ^ 64) → Went may floor shelf words who old k (at_step e (Appending s t)) new k (at_step e (Appending s t)) (Ok None)
   append_going s t word e new h word_ok =
       let g = at_step e (Appending s t) in
       let more = h.others ++ h.own in
@@ -412,7 +412,7 @@ module _ (may : ℕ → Entry → Type 0) (floor : List Entry → ℕ → Type 0
         },
       )
 
-  pub append_sealed : (s : Segment) (t word : ℕ) (e : Entry) (new : List Event) → IsTurn may floor shelf who old (Carry s.id t word) (fabric.Done answers.Sealed) new → IsTrue (words word) → Went may floor shelf words who old k (at_step e (Appending s t)) new k (at_step e (Reading s)) (Ok None)
+  pub append_sealed : (s : Segment) (t word : ℕ) (e : Entry) (new : List Event) → IsTurn may floor shelf who old (Carry s.id t word) (fabric.Done answers.Sealed) new → IsTrue (words word) × (word < 2 ^ 64) → Went may floor shelf words who old k (at_step e (Appending s t)) new k (at_step e (Reading s)) (Ok None)
   append_sealed s t word e new h word_ok =
       let g = at_step e (Appending s t) in
       made (Carry s.id t word) (fabric.Done answers.Sealed) new k g (at_step e (Reading s)) (Ok None) h word_ok refl (still_goes _ _ new h) refl (λ i u x. inr (subst (λ j. ((state_of new).cells j).told.ops u ≡ None) x.0 (subst (λ n. ((state_of new).cells s.id).told.ops n ≡ None) x.1 (answered_closed s.id t word answers.Sealed new h))))
@@ -481,7 +481,7 @@ module _ (may : ℕ → Entry → Type 0) (floor : List Entry → ℕ → Type 0
         fits = omega (arith, new_ok.rooms i s.start at_new, new_ok.ids i s.start at_new, new_ok.shelf, legal.most, new_cell.reach, new_cell.firm, new_cell.room, reach_is, low);
       }
 
-  pub append_placed : (s : Segment) (t word p n : ℕ) (e : Entry) (early new : List Event) → IsTurn may floor shelf who old (Carry s.id t word) (fabric.Done (answers.Placed p)) new → IsTrue (words word) → IsGoing may who early old k.chain (at_step e (Appending s t)) → n ≡ max k.tail (s.start + p + 1)
+  pub append_placed : (s : Segment) (t word p n : ℕ) (e : Entry) (early new : List Event) → IsTurn may floor shelf who old (Carry s.id t word) (fabric.Done (answers.Placed p)) new → IsTrue (words word) × (word < 2 ^ 64) → IsGoing may who early old k.chain (at_step e (Appending s t)) → n ≡ max k.tail (s.start + p + 1)
       → Went may floor shelf words who old k (at_step e (Appending s t)) new (record { version = k.version; chain = k.chain; tail = n }) (at_step e (Appending s t)) (Ok (Some (s.start + p)))
   append_placed s t word p n e early new h word_ok x max_is =
       let g = at_step e (Appending s t) in
@@ -500,7 +500,7 @@ module _ (may : ℕ → Entry → Type 0) (floor : List Entry → ℕ → Type 0
 
   -- A carry without memory
 
-  pub gave_up : (j u word : ℕ) (mid new : List Event) (g : Going) (answer : FabricAnswer) (step : Step) → IsTurn may floor shelf who old (Carry j u word) fabric.Memory mid → IsTrue (words word) → IsDropping who old j u → HasTicket g.step j u → IsTurn may floor shelf who mid (Forget j u) answer new → Forgets j u answer step
+  pub gave_up : (j u word : ℕ) (mid new : List Event) (g : Going) (answer : FabricAnswer) (step : Step) → IsTurn may floor shelf who old (Carry j u word) fabric.Memory mid → IsTrue (words word) × (word < 2 ^ 64) → IsDropping who old j u → HasTicket g.step j u → IsTurn may floor shelf who mid (Forget j u) answer new → Forgets j u answer step
       → Went may floor shelf words who old k g new k (at_step g.entry step) (Err fault.Memory)
   gave_up j u word mid new g answer step h word_ok drop has h' f =
       let first = turn_later may floor shelf who old _ _ mid h in
@@ -653,7 +653,7 @@ module _ (may : ℕ → Entry → Type 0) (floor : List Entry → ℕ → Type 0
         },
       )
 
-  pub find_going : (s : Segment) (t word : ℕ) (e : Entry) (new : List Event) → IsTurn may floor shelf who old (Carry s.id t word) fabric.Going new → IsTrue (words word) → Went may floor shelf words who old k (at_step e (Finding s t)) new k (at_step e (Finding s t)) (Ok None)
+  pub find_going : (s : Segment) (t word : ℕ) (e : Entry) (new : List Event) → IsTurn may floor shelf who old (Carry s.id t word) fabric.Going new → IsTrue (words word) × (word < 2 ^ 64) → Went may floor shelf words who old k (at_step e (Finding s t)) new k (at_step e (Finding s t)) (Ok None)
   find_going s t word e new h word_ok =
       let g = at_step e (Finding s t) in
       made (Carry s.id t word) fabric.Going new k g g (Ok None) h word_ok refl (still_goes _ _ new h) refl (λ i u x. inl x)
@@ -676,7 +676,7 @@ module _ (may : ℕ → Entry → Type 0) (floor : List Entry → ℕ → Type 0
         },
       )
 
-  pub find_ended : (s : Segment) (t word n : ℕ) (e : Entry) (new : List Event) → IsTurn may floor shelf who old (Carry s.id t word) (fabric.Done (answers.SealedTail n)) new → IsTrue (words word) → Went may floor shelf words who old k (at_step e (Finding s t)) new k (at_step e (Closing s n)) (Ok None)
+  pub find_ended : (s : Segment) (t word n : ℕ) (e : Entry) (new : List Event) → IsTurn may floor shelf who old (Carry s.id t word) (fabric.Done (answers.SealedTail n)) new → IsTrue (words word) × (word < 2 ^ 64) → Went may floor shelf words who old k (at_step e (Finding s t)) new k (at_step e (Closing s n)) (Ok None)
   find_ended s t word n e new h word_ok =
       let g = at_step e (Finding s t) in
       made (Carry s.id t word) (fabric.Done (answers.SealedTail n)) new k g (at_step e (Closing s n)) (Ok None) h word_ok refl (still_goes _ _ new h) refl (λ i u x. inr (subst (λ j. ((state_of new).cells j).told.ops u ≡ None) x.0 (subst (λ m. ((state_of new).cells s.id).told.ops m ≡ None) x.1 (answered_closed s.id t word (answers.SealedTail n) new h))))
@@ -712,13 +712,14 @@ module _ (may : ℕ → Entry → Type 0) (floor : List Entry → ℕ → Type 0
             record { allowed = y.allowed; spelled = y.spelled; first = y.first; at = y.at.0; reached = y.reached },
       )
 
-  pub lost : (s : Segment) (n m : ℕ) (d c : Chain) (e : Entry) (new : List Event) → d ≡ extended k.chain n → Contains ((state_of old).cells (last_segment k.chain).id).ends n → IsTurn may floor shelf who old (WriteChain k.version d) (fabric.Conflict m c) new
+  pub lost : (s : Segment) (n m : ℕ) (d c : Chain) (e : Entry) (new : List Event) → d ≡ extended k.chain n → IsTurn may floor shelf who old (WriteChain k.version d) (fabric.Conflict m c) new
       → Went may floor shelf words who old k (at_step e (Closing s n)) new (record { version = m; chain = c; tail = k.tail }) (at_step e (Closing s n)) (Ok None)
-  lost s n m d c e new is told h =
+  lost s n m d c e new is h =
       let g = at_step e (Closing s n) in
-      let up = (refused may floor shelf who old k.version k.tail n k.chain legal goes told m d c new is h).last in
+      let x = lost_ok may floor shelf who old k.version k.chain d goes.given m c new h in
+      let up = x.last in
       made (WriteChain k.version d) (fabric.Conflict m c) new (record { version = m; chain = c; tail = k.tail }) g g (Ok None) h tt refl
-      (refused_goes may floor shelf who old k.version k.tail n k.chain legal goes told m d c new is h) refl (λ i u x. absurd x)
+      (goes_onto may floor shelf k.version k.tail m k.chain c old new legal (turn_later may floor shelf who old _ _ new h) goes x.given up) refl (λ i u x. absurd x)
       (free_others (WriteChain k.version d) _ new c g g h (λ i t. tt) up (λ i t x. x)) (
         refl,
         turn_calm may floor shelf who old _ _ new h tt,

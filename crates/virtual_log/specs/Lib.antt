@@ -9,4 +9,5 @@ pub mod Next
 pub mod Holding
 pub mod Extending
 pub mod Truncating
+pub mod Changing
 pub mod Underway

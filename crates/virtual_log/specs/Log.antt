@@ -7,13 +7,14 @@ use Rattle.legal_journal.specs.declared.events.Event.{Event}
 use Rattle.legal_journal.specs.Journal.{State, state_of, IsLegal}
 
 -- by whom its events are, the journal as far as it was seen, the greatest position + 1 or tail that it was answered, and
--- the chain that it goes by, with its version
+-- the chain that it goes by, with its version; and the words that its chooser may give
 pub record LogView : Type 0 where
   pub who : ℕ
   pub seen : List Event
   pub known : ℕ
   pub version : ℕ
   pub chain : Chain
+  pub words : List ℕ
 
 -- what is left of it without its turns
 pub record RestedView : Type 0 where
@@ -21,6 +22,7 @@ pub record RestedView : Type 0 where
   pub version : ℕ
   pub chain : Chain
   pub shelf_len : ℕ
+  pub words : List ℕ
 
 -- the register gave this chain, and the answers of its last loglet reach what is known
 pub record GoesBy (w : State) (version : ℕ) (chain : Chain) (known : ℕ) : Type 0 where

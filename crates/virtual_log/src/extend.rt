@@ -16,9 +16,8 @@ use crate::fault::Fault;
 use crate::operation::{FoundTail, find_tail, seal};
 use crate::replace::last_of;
 use crate::turn::look;
-use chain_map::change::extend;
+use crate::write::{Change, Settled, write};
 use fate_words::chooser::Chooser;
-use legal_journal::events::{FabricAnswer, FabricCall};
 use legal_journal::rules::Rules;
 use legal_journal::turns::Turns;
 use std::alloc::Global;
@@ -57,29 +56,19 @@ fn close_at<T: Turns>(
     ensures memory { IfErr result (λ fault. fault ≡ Memory → CalmSince (T.who turns.old) (T.seen turns.old) (T.seen turns.new)) }
 {
     let last = last_of(&known.chain);
-    'write: loop {
-        let next = extend(alloc, &known.chain, length)?;
-        let copy = next.clone()?;
-        match turns.turn(FabricCall::WriteChain(known.version, next)) {
-            FabricAnswer::Written(version) => {
-                let start = last.start + length;
-                known.version = version;
-                known.chain = copy;
-                known.tail = known.tail.max(start);
-                return Ok(Extension::Extended { version, start });
-            }
-            FabricAnswer::Conflict(version, chain) => {
-                let newest = last_of(&chain).id;
-                known.version = version;
-                known.chain = chain;
-                if newest > last.id {
-                    return Ok(Extension::Moved { version });
-                }
-            }
-            FabricAnswer::MetaFault => return Err(Fault::Meta),
-            FabricAnswer::Down => return Err(Fault::Meta),
-            FabricAnswer::Memory => return Err(Fault::Memory),
-            _ => unreachable!(),
+    match write(turns, alloc, known, Change::Close { last, length })? {
+        Settled::Written => {
+            let start = last.start + length;
+            known.tail = known.tail.max(start);
+            return Ok(Extension::Extended {
+                version: known.version,
+                start,
+            });
+        }
+        Settled::Found => {
+            return Ok(Extension::Moved {
+                version: known.version,
+            });
         }
     }
 }

@@ -12,6 +12,7 @@ ghost use Rattle.virtual_log.specs.Holding.{Holds, Reads};
 ghost use Rattle.virtual_log.specs.Log.{LogView, GoesBy};
 ghost use Rattle.virtual_log.specs.Extending.{IsExtension};
 ghost use Rattle.virtual_log.specs.Sealing.{SealsNone, SealsLast};
+ghost use Rattle.virtual_log.specs.Saying.{SaysOnly, words_of, is_among};
 ghost use Rattle.virtual_log.specs.Truncating.{IsTruncated, IsPrefixTrimmed, Spares, TrimsLooked};
 
 use crate::calls::{Known, Next, append_on, read_from, tail_on};
@@ -47,12 +48,13 @@ pub struct Parts<T, C> {
 
 impl<T: Turns, C: Chooser> Model for VirtualLog<T, C> {
     ghost use Rattle.virtual_log.specs.Log.{LogView, LogOk};
+    ghost use Rattle.virtual_log.specs.Saying.{words_of};
 
     ghost Value = { LogView };
 
-    ghost view = { λ l. record { who = T.who l.turns; seen = T.seen l.turns; known = l.known.tail; version = l.known.version; chain = l.known.chain } };
+    ghost view = { λ l. record { who = T.who l.turns; seen = T.seen l.turns; known = l.known.tail; version = l.known.version; chain = l.known.chain; words = words_of (C.may l.chooser) } };
 
-    ghost invariant = { λ l. LogOk T.Law.may T.Law.floor T.Law.shelf (record { who = T.who l.turns; seen = T.seen l.turns; known = l.known.tail; version = l.known.version; chain = l.known.chain }) l.shelf_len };
+    ghost invariant = { λ l. LogOk T.Law.may T.Law.floor T.Law.shelf (record { who = T.who l.turns; seen = T.seen l.turns; known = l.known.tail; version = l.known.version; chain = l.known.chain; words = words_of (C.may l.chooser) }) l.shelf_len };
 }
 
 impl<T: Turns, C: Chooser> VirtualLog<T, C> {
@@ -61,7 +63,7 @@ impl<T: Turns, C: Chooser> VirtualLog<T, C> {
     pub fn new(alloc: Global, turns: T, chooser: C, shelf_len: u32) -> Result<Self, Parts<T, C>>
         requires legal { IsLegal T.Law.may T.Law.floor T.Law.shelf (T.seen turns) }
         requires shelf { shelf_len ≡ length T.Law.shelf }
-        ensures ok { IfOk result (λ l. l ≡ record { who = T.who turns; seen = T.seen turns; known = 0; version = 1; chain = first_chain }) }
+        ensures ok { IfOk result (λ l. l ≡ record { who = T.who turns; seen = T.seen turns; known = 0; version = 1; chain = first_chain; words = words_of (C.may chooser) }) }
         ensures err { IfErr result (λ p. (p.turns ≡ turns) × (p.chooser ≡ chooser)) }
     {
         let Ok(chain) = first_chain(alloc) else {
@@ -85,6 +87,7 @@ impl<T: Turns, C: Chooser> VirtualLog<T, C> {
     pub fn into_parts(self) -> Parts<T, C>
         ensures who { T.who result.turns ≡ self.who }
         ensures seen { T.seen result.turns ≡ self.seen }
+        ensures words { words_of (C.may result.chooser) ≡ self.words }
     {
         let VirtualLog {
             alloc: _,
@@ -98,7 +101,7 @@ impl<T: Turns, C: Chooser> VirtualLog<T, C> {
 
     /// Gives the turns out, until `Rested::wake`. Takes no memory, and makes no event.
     pub fn rest(self) -> (Rested<C>, T)
-        ensures rested { result.0 ≡ record { known = self.known; version = self.version; chain = self.chain; shelf_len = length T.Law.shelf } }
+        ensures rested { result.0 ≡ record { known = self.known; version = self.version; chain = self.chain; shelf_len = length T.Law.shelf; words = self.words } }
         ensures goes_by { GoesBy (state_of self.seen) self.version self.chain self.known }
         ensures who { T.who result.1 ≡ self.who }
         ensures seen { T.seen result.1 ≡ self.seen }
@@ -131,6 +134,7 @@ impl<T: Turns, C: Chooser> VirtualLog<T, C> {
     /// chain go on behind it, and appends again.
     ///
     /// Cost: one begin and its carries; after a replacement a few events more.
+    #[tactic(auto, using(crate::proofs::Saying::says_among))]
     pub fn append(&mut self, entry: &Entry) -> Result<u64, Fault>
         requires may { T.Law.may self.old.who entry.now }
         requires spelled { IsSpellable entry.now }
@@ -157,6 +161,10 @@ impl<T: Turns, C: Chooser> VirtualLog<T, C> {
         ensures calm { OnOk result (CalmSince self.old.who self.old.seen self.new.seen) }
         ensures memory { IfErr result (λ fault. fault ≡ Memory → CalmSince self.old.who self.old.seen self.new.seen) }
         ensures unknown { OnErr result (self.new.known ≡ self.old.known) }
+
+        // Each word with which it carried is one that the chooser may give, and those are the same after it.
+        ensures words { SaysOnly (is_among self.old.words) self.old.who self.old.seen self.new.seen }
+        ensures same { self.new.words ≡ self.old.words }
     {
         append_on(
             &mut self.turns,
@@ -168,6 +176,7 @@ impl<T: Turns, C: Chooser> VirtualLog<T, C> {
     }
 
     /// A tail of the log.
+    #[tactic(auto, using(crate::proofs::Saying::says_among))]
     pub fn check_tail(&mut self) -> Result<u64, Fault>
         ensures later { Later T.Law.may T.Law.floor T.Law.shelf self.old.seen self.new.seen }
         ensures who { self.new.who ≡ self.old.who }
@@ -187,6 +196,8 @@ impl<T: Turns, C: Chooser> VirtualLog<T, C> {
         ensures exact { IfOk result (λ tail. OnlyOwn self.old.who self.old.seen self.new.seen → tail_of (state_of self.new.seen) ≤ tail) }
         ensures err { IfErr result (λ fault. HasCause self.old.who self.old.seen fault self.new.seen) }
         ensures unsealed { SealsNone self.old.who self.old.seen self.new.seen }
+        ensures words { SaysOnly (is_among self.old.words) self.old.who self.old.seen self.new.seen }
+        ensures same { self.new.words ≡ self.old.words }
         ensures calm { OnOk result (CalmSince self.old.who self.old.seen self.new.seen) }
         ensures memory { IfErr result (λ fault. fault ≡ Memory → CalmSince self.old.who self.old.seen self.new.seen) }
         ensures unknown { OnErr result (self.new.known ≡ self.old.known) }
@@ -206,6 +217,7 @@ impl<T: Turns, C: Chooser> VirtualLog<T, C> {
     ///
     /// Cost: a read of the chain, a seal, a tail and a write. A write is tried again where others raised
     /// the trim meanwhile.
+    #[tactic(auto, using(crate::proofs::Saying::says_among))]
     pub fn extend(&mut self) -> Result<Extension, Fault>
         requires right { T.Law.seals self.old.who }
         ensures later { Later T.Law.may T.Law.floor T.Law.shelf self.old.seen self.new.seen }
@@ -220,6 +232,8 @@ impl<T: Turns, C: Chooser> VirtualLog<T, C> {
         // Whatever comes of it, it begins no Seal, or one of the last loglet of that chain.
         ensures seals { SealsLast self.old.who self.old.seen self.new.seen }
         ensures err { IfErr result (λ fault. HasCause self.old.who self.old.seen fault self.new.seen) }
+        ensures words { SaysOnly (is_among self.old.words) self.old.who self.old.seen self.new.seen }
+        ensures same { self.new.words ≡ self.old.words }
         ensures calm { OnOk result (CalmSince self.old.who self.old.seen self.new.seen) }
         ensures memory { IfErr result (λ fault. fault ≡ Memory → CalmSince self.old.who self.old.seen self.new.seen) }
         ensures unknown { OnErr result (self.new.known ≡ self.old.known) }
@@ -239,6 +253,7 @@ impl<T: Turns, C: Chooser> VirtualLog<T, C> {
     ///
     /// Cost: a read of the chain and a write, which is tried again where others changed the chain
     /// meanwhile.
+    #[tactic(auto, using(crate::proofs::Saying::says_among))]
     pub fn truncate(&mut self, n: u64) -> Result<(u64, u64), Fault>
         requires known { n ≤ self.old.known }
         requires free { IsFree (state_of self.old.seen).shown T.Law.floor n }
@@ -254,6 +269,8 @@ impl<T: Turns, C: Chooser> VirtualLog<T, C> {
         ensures spares { Spares self.old.who self.old.seen n self.new.seen }
         ensures err { IfErr result (λ fault. HasCause self.old.who self.old.seen fault self.new.seen) }
         ensures unsealed { SealsNone self.old.who self.old.seen self.new.seen }
+        ensures words { SaysOnly (is_among self.old.words) self.old.who self.old.seen self.new.seen }
+        ensures same { self.new.words ≡ self.old.words }
         ensures calm { OnOk result (CalmSince self.old.who self.old.seen self.new.seen) }
         ensures memory { IfErr result (λ fault. fault ≡ Memory → CalmSince self.old.who self.old.seen self.new.seen) }
     {
@@ -264,6 +281,7 @@ impl<T: Turns, C: Chooser> VirtualLog<T, C> {
     /// below it. Answers the trim.
     ///
     /// Cost: two reads of the chain, a write, and a trim of each loglet whose segment starts below `n`.
+    #[tactic(auto, using(crate::proofs::Saying::says_among))]
     pub fn prefix_trim(&mut self, n: u64) -> Result<u64, Fault>
         requires known { n ≤ self.old.known }
         requires free { IsFree (state_of self.old.seen).shown T.Law.floor n }
@@ -280,6 +298,8 @@ impl<T: Turns, C: Chooser> VirtualLog<T, C> {
         ensures stands { IfOk result (λ trim. trim ≡ self.new.chain.trim) }
         ensures err { IfErr result (λ fault. HasCause self.old.who self.old.seen fault self.new.seen) }
         ensures unsealed { SealsNone self.old.who self.old.seen self.new.seen }
+        ensures words { SaysOnly (is_among self.old.words) self.old.who self.old.seen self.new.seen }
+        ensures same { self.new.words ≡ self.old.words }
         ensures calm { OnOk result (CalmSince self.old.who self.old.seen self.new.seen) }
         ensures memory { IfErr result (λ fault. fault ≡ Memory → CalmSince self.old.who self.old.seen self.new.seen) }
     {
@@ -296,6 +316,7 @@ impl<T: Turns, C: Chooser> VirtualLog<T, C> {
     /// known.
     ///
     /// Cost: one read of a loglet; the chain is read where others trimmed past what was known of it.
+    #[tactic(auto, using(crate::proofs::Saying::says_among))]
     pub fn read_next(&mut self, least: u64, most: u64) -> Result<Next, Fault>
         ensures later { Later T.Law.may T.Law.floor T.Law.shelf self.old.seen self.new.seen }
         ensures who { self.new.who ≡ self.old.who }
@@ -313,6 +334,8 @@ impl<T: Turns, C: Chooser> VirtualLog<T, C> {
             → tail_of (state_of self.new.seen) ≡ tail_of (state_of self.old.seen)) }
         ensures err { IfErr result (λ fault. HasCause self.old.who self.old.seen fault self.new.seen) }
         ensures unsealed { SealsNone self.old.who self.old.seen self.new.seen }
+        ensures words { SaysOnly (is_among self.old.words) self.old.who self.old.seen self.new.seen }
+        ensures same { self.new.words ≡ self.old.words }
         ensures calm { OnOk result (CalmSince self.old.who self.old.seen self.new.seen) }
         ensures memory { IfErr result (λ fault. fault ≡ Memory → CalmSince self.old.who self.old.seen self.new.seen) }
     {

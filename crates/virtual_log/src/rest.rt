@@ -24,10 +24,11 @@ pub struct Rested<C: Chooser> {
 
 impl<C: Chooser> Model for Rested<C> {
     ghost use Rattle.virtual_log.specs.Log.{RestedView};
+    ghost use Rattle.virtual_log.specs.Saying.{words_of};
 
     ghost Value = { RestedView };
 
-    ghost view = { λ r. record { known = r.known.tail; version = r.known.version; chain = r.known.chain; shelf_len = r.shelf_len } };
+    ghost view = { λ r. record { known = r.known.tail; version = r.known.version; chain = r.known.chain; shelf_len = r.shelf_len; words = words_of (C.may r.chooser) } };
 }
 
 impl<C: Chooser> Rested<C> {
@@ -37,7 +38,7 @@ impl<C: Chooser> Rested<C> {
         requires legal { IsLegal T.Law.may T.Law.floor T.Law.shelf (T.seen turns) }
         requires goes_by { GoesBy (state_of (T.seen turns)) self.version self.chain self.known }
         requires shelf { self.shelf_len ≡ length T.Law.shelf }
-        ensures { result ≡ record { who = T.who turns; seen = T.seen turns; known = self.known; version = self.version; chain = self.chain } }
+        ensures { result ≡ record { who = T.who turns; seen = T.seen turns; known = self.known; version = self.version; chain = self.chain; words = self.words } }
     {
         let Rested {
             alloc,

@@ -13,10 +13,9 @@ ghost use Rattle.virtual_log.specs.Saying.{SaysOnly, SaysNone};
 use crate::calls::Known;
 use crate::fault::Fault;
 use crate::turn::{begin, carry_on, look};
-use chain_map::change::drop_below;
+use crate::write::{Change, write};
 use delos_types::chain::Segment;
 use fate_words::chooser::Chooser;
-use legal_journal::events::{FabricAnswer, FabricCall};
 use legal_journal::rules::Rules;
 use legal_journal::turns::Turns;
 use loglet_api::call::{Answer, Op};
@@ -50,29 +49,11 @@ pub fn truncate_on<T: Turns>(
     let (version, chain) = look(turns)?;
     known.version = version;
     known.chain = chain;
-    'write: loop {
-        let trim = known.chain.trim;
-        if n <= trim {
-            return Ok((known.version, trim));
-        }
-        let next = drop_below(alloc, &known.chain, n)?;
-        let copy = next.clone()?;
-        match turns.turn(FabricCall::WriteChain(known.version, next)) {
-            FabricAnswer::Written(version) => {
-                known.version = version;
-                known.chain = copy;
-                return Ok((version, n));
-            }
-            FabricAnswer::Conflict(version, chain) => {
-                known.version = version;
-                known.chain = chain;
-            }
-            FabricAnswer::MetaFault => return Err(Fault::Meta),
-            FabricAnswer::Down => return Err(Fault::Meta),
-            FabricAnswer::Memory => return Err(Fault::Memory),
-            _ => unreachable!(),
-        }
+    if n <= known.chain.trim {
+        return Ok((known.version, known.chain.trim));
     }
+    write(turns, alloc, known, Change::Raise(n))?;
+    Ok((known.version, known.chain.trim))
 }
 
 /// How much of a segment lies below `n`.

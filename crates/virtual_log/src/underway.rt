@@ -16,7 +16,7 @@ ghost use Rattle.virtual_log.specs.declared.fault.Fault.TheVariants.{Memory};
 ghost use Rattle.virtual_log.specs.declared.underway.Going.{Going};
 ghost use Rattle.virtual_log.specs.declared.underway.Step.TheVariants.{Starting, Appending, Reading, Asking, Finding, Closing, Dropping};
 ghost use Rattle.virtual_log.specs.Sealing.{SealsNone};
-ghost use Rattle.virtual_log.specs.Saying.{SaysOnly};
+ghost use Rattle.virtual_log.specs.Saying.{SaysOnly, is_among};
 ghost use Rattle.virtual_log.specs.Log.{GoesBy};
 ghost use Rattle.virtual_log.specs.Holding.{Holds};
 ghost use Rattle.virtual_log.specs.Underway.{IsGoing, IsDropping, AreApart, LeaveStep, LeavesNone, LeavesOthers, StaysGoing, LeavesOpen, OneTurn, Places, Moves, Forgets, Went, due};
@@ -470,6 +470,7 @@ impl<T: Turns, C: Chooser> VirtualLog<T, C> {
     /// others of this value may be underway.
     ///
     /// Cost: one turn.
+    #[tactic(auto, using(crate::proofs::Saying::says_among))]
     pub fn start_append(&mut self, entry: &Entry) -> Result<Going, Fault>
         requires may { T.Law.may self.old.who entry.now }
         requires spelled { IsSpellable entry.now }
@@ -487,6 +488,8 @@ impl<T: Turns, C: Chooser> VirtualLog<T, C> {
         ensures others { (early : List Event) (other : Going) → IsGoing T.Law.may self.old.who early self.old.seen self.old.chain other
             → IsGoing T.Law.may self.old.who early self.new.seen self.new.chain other × IfOk result (λ going. AreApart going other) }
         ensures known { self.new.known ≡ self.old.known }
+        ensures words { SaysOnly (is_among self.old.words) self.old.who self.old.seen self.new.seen }
+        ensures same { self.new.words ≡ self.old.words }
         ensures err { IfErr result (λ fault. HasCause self.old.who self.old.seen fault self.new.seen) }
         ensures unsealed { SealsNone self.old.who self.old.seen self.new.seen }
         ensures calm { OnOk result (CalmSince self.old.who self.old.seen self.new.seen) }
@@ -500,6 +503,7 @@ impl<T: Turns, C: Chooser> VirtualLog<T, C> {
     /// may stand in the log once more.
     ///
     /// Cost: one turn. A ticket that want of memory leaves is closed by one turn more.
+    #[tactic(auto, using(crate::proofs::Saying::says_among))]
     pub fn go_on(&mut self, going: &mut Going) -> Result<Option<u64>, Fault>
         requires going { (early : List Event) × IsGoing T.Law.may self.old.who early self.old.seen self.old.chain going.old }
         ensures later { Later T.Law.may T.Law.floor T.Law.shelf self.old.seen self.new.seen }
@@ -531,6 +535,10 @@ impl<T: Turns, C: Chooser> VirtualLog<T, C> {
 
         // Whatever else is underway, under another ticket, stays so.
         ensures others { LeavesOthers T.Law.may self.old.who self.old.seen self.old.chain going.old self.new.seen self.new.chain going.new }
+
+        // Each word with which it carried is one that the chooser may give, and those are the same after it.
+        ensures words { SaysOnly (is_among self.old.words) self.old.who self.old.seen self.new.seen }
+        ensures same { self.new.words ≡ self.old.words }
         ensures err { IfErr result (λ fault. HasCause self.old.who self.old.seen fault self.new.seen) }
         ensures unsealed { SealsNone self.old.who self.old.seen self.new.seen }
         ensures calm { OnOk result (CalmSince self.old.who self.old.seen self.new.seen) }

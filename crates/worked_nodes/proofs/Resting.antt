@@ -44,7 +44,7 @@ two_armed number old new after other rested log is two = record {
 
 -- a node that is laid down
 pub laid_down : (number : ℕ) (view : NodeView) (rested : RestedView) (log : virtual_log.LogView) (kept : virtual_log.RestedView) → view.who ≡ number → view.nodes ≡ 2 → rested ≡ record { nodes = view.nodes; replica = view.replica; outbox = view.outbox }
-    → log.seen ≡ view.seen → log.known ≡ view.known → kept ≡ record { known = log.known; version = log.version; chain = log.chain; shelf_len = 1 }
+    → log.seen ≡ view.seen → log.known ≡ view.known → kept ≡ record { known = log.known; version = log.version; chain = log.chain; shelf_len = 1; words = log.words }
     → NodeOk anything least_of_two one_loglet Holds IsStateOf Spells view → GoesBy (state_of log.seen) log.version log.chain log.known → Rests number view.seen rested kept
 laid_down number view rested log kept who two is seen known left ok goes = record {
   ok = subst (NodeOk anything least_of_two one_loglet Holds IsStateOf Spells) (sym same) ok;
@@ -63,7 +63,7 @@ laid_down number view rested log kept who two is seen known left ok goes = recor
         ∙ ap (λ (k : ℕ). awake bare view.who view.seen k) (ap (λ (v : virtual_log.RestedView). v.known) left ∙ known))
 
 -- a node that is taken up
-pub taken_up : (number w : ℕ) (seen : List Event) (rested : RestedView) (kept : virtual_log.RestedView) (log : virtual_log.LogView) → log ≡ record { who = w; seen = seen; known = kept.known; version = kept.version; chain = kept.chain } → w ≡ number
+pub taken_up : (number w : ℕ) (seen : List Event) (rested : RestedView) (kept : virtual_log.RestedView) (log : virtual_log.LogView) → log ≡ record { who = w; seen = seen; known = kept.known; version = kept.version; chain = kept.chain; words = kept.words } → w ≡ number
     → Rests number seen rested kept → NodeOk anything least_of_two one_loglet Holds IsStateOf Spells (awake rested log.who log.seen log.known)
 taken_up number w seen rested kept log is who r =
     subst (λ (l : virtual_log.LogView). NodeOk anything least_of_two one_loglet Holds IsStateOf Spells (awake rested l.who l.seen l.known)) (sym is)

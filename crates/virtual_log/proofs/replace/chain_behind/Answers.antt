@@ -17,10 +17,13 @@ returns-then-last_of-segment-clause-given g c =
     let p = g.T.Law.Rules in
     given_now p.may p.floor p.shelf (g.T.Turns.who c.args.turns.now) _ _ (g.T.Turns.seen c.args.turns.now) (g.T.Turns.seen c.look.new.turns) c.in_ok-version.ensures.later.legal c.in_ok-version.ensures.ok
 
-pub finish-requires-clause-given : goal.finish-requires-clause-given
-finish-requires-clause-given g c =
+pub finish-requires-clause-goes_by : goal.finish-requires-clause-goes_by
+finish-requires-clause-goes_by g c =
     let p = g.T.Law.Rules in
-    given_now p.may p.floor p.shelf (g.T.Turns.who c.args.turns.now) _ _ (g.T.Turns.seen c.args.turns.now) (g.T.Turns.seen c.look.new.turns) c.in_ok-version.ensures.later.legal c.in_ok-version.ensures.ok
+    record {
+      given = given_now p.may p.floor p.shelf (g.T.Turns.who c.args.turns.now) _ _ (g.T.Turns.seen c.args.turns.now) (g.T.Turns.seen c.look.new.turns) c.in_ok-version.ensures.later.legal c.in_ok-version.ensures.ok;
+      reached = omega arith;
+    }
 
 pub finish-requires-clause-sealed : goal.finish-requires-clause-sealed
 finish-requires-clause-sealed g c =

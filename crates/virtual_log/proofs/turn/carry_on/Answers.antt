@@ -64,7 +64,7 @@ loop-answer-preserved g c =
       calm = calm_then (t.who c.args.turns.now) (t.who l.turns) (t.seen c.args.turns.now) (t.seen l.turns) (t.seen c.turn.new.self) l.invariant.who l.invariant.calm
           (turn_calm p.may p.floor p.shelf _ _ _ _ _ c.in-Going.ensures.turn tt);
       words = says_on (g.C.Chooser.may c.args.chooser.now) (g.C.Chooser.may l.chooser) (t.who c.args.turns.now) (t.who l.turns) (t.seen c.args.turns.now) (t.seen l.turns) (t.seen c.turn.new.self) l.invariant.same l.invariant.who l.invariant.words
-          (turn_says p.may p.floor p.shelf (t.who l.turns) (t.seen l.turns) (g.C.Chooser.may l.chooser) _ _ _ c.in-Going.ensures.turn c.word-word.ensures.given);
+          (turn_says p.may p.floor p.shelf (t.who l.turns) (t.seen l.turns) (g.C.Chooser.may l.chooser) _ _ _ c.in-Going.ensures.turn (c.word-word.ensures.given, omega arith));
       same = c.word-word.ensures.same ∙ l.invariant.same;
       own = λ r h.
           subst (λ x. IsOwn ((state_of (t.seen c.turn.new.self)).cells c.args.cell) x c.args.ticket r) l.invariant.who
@@ -117,7 +117,7 @@ returns-in-Done-clause-words g c =
     let p = g.T.Law.Rules in
     let l = c.loop-answer in
     says_on (g.C.Chooser.may c.args.chooser.now) (g.C.Chooser.may l.chooser) (t.who c.args.turns.now) (t.who l.turns) (t.seen c.args.turns.now) (t.seen l.turns) (t.seen c.turn.new.self) l.invariant.same l.invariant.who l.invariant.words
-    (turn_says p.may p.floor p.shelf (t.who l.turns) (t.seen l.turns) (g.C.Chooser.may l.chooser) _ _ _ c.in-Done.ensures.turn c.word-word.ensures.given)
+    (turn_says p.may p.floor p.shelf (t.who l.turns) (t.seen l.turns) (g.C.Chooser.may l.chooser) _ _ _ c.in-Done.ensures.turn (c.word-word.ensures.given, omega arith))
 
 pub returns-in-Memory-clause-words : goal.returns-in-Memory-clause-words
 returns-in-Memory-clause-words g c =
@@ -125,7 +125,7 @@ returns-in-Memory-clause-words g c =
     let p = g.T.Law.Rules in
     let l = c.loop-answer in
     says_on (g.C.Chooser.may c.args.chooser.now) (g.C.Chooser.may l.chooser) (t.who c.args.turns.now) (t.who l.turns) (t.seen c.args.turns.now) (t.seen l.turns) (t.seen c.turn.new.self) l.invariant.same l.invariant.who l.invariant.words
-    (turn_says p.may p.floor p.shelf (t.who l.turns) (t.seen l.turns) (g.C.Chooser.may l.chooser) _ _ _ c.in-Memory.ensures.turn c.word-word.ensures.given)
+    (turn_says p.may p.floor p.shelf (t.who l.turns) (t.seen l.turns) (g.C.Chooser.may l.chooser) _ _ _ c.in-Memory.ensures.turn (c.word-word.ensures.given, omega arith))
 
 pub returns-in-Done-clause-calm : goal.returns-in-Done-clause-calm
 returns-in-Done-clause-calm g c = λ is.

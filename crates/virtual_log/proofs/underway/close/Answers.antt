@@ -1,4 +1,4 @@
-use Rattle.std.proofs.Common.{refl, sym, subst, arith}
+use Rattle.std.proofs.Common.{length, refl, sym, subst, arith}
 use Rattle.std.specs.Prelude.{Contains}
 use Rattle.legal_journal.specs.declared.events.FabricAnswer.TheVariants as fabric
 use Rattle.legal_journal.specs.declared.events.FabricCall.TheVariants.{WriteChain}
@@ -6,7 +6,8 @@ use Rattle.legal_journal.specs.Journal.{state_of}
 use Rattle.virtual_log.specs.declared.fault.Fault.TheVariants as fault
 use Rattle.virtual_log.specs.declared.underway.Step.TheVariants.{Closing}
 use Rattle.virtual_log.proofs.OneTurn.{meta_cause, gone_cause}
-use Rattle.virtual_log.proofs.Closing.{fits_now, may_close}
+use Rattle.legal_journal.proofs.Legal.{sound}
+use Rattle.virtual_log.proofs.Replacing.{fits, may_write}
 use Rattle.virtual_log.proofs.Answering.{write_answers}
 use Rattle.virtual_log.proofs.Stepping.{went_by, went_still, going_by, failed, no_memory, wrote, lost}
 use Rattle.virtual_log.proofs.underway.close.Goals as goal
@@ -23,7 +24,7 @@ extend-requires-clause-chain g c =
     let going = c.args.going.now in
     let x = going_by going (Closing s n) c.requires.step c.requires.going.1 in
     let told = subst (λ i. Contains ((state_of old).cells i).ends n) (sym c.requires.last) x.at.1 in
-    (fits_now p.may p.floor p.shelf who old k.version k.tail n k.chain c.requires.legal c.requires.goes_by told).chain
+    (fits (length p.shelf) (state_of old) k.version n k.chain (sound p.may p.floor p.shelf old c.requires.legal) c.requires.goes_by.given told).chain
 
 pub extend-requires-clause-seam : goal.extend-requires-clause-seam
 extend-requires-clause-seam g c =
@@ -37,7 +38,7 @@ extend-requires-clause-seam g c =
     let going = c.args.going.now in
     let x = going_by going (Closing s n) c.requires.step c.requires.going.1 in
     let told = subst (λ i. Contains ((state_of old).cells i).ends n) (sym c.requires.last) x.at.1 in
-    (fits_now p.may p.floor p.shelf who old k.version k.tail n k.chain c.requires.legal c.requires.goes_by told).seam
+    (fits (length p.shelf) (state_of old) k.version n k.chain (sound p.may p.floor p.shelf old c.requires.legal) c.requires.goes_by.given told).seam
 
 pub extend-requires-clause-next : goal.extend-requires-clause-next
 extend-requires-clause-next g c =
@@ -51,7 +52,7 @@ extend-requires-clause-next g c =
     let going = c.args.going.now in
     let x = going_by going (Closing s n) c.requires.step c.requires.going.1 in
     let told = subst (λ i. Contains ((state_of old).cells i).ends n) (sym c.requires.last) x.at.1 in
-    let f = fits_now p.may p.floor p.shelf who old k.version k.tail n k.chain c.requires.legal c.requires.goes_by told in omega (arith, f.spare, f.few)
+    let f = fits (length p.shelf) (state_of old) k.version n k.chain (sound p.may p.floor p.shelf old c.requires.legal) c.requires.goes_by.given told in omega (arith, f.spare, f.few)
 
 pub turn-requires-clause-may : goal.turn-requires-clause-may
 turn-requires-clause-may g c =
@@ -65,7 +66,7 @@ turn-requires-clause-may g c =
     let going = c.args.going.now in
     let x = going_by going (Closing s n) c.requires.step c.requires.going.1 in
     let told = subst (λ i. Contains ((state_of old).cells i).ends n) (sym c.requires.last) x.at.1 in
-    may_close p.may p.floor p.shelf who old k.version k.tail n k.chain c.requires.legal c.requires.goes_by told _ c.in_ok-next.ensures.value
+    may_write p.may p.floor p.shelf who old k.version n k.chain _ c.requires.goes_by.given told c.in_ok-next.ensures.value c.requires.legal
 
 pub returns-in-Written-clause-went : goal.returns-in-Written-clause-went
 returns-in-Written-clause-went g c = λ words.
@@ -95,7 +96,7 @@ returns-in-Conflict-clause-went g c = λ words.
     let x = going_by going (Closing s n) c.requires.step c.requires.going.1 in
     let told = subst (λ i. Contains ((state_of old).cells i).ends n) (sym c.requires.last) x.at.1 in
     went_still going (Closing s n) c.requires.step
-    (lost p.may p.floor p.shelf words who old k c.requires.legal c.requires.goes_by s n c.in-Conflict.version c.in_ok-next.next c.in-Conflict.chain going.entry (t.seen c.turn.new.self) c.in_ok-next.ensures.value told c.in-Conflict.ensures.turn)
+    (lost p.may p.floor p.shelf words who old k c.requires.legal c.requires.goes_by s n c.in-Conflict.version c.in_ok-next.next c.in-Conflict.chain going.entry (t.seen c.turn.new.self) c.in_ok-next.ensures.value c.in-Conflict.ensures.turn)
 
 pub returns-in-MetaFault-clause-went : goal.returns-in-MetaFault-clause-went
 returns-in-MetaFault-clause-went g c = λ words.

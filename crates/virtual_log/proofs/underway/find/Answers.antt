@@ -1,4 +1,4 @@
-use Rattle.std.proofs.Common.{refl, sym, subst}
+use Rattle.std.proofs.Common.{arith, refl, sym, subst}
 use Rattle.legal_journal.specs.declared.events.FabricAnswer.TheVariants as fabric
 use Rattle.loglet_api.specs.declared.call.Answer.{Answer}
 use Rattle.legal_journal.specs.declared.events.FabricCall.TheVariants.{Carry, Forget}
@@ -40,7 +40,7 @@ returns-in-Going-clause-went g c =
     let x = going_by going (Finding s c.args.ticket) c.requires.step c.requires.going.1 in
     went_still going (Finding s c.args.ticket) c.requires.step
     (find_going p.may p.floor p.shelf words who old k c.requires.legal c.requires.goes_by
-    s c.args.ticket c.word-word.result going.entry (t.seen c.turn.new.self) c.in-Going.ensures.turn c.word-word.ensures.given)
+    s c.args.ticket c.word-word.result going.entry (t.seen c.turn.new.self) c.in-Going.ensures.turn (c.word-word.ensures.given, omega arith))
 
 pub returns-in-NoQuorum-clause-went : goal.returns-in-NoQuorum-clause-went
 returns-in-NoQuorum-clause-went g c =
@@ -57,7 +57,7 @@ returns-in-NoQuorum-clause-went g c =
     let turn = subst (λ (a : Answer). IsTurn p.may p.floor p.shelf who old (Carry s.id c.args.ticket c.word-word.result) (fabric.Done a) new) c.in-NoQuorum.is c.in-Done.ensures.turn in
     went_still going (Finding s c.args.ticket) c.requires.step
     (lacked p.may p.floor p.shelf words who old k c.requires.legal c.requires.goes_by
-    s.id c.args.ticket c.word-word.result c.in-NoQuorum.unreached new (at_step going.entry (Finding s c.args.ticket)) _ turn x.at.own (refl, refl) c.word-word.ensures.given)
+    s.id c.args.ticket c.word-word.result c.in-NoQuorum.unreached new (at_step going.entry (Finding s c.args.ticket)) _ turn x.at.own (refl, refl) (c.word-word.ensures.given, omega arith))
 
 pub forget-going-requires-clause-dropping : goal.forget-going-requires-clause-dropping
 forget-going-requires-clause-dropping g c =
@@ -92,7 +92,7 @@ returns-in-Memory-clause-went g c =
     let turn = subst (λ w. IsTurn p.may p.floor p.shelf w mid (Forget s.id c.args.ticket) last.0 new) c.turn.ensures.who last.2 in
     went_by going (Finding s c.args.ticket) c.requires.step
     (gave_up p.may p.floor p.shelf words who old k c.requires.legal c.requires.goes_by
-    s.id c.args.ticket c.word-word.result mid new (at_step going.entry (Finding s c.args.ticket)) last.0 c.forget-going.result c.in-Memory.ensures.turn c.word-word.ensures.given drop (refl, refl) turn last.1)
+    s.id c.args.ticket c.word-word.result mid new (at_step going.entry (Finding s c.args.ticket)) last.0 c.forget-going.result c.in-Memory.ensures.turn (c.word-word.ensures.given, omega arith) drop (refl, refl) turn last.1)
 
 pub unreachable-requires-in_default : goal.unreachable-requires-in_default
 unreachable-requires-in_default g c =
@@ -122,7 +122,7 @@ returns-in-SealedTail-clause-went g c =
     let turn = subst (λ (a : Answer). IsTurn p.may p.floor p.shelf who old (Carry s.id c.args.ticket c.word-word.result) (fabric.Done a) new) c.in-SealedTail.is c.in-Done.ensures.turn in
     went_by going (Finding s c.args.ticket) c.requires.step
     (find_ended p.may p.floor p.shelf words who old k c.requires.legal c.requires.goes_by
-    s c.args.ticket c.word-word.result c.in-SealedTail.length going.entry new turn c.word-word.ensures.given)
+    s c.args.ticket c.word-word.result c.in-SealedTail.length going.entry new turn (c.word-word.ensures.given, omega arith))
 
 pub unreachable-requires : goal.unreachable-requires
 unreachable-requires g c =

@@ -1,5 +1,6 @@
 use Rattle.virtual_log.proofs.Sealing.{seals_refl}
 use Rattle.virtual_log.proofs.Calming.{calm_refl}
+use Rattle.virtual_log.proofs.Saying.{says_refl}
 use Rattle.virtual_log.proofs.log.VirtualLog.read_next.Goals as goal
 
 pub returns-then-end-least-clause-unsealed : goal.returns-then-end-least-clause-unsealed
@@ -7,3 +8,6 @@ returns-then-end-least-clause-unsealed g c = seals_refl _ _
 
 pub returns-then-end-least-clause-calm : goal.returns-then-end-least-clause-calm
 returns-then-end-least-clause-calm g c = calm_refl _ _
+
+pub returns-then-end-least-clause-words : goal.returns-then-end-least-clause-words
+returns-then-end-least-clause-words g c = says_refl _ _ _

@@ -1,14 +1,13 @@
-use Rattle.std.proofs.Common.{◌≡◌, ◌⊎◌, ◌<◌, ◌-◌, ◌^◌}
-use Rattle.delos_types.specs.declared.chain.Chain.{Chain}
-use Rattle.legal_journal.specs.Journal.{state_of, IsFree}
-use Rattle.virtual_log.specs.Turning.{Later, LooksAt, HasEvent}
-use Rattle.virtual_log.specs.Log.{GoesBy}
-use Rattle.virtual_log.specs.Truncating.{IsTold}
+use Rattle.std.proofs.Common.{◌≡◌, ◌-◌, ◌^◌}
+use Rattle.legal_journal.specs.Journal.{state_of}
+use Rattle.virtual_log.specs.Turning.{Later}
 use Rattle.virtual_log.specs.Writing.{WroteNone}
-use Rattle.virtual_log.specs.Saying.{SaysNone}
 use Rattle.virtual_log.specs.Sealing.{SealsNone}
+use Rattle.virtual_log.specs.Log.{GoesBy}
+use Rattle.virtual_log.specs.Saying.{SaysNone}
 use Rattle.virtual_log.specs.Causes.{CalmSince}
-use Rattle.virtual_log.proofs.truncate.truncate_on.Given as goal
+use Rattle.virtual_log.specs.Changing.{Lacks, IsGranted}
+use Rattle.virtual_log.proofs.write.write.Given as goal
 
 abbrev pub invariant-write : goal.invariant-write
 invariant-write g l =
@@ -19,12 +18,11 @@ invariant-write g l =
       who : t.who l.turns ≡ t.who l.fn.turns;
       goes_by : GoesBy (state_of (t.seen l.turns)) l.known.version l.known.chain l.known.tail;
       tail : l.known.tail ≡ l.fn.known.tail;
-      free : IsFree (state_of (t.seen l.turns)).shown p.floor l.n;
-      told : HasEvent (t.seen l.fn.turns) (IsTold (t.who l.fn.turns) l.known.version l.known.chain) (t.seen l.turns);
+      granted : IsGranted p.floor (state_of (t.seen l.turns)) l.known.tail l.change;
+      lacks : Lacks l.change l.known.chain;
       quiet : WroteNone (t.who l.fn.turns) (t.seen l.fn.turns) (t.seen l.turns);
-      first : (chain : Chain) × LooksAt (t.who l.fn.turns) (t.seen l.fn.turns) chain (t.seen l.turns) × ((chain.trim < l.n) ⊎ (chain ≡ l.known.chain));
-      silent : SaysNone (t.who l.fn.turns) (t.seen l.fn.turns) (t.seen l.turns);
       unsealed : SealsNone (t.who l.fn.turns) (t.seen l.fn.turns) (t.seen l.turns);
+      silent : SaysNone (t.who l.fn.turns) (t.seen l.fn.turns) (t.seen l.turns);
       calm : CalmSince (t.who l.fn.turns) (t.seen l.fn.turns) (t.seen l.turns);
     }
 
