@@ -12,8 +12,8 @@ use Rattle.legal_journal.specs.Told.{Told, Running, MayAnswer, started}
 use Rattle.legal_journal.specs.declared.events.Event.{Event}
 use Rattle.legal_journal.specs.declared.events.FabricCall.{FabricCall}
 use Rattle.legal_journal.specs.declared.events.FabricAnswer.{FabricAnswer}
-use Rattle.legal_journal.specs.declared.events.FabricCall.TheVariants.{Begin, Carry, ReadChain, WriteChain}
-use Rattle.legal_journal.specs.declared.events.FabricAnswer.TheVariants.{Begun, Full, Done, Going, NoTicket, At, Down, Written, Conflict, MetaFault, Memory}
+use Rattle.legal_journal.specs.declared.events.FabricCall.TheVariants.{Begin, Carry, Forget, ReadChain, WriteChain}
+use Rattle.legal_journal.specs.declared.events.FabricAnswer.TheVariants.{Begun, Full, Done, Going, Gone, NoTicket, At, Down, Written, Conflict, MetaFault, Memory}
 use Rattle.legal_journal.specs.Moves.{Never, move_of}
 use Rattle.legal_journal.specs.Journal.{state_of, ends, IsOwn, IsAllowed, IsLegal}
 use Rattle.legal_journal.specs.Turns.{IsTurn}
@@ -52,6 +52,12 @@ module _ (may : ℕ → Entry → Type 0) (floor : List Entry → ℕ → Type 0
   write_answers x c Down t written conflict fault down memory = down refl
   write_answers x c Memory t written conflict fault down memory = memory refl
   write_answers x c a t written conflict fault down memory = never (WriteChain x c) a t t.event refl
+
+  pub forget_answers : (i n : ℕ) (answer : FabricAnswer) → IsTurn may floor shelf who old (Forget i n) answer new → answer ≢ Gone → answer ≢ NoTicket → answer ≢ Memory → ⊥
+  forget_answers i n Gone t gone none memory = gone refl
+  forget_answers i n NoTicket t gone none memory = none refl
+  forget_answers i n Memory t gone none memory = memory refl
+  forget_answers i n a t gone none memory = never (Forget i n) a t t.event refl
 
   -- an own ticket stays open until it is answered
   pub carry_answers : (i n word : ℕ) (r : Running) (answer : FabricAnswer) → IsLegal may floor shelf old → IsOwn ((state_of old).cells i) who n r → IsTurn may floor shelf who old (Carry i n word) answer new → ((a : Answer) → answer ≢ Done a) → answer ≢ Going → answer ≢ Memory → ⊥

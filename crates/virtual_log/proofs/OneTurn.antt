@@ -9,7 +9,7 @@ use Rattle.legal_journal.specs.Told.{Running, MayAnswer, started}
 use Rattle.legal_journal.specs.declared.events.Event.{Event}
 use Rattle.legal_journal.specs.declared.events.FabricCall.{FabricCall}
 use Rattle.legal_journal.specs.declared.events.FabricAnswer.{FabricAnswer}
-use Rattle.legal_journal.specs.declared.events.FabricCall.TheVariants.{Begin, Carry, ReadChain, WriteChain}
+use Rattle.legal_journal.specs.declared.events.FabricCall.TheVariants.{Begin, Carry, Forget, ReadChain, WriteChain}
 use Rattle.legal_journal.specs.declared.events.FabricAnswer.TheVariants.{Begun, Full, Done, Going, At, MetaFault, Down}
 use Rattle.legal_journal.specs.Moves.{Begins, Carries, Answers}
 use Rattle.legal_journal.specs.Journal.{CellState, State, cell_after, answered_by, state_of, start, IsOwn, IsLegal, IsLegalFrom, patience}
@@ -204,3 +204,10 @@ first_later who a b c more is f = record {
   rest = f.rest ++ more;
   seen = is ∙ (ap (λ es. es ++ more) f.seen ∙ append_assoc (a ++ f.others) (f.event ∷ f.rest) more);
 }
+
+-- a ticket that was who's at an earlier moment may be closed, whether it is open still
+pub may_drop : (may : ℕ → Entry → Type 0) (floor : List Entry → ℕ → Type 0) (shelf : List ℕ) (who : ℕ) (a b : List Event) (i t : ℕ) (r : Running) → i < length shelf → IsLegal may floor shelf a → Later may floor shelf a b → IsOwn ((state_of a).cells i) who t r → MayTurn may floor shelf who b (Forget i t)
+may_drop may floor shelf who a b i t r l was later own others apart legal =
+    let whole = later_trans may floor shelf a b (b ++ others) later (record { more = others; seen = refl; legal = legal }) in
+    let begun = (((sound may floor shelf a was).cell i).ops t r own.is_open).ticket in
+    record { there = l; asks = λ q h. ((later_continues may floor shelf a (b ++ others) whole).cell i).owner t begun ∙ own.own }

@@ -33,7 +33,7 @@ use Rattle.virtual_log.specs.declared.fault.Fault.TheVariants as fault
 use Rattle.virtual_log.specs.declared.underway.Step.{Step}
 use Rattle.virtual_log.specs.declared.underway.Step.TheVariants.{Starting, Appending, Reading, Asking, Finding, Closing, Dropping}
 use Rattle.virtual_log.specs.declared.underway.Going.{Going}
-use Rattle.virtual_log.specs.Turning.{IsAbove, Opened}
+use Rattle.virtual_log.specs.Turning.{IsAbove, IsForgotten, Opened}
 use Rattle.virtual_log.specs.Causes.{IsCalm}
 use Rattle.virtual_log.specs.Saying.{HasWord}
 use Rattle.virtual_log.specs.Holding.{Holds}
@@ -216,6 +216,13 @@ late_tail told r (answers.SealedTail n) late m ends lack = ends n refl
 late_tail told r (answers.NoQuorum u) late m ends lack = lack u refl
 late_tail told r a late m ends lack = m
 
+-- what is left to do is told by whether the ticket is closed
+pub forgets_by : (j u : ℕ) (answer : FabricAnswer) (closed : Bool) → IsForgotten answer closed → Forgets j u answer (if closed then Starting else Dropping j u)
+forgets_by j u fabric.Gone closed is = subst (λ (b : Bool). (if b then Starting else Dropping j u) ≡ Starting) (sym is) refl
+forgets_by j u fabric.NoTicket closed is = subst (λ (b : Bool). (if b then Starting else Dropping j u) ≡ Starting) (sym is) refl
+forgets_by j u fabric.Memory closed is = subst (λ (b : Bool). (if b then Starting else Dropping j u) ≡ Dropping j u) (sym is) refl
+forgets_by j u answer closed is = absurd is
+
 module _ (may : ℕ → Entry → Type 0) (floor : List Entry → ℕ → Type 0) (shelf : List ℕ) (who : ℕ) (old : List Event) (legal : IsLegal may floor shelf old) where
   pub may_forget : (j u : ℕ) → IsDropping who old j u → MayTurn may floor shelf who old (Forget j u)
   may_forget j u h others apart now =
@@ -234,12 +241,6 @@ module _ (may : ℕ → Entry → Type 0) (floor : List Entry → ℕ → Type 0
       inr (ap (λ (x : State). (x.cells j).told.ops u) n.now ∙ (ap (λ (c : CellState). c.told.ops u) (put_same w.cells j (cell_after who (w.cells j) (Misses u))) ∙ n.allowed))
   forgot_left j u fabric.Memory step new h f = inl (subst (λ (x : Step). HasTicket x j u) (sym f) (refl, refl))
   forgot_left j u answer step new h f = absurd f
-
-  pub forget_answers : (j u : ℕ) (answer : FabricAnswer) (new : List Event) → IsTurn may floor shelf who old (Forget j u) answer new → answer ≢ fabric.Gone → answer ≢ fabric.NoTicket → answer ≢ fabric.Memory → ⊥
-  forget_answers j u fabric.Gone new h gone none memory = gone refl
-  forget_answers j u fabric.NoTicket new h gone none memory = none refl
-  forget_answers j u fabric.Memory new h gone none memory = memory refl
-  forget_answers j u answer new h gone none memory = (took may floor shelf old h.others _ new h.legal (h.seen ∙ ap (λ es. (old ++ h.others) ++ es) h.event)).allowed
 
 module _ (may : ℕ → Entry → Type 0) (floor : List Entry → ℕ → Type 0) (shelf : List ℕ) (words : ℕ → Bool) (who : ℕ) (old : List Event) (k : Known) (legal : IsLegal may floor shelf old) (goes : GoesBy (state_of old) k.version k.chain k.tail) where
   still_goes : (call : FabricCall) (answer : FabricAnswer) (new : List Event) → IsTurn may floor shelf who old call answer new → GoesBy (state_of new) k.version k.chain k.tail

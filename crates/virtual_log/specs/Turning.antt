@@ -1,12 +1,13 @@
 -- What turns bring.
-use Rattle.std.specs.Prelude.{◌≡◌, ℕ, List, [], ◌∷◌, ◌++◌}
+use Rattle.std.specs.Prelude.{◌≡◌, ℕ, Bool, true, false, List, [], ◌∷◌, ◌++◌}
 use Rattle.delos_types.specs.declared.entry.Entry.{Entry}
 use Rattle.delos_types.specs.declared.chain.Chain.{Chain}
 use Rattle.loglet_api.specs.declared.call.Op.{Op}
 use Rattle.loglet_api.specs.declared.call.Answer.{Answer}
 use Rattle.legal_journal.specs.declared.events.Event.{Event}
 use Rattle.legal_journal.specs.declared.events.FabricCall.TheVariants.{Begin, Carry, ReadChain}
-use Rattle.legal_journal.specs.declared.events.FabricAnswer.TheVariants.{Begun, Done, At}
+use Rattle.legal_journal.specs.declared.events.FabricAnswer.{FabricAnswer}
+use Rattle.legal_journal.specs.declared.events.FabricAnswer.TheVariants.{Begun, Done, Gone, NoTicket, At, Memory}
 use Rattle.legal_journal.specs.Told.{Running, started, MayAnswer, answered}
 use Rattle.legal_journal.specs.Moves.{Begins, Answers, OnCell}
 use Rattle.legal_journal.specs.Journal.{State, state_of, after, IsOwn, IsLegal, ends_told}
@@ -76,6 +77,13 @@ pub record Opened (who : ℕ) (old : List Event) (i : ℕ) (op : Op) (t : ℕ) (
   pub own : IsOwn ((state_of new).cells i) who t (started ((state_of (old ++ first.others)).cells i).told op)
   pub event : HasEvent old (λ e. e ≡ record { who = who; call = Begin i op; answer = Begun t }) new
   pub now : state_of new ≡ after (state_of (old ++ first.others)) who (OnCell i (Begins op t))
+
+-- whether an operation is closed, by the answer to a call that asks for it
+abbrev pub IsForgotten : FabricAnswer → Bool → Type 0
+IsForgotten Gone closed = closed ≡ true
+IsForgotten NoTicket closed = closed ≡ true
+IsForgotten Memory closed = closed ≡ false
+IsForgotten answer closed = ⊥
 
 -- who's carry of the ticket was answered so
 abbrev pub IsAnswer : ℕ → ℕ → ℕ → Answer → Event → Type 0

@@ -2,9 +2,10 @@
 ghost use Rattle.std.specs.Prelude.{◌≡◌, ◌<◌, ℕ, false, length, IfOk, OnOk, IfErr, OnErr};
 ghost use Rattle.legal_journal.specs.Told.{Running};
 ghost use Rattle.legal_journal.specs.Journal.{state_of, IsOwn, IsLegal};
-ghost use Rattle.legal_journal.specs.Turns.{MayTurn, HasRight};
+ghost use Rattle.legal_journal.specs.Turns.{MayTurn, HasRight, IsTurn};
+ghost use Rattle.legal_journal.specs.declared.events.FabricAnswer.{FabricAnswer};
 ghost use Rattle.legal_journal.specs.Sealing.{is_seal};
-ghost use Rattle.virtual_log.specs.Turning.{Later, Looked, Opened, Answered};
+ghost use Rattle.virtual_log.specs.Turning.{Later, Looked, Opened, Answered, IsForgotten};
 ghost use Rattle.virtual_log.specs.Causes.{HasCause, CalmSince, IsCalmAnswer};
 ghost use Rattle.virtual_log.specs.declared.fault.Fault.TheVariants.{Memory};
 ghost use Rattle.virtual_log.specs.Writing.{WroteNone};
@@ -64,7 +65,27 @@ pub fn begin<T: Turns>(turns: &mut T, cell: u32, op: Op) -> Result<Ticket, Fault
     }
 }
 
-/// Carries an open operation to its end. Each carry takes its word from the chooser.
+/// Closes an own operation without its answer. Whether it is closed: where memory is wanting for that too, it isn't.
+pub fn forget<T: Turns>(turns: &mut T, cell: u32, ticket: Ticket) -> bool
+    requires may { MayTurn T.Law.may T.Law.floor T.Law.shelf (T.who turns.old) (T.seen turns.old) (FabricCall.Forget cell ticket) }
+    ensures later { Later T.Law.may T.Law.floor T.Law.shelf (T.seen turns.old) (T.seen turns.new) }
+    ensures who { T.who turns.new ≡ T.who turns.old }
+    ensures turn { (answer : FabricAnswer) × IsForgotten answer result
+        × IsTurn T.Law.may T.Law.floor T.Law.shelf (T.who turns.old) (T.seen turns.old) (FabricCall.Forget cell ticket) answer (T.seen turns.new) }
+    ensures unsealed { SealsNone (T.who turns.old) (T.seen turns.old) (T.seen turns.new) }
+    ensures silent { SaysNone (T.who turns.old) (T.seen turns.old) (T.seen turns.new) }
+    ensures calm { CalmSince (T.who turns.old) (T.seen turns.old) (T.seen turns.new) }
+{
+    match turns.turn(FabricCall::Forget(cell, ticket)) {
+        FabricAnswer::Gone => return true,
+        FabricAnswer::NoTicket => return true,
+        FabricAnswer::Memory => return false,
+        _ => unreachable!(),
+    }
+}
+
+/// Carries an open operation to its end. Each carry takes its word from the chooser. An operation that want of memory
+/// leaves is closed, unless memory is wanting for that too.
 pub fn carry_on<T: Turns, C: Chooser>(
     turns: &mut T,
     chooser: &mut C,
@@ -90,7 +111,11 @@ pub fn carry_on<T: Turns, C: Chooser>(
         match turns.turn(FabricCall::Carry(cell, ticket, word)) {
             FabricAnswer::Done(answer) => return Ok(answer),
             FabricAnswer::Going => {}
-            FabricAnswer::Memory => return Err(AllocError),
+            FabricAnswer::Memory => {
+                // No one else can close it.
+                let _ = forget(turns, cell, ticket);
+                return Err(AllocError);
+            }
             _ => unreachable!(),
         }
     }

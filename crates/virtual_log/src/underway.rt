@@ -25,6 +25,7 @@ use crate::calls::Known;
 use crate::fault::Fault;
 use crate::log::VirtualLog;
 use crate::replace::last_of;
+use crate::turn;
 use chain_map::change::extend;
 use delos_types::chain::Segment;
 use delos_types::entry::Entry;
@@ -93,12 +94,10 @@ fn forget<T: Turns>(turns: &mut T, cell: u32, ticket: Ticket) -> Step
     ensures turn { (answer : FabricAnswer) × Forgets cell ticket answer result
         × IsTurn T.Law.may T.Law.floor T.Law.shelf (T.who turns.old) (T.seen turns.old) (FabricCall.Forget cell ticket) answer (T.seen turns.new) }
 {
-    match turns.turn(FabricCall::Forget(cell, ticket)) {
-        FabricAnswer::Gone => return Step::Starting,
-        FabricAnswer::NoTicket => return Step::Starting,
-        FabricAnswer::Memory => return Step::Dropping { cell, ticket },
-        _ => unreachable!(),
+    if turn::forget(turns, cell, ticket) {
+        return Step::Starting;
     }
+    Step::Dropping { cell, ticket }
 }
 
 /// Begins the append on the last loglet of the known chain.

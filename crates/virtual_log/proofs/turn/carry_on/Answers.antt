@@ -1,11 +1,13 @@
 use Rattle.std.proofs.Common.{◌++◌, ◌∙◌, refl, sym, subst, arith, append_assoc}
+use Rattle.legal_journal.specs.declared.events.FabricCall.TheVariants.{Forget}
 use Rattle.legal_journal.specs.Journal.{state_of, IsOwn}
+use Rattle.legal_journal.specs.Turns.{MayTurn}
 use Rattle.virtual_log.specs.Turning.{OnlyOwn, Answered}
-use Rattle.virtual_log.proofs.OneTurn.{may_carry, going_ok, going_still, done_ok, answered_since, nil, turn_later, later_refl, later_trans}
+use Rattle.virtual_log.proofs.OneTurn.{may_carry, may_drop, going_ok, going_still, done_ok, answered_since, nil, turn_later, later_refl, later_trans}
 use Rattle.virtual_log.proofs.Owning.{own_split, still_trans, still_refl}
 use Rattle.virtual_log.proofs.Writing.{turn_wrote, wrote_refl, wrote_trans, wrote_by}
 use Rattle.virtual_log.proofs.Sealing.{turn_none, seals_refl, seals_trans, seals_as}
-use Rattle.virtual_log.proofs.Saying.{turn_says, says_refl, says_on}
+use Rattle.virtual_log.proofs.Saying.{turn_says, says_refl, says_then, says_on}
 use Rattle.virtual_log.proofs.Calming.{turn_calm, calm_refl, calm_then}
 use Rattle.virtual_log.proofs.Answering.{carry_answers}
 use Rattle.virtual_log.proofs.turn.carry_on.Goals as goal
@@ -103,14 +105,6 @@ returns-in-Done-clause-unsealed g c =
     seals_trans (t.who c.args.turns.now) (t.seen c.args.turns.now) (t.seen l.turns) (t.seen c.turn.new.self) l.invariant.unsealed
     (seals_as _ _ _ _ l.invariant.who (turn_none p.may p.floor p.shelf _ _ _ _ _ c.in-Done.ensures.turn refl))
 
-pub returns-in-Memory-clause-unsealed : goal.returns-in-Memory-clause-unsealed
-returns-in-Memory-clause-unsealed g c =
-    let t = g.T.Turns in
-    let p = g.T.Law.Rules in
-    let l = c.loop-answer in
-    seals_trans (t.who c.args.turns.now) (t.seen c.args.turns.now) (t.seen l.turns) (t.seen c.turn.new.self) l.invariant.unsealed
-    (seals_as _ _ _ _ l.invariant.who (turn_none p.may p.floor p.shelf _ _ _ _ _ c.in-Memory.ensures.turn refl))
-
 pub returns-in-Done-clause-words : goal.returns-in-Done-clause-words
 returns-in-Done-clause-words g c =
     let t = g.T.Turns in
@@ -119,14 +113,6 @@ returns-in-Done-clause-words g c =
     says_on (g.C.Chooser.may c.args.chooser.now) (g.C.Chooser.may l.chooser) (t.who c.args.turns.now) (t.who l.turns) (t.seen c.args.turns.now) (t.seen l.turns) (t.seen c.turn.new.self) l.invariant.same l.invariant.who l.invariant.words
     (turn_says p.may p.floor p.shelf (t.who l.turns) (t.seen l.turns) (g.C.Chooser.may l.chooser) _ _ _ c.in-Done.ensures.turn (c.word-word.ensures.given, omega arith))
 
-pub returns-in-Memory-clause-words : goal.returns-in-Memory-clause-words
-returns-in-Memory-clause-words g c =
-    let t = g.T.Turns in
-    let p = g.T.Law.Rules in
-    let l = c.loop-answer in
-    says_on (g.C.Chooser.may c.args.chooser.now) (g.C.Chooser.may l.chooser) (t.who c.args.turns.now) (t.who l.turns) (t.seen c.args.turns.now) (t.seen l.turns) (t.seen c.turn.new.self) l.invariant.same l.invariant.who l.invariant.words
-    (turn_says p.may p.floor p.shelf (t.who l.turns) (t.seen l.turns) (g.C.Chooser.may l.chooser) _ _ _ c.in-Memory.ensures.turn (c.word-word.ensures.given, omega arith))
-
 pub returns-in-Done-clause-calm : goal.returns-in-Done-clause-calm
 returns-in-Done-clause-calm g c = λ is.
     let t = g.T.Turns in
@@ -134,14 +120,6 @@ returns-in-Done-clause-calm g c = λ is.
     let l = c.loop-answer in
     calm_then (t.who c.args.turns.now) (t.who l.turns) (t.seen c.args.turns.now) (t.seen l.turns) (t.seen c.turn.new.self) l.invariant.who l.invariant.calm
     (turn_calm p.may p.floor p.shelf _ _ _ _ _ c.in-Done.ensures.turn is)
-
-pub returns-in-Memory-clause-memory : goal.returns-in-Memory-clause-memory
-returns-in-Memory-clause-memory g c =
-    let t = g.T.Turns in
-    let p = g.T.Law.Rules in
-    let l = c.loop-answer in
-    calm_then (t.who c.args.turns.now) (t.who l.turns) (t.seen c.args.turns.now) (t.seen l.turns) (t.seen c.turn.new.self) l.invariant.who l.invariant.calm
-    (turn_calm p.may p.floor p.shelf _ _ _ _ _ c.in-Memory.ensures.turn tt)
 
 pub unreachable-requires : goal.unreachable-requires
 unreachable-requires g c =
@@ -152,3 +130,60 @@ unreachable-requires g c =
     carry_answers p.may p.floor p.shelf (t.who l.turns) (t.seen l.turns) (t.seen c.turn.new.self) c.args.cell c.args.ticket _ r _ l.invariant.later.legal
     (subst (λ k. IsOwn ((state_of (t.seen l.turns)).cells c.args.cell) k c.args.ticket r) (sym l.invariant.who) (l.invariant.own r c.requires.own.1))
     c.turn.ensures.turn c.in_default.not-Done c.in_default.not-Going c.in_default.not-Memory
+
+pub forget-requires : goal.forget-requires
+forget-requires g c =
+    let t = g.T.Turns in
+    let p = g.T.Law.Rules in
+    let l = c.loop-answer in
+    let r = c.requires.own.0 in
+    let mid = t.seen c.turn.new.self in
+    record {
+      may = subst (λ w. MayTurn p.may p.floor p.shelf w mid (Forget c.args.cell c.args.ticket)) (sym c.turn.ensures.who)
+          (may_drop p.may p.floor p.shelf (t.who l.turns) (t.seen l.turns) mid c.args.cell c.args.ticket r c.requires.cell l.invariant.later.legal
+          (turn_later p.may p.floor p.shelf _ _ _ _ _ c.in-Memory.ensures.turn)
+          (subst (λ k. IsOwn ((state_of (t.seen l.turns)).cells c.args.cell) k c.args.ticket r) (sym l.invariant.who) (l.invariant.own r c.requires.own.1)));
+    }
+
+pub returns-in-Memory-clause-later : goal.returns-in-Memory-clause-later
+returns-in-Memory-clause-later g c =
+    let t = g.T.Turns in
+    let p = g.T.Law.Rules in
+    let l = c.loop-answer in
+    later_trans p.may p.floor p.shelf (t.seen c.args.turns.now) (t.seen c.turn.new.self) (t.seen c.forget.new.turns)
+    (later_trans p.may p.floor p.shelf (t.seen c.args.turns.now) (t.seen l.turns) (t.seen c.turn.new.self) l.invariant.later (turn_later p.may p.floor p.shelf _ _ _ _ _ c.in-Memory.ensures.turn))
+    c.forget.ensures.later
+
+pub returns-in-Memory-clause-who : goal.returns-in-Memory-clause-who
+returns-in-Memory-clause-who g c = c.forget.ensures.who ∙ (c.turn.ensures.who ∙ c.loop-answer.invariant.who)
+
+pub returns-in-Memory-clause-unsealed : goal.returns-in-Memory-clause-unsealed
+returns-in-Memory-clause-unsealed g c =
+    let t = g.T.Turns in
+    let p = g.T.Law.Rules in
+    let l = c.loop-answer in
+    seals_trans (t.who c.args.turns.now) (t.seen c.args.turns.now) (t.seen c.turn.new.self) (t.seen c.forget.new.turns)
+    (seals_trans (t.who c.args.turns.now) (t.seen c.args.turns.now) (t.seen l.turns) (t.seen c.turn.new.self) l.invariant.unsealed
+    (seals_as _ _ _ _ l.invariant.who (turn_none p.may p.floor p.shelf _ _ _ _ _ c.in-Memory.ensures.turn refl)))
+    (seals_as _ _ _ _ (c.turn.ensures.who ∙ l.invariant.who) c.forget.ensures.unsealed)
+
+pub returns-in-Memory-clause-words : goal.returns-in-Memory-clause-words
+returns-in-Memory-clause-words g c =
+    let t = g.T.Turns in
+    let p = g.T.Law.Rules in
+    let l = c.loop-answer in
+    let words = g.C.Chooser.may c.args.chooser.now in
+    says_then words (t.who c.args.turns.now) (t.who c.turn.new.self) (t.seen c.args.turns.now) (t.seen c.turn.new.self) (t.seen c.forget.new.turns) (c.turn.ensures.who ∙ l.invariant.who)
+    (says_on words (g.C.Chooser.may l.chooser) (t.who c.args.turns.now) (t.who l.turns) (t.seen c.args.turns.now) (t.seen l.turns) (t.seen c.turn.new.self) l.invariant.same l.invariant.who l.invariant.words
+    (turn_says p.may p.floor p.shelf (t.who l.turns) (t.seen l.turns) (g.C.Chooser.may l.chooser) _ _ _ c.in-Memory.ensures.turn (c.word-word.ensures.given, omega arith)))
+    (c.forget.ensures.silent words)
+
+pub returns-in-Memory-clause-memory : goal.returns-in-Memory-clause-memory
+returns-in-Memory-clause-memory g c =
+    let t = g.T.Turns in
+    let p = g.T.Law.Rules in
+    let l = c.loop-answer in
+    calm_then (t.who c.args.turns.now) (t.who c.turn.new.self) (t.seen c.args.turns.now) (t.seen c.turn.new.self) (t.seen c.forget.new.turns) (c.turn.ensures.who ∙ l.invariant.who)
+    (calm_then (t.who c.args.turns.now) (t.who l.turns) (t.seen c.args.turns.now) (t.seen l.turns) (t.seen c.turn.new.self) l.invariant.who l.invariant.calm
+    (turn_calm p.may p.floor p.shelf _ _ _ _ _ c.in-Memory.ensures.turn tt))
+    c.forget.ensures.calm
