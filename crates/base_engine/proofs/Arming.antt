@@ -1,6 +1,7 @@
 -- What calls leave of what a stop chose, one after another.
-use Rattle.std.proofs.Common.{◌≡◌, ◌≢◌, ◌⊎◌, inl, inr, ℕ, ◌+◌, ◌-◌, ◌^◌, ◌<◌, ◌≤◌, true, false, List, refl, sym, ap, ◌∙◌, subst, ⊎_elim, arith}
+use Rattle.std.proofs.Common.{Bool, ◌≡◌, ◌≢◌, ◌⊎◌, inl, inr, ℕ, ◌+◌, ◌-◌, ◌^◌, ◌<◌, ◌≤◌, true, false, List, refl, sym, ap, ◌∙◌, subst, ⊎_elim, arith}
 use Rattle.std.specs.Prelude.{min}
+use Rattle.std.proofs.lemmas.Bool.{cases_lt}
 use Rattle.std.proofs.Math.Nat.{min-le_left, min-le_right, le-min}
 use Rattle.delos_types.specs.Spaces.{SpaceMap}
 use Rattle.delos_types.specs.declared.cause.Cause.{Cause}
@@ -44,31 +45,36 @@ rose_by_more x y z h k (inr e) r = omega (arith, min-le_right (x + 2) (2 ^ 64 - 
 
 -- One step
 
+-- it is up as it was, and its disk counted no fault: so nothing was opened
+not_opened : (word : ℕ) (a b : ReplicaView) → b.down ≡ a.down → b.faults ≡ a.faults → b.down ≡ false → (a.down ≡ true) ⊎ (a.faults < b.faults) → b.told ≡ word
+not_opened word a b same none up (inl d) = let no : true ≡ false = sym d ∙ sym same ∙ up in absurd (cc)
+not_opened word a b same none up (inr less) = absurd (omega (arith, less, none))
+
 pub arming_refl : (word : ℕ) (a : ReplicaView) → LeavesArming word a a
-arming_refl word a = record { armed = inl refl; told = inl refl; down = λ h. inl h; counts = omega (arith) }
+arming_refl word a = record { armed = inl refl; told = inl refl; opened = not_opened word a a refl refl; down = λ h. inl h; counts = omega (arith) }
 
 pub arming_same : (word : ℕ) (a b : ReplicaView) → b ≡ a → LeavesArming word a b
 arming_same word a b same = subst (λ x. LeavesArming word a x) (sym same) (arming_refl word a)
 
 -- only what waits changed
 pub arming_rest : (word : ℕ) (a b : ReplicaView) → b ≡ record a { kept = b.kept } → LeavesArming word a b
-arming_rest word a b is = subst (λ x. LeavesArming word a x) (sym is) record { armed = inl refl; told = inl refl; down = λ h. inl h; counts = omega (arith) }
+arming_rest word a b is = subst (λ x. LeavesArming word a x) (sym is) record { armed = inl refl; told = inl refl; opened = not_opened word a (record a { kept = b.kept }) refl refl; down = λ h. inl h; counts = omega (arith) }
 
 -- only the disk's bytes are others
 pub arming_bytes : (word : ℕ) (a b : ReplicaView) → b ≡ record a { disk = b.disk } → LeavesArming word a b
-arming_bytes word a b is = subst (λ x. LeavesArming word a x) (sym is) record { armed = inl refl; told = inl refl; down = λ h. inl h; counts = omega (arith) }
+arming_bytes word a b is = subst (λ x. LeavesArming word a x) (sym is) record { armed = inl refl; told = inl refl; opened = not_opened word a (record a { disk = b.disk }) refl refl; down = λ h. inl h; counts = omega (arith) }
 
 pub arming_advanced : (word : ℕ) (state : List Entry → SpaceMap → Type 0) (old : ReplicaView) (e : Entry) (new : ReplicaView) → Advanced state old e new → LeavesArming word old new
-arming_advanced word state old e new a = record { armed = inl a.armed; told = inl a.told; down = λ h. let no : true ≡ false = sym h ∙ a.up in absurd (cc); counts = omega (arith, a.faults) }
+arming_advanced word state old e new a = record { armed = inl a.armed; told = inl a.told; opened = not_opened word old new (a.up ∙ sym a.was_up) a.faults; down = λ h. let no : true ≡ false = sym h ∙ a.up in absurd (cc); counts = omega (arith, a.faults) }
 
 pub arming_failed : (word : ℕ) (state : List Entry → SpaceMap → Type 0) (old : ReplicaView) (e : Entry) (new : ReplicaView) → Failed state old e new → LeavesArming word old new
-arming_failed word state old e new f = record { armed = inr (ap (λ (v : ReplicaView). v.armed) f.is, f.rose); told = inl (ap (λ (v : ReplicaView). v.told) f.is); down = λ h. inr f.rose; counts = f.counts }
+arming_failed word state old e new f = record { armed = inr (ap (λ (v : ReplicaView). v.armed) f.is, f.rose); told = inl (ap (λ (v : ReplicaView). v.told) f.is); opened = λ up came. let no : true ≡ false = sym (ap (λ (v : ReplicaView). v.down) f.is) ∙ up in absurd (cc); down = λ h. inr f.rose; counts = f.counts }
 
 pub arming_recovered : (word : ℕ) (old new : ReplicaView) → Recovered word old new → LeavesArming word old new
-arming_recovered word old new r = record { armed = inl r.armed; told = inr r.told; down = λ h. let no : true ≡ false = sym h ∙ r.up in absurd (cc); counts = omega (arith, r.faults) }
+arming_recovered word old new r = record { armed = inl r.armed; told = inr r.told; opened = λ up came. r.told; down = λ h. let no : true ≡ false = sym h ∙ r.up in absurd (cc); counts = omega (arith, r.faults) }
 
 pub arming_down : (word : ℕ) (old new : ReplicaView) → StaysDown word old new → LeavesArming word old new
-arming_down word old new d = record { armed = inl (ap (λ (v : ReplicaView). v.armed) d.is); told = inr (ap (λ (v : ReplicaView). v.told) d.is); down = λ h. inl d.was; counts = d.counts }
+arming_down word old new d = record { armed = inl (ap (λ (v : ReplicaView). v.armed) d.is); told = inr (ap (λ (v : ReplicaView). v.told) d.is); opened = λ up came. ap (λ (v : ReplicaView). v.told) d.is; down = λ h. inl d.was; counts = d.counts }
 
 -- One step after another
 
@@ -91,10 +97,20 @@ pub down_since : (word : ℕ) (a b : ReplicaView) (z : ℕ) → LeavesArming wor
 down_since word a b z h k (inl d) = ⊎_elim (λ x. inl x) (λ r. inr (rose_until a.faults b.faults z h.counts k r)) (h.down d)
 down_since word a b z h k (inr r) = inr (rose_since a.faults b.faults z h.counts k r)
 
+-- the second opened it, or the first did, and the second left that
+opened_on : (word : ℕ) (a b c : ReplicaView) (d : Bool) → b.down ≡ d → LeavesArming word a b → LeavesArming word b c → c.down ≡ false → (a.down ≡ true) ⊎ (a.faults < c.faults) → c.told ≡ word
+opened_on word a b c true is p q up came = q.opened up (inl is)
+opened_on word a b c false is p q up came =
+    ⊎_elim
+    (λ (less : b.faults < c.faults). q.opened up (inr less))
+    (λ (none : c.faults ≤ b.faults). ⊎_elim (λ (e : c.told ≡ b.told). e ∙ p.opened is (⊎_elim (λ d. inl d) (λ (less : a.faults < c.faults). inr (omega (arith, less, none))) came)) (λ e. e) q.told)
+    (cases_lt b.faults c.faults)
+
 pub arming_trans : (word : ℕ) (a b c : ReplicaView) → LeavesArming word a b → LeavesArming word b c → LeavesArming word a c
 arming_trans word a b c p q = record {
   armed = armed_on a b c p.counts q.counts p.armed q.armed;
   told = told_on word a.told b.told c.told p.told q.told;
+  opened = opened_on word a b c b.down refl p q;
   down = λ h. down_since word a b c.faults p q.counts (q.down h);
   counts = omega (arith, p.counts, q.counts);
 }

@@ -1,7 +1,7 @@
 -- A replica's state, as the log goes on and entries are applied.
 use Rattle.std.proofs.Common.{Bool, true, false, ◌≡◌, ◌⊎◌, inl, inr, ℕ, zero, suc, ◌+◌, ◌<◌, ◌≤◌, List, [], ◌∷◌, ◌++◌, length, Some, None, refl, sym, ap, ◌∙◌, subst, ⊎_elim, arith}
 use Rattle.std.specs.Prelude.{slice_get, max}
-use Rattle.std.proofs.lemmas.List.{append_assoc, length-append}
+use Rattle.std.proofs.lemmas.List.{append_assoc, append-nil, length-append}
 use Rattle.std.proofs.Math.Nat.{le-max_left, le-max_right, max-le}
 use Rattle.delos_types.specs.Spaces.{SpaceMap}
 use Rattle.delos_types.specs.declared.entry.Entry.{Entry}
@@ -14,13 +14,18 @@ use Rattle.virtual_log.proofs.OneTurn.{later_continues}
 use Rattle.virtual_log.specs.Holding.{IsTrimmed, Stays}
 use Rattle.base_engine.specs.Reading.{IsFront}
 use Rattle.replica_api.specs.Replica.{Saved, ReplicaView, saved_in, MayFind, SpellsOne, Survives, Advances, Advanced, Failed, MayFindDuring, Recovered, armed_by}
-use Rattle.base_engine.specs.Following.{IsStateAt, Follows, IsKnown, Reaches, IsAt, IsFound}
+use Rattle.base_engine.specs.Following.{IsStateAt, IsAsked, Follows, IsKnown, Reaches, IsAt, IsFound, GoesOn}
 
 push_cases : (log : List Entry) (e x : Entry) (pos : ℕ) → slice_get (log ++ e ∷ []) pos ≡ Some x → (slice_get log pos ≡ Some x) ⊎ ((pos ≡ length log) × (x ≡ e))
 push_cases [] e x zero h = let same : x ≡ e = cc in inr (refl, same)
 push_cases [] e x (suc n) h = absurd (cc)
 push_cases (y ∷ ys) e x zero h = inl h
 push_cases (y ∷ ys) e x (suc n) h = ⊎_elim (λ k. inl k) (λ k. inr (ap suc k.0, k.1)) (push_cases ys e x n h)
+
+append_cases : (xs ys : List Entry) (k : ℕ) (e : Entry) → slice_get (xs ++ ys) k ≡ Some e → (slice_get xs k ≡ Some e) ⊎ ((j : ℕ) × (k ≡ length xs + j) × (slice_get ys j ≡ Some e))
+append_cases [] ys k e h = inr (k, omega arith, h)
+append_cases (x ∷ xs) ys zero e h = inl h
+append_cases (x ∷ xs) ys (suc n) e h = ⊎_elim (λ i. inl i) (λ t. inr (t.0, omega (arith, t.1), t.2)) (append_cases xs ys n e h)
 
 front_push : (holds : List Event → ℕ → Entry → Type 0) (seen : List Event) (log : List Entry) (e : Entry) (c : ℕ) → IsFront holds seen log → length log ≡ c → holds seen c e → IsFront holds seen (log ++ e ∷ [])
 front_push holds seen log e c front size here pos x h =
@@ -44,7 +49,9 @@ module _ (holds : List Event → ℕ → Entry → Type 0) (state : List Entry �
     at = subst (λ x. IsStateAt holds state seen x) (sym same) h.now;
     forward = omega (arith, ap (λ (x : Saved). x.cursor) same);
   }
-  found_state v s h (inr asked) = record { at = (h.asked s asked).at; forward = omega (arith, (h.asked s asked).next) }
+  found_state v s h (inr asked) =
+      let k = h.asked s asked in
+      record { at = state_next v k.entry s.contents s h.now k.held k.led k.next refl; forward = omega (arith, k.next) }
 
   pub follows_done : (old new : ReplicaView) (e : Entry) → Follows holds state spells seen old → holds seen old.cursor e → Advanced state old e new → Survives spells new → Follows holds state spells seen new
   follows_done old new e h here a survives = record {
@@ -62,10 +69,13 @@ module _ (holds : List Event → ℕ → Entry → Type 0) (state : List Entry �
     asked = λ s is.
         let both : Some next ≡ Some s = sym (ap (λ (v : ReplicaView). v.asked) f.is) ∙ is in
         let same : next ≡ s = cc in
-        record {
-          at = state_next old e f.next s h.now here f.led (sym (ap (λ (x : Saved). x.cursor) same)) (sym (ap (λ (x : Saved). x.contents) same));
-          next = sym (ap (λ (x : Saved). x.cursor) same) ∙ ap (λ (v : ReplicaView). v.cursor + 1) (sym f.is);
-        };
+        subst (λ n. IsAsked holds state seen n s) (sym (ap saved_in f.is))
+        (record {
+          entry = e;
+          held = here;
+          led = subst (Advances state old.contents old.cursor e) (ap (λ (x : Saved). x.contents) same) f.led;
+          next = sym (ap (λ (x : Saved). x.cursor) same);
+        });
     survives = survives;
   }
     where
@@ -86,7 +96,7 @@ module _ (holds : List Event → ℕ → Entry → Type 0) (state : List Entry �
   pub follows_same : (old new : ReplicaView) → Follows holds state spells seen old → saved_in new ≡ saved_in old → new.asked ≡ old.asked → Survives spells new → Follows holds state spells seen new
   follows_same old new h same asked survives = record {
     now = subst (λ s. IsStateAt holds state seen s) (sym same) h.now;
-    asked = λ s is. let k = h.asked s (sym asked ∙ is) in record { at = k.at; next = k.next ∙ ap (λ (x : Saved). x.cursor + 1) (sym same) };
+    asked = λ s is. subst (λ n. IsAsked holds state seen n s) (sym same) (h.asked s (sym asked ∙ is));
     survives = survives;
   }
 
@@ -97,6 +107,43 @@ module _ (holds : List Event → ℕ → Entry → Type 0) (state : List Entry �
   pub found_near : (v : ReplicaView) (s : Saved) → Follows holds state spells seen v → MayFind v s → s.cursor ≤ v.cursor + 1
   found_near v s h (inl same) = omega (arith, ap (λ (x : Saved). x.cursor) same)
   found_near v s h (inr asked) = omega (arith, (h.asked s asked).next)
+
+  -- By which entries it went on
+
+  pub goes_none : (old new : Saved) → new ≡ old → GoesOn holds state seen old new
+  goes_none old new same =
+      subst (λ x. GoesOn holds state seen old x) (sym same)
+      (record { entries = []; size = omega (arith); held = λ k e at. absurd (cc); led = λ log size h. subst (λ l. state l old.contents) (sym (append-nil log)) h })
+
+  pub goes_one : (old new : Saved) (e : Entry) → holds seen old.cursor e → Advances state old.contents old.cursor e new.contents → new.cursor ≡ old.cursor + 1 → GoesOn holds state seen old new
+  goes_one old new e here led at = record { entries = e ∷ []; size = omega (arith, at); held = first_held; led = led }
+    where
+      first_held : (k : ℕ) (x : Entry) → slice_get (e ∷ []) k ≡ Some x → holds seen (old.cursor + k) x
+      first_held zero x h =
+          let same : e ≡ x = cc in
+          let first : old.cursor ≡ old.cursor + 0 = omega arith in
+          subst (λ i. holds seen i x) first (subst (λ y. holds seen old.cursor y) same here)
+      first_held (suc n) x h = absurd (cc)
+
+  pub goes_found : (v : ReplicaView) (s : Saved) → Follows holds state spells seen v → MayFind v s → GoesOn holds state seen (saved_in v) s
+  goes_found v s h (inl same) = goes_none (saved_in v) s same
+  goes_found v s h (inr asked) = let k = h.asked s asked in goes_one (saved_in v) s k.entry k.held k.led k.next
+
+  pub goes_on : (a b c : Saved) → GoesOn holds state seen a b → GoesOn holds state seen b c → GoesOn holds state seen a c
+  goes_on a b c f g = record {
+    entries = f.entries ++ g.entries;
+    size = omega (arith, f.size, g.size, length-append f.entries g.entries);
+    held = λ k e at.
+        ⊎_elim
+        (λ (first : slice_get f.entries k ≡ Some e). f.held k e first)
+        (λ (next : (j : ℕ) × (k ≡ length f.entries + j) × (slice_get g.entries j ≡ Some e)).
+        let here : b.cursor + next.0 ≡ a.cursor + k = omega (arith, f.size, next.1) in
+        subst (λ i. holds seen i e) here (g.held next.0 e next.2))
+        (append_cases f.entries g.entries k e at);
+    led = λ log size h.
+        subst (λ l. state l c.contents) (append_assoc log f.entries g.entries)
+        (g.led (log ++ f.entries) (omega (arith, size, f.size, length-append log f.entries)) (f.led log size h));
+  }
 
   -- What a crash leaves
 
@@ -121,20 +168,30 @@ module _ (holds : List Event → ℕ → Entry → Type 0) (state : List Entry �
 -- As the journal goes on
 
 module _ (may : ℕ → Entry → Type 0) (floor : List Entry → ℕ → Type 0) (shelf : List ℕ) (holds : List Event → ℕ → Entry → Type 0) (state : List Entry → SpaceMap → Type 0) (spells : List ℕ → Saved → Type 0) (holding : Stays may floor shelf holds) where
+  held_later : (old new : List Event) (pos : ℕ) (e : Entry) → Later may floor shelf old new → holds old pos e → holds new pos e
+  held_later old new pos e later h = subst (λ es. holds es pos e) (sym later.seen) (holding old later.more pos e (subst (IsLegal may floor shelf) later.seen later.legal) h)
+
   state_later : (old new : List Event) (s : Saved) → Later may floor shelf old new → IsStateAt holds state old s → IsStateAt holds state new s
   state_later old new s later h = record {
     log = h.log;
     size = h.size;
-    front = λ pos e at. subst (λ es. holds es pos e) (sym later.seen) (holding old later.more pos e (subst (IsLegal may floor shelf) later.seen later.legal) (h.front pos e at));
+    front = λ pos e at. held_later old new pos e later (h.front pos e at);
     led = h.led;
   }
 
   pub follows_later : (old new : List Event) (v : ReplicaView) → Later may floor shelf old new → Follows holds state spells old v → Follows holds state spells new v
   follows_later old new v later h = record {
     now = state_later old new (saved_in v) later h.now;
-    asked = λ s is. record { at = state_later old new s later (h.asked s is).at; next = (h.asked s is).next };
+    asked = λ s is. let k = h.asked s is in record { entry = k.entry; held = held_later old new v.cursor k.entry later k.held; led = k.led; next = k.next };
     survives = h.survives;
   }
+
+  -- it went on, and went on again
+  pub goes_after : (old new : List Event) (a b c : Saved) → Later may floor shelf old new → GoesOn holds state old a b → GoesOn holds state new b c → GoesOn holds state new a c
+  goes_after old new a b c later f g =
+      goes_on holds state spells new a b c
+      (record { entries = f.entries; size = f.size; held = λ k e at. held_later old new (a.cursor + k) e later (f.held k e at); led = f.led })
+      g
 
   -- one run after another
   pub crash_on : (old new : List Event) (a b v : ReplicaView) → Later may floor shelf old new → a.cursor ≤ b.cursor

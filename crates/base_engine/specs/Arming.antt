@@ -1,16 +1,17 @@
 -- What the calls of a node leave of what a stop chose: whether the disk is armed, and the last word or count that was told.
-use Rattle.std.specs.Prelude.{◌≡◌, ◌⊎◌, ℕ, ◌+◌, ◌-◌, ◌^◌, ◌≤◌, true, min}
+use Rattle.std.specs.Prelude.{◌≡◌, ◌⊎◌, ℕ, ◌+◌, ◌-◌, ◌^◌, ◌<◌, ◌≤◌, true, false, min}
 use Rattle.delos_types.specs.declared.cause.Cause.TheVariants as cause
 use Rattle.disk_model.specs.Disk.{Rose}
 use Rattle.replica_api.specs.Replica.{ReplicaView, StaysDown, ArmedAsBefore}
 use Rattle.base_engine.specs.declared.fault.Fault.{Fault}
 use Rattle.base_engine.specs.declared.fault.Fault.TheVariants.{Because, Memory}
 
--- The disk is armed as it was, or failed. A reopening in between was given this word. Where the replica is down now, it was
--- before, or its disk failed.
+-- The disk is armed as it was, or failed. A reopening in between was given this word; there was one where the replica was down,
+-- or its disk failed, and it is up now. Where it is down now, it was before, or its disk failed.
 pub record LeavesArming (word : ℕ) (old new : ReplicaView) : Type 0 where
   pub armed : ArmedAsBefore old new
   pub told : (new.told ≡ old.told) ⊎ (new.told ≡ word)
+  pub opened : new.down ≡ false → (old.down ≡ true) ⊎ (old.faults < new.faults) → new.told ≡ word
   pub down : new.down ≡ true → (old.down ≡ true) ⊎ Rose old.faults new.faults
   pub counts : old.faults ≤ new.faults
 

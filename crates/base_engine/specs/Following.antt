@@ -1,5 +1,5 @@
 -- A replica follows its log.
-use Rattle.std.specs.Prelude.{◌≡◌, ℕ, ◌+◌, ◌≤◌, ◌⊎◌, true, false, List, length, Some, max}
+use Rattle.std.specs.Prelude.{◌≡◌, ℕ, ◌+◌, ◌≤◌, ◌⊎◌, true, false, List, ◌++◌, length, slice_get, Some, max}
 use Rattle.delos_types.specs.Spaces.{SpaceMap}
 use Rattle.delos_types.specs.declared.entry.Entry.{Entry}
 use Rattle.disk_model.specs.Disk.{Rose}
@@ -10,7 +10,7 @@ use Rattle.legal_journal.specs.Journal.{state_of, tail_of, trim_of}
 use Rattle.virtual_log.specs.Turning.{OnlyOwn}
 use Rattle.virtual_log.specs.Holding.{IsTrimmed}
 use Rattle.base_engine.specs.Reading.{IsFront}
-use Rattle.replica_api.specs.Replica.{Saved, ReplicaView, saved_in, Survives}
+use Rattle.replica_api.specs.Replica.{Saved, ReplicaView, saved_in, Survives, Advances}
 
 -- the space is what the log's first entries lead to, so many as the cursor says
 pub record IsStateAt (holds : List Event → ℕ → Entry → Type 0) (state : List Entry → SpaceMap → Type 0) (seen : List Event) (s : Saved) : Type 0 where
@@ -19,10 +19,20 @@ pub record IsStateAt (holds : List Event → ℕ → Entry → Type 0) (state : 
   pub front : IsFront holds seen log
   pub led : state log s.contents
 
--- so is what the disk failed to keep, which is one entry further
-pub record IsAsked (holds : List Event → ℕ → Entry → Type 0) (state : List Entry → SpaceMap → Type 0) (seen : List Event) (cursor : ℕ) (s : Saved) : Type 0 where
-  pub at : IsStateAt holds state seen s
-  pub next : s.cursor ≡ cursor + 1
+-- what the disk failed to keep is one entry further, by the one that the log holds there
+pub record IsAsked (holds : List Event → ℕ → Entry → Type 0) (state : List Entry → SpaceMap → Type 0) (seen : List Event) (now s : Saved) : Type 0 where
+  pub entry : Entry
+  pub held : holds seen now.cursor entry
+  pub led : Advances state now.contents now.cursor entry s.contents
+  pub next : s.cursor ≡ now.cursor + 1
+
+-- It went on from where it was by these entries, which the log holds at their positions, one behind another: whatever led to the old space leads with
+-- them to the new one.
+pub record GoesOn (holds : List Event → ℕ → Entry → Type 0) (state : List Entry → SpaceMap → Type 0) (seen : List Event) (old new : Saved) : Type 0 where
+  pub entries : List Entry
+  pub size : new.cursor ≡ old.cursor + length entries
+  pub held : (k : ℕ) (e : Entry) → slice_get entries k ≡ Some e → holds seen (old.cursor + k) e
+  pub led : (log : List Entry) → length log ≡ old.cursor → state log old.contents → state (log ++ entries) new.contents
 
 -- a crash may leave this: the state of some of the log's first entries, and of no fewer than so many
 pub record IsFound (holds : List Event → ℕ → Entry → Type 0) (state : List Entry → SpaceMap → Type 0) (seen : List Event) (cursor : ℕ) (s : Saved) : Type 0 where
@@ -32,7 +42,7 @@ pub record IsFound (holds : List Event → ℕ → Entry → Type 0) (state : Li
 -- The replica has the state of the log's first `cursor` entries, now and after any crash.
 pub record Follows (holds : List Event → ℕ → Entry → Type 0) (state : List Entry → SpaceMap → Type 0) (spells : List ℕ → Saved → Type 0) (seen : List Event) (v : ReplicaView) : Type 0 where
   pub now : IsStateAt holds state seen (saved_in v)
-  pub asked : (s : Saved) → v.asked ≡ Some s → IsAsked holds state seen v.cursor s
+  pub asked : (s : Saved) → v.asked ≡ Some s → IsAsked holds state seen (saved_in v) s
   pub survives : Survives spells v
 
 -- the log is known up to the cursor, and up to that of what the disk failed to keep

@@ -1,5 +1,5 @@
 //! A node.
-ghost use Rattle.std.specs.Prelude.{◌≡◌, ◌≢◌, ◌<◌, ◌^◌, ◌≤◌, ◌+◌, ◌⊎◌, ℕ, List, None, Some, [], ◌∷◌, ◌++◌, false, true, IfOk, OnOk, OnErr, IfErr, length};
+ghost use Rattle.std.specs.Prelude.{◌≡◌, ◌≢◌, ◌<◌, ◌^◌, ◌≤◌, ◌+◌, ◌⊎◌, ℕ, max, List, None, Some, [], ◌∷◌, ◌++◌, false, true, IfOk, OnOk, OnErr, IfErr, length};
 ghost use Rattle.delos_types.specs.declared.entry.Entry.{Entry};
 ghost use Rattle.disk_model.specs.Crash.{AnyCrash};
 ghost use Rattle.disk_model.specs.Disk.{Rose};
@@ -11,8 +11,8 @@ ghost use Rattle.virtual_log.specs.Turning.{Later, IsAbove};
 ghost use Rattle.virtual_log.specs.Sealing.{SealsLast};
 ghost use Rattle.base_engine.specs.Causes.{Blames};
 ghost use Rattle.base_engine.specs.Arming.{StoreTwice, FailsToOpen};
-ghost use Rattle.base_engine.specs.Following.{Follows, IsFound, Reaches, IsAt, EndsBy};
-ghost use Rattle.replica_api.specs.Replica.{SpellsOne, Survives, Flushes, Queues, Recovered, ArmedAsBefore, armed_by};
+ghost use Rattle.base_engine.specs.Following.{Follows, IsFound, Reaches, IsAt, GoesOn, EndsBy};
+ghost use Rattle.replica_api.specs.Replica.{SpellsOne, Survives, Flushes, Queues, Recovered, ArmedAsBefore, armed_by, saved_in};
 ghost use Rattle.base_engine.specs.Settling.{view_of, Settled, Lands, Answers, Failing, cause_in};
 ghost use Rattle.base_engine.specs.Proposing.{Sent, Proposed, Refused, IsNear};
 ghost use Rattle.base_engine.specs.Node.{NodeView, NodeOk, Keeps};
@@ -187,6 +187,10 @@ impl<L: SharedLog, R: Replica> Node<L, R> {
         ensures follows { Follows L.holds R.state R.spells self.new.seen self.new.replica }
         ensures synced { IfOk result (λ tail. IsAbove self.old.who self.old.seen tail self.new.seen) }
         ensures cursor { IfOk result (λ tail. IsAt tail self.new.replica self.new.seen) }
+        ensures within { IfOk result (λ tail. self.new.replica.cursor ≤ tail) }
+
+        // It went on from where it was by entries that the log holds, one behind another, with any answer.
+        ensures goes_on { GoesOn L.holds R.state self.new.seen (saved_in self.old.replica) (saved_in self.new.replica) }
 
         // It is the log's tail, where no event of another came meanwhile and nothing was trimmed that wasn't played.
         ensures exact { IfOk result (λ tail. EndsBy self.old.who self.old.replica.cursor self.old.seen tail self.new.seen) }
@@ -195,10 +199,11 @@ impl<L: SharedLog, R: Replica> Node<L, R> {
         ensures kept { self.new.replica.kept ≡ self.old.replica.kept }
         ensures outbox { self.new.outbox ≡ self.old.outbox }
 
-        // Nobody but a stop arms the disk, and a store is opened again with word 0 alone. The store is a cause where its disk
-        // failed twice, or failed again.
+        // Nobody but a stop arms the disk, and a store is opened again with word 0 alone: one that was down, or failed, and is up
+        // now was told 0 last. The store is a cause where its disk failed twice, or failed again.
         ensures armed { ArmedAsBefore self.old.replica self.new.replica }
         ensures told { (self.new.replica.told ≡ self.old.replica.told) ⊎ (self.new.replica.told ≡ 0) }
+        ensures opened { self.new.replica.down ≡ false → (self.old.replica.down ≡ true) ⊎ (self.old.replica.faults < self.new.replica.faults) → self.new.replica.told ≡ 0 }
         ensures down { self.new.replica.down ≡ true → (self.old.replica.down ≡ true) ⊎ Rose self.old.replica.faults self.new.replica.faults }
         ensures twice { IfErr result (λ f. StoreTwice self.old.replica f self.new.replica) }
     {
@@ -212,15 +217,20 @@ impl<L: SharedLog, R: Replica> Node<L, R> {
         ensures keeps { Keeps L.Law.may L.Law.floor L.Law.shelf self.old self.new }
         ensures follows { Follows L.holds R.state R.spells self.new.seen self.new.replica }
         ensures reaches { OnOk result (Reaches to self.old.replica self.new.replica self.new.seen) }
+        ensures within { self.new.replica.cursor ≤ max self.old.replica.cursor to }
+
+        // It went on from where it was by entries that the log holds, one behind another, with any answer.
+        ensures goes_on { GoesOn L.holds R.state self.new.seen (saved_in self.old.replica) (saved_in self.new.replica) }
         ensures blames { IfErr result (λ f. Blames self.old.who self.old.seen self.old.replica.faults f self.new.seen self.new.replica.faults) }
         ensures any_crash { AnyCrash self.old.replica.disk self.new.replica.disk (SpellsOne R.spells (IsFound L.holds R.state self.new.seen self.old.replica.cursor)) }
         ensures kept { self.new.replica.kept ≡ self.old.replica.kept }
         ensures outbox { self.new.outbox ≡ self.old.outbox }
 
-        // Nobody but a stop arms the disk, and a store is opened again with word 0 alone. The store is a cause where its disk
-        // failed twice, or failed again.
+        // Nobody but a stop arms the disk, and a store is opened again with word 0 alone: one that was down, or failed, and is up
+        // now was told 0 last. The store is a cause where its disk failed twice, or failed again.
         ensures armed { ArmedAsBefore self.old.replica self.new.replica }
         ensures told { (self.new.replica.told ≡ self.old.replica.told) ⊎ (self.new.replica.told ≡ 0) }
+        ensures opened { self.new.replica.down ≡ false → (self.old.replica.down ≡ true) ⊎ (self.old.replica.faults < self.new.replica.faults) → self.new.replica.told ≡ 0 }
         ensures down { self.new.replica.down ≡ true → (self.old.replica.down ≡ true) ⊎ Rose self.old.replica.faults self.new.replica.faults }
         ensures twice { IfErr result (λ f. StoreTwice self.old.replica f self.new.replica) }
     {
@@ -242,10 +252,11 @@ impl<L: SharedLog, R: Replica> Node<L, R> {
         ensures blames { IfErr result (λ f. Blames self.old.who self.old.seen self.old.replica.faults f self.new.seen self.new.replica.faults) }
         ensures any_crash { AnyCrash self.old.replica.disk self.new.replica.disk (SpellsOne R.spells (IsFound L.holds R.state self.new.seen self.old.replica.cursor)) }
 
-        // Nobody but a stop arms the disk, and a store is opened again with word 0 alone. The store is a cause where its disk
-        // failed twice, or failed again.
+        // Nobody but a stop arms the disk, and a store is opened again with word 0 alone: one that was down, or failed, and is up
+        // now was told 0 last. The store is a cause where its disk failed twice, or failed again.
         ensures armed { ArmedAsBefore self.old.replica self.new.replica }
         ensures told { (self.new.replica.told ≡ self.old.replica.told) ⊎ (self.new.replica.told ≡ 0) }
+        ensures opened { self.new.replica.down ≡ false → (self.old.replica.down ≡ true) ⊎ (self.old.replica.faults < self.new.replica.faults) → self.new.replica.told ≡ 0 }
         ensures down { self.new.replica.down ≡ true → (self.old.replica.down ≡ true) ⊎ Rose self.old.replica.faults self.new.replica.faults }
         ensures twice { IfErr result (λ f. StoreTwice self.old.replica f self.new.replica) }
     {
@@ -307,6 +318,7 @@ impl<L: SharedLog, R: Replica> Node<L, R> {
         ensures keeps { Keeps L.Law.may L.Law.floor L.Law.shelf self.old self.new }
         ensures follows { Follows L.holds R.state R.spells self.new.seen self.new.replica }
         ensures near { self.new.replica.cursor ≤ self.old.replica.cursor + 1 }
+        ensures goes_on { GoesOn L.holds R.state self.new.seen (saved_in self.old.replica) (saved_in self.new.replica) }
         ensures up { OnOk result (self.new.replica.down ≡ false) }
         ensures kept { self.new.replica.kept ≡ self.old.replica.kept }
         ensures outbox { self.new.outbox ≡ self.old.outbox }
@@ -319,6 +331,7 @@ impl<L: SharedLog, R: Replica> Node<L, R> {
         ensures fails { IfErr result (λ f. FailsToOpen word self.old.replica f self.new.replica) }
         ensures armed { ArmedAsBefore self.old.replica self.new.replica }
         ensures told { (self.new.replica.told ≡ self.old.replica.told) ⊎ (self.new.replica.told ≡ word) }
+        ensures opened { self.new.replica.down ≡ false → (self.old.replica.down ≡ true) ⊎ (self.old.replica.faults < self.new.replica.faults) → self.new.replica.told ≡ word }
         ensures down { self.new.replica.down ≡ true → (self.old.replica.down ≡ true) ⊎ Rose self.old.replica.faults self.new.replica.faults }
         ensures twice { IfErr result (λ f. StoreTwice self.old.replica f self.new.replica) }
     {
@@ -370,10 +383,11 @@ impl<L: SharedLog, R: Replica> Node<L, R> {
         ensures blames { self.old.outbox.unsettled ≡ None → IfErr result (λ f. Blames self.old.who self.old.seen self.old.replica.faults f self.new.seen self.new.replica.faults) }
         ensures any_crash { AnyCrash self.old.replica.disk self.new.replica.disk (SpellsOne R.spells (IsFound L.holds R.state self.new.seen self.old.replica.cursor)) }
 
-        // Nobody but a stop arms the disk, and a store is opened again with word 0 alone. The store is a cause where its disk
-        // failed twice, or failed again.
+        // Nobody but a stop arms the disk, and a store is opened again with word 0 alone: one that was down, or failed, and is up
+        // now was told 0 last. The store is a cause where its disk failed twice, or failed again.
         ensures armed { ArmedAsBefore self.old.replica self.new.replica }
         ensures told { (self.new.replica.told ≡ self.old.replica.told) ⊎ (self.new.replica.told ≡ 0) }
+        ensures opened { self.new.replica.down ≡ false → (self.old.replica.down ≡ true) ⊎ (self.old.replica.faults < self.new.replica.faults) → self.new.replica.told ≡ 0 }
         ensures down { self.new.replica.down ≡ true → (self.old.replica.down ≡ true) ⊎ Rose self.old.replica.faults self.new.replica.faults }
         ensures twice { self.old.outbox.unsettled ≡ None → IfErr result (λ f. StoreTwice self.old.replica f self.new.replica) }
     {

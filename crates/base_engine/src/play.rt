@@ -1,12 +1,12 @@
 //! A replica follows its log.
-ghost use Rattle.std.specs.Prelude.{◌≡◌, ◌≢◌, ◌+◌, false, ◌<◌, ◌≤◌, ℕ, List, IfOk, OnOk, OnErr, IfErr};
+ghost use Rattle.std.specs.Prelude.{◌≡◌, ◌≢◌, ◌+◌, false, ◌<◌, ◌≤◌, ℕ, max, List, IfOk, OnOk, OnErr, IfErr};
 ghost use Rattle.legal_journal.specs.declared.events.Event.{Event};
 ghost use Rattle.legal_journal.specs.Journal.{state_of, tail_of, IsLegal};
 ghost use Rattle.virtual_log.specs.Turning.{Later, IsAbove};
 ghost use Rattle.disk_model.specs.Disk.{Rose};
 ghost use Rattle.disk_model.specs.Crash.{AnyCrash};
-ghost use Rattle.replica_api.specs.Replica.{ReplicaView, SpellsOne, MayFind, Survives, Recovered};
-ghost use Rattle.base_engine.specs.Following.{Follows, IsKnown, Plays, Reaches, IsAt, IsFound, KeepsTail, EndsBy};
+ghost use Rattle.replica_api.specs.Replica.{ReplicaView, SpellsOne, MayFind, Survives, Recovered, saved_in};
+ghost use Rattle.base_engine.specs.Following.{Follows, IsKnown, Plays, Reaches, IsAt, IsFound, GoesOn, KeepsTail, EndsBy};
 ghost use Rattle.base_engine.specs.Causes.{Blames};
 ghost use Rattle.base_engine.specs.Arming.{LeavesArming, StoreTwice, StaysShut, FailsToOpen};
 
@@ -45,6 +45,7 @@ pub fn apply_next<L: SharedLog, R: Replica>(
     ensures plays { IfOk result (λ p. Plays p (R.shows replica.old) (R.shows replica.new) (L.seen log.new)) }
     ensures quiet { OnOk result (KeepsTail (L.who log.old) (R.shows replica.old).cursor (L.seen log.old) (L.seen log.new)) }
     ensures forward { (R.shows replica.old).cursor ≤ (R.shows replica.new).cursor }
+    ensures goes_on { GoesOn L.holds R.state (L.seen log.new) (saved_in (R.shows replica.old)) (saved_in (R.shows replica.new)) }
     ensures blames { IfErr result (λ f. Blames (L.who log.old) (L.seen log.old) (R.shows replica.old).faults f (L.seen log.new) (R.shows replica.new).faults) }
     ensures calm { IfErr result (λ f. ((R.shows replica.new).faults ≡ (R.shows replica.old).faults) × ((R.shows replica.new).cursor ≡ (R.shows replica.old).cursor)) }
     ensures kept { (R.shows replica.new).kept ≡ (R.shows replica.old).kept }
@@ -96,6 +97,20 @@ pub fn recover<R: Replica>(replica: &mut R, word: u64) -> Result<(), Fault>
     }
 }
 
+/// Opens the store again, as the calls do that come to a store which failed or is down: with word 0.
+fn open_again<R: Replica>(replica: &mut R) -> Result<(), Fault>
+    ensures up { OnOk result (Recovered 0 (R.shows replica.old) (R.shows replica.new)) }
+    ensures down { OnErr result (StaysShut (R.shows replica.old) (R.shows replica.new)) }
+    ensures fails { IfErr result (λ f. FailsToOpen 0 (R.shows replica.old) f (R.shows replica.new)) }
+    ensures arming { LeavesArming 0 (R.shows replica.old) (R.shows replica.new) }
+    ensures twice { IfErr result (λ f. StoreTwice (R.shows replica.old) f (R.shows replica.new)) }
+    ensures blames { IfErr result (λ f. (who : ℕ) (old new : List Event) → Blames who old (R.shows replica.old).faults f new (R.shows replica.new).faults) }
+    ensures survives { Survives R.spells (R.shows replica.new) }
+    ensures any_crash { AnyCrash (R.shows replica.old).disk (R.shows replica.new).disk (SpellsOne R.spells (MayFind (R.shows replica.old))) }
+{
+    recover(replica, 0)
+}
+
 /// Opens the store of a replica that follows its log. The word chooses what a stopped commit left.
 pub fn restore<L: SharedLog, R: Replica>(_log: &L, replica: &mut R, word: u64) -> Result<(), Fault>
     requires follows { Follows L.holds R.state R.spells (L.seen _log.now) (R.shows replica.old) }
@@ -104,6 +119,7 @@ pub fn restore<L: SharedLog, R: Replica>(_log: &L, replica: &mut R, word: u64) -
     ensures bounded { IsKnown (L.reaches _log.now) (R.shows replica.new) }
     ensures forward { (R.shows replica.old).cursor ≤ (R.shows replica.new).cursor }
     ensures near { (R.shows replica.new).cursor ≤ (R.shows replica.old).cursor + 1 }
+    ensures goes_on { GoesOn L.holds R.state (L.seen _log.now) (saved_in (R.shows replica.old)) (saved_in (R.shows replica.new)) }
     ensures up { OnOk result ((R.shows replica.new).down ≡ false) }
     ensures blames { IfErr result (λ f. Blames (L.who _log.now) (L.seen _log.now) (R.shows replica.old).faults f (L.seen _log.now) (R.shows replica.new).faults) }
     ensures counts { (R.shows replica.old).faults ≤ (R.shows replica.new).faults }
@@ -136,8 +152,10 @@ pub fn play<L: SharedLog, R: Replica>(log: &mut L, replica: &mut R, to: u64) -> 
     ensures follows { Follows L.holds R.state R.spells (L.seen log.new) (R.shows replica.new) }
     ensures bounded { IsKnown (L.reaches log.new) (R.shows replica.new) }
     ensures reaches { OnOk result (Reaches to (R.shows replica.old) (R.shows replica.new) (L.seen log.new)) }
+    ensures within { (R.shows replica.new).cursor ≤ max (R.shows replica.old).cursor to }
     ensures quiet { OnOk result (KeepsTail (L.who log.old) (R.shows replica.old).cursor (L.seen log.old) (L.seen log.new)) }
     ensures forward { (R.shows replica.old).cursor ≤ (R.shows replica.new).cursor }
+    ensures goes_on { GoesOn L.holds R.state (L.seen log.new) (saved_in (R.shows replica.old)) (saved_in (R.shows replica.new)) }
     ensures blames { IfErr result (λ f. Blames (L.who log.old) (L.seen log.old) (R.shows replica.old).faults f (L.seen log.new) (R.shows replica.new).faults) }
     ensures counts { (R.shows replica.old).faults ≤ (R.shows replica.new).faults }
     ensures kept { (R.shows replica.new).kept ≡ (R.shows replica.old).kept }
@@ -155,7 +173,7 @@ pub fn play<L: SharedLog, R: Replica>(log: &mut L, replica: &mut R, to: u64) -> 
                 if !spare {
                     return Err(Fault::Because(Cause::Store));
                 }
-                match recover(replica, 0) {
+                match open_again(replica) {
                     Ok(()) => {}
                     Err(fault) => return Err(fault),
                 }
@@ -181,10 +199,12 @@ pub fn sync<L: SharedLog, R: Replica>(log: &mut L, replica: &mut R) -> Result<u6
     // The position is above each append, and not below any tail, that was answered before the call's first event.
     ensures synced { IfOk result (λ tail. IsAbove (L.who log.old) (L.seen log.old) tail (L.seen log.new)) }
     ensures cursor { IfOk result (λ tail. IsAt tail (R.shows replica.new) (L.seen log.new)) }
+    ensures within { IfOk result (λ tail. (R.shows replica.new).cursor ≤ tail) }
 
     // It is the log's tail, where no event of another came meanwhile and nothing was trimmed that wasn't played.
     ensures exact { IfOk result (λ tail. EndsBy (L.who log.old) (R.shows replica.old).cursor (L.seen log.old) tail (L.seen log.new)) }
     ensures forward { (R.shows replica.old).cursor ≤ (R.shows replica.new).cursor }
+    ensures goes_on { GoesOn L.holds R.state (L.seen log.new) (saved_in (R.shows replica.old)) (saved_in (R.shows replica.new)) }
     ensures blames { IfErr result (λ f. Blames (L.who log.old) (L.seen log.old) (R.shows replica.old).faults f (L.seen log.new) (R.shows replica.new).faults) }
     ensures counts { (R.shows replica.old).faults ≤ (R.shows replica.new).faults }
     ensures kept { (R.shows replica.new).kept ≡ (R.shows replica.old).kept }

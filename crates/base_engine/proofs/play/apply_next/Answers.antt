@@ -1,9 +1,9 @@
-use Rattle.std.proofs.Common.{◌∙◌, ◌<◌, sym, subst, ap, arith}
+use Rattle.std.proofs.Common.{◌∙◌, ◌<◌, refl, sym, subst, ap, arith}
 use Rattle.std.specs.Prelude.{min}
 use Rattle.virtual_log.specs.Holding.{Reads}
 use Rattle.replica_api.specs.Replica.{ReplicaView, saved_in}
 use Rattle.base_engine.specs.Following.{Follows}
-use Rattle.base_engine.proofs.Following.{follows_later, follows_done, follows_fault, follows_same, crash_at_rest, crash_in_apply, known_done, known_fault}
+use Rattle.base_engine.proofs.Following.{follows_later, follows_done, follows_fault, follows_same, goes_none, goes_one, crash_at_rest, crash_in_apply, known_done, known_fault}
 use Rattle.base_engine.proofs.Arming.{arming_refl, arming_same, arming_bytes, arming_advanced, arming_failed, told_of_log}
 use Rattle.base_engine.proofs.play.apply_next.Goals as goal
 
@@ -246,3 +246,45 @@ returns-in-Memory-clause-arming g c = let r = g.R.Replica in arming_bytes 0 (r.s
 
 pub returns-in-Err-clause-never_store : goal.returns-in-Err-clause-never_store
 returns-in-Err-clause-never_store g c = λ is. told_of_log c.in-Err.fault (sym c.told.ensures ∙ is)
+
+pub returns-in-Err-clause-goes_on : goal.returns-in-Err-clause-goes_on
+returns-in-Err-clause-goes_on g c =
+    let s = saved_in (g.R.Replica.shows c.args.replica.now) in
+    goes_none g.L.SharedLog.holds g.R.Replica.state g.R.Replica.spells (g.L.SharedLog.seen c.read_next.new.self) s s refl
+
+pub returns-in-Trimmed-clause-goes_on : goal.returns-in-Trimmed-clause-goes_on
+returns-in-Trimmed-clause-goes_on g c =
+    let s = saved_in (g.R.Replica.shows c.args.replica.now) in
+    goes_none g.L.SharedLog.holds g.R.Replica.state g.R.Replica.spells (g.L.SharedLog.seen c.read_next.new.self) s s refl
+
+pub returns-then-found-position-clause-goes_on : goal.returns-then-found-position-clause-goes_on
+returns-then-found-position-clause-goes_on g c =
+    let s = saved_in (g.R.Replica.shows c.args.replica.now) in
+    goes_none g.L.SharedLog.holds g.R.Replica.state g.R.Replica.spells (g.L.SharedLog.seen c.read_next.new.self) s s refl
+
+pub returns-in-Done-clause-goes_on : goal.returns-in-Done-clause-goes_on
+returns-in-Done-clause-goes_on g c =
+    let holds = g.L.SharedLog.holds in
+    let seen = g.L.SharedLog.seen c.read_next.new.self in
+    let v = g.R.Replica.shows c.args.replica.now in
+    let w = g.R.Replica.shows c.apply.new.self in
+    let m = min c.args.to (g.L.SharedLog.reaches c.args.log.now) in
+    let read = subst (λ n. Reads holds seen c.cursor-position.result m n) c.in-Found.is c.in-Ok.ensures.next in
+    let here = subst (λ i. holds seen i c.in-Found.entry) (c.if-found-position.false ∙ c.cursor-position.ensures.cursor) read.2 in
+    let a = c.in-Done.ensures.takes in
+    goes_one holds g.R.Replica.state g.R.Replica.spells seen (saved_in v) (saved_in w) c.in-Found.entry here a.led a.cursor
+
+pub returns-in-DiskFault-clause-goes_on : goal.returns-in-DiskFault-clause-goes_on
+returns-in-DiskFault-clause-goes_on g c =
+    let r = g.R.Replica in
+    goes_none g.L.SharedLog.holds r.state r.spells (g.L.SharedLog.seen c.read_next.new.self) (saved_in (r.shows c.args.replica.now)) (saved_in (r.shows c.apply.new.self)) (ap saved_in c.in-DiskFault.ensures.takes.is)
+
+pub returns-in-Down-clause-goes_on : goal.returns-in-Down-clause-goes_on
+returns-in-Down-clause-goes_on g c =
+    let r = g.R.Replica in
+    goes_none g.L.SharedLog.holds r.state r.spells (g.L.SharedLog.seen c.read_next.new.self) (saved_in (r.shows c.args.replica.now)) (saved_in (r.shows c.apply.new.self)) (ap saved_in c.in-Down.ensures.takes.1)
+
+pub returns-in-Memory-clause-goes_on : goal.returns-in-Memory-clause-goes_on
+returns-in-Memory-clause-goes_on g c =
+    let r = g.R.Replica in
+    goes_none g.L.SharedLog.holds r.state r.spells (g.L.SharedLog.seen c.read_next.new.self) (saved_in (r.shows c.args.replica.now)) (saved_in (r.shows c.apply.new.self)) (ap saved_in c.in-Memory.ensures.takes)

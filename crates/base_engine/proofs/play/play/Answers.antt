@@ -1,9 +1,9 @@
 use Rattle.std.proofs.Common.{◌≡◌, ◌⊎◌, ◌∙◌, ◌≤◌, true, false, inl, inr, subst, refl, sym, ap, ⊎_elim, arith}
 use Rattle.disk_model.specs.Disk.{Rose}
 use Rattle.replica_api.specs.Replica.{ReplicaView, saved_in}
-use Rattle.base_engine.specs.Following.{Plays, KeepsTail}
+use Rattle.base_engine.specs.Following.{Plays, GoesOn, KeepsTail}
 use Rattle.virtual_log.proofs.OneTurn.{later_refl, later_trans}
-use Rattle.base_engine.proofs.Following.{follows_same, follows_reopened, found_state, found_near, crash_at_rest, crash_on, crash_in_reopen, known_reopened, known_same, turns_left}
+use Rattle.base_engine.proofs.Following.{follows_same, follows_reopened, found_state, found_near, crash_at_rest, crash_on, goes_none, goes_found, goes_after, crash_in_reopen, known_reopened, known_same, turns_left}
 use Rattle.base_engine.proofs.Tails.{keeps_same, keeps_on}
 use Rattle.base_engine.proofs.Arming.{arming_refl, arming_trans, down_since, twice_again, store_since}
 use Rattle.base_engine.proofs.play.play.Goals as goal
@@ -20,6 +20,7 @@ entry-init g c =
       follows = c.requires.follows;
       bounded = c.requires.bounded;
       forward = omega (arith);
+      went = goes_none t.holds r.state r.spells (t.seen c.args.log.now) (saved_in (r.shows c.args.replica.now)) (saved_in (r.shows c.args.replica.now)) refl;
       below = inl refl;
       counts = omega (arith);
       up = λ h. absurd (cc);
@@ -50,6 +51,7 @@ entry-preserved-in-Ok-Applied g c =
       follows = e.follows;
       bounded = e.bounded;
       forward = omega (arith, i.forward, e.forward);
+      went = goes_after p.may p.floor p.shelf t.holds r.state r.spells g.met.L.SharedLog.stays now new (saved_in (r.shows c.args.replica.now)) (saved_in (r.shows l.replica)) (saved_in (r.shows c.apply_next.new.replica)) e.later i.went e.goes_on;
       below = inr (omega (arith, plays.0, c.cursor.ensures.cursor, c.entry-test.true));
       counts = omega (arith, i.counts, plays.1);
       up = λ h. plays.2;
@@ -105,23 +107,23 @@ returns-in-Err-clause-any_crash g c =
     let e = c.in-Err.ensures in
     crash_on p.may p.floor p.shelf t.holds r.state r.spells g.met.L.SharedLog.stays (t.seen l.log) (t.seen c.apply_next.new.log) (r.shows c.args.replica.now) (r.shows l.replica) (r.shows c.apply_next.new.replica) e.later i.forward i.any_crash e.any_crash
 
-pub returns-in-Err-recover-clause-follows : goal.returns-in-Err-recover-clause-follows
-returns-in-Err-recover-clause-follows g c =
+pub returns-in-Err-open_again-clause-follows : goal.returns-in-Err-open_again-clause-follows
+returns-in-Err-open_again-clause-follows g c =
     let t = g.L.SharedLog in
     let r = g.R.Replica in
-    let d = c.in-Err-recover.ensures.down in
-    follows_same t.holds r.state r.spells (t.seen c.apply_next.new.log) (r.shows c.apply_next.new.replica) (r.shows c.recover.new.replica) c.in-Ok-Broken.ensures.follows
-    (ap saved_in d.is) (ap (λ (x : ReplicaView). x.asked) d.is) c.in-Err-recover.ensures.survives
+    let d = c.in-Err-open_again.ensures.down in
+    follows_same t.holds r.state r.spells (t.seen c.apply_next.new.log) (r.shows c.apply_next.new.replica) (r.shows c.open_again.new.replica) c.in-Ok-Broken.ensures.follows
+    (ap saved_in d.is) (ap (λ (x : ReplicaView). x.asked) d.is) c.in-Err-open_again.ensures.survives
 
-pub returns-in-Err-recover-clause-bounded : goal.returns-in-Err-recover-clause-bounded
-returns-in-Err-recover-clause-bounded g c =
+pub returns-in-Err-open_again-clause-bounded : goal.returns-in-Err-open_again-clause-bounded
+returns-in-Err-open_again-clause-bounded g c =
     let r = g.R.Replica in
-    let d = c.in-Err-recover.ensures.down in
-    known_same (g.L.SharedLog.reaches c.apply_next.new.log) (r.shows c.apply_next.new.replica) (r.shows c.recover.new.replica) c.in-Ok-Broken.ensures.bounded
+    let d = c.in-Err-open_again.ensures.down in
+    known_same (g.L.SharedLog.reaches c.apply_next.new.log) (r.shows c.apply_next.new.replica) (r.shows c.open_again.new.replica) c.in-Ok-Broken.ensures.bounded
     (ap saved_in d.is) (ap (λ (x : ReplicaView). x.asked) d.is)
 
-pub returns-in-Err-recover-clause-any_crash : goal.returns-in-Err-recover-clause-any_crash
-returns-in-Err-recover-clause-any_crash g c =
+pub returns-in-Err-open_again-clause-any_crash : goal.returns-in-Err-open_again-clause-any_crash
+returns-in-Err-open_again-clause-any_crash g c =
     let p = g.L.Law.Rules in
     let t = g.L.SharedLog in
     let r = g.R.Replica in
@@ -132,10 +134,10 @@ returns-in-Err-recover-clause-any_crash g c =
     let a = r.shows c.args.replica.now in
     let b = r.shows l.replica in
     let v = r.shows c.apply_next.new.replica in
-    let w = r.shows c.recover.new.replica in
+    let w = r.shows c.open_again.new.replica in
     crash_on p.may p.floor p.shelf t.holds r.state r.spells g.met.L.SharedLog.stays new new a v w (later_refl p.may p.floor p.shelf new e.later.legal) (omega (arith, i.forward, e.forward))
     (crash_on p.may p.floor p.shelf t.holds r.state r.spells g.met.L.SharedLog.stays (t.seen l.log) new a b v e.later i.forward i.any_crash e.any_crash)
-    (crash_in_reopen t.holds r.state r.spells new v w e.follows c.in-Err-recover.ensures.any_crash)
+    (crash_in_reopen t.holds r.state r.spells new v w e.follows c.in-Err-open_again.ensures.any_crash)
 
 pub entry-smaller : goal.entry-smaller
 entry-smaller g c =
@@ -144,7 +146,7 @@ entry-smaller g c =
     let e = c.in-Ok-Broken.ensures in
     let new = t.seen c.apply_next.new.log in
     let v = r.shows c.apply_next.new.replica in
-    let w = r.shows c.recover.new.replica in
+    let w = r.shows c.open_again.new.replica in
     let found = found_state t.holds r.state r.spells new v (saved_in w) e.follows c.in-Ok.ensures.up.found in
     let up : v.cursor ≤ w.cursor = found.forward in
     let on : (r.shows c.entry.replica).cursor ≤ v.cursor = e.forward in
@@ -166,7 +168,7 @@ entry-preserved g c =
     let a = r.shows c.args.replica.now in
     let b = r.shows l.replica in
     let v = r.shows c.apply_next.new.replica in
-    let w = r.shows c.recover.new.replica in
+    let w = r.shows c.open_again.new.replica in
     let plays = subst (λ x. Plays x b v new) c.in-Ok-Broken.field-0-is e.plays in
     let found = found_state t.holds r.state r.spells new v (saved_in w) e.follows up.found in
     let near = found_near t.holds r.state r.spells new v (saved_in w) e.follows up.found in
@@ -177,6 +179,9 @@ entry-preserved g c =
       follows = follows_reopened t.holds r.state r.spells new 0 v w e.follows up c.in-Ok.ensures.survives;
       bounded = known_reopened 0 (t.reaches c.apply_next.new.log) v w e.bounded up;
       forward = omega (arith, i.forward, e.forward, found.forward);
+      went = goes_after p.may p.floor p.shelf t.holds r.state r.spells g.met.L.SharedLog.stays new new (saved_in a) (saved_in v) (saved_in w) (later_refl p.may p.floor p.shelf new e.later.legal)
+          (goes_after p.may p.floor p.shelf t.holds r.state r.spells g.met.L.SharedLog.stays now new (saved_in a) (saved_in b) (saved_in v) e.later i.went e.goes_on)
+          (goes_found t.holds r.state r.spells new v (saved_in w) e.follows up.found);
       below = inr (omega (arith, near, plays.0, c.cursor.ensures.cursor, c.entry-test.true));
       counts = omega (arith, i.counts, plays.1, up.faults);
       up = λ h. up.up;
@@ -209,13 +214,13 @@ returns-in-Err-clause-arming g c =
     let l = c.entry in
     arming_trans 0 (r.shows c.args.replica.now) (r.shows l.replica) (r.shows c.apply_next.new.replica) l.invariant.arming c.in-Err.ensures.arming
 
-pub returns-in-Err-recover-clause-arming : goal.returns-in-Err-recover-clause-arming
-returns-in-Err-recover-clause-arming g c =
+pub returns-in-Err-open_again-clause-arming : goal.returns-in-Err-open_again-clause-arming
+returns-in-Err-open_again-clause-arming g c =
     let r = g.R.Replica in
     let l = c.entry in
     let a = r.shows c.args.replica.now in
     let v = r.shows c.apply_next.new.replica in
-    arming_trans 0 a v (r.shows c.recover.new.replica) (arming_trans 0 a (r.shows l.replica) v l.invariant.arming c.in-Ok-Broken.ensures.arming) c.in-Err-recover.ensures.arming
+    arming_trans 0 a v (r.shows c.open_again.new.replica) (arming_trans 0 a (r.shows l.replica) v l.invariant.arming c.in-Ok-Broken.ensures.arming) c.in-Err-open_again.ensures.arming
 
 -- the first failure was repaired, so this is the second
 pub returns-then-not-spare-clause-twice : goal.returns-then-not-spare-clause-twice
@@ -231,11 +236,49 @@ returns-then-not-spare-clause-twice g c = λ is.
     let rose : Rose b.faults v.faults = ⊎_elim (λ (d : b.down ≡ true). let no : true ≡ false = sym d ∙ i.up none in absurd (cc)) (λ x. x) plays.2 in
     twice_again (r.shows c.args.replica.now) b.faults v i.counts plays.1 (i.used none) rose
 
-pub returns-in-Err-recover-clause-twice : goal.returns-in-Err-recover-clause-twice
-returns-in-Err-recover-clause-twice g c =
+pub returns-in-Err-open_again-clause-twice : goal.returns-in-Err-open_again-clause-twice
+returns-in-Err-open_again-clause-twice g c =
     let r = g.R.Replica in
     let l = c.entry in
     let a = r.shows c.args.replica.now in
     let v = r.shows c.apply_next.new.replica in
-    let w = r.shows c.recover.new.replica in
-    store_since 0 a v w c.in-Err-recover.fault (arming_trans 0 a (r.shows l.replica) v l.invariant.arming c.in-Ok-Broken.ensures.arming) c.in-Err-recover.ensures.down.counts c.in-Err-recover.ensures.twice
+    let w = r.shows c.open_again.new.replica in
+    store_since 0 a v w c.in-Err-open_again.fault (arming_trans 0 a (r.shows l.replica) v l.invariant.arming c.in-Ok-Broken.ensures.arming) c.in-Err-open_again.ensures.down.counts c.in-Err-open_again.ensures.twice
+
+pub returns-in-Ok-Trimmed-clause-goes_on : goal.returns-in-Ok-Trimmed-clause-goes_on
+returns-in-Ok-Trimmed-clause-goes_on g c =
+    let p = g.L.Law.Rules in
+    let t = g.L.SharedLog in
+    let r = g.R.Replica in
+    let l = c.entry in
+    let e = c.in-Ok-Trimmed.ensures in
+    goes_after p.may p.floor p.shelf t.holds r.state r.spells g.met.L.SharedLog.stays (t.seen l.log) (t.seen c.apply_next.new.log) (saved_in (r.shows c.args.replica.now)) (saved_in (r.shows l.replica)) (saved_in (r.shows c.apply_next.new.replica)) e.later l.invariant.went e.goes_on
+
+pub returns-then-not-spare-clause-goes_on : goal.returns-then-not-spare-clause-goes_on
+returns-then-not-spare-clause-goes_on g c =
+    let p = g.L.Law.Rules in
+    let t = g.L.SharedLog in
+    let r = g.R.Replica in
+    let l = c.entry in
+    let e = c.in-Ok-Broken.ensures in
+    goes_after p.may p.floor p.shelf t.holds r.state r.spells g.met.L.SharedLog.stays (t.seen l.log) (t.seen c.apply_next.new.log) (saved_in (r.shows c.args.replica.now)) (saved_in (r.shows l.replica)) (saved_in (r.shows c.apply_next.new.replica)) e.later l.invariant.went e.goes_on
+
+pub returns-in-Err-clause-goes_on : goal.returns-in-Err-clause-goes_on
+returns-in-Err-clause-goes_on g c =
+    let p = g.L.Law.Rules in
+    let t = g.L.SharedLog in
+    let r = g.R.Replica in
+    let l = c.entry in
+    let e = c.in-Err.ensures in
+    goes_after p.may p.floor p.shelf t.holds r.state r.spells g.met.L.SharedLog.stays (t.seen l.log) (t.seen c.apply_next.new.log) (saved_in (r.shows c.args.replica.now)) (saved_in (r.shows l.replica)) (saved_in (r.shows c.apply_next.new.replica)) e.later l.invariant.went e.goes_on
+
+pub returns-in-Err-open_again-clause-goes_on : goal.returns-in-Err-open_again-clause-goes_on
+returns-in-Err-open_again-clause-goes_on g c =
+    let p = g.L.Law.Rules in
+    let t = g.L.SharedLog in
+    let r = g.R.Replica in
+    let l = c.entry in
+    let e = c.in-Ok-Broken.ensures in
+    let a = saved_in (r.shows c.args.replica.now) in
+    subst (λ s. GoesOn t.holds r.state (t.seen c.apply_next.new.log) a s) (sym (ap saved_in c.in-Err-open_again.ensures.down.is))
+    (goes_after p.may p.floor p.shelf t.holds r.state r.spells g.met.L.SharedLog.stays (t.seen l.log) (t.seen c.apply_next.new.log) a (saved_in (r.shows l.replica)) (saved_in (r.shows c.apply_next.new.replica)) e.later l.invariant.went e.goes_on)

@@ -2,9 +2,9 @@ use Rattle.std.proofs.Common.{◌≡◌, ◌⊎◌, true, false, ◌≤◌, ◌+
 use Rattle.disk_model.specs.Crash.{AnyCrash}
 use Rattle.disk_model.specs.Disk.{Rose}
 use Rattle.virtual_log.specs.Turning.{Later}
-use Rattle.replica_api.specs.Replica.{SpellsOne}
+use Rattle.replica_api.specs.Replica.{SpellsOne, saved_in}
 use Rattle.base_engine.specs.Arming.{LeavesArming}
-use Rattle.base_engine.specs.Following.{Follows, IsKnown, IsFound, KeepsTail}
+use Rattle.base_engine.specs.Following.{Follows, IsKnown, IsFound, GoesOn, KeepsTail}
 use Rattle.base_engine.proofs.Following.{turns_left}
 use Rattle.base_engine.proofs.play.play.Given as goal
 
@@ -22,6 +22,7 @@ invariant-entry g l =
       follows : Follows t.holds r.state r.spells (t.seen l.log) v;
       bounded : IsKnown (t.reaches l.log) v;
       forward : w.cursor ≤ v.cursor;
+      went : GoesOn t.holds r.state (t.seen l.log) (saved_in w) (saved_in v);
       below : (v.cursor ≡ w.cursor) ⊎ (v.cursor ≤ l.to);
       counts : w.faults ≤ v.faults;
       up : l.spare ≡ false → v.down ≡ false;

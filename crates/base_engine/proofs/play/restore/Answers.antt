@@ -1,6 +1,6 @@
 use Rattle.std.proofs.Common.{ap}
 use Rattle.replica_api.specs.Replica.{ReplicaView, saved_in}
-use Rattle.base_engine.proofs.Following.{follows_same, follows_reopened, found_state, found_near, crash_in_reopen, known_reopened, known_same}
+use Rattle.base_engine.proofs.Following.{follows_same, follows_reopened, found_state, found_near, goes_none, goes_found, crash_in_reopen, known_reopened, known_same}
 use Rattle.base_engine.proofs.play.restore.Goals as goal
 
 pub returns-in-Ok-clause-follows : goal.returns-in-Ok-clause-follows
@@ -76,3 +76,15 @@ returns-in-Err-clause-any_crash g c =
     let v = r.shows c.args.replica.now in
     let w = r.shows c.recover.new.replica in
     crash_in_reopen t.holds r.state r.spells seen v w c.requires.follows c.in-Err.ensures.any_crash
+
+pub returns-in-Ok-clause-goes_on : goal.returns-in-Ok-clause-goes_on
+returns-in-Ok-clause-goes_on g c =
+    let t = g.L.SharedLog in
+    let r = g.R.Replica in
+    goes_found t.holds r.state r.spells (t.seen c.args._log.now) (r.shows c.args.replica.now) (saved_in (r.shows c.recover.new.replica)) c.requires.follows c.in-Ok.ensures.up.found
+
+pub returns-in-Err-clause-goes_on : goal.returns-in-Err-clause-goes_on
+returns-in-Err-clause-goes_on g c =
+    let t = g.L.SharedLog in
+    let r = g.R.Replica in
+    goes_none t.holds r.state r.spells (t.seen c.args._log.now) (saved_in (r.shows c.args.replica.now)) (saved_in (r.shows c.recover.new.replica)) (ap saved_in c.in-Err.ensures.down.is)

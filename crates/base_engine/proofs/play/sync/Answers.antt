@@ -1,8 +1,12 @@
-use Rattle.std.proofs.Common.{◌≤◌, subst, arith}
+use Rattle.std.proofs.Common.{◌≤◌, refl, subst, arith}
+use Rattle.replica_api.specs.Replica.{saved_in}
 use Rattle.base_engine.specs.Following.{KeepsTail}
 use Rattle.base_engine.proofs.Tails.{ends_on}
-use Rattle.base_engine.proofs.Following.{follows_later, crash_at_rest, above_later, at_tail}
+use Rattle.base_engine.proofs.Following.{follows_later, goes_none, crash_at_rest, above_later, at_tail}
+use Rattle.base_engine.specs.Causes.{Blames}
 use Rattle.base_engine.proofs.Arming.{arming_refl, twice_told}
+use Rattle.base_engine.proofs.Landing.{blames_since}
+use Rattle.base_engine.proofs.Settling.{more_of}
 use Rattle.base_engine.proofs.play.sync.Goals as goal
 
 pub returns-in-Err-clause-follows : goal.returns-in-Err-clause-follows
@@ -59,3 +63,24 @@ pub returns-in-Err-clause-twice : goal.returns-in-Err-clause-twice
 returns-in-Err-clause-twice g c =
     let a = g.R.Replica.shows c.args.replica.now in
     twice_told a a c.in-Err.fault c.told.result c.told.ensures
+
+pub returns-in-Err-clause-goes_on : goal.returns-in-Err-clause-goes_on
+returns-in-Err-clause-goes_on g c =
+    let t = g.L.SharedLog in
+    let r = g.R.Replica in
+    let s = saved_in (r.shows c.args.replica.now) in
+    goes_none t.holds r.state r.spells (t.seen c.check_tail.new.self) s s refl
+
+pub returns-in-Err-play-clause-blames : goal.returns-in-Err-play-clause-blames
+returns-in-Err-play-clause-blames g c =
+    let p = g.L.Law.Rules in
+    let t = g.L.SharedLog in
+    let r = g.R.Replica in
+    let old = t.seen c.args.log.now in
+    let mid = t.seen c.check_tail.new.self in
+    let new = t.seen c.play.new.log in
+    let a = r.shows c.args.replica.now in
+    let b = r.shows c.play.new.replica in
+    let f = c.in-Err-play.fault in
+    blames_since (t.who c.args.log.now) old mid new a.faults a.faults b.faults f (more_of p.may p.floor p.shelf old mid c.in-Ok.ensures.later) (omega arith) c.play.ensures.counts
+    (subst (λ x. Blames x mid a.faults f new b.faults) c.in-Ok.ensures.who c.in-Err-play.ensures.blames)
