@@ -1,9 +1,10 @@
 -- Replicas over stores that were begun.
-use Rattle.std.proofs.Common.{◌≡◌, ◌<◌, inl, inr, ℕ, List, [], Option, None, true, false, sym, ap, subst, ◌∙◌, arith}
+use Rattle.std.proofs.Common.{Bool, ◌≡◌, ◌<◌, inl, inr, ℕ, List, [], Option, None, true, false, refl, sym, ap, subst, ◌∙◌, arith}
+use Rattle.std.specs.Prelude.{◌&&◌, not, nat_lt}
 use Rattle.std.specs.Option.{option_map}
 use Rattle.std.specs.FinMap as map
 use Rattle.delos_types.specs.declared.item.Item.{Item}
-use Rattle.disk_model.specs.Disk.{Rose}
+use Rattle.disk_model.specs.Disk.{Rose, DiskView}
 use Rattle.store_records.specs.declared.change.Commit.{Commit}
 use Rattle.store_records.specs.Spelled.{Saved, nothing_saved, committed}
 use Rattle.engine_laws.specs.State.{IsStateOf}
@@ -11,7 +12,7 @@ use Rattle.local_store.specs.View as store
 use Rattle.local_replica.specs.Shown.{pair_of, shown, Spells}
 use Rattle.local_replica.proofs.Showing.{shown_survives}
 use Rattle.replica_api.specs.Fresh.{IsFreshReplica}
-use Rattle.node_opening.specs.Opened.{IsCounted}
+use Rattle.node_opening.specs.Opened.{IsCounted, IsArmedAs}
 
 pub fresh_replica : (v s : store.View) (o number : ℕ) (w : List Item) (t : ℕ) → v ≡ s → store.saved_in s ≡ nothing_saved → s.asked ≡ None → store.Survives s → o ≡ number → w ≡ [] → IsStateOf [] map.empty → IsFreshReplica IsStateOf Spells number (shown v o w t)
 fresh_replica v s o number w t is start none survives same waits empty = record {
@@ -31,3 +32,10 @@ pub is_counted : (v s : store.View) (o before : ℕ) (w : List Item) (t : ℕ) �
 is_counted v s o before w t is none down up =
     subst (λ (u : store.View). IsCounted (shown u o w t)) (sym is)
     (record { down = λ e. rose_from before s.disk.faults none (down e); up = λ e. up e ∙ none })
+
+pub armed_as : (v s : store.View) (o : ℕ) (w : List Item) (t : ℕ) (d : DiskView) → v ≡ s → (s.down ≡ false → nat_lt 0 s.disk.armed ≡ nat_lt 0 d.armed) → IsArmedAs d (shown v o w t)
+armed_as v s o w t d is still = subst (λ (u : store.View). IsArmedAs d (shown u o w t)) (sym is) (by s.down refl)
+  where
+    by : (b : Bool) → s.down ≡ b → (not s.down && nat_lt 0 s.disk.armed) ≡ (not s.down && nat_lt 0 d.armed)
+    by true e = subst (λ b. (not b && nat_lt 0 s.disk.armed) ≡ (not b && nat_lt 0 d.armed)) (sym e) refl
+    by false e = ap (λ x. not s.down && x) (still e)

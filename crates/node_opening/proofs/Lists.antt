@@ -1,5 +1,5 @@
 -- Lists whose first element is taken out, and lists that are put together again.
-use Rattle.std.proofs.Common.{◌≡◌, refl, sym, ap, ◌∙◌, subst, ℕ, zero, suc, ◌+◌, ◌<◌, List, [], ◌∷◌, ◌++◌, Some, length, map, slice_index_or, append-nil, append_assoc, get_or, replicate, arith}
+use Rattle.std.proofs.Common.{◌≡◌, refl, sym, ap, ◌∙◌, subst, ℕ, zero, suc, ◌+◌, ◌<◌, List, [], ◌∷◌, ◌++◌, Some, length, map, slice_index_or, append-nil, append_assoc, get_or, drop, replicate, arith}
 use Rattle.std.specs.Prelude.{slice_get, remove}
 use Rattle.std.proofs.lemmas.List.{map-append, length-map}
 
@@ -47,6 +47,26 @@ each_push P [] x h p zero w at = let same : x ≡ w = cc in subst (P 0) same p
 each_push P [] x h p (suc j) w at = absurd (cc)
 each_push P (y ∷ ys) x h p zero w at = h zero w at
 each_push P (y ∷ ys) x h p (suc j) w at = each_push (λ k v. P (suc k) v) ys x (λ k v e. h (suc k) v e) p j w at
+
+-- of each element and the one beside it in another list, by their number, the one that was added included
+pub pairs_push : {A B : Type 0} (R : A → B → Type 0) (xs : List A) (x : A) (ys : List B) (y : B) → ((j : ℕ) (a : A) → slice_get xs j ≡ Some a → (b : B) → slice_get ys j ≡ Some b → R a b)
+    → slice_get ys (length xs) ≡ Some y → R x y → (j : ℕ) (a : A) → slice_get (xs ++ x ∷ []) j ≡ Some a → (b : B) → slice_get ys j ≡ Some b → R a b
+pairs_push {A} {B} R xs x ys y before at here =
+    each_push (λ j a. (b : B) → slice_get ys j ≡ Some b → R a b) xs x before
+    (λ b has.
+    let both : Some y ≡ Some b = sym at ∙ has in
+    let same : y ≡ b = cc in
+    subst (R x) same here)
+
+-- the first of those that are left, and the others
+pub drop_first : {A : Type 0} (i : ℕ) (xs ys : List A) (y : A) → y ∷ ys ≡ drop i xs → (slice_get xs i ≡ Some y) × (ys ≡ drop (i + 1) xs)
+drop_first zero [] ys y is = absurd (cc)
+drop_first zero (x ∷ xs) ys y is = let same : y ≡ x = cc in let rest : ys ≡ xs = cc in (ap Some (sym same), rest)
+drop_first (suc i) [] ys y is = absurd (cc)
+drop_first (suc i) (x ∷ xs) ys y is =
+    let next = drop_first i xs ys y is in
+    let one : suc i + 1 ≡ suc (i + 1) = omega arith in
+    (next.0, next.1 ∙ ap (λ k. drop k (x ∷ xs)) (sym one))
 
 -- Lists that show the same
 

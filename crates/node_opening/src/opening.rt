@@ -6,7 +6,7 @@ ghost use Rattle.engine_laws.specs.State.{IsStateOf};
 ghost use Rattle.local_replica.specs.Shown.{shown, Spells};
 ghost use Rattle.replica_api.specs.Fresh.{IsFreshReplica};
 ghost use Rattle.fitting_run.specs.Fresh.{IsFreshNode};
-ghost use Rattle.node_opening.specs.Opened.{IsCounted, AreFreshReplicas};
+ghost use Rattle.node_opening.specs.Opened.{IsCounted, IsArmedAs, AreFreshReplicas, AreArmedAs};
 
 use crate::closing::{close_before, put_first};
 use crate::parts::NodeParts;
@@ -29,6 +29,7 @@ fn open_node<E: Layers, D: Disk, C: Chooser>(
     requires { IsFreshNode (E.kinds one.engines) (E.waiting one.engines) (D.view one.disk) }
     ensures fresh { IfOk result (λ n. IsFreshReplica IsStateOf Spells number (shown n.replica.store n.replica.origin (E.waiting n.replica.engines) n.replica.told)) }
     ensures counted { IfOk result (λ n. IsCounted (shown n.replica.store n.replica.origin (E.waiting n.replica.engines) n.replica.told)) }
+    ensures armed { IfOk result (λ n. IsArmedAs (D.view one.disk) (shown n.replica.store n.replica.origin (E.waiting n.replica.engines) n.replica.told)) }
     ensures engines { IfOk result (λ n. n.replica.engines ≡ one.engines) }
     ensures chooser { IfOk result (λ n. n.chooser ≡ one.chooser) }
     ensures back { IfErr result (λ k. (k.engines ≡ one.engines) × (k.chooser ≡ one.chooser)) }
@@ -69,6 +70,9 @@ pub fn open_all<E: Layers, D: Disk, C: Chooser>(
 
     // A node is down just where its disk failed, and that was counted.
     ensures counted { IfOk result (λ nodes. AllByRecursion (λ n. IsCounted (shown n.replica.store n.replica.origin (E.waiting n.replica.engines) n.replica.told)) nodes.items) }
+
+    // Opening arms no disk: that of a node that is up is armed just where it was before.
+    ensures armed { IfOk result (λ nodes. AreArmedAs (λ n. shown n.replica.store n.replica.origin (E.waiting n.replica.engines) n.replica.told) (λ k. D.view k.disk) nodes.items parts.old.items) }
     ensures engines { IfOk result (λ nodes. map (λ n. n.replica.engines) nodes.items ≡ map (λ k. k.engines) parts.old.items) }
     ensures choosers { IfOk result (λ nodes. map (λ n. n.chooser) nodes.items ≡ map (λ k. k.chooser) parts.old.items) }
     ensures size { IfOk result (λ nodes. length nodes.items ≡ length parts.old.items) }

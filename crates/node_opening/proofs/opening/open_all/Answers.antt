@@ -1,4 +1,4 @@
-use Rattle.std.proofs.Common.{◌≡◌, ◌+◌, ◌++◌, ◌<◌, ◌∷◌, [], length, map, sym, ap, ◌∙◌, subst, arith}
+use Rattle.std.proofs.Common.{◌≡◌, ◌+◌, ◌++◌, ◌<◌, ◌∷◌, [], length, map, Some, sym, ap, ◌∙◌, subst, arith}
 use Rattle.std.specs.Prelude.{slice_get}
 use Rattle.std.specs.List.{AllByRecursion}
 use Rattle.std.proofs.lemmas.List.{nil_from_length}
@@ -6,9 +6,9 @@ use Rattle.log_acts.proofs.Pairs.{all-append, all-imply}
 use Rattle.engine_laws.specs.State.{IsStateOf}
 use Rattle.local_replica.specs.Shown.{shown, Spells}
 use Rattle.replica_api.specs.Fresh.{IsFreshReplica}
-use Rattle.node_opening.proofs.Lists.{taken_first, goes_over, all_over, each_push, as_long}
+use Rattle.node_opening.proofs.Lists.{taken_first, drop_first, goes_over, all_over, each_push, pairs_push, as_long}
 use Rattle.fitting_run.specs.Fresh.{five_kinds, IsFreshNode}
-use Rattle.node_opening.specs.Opened.{IsCounted}
+use Rattle.node_opening.specs.Opened.{IsCounted, IsArmedAs}
 use Rattle.node_opening.proofs.Lists.{put_back}
 use Rattle.node_opening.proofs.opening.open_all.Goals as goal
 
@@ -30,6 +30,8 @@ loop-k-preserved g c =
     let waiting = g.E.Layers.waiting in
     let some : 0 < length l.parts.items = grind (arith, c.loop-k-test.true, l.invariant.left, l.invariant.count) in
     let is = taken_first l.parts.items k some c.remove.ensures.value ∙ ap (λ x. k ∷ x) (sym c.remove.ensures.items) in
+    let first = drop_first l.k c.args.parts.now.items c.remove.new.self.items k (sym is ∙ l.invariant.behind) in
+    let here : slice_get c.args.parts.now.items (length l.nodes.items) ≡ Some k = ap (slice_get c.args.parts.now.items) l.invariant.done ∙ first.0 in
     let who : c.in-Some.number ≡ length l.nodes.items + 1 = grind (arith, c.in-Some.ensures.value, l.invariant.done) in
     record {
       rest = (subst (AllByRecursion (λ k. IsFreshNode (g.E.Layers.kinds k.engines) (waiting k.engines) (g.D.Disk.view k.disk))) is l.invariant.rest).1;
@@ -37,6 +39,9 @@ loop-k-preserved g c =
           (subst (λ i. IsFreshReplica IsStateOf Spells i (shown n.replica.store n.replica.origin (waiting n.replica.engines) n.replica.told)) who o.fresh) j x (ap (λ y. slice_get y j) (sym p.ensures.items) ∙ at);
       counted = subst (AllByRecursion (λ n. IsCounted (shown n.replica.store n.replica.origin (waiting n.replica.engines) n.replica.told))) (sym p.ensures.items)
           (all-append (λ n. IsCounted (shown n.replica.store n.replica.origin (waiting n.replica.engines) n.replica.told)) l.nodes.items (n ∷ []) l.invariant.counted (o.counted, tt));
+      armed = λ j x at. pairs_push (λ n k. IsArmedAs (g.D.Disk.view k.disk) (shown n.replica.store n.replica.origin (waiting n.replica.engines) n.replica.told)) l.nodes.items n c.args.parts.now.items k l.invariant.armed here o.armed
+          j x (ap (λ y. slice_get y j) (sym p.ensures.items) ∙ at);
+      behind = first.1;
       count = l.invariant.count;
       done = grind (arith, l.invariant.done, p.ensures.len);
       left = grind (arith, l.invariant.left, c.remove.ensures.len);

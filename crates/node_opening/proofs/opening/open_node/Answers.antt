@@ -1,6 +1,6 @@
 use Rattle.std.proofs.Common.{ap, ◌∙◌}
 use Rattle.journal_core.specs.Records.{records_of}
-use Rattle.node_opening.proofs.Begun.{fresh_replica, is_counted}
+use Rattle.node_opening.proofs.Begun.{fresh_replica, is_counted, armed_as}
 use Rattle.node_opening.proofs.opening.open_node.Goals as goal
 
 pub begin_on-requires-clause-empty : goal.begin_on-requires-clause-empty
@@ -17,3 +17,8 @@ returns-in-Ok-clause-counted g c =
     let b = c.in-Ok.ensures in
     let n = c.new-replica in
     is_counted n.result.store c.in-Ok.store n.result.origin (g.D.Disk.view c.args.one.disk).faults (g.E.Layers.waiting n.result.engines) n.result.told n.ensures.store c.requires.none_counted b.down b.up
+
+pub returns-in-Ok-clause-armed : goal.returns-in-Ok-clause-armed
+returns-in-Ok-clause-armed g c =
+    let n = c.new-replica in
+    armed_as n.result.store c.in-Ok.store n.result.origin (g.E.Layers.waiting n.result.engines) n.result.told (g.D.Disk.view c.args.one.disk) n.ensures.store c.in-Ok.ensures.still_armed
