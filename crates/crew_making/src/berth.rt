@@ -9,7 +9,7 @@ use crate::early::Early;
 use delos_types::numbers::SessionId;
 use fate_words::chooser::Chooser;
 use node_sessions::desk::Desk;
-use one_thread::terms::Terms;
+use one_thread::terms::{By, Terms};
 use replica_api::node::OpenNode;
 use replica_api::replica::Replica;
 use std::alloc::{AllocError, Global};
@@ -63,7 +63,7 @@ fn prepare<K: Terms, S: Replica, C: Chooser>(
         return Err(node);
     };
     let OpenNode { replica, chooser } = node;
-    match VirtualLog::new(alloc, Early::<K>::new(who), chooser, shelf_len) {
+    match VirtualLog::new(alloc, Early::<By<K>>::new(who), chooser, shelf_len) {
         Ok(log) => {
             let (log, _) = log.rest();
             return Ok(Berth {
@@ -92,7 +92,7 @@ fn leave<K: Terms, S: Replica, C: Chooser>(berth: Berth<S, C>) -> OpenNode<S, C>
         log,
         desks: _,
     } = berth;
-    let parts = log.wake(Early::<K>::new(0)).into_parts();
+    let parts = log.wake(Early::<By<K>>::new(0)).into_parts();
     OpenNode {
         replica,
         chooser: parts.chooser,

@@ -3,18 +3,18 @@ ghost use Rattle.std.specs.Prelude.{◌≡◌, []};
 ghost use Rattle.legal_journal.specs.Journal.{IsLegal};
 
 use legal_journal::events::{FabricAnswer, FabricCall};
+use legal_journal::rules::Rules;
 use legal_journal::turns::Turns;
-use one_thread::terms::{By, Terms};
 use std::marker::{Model, PhantomData};
 
 /// A user before there is a fabric. It has seen nothing, and a call that it makes comes to no event.
 #[derive(Drop)]
-pub struct Early<K: Terms> {
+pub struct Early<P: Rules> {
     who: u32,
-    terms: PhantomData<K>,
+    rules: PhantomData<P>,
 }
 
-impl<K: Terms> Model for Early<K> {
+impl<P: Rules> Model for Early<P> {
     ghost use Rattle.std.specs.Prelude.{ℕ, []};
     ghost use Rattle.legal_journal.specs.Journal.{IsLegal};
 
@@ -22,23 +22,23 @@ impl<K: Terms> Model for Early<K> {
 
     ghost view = { λ e. e.who };
 
-    ghost invariant = { λ e. IsLegal K.may K.floor K.shelf [] };
+    ghost invariant = { λ e. IsLegal P.may P.floor P.shelf [] };
 }
 
-impl<K: Terms> Early<K> {
+impl<P: Rules> Early<P> {
     pub fn new(who: u32) -> Self
-        requires legal { IsLegal K.may K.floor K.shelf [] }
+        requires legal { IsLegal P.may P.floor P.shelf [] }
         ensures { result ≡ who }
     {
         Early {
             who,
-            terms: PhantomData,
+            rules: PhantomData,
         }
     }
 }
 
-impl<K: Terms> Turns for Early<K> {
-    type Law = By<K>;
+impl<P: Rules> Turns for Early<P> {
+    type Law = P;
 
     ghost who = { λ e. e };
 

@@ -1,8 +1,8 @@
 //! The nodes of a run are made of their parts.
-ghost use Rattle.std.specs.Prelude.{◌≡◌, ◌≤◌, ◌<◌, ◌+◌, ℕ, [], List, length, map, slice_get, Some, None, All, IfOk, IfErr, OnOk, OnErr};
+ghost use Rattle.std.specs.Prelude.{◌≡◌, ◌≤◌, ◌<◌, ◌+◌, ℕ, [], length, map, slice_get, Some, None, All, IfOk, IfErr, OnOk, OnErr};
 ghost use Rattle.std.specs.List.{AllByRecursion};
 ghost use Rattle.std.specs.Vec.{vec_capacity};
-ghost use Rattle.delos_types.specs.declared.entry.Entry.{Entry};
+ghost use Rattle.legal_journal.specs.Journal.{IsLegal};
 ghost use Rattle.loglet_api.specs.View.{IsFresh};
 ghost use Rattle.loglet_api.specs.Sound.{IsSound};
 ghost use Rattle.register_api.specs.View as view;
@@ -14,6 +14,7 @@ ghost use Rattle.replica_api.specs.Fresh.{IsFreshReplica};
 ghost use Rattle.crew_making.specs.Fresh.{AreFreshFrom, AreFreshDesks, IsFreshLog, IsNewSeat, AreNewWorkers};
 
 use crate::berth::{Berth, leave_all, prepare_all};
+use crate::early::Early;
 use base_engine::node::Node;
 use fabric_core::fabric::{Fabric, Parts};
 use fate_words::chooser::Chooser;
@@ -21,9 +22,8 @@ use loglet_api::loglet::Loglet;
 use node_crew::crew::Crew;
 use node_lines::lines::Looked;
 use node_workers::worker::Worker;
-use one_thread::alone::Alone;
-use one_thread::seat::{Seat, rest};
-use one_thread::terms::{By, Scope, Terms};
+use one_thread::seat::Seat;
+use one_thread::terms::{Scope, Terms, Within};
 use register_api::Register;
 use replica_api::node::OpenNode;
 use replica_api::replica::Replica;
@@ -32,86 +32,65 @@ use std::alloc::{AllocError, Global};
 use std::marker::Brand;
 use virtual_log::rest::Rested as RestedLog;
 
-/// A node that waits for the fabric, and the fabric.
-struct Seated<L: Loglet, R: Register, K: Terms, S: Replica, C: Chooser> {
-    seat: Seat<S, C>,
-    fabric: Fabric<L, R, By<K>>,
-}
-
-/// All nodes, and the fabric.
-struct AllSeated<L: Loglet, R: Register, K: Terms, S: Replica, C: Chooser> {
-    workers: Vec<Worker<S, C>>,
-    fabric: Fabric<L, R, By<K>>,
-}
-
-/// A node gets its seat, within a scope. The counts of commands that were sent are handed in for the rules of the scope alone.
-fn seat_within<L: Loglet, R: Register, K: Terms, Q: Scope, S: Replica, C: Chooser>(
+/// A node gets its seat before there is a fabric, within a scope. The counts of commands that were sent are handed in for the rules
+/// of the scope alone.
+fn seat_within<K: Terms, Q: Scope, S: Replica, C: Chooser>(
     alloc: Global,
-    fabric: Fabric<L, R, By<K>>,
     who: u32,
     nodes: u8,
     log: RestedLog<C>,
     replica: S,
     _counts: &[u64; 64],
-) -> Seated<L, R, K, S, C>
+) -> Seat<S, C>
     requires eight { nodes ≤ 8 }
+    requires legal { IsLegal K.may K.floor K.shelf [] }
     requires log { IsFreshLog (length K.shelf) log }
     requires fresh { IsFreshReplica S.state S.spells who (S.shows replica) }
-    requires none { fabric.journal ≡ [] }
-    requires narrower { (who : ℕ) (e : Entry) → Q.sends who e → K.may who e }
-    requires lower { (log : List Entry) (n : ℕ) → Q.floor log n → K.floor log n }
-    requires since { Q.since ≡ fabric.journal }
-    ensures seat { IsNewSeat Q.sends Q.floor K.shelf S.state S.spells nodes who result.seat }
-    ensures replica { result.seat.node.replica ≡ S.shows replica }
-    ensures none { result.fabric.journal ≡ [] }
+    ensures seat { IsNewSeat Q.sends Q.floor K.shelf S.state S.spells nodes who result }
+    ensures replica { result.node.replica ≡ S.shows replica }
 {
-    // A journal is legal before any event.
-    let _seen = fabric.journal();
-    let log = log.wake(Alone::<L, R, K, Q>::new(who, fabric));
-    let (seat, fabric) = rest(Node::new(alloc, nodes, log, replica));
-    Seated { seat, fabric }
+    let log = log.wake(Early::<Within<K, Q>>::new(who));
+    let (node, log) = Node::new(alloc, nodes, log, replica).rest();
+    let (log, _) = log.rest();
+    Seat::new(who, log, node)
 }
 
-/// All nodes get their seats, in their order. Takes no memory: there is room for them.
-fn seat_all<L: Loglet, R: Register, K: Terms, S: Replica, C: Chooser>(
+/// All nodes get their seats, in their order, before there is a fabric. Takes no memory: there is room for them.
+fn seat_all<K: Terms, S: Replica, C: Chooser>(
     alloc: Global,
-    fabric: Fabric<L, R, By<K>>,
     berths: Vec<Berth<S, C>>,
     workers: Vec<Worker<S, C>>,
     counts: &[u64; 64],
-) -> AllSeated<L, R, K, S, C>
+) -> Vec<Worker<S, C>>
     requires eight { length berths.items ≤ 8 }
+    requires legal { IsLegal K.may K.floor K.shelf [] }
     requires logs { AllByRecursion (λ b. IsFreshLog (length K.shelf) b.log) berths.items }
     requires desks { AllByRecursion (λ b. AreFreshDesks b.desks.items) berths.items }
     requires fresh { AreFreshFrom S.state S.spells 1 (map (λ b. S.shows b.replica) berths.items) }
-    requires none { fabric.journal ≡ [] }
     requires room { (workers.items ≡ []) × (length berths.items ≤ vec_capacity workers) }
-    ensures workers { AreNewWorkers (Sends K.may counts.now []) K.floor K.shelf S.state S.spells (length berths.items) (λ w. w.seat) (λ w. w.desks.items) result.workers.items }
-    ensures replicas { map (λ w. w.seat.node.replica) result.workers.items ≡ map (λ b. S.shows b.replica) berths.items }
-    ensures none { result.fabric.journal ≡ [] }
+    ensures workers { AreNewWorkers (Sends K.may counts.now []) K.floor K.shelf S.state S.spells (length berths.items) (λ w. w.seat) (λ w. w.desks.items) result.items }
+    ensures replicas { map (λ w. w.seat.node.replica) result.items ≡ map (λ b. S.shows b.replica) berths.items }
 {
     let nodes = berths.len() as u8;
-    let (mut fabric, mut berths, mut workers) = (fabric, berths, workers);
+    let (mut berths, mut workers) = (berths, workers);
     for k in 0..nodes {
         let Berth {
             replica,
             log,
             desks,
         } = berths.remove(0);
-        let Seated { seat, fabric: rest } = seat_within::<L, R, K, Brand, S, C>(
+        let seat = seat_within::<K, Brand, S, C>(
             alloc,
-            fabric,
             u32::from(k) + 1,
             nodes,
             log,
             replica,
             counts,
         );
-        fabric = rest;
         workers.push_reserved(Worker { seat, desks });
     }
     berths.destroy_empty();
-    AllSeated { workers, fabric }
+    workers
 }
 
 /// None of the lines has looked at anything.
@@ -158,8 +137,10 @@ pub fn make_crew<L: Loglet, R: Register, K: Terms, S: Replica, C: Chooser>(
     ensures none { IfOk result (λ crew. crew.fabric.journal ≡ []) }
     ensures told { IfOk result (λ crew. AreAsTold K.may K.floor K.shelf [] crew.fabric.cells crew.fabric.register) }
 
-    // Whether a fresh register's disk is armed, and what it was told, is left open; all else is as it was.
-    ensures register { IfOk result (λ crew. crew.fabric.register ≡ record (R.view register) { armed = crew.fabric.register.armed; told = crew.fabric.register.told }) }
+    // The loglets, their servers and the register are those that were handed in.
+    ensures cells { IfOk result (λ crew. crew.fabric.cells ≡ map L.view cells.items) }
+    ensures serving { IfOk result (λ crew. crew.fabric.serving ≡ map L.serving cells.items) }
+    ensures register { IfOk result (λ crew. crew.fabric.register ≡ R.view register) }
     ensures replicas { IfOk result (λ crew. map (λ w. w.seat.node.replica) crew.workers.items ≡ map (λ n. S.shows n.replica) nodes.old.items) }
     ensures taken { OnOk result (nodes.new.items ≡ []) }
 
@@ -181,9 +162,7 @@ pub fn make_crew<L: Loglet, R: Register, K: Terms, S: Replica, C: Chooser>(
     match Fabric::new(alloc, cells, register) {
         Ok(fabric) => {
             let counts = no_counts();
-            let AllSeated { workers, fabric } = seat_all::<L, R, K, S, C>(
-                alloc, fabric, berths, workers, &counts,
-            );
+            let workers = seat_all::<K, S, C>(alloc, berths, workers, &counts);
             // The loglets and the register are as their journal tells.
             let _told = fabric.journal();
             return Ok(Crew {

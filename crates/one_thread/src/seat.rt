@@ -43,6 +43,13 @@ impl<S: Replica, C: Chooser> Model for Seat<S, C> {
 pub type Seated<L, R, K, Q, S, C> = Node<VirtualLog<Alone<L, R, K, Q>, C>, S>;
 
 impl<S: Replica, C: Chooser> Seat<S, C> {
+    /// A seat of a node that gave its log out, and of a log that gave its turns out. So a node has one before there is a fabric, too.
+    pub fn new(who: u32, log: RestedLog<C>, node: RestedNode<S>) -> Self
+        ensures { result ≡ record { who = who; log = log; node = node } }
+    {
+        Seat { who, log, node }
+    }
+
     /// Takes the fabric, within a scope that begins here. Makes no event, and takes no memory.
     pub fn wake<L: Loglet, R: Register, K: Terms, Q: Scope>(
         self,

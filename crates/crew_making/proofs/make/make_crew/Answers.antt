@@ -6,9 +6,7 @@ use Rattle.run_course.specs.Script.{AreLines}
 use Rattle.node_crew.specs.Crews.{CrewRests, CrewStands}
 use Rattle.crew_making.specs.Apart.{AreAsTold}
 use Rattle.crew_making.specs.Fresh.{AreFreshFrom, AreNewWorkers}
-use Rattle.register_api.specs.View.{RegisterView}
-use Rattle.fabric_core.specs.Runs.{HasRegisterRun}
-use Rattle.crew_making.proofs.Before.{fresh_register}
+use Rattle.fabric_core.specs.Fabric.{FabricView}
 use Rattle.crew_making.proofs.Fresh.{fresh_from}
 use Rattle.node_opening.proofs.Lists.{as_long, shown_same}
 use Rattle.crew_making.proofs.Resting.{crew_rests, new_stands}
@@ -38,21 +36,21 @@ returns-in-Ok-new-clause-rests g c =
     let q = c.seat_all-workers in
     let n = c.no_counts-counts in
     let size = as_long (λ b. b.replica) (λ n. n.replica) c.in-Ok-prepare_all.berths.items a.nodes.now.items c.in-Ok-prepare_all.ensures.replicas in
-    let size' = as_long (λ w. w.seat.node.replica) (λ b. r.shows b.replica) q.result.workers.items c.in-Ok-prepare_all.berths.items q.ensures.replicas in
+    let size' = as_long (λ w. w.seat.node.replica) (λ b. r.shows b.replica) q.result.items c.in-Ok-prepare_all.berths.items q.ensures.replicas in
     let shelf = sym (ap length c.requires.shelf) ∙ (length-map (map g.L.Loglet.view a.cells.items) (λ v. v.servers) ∙ length-map a.cells.items g.L.Loglet.view) in
     let legal : IsLegal p.may p.floor p.shelf [] = record { least = omega (arith, shelf, c.requires.least); most = omega (arith, shelf, c.requires.most); steps = tt } in
-    subst (λ j. CrewRests p.may p.floor p.shelf r.state r.spells a.lines.now 0 0 j n.result c.in-Ok.looks.items (λ w. w.seat) (λ w. w.desks.items) q.result.workers.items) (sym q.ensures.none)
-    (crew_rests p.may p.floor p.shelf a.lines.now n.result c.in-Ok.looks.items n.ensures.none c.in-Ok.ensures.size c.in-Ok.ensures.none r.state r.spells c.requires.lines.0 (λ w. w.seat) (λ w. w.desks.items) q.result.workers.items
+    subst (λ j. CrewRests p.may p.floor p.shelf r.state r.spells a.lines.now 0 0 j n.result c.in-Ok.looks.items (λ w. w.seat) (λ w. w.desks.items) q.result.items) (sym (ap (λ (f : FabricView). f.journal) c.in-Ok-new.ensures.ok))
+    (crew_rests p.may p.floor p.shelf a.lines.now n.result c.in-Ok.looks.items n.ensures.none c.in-Ok.ensures.size c.in-Ok.ensures.none r.state r.spells c.requires.lines.0 (λ w. w.seat) (λ w. w.desks.items) q.result.items
     (subst (AreLines a.lines.now c.requires.lines.0) (sym (size' ∙ size)) c.requires.lines.1) n.ensures.long legal
-    (subst (λ k. AreNewWorkers (Sends p.may n.result []) p.floor p.shelf r.state r.spells k (λ w. w.seat) (λ w. w.desks.items) q.result.workers.items) (sym size') q.ensures.workers))
+    (subst (λ k. AreNewWorkers (Sends p.may n.result []) p.floor p.shelf r.state r.spells k (λ w. w.seat) (λ w. w.desks.items) q.result.items) (sym size') q.ensures.workers))
 
 pub returns-in-Ok-new-clause-stands : goal.returns-in-Ok-new-clause-stands
 returns-in-Ok-new-clause-stands g c =
     let p = g.K.Terms in
     let r = g.S.Replica in
     let q = c.seat_all-workers in
-    subst (λ j. CrewStands p.may p.floor p.shelf r.state r.spells j (λ w. w.seat) q.result.workers.items) (sym q.ensures.none)
-    (new_stands p.may p.floor p.shelf r.state r.spells c.no_counts-counts.result (length c.in-Ok-prepare_all.berths.items) (λ w. w.seat) (λ w. w.desks.items) q.result.workers.items q.ensures.workers)
+    subst (λ j. CrewStands p.may p.floor p.shelf r.state r.spells j (λ w. w.seat) q.result.items) (sym (ap (λ (f : FabricView). f.journal) c.in-Ok-new.ensures.ok))
+    (new_stands p.may p.floor p.shelf r.state r.spells c.no_counts-counts.result (length c.in-Ok-prepare_all.berths.items) (λ w. w.seat) (λ w. w.desks.items) q.result.items q.ensures.workers)
 
 pub returns-in-Ok-new-clause-replicas : goal.returns-in-Ok-new-clause-replicas
 returns-in-Ok-new-clause-replicas g c =
@@ -67,9 +65,8 @@ leave_all-requires-clause-room g c =
 pub returns-in-Ok-new-clause-told : goal.returns-in-Ok-new-clause-told
 returns-in-Ok-new-clause-told g c =
     let p = g.K.Terms in
-    let q = c.seat_all-workers in
     let t = c.journal-told in
-    subst (λ j. AreAsTold p.may p.floor p.shelf j q.result.fabric.cells q.result.fabric.register) q.ensures.none
+    subst (λ j. AreAsTold p.may p.floor p.shelf j c.in-Ok-new.fabric.cells c.in-Ok-new.fabric.register) (ap (λ (f : FabricView). f.journal) c.in-Ok-new.ensures.ok)
     (record {
       legal = t.ensures.legal;
       shelf_is = t.ensures.shelf;
@@ -79,10 +76,3 @@ returns-in-Ok-new-clause-told g c =
       shows = t.ensures.shows;
       tail = t.ensures.tail;
     })
-
-pub returns-in-Ok-new-clause-register : goal.returns-in-Ok-new-clause-register
-returns-in-Ok-new-clause-register g c =
-    let q = c.seat_all-workers in
-    let h = subst (λ j. HasRegisterRun j q.result.fabric.register) q.ensures.none c.journal-told.ensures.register_runs in
-    let r = g.R.Register.view c.args.register in
-    subst (λ (x : RegisterView). x ≡ record r { armed = x.armed; told = x.told }) (sym h.run) (fresh_register h.opening r h.fresh c.requires.register)

@@ -25,14 +25,13 @@ loop-k-preserved g c =
       left = grind (arith, l.invariant.left, c.remove-replica.ensures.len);
       done = grind (arith, l.invariant.done, c.push_reserved.ensures.len);
       room = grind (arith, l.invariant.room, c.push_reserved.ensures.capacity);
-      none = q.ensures.none;
-      workers = λ j w at. each_push (λ j w. IsNewWorker (Sends p.may c.args.counts.now []) p.floor p.shelf r.state r.spells c.len-nodes.result (j + 1) w.seat w.desks.items) l.workers.items (record { seat = q.result.seat; desks = b.desks }) l.invariant.workers
+      workers = λ j w at. each_push (λ j w. IsNewWorker (Sends p.may c.args.counts.now []) p.floor p.shelf r.state r.spells c.len-nodes.result (j + 1) w.seat w.desks.items) l.workers.items (record { seat = q.result; desks = b.desks }) l.invariant.workers
           (record {
-            waits = subst (λ k. IsNewSeat (Sends p.may c.args.counts.now []) p.floor p.shelf r.state r.spells c.len-nodes.result k q.result.seat) who q.ensures.seat;
+            waits = subst (λ k. IsNewSeat (Sends p.may c.args.counts.now []) p.floor p.shelf r.state r.spells c.len-nodes.result k q.result) who q.ensures.seat;
             desks_are = desks.0;
           }) j w (ap (λ x. slice_get x j) (sym c.push_reserved.ensures.items) ∙ at);
       same = ap (λ x. map (λ w. w.seat.node.replica) x ++ map (λ b. r.shows b.replica) c.remove-replica.new.self.items) c.push_reserved.ensures.items
-          ∙ goes_over (λ w. w.seat.node.replica) (λ b. r.shows b.replica) l.workers.items l.berths.items c.remove-replica.new.self.items (record { seat = q.result.seat; desks = b.desks }) b (map (λ b. r.shows b.replica) c.args.berths.items) q.ensures.replica is l.invariant.same;
+          ∙ goes_over (λ w. w.seat.node.replica) (λ b. r.shows b.replica) l.workers.items l.berths.items c.remove-replica.new.self.items (record { seat = q.result; desks = b.desks }) b (map (λ b. r.shows b.replica) c.args.berths.items) q.ensures.replica is l.invariant.same;
     }
 
 pub returns-clause-workers : goal.returns-clause-workers
