@@ -40,12 +40,13 @@ fn run_script(rt: &HostRuntime) -> Result<Status, AllocError> {
     let words = words_of(rt)?;
     let mut source = StdSource::new(rt.stdin());
     let mut sink = StdSink::new(rt.stdout());
-    let ran = run_in_memory(rt, alloc, words.as_slice(), ROOMS, &mut source, &mut sink)?;
-    let _ = notes::explain(rt, &ran);
-    if let Some(told) = &ran.told {
+    let ended = run_in_memory(rt, alloc, words.as_slice(), ROOMS, &mut source, &mut sink)?;
+    let end = ended.end;
+    let _ = notes::explain(rt, &end);
+    if let Some(told) = &end.told {
         let _ = notes::show(rt, words.as_slice(), told);
     }
-    Ok(ran.status)
+    Ok(end.status)
 }
 
 fn main(rt: HostRuntime) -> ExitCode {

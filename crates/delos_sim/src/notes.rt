@@ -1,10 +1,11 @@
 //! What the program says to a person, on standard error. Standard output has the rows alone.
 use fitting_run::told::Told;
-use memory_runs::run::Ran;
 use run_notes::causes::OpenRows;
 use run_notes::json_rows::write_rows;
 use run_notes::picture::Picture;
-use script_runner::ended::Status;
+use run_notes::rules::sentence;
+use script_runner::ended::{End, Status};
+use script_text::script::BadLine;
 use script_words::plan::read_words;
 use std::{env, fs, io};
 
@@ -21,21 +22,20 @@ KIND:  file native1 native3 native5 native7 striped2 .. striped8 nested; the def
 ";
 
 /// One line, or a few, on what the status means.
-pub(crate) fn explain(rt: &HostRuntime, ran: &Ran) -> io::Result<()> {
-    match ran.status {
+pub(crate) fn explain(rt: &HostRuntime, end: &End) -> io::Result<()> {
+    match end.status {
         Status::Done => Ok(()),
-        Status::Open => match &ran.told {
+        Status::Open => match &end.told {
             Some(told) => {
                 let rows = told.rows.as_slice();
                 eprint!(rt; "{}", OpenRows { rows })
             }
             None => Ok(()),
         },
-        Status::BadLine => {
-            eprintln!(rt;
-                "no line was run: the script is refused for the line that standard output names"
-            )
-        }
+        Status::BadLine => match &end.refused {
+            Some(bad) => explain_line(rt, bad),
+            None => Ok(()),
+        },
         Status::BadWords => eprint!(rt; "{USAGE}"),
         Status::SourceFault => eprintln!(rt; "standard input failed: no line was run"),
         Status::SinkFault => {
@@ -43,6 +43,13 @@ pub(crate) fn explain(rt: &HostRuntime, ran: &Ran) -> io::Result<()> {
         }
         Status::Memory => no_memory(rt),
     }
+}
+
+/// Which line was refused, and what it has wrong.
+fn explain_line(rt: &HostRuntime, bad: &BadLine) -> io::Result<()> {
+    let n = bad.n;
+    let what = sentence(bad.rule);
+    eprintln!(rt; "no line was run; line {n}: {what}")
 }
 
 pub(crate) fn no_memory(rt: &HostRuntime) -> io::Result<()> {

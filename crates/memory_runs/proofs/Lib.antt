@@ -1,3 +1,2 @@
 pub mod Five
-pub mod Pushed
-pub mod Yards
+pub mod Ended

@@ -3,3 +3,4 @@ pub mod ScriptLines
 pub mod Shelves
 pub mod Outside
 pub mod Made
+pub mod Standing

@@ -12,13 +12,14 @@ use Rattle.chain_map.specs.Chain.{last_of_segments, last_id}
 use Rattle.table_core.specs.declared.command.Command.TheVariants.{Put, Del, Cas, Add}
 use Rattle.script_text.specs.declared.line.Admin.TheVariants.{Extend, Alive, Retire, Trim}
 use Rattle.script_text.specs.declared.asks.NamedLine.{NamedLine}
+use Rattle.script_text.specs.declared.script.BadLine.{BadLine}
 use Rattle.script_text.specs.declared.asks.Asks.{Asks}
 use Rattle.script_text.specs.declared.asks.Asks.TheVariants as asks
 use Rattle.script_text.specs.Lines.{lines_of}
 use Rattle.script_words.specs.declared.plan.Plan.{Plan}
 use Rattle.script_words.specs.declared.plan.Task.{Task}
 use Rattle.script_words.specs.declared.plan.Task.TheVariants as task
-use Rattle.script_words.specs.Plans.{IsTask, plan_of}
+use Rattle.script_words.specs.Plans.{IsTask}
 use Rattle.row_text.specs.declared.row.Row.{Row}
 use Rattle.row_text.specs.declared.row.Outcome.{Outcome}
 use Rattle.row_text.specs.declared.row.Outcome.TheVariants as out
@@ -41,7 +42,7 @@ use Rattle.fitting_run.specs.Calm.{GoesTo}
 use Rattle.script_runner.specs.declared.ended.Status.{Status}
 use Rattle.script_runner.specs.declared.ended.Status.TheVariants as status
 use Rattle.script_runner.specs.Ends.{Ran, ComesFrom, any_open, Composes}
-use Rattle.script_runner.specs.Made.{CountsMade, CountsWhatWasMade, lines_made}
+use Rattle.script_runner.specs.Made.{CountsMade, lines_made}
 use Rattle.script_runner.proofs.ScriptLines.{count_by-append, all_ranked}
 
 -- The same lines are counted
@@ -328,22 +329,18 @@ counts_made laws plan count left yard told make ran =
     (λ calm. segments_made (lines_of ran.script) told yard (length plan.shelf) (subst (AllByRecursion (λ (l : NamedLine). AddsOrExtends l.asks)) (sym lines) (all_from (λ (l : NamedLine). AddsOrExtends l.asks) (lines_made plan count) (laws.adds plan.seed count plan.nodes))) ran.shelf ran.fits (ran.answered calm) ran.lone (ran.extended calm) ran.shelved
     ∙ ap (λ ls. min (length plan.shelf) (1 + count_by extends ls)) lines)
 
-of_plan : Laws → (words : List (List ℕ)) (left : Option (List ℕ)) (yard : Shown) (told : Told) (plan : Plan) → plan_of words ≡ Some plan → Ran plan left yard told → CountsWhatWasMade words yard told
-of_plan laws words left yard told plan is ran other count planned make =
-    let same : plan ≡ other = the_same plan other (sym is ∙ planned) in
-    counts_made laws other count left yard told make (subst (λ (p : Plan). Ran p left yard told) same ran)
+of_plan : Laws → (plan : Plan) (left : Option (List ℕ)) (yard : Shown) (told : Told) → Ran plan left yard told → (p : Plan) (count : ℕ) → Some plan ≡ Some p → p.task ≡ task.Make count → CountsMade p count yard told
+of_plan laws plan left yard told ran p count same make =
+    counts_made laws p count left yard told make (subst (λ (q : Plan). Ran q left yard told) (the_same plan p same) ran)
   where
     the_same : (x y : Plan) → Some x ≡ Some y → x ≡ y
     the_same x y e = cc
 
 -- of what was composed
-pub counts_composed : Laws → (words : List (List ℕ)) (left : Option (List ℕ)) (yard : Shown) (end : Status) (told : Option Told) (text : List ℕ)
-    → Composes words left yard end told text → IfSome told (CountsWhatWasMade words yard)
-counts_composed laws words left yard end None text h = tt
-counts_composed laws words left yard status.Done (Some told) text h = of_plan laws words left yard told h.0 h.1 h.2.0
-counts_composed laws words left yard status.Open (Some told) text h = of_plan laws words left yard told h.0 h.1 h.2.0
-counts_composed laws words left yard status.BadLine (Some told) text h = absurd h.2
-counts_composed laws words left yard status.BadWords (Some told) text h = absurd h.2
-counts_composed laws words left yard status.SourceFault (Some told) text h = absurd h.2
-counts_composed laws words left yard status.SinkFault (Some told) text h = absurd h.2
-counts_composed laws words left yard status.Memory (Some told) text h = absurd h.2
+pub counts_composed : Laws → (plan : Option Plan) (left : Option (List ℕ)) (yard : Shown) (end : Status) (told : Option Told) (refused : Option BadLine) (text : List ℕ)
+    → Composes plan left yard end told refused text → IfSome told (λ t. (p : Plan) (count : ℕ) → plan ≡ Some p → p.task ≡ task.Make count → CountsMade p count yard t)
+counts_composed laws (Some plan) left yard status.Done (Some told) None text h = of_plan laws plan left yard told h.0
+counts_composed laws (Some plan) left yard status.Open (Some told) None text h = of_plan laws plan left yard told h.0
+counts_composed laws (Some plan) left yard status.BadLine None (Some bad) text h = tt
+counts_composed laws None left yard status.BadWords None None text h = tt
+counts_composed laws plan left yard end told refused text h = absurd h

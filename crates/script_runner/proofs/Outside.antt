@@ -1,6 +1,6 @@
 -- What was read of a source, and what is composed of it.
 use Rattle.std.proofs.Common.{◌≡◌, ◌≤◌, ◌∙◌, ℕ, Bool, true, false, if◌then◌else◌, List, [], ◌∷◌, length, take, Option, Some, None, Result, Ok, Err, refl, sym, ap, subst, arith, inl, inr}
-use Rattle.std.specs.Prelude.{IfOk, IfSome}
+use Rattle.std.specs.Prelude.{IfOk, IfSome, IsSomeAnd}
 use Rattle.std.specs.declared.alloc.AllocError.{AllocError}
 use Rattle.std.proofs.lemmas.Bool.{cases_lt, and_parts}
 use Rattle.std.proofs.lemmas.List.{take_at, take_all}
@@ -16,13 +16,14 @@ use Rattle.script_text.specs.Spelling.{IsScript}
 use Rattle.script_words.specs.declared.plan.Plan.{Plan}
 use Rattle.script_words.specs.declared.plan.Task.{Task}
 use Rattle.script_words.specs.declared.plan.Task.TheVariants as task
+use Rattle.script_words.specs.Plans.{bad_words_text}
 use Rattle.made_script.specs.Made.{made_lines, made_text}
 use Rattle.fitting_run.specs.declared.told.Told.{Told}
 use Rattle.script_runner.specs.declared.ended.Status.TheVariants as status
 use Rattle.script_runner.specs.declared.compose.Composed.{Composed}
 use Rattle.script_runner.specs.declared.compose.Failure.{Failure}
 use Rattle.crew_run.specs.Running.{RunTold}
-use Rattle.script_runner.specs.Composed.{ComposesRun, IsComposedScript, Tells}
+use Rattle.script_runner.specs.Composed.{ComposesRun, IsComposed, Tells, status_of}
 use Rattle.row_text.specs.declared.row.Row.{Row}
 use Rattle.row_text.specs.declared.row.Outcome.{Outcome}
 use Rattle.row_text.specs.declared.row.Outcome.TheVariants as out
@@ -30,7 +31,8 @@ use Rattle.script_runner.specs.declared.ended.Status.{Status}
 use Rattle.fitting_run.specs.Answered.{is_open}
 use Rattle.fitting_run.specs.Yard.{Shown}
 use Rattle.fitting_run.specs.Calm.{IsCalm, is_answered, all_answered}
-use Rattle.script_runner.specs.Ends.{IsPlan, Ran, ComesFrom, IsAllOf, IsFrontOf, read_limit, any_open, Composes, IsRun}
+use Rattle.script_runner.specs.declared.ended.End.{End}
+use Rattle.script_runner.specs.Ends.{IsPlan, Ran, ComesFrom, IsRefused, read_limit, any_open, Composes}
 
 front_of : (limit : ℕ) (all bytes : List ℕ) (after : Option (List ℕ)) → length bytes ≡ limit → LeavesBehind all after bytes → bytes ≡ take limit all
 front_of limit all bytes None len h = absurd h
@@ -43,38 +45,42 @@ front_is limit all bytes after h within = elim (cases_lt (length bytes) limit) [
 ]
 
 -- a script is shorter than the limit, so it was read to the source's end
-pub all-read : (left after : Option (List ℕ)) (bytes : List ℕ) → ReadsUpTo read_limit left after bytes → length bytes ≤ 1048576 → IsAllOf left bytes
+pub all-read : (left after : Option (List ℕ)) (bytes : List ℕ) → ReadsUpTo read_limit left after bytes → length bytes ≤ 1048576 → IfSome left (λ all. all ≡ bytes)
 all-read None after bytes came short = tt
 all-read (Some all) after bytes came short = came.all (omega arith)
 
-pub front-read : (left after : Option (List ℕ)) (bytes : List ℕ) → ReadsUpTo read_limit left after bytes → length bytes ≤ read_limit → IsFrontOf left bytes
+pub front-read : (left after : Option (List ℕ)) (bytes : List ℕ) → ReadsUpTo read_limit left after bytes → length bytes ≤ read_limit → IfSome left (λ all. take read_limit all ≡ bytes)
 front-read None after bytes came within = tt
 front-read (Some all) after bytes came within = sym (front_is read_limit all bytes after came within)
 
 pub composes-refusal : (plan : Plan) (left after : Option (List ℕ)) (yard : Shown) (c : Composed) (bytes : List ℕ) (bad : BadLine)
     → plan.task ≡ task.Run → ReadsUpTo read_limit left after bytes → length bytes ≤ read_limit → script_of plan.nodes bytes ≡ Err bad
-    → (c.status ≡ status.BadLine) × (c.told ≡ None) × (c.text ≡ refusal_text bad) → IsComposedScript plan left yard c
+    → (c.end ≡ record { status = status.BadLine; told = None; refused = Some bad }) × (c.text ≡ refusal_text bad) → IsComposed (Some plan) left yard c
 composes-refusal plan left after yard c bytes bad run came within read is =
-    rw (is.0, is.1, is.2) (bad, record { read = run; bytes = bytes; front = front-read left after bytes came within; refused = read }, refl)
+    let refused : IsRefused plan left bad = record { read = run; bytes = bytes; front = front-read left after bytes came within; refused = read } in
+    subst (λ (e : End). Composes (Some plan) left yard e.status e.told e.refused c.text) (sym is.0) (refused, is.1)
 
 composes-script : (plan : Plan) (left : Option (List ℕ)) (yard : Shown) (c : Composed) (bytes : List ℕ) (script : List Line)
-    → IsPlan plan → ComesFrom plan.task plan left bytes script → IsScript plan.nodes bytes script → ComposesRun plan script yard c → IsComposedScript plan left yard c
+    → IsPlan plan → ComesFrom plan.task plan left bytes script → IsScript plan.nodes bytes script → ComposesRun plan script yard c → IsComposed (Some plan) left yard c
 composes-script plan left yard c bytes script sound comes read run = decide (any_open run.told.rows) refl
   where
     ran : Ran plan left yard run.told
     ran = record { plan_is = sound; bytes = bytes; script = script; comes = comes; spelled = read; fits = run.ran.fits; answered = run.ran.answered; whole = run.ran.whole; extended = run.ran.extended; lone = run.ran.lone; shelved = run.ran.shelved; shelf = run.shelf }
 
-    decide : (b : Bool) → any_open run.told.rows ≡ b → IsComposedScript plan left yard c
-    decide true e =
-        let is : c.status ≡ status.Open = run.tells.status_is ∙ ap (λ (b : Bool). if b then status.Open else status.Done) e in
-        rw (is, run.tells.is, run.tells.text) (ran, refl, e)
-    decide false e =
-        let is : c.status ≡ status.Done = run.tells.status_is ∙ ap (λ (b : Bool). if b then status.Open else status.Done) e in
-        rw (is, run.tells.is, run.tells.text) (ran, refl, e)
+    -- it ended with this status
+    ends : (s : Status) → status_of run.told ≡ s → c.end ≡ record { status = s; told = Some run.told; refused = None }
+    ends s is = run.tells.is ∙ ap (λ (x : Status). record { status = x; told = Some run.told; refused = None }) is
+
+    composed : (s : Status) → status_of run.told ≡ s → Composes (Some plan) left yard s (Some run.told) None c.text → IsComposed (Some plan) left yard c
+    composed s is h = subst (λ (e : End). Composes (Some plan) left yard e.status e.told e.refused c.text) (sym (ends s is)) h
+
+    decide : (b : Bool) → any_open run.told.rows ≡ b → IsComposed (Some plan) left yard c
+    decide true e = composed status.Open (ap (λ (b : Bool). if b then status.Open else status.Done) e) (ran, run.tells.text, e)
+    decide false e = composed status.Done (ap (λ (b : Bool). if b then status.Open else status.Done) e) (ran, run.tells.text, e)
 
 pub composes-run : (plan : Plan) (left after : Option (List ℕ)) (yard : Shown) (c : Composed) (bytes : List ℕ) (script : List Line)
     → IsPlan plan → plan.task ≡ task.Run → ReadsUpTo read_limit left after bytes → length bytes ≤ 1048576 → IsScript plan.nodes bytes script
-    → ComposesRun plan script yard c → IsComposedScript plan left yard c
+    → ComposesRun plan script yard c → IsComposed (Some plan) left yard c
 composes-run plan left after yard c bytes script sound run came short read ran =
     composes-script plan left yard c bytes script sound (subst (λ (t : Task). ComesFrom t plan left bytes script) (sym run) (all-read left after bytes came short)) read ran
 
@@ -84,7 +90,7 @@ read-same lines script e = cc
 
 pub composes-made : (plan : Plan) (left : Option (List ℕ)) (yard : Shown) (c : Composed) (count : ℕ)
     → IsPlan plan → plan.task ≡ task.Make count → IsScript plan.nodes (made_text plan.seed count plan.nodes) (made_lines plan.seed count plan.nodes)
-    → ComposesRun plan (made_lines plan.seed count plan.nodes) yard c → IsComposedScript plan left yard c
+    → ComposesRun plan (made_lines plan.seed count plan.nodes) yard c → IsComposed (Some plan) left yard c
 composes-made plan left yard c count sound make read ran =
     composes-script plan left yard c (made_text plan.seed count plan.nodes) (made_lines plan.seed count plan.nodes) sound
     (subst (λ (t : Task). ComesFrom t plan left (made_text plan.seed count plan.nodes) (made_lines plan.seed count plan.nodes)) (sym make) (refl, refl)) read ran
@@ -106,18 +112,16 @@ none-open (r ∷ rs) e = let k = and_parts (is_answered r.outcome) (all_answered
     not_open out.Retired e = refl
 
 -- where nothing was counted no row is open
-pub calm-closed : (words : List (List ℕ)) (left : Option (List ℕ)) (yard : Shown) (end : Status) (told : Option Told) (text : List ℕ) → Composes words left yard end told text → IsCalm yard → end ≡ status.Open → ⊥
-calm-closed words left yard status.Open (Some told) text h calm e = false_true (sym (none-open told.rows (h.2.0.answered calm)) ∙ h.2.2)
+pub calm-closed : (plan : Option Plan) (left : Option (List ℕ)) (yard : Shown) (end : Status) (told : Option Told) (refused : Option BadLine) (text : List ℕ)
+    → Composes plan left yard end told refused text → IsCalm yard → end ≡ status.Open → ⊥
+calm-closed (Some plan) left yard status.Done (Some told) None text h calm e = cc
+calm-closed (Some plan) left yard status.Open (Some told) None text h calm e = false_true (sym (none-open told.rows (h.0.answered calm)) ∙ h.2)
   where
     false_true : false ≡ true → ⊥
     false_true e = cc
-calm-closed words left yard status.Open None text h calm e = absurd h.2
-calm-closed words left yard status.Done told text h calm e = cc
-calm-closed words left yard status.BadLine told text h calm e = cc
-calm-closed words left yard status.BadWords told text h calm e = cc
-calm-closed words left yard status.SourceFault told text h calm e = cc
-calm-closed words left yard status.SinkFault told text h calm e = cc
-calm-closed words left yard status.Memory told text h calm e = cc
+calm-closed (Some plan) left yard status.BadLine None (Some bad) text h calm e = cc
+calm-closed None left yard status.BadWords None None text h calm e = cc
+calm-closed plan left yard end told refused text h calm e = absurd h
 
 -- what a script told is composed of it, if memory sufficed
 pub composes-told : (plan : Plan) (script : List Line) (lines : List NamedLine) (yard : Shown) (answer : Result Composed Failure) (told : Result Told AllocError)
@@ -135,14 +139,26 @@ composes-told plan script lines yard (Ok c) (Ok t) same size tells some ran = re
   shelf = size;
 }
 
--- what is told is a run of the words' plan
-pub told-composed : (words : List (List ℕ)) (left : Option (List ℕ)) (yard : Shown) (end : Status) (told : Option Told) (text : List ℕ)
-    → Composes words left yard end told text → IfSome told (λ t. IsRun words left yard t)
-told-composed words left yard end None text h = tt
-told-composed words left yard status.Done (Some told) text h = record { plan = h.0; planned = h.1; ran = h.2.0 }
-told-composed words left yard status.Open (Some told) text h = record { plan = h.0; planned = h.1; ran = h.2.0 }
-told-composed words left yard status.BadLine (Some told) text h = absurd h.2
-told-composed words left yard status.BadWords (Some told) text h = absurd h.2
-told-composed words left yard status.SourceFault (Some told) text h = absurd h.2
-told-composed words left yard status.SinkFault (Some told) text h = absurd h.2
-told-composed words left yard status.Memory (Some told) text h = absurd h.2
+-- words that have no plan are answered so
+pub composes-bad : (plan : Option Plan) (left : Option (List ℕ)) (yard : Shown) (c : Composed) → plan ≡ None
+    → (c.end ≡ record { status = status.BadWords; told = None; refused = None }) × (c.text ≡ bad_words_text) → IsComposed plan left yard c
+composes-bad plan left yard c none is =
+    subst (λ (o : Option Plan). IsComposed o left yard c) (sym none) (subst (λ (e : End). Composes None left yard e.status e.told e.refused c.text) (sym is.0) is.1)
+
+-- what is told is a run of the plan
+pub told-composed : (plan : Option Plan) (left : Option (List ℕ)) (yard : Shown) (end : Status) (told : Option Told) (refused : Option BadLine) (text : List ℕ)
+    → Composes plan left yard end told refused text → IfSome told (λ t. IsSomeAnd plan (λ p. Ran p left yard t))
+told-composed (Some plan) left yard status.Done (Some told) None text h = h.0
+told-composed (Some plan) left yard status.Open (Some told) None text h = h.0
+told-composed (Some plan) left yard status.BadLine None (Some bad) text h = tt
+told-composed None left yard status.BadWords None None text h = tt
+told-composed plan left yard end told refused text h = absurd h
+
+-- a line that is named is one for which the plan refuses the source
+pub refused-composed : (plan : Option Plan) (left : Option (List ℕ)) (yard : Shown) (end : Status) (told : Option Told) (refused : Option BadLine) (text : List ℕ)
+    → Composes plan left yard end told refused text → IfSome refused (λ bad. IsSomeAnd plan (λ p. IsRefused p left bad))
+refused-composed (Some plan) left yard status.Done (Some told) None text h = tt
+refused-composed (Some plan) left yard status.Open (Some told) None text h = tt
+refused-composed (Some plan) left yard status.BadLine None (Some bad) text h = h.0
+refused-composed None left yard status.BadWords None None text h = tt
+refused-composed plan left yard end told refused text h = absurd h

@@ -1,5 +1,5 @@
 -- What a composed text says.
-use Rattle.std.specs.Prelude.{◌≡◌, ℕ, List, length, Option, Some, if◌then◌else◌}
+use Rattle.std.specs.Prelude.{◌≡◌, ℕ, List, length, Option, Some, None, if◌then◌else◌}
 use Rattle.script_text.specs.declared.line.Line.{Line}
 use Rattle.script_text.specs.declared.asks.NamedLine.{NamedLine}
 use Rattle.script_text.specs.Lines.{lines_of}
@@ -10,7 +10,7 @@ use Rattle.script_runner.specs.declared.ended.Status.TheVariants as status
 use Rattle.script_runner.specs.declared.compose.Composed.{Composed}
 use Rattle.crew_run.specs.Running.{RunTold}
 use Rattle.fitting_run.specs.Yard.{Shown}
-use Rattle.script_runner.specs.Ends.{Composes, ComposesScript, any_open, text_of}
+use Rattle.script_runner.specs.Ends.{Composes, any_open, text_of}
 
 -- the status that a run's text has once it is put whole
 abbrev pub status_of : Told → Status
@@ -18,9 +18,8 @@ status_of told = if any_open told.rows then status.Open else status.Done
 
 -- this was told of these lines, and it has this status and this text
 pub record Tells (plan : Plan) (lines : List NamedLine) (c : Composed) (told : Told) : Type 0 where
-  pub is : c.told ≡ Some told
-  pub status_is : c.status ≡ status_of told
-  pub text : c.text ≡ text_of plan lines told
+  pub is : c.end ≡ record { status = status_of told; told = Some told; refused = None }
+  pub text : c.text ≡ text_of plan.task plan lines told
 
 -- a script was run, and what it told is composed
 pub record ComposesRun (plan : Plan) (script : List Line) (yard : Shown) (c : Composed) : Type 0 where
@@ -29,8 +28,6 @@ pub record ComposesRun (plan : Plan) (script : List Line) (yard : Shown) (c : Co
   pub ran : RunTold (lines_of script) yard told
   pub shelf : length yard.cells ≡ length plan.shelf
 
-abbrev pub IsComposedScript : Plan → Option (List ℕ) → Shown → Composed → Type 0
-IsComposedScript plan left yard c = ComposesScript plan left yard c.status c.told c.text
-
-abbrev pub IsComposed : List (List ℕ) → Option (List ℕ) → Shown → Composed → Type 0
-IsComposed words left yard c = Composes words left yard c.status c.told c.text
+-- this is what the plan has to be put
+abbrev pub IsComposed : Option Plan → Option (List ℕ) → Shown → Composed → Type 0
+IsComposed plan left yard c = Composes plan left yard c.end.status c.end.told c.end.refused c.text

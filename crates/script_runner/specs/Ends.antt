@@ -1,5 +1,5 @@
 -- How a run ends: what stands behind each status.
-use Rattle.std.specs.Prelude.{◌≡◌, ◌<◌, ℕ, Bool, true, false, not, List, length, count_by, All, Option, Some, None, is_some, Ok, Err, map, take}
+use Rattle.std.specs.Prelude.{◌≡◌, ◌<◌, ℕ, Bool, true, false, not, List, length, count_by, All, Option, Some, None, is_some, IfSome, IsSomeAnd, Err, IsOk, map, take}
 use Rattle.std.specs.List.{list_all, list_any}
 use Rattle.fabric_core.specs.Log.{virtual_tail}
 use Rattle.outside_ends.specs.Sinks.{Gains}
@@ -17,7 +17,7 @@ use Rattle.script_words.specs.declared.plan.Plan.{Plan}
 use Rattle.script_words.specs.declared.plan.Task.{Task}
 use Rattle.script_words.specs.declared.plan.Task.TheVariants as task
 pub use Rattle.script_words.specs.Plans.{IsPlan}
-use Rattle.script_words.specs.Plans.{plan_of, bad_words_text}
+use Rattle.script_words.specs.Plans.{bad_words_text}
 use Rattle.script_words.specs.Shelf.{kind_name}
 use Rattle.fitting_run.specs.declared.told.Told.{Told}
 use Rattle.made_script.specs.Made.{made_lines, made_text}
@@ -28,8 +28,7 @@ use Rattle.fitting_run.specs.Answered.{is_open}
 use Rattle.fitting_run.specs.Yard.{Shown}
 use Rattle.fitting_run.specs.Fits.{Fits}
 use Rattle.fitting_run.specs.Replacements.{version_made, version_found}
-use Rattle.fitting_run.specs.Calm.{GoesTo}
-use Rattle.fitting_run.specs.Calm.{IsCalm, all_answered}
+use Rattle.fitting_run.specs.Calm.{IsCalm, GoesTo, all_answered}
 
 -- how many bytes of a source are read at most: one more than a script may have
 abbrev pub read_limit : ℕ
@@ -39,19 +38,9 @@ read_limit = 1048577
 abbrev pub any_open : List Row → Bool
 any_open rows = list_any (λ r. is_open r.outcome) rows
 
--- these bytes were all that the source had left, where it tells that
-abbrev pub IsAllOf : Option (List ℕ) → List ℕ → Type 0
-IsAllOf None bytes = Unit {0}
-IsAllOf (Some all) bytes = all ≡ bytes
-
--- these bytes were what the source had left, up to the limit, where it tells that
-abbrev pub IsFrontOf : Option (List ℕ) → List ℕ → Type 0
-IsFrontOf None bytes = Unit {0}
-IsFrontOf (Some all) bytes = take read_limit all ≡ bytes
-
--- where a script comes from: it is all that the source had left, or made of the plan's seed
+-- where a script comes from: it is all that the source had left, where it tells that, or made of the plan's seed
 abbrev pub ComesFrom : Task → Plan → Option (List ℕ) → List ℕ → List Line → Type 0
-ComesFrom task.Run plan left bytes script = IsAllOf left bytes
+ComesFrom task.Run plan left bytes script = IfSome left (λ all. all ≡ bytes)
 ComesFrom (task.Make count) plan left bytes script = (bytes ≡ made_text plan.seed count plan.nodes) × (script ≡ made_lines plan.seed count plan.nodes)
 
 -- The run theorem: the script is all that the source had left, or the one that was to be made; what is told fits it and the yard
@@ -78,66 +67,53 @@ abbrev pub rows_text : Plan → Told → List ℕ
 rows_text plan told = output told.rows told.end told.version told.chain told.down (map kind_name plan.shelf)
 
 -- the text of what is told of these lines, by what was to be done
-abbrev pub text_by : Task → Plan → List NamedLine → Told → List ℕ
-text_by task.Run plan lines told = rows_text plan told
-text_by (task.Make count) plan lines told = totals_text (totals_of lines told)
+abbrev pub text_of : Task → Plan → List NamedLine → Told → List ℕ
+text_of task.Run plan lines told = rows_text plan told
+text_of (task.Make count) plan lines told = totals_text (totals_of lines told)
 
-abbrev pub text_of : Plan → List NamedLine → Told → List ℕ
-text_of plan lines told = text_by plan.task plan lines told
-
--- a line of the source's bytes breaks a rule, the first line and its first rule
+-- a line of the source's bytes, as far as they are read, breaks a rule: the first line and its first rule
 pub record IsRefused (plan : Plan) (left : Option (List ℕ)) (bad : BadLine) : Type 0 where
   pub read : plan.task ≡ task.Run
   pub bytes : List ℕ
-  pub front : IsFrontOf left bytes
+  pub front : IfSome left (λ all. take read_limit all ≡ bytes)
   pub refused : script_of plan.nodes bytes ≡ Err bad
 
--- What is to be put, and which status it has once it is put whole: what a script told, whose rows are or aren't
--- all answered, or its first bad line ..
-abbrev pub ComposesScript : Plan → Option (List ℕ) → Shown → Status → Option Told → List ℕ → Type 0
-ComposesScript plan left yard status.Done (Some told) text = (ran : Ran plan left yard told) × (text ≡ text_of plan (lines_of ran.script) told) × (any_open told.rows ≡ false)
-ComposesScript plan left yard status.Open (Some told) text = (ran : Ran plan left yard told) × (text ≡ text_of plan (lines_of ran.script) told) × (any_open told.rows ≡ true)
-ComposesScript plan left yard status.BadLine None text = (bad : BadLine) × IsRefused plan left bad × (text ≡ refusal_text bad)
-ComposesScript plan left yard end told text = ⊥
-
--- .. or that the words are not taken
-abbrev pub Composes : List (List ℕ) → Option (List ℕ) → Shown → Status → Option Told → List ℕ → Type 0
-Composes words left yard status.BadWords None text = (plan_of words ≡ None) × (text ≡ bad_words_text)
-Composes words left yard end told text = (plan : Plan) × (plan_of words ≡ Some plan) × ComposesScript plan left yard end told text
+-- What is to be put by the plan that the words have, and which status it has once it is put whole: what a script told, whose rows are
+-- or aren't all answered; its first bad line, which is named; or that the words have no plan.
+abbrev pub Composes : Option Plan → Option (List ℕ) → Shown → Status → Option Told → Option BadLine → List ℕ → Type 0
+Composes (Some plan) left yard status.Done (Some told) None text = (ran : Ran plan left yard told) × (text ≡ text_of plan.task plan (lines_of ran.script) told) × (any_open told.rows ≡ false)
+Composes (Some plan) left yard status.Open (Some told) None text = (ran : Ran plan left yard told) × (text ≡ text_of plan.task plan (lines_of ran.script) told) × (any_open told.rows ≡ true)
+Composes (Some plan) left yard status.BadLine None (Some bad) text = IsRefused plan left bad × (text ≡ refusal_text bad)
+Composes None left yard status.BadWords None None text = text ≡ bad_words_text
+Composes plan left yard end told refused text = ⊥
 
 -- a text was composed with this status, and put whole
-pub record PutsWhole (words : List (List ℕ)) (left before after : Option (List ℕ)) (yard : Shown) (end : Status) (told : Option Told) : Type 0 where
+pub record PutsWhole (plan : Option Plan) (left before after : Option (List ℕ)) (yard : Shown) (end : Status) (told : Option Told) (refused : Option BadLine) : Type 0 where
   pub text : List ℕ
-  pub composed : Composes words left yard end told text
+  pub composed : Composes plan left yard end told refused text
   pub put : Gains before after text
 
 -- a text was composed, and a front of it put
-pub record PutsFront (words : List (List ℕ)) (left before after : Option (List ℕ)) (yard : Shown) (told : Option Told) : Type 0 where
+pub record PutsFront (plan : Option Plan) (left before after : Option (List ℕ)) (yard : Shown) (told : Option Told) : Type 0 where
   pub end : Status
+  pub refused : Option BadLine
   pub text : List ℕ
-  pub composed : Composes words left yard end told text
+  pub composed : Composes plan left yard end told refused text
   pub front : GainsFront before after text
 
--- the bytes that the source has left are a script
-pub record IsReadable (nodes : ℕ) (left : Option (List ℕ)) : Type 0 where
-  pub all : List ℕ
-  pub told : left ≡ Some all
-  pub script : List Line
-  pub read : script_of nodes (take read_limit all) ≡ Ok script
+-- What was put, by how the run ended: the text that was composed with this status, whole, and its bad line is named; a front of one
+-- where the sink failed. Where the source failed or memory ran out nothing was told.
+abbrev pub Puts : Option Plan → Option (List ℕ) → Option (List ℕ) → Option (List ℕ) → Shown → Status → Option Told → Option BadLine → Type 0
+Puts plan left before after yard status.SinkFault told refused = PutsFront plan left before after yard told × (refused ≡ None)
+Puts plan left before after yard status.SourceFault told refused = (told ≡ None) × (refused ≡ None)
+Puts plan left before after yard status.Memory told refused = (told ≡ None) × (refused ≡ None)
+Puts plan left before after yard end told refused = PutsWhole plan left before after yard end told refused
 
--- there is a script: one that is made always is
+-- there is a script: the source tells bytes that are one, and one that is made always is
 abbrev pub HasScript : Task → ℕ → Option (List ℕ) → Type 0
-HasScript task.Run nodes left = IsReadable nodes left
+HasScript task.Run nodes left = IsSomeAnd left (λ all. IsOk (script_of nodes (take read_limit all)))
 HasScript (task.Make count) nodes left = Unit {0}
 
--- the words are taken, and there is a script
-pub record CanRun (words : List (List ℕ)) (left : Option (List ℕ)) : Type 0 where
-  pub plan : Plan
-  pub planned : plan_of words ≡ Some plan
-  pub script : HasScript plan.task plan.nodes left
-
--- what is told is a run of the words' plan
-pub record IsRun (words : List (List ℕ)) (left : Option (List ℕ)) (yard : Shown) (told : Told) : Type 0 where
-  pub plan : Plan
-  pub planned : plan_of words ≡ Some plan
-  pub ran : Ran plan left yard told
+-- the words ask for the script that the source has left
+abbrev pub TakesSource : Option Plan → Type 0
+TakesSource plan = IsSomeAnd plan (λ p. p.task ≡ task.Run)

@@ -1,5 +1,5 @@
 -- A yard as it is before a run, and what is read of one.
-use Rattle.std.specs.Prelude.{◌≡◌, ℕ, List, length, map, Some}
+use Rattle.std.specs.Prelude.{◌≡◌, ℕ, List, length, map}
 use Rattle.std.specs.List.{AllByRecursion}
 use Rattle.loglet_api.specs.View.{LogletView, IsFresh}
 use Rattle.register_api.specs.View as register
@@ -7,7 +7,6 @@ use Rattle.disk_model.specs.Disk.{DiskView}
 use Rattle.delos_types.specs.declared.item.Item.{Item}
 use Rattle.fitting_run.specs.Fresh.{IsFreshNode}
 use Rattle.script_words.specs.declared.plan.Plan.{Plan}
-use Rattle.script_words.specs.Plans.{plan_of}
 use Rattle.fitting_run.specs.Yard.{Shown}
 
 -- what is read of loglets, a register and what nodes are made of, each seen by a function of its own
@@ -29,7 +28,3 @@ pub record IsFreshFor {K : Type 0} (kinds : K → List ℕ) (waiting : K → Lis
   pub fresh : AreFresh cells
   pub register_is : register.IsFresh r
   pub parts_are : AreFreshNodes kinds waiting disk parts
-
--- where the words have a plan, the yard is fresh for it; else it may be any
-abbrev pub IsFreshYard : {K : Type 0} → (K → List ℕ) → (K → List Item) → (K → DiskView) → List (List ℕ) → List LogletView → register.RegisterView → List K → Type 0
-IsFreshYard kinds waiting disk words cells r parts = (plan : Plan) → plan_of words ≡ Some plan → IsFreshFor kinds waiting disk plan cells r parts

@@ -1,10 +1,8 @@
 -- What came of a script that was made.
-use Rattle.std.specs.Prelude.{◌≡◌, ℕ, pos, ◌+◌, ◌/◌, false, List, Some, length, min}
+use Rattle.std.specs.Prelude.{◌≡◌, ℕ, pos, ◌+◌, ◌/◌, false, List, length, min}
 use Rattle.script_text.specs.declared.asks.NamedLine.{NamedLine}
 use Rattle.script_text.specs.Lines.{lines_of}
 use Rattle.script_words.specs.declared.plan.Plan.{Plan}
-use Rattle.script_words.specs.declared.plan.Task.TheVariants as task
-use Rattle.script_words.specs.Plans.{plan_of}
 use Rattle.fitting_run.specs.declared.told.Told.{Told}
 use Rattle.fitting_run.specs.Yard.{Shown}
 use Rattle.fitting_run.specs.Calm.{IsCalm}
@@ -16,18 +14,10 @@ use Rattle.script_runner.specs.Ends.{any_open}
 abbrev pub lines_made : Plan → ℕ → List NamedLine
 lines_made plan count = lines_of (made_lines plan.seed count plan.nodes)
 
--- how many of them extend the chain
-abbrev pub extensions_in : ℕ → ℕ
-extensions_in count = (count + 49) / 100
-
 -- Of so many commands all acted where no row is open, and then the table's sum is that of their amounts. Where no fault was
--- counted each line that extends the chain did, until the shelf had no loglet left.
+-- counted each line that extends the chain did, one for each hundred commands from the fifty-first on, until the shelf had no loglet left.
 pub record CountsMade (plan : Plan) (count : ℕ) (yard : Shown) (told : Told) : Type 0 where
   pub commands : (totals_of (lines_made plan count) told).commands ≡ count
   pub acted : any_open told.rows ≡ false → (totals_of (lines_made plan count) told).acted ≡ count
   pub sum : any_open told.rows ≡ false → (totals_of (lines_made plan count) told).sum ≡ pos (amounts plan.seed count)
-  pub segments : IsCalm yard → (totals_of (lines_made plan count) told).segments ≡ min (length plan.shelf) (1 + extensions_in count)
-
--- where the words ask for a script that is made
-abbrev pub CountsWhatWasMade : List (List ℕ) → Shown → Told → Type 0
-CountsWhatWasMade words yard told = (plan : Plan) (count : ℕ) → plan_of words ≡ Some plan → plan.task ≡ task.Make count → CountsMade plan count yard told
+  pub segments : IsCalm yard → (totals_of (lines_made plan count) told).segments ≡ min (length plan.shelf) (1 + (count + 49) / 100)

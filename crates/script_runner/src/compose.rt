@@ -1,17 +1,18 @@
 //! What is to be put: a script is read or made and run, and the text of what it told is made whole.
-ghost use Rattle.std.specs.Prelude.{◌≡◌, ◌≢◌, ◌<◌, ℕ, List, Option, IfOk, All, length, map, string_bytes};
+ghost use Rattle.std.specs.Prelude.{◌≡◌, ◌≢◌, ◌<◌, ℕ, List, Option, Some, IfOk, All, length, map};
 ghost use Rattle.outside_ends.specs.Faults.{Rose};
 ghost use Rattle.script_text.specs.declared.line.Line.{Line};
 ghost use Rattle.script_text.specs.Lines.{lines_of};
 ghost use Rattle.script_text.specs.Refusal.{refusal_text};
 ghost use Rattle.script_text.specs.Spelling.{IsScript};
 ghost use Rattle.script_words.specs.Plans.{bad_words_text};
+ghost use Rattle.script_words.specs.declared.plan.Plan as plans;
 ghost use Rattle.script_words.specs.declared.plan.Task.TheVariants as task;
-ghost use Rattle.script_runner.specs.Composed.{ComposesRun, IsComposed, IsComposedScript, Tells, status_of};
-ghost use Rattle.script_runner.specs.Ends.{IsPlan, rows_text, text_of, any_open};
-ghost use Rattle.script_runner.specs.Fresh.{IsFreshFor, IsFreshYard, shown};
+ghost use Rattle.script_runner.specs.Composed.{ComposesRun, IsComposed, Tells, status_of};
+ghost use Rattle.script_runner.specs.Ends.{IsPlan, TakesSource, rows_text, text_of, any_open};
+ghost use Rattle.script_runner.specs.Fresh.{IsFreshFor, shown};
 
-use crate::ended::Status;
+use crate::ended::{End, Status};
 use crate::over::{Played, play};
 use crate::yard::Yard;
 use delos_types::bytes::Bytes;
@@ -33,7 +34,7 @@ use run_totals::text::totals_text;
 use script_text::asks::{NamedLine, named_lines};
 use script_text::refusal::refusal_text;
 use script_text::script::{BadLine, ParseError, Script, parse};
-use script_words::plan::{Plan, Task, WordsError, bad_words_text, read_words};
+use script_words::plan::{Plan, Task, bad_words_text};
 use std::alloc::{AllocError, Global};
 
 /// How many bytes of a source are read at most: one more than a script may have.
@@ -42,8 +43,7 @@ const READ_LIMIT: usize = 1_048_577;
 /// What is to be put, and how the run ends once it is.
 #[derive(Drop)]
 pub struct Composed {
-    pub status: Status,
-    pub told: Option<Told>,
+    pub end: End,
     pub text: Bytes,
 }
 
@@ -113,7 +113,7 @@ fn told_text(
     told: &Told,
 ) -> Result<Bytes, AllocError>
     requires { All (λ s. s.id < length plan.now.shelf) told.now.chain.segments }
-    ensures { IfOk result (λ text. text ≡ text_of plan.now lines.now told.now) }
+    ensures { IfOk result (λ text. text ≡ text_of plan.now.task plan.now lines.now told.now) }
 {
     match plan.task {
         Task::Run => rows_text(alloc, plan, told),
@@ -140,8 +140,11 @@ fn compose_told(
     let text = told_text(alloc, plan, lines, &told)?;
     let status = status_of(&told);
     Ok(Composed {
-        status,
-        told: Some(told),
+        end: End {
+            status,
+            told: Some(told),
+            refused: None,
+        },
         text,
     })
 }
@@ -158,6 +161,9 @@ fn compose_run<L: Loglet, R: Register, E: Layers, D: Disk, C: Chooser>(
     requires spelled { (bytes : List ℕ) × IsScript plan.now.nodes bytes script }
     ensures ok { IfOk result.answer (ComposesRun plan.now script (shown L.view R.view (λ k. (D.view k.disk).faults) result.yard.shelf.items result.yard.register result.yard.nodes.items)) }
     ensures source { result.answer ≢ Err Failure.Source }
+    ensures loglets { length result.yard.shelf.items ≡ length yard.shelf.items }
+    ensures nodes { length result.yard.nodes.items ≡ length yard.nodes.items }
+    ensures kinds { map (λ v. v.kind) (map L.view result.yard.shelf.items) ≡ map (λ v. v.kind) (map L.view yard.shelf.items) }
 {
     let lines = match named_lines(alloc, script) {
         Ok(lines) => lines,
@@ -176,26 +182,32 @@ fn compose_run<L: Loglet, R: Register, E: Layers, D: Disk, C: Chooser>(
 
 /// The text of a bad line.
 fn compose_refusal(alloc: Global, bad: BadLine) -> Result<Composed, Failure>
-    ensures ok { IfOk result (λ c. (c.status ≡ Status.BadLine) × (c.told ≡ None) × (c.text ≡ refusal_text bad)) }
+    ensures ok { IfOk result (λ c. (c.end ≡ record { status = Status.BadLine; told = None; refused = Some bad }) × (c.text ≡ refusal_text bad)) }
     ensures source { result ≢ Err Failure.Source }
 {
     let text = refusal_text(alloc, bad)?;
     Ok(Composed {
-        status: Status::BadLine,
-        told: None,
+        end: End {
+            status: Status::BadLine,
+            told: None,
+            refused: Some(bad),
+        },
         text,
     })
 }
 
 /// The text for words that are not taken.
 fn compose_bad_words(alloc: Global) -> Result<Composed, Failure>
-    ensures ok { IfOk result (λ c. (c.status ≡ Status.BadWords) × (c.told ≡ None) × (c.text ≡ bad_words_text)) }
+    ensures ok { IfOk result (λ c. (c.end ≡ record { status = Status.BadWords; told = None; refused = None }) × (c.text ≡ bad_words_text)) }
     ensures source { result ≢ Err Failure.Source }
 {
     let text = Bytes::from_slice(alloc, bad_words_text())?;
     Ok(Composed {
-        status: Status::BadWords,
-        told: None,
+        end: End {
+            status: Status::BadWords,
+            told: None,
+            refused: None,
+        },
         text,
     })
 }
@@ -210,8 +222,13 @@ fn compose_script<L: Loglet, R: Register, E: Layers, D: Disk, C: Chooser, S: Sou
     requires fresh { IsFreshFor (λ k. E.kinds k.engines) (λ k. E.waiting k.engines) (λ k. D.view k.disk) plan.now (map L.view yard.shelf.items) (R.view yard.register) yard.nodes.items }
     requires plan { IsPlan plan.now }
     requires run { plan.now.task ≡ task.Run }
-    ensures ok { IfOk result.answer (IsComposedScript plan.now (S.left source.old) (shown L.view R.view (λ k. (D.view k.disk).faults) result.yard.shelf.items result.yard.register result.yard.nodes.items)) }
+    ensures ok { IfOk result.answer (IsComposed (Some plan.now) (S.left source.old) (shown L.view R.view (λ k. (D.view k.disk).faults) result.yard.shelf.items result.yard.register result.yard.nodes.items)) }
     ensures source { result.answer ≡ Err Failure.Source → Rose (S.counted source.old) (S.counted source.new) }
+    ensures untouched { IfOk result.answer (λ c. c.end.told ≡ None → result.yard ≡ yard) }
+    ensures untouched_unread { result.answer ≡ Err Failure.Source → result.yard ≡ yard }
+    ensures loglets { length result.yard.shelf.items ≡ length yard.shelf.items }
+    ensures nodes { length result.yard.nodes.items ≡ length yard.nodes.items }
+    ensures kinds { map (λ v. v.kind) (map L.view result.yard.shelf.items) ≡ map (λ v. v.kind) (map L.view yard.shelf.items) }
 {
     let bytes = match read_up_to(alloc, source, READ_LIMIT) {
         Ok(bytes) => bytes,
@@ -255,8 +272,12 @@ fn compose_made<L: Loglet, R: Register, E: Layers, D: Disk, C: Chooser>(
     requires fresh { IsFreshFor (λ k. E.kinds k.engines) (λ k. E.waiting k.engines) (λ k. D.view k.disk) plan.now (map L.view yard.shelf.items) (R.view yard.register) yard.nodes.items }
     requires plan { IsPlan plan.now }
     requires make { plan.now.task ≡ task.Make count }
-    ensures ok { (left : Option (List ℕ)) → IfOk result.answer (IsComposedScript plan.now left (shown L.view R.view (λ k. (D.view k.disk).faults) result.yard.shelf.items result.yard.register result.yard.nodes.items)) }
+    ensures ok { (left : Option (List ℕ)) → IfOk result.answer (IsComposed (Some plan.now) left (shown L.view R.view (λ k. (D.view k.disk).faults) result.yard.shelf.items result.yard.register result.yard.nodes.items)) }
     ensures source { result.answer ≢ Err Failure.Source }
+    ensures untouched { IfOk result.answer (λ c. c.end.told ≡ None → result.yard ≡ yard) }
+    ensures loglets { length result.yard.shelf.items ≡ length yard.shelf.items }
+    ensures nodes { length result.yard.nodes.items ≡ length yard.nodes.items }
+    ensures kinds { map (λ v. v.kind) (map L.view result.yard.shelf.items) ≡ map (λ v. v.kind) (map L.view yard.shelf.items) }
 {
     a_made_script_is_one();
     let Ok(bytes) = make_script(alloc, plan.seed, count, plan.nodes) else {
@@ -284,8 +305,16 @@ fn compose_task<L: Loglet, R: Register, E: Layers, D: Disk, C: Chooser, S: Sourc
 ) -> Worked<L, R, E, D, C>
     requires fresh { IsFreshFor (λ k. E.kinds k.engines) (λ k. E.waiting k.engines) (λ k. D.view k.disk) plan.now (map L.view yard.shelf.items) (R.view yard.register) yard.nodes.items }
     requires plan { IsPlan plan.now }
-    ensures ok { IfOk result.answer (IsComposedScript plan.now (S.left source.old) (shown L.view R.view (λ k. (D.view k.disk).faults) result.yard.shelf.items result.yard.register result.yard.nodes.items)) }
-    ensures source { result.answer ≡ Err Failure.Source → Rose (S.counted source.old) (S.counted source.new) }
+    ensures ok { IfOk result.answer (IsComposed (Some plan.now) (S.left source.old) (shown L.view R.view (λ k. (D.view k.disk).faults) result.yard.shelf.items result.yard.register result.yard.nodes.items)) }
+    ensures source { result.answer ≡ Err Failure.Source → Rose (S.counted source.old) (S.counted source.new) × (plan.now.task ≡ task.Run) }
+
+    // A script that is made takes nothing from the source.
+    ensures untaken { (plan.now.task ≡ task.Run → ⊥) → source.new ≡ source.old }
+    ensures untouched { IfOk result.answer (λ c. c.end.told ≡ None → result.yard ≡ yard) }
+    ensures untouched_unread { result.answer ≡ Err Failure.Source → result.yard ≡ yard }
+    ensures loglets { length result.yard.shelf.items ≡ length yard.shelf.items }
+    ensures nodes { length result.yard.nodes.items ≡ length yard.nodes.items }
+    ensures kinds { map (λ v. v.kind) (map L.view result.yard.shelf.items) ≡ map (λ v. v.kind) (map L.view yard.shelf.items) }
 {
     match plan.task {
         Task::Run => return compose_script(alloc, plan, source, yard),
@@ -293,29 +322,29 @@ fn compose_task<L: Loglet, R: Register, E: Layers, D: Disk, C: Chooser, S: Sourc
     }
 }
 
-/// Takes the words, and composes what they ask for.
+/// Composes what the plan asks for, if the words have one.
 pub fn compose<L: Loglet, R: Register, E: Layers, D: Disk, C: Chooser, S: Source>(
     alloc: Global,
-    words: &[String],
+    plan: &Option<Plan>,
     source: &mut S,
     yard: Yard<L, R, E, D, C>,
 ) -> Worked<L, R, E, D, C>
-    requires fresh { IsFreshYard (λ k. E.kinds k.engines) (λ k. E.waiting k.engines) (λ k. D.view k.disk) (map string_bytes words.now) (map L.view yard.shelf.items) (R.view yard.register) yard.nodes.items }
-    ensures ok { IfOk result.answer (IsComposed (map string_bytes words.now) (S.left source.old) (shown L.view R.view (λ k. (D.view k.disk).faults) result.yard.shelf.items result.yard.register result.yard.nodes.items)) }
-    ensures source { result.answer ≡ Err Failure.Source → Rose (S.counted source.old) (S.counted source.new) }
+    requires fresh { (p : plans.Plan) → plan.now ≡ Some p → IsPlan p × IsFreshFor (λ k. E.kinds k.engines) (λ k. E.waiting k.engines) (λ k. D.view k.disk) p (map L.view yard.shelf.items) (R.view yard.register) yard.nodes.items }
+    ensures ok { IfOk result.answer (IsComposed plan.now (S.left source.old) (shown L.view R.view (λ k. (D.view k.disk).faults) result.yard.shelf.items result.yard.register result.yard.nodes.items)) }
+    ensures source { result.answer ≡ Err Failure.Source → Rose (S.counted source.old) (S.counted source.new) × TakesSource plan.now }
+    ensures untaken { (TakesSource plan.now → ⊥) → source.new ≡ source.old }
+    ensures untouched { IfOk result.answer (λ c. c.end.told ≡ None → result.yard ≡ yard) }
+    ensures untouched_unread { result.answer ≡ Err Failure.Source → result.yard ≡ yard }
+    ensures loglets { length result.yard.shelf.items ≡ length yard.shelf.items }
+    ensures nodes { length result.yard.nodes.items ≡ length yard.nodes.items }
+    ensures kinds { map (λ v. v.kind) (map L.view result.yard.shelf.items) ≡ map (λ v. v.kind) (map L.view yard.shelf.items) }
 {
-    match read_words(alloc, words) {
-        Ok(plan) => return compose_task(alloc, &plan, source, yard),
-        Err(WordsError::BadWords) => {
+    match plan {
+        Some(plan) => return compose_task(alloc, plan, source, yard),
+        None => {
             return Worked {
                 yard,
                 answer: compose_bad_words(alloc),
-            };
-        }
-        Err(WordsError::Memory) => {
-            return Worked {
-                yard,
-                answer: Err(Failure::Memory),
             };
         }
     }

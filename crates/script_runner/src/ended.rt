@@ -9,6 +9,7 @@ use fitting_run::told::Told;
 use local_replica::layers::Layers;
 use loglet_api::loglet::Loglet;
 use register_api::Register;
+use script_text::script::BadLine;
 
 /// How a run ended.
 #[derive(Clone, Copy, PartialEq, Eq, Debug)]
@@ -46,10 +47,19 @@ impl Status {
     }
 }
 
-/// How a run ended, with the yard that it was given, and what was run, if a script was.
+/// How a run ended.
+#[derive(Drop)]
+pub struct End {
+    pub status: Status,
+    /// What was run, if a script was.
+    pub told: Option<Told>,
+    /// The line for which a script was refused, with status 2.
+    pub refused: Option<BadLine>,
+}
+
+/// How a run ended, with the yard that it was given.
 #[derive(Drop)]
 pub struct Ended<L: Loglet, R: Register, E: Layers, D: Disk, C: Chooser> {
-    pub status: Status,
+    pub end: End,
     pub yard: Yard<L, R, E, D, C>,
-    pub told: Option<Told>,
 }

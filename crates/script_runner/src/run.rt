@@ -1,13 +1,13 @@
 //! The top call: a script's bytes in, its rows and the chain out.
-ghost use Rattle.std.specs.Prelude.{◌≡◌, ◌≢◌, IfSome, map, string_bytes};
-ghost use Rattle.outside_ends.specs.Faults.{Rose};
-ghost use Rattle.fitting_run.specs.Calm.{IsCalm};
-ghost use Rattle.script_runner.specs.Ends.{PutsWhole, PutsFront, CanRun, IsRun};
-ghost use Rattle.script_runner.specs.Made.{CountsWhatWasMade};
-ghost use Rattle.script_runner.specs.Fresh.{IsFreshYard, shown};
+ghost use Rattle.std.specs.Prelude.{◌≡◌, ◌≢◌, None, Some, length, map, string_bytes};
+ghost use Rattle.script_words.specs.Plans.{plan_of};
+ghost use Rattle.script_words.specs.declared.plan.Plan as plans;
+ghost use Rattle.script_runner.specs.Ends.{IsPlan};
+ghost use Rattle.script_runner.specs.Fresh.{IsFreshFor, shown};
+ghost use Rattle.script_runner.specs.Standing.{HasEnded};
 
 use crate::compose::{Composed, Failure, Worked, compose};
-use crate::ended::{Ended, Status};
+use crate::ended::{End, Ended, Status};
 use crate::yard::Yard;
 use disk_model::Disk;
 use fate_words::chooser::Chooser;
@@ -19,6 +19,7 @@ use outside_ends::source::Source;
 use outside_ends::whole::put_whole;
 use register_api::Register;
 use run_totals::laws::{adds_sum_up, answered_runs_act_whole};
+use script_words::plan::{Plan, WordsError, read_words};
 use std::alloc::Global;
 
 /// Does what the words say. `run` runs the script that the source has left, and puts the text of its rows and of the chain.
@@ -33,67 +34,96 @@ use std::alloc::Global;
 ///
 /// Takes time that grows with the script and its rows, and for each node with the log that it plays.
 pub fn run<H, L: Loglet, R: Register, E: Layers, D: Disk, C: Chooser, S: Source, K: Sink>(
-    _rt: &H,
+    rt: &H,
     alloc: Global,
     words: &[String],
     source: &mut S,
     sink: &mut K,
     yard: Yard<L, R, E, D, C>,
 ) -> Ended<L, R, E, D, C>
-    requires { IsFreshYard (λ k. E.kinds k.engines) (λ k. E.waiting k.engines) (λ k. D.view k.disk) (map string_bytes words.now) (map L.view yard.shelf.items) (R.view yard.register) yard.nodes.items }
+    requires { (p : plans.Plan) → plan_of (map string_bytes words.now) ≡ Some p → IsFreshFor (λ k. E.kinds k.engines) (λ k. E.waiting k.engines) (λ k. D.view k.disk) p (map L.view yard.shelf.items) (R.view yard.register) yard.nodes.items }
 
-    // What is told fits the script and the yard that comes back.
-    ensures told { let back = shown L.view R.view (λ k. (D.view k.disk).faults) result.yard.shelf.items result.yard.register result.yard.nodes.items in IfSome result.told (λ t. IsRun (map string_bytes words.now) (S.left source.old) back t) }
+    // What is told fits the script and the yard that comes back; the text was put that the status says; a fault was counted, or memory
+    // was wanting.
+    ensures ended { HasEnded S.left S.counted K.held K.counted (plan_of (map string_bytes words.now)) source.old source.new sink.old sink.new (shown L.view R.view (λ k. (D.view k.disk).faults) result.yard.shelf.items result.yard.register result.yard.nodes.items) result.end }
 
-    // A script that was made has as many commands as the words say. Where no row is open all of them acted, and the table's sum is
-    // that of their amounts; where no fault was counted, each line that extends the chain did, until the shelf had no loglet left.
-    ensures made { let back = shown L.view R.view (λ k. (D.view k.disk).faults) result.yard.shelf.items result.yard.register result.yard.nodes.items in IfSome result.told (CountsWhatWasMade (map string_bytes words.now) back) }
+    // Where nothing is told and memory sufficed, the yard is as it was; in any case it has as many loglets, of the same kinds in the
+    // same order, and as many nodes.
+    ensures untouched { result.end.told ≡ None → result.end.status ≢ Status.Memory → result.yard ≡ yard }
+    ensures kinds { map (λ v. v.kind) (map L.view result.yard.shelf.items) ≡ map (λ v. v.kind) (map L.view yard.shelf.items) }
+    ensures loglets { length result.yard.shelf.items ≡ length yard.shelf.items }
+    ensures nodes { length result.yard.nodes.items ≡ length yard.nodes.items }
+{
+    match read_words(alloc, words) {
+        Ok(plan) => return run_plan(rt, alloc, &Some(plan), source, sink, yard),
+        Err(WordsError::BadWords) => return run_plan(rt, alloc, &None, source, sink, yard),
+        Err(WordsError::Memory) => return without_a_text(Status::Memory, yard),
+    }
+}
 
-    // With status 0 the text of what was told was put, and no row of it is open; with 1 some row is
-    // open; with 2 the text of the first bad line was put, with 3 that the words are bad; with 5 a
-    // front of one of these.
-    ensures done { let back = shown L.view R.view (λ k. (D.view k.disk).faults) result.yard.shelf.items result.yard.register result.yard.nodes.items in result.status ≡ Status.Done → PutsWhole (map string_bytes words.now) (S.left source.old) (K.held sink.old) (K.held sink.new) back Status.Done result.told }
-    ensures open { let back = shown L.view R.view (λ k. (D.view k.disk).faults) result.yard.shelf.items result.yard.register result.yard.nodes.items in result.status ≡ Status.Open → PutsWhole (map string_bytes words.now) (S.left source.old) (K.held sink.old) (K.held sink.new) back Status.Open result.told }
-    ensures bad_line { let back = shown L.view R.view (λ k. (D.view k.disk).faults) result.yard.shelf.items result.yard.register result.yard.nodes.items in result.status ≡ Status.BadLine → PutsWhole (map string_bytes words.now) (S.left source.old) (K.held sink.old) (K.held sink.new) back Status.BadLine result.told }
-    ensures bad_words { let back = shown L.view R.view (λ k. (D.view k.disk).faults) result.yard.shelf.items result.yard.register result.yard.nodes.items in result.status ≡ Status.BadWords → PutsWhole (map string_bytes words.now) (S.left source.old) (K.held sink.old) (K.held sink.new) back Status.BadWords result.told }
-    ensures sink_front { let back = shown L.view R.view (λ k. (D.view k.disk).faults) result.yard.shelf.items result.yard.register result.yard.nodes.items in result.status ≡ Status.SinkFault → PutsFront (map string_bytes words.now) (S.left source.old) (K.held sink.old) (K.held sink.new) back result.told }
-
-    // A fault was counted, and without a text nothing was put or told.
-    ensures sink_fault { result.status ≡ Status.SinkFault → Rose (K.counted sink.old) (K.counted sink.new) }
-    ensures source_fault { result.status ≡ Status.SourceFault → Rose (S.counted source.old) (S.counted source.new) }
-    ensures source_silent { result.status ≡ Status.SourceFault → (sink.new ≡ sink.old) × (result.told ≡ None) }
-    ensures memory { result.status ≡ Status.Memory → (sink.new ≡ sink.old) × (result.told ≡ None) }
-
-    // A script that the source tells is run, and where nothing in the yard counts a fault no row is open: so
-    // where no fault is counted the status is 0 or 6.
-    ensures complete { CanRun (map string_bytes words.now) (S.left source.old) → result.status ≢ Status.BadWords × (result.status ≢ Status.BadLine) }
-    ensures calm { IsCalm (shown L.view R.view (λ k. (D.view k.disk).faults) result.yard.shelf.items result.yard.register result.yard.nodes.items) → result.status ≢ Status.Open }
+/// Does what words say whose plan this is, as `run` does; None stands for words that aren't taken.
+pub fn run_plan<H, L: Loglet, R: Register, E: Layers, D: Disk, C: Chooser, S: Source, K: Sink>(
+    _rt: &H,
+    alloc: Global,
+    plan: &Option<Plan>,
+    source: &mut S,
+    sink: &mut K,
+    yard: Yard<L, R, E, D, C>,
+) -> Ended<L, R, E, D, C>
+    requires fresh { (p : plans.Plan) → plan.now ≡ Some p → IsPlan p × IsFreshFor (λ k. E.kinds k.engines) (λ k. E.waiting k.engines) (λ k. D.view k.disk) p (map L.view yard.shelf.items) (R.view yard.register) yard.nodes.items }
+    ensures ended { HasEnded S.left S.counted K.held K.counted plan.now source.old source.new sink.old sink.new (shown L.view R.view (λ k. (D.view k.disk).faults) result.yard.shelf.items result.yard.register result.yard.nodes.items) result.end }
+    ensures untouched { result.end.told ≡ None → result.end.status ≢ Status.Memory → result.yard ≡ yard }
+    ensures kinds { map (λ v. v.kind) (map L.view result.yard.shelf.items) ≡ map (λ v. v.kind) (map L.view yard.shelf.items) }
+    ensures loglets { length result.yard.shelf.items ≡ length yard.shelf.items }
+    ensures nodes { length result.yard.nodes.items ≡ length yard.nodes.items }
 {
     its_lines_log_amounts();
     answered_runs_act_whole();
     adds_sum_up();
-    let Worked { yard, answer } = compose(alloc, words, source, yard);
+    let Worked { yard, answer } = compose(alloc, plan, source, yard);
     match answer {
         Ok(composed) => {
-            let Composed { status, told, text } = composed;
+            let Composed { end, text } = composed;
             match put_whole(sink, text.as_slice()) {
-                Ok(()) => Ended { status, told, yard },
-                Err(_) => Ended {
-                    status: Status::SinkFault,
-                    told,
-                    yard,
-                },
+                Ok(()) => return Ended { end, yard },
+                Err(_) => return after_a_sink_fault(end, yard),
             }
         }
-        Err(Failure::Memory) => Ended {
-            status: Status::Memory,
-            told: None,
-            yard,
+        Err(Failure::Memory) => return without_a_text(Status::Memory, yard),
+        Err(Failure::Source) => return without_a_text(Status::SourceFault, yard),
+    }
+}
+
+/// A run whose sink failed: no line is named.
+fn after_a_sink_fault<L: Loglet, R: Register, E: Layers, D: Disk, C: Chooser>(
+    end: End,
+    yard: Yard<L, R, E, D, C>,
+) -> Ended<L, R, E, D, C>
+    ensures { result ≡ record { end = record end { status = Status.SinkFault; refused = None }; yard = yard } }
+{
+    Ended {
+        end: End {
+            status: Status::SinkFault,
+            told: end.told,
+            refused: None,
         },
-        Err(Failure::Source) => Ended {
-            status: Status::SourceFault,
+        yard,
+    }
+}
+
+/// A run of which nothing was told.
+fn without_a_text<L: Loglet, R: Register, E: Layers, D: Disk, C: Chooser>(
+    status: Status,
+    yard: Yard<L, R, E, D, C>,
+) -> Ended<L, R, E, D, C>
+    ensures { result ≡ record { end = record { status = status; told = None; refused = None }; yard = yard } }
+{
+    Ended {
+        end: End {
+            status,
             told: None,
-            yard,
+            refused: None,
         },
+        yard,
     }
 }

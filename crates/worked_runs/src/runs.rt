@@ -7,8 +7,9 @@ use crate::own::counted_shelf;
 use crate::setup::{PIECE, ROOMS, Setup, Yard, read_setup};
 use anyhow::{Context, bail, ensure};
 use fitting_run::told::Told;
-use memory_runs::run::{Ran, run_in_memory, run_on, run_over};
+use memory_runs::run::{run_in_memory, run_on, run_over};
 use outside_ends::memory::{MemSink, MemSource};
+use script_runner::ended::End;
 use script_words::plan::read_words;
 use shelf_loglets::shelf::Rooms;
 use std::alloc::Global;
@@ -30,7 +31,7 @@ fn run_on_failing(
     failing: &[u64],
     source: &mut MemSource,
     sink: &mut MemSink,
-) -> anyhow::Result<Ran>
+) -> anyhow::Result<End>
     requires { AreRooms rooms }
 {
     let alloc = rt.alloc();
@@ -38,7 +39,7 @@ fn run_on_failing(
         bail!("the words aren't taken");
     };
     let disks = failing_disks(alloc, plan.nodes, failing)?;
-    Ok(run_on(rt, alloc, words, rooms, disks, source, sink)?)
+    Ok(run_on(rt, alloc, words, rooms, disks, source, sink)?.end)
 }
 
 /// Runs the program over loglets that count, on disks of which no call fails.
@@ -48,7 +49,7 @@ fn run_over_counted(
     rooms: Rooms,
     source: &mut MemSource,
     sink: &mut MemSink,
-) -> anyhow::Result<Ran>
+) -> anyhow::Result<End>
     requires { AreRooms rooms }
 {
     let alloc = rt.alloc();
@@ -57,7 +58,7 @@ fn run_over_counted(
     };
     let shelf = counted_shelf(alloc, plan.shelf.as_slice(), rooms)?;
     let disks = failing_disks(alloc, plan.nodes, &[])?;
-    Ok(run_over(rt, alloc, words, shelf, disks, source, sink)?)
+    Ok(run_over(rt, alloc, words, shelf, disks, source, sink)?.end)
 }
 
 /// Runs the program by these words.
@@ -66,7 +67,7 @@ fn run_program(
     setup: &Setup,
     source: &mut MemSource,
     sink: &mut MemSink,
-) -> anyhow::Result<Ran> {
+) -> anyhow::Result<End> {
     let rooms = setup.rooms;
     let Rooms { single, inner } = rooms;
     ensure!(
@@ -76,7 +77,7 @@ fn run_program(
     ensure!(1 <= inner && inner <= GREATEST.inner, "no room: {inner}");
     let words = setup.words.as_slice();
     match &setup.yard {
-        Yard::Memory => Ok(run_in_memory(rt, rt.alloc(), words, rooms, source, sink)?),
+        Yard::Memory => Ok(run_in_memory(rt, rt.alloc(), words, rooms, source, sink)?.end),
         Yard::Failing(calls) => run_on_failing(rt, words, rooms, calls.as_slice(), source, sink),
         Yard::Counted => run_over_counted(rt, words, rooms, source, sink),
     }
@@ -91,8 +92,8 @@ pub(crate) fn run_plainly(rt: &HostRuntime, script: &[u8]) -> anyhow::Result<Tol
     }
     let mut source = MemSource::new(Vec::from_slice(alloc, script)?, PIECE, Vec::new(alloc));
     let mut sink = MemSink::new(alloc, SINK_ROOM, PIECE, Vec::new(alloc))?;
-    let ran = run_in_memory(rt, alloc, words.as_slice(), ROOMS, &mut source, &mut sink)?;
-    ran.told.context("the run told nothing")
+    let ended = run_in_memory(rt, alloc, words.as_slice(), ROOMS, &mut source, &mut sink)?;
+    ended.end.told.context("the run told nothing")
 }
 
 /// Prints what a run put, and says where its last line has no end.
@@ -116,11 +117,11 @@ pub(crate) fn show_run(rt: &HostRuntime, input: &[&str]) -> anyhow::Result<()> {
     let mut source = MemSource::new(script, piece, failing);
     let failing = Vec::from_slice(alloc, setup.sink_fails.as_slice())?;
     let mut sink = MemSink::new(alloc, SINK_ROOM, piece, failing)?;
-    let ran = run_program(rt, &setup, &mut source, &mut sink)?;
+    let end = run_program(rt, &setup, &mut source, &mut sink)?;
     if !setup.is_silent {
         show_text(rt, sink.as_slice())?;
     }
-    let status = ran.status.code();
+    let status = end.status.code();
     println!(rt; "status {status}")?;
     Ok(())
 }

@@ -1,26 +1,31 @@
-use Rattle.std.proofs.Common.{◌∙◌}
+use Rattle.std.proofs.Common.{◌∙◌, length, map, sym, ap, subst}
 use Rattle.std.proofs.lemmas.List.{length-map}
-use Rattle.memory_runs.proofs.Yards.{stands_over}
+use Rattle.script_runner.specs.Standing.{HasEnded}
 use Rattle.memory_runs.proofs.run.run_with.Goals as goal
 
-pub run-status-requires : goal.run-status-requires
-run-status-requires g c = λ plan planned. record {
-  as_many = length-map c.args.shelf.items g.L.Loglet.view ∙ c.requires.loglets plan planned;
-  nodes = c.requires.as_many plan planned;
-  fresh = c.requires.shelf;
-  register_is = c.in_ok-register.ensures;
-  parts_are = c.requires.nodes;
+pub run_plan-end-requires : goal.run_plan-end-requires
+run_plan-end-requires g c = record {
+  fresh = λ plan planned. (
+    c.requires.sound plan planned,
+    record {
+      as_many = length-map c.args.shelf.items g.L.Loglet.view ∙ c.requires.loglets plan planned;
+      nodes = c.requires.as_many plan planned;
+      fresh = c.requires.shelf;
+      register_is = c.in_ok-register.ensures;
+      parts_are = c.requires.nodes;
+    },
+  );
 }
 
--- what stands over the yard that came back stands over some yard
-pub returns-clause-stands : goal.returns-clause-stands
-returns-clause-stands g c = stands_over _ _ _ _ _ _ (record {
-  told = c.run-status.ensures.told;
-  made = c.run-status.ensures.made;
-  done = c.run-status.ensures.done;
-  some_open = c.run-status.ensures.«open»;
-  bad_line = c.run-status.ensures.bad_line;
-  bad_words = c.run-status.ensures.bad_words;
-  sink_front = c.run-status.ensures.sink_front;
-  calm = c.run-status.ensures.calm;
-})
+-- the nodes' faults are those of the disks that were taken
+pub returns-clause-ended : goal.returns-clause-ended
+returns-clause-ended g c =
+    let e = c.run_plan-end.result in
+    subst (λ ds. HasEnded g.S.Source.left g.S.Source.counted g.K.Sink.held g.K.Sink.counted c.args.plan.now c.args.source.now c.run_plan-end.new.source c.args.sink.now c.run_plan-end.new.sink
+    (record { cells = map g.L.Loglet.view e.yard.shelf.items; register = e.yard.register.register; disks = ds }) e.end)
+    (sym c.take_disks.ensures.faults) (c.run_plan-end.ensures.ended)
+
+pub returns-clause-disks : goal.returns-clause-disks
+returns-clause-disks g c =
+    let e = c.run_plan-end.result in
+    sym (length-map c.take_disks.new.disks.items (λ d. (g.D.Disk.view d).faults)) ∙ (ap length c.take_disks.ensures.faults ∙ (length-map e.yard.nodes.items (λ k. (g.D.Disk.view k.disk).faults) ∙ c.run_plan-end.ensures.nodes))

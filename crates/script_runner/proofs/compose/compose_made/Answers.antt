@@ -1,9 +1,9 @@
-use Rattle.std.proofs.Common.{◌≡◌, sym, subst, rules}
+use Rattle.std.proofs.Common.{◌≡◌, Some, sym, subst, rules}
 use Rattle.script_text.specs.Spelling.{IsScript}
 use Rattle.script_words.specs.Plans.{IsTask}
 use Rattle.made_script.specs.Made.{made_lines, made_text}
 use Rattle.crew_run.proofs.Running.{if_ok}
-use Rattle.script_runner.specs.Composed.{ComposesRun, IsComposedScript}
+use Rattle.script_runner.specs.Composed.{ComposesRun, IsComposed}
 use Rattle.script_runner.specs.Fresh.{shown}
 use Rattle.script_runner.proofs.Outside.{composes-made, read-same}
 use Rattle.script_runner.proofs.compose.compose_made.Goals as goal
@@ -18,6 +18,6 @@ returns-clause-ok g c = λ left.
     let is = c.a_made_script_is_one.ensures plan.seed c.args.count plan.nodes c.requires.plan.nodes.0 c.requires.plan.nodes.1 few.1 in
     let text : c.as_slice.result.now ≡ made_text plan.seed c.args.count plan.nodes = search rules in
     let same = read-same lines c.in-Ok-parse.script (c.in-Ok-parse.ensures.only lines (subst (λ bs. IsScript plan.nodes bs lines) (sym text) is)) in
-    if_ok (ComposesRun plan c.in-Ok-parse.script yard) (IsComposedScript plan left yard)
+    if_ok (ComposesRun plan c.in-Ok-parse.script yard) (IsComposed (Some plan) left yard)
     (λ x h. composes-made plan left yard x c.args.count c.requires.plan c.requires.make is (subst (λ s. ComposesRun plan s yard x) same h))
     c.compose_run.result.answer c.compose_run.ensures.ok

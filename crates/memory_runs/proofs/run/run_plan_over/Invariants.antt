@@ -3,8 +3,8 @@ use Rattle.std.specs.List.{AllByRecursion}
 use Rattle.engine_laws.specs.Rises.{lowest}
 use Rattle.script_runner.specs.Fresh.{AreFreshNodes}
 use Rattle.memory_runs.specs.Disks.{IsFreshDisk}
-use Rattle.memory_runs.proofs.run.run_over.OwnLists.{own-1}
-use Rattle.memory_runs.proofs.run.run_over.Given as goal
+use Rattle.memory_runs.proofs.run.run_plan_over.OwnLists.{own-1}
+use Rattle.memory_runs.proofs.run.run_plan_over.Given as goal
 
 abbrev pub invariant-node : goal.invariant-node
 invariant-node g l = record {
