@@ -1,4 +1,6 @@
 //! A gate that shows two nodes side by side.
+ghost use Rattle.std.specs.Prelude.{◌≤◌};
+
 use crate::gate::{Gate, Point};
 use std::sync::atomic::AtomicBool;
 use std::sync::atomic::Ordering::SeqCst;
@@ -40,17 +42,20 @@ impl HoldGate {
         self.gave_up.load(SeqCst)
     }
 
-    // Waits for the other, for so many turns at most.
-    fn hold(&self) {
-        for _ in 0..self.turns {
+    // Waits for the other, for so many turns at most. How many it waited.
+    fn hold(&self) -> u64
+        ensures { result ≤ self.now.turns }
+    {
+        for turn in 0..self.turns {
             if self.reached.load(SeqCst) {
-                return;
+                return turn;
             }
             yield_now();
         }
         if !self.reached.load(SeqCst) {
             self.gave_up.store(true, SeqCst);
         }
+        self.turns
     }
 }
 
