@@ -3,6 +3,7 @@ ghost use Rattle.delos_types.specs.Spelling.{IsSpellable};
 ghost use Rattle.delos_types.specs.declared.entry.Entry.{Entry};
 ghost use Rattle.std.specs.Prelude.{ℕ, List, ◌≤◌, ◌^◌};
 
+use crate::both::append_both;
 use crate::words::{Line, Words};
 use anyhow::{Context, Result, bail, ensure};
 use delos_types::entry::Entry;
@@ -22,6 +23,8 @@ const MOST: u64 = 1000;
 #[derive(Clone, Copy)]
 pub(crate) enum Call {
     Append,
+    /// Two appends are begun, and the second one is carried to its position first.
+    Both,
     Tail,
     Known,
     /// The first entry from the one position on, below the other.
@@ -47,6 +50,7 @@ fn call_of(text: &str) -> Result<Call> {
     let mut words = Words::of(text);
     let call = match words.word()? {
         "append" => Call::Append,
+        "both" => Call::Both,
         "tail" => Call::Tail,
         "known" => Call::Known,
         "read" => Call::Read(words.number()?, words.number()?),
@@ -90,6 +94,7 @@ fn make_call<T: Turns>(
 {
     match call {
         Call::Append => push_number(out, "append", log.append(entry)),
+        Call::Both => append_both(log, entry, out),
         Call::Tail => push_number(out, "tail", log.check_tail()),
         Call::Known => push_number(out, "known", Ok(log.known())),
         Call::Read(least, most) => {

@@ -2,6 +2,7 @@
 //! printed with what came of it.
 #![tactic(auto)]
 
+mod both;
 mod cases;
 mod chains;
 mod engines;
