@@ -17,7 +17,7 @@ use crate::rows::show_rows;
 use crate::scripts::show_script;
 use crate::tables::show_table;
 use anyhow::{Context, ensure};
-use std::fs;
+use std::{fs, io};
 
 /// What the cases of a file are of.
 #[derive(Clone, Copy)]
@@ -54,7 +54,7 @@ pub(crate) enum Topic {
 }
 
 /// Prints what comes of a case.
-fn show(rt: &HostRuntime, topic: Topic, input: &[&str]) -> anyhow::Result<()> {
+fn show(rt: &HostRuntime, topic: Topic, input: &[&str]) -> io::Result<()> {
     match topic {
         Topic::Scripts => show_script(rt, input),
         Topic::Words => show_plan(rt, input),
@@ -76,12 +76,11 @@ fn show(rt: &HostRuntime, topic: Topic, input: &[&str]) -> anyhow::Result<()> {
 
 /// Prints each case of a file with what comes of it, and tells how many there are.
 pub(crate) fn play_file(rt: &HostRuntime, file: &str, topic: Topic) -> anyhow::Result<u64> {
-    let alloc = rt.alloc();
     let text = fs::read_to_string(rt, file)?;
     println!(rt; "==== {file}")?;
     let mut count = 0u64;
     let mut number = 0u64;
-    let mut input = Vec::new(alloc);
+    let mut input = Vec::new(rt.alloc());
     for line in text.lines() {
         number = number.saturating_add(1);
         println!(rt; "{line}")?;
@@ -89,7 +88,7 @@ pub(crate) fn play_file(rt: &HostRuntime, file: &str, topic: Topic) -> anyhow::R
             show(rt, topic, input.as_slice()).context(format_args!(
                 "{file}, the case that ends in line {number}"
             ))?;
-            input = Vec::new(alloc);
+            input.clear();
             count = count.saturating_add(1);
         } else if !input.is_empty() || !(line.is_empty() || line.starts_with("#")) {
             input.push(line)?;

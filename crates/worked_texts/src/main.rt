@@ -3,7 +3,6 @@
 #![tactic(auto)]
 
 mod amounts;
-mod bytes;
 mod cases;
 mod chains;
 mod choosers;
@@ -44,12 +43,11 @@ const FILES: [(&str, Topic); 16] = [
 ];
 
 fn main(rt: HostRuntime) -> anyhow::Result<()> {
-    let mut counts = Vec::new(rt.alloc());
+    let mut counts = String::new(rt.alloc());
     for (file, topic) in FILES {
-        counts.push((file, play_file(&rt, file, topic)?))?;
+        let count = play_file(&rt, file, topic)?;
+        writeln!(counts, "{file}: {count} cases")?;
     }
-    for (file, count) in counts.as_slice() {
-        println!(&rt; "{file}: {count} cases")?;
-    }
+    print!(&rt; "{counts}")?;
     Ok(())
 }

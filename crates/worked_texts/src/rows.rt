@@ -1,116 +1,114 @@
 //! The text of rows and chains, from their fields.
 ghost use Rattle.std.specs.Prelude.{◌<◌, ◌↔◌, IsTrue, All};
 
-use crate::text::{bytes_of, number_in, text_of, words_of};
-use anyhow::{Context, bail, ensure};
+use crate::text::{byte_of, name_and_rest, node_of, numbers_in, text_of, unknown};
+use delos_types::bytes::Bytes;
 use delos_types::cause::Cause;
 use delos_types::chain::{Chain, Segment, Segments};
-use delos_types::numbers::NodeId;
 use delos_types::place::Place;
 use row_text::render::render;
 use row_text::row::{Outcome, Row, Rows, Who};
 use std::alloc::Global;
+use std::io;
 use table_core::command::{Found, Pair, Pairs, Reply};
 
-fn reply_in(alloc: Global, words: &[&str]) -> anyhow::Result<Reply> {
+fn reply_in(alloc: Global, words: &[&str]) -> io::Result<Reply> {
     Ok(match words {
         ["done"] => Reply::Done,
         ["absent"] => Reply::Absent,
-        ["was", value] => Reply::Was(bytes_of(alloc, value)?),
-        ["number", number] => Reply::Number(number.parse::<i64>()?),
+        ["was", value] => Reply::Was(Bytes::from_slice(alloc, value.as_bytes())?),
+        ["number", number] => match number.parse::<i64>() {
+            Ok(number) => Reply::Number(number),
+            Err(_) => return Err(unknown()),
+        },
         ["full"] => Reply::Full,
-        ["not", "a", "number"] => Reply::NotNumber,
-        _ => bail!("no reply"),
+        ["not", ..] => Reply::NotNumber,
+        _ => return Err(unknown()),
     })
 }
 
-fn pair_in(alloc: Global, word: &str) -> anyhow::Result<Pair> {
-    let (key, value) = word.split_once('=').context("no pair")?;
-    Ok(Pair {
-        key: bytes_of(alloc, key)?,
-        value: bytes_of(alloc, value)?,
-    })
-}
-
-fn found_in(alloc: Global, words: &[&str]) -> anyhow::Result<Found> {
+fn found_in(alloc: Global, words: &[&str]) -> io::Result<Found> {
     Ok(match words {
         ["nothing"] => Found::Nothing,
-        ["value", value] => Found::Value(bytes_of(alloc, value)?),
+        ["value", value] => Found::Value(Bytes::from_slice(alloc, value.as_bytes())?),
         ["pairs", all @ ..] => {
             let mut pairs = Vec::new(alloc);
             for word in all {
-                pairs.push(pair_in(alloc, word)?)?;
+                let (key, value) = word.split_once('=').unwrap_or((word, ""));
+                let key = Bytes::from_slice(alloc, key.as_bytes())?;
+                let value = Bytes::from_slice(alloc, value.as_bytes())?;
+                pairs.push(Pair { key, value })?;
             }
             Found::All(Pairs::from_vec(pairs))
         }
-        _ => bail!("nothing found"),
+        _ => return Err(unknown()),
     })
 }
 
-fn cause_in(words: &[&str]) -> anyhow::Result<Cause> {
-    Ok(match words {
-        ["meta"] => Cause::Meta,
-        ["store"] => Cause::Store,
-        ["full", "loglet", id] => Cause::Full {
-            id: id.parse::<u32>()?,
+/// The cause of an open row: `meta`, `store`, `full loglet 1`, or `no-quorum loglet 0 unreached 2`.
+fn cause_in(name: &str, numbers: &[u64]) -> io::Result<Cause> {
+    Ok(match (name, numbers) {
+        ("meta", []) => Cause::Meta,
+        ("store", []) => Cause::Store,
+        ("full", [id]) => Cause::Full {
+            id: byte_of(*id)? as u32,
         },
-        ["no-quorum", "loglet", id, "unreached", unreached] => Cause::NoQuorum {
-            id: id.parse::<u32>()?,
-            unreached: unreached.parse::<u32>()?,
+        ("no-quorum", [id, unreached]) => Cause::NoQuorum {
+            id: byte_of(*id)? as u32,
+            unreached: byte_of(*unreached)? as u32,
         },
-        _ => bail!("no cause"),
+        _ => return Err(unknown()),
     })
 }
 
-fn placed_in(
-    alloc: Global,
-    pos: &str,
-    sub: &str,
-    late: bool,
-    reply: &[&str],
-) -> anyhow::Result<Outcome> {
-    let place = Place {
-        pos: number_in(pos)?,
-        sub: sub.parse::<u16>()?,
-    };
-    Ok(Outcome::Placed {
-        place,
-        reply: Some(reply_in(alloc, reply)?),
-        late,
-    })
-}
-
-fn outcome_in(alloc: Global, words: &[&str]) -> anyhow::Result<Outcome> {
-    Ok(match words {
-        ["placed", "position", pos, "item", sub, reply @ ..] => {
-            placed_in(alloc, pos, sub, false, reply)?
-        }
-        ["late", "position", pos, "item", sub, reply @ ..] => {
-            placed_in(alloc, pos, sub, true, reply)?
-        }
-        ["read", "after", after, found @ ..] => Outcome::Read {
-            after: number_in(after)?,
+/// What a row answers, by the words behind the name, and the numbers among them.
+fn outcome_in(alloc: Global, words: &[&str], numbers: &[u64]) -> io::Result<Outcome> {
+    let late = matches!(words, ["late", ..]);
+    Ok(match (words, numbers) {
+        (["placed" | "late", _, _, _, _, reply @ ..], [pos, sub, ..]) => Outcome::Placed {
+            place: Place {
+                pos: *pos,
+                sub: byte_of(*sub)? as u16,
+            },
+            reply: Some(reply_in(alloc, reply)?),
+            late,
+        },
+        (["read", _, _, found @ ..], [after, ..]) => Outcome::Read {
+            after: *after,
             found: found_in(alloc, found)?,
         },
-        ["extended", "version", version, "start", start] => Outcome::Extended {
-            version: number_in(version)?,
-            start: number_in(start)?,
+        (["extended", ..], [version, start]) => Outcome::Extended {
+            version: *version,
+            start: *start,
         },
-        ["moved", "version", version] => Outcome::Moved {
-            version: number_in(version)?,
+        (["moved", ..], [version]) => Outcome::Moved { version: *version },
+        (["nothing", ..], []) => Outcome::NoSpare,
+        (["clean", _], [clean]) => Outcome::Alive { clean: *clean },
+        (["trimmed", _], [trim]) => Outcome::Trimmed { trim: *trim },
+        (["left"], []) => Outcome::Retired,
+        (["open", cause, ..], numbers) => Outcome::Open {
+            cause: cause_in(cause, numbers)?,
         },
-        ["nothing", "to", "spare"] => Outcome::NoSpare,
-        ["clean", clean] => Outcome::Alive {
-            clean: number_in(clean)?,
+        _ => return Err(unknown()),
+    })
+}
+
+/// A row: `row 1 session a` or `row 1 node 2`, and its answer.
+fn row_in(alloc: Global, line: &str) -> io::Result<Row> {
+    let words: Vec<&str> = line.split(' ').collect(alloc)?;
+    let numbers = numbers_in(alloc, line)?;
+    Ok(match (words.as_slice(), numbers.as_slice()) {
+        ([_, _, "session", name, answer @ ..], [number, numbers @ ..]) => Row {
+            number: *number,
+            who: Who::Session(Bytes::from_slice(alloc, name.as_bytes())?),
+            outcome: outcome_in(alloc, answer, numbers)?,
         },
-        ["trimmed", trim] => Outcome::Trimmed {
-            trim: number_in(trim)?,
+        ([_, _, "node", _, answer @ ..], [number, node, numbers @ ..]) => Row {
+            number: *number,
+            who: Who::Node(node_of(*node)?),
+            outcome: outcome_in(alloc, answer, numbers)?,
         },
-        ["left"] => Outcome::Retired,
-        ["open", cause @ ..] => Outcome::Open {
-            cause: cause_in(cause)?,
-        },
-        _ => bail!("no answer"),
+        _ => return Err(unknown()),
     })
 }
 
@@ -127,34 +125,26 @@ struct Shown<'a> {
 }
 
 /// A line of a case: a row, or a part of what stands below the rows.
-fn take_line<'a>(alloc: Global, shown: &mut Shown<'a>, words: &[&'a str]) -> anyhow::Result<()> {
-    match words {
-        ["row", number, "session", name, outcome @ ..] => shown.rows.push(Row {
-            number: number_in(number)?,
-            who: Who::Session(bytes_of(alloc, name)?),
-            outcome: outcome_in(alloc, outcome)?,
+fn take_line<'a>(alloc: Global, shown: &mut Shown<'a>, line: &'a str) -> io::Result<()> {
+    let (name, rest) = name_and_rest(line);
+    let numbers = numbers_in(alloc, line)?;
+    match (name, numbers.as_slice()) {
+        ("row", _) => shown.rows.push(row_in(alloc, line)?)?,
+        ("end", [end]) => shown.end = *end,
+        ("version", [version]) => shown.version = *version,
+        ("trim", [trim]) => shown.trim = *trim,
+        ("kinds", _) => {
+            for kind in rest.split(' ') {
+                shown.kinds.push(kind)?;
+            }
+        }
+        ("segment", [id, start, ends @ ..]) => shown.segments.push(Segment {
+            id: byte_of(*id)? as u32,
+            start: *start,
+            end: ends.first().copied(),
         })?,
-        ["row", number, "node", node, outcome @ ..] => shown.rows.push(Row {
-            number: number_in(number)?,
-            who: Who::Node(NodeId::new(node.parse::<u8>()?).context("no such node")?),
-            outcome: outcome_in(alloc, outcome)?,
-        })?,
-        ["end", end] => shown.end = number_in(end)?,
-        ["version", version] => shown.version = number_in(version)?,
-        ["trim", trim] => shown.trim = number_in(trim)?,
-        ["kinds", kinds @ ..] => shown.kinds.extend_from_slice(kinds)?,
-        ["segment", id, "start", start] => shown.segments.push(Segment {
-            id: id.parse::<u32>()?,
-            start: number_in(start)?,
-            end: None,
-        })?,
-        ["segment", id, "start", start, "end", end] => shown.segments.push(Segment {
-            id: id.parse::<u32>()?,
-            start: number_in(start)?,
-            end: Some(number_in(end)?),
-        })?,
-        ["register", "down"] => shown.is_down = true,
-        _ => bail!("neither a row nor a part of a chain"),
+        ("register", _) => shown.is_down = true,
+        _ => return Err(unknown()),
     }
     Ok(())
 }
@@ -166,7 +156,7 @@ fn have_kinds(segments: &[Segment], kinds: usize) -> bool
 }
 
 /// Prints the text of the rows and of the chain of a case.
-pub(crate) fn show_rows(rt: &HostRuntime, input: &[&str]) -> anyhow::Result<()> {
+pub(crate) fn show_rows(rt: &HostRuntime, input: &[&str]) -> io::Result<()> {
     let alloc = rt.alloc();
     let mut shown = Shown {
         rows: Vec::new(alloc),
@@ -178,8 +168,7 @@ pub(crate) fn show_rows(rt: &HostRuntime, input: &[&str]) -> anyhow::Result<()> 
         is_down: false,
     };
     for line in input {
-        let words = words_of(alloc, line)?;
-        take_line(alloc, &mut shown, words.as_slice()).context(format_args!("`{line}`"))?;
+        take_line(alloc, &mut shown, line)?;
     }
     let Shown {
         rows,
@@ -194,21 +183,12 @@ pub(crate) fn show_rows(rt: &HostRuntime, input: &[&str]) -> anyhow::Result<()> 
         trim,
         segments: Segments::from_vec(segments),
     };
-    ensure!(
-        have_kinds(chain.segments.as_slice(), kinds.len()),
-        "a segment has no kind"
-    );
+    if !have_kinds(chain.segments.as_slice(), kinds.len()) {
+        return Err(unknown());
+    }
     let rows = Rows::from_vec(rows);
-    let text = render(
-        alloc,
-        &rows,
-        end,
-        version,
-        &chain,
-        is_down,
-        kinds.as_slice(),
-    )?;
+    let kinds = kinds.as_slice();
+    let text = render(alloc, &rows, end, version, &chain, is_down, kinds)?;
     let text = text_of(text.as_slice())?;
-    print!(rt; "{text}")?;
-    Ok(())
+    print!(rt; "{text}")
 }

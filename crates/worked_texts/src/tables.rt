@@ -1,74 +1,78 @@
 //! Commands on the table, and what they are answered.
-use crate::commands::command_in;
-use crate::text::{bytes_of, text_of, words_of};
-use std::alloc::Global;
-use table_core::command::{Found, Pairs, Query, Reply};
+use crate::text::{out_of_memory, text_of, unknown};
+use delos_types::bytes::Bytes;
+use script_text::line::{Ask, Line};
+use script_text::script::{ParseError, parse};
+use std::io;
+use table_core::command::{Found, Pairs, Reply};
 use table_core::table::Table;
 
-pub(crate) fn reply_text(alloc: Global, reply: &Reply) -> anyhow::Result<String> {
-    Ok(match reply {
-        Reply::Done => String::from_str(alloc, "done")?,
-        Reply::Absent => String::from_str(alloc, "absent")?,
+pub(crate) fn print_reply(rt: &HostRuntime, reply: &Reply) -> io::Result<()> {
+    match reply {
+        Reply::Done => println!(rt; "done"),
+        Reply::Absent => println!(rt; "absent"),
         Reply::Was(value) => {
             let value = text_of(value.as_slice())?;
-            format!(in alloc; "was {value:?}")?
+            println!(rt; "was {value:?}")
         }
-        Reply::Number(number) => format!(in alloc; "number {number}")?,
-        Reply::Full => String::from_str(alloc, "full")?,
-        Reply::NotNumber => String::from_str(alloc, "not a number")?,
-    })
+        Reply::Number(number) => println!(rt; "number {number}"),
+        Reply::Full => println!(rt; "full"),
+        Reply::NotNumber => println!(rt; "not a number"),
+    }
 }
 
-fn print_pairs(rt: &HostRuntime, pairs: &Pairs) -> anyhow::Result<()> {
+fn print_pairs(rt: &HostRuntime, pairs: &Pairs) -> io::Result<()> {
     print!(rt; "pairs")?;
     for pair in pairs.as_slice() {
         let key = text_of(pair.key.as_slice())?;
         let value = text_of(pair.value.as_slice())?;
         print!(rt; " {key}={value}")?;
     }
-    println!(rt; "")?;
-    Ok(())
+    println!(rt; "")
 }
 
-fn print_found(rt: &HostRuntime, found: &Found) -> anyhow::Result<()> {
+fn print_found(rt: &HostRuntime, found: &Found) -> io::Result<()> {
     match found {
-        Found::Nothing => println!(rt; "nothing")?,
+        Found::Nothing => println!(rt; "nothing"),
         Found::Value(value) => {
             let value = text_of(value.as_slice())?;
-            println!(rt; "value {value}")?;
+            println!(rt; "value {value}")
         }
-        Found::All(pairs) => print_pairs(rt, pairs)?,
+        Found::All(pairs) => print_pairs(rt, pairs),
     }
-    Ok(())
+}
+
+/// Asks the table what a line of a script asks.
+fn ask(rt: &HostRuntime, table: &mut Table, line: &str) -> io::Result<()> {
+    let alloc = rt.alloc();
+    let text = format!(in alloc; "on n1 a {line}")?;
+    let script = match parse(alloc, text.as_bytes(), 1) {
+        Ok(script) => script,
+        Err(ParseError::Memory) => return Err(out_of_memory()),
+        Err(ParseError::Bad(_)) => return Err(unknown()),
+    };
+    let [Line::Session { ask, .. }] = script.lines() else {
+        return Err(unknown());
+    };
+    match ask {
+        Ask::Log(command) => print_reply(rt, &table.act(alloc, command)?),
+        Ask::Look(query) => print_found(rt, &table.read(alloc, query)?),
+    }
 }
 
 /// Plays lines on an empty table. `get` and `scan` are reads, and `pairs` is a scan of the table itself.
-pub(crate) fn show_table(rt: &HostRuntime, input: &[&str]) -> anyhow::Result<()> {
+pub(crate) fn show_table(rt: &HostRuntime, input: &[&str]) -> io::Result<()> {
     let alloc = rt.alloc();
     let mut table = Table::new(alloc);
     for line in input {
-        let words = words_of(alloc, line)?;
-        match words.as_slice() {
-            ["get", key] => {
-                let key = bytes_of(alloc, key)?;
-                print_found(rt, &table.read(alloc, &Query::Get { key })?)?;
-            }
-            ["scan", low, high] => {
-                let low = bytes_of(alloc, low)?;
-                let high = bytes_of(alloc, high)?;
-                print_found(rt, &table.read(alloc, &Query::Scan { low, high })?)?;
-            }
-            ["pairs", low, high] => {
-                let low = bytes_of(alloc, low)?;
-                let high = bytes_of(alloc, high)?;
-                print_pairs(rt, &table.scan(alloc, &low, &high)?)?;
-            }
-            words => {
-                let command = command_in(alloc, words)?;
-                let reply = table.act(alloc, &command)?;
-                let reply = reply_text(alloc, &reply)?;
-                println!(rt; "{reply}")?;
-            }
+        if let Some(keys) = line.strip_prefix("pairs ")
+            && let Some((low, high)) = keys.split_once(' ')
+        {
+            let low = Bytes::from_slice(alloc, low.as_bytes())?;
+            let high = Bytes::from_slice(alloc, high.as_bytes())?;
+            print_pairs(rt, &table.scan(alloc, &low, &high)?)?;
+        } else {
+            ask(rt, &mut table, line)?;
         }
     }
     Ok(())
