@@ -112,8 +112,9 @@ fn shelf_for(
     }
 }
 
-/// One more node, of these engines and on this disk. What chooses for it loses no message.
-fn add_node<E: Layers, D: Disk>(
+/// One more node, of these engines, which are one of each kind with the lowest first, and on this disk, which is empty. What chooses
+/// for it loses no message.
+pub fn add_node<E: Layers, D: Disk>(
     nodes: &mut Vec<NodeParts<E, D, Calm>>,
     engines: E,
     disk: D,
@@ -232,30 +233,30 @@ fn run_plan_over<H, L: Loglet, D: Disk, S: Source, K: Sink>(
     run_with(rt, alloc, plan, shelf, nodes, source, sink)
 }
 
-/// Runs the script over these loglets, which may be of any kind, and over nodes on these disks, each with the five engines.
-/// There is one loglet for each kind that the words name, and one disk for each node. What the run was made over comes back. An error is want of
-/// memory before anything was read or put.
-pub fn run_over<H, L: Loglet, D: Disk, S: Source, K: Sink>(
+/// Runs the script over these loglets, which may be of any kind, and over these nodes, whose engines and disks are the caller's.
+/// There is one loglet for each kind that the words name, and as many nodes as they say. What the run was made over comes back, but the
+/// engines. An error is want of memory before anything was read or put.
+pub fn run_over<H, L: Loglet, E: Layers, D: Disk, S: Source, K: Sink>(
     rt: &H,
     alloc: Global,
     words: &[String],
     shelf: Vec<L>,
-    disks: Vec<D>,
+    nodes: Vec<NodeParts<E, D, Calm>>,
     source: &mut S,
     sink: &mut K,
 ) -> Result<EndedOver<L, D>, AllocError>
     requires shelf { AreFresh (map L.view shelf.items) }
+    requires nodes { AreFreshNodes (λ k. E.kinds k.engines) (λ k. E.waiting k.engines) (λ k. D.view k.disk) nodes.items }
     requires loglets { (plan : plans.Plan) → plan_of (map string_bytes words.now) ≡ Some plan → length shelf.items ≡ length plan.shelf }
-    requires as_many { (plan : plans.Plan) → plan_of (map string_bytes words.now) ≡ Some plan → length disks.items ≡ plan.nodes }
-    requires fresh { AllByRecursion (λ d. IsFreshDisk (D.view d)) disks.items }
+    requires as_many { (plan : plans.Plan) → plan_of (map string_bytes words.now) ≡ Some plan → length nodes.items ≡ plan.nodes }
     ensures ended { IfOk result (λ ended. HasEnded S.left S.counted K.held K.counted (plan_of (map string_bytes words.now)) source.old source.new sink.old sink.new (shown L.view (λ r. r.register) (λ d. (D.view d).faults) ended.shelf.items ended.register ended.disks.items) ended.end) }
     ensures kinds { IfOk result (λ ended. map (λ v. v.kind) (map L.view ended.shelf.items) ≡ map (λ v. v.kind) (map L.view shelf.items)) }
     ensures loglets { IfOk result (λ ended. length ended.shelf.items ≡ length shelf.items) }
-    ensures disks { IfOk result (λ ended. length ended.disks.items ≡ length disks.items) }
+    ensures disks { IfOk result (λ ended. length ended.disks.items ≡ length nodes.items) }
     ensures nothing { IfErr result (λ _. (sink.new ≡ sink.old) × (source.new ≡ source.old)) }
 {
     let plan = plan_in(alloc, words)?;
-    run_plan_over(rt, alloc, &plan, shelf, disks, source, sink)
+    run_with(rt, alloc, &plan, shelf, nodes, source, sink)
 }
 
 /// Runs the script over as many loglets as the words say, of their kinds and with these rooms, on disks in memory, where no

@@ -6,13 +6,20 @@ use crate::disks::failing_disks;
 use crate::own::counted_shelf;
 use crate::setup::{PIECE, ROOMS, Setup, Yard, read_setup};
 use anyhow::{Context, bail, ensure};
+use batch_engine::BatchEngine;
+use counted_engine::counted::Counted;
+use disk_model::MemDisk;
 use fitting_run::told::Told;
-use memory_runs::run::{run_in_memory, run_on, run_over};
+use memory_runs::run::{Engines, add_node, run_in_memory, run_on, run_over};
 use outside_ends::memory::{MemSink, MemSource};
 use script_runner::ended::End;
 use script_words::plan::read_words;
+use session_engine::SessionEngine;
 use shelf_loglets::shelf::Rooms;
 use std::alloc::Global;
+use table_engine::TableEngine;
+use trim_engine::TrimEngine;
+use view_engine::ViewEngine;
 
 /// How many bytes standard output takes.
 const SINK_ROOM: usize = 4096;
@@ -42,7 +49,7 @@ fn run_on_failing(
     Ok(run_on(rt, alloc, words, rooms, disks, source, sink)?.end)
 }
 
-/// Runs the program over loglets that count, on disks of which no call fails.
+/// Runs the program over loglets that count, and over nodes whose table engines count, on disks of which no call fails.
 fn run_over_counted(
     rt: &HostRuntime,
     words: &[String],
@@ -57,8 +64,17 @@ fn run_over_counted(
         bail!("the words aren't taken");
     };
     let shelf = counted_shelf(alloc, plan.shelf.as_slice(), rooms)?;
-    let disks = failing_disks(alloc, plan.nodes, &[])?;
-    Ok(run_over(rt, alloc, words, shelf, disks, source, sink)?.end)
+    let mut nodes = Vec::new(alloc);
+    'node: for _ in 0..plan.nodes {
+        let mut engines: Engines = Vec::new(alloc);
+        engines.push(Box::new(alloc, BatchEngine::new(alloc))?)?;
+        engines.push(Box::new(alloc, SessionEngine {})?)?;
+        engines.push(Box::new(alloc, ViewEngine {})?)?;
+        engines.push(Box::new(alloc, TrimEngine {})?)?;
+        engines.push(Box::new(alloc, Counted::new(TableEngine {}))?)?;
+        add_node(&mut nodes, engines, MemDisk::new(alloc))?;
+    }
+    Ok(run_over(rt, alloc, words, shelf, nodes, source, sink)?.end)
 }
 
 /// Runs the program by these words.
