@@ -17,23 +17,23 @@ use Rattle.loglet_api.specs.View.{LogletView, operation_at, size_of}
 use Rattle.loglet_api.specs.Sound.{IsSound}
 use Rattle.loglet_api.specs.Step.{Does, CanCall, CanBegin, IsFull, IsAppend, Begins, begun_operation, PutsOperation, entries_of, seals_of, task_of, cut_after as cut_after_op, TakesAnswer, Forgets, Restarts, bumped, told_reach, told_firm, told_cap, told_lacks, wanted_by}
 use Rattle.loglet_api.specs.Run.{LogletRun}
-use Rattle.majority_rule.specs.declared.operation.Aim.{Aim}
-use Rattle.majority_rule.specs.declared.operation.Aim.TheVariants.{Append as AimAppend, Settle as AimSettle, Tail as AimTail, Seal as AimSeal, Read as AimRead, Trim as AimTrim}
-use Rattle.majority_rule.specs.declared.operation.Outcome.{Outcome}
-use Rattle.majority_rule.specs.declared.operation.CellStep.{CellStep}
-use Rattle.majority_rule.specs.declared.operation.CellStep.TheVariants.{Begin, Send, RequestComes, RequestStops, ReplyComes, Lose, Restart, RestartFails, Decide, Take, Forget}
+use Rattle.quorum_cell.specs.declared.operation.Aim.{Aim}
+use Rattle.quorum_cell.specs.declared.operation.Aim.TheVariants.{Append as AimAppend, Settle as AimSettle, Tail as AimTail, Seal as AimSeal, Read as AimRead, Trim as AimTrim}
+use Rattle.quorum_cell.specs.declared.operation.Outcome.{Outcome}
+use Rattle.quorum_cell.specs.declared.operation.CellStep.{CellStep}
+use Rattle.quorum_cell.specs.declared.operation.CellStep.TheVariants.{Begin, Send, RequestComes, RequestStops, ReplyComes, Lose, Restart, RestartFails, Decide, Take, Forget}
 use Rattle.majority_rule.specs.Majority.{majority, votes_below}
-use Rattle.majority_rule.specs.Servers.{Server, restarted}
-use Rattle.majority_rule.specs.Cells.{Cell, Operation, server, operation, no_server, no_operation, is_shut, is_seal, is_lack, seals, lacks, down}
-use Rattle.majority_rule.specs.Steps.{cell_step, run_cell, with_fault, is_append, is_full, entries_after, cut_after, begun, admit, begin, give, take_outcome, put_operation, forget, restart, restart_fails, given_outcome, reached, shown, cap_after}
-use Rattle.majority_rule.proofs.Steps.{cut_within, fault_later}
-use Rattle.majority_rule.proofs.Conclusions.{outcome_holds}
-use Rattle.majority_rule.proofs.Table.{restarted_up}
-use Rattle.majority_rule.proofs.Runs.{step_later}
-use Rattle.majority_rule.specs.Law.{IsLawful}
+use Rattle.quorum_cell.specs.Servers.{Server, restarted}
+use Rattle.quorum_cell.specs.Cells.{Cell, Operation, server, operation, no_server, no_operation, is_shut, is_seal, is_lack, seals, lacks, down}
+use Rattle.quorum_cell.specs.Steps.{cell_step, run_cell, with_fault, is_append, is_full, entries_after, cut_after, begun, admit, begin, give, take_outcome, put_operation, forget, restart, restart_fails, given_outcome, reached, shown, cap_after}
+use Rattle.quorum_cell.proofs.Steps.{cut_within, fault_later}
+use Rattle.quorum_cell.proofs.Conclusions.{outcome_holds}
+use Rattle.quorum_cell.proofs.Table.{restarted_up}
+use Rattle.quorum_cell.proofs.Runs.{step_later}
+use Rattle.quorum_cell.specs.Law.{IsLawful}
 use Rattle.cell_views.specs.Views.{Manner, IsManner, IsNearer, IsStray, IsSpelled, BringsSpelled, cell_view, operation_view, open_from, left_of, counted, op_of, taken, calls, calls_of}
 use Rattle.majority_rule.proofs.Majorities.{votes_within}
-use Rattle.majority_rule.proofs.Lawful.{step_lawful}
+use Rattle.quorum_cell.proofs.Lawful.{step_lawful}
 use Rattle.cell_views.proofs.Opened.{opened, opened_is}
 use Rattle.cell_views.proofs.Sounds.{view_sound, size_is, open_known}
 use Rattle.cell_views.proofs.Moves.{count_same, step_stirs, step_moves, stirs_moves, stirs_fault}

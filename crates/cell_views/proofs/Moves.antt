@@ -6,24 +6,24 @@ use Rattle.std.proofs.lemmas.List.{length-set, set_past}
 use Rattle.std.proofs.lemmas.List.Sums.{sum_by-set}
 use Rattle.loglet_api.specs.View.{operation_at}
 use Rattle.loglet_api.specs.Step.{Moves, Advances, IsAtMost}
-use Rattle.majority_rule.specs.declared.message.Ask.{Ask}
-use Rattle.majority_rule.specs.declared.message.Told.TheVariants.{Down, DiskFault}
-use Rattle.majority_rule.specs.declared.message.Request.{Request}
-use Rattle.majority_rule.specs.declared.message.Reply.{Reply}
-use Rattle.majority_rule.specs.declared.operation.Outcome.{Outcome}
-use Rattle.majority_rule.specs.declared.operation.CellStep.{CellStep}
-use Rattle.majority_rule.specs.declared.operation.CellStep.TheVariants.{Begin, Send, RequestComes, RequestStops, ReplyComes, Lose, Restart, RestartFails, Decide, Take, Forget}
+use Rattle.quorum_cell.specs.declared.message.Ask.{Ask}
+use Rattle.quorum_cell.specs.declared.message.Told.TheVariants.{Down, DiskFault}
+use Rattle.quorum_cell.specs.declared.message.Request.{Request}
+use Rattle.quorum_cell.specs.declared.message.Reply.{Reply}
+use Rattle.quorum_cell.specs.declared.operation.Outcome.{Outcome}
+use Rattle.quorum_cell.specs.declared.operation.CellStep.{CellStep}
+use Rattle.quorum_cell.specs.declared.operation.CellStep.TheVariants.{Begin, Send, RequestComes, RequestStops, ReplyComes, Lose, Restart, RestartFails, Decide, Take, Forget}
 use Rattle.majority_rule.specs.Majority.{majority, votes_below}
-use Rattle.majority_rule.specs.Servers.{Server, is_sealed, told_up, writes, written, restarted}
-use Rattle.majority_rule.specs.Cells.{Cell, Operation, server, operation, no_server, no_operation, is_shut, is_seal, is_lack, seals, lacks, down}
-use Rattle.majority_rule.specs.Tallies.{may_decide}
-use Rattle.majority_rule.specs.Steps.{cell_step, with_fault, sent, ask_for, answered, request_comes, request_stops, waits, put_operation, reply_comes, lose, restart, decide}
-use Rattle.majority_rule.specs.Law.{Later}
-use Rattle.majority_rule.proofs.Lists.{at_set}
+use Rattle.quorum_cell.specs.Servers.{Server, is_sealed, told_up, writes, written, restarted}
+use Rattle.quorum_cell.specs.Cells.{Cell, Operation, server, operation, no_server, no_operation, is_shut, is_seal, is_lack, seals, lacks, down}
+use Rattle.quorum_cell.specs.Tallies.{may_decide}
+use Rattle.quorum_cell.specs.Steps.{cell_step, with_fault, sent, ask_for, answered, request_comes, request_stops, waits, put_operation, reply_comes, lose, restart, decide}
+use Rattle.quorum_cell.specs.Law.{Later}
+use Rattle.quorum_cell.proofs.Lists.{at_set}
 use Rattle.majority_rule.proofs.Majorities.{majority_stays, votes_more, votes_either, votes_for_one}
-use Rattle.majority_rule.proofs.Laters.{still_sealed}
-use Rattle.majority_rule.proofs.Table.{written_up, restarted_up}
-use Rattle.majority_rule.proofs.Runs.{step_later}
+use Rattle.quorum_cell.proofs.Laters.{still_sealed}
+use Rattle.quorum_cell.proofs.Table.{written_up, restarted_up}
+use Rattle.quorum_cell.proofs.Runs.{step_later}
 use Rattle.cell_views.specs.Views.{Manner, IsNearer, IsStray, cell_view, operation_view, open_from, left_of, counted}
 use Rattle.cell_views.proofs.Opened.{opened, opened_is}
 

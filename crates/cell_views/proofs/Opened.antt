@@ -3,7 +3,7 @@ use Rattle.std.proofs.Common.{◌≡◌, ℕ, zero, suc, ◌+◌, ◌<◌, Bool,
 use Rattle.std.specs.Prelude.{if◌then◌else◌}
 use Rattle.std.proofs.lemmas.Bool.{ne_eqb, eq-eqb}
 use Rattle.loglet_api.specs.View.{operation_at, Operation as OpenOperation}
-use Rattle.majority_rule.specs.Cells.{Operation, no_operation}
+use Rattle.quorum_cell.specs.Cells.{Operation, no_operation}
 use Rattle.cell_views.specs.Views.{operation_view, open_from}
 
 -- what stands at a ticket whose operation is this

@@ -7,19 +7,19 @@ use Rattle.std.proofs.lemmas.List.{get_or_past}
 use Rattle.std.proofs.lemmas.List.Sums.{count_by-le-length}
 use Rattle.loglet_api.specs.View.{Operation as OpenOperation, size_of}
 use Rattle.loglet_api.specs.Sound.{IsSound, IsSoundOperation}
-use Rattle.majority_rule.specs.declared.operation.Outcome.{Outcome}
+use Rattle.quorum_cell.specs.declared.operation.Outcome.{Outcome}
 use Rattle.majority_rule.specs.Majority.{is_majority}
-use Rattle.majority_rule.specs.Servers.{is_sealed}
-use Rattle.majority_rule.specs.Cells.{Cell, Operation, server, server_before, operation, no_operation, is_shut, is_seal, is_lack}
-use Rattle.majority_rule.specs.Law.{QuorumLaw}
+use Rattle.quorum_cell.specs.Servers.{is_sealed}
+use Rattle.quorum_cell.specs.Cells.{Cell, Operation, server, server_before, operation, no_operation, is_shut, is_seal, is_lack}
+use Rattle.quorum_cell.specs.Law.{QuorumLaw}
 use Rattle.majority_rule.proofs.Majorities.{majority_stays}
-use Rattle.majority_rule.proofs.Lists.{slice_get_drop}
-use Rattle.majority_rule.proofs.Laters.{still_sealed}
-use Rattle.majority_rule.proofs.Steps.{cut_within}
-use Rattle.majority_rule.proofs.Votes.{open_below_sealed}
-use Rattle.majority_rule.proofs.Conclusions.{capped_is_shut, long_within}
-use Rattle.majority_rule.proofs.Seals.{shut_has_seal}
-use Rattle.majority_rule.specs.Law.{IsLawful}
+use Rattle.quorum_cell.proofs.Lists.{slice_get_drop}
+use Rattle.quorum_cell.proofs.Laters.{still_sealed}
+use Rattle.quorum_cell.proofs.Steps.{cut_within}
+use Rattle.quorum_cell.proofs.Votes.{open_below_sealed}
+use Rattle.quorum_cell.proofs.Conclusions.{capped_is_shut, long_within}
+use Rattle.quorum_cell.proofs.Seals.{shut_has_seal}
+use Rattle.quorum_cell.specs.Law.{IsLawful}
 use Rattle.cell_views.specs.Views.{Manner, IsManner, IsSpelled, cell_view, operation_view, left_of}
 use Rattle.majority_rule.proofs.Majorities.{votes_within}
 use Rattle.cell_views.proofs.Opened.{opened, opened_is}

@@ -6,16 +6,16 @@ use Rattle.delos_types.specs.declared.entry.Entry.{Entry}
 use Rattle.loglet_api.specs.declared.call.Answer.{Answer}
 use Rattle.loglet_api.specs.declared.call.Answer.TheVariants.{Placed, Settled, OpenTail as TailOpen, SealedTail as TailSealed, SealDone, Got, CutAt, Beyond as PastFirm, TrimDone as Trimmed, Sealed, NoQuorum as Lacking}
 use Rattle.loglet_api.specs.Step.{MayAnswer, IsLack, told_reach, told_firm, told_cap, told_lacks, wanted_by, task_of}
-use Rattle.majority_rule.specs.declared.operation.Aim.{Aim}
-use Rattle.majority_rule.specs.declared.operation.Aim.TheVariants.{Append as AimAppend, Settle as AimSettle, Tail as AimTail, Seal as AimSeal, Read as AimRead, Trim as AimTrim}
-use Rattle.majority_rule.specs.declared.operation.Outcome.{Outcome}
-use Rattle.majority_rule.specs.declared.operation.Outcome.TheVariants.{Reached, OpenTail, SealedTail, Shut, Found, Gone, Beyond, TrimDone, NoQuorum}
-use Rattle.majority_rule.specs.Cells.{Cell, operation, is_lack}
-use Rattle.majority_rule.specs.Tallies.{may_decide, entry_heard}
-use Rattle.majority_rule.specs.Steps.{reached, shown, cap_after, given_outcome}
-use Rattle.majority_rule.specs.Outcomes.{OutcomeHolds, IsLacking}
-use Rattle.majority_rule.proofs.Lists.{slice_get_drop}
-use Rattle.majority_rule.specs.Law.{IsLawful}
+use Rattle.quorum_cell.specs.declared.operation.Aim.{Aim}
+use Rattle.quorum_cell.specs.declared.operation.Aim.TheVariants.{Append as AimAppend, Settle as AimSettle, Tail as AimTail, Seal as AimSeal, Read as AimRead, Trim as AimTrim}
+use Rattle.quorum_cell.specs.declared.operation.Outcome.{Outcome}
+use Rattle.quorum_cell.specs.declared.operation.Outcome.TheVariants.{Reached, OpenTail, SealedTail, Shut, Found, Gone, Beyond, TrimDone, NoQuorum}
+use Rattle.quorum_cell.specs.Cells.{Cell, operation, is_lack}
+use Rattle.quorum_cell.specs.Tallies.{may_decide, entry_heard}
+use Rattle.quorum_cell.specs.Steps.{reached, shown, cap_after, given_outcome}
+use Rattle.quorum_cell.specs.Outcomes.{OutcomeHolds, IsLacking}
+use Rattle.quorum_cell.proofs.Lists.{slice_get_drop}
+use Rattle.quorum_cell.specs.Law.{IsLawful}
 use Rattle.cell_views.specs.Views.{Manner, cell_view, operation_view, op_of, answer_of}
 
 -- the operation of ticket t came to a, its client is given g of that, and is told so

@@ -14,17 +14,17 @@ use Rattle.loglet_api.specs.declared.call.LogletAnswer.{LogletAnswer}
 use Rattle.loglet_api.specs.declared.call.LogletAnswer.TheVariants.{Begun, Refusal, Taken, Forgotten, Strayed, Restarted}
 use Rattle.loglet_api.specs.Step.{task_of, IsAtMost}
 use Rattle.loglet_api.specs.View.{LogletView, Operation as OpenOperation}
-use Rattle.majority_rule.specs.declared.operation.Aim.{Aim}
-use Rattle.majority_rule.specs.declared.operation.Aim.TheVariants.{Append as AimAppend, Settle as AimSettle, Tail as AimTail, Seal as AimSeal, Read as AimRead, Trim as AimTrim}
-use Rattle.majority_rule.specs.declared.operation.Outcome.{Outcome}
-use Rattle.majority_rule.specs.declared.operation.Outcome.TheVariants.{Reached, OpenTail, SealedTail, Shut, Found, Gone, Beyond, TrimDone, NoQuorum}
-use Rattle.majority_rule.specs.declared.operation.CellStep.{CellStep}
-use Rattle.majority_rule.specs.declared.operation.CellStep.TheVariants.{Begin, Take, Forget, Restart, RestartFails}
+use Rattle.quorum_cell.specs.declared.operation.Aim.{Aim}
+use Rattle.quorum_cell.specs.declared.operation.Aim.TheVariants.{Append as AimAppend, Settle as AimSettle, Tail as AimTail, Seal as AimSeal, Read as AimRead, Trim as AimTrim}
+use Rattle.quorum_cell.specs.declared.operation.Outcome.{Outcome}
+use Rattle.quorum_cell.specs.declared.operation.Outcome.TheVariants.{Reached, OpenTail, SealedTail, Shut, Found, Gone, Beyond, TrimDone, NoQuorum}
+use Rattle.quorum_cell.specs.declared.operation.CellStep.{CellStep}
+use Rattle.quorum_cell.specs.declared.operation.CellStep.TheVariants.{Begin, Take, Forget, Restart, RestartFails}
 use Rattle.majority_rule.specs.Majority.{majority, is_majority, votes_below}
-use Rattle.majority_rule.specs.Servers.{is_sealed}
-use Rattle.majority_rule.specs.Cells.{Cell, Operation, server, operation, server_before, is_shut, down, seals, lacks}
-use Rattle.majority_rule.specs.Tallies.{entry_heard}
-use Rattle.majority_rule.specs.Steps.{cell_step, is_full, given_outcome}
+use Rattle.quorum_cell.specs.Servers.{is_sealed}
+use Rattle.quorum_cell.specs.Cells.{Cell, Operation, server, operation, server_before, is_shut, down, seals, lacks}
+use Rattle.quorum_cell.specs.Tallies.{entry_heard}
+use Rattle.quorum_cell.specs.Steps.{cell_step, is_full, given_outcome}
 
 -- what a loglet tells that its cell does not know: its kind, its rounds, and how much is left to do of each operation that is undecided
 pub record Manner : Type 0 where

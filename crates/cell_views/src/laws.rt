@@ -1,11 +1,11 @@
 //! What clients see of a cell is a loglet. The function does nothing: its contract is the law.
 ghost use Rattle.std.specs.Prelude.{◌≡◌, ℕ, ◌^◌, ◌≤◌, List, length, All};
-ghost use Rattle.majority_rule.specs.declared.operation.CellStep.{CellStep};
-ghost use Rattle.majority_rule.specs.Cells.{Cell, start};
-ghost use Rattle.majority_rule.specs.Steps.{cell_step, run_cell};
+ghost use Rattle.quorum_cell.specs.declared.operation.CellStep.{CellStep};
+ghost use Rattle.quorum_cell.specs.Cells.{Cell, start};
+ghost use Rattle.quorum_cell.specs.Steps.{cell_step, run_cell};
 ghost use Rattle.loglet_api.specs.Run.{LogletRun};
 ghost use Rattle.loglet_api.specs.Step.{Moves};
-ghost use Rattle.majority_rule.specs.Law.{IsLawful};
+ghost use Rattle.quorum_cell.specs.Law.{IsLawful};
 ghost use Rattle.cell_views.specs.Views.{Manner, IsManner, IsNearer, IsStray, IsSpelled, BringsSpelled, cell_view, calls, calls_of};
 
 /// Each step of a lawful cell is, as its clients see it, a step of a loglet or none; and so a list

@@ -30,6 +30,35 @@ impl Chooser for Calm {
     }
 }
 
+/// Gives one word and no other.
+#[derive(Clone, Copy, PartialEq, Eq, Debug, Drop)]
+pub struct Fixed {
+    word: u64,
+}
+
+impl Fixed {
+    /// The chooser that gives this word.
+    pub fn new(word: u64) -> Fixed
+        ensures { result.word ≡ word }
+    {
+        Fixed { word }
+    }
+}
+
+impl Chooser for Fixed {
+    ghost may = { λ fixed word. word == fixed.word };
+
+    /// The word that it was made with.
+    fn word(&mut self) -> u64
+        ensures given { IsTrue (⟦<Fixed as Chooser>⟧.may self.old result) }
+        ensures same { ⟦<Fixed as Chooser>⟧.may self.new ≡ ⟦<Fixed as Chooser>⟧.may self.old }
+        ensures word { result ≡ self.old.word }
+        ensures stays { self.new ≡ self.old }
+    {
+        self.word
+    }
+}
+
 /// Gives the words of a PCG generator (XSL RR 128/64), from a seed. Contracts see it as that
 /// generator. It may give any word.
 #[derive(Drop)]

@@ -9,9 +9,9 @@ use Rattle.loglet_api.specs.declared.call.Task.{Task}
 use Rattle.loglet_api.specs.declared.call.Task.TheVariants.{Placing, Settling, Finding, Sealing, Reading, Trimming}
 use Rattle.loglet_api.specs.View.{LogletView, operation_at}
 use Rattle.loglet_api.specs.Step.{CanBegin, IsUndecidedAt, Carries, Begins, TakesAnswer, IsAppend, IsFull, RoseBy, bumped, entries_of, cut_by, seals_of, task_of, wanted_by, told_reach, told_firm, told_cap, told_lacks}
-use Rattle.majority_rule.specs.declared.message.Ask.{Ask}
-use Rattle.majority_rule.specs.declared.message.Ask.TheVariants.{Store, Seal, Tail, Repair, Read, Trim}
-use Rattle.majority_rule.specs.Servers.{Server, length_of, is_sealed}
+use Rattle.quorum_cell.specs.declared.message.Ask.{Ask}
+use Rattle.quorum_cell.specs.declared.message.Ask.TheVariants.{Store, Seal, Tail, Repair, Read, Trim}
+use Rattle.quorum_cell.specs.Servers.{Server, length_of, is_sealed}
 use Rattle.file_loglet.specs.declared.marks.Marks.{Marks}
 use Rattle.file_loglet.specs.declared.pending.Pending.{Pending}
 use Rattle.file_loglet.specs.declared.pending.Decided.{Decided}

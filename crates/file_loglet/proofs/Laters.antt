@@ -5,9 +5,9 @@ use Rattle.std.proofs.lemmas.Bool.{cases_lt}
 use Rattle.delos_types.specs.declared.entry.Entry.{Entry}
 use Rattle.journal_core.specs.declared.fault.Fault.{Fault}
 use Rattle.journal_core.specs.declared.fault.Fault.TheVariants.{Disk, Memory}
-use Rattle.majority_rule.specs.declared.message.Ask.{Ask}
-use Rattle.majority_rule.specs.declared.message.Ask.TheVariants.{Store, Trim}
-use Rattle.majority_rule.specs.Servers.{Server, length_of, is_sealed, wrote}
+use Rattle.quorum_cell.specs.declared.message.Ask.{Ask}
+use Rattle.quorum_cell.specs.declared.message.Ask.TheVariants.{Store, Trim}
+use Rattle.quorum_cell.specs.Servers.{Server, length_of, is_sealed, wrote}
 use Rattle.file_loglet.specs.Held.{Held, Writes}
 use Rattle.file_loglet.specs.Later.{Copies, MayStand, IsLater}
 

@@ -8,7 +8,7 @@ use Rattle.loglet_api.specs.declared.call.LogletCall.TheVariants.{Carry, Stray, 
 use Rattle.loglet_api.specs.declared.call.LogletAnswer.TheVariants.{Carried, Strayed, Stopped, Restarted}
 use Rattle.loglet_api.specs.Step.{RoseBy}
 use Rattle.loglet_api.specs.Servers.{ServerState, ServersView, GoesDown, Wear, ChangesAt, IsArmed, RestartsTo, Serves}
-use Rattle.majority_rule.specs.Servers.{Server, restarted}
+use Rattle.quorum_cell.specs.Servers.{Server, restarted}
 use Rattle.file_loglet.specs.declared.marks.Marks.{Marks}
 use Rattle.file_loglet.specs.Held.{Held, is_armed, Rises, ComesUp, Brings}
 use Rattle.file_loglet.specs.Later.{Wears}

@@ -4,9 +4,9 @@ use Rattle.std.specs.Prelude.{option_map}
 use Rattle.std.proofs.lemmas.Bool.Decides.{nat_tests}
 use Rattle.delos_types.specs.declared.entry.Entry.{Entry}
 use Rattle.journal_core.specs.Journal.{View, LeavesRecords}
-use Rattle.majority_rule.specs.declared.message.Ask.{Ask}
-use Rattle.majority_rule.specs.declared.message.Ask.TheVariants.{Store, Seal, Trim}
-use Rattle.majority_rule.specs.Servers.{Server, length_of, is_sealed, writes, wrote, written, restarted}
+use Rattle.quorum_cell.specs.declared.message.Ask.{Ask}
+use Rattle.quorum_cell.specs.declared.message.Ask.TheVariants.{Store, Seal, Trim}
+use Rattle.quorum_cell.specs.Servers.{Server, length_of, is_sealed, writes, wrote, written, restarted}
 use Rattle.server_records.specs.declared.record.Record.{Record}
 use Rattle.server_records.specs.declared.record.Record.TheVariants.{Stored, Sealed, Trimmed}
 use Rattle.server_records.specs.Format.{SpellsRecord}

@@ -1,6 +1,6 @@
 -- How far a server has got, and how its records change that.
 use Rattle.std.specs.Prelude.{◌+◌, Bool, true, if◌then◌else◌, Option, Some, None}
-use Rattle.majority_rule.specs.Servers.{Server, length_of, is_sealed}
+use Rattle.quorum_cell.specs.Servers.{Server, length_of, is_sealed}
 use Rattle.file_loglet.specs.declared.extent.Change.{Change}
 use Rattle.file_loglet.specs.declared.extent.Change.TheVariants.{Storing, Sealing, Trimming}
 use Rattle.file_loglet.specs.declared.extent.Extent.{Extent}

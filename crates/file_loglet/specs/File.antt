@@ -8,7 +8,7 @@ use Rattle.loglet_api.specs.declared.call.Refused.TheVariants.{Full}
 use Rattle.loglet_api.specs.View.{LogletView, Operation, operation_at, IsDecided}
 use Rattle.loglet_api.specs.Servers.{ServerState, ServersView}
 use Rattle.loglet_api.specs.Step.{RoseBy, bumped}
-use Rattle.majority_rule.specs.Servers.{Server, length_of, is_sealed, restarted}
+use Rattle.quorum_cell.specs.Servers.{Server, length_of, is_sealed, restarted}
 use Rattle.server_records.specs.Spelled.{server_of}
 use Rattle.file_loglet.specs.declared.marks.Marks.{Marks}
 use Rattle.file_loglet.specs.Held.{Held, is_armed}

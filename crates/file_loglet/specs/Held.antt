@@ -5,9 +5,9 @@ use Rattle.disk_model.specs.Disk.{DiskView, Rose}
 use Rattle.journal_core.specs.Journal.{View, Survives}
 use Rattle.journal_core.specs.declared.fault.Fault.{Fault}
 use Rattle.journal_core.specs.declared.fault.Fault.TheVariants.{Disk, Memory}
-use Rattle.majority_rule.specs.declared.message.Ask.{Ask}
-use Rattle.majority_rule.specs.declared.message.Ask.TheVariants.{Store, Seal, Tail, Trim}
-use Rattle.majority_rule.specs.Servers.{Server, length_of, writes, wrote, restarted}
+use Rattle.quorum_cell.specs.declared.message.Ask.{Ask}
+use Rattle.quorum_cell.specs.declared.message.Ask.TheVariants.{Store, Seal, Tail, Trim}
+use Rattle.quorum_cell.specs.Servers.{Server, length_of, writes, wrote, restarted}
 use Rattle.server_records.specs.declared.record.Record.{Record}
 use Rattle.server_records.specs.declared.record.Record.TheVariants.{Stored, Sealed, Trimmed}
 use Rattle.server_records.specs.Reading.{record_of}

@@ -5,9 +5,9 @@ use Rattle.loglet_api.specs.declared.call.Task.{Task}
 use Rattle.loglet_api.specs.declared.call.Task.TheVariants.{Placing, Settling, Finding, Sealing, Reading, Trimming}
 use Rattle.journal_core.specs.declared.fault.Fault.{Fault}
 use Rattle.journal_core.specs.declared.fault.Fault.TheVariants.{Disk, Memory}
-use Rattle.majority_rule.specs.declared.message.Ask.{Ask}
-use Rattle.majority_rule.specs.declared.message.Ask.TheVariants.{Store, Seal, Trim}
-use Rattle.majority_rule.specs.Servers.{Server, length_of, is_sealed}
+use Rattle.quorum_cell.specs.declared.message.Ask.{Ask}
+use Rattle.quorum_cell.specs.declared.message.Ask.TheVariants.{Store, Seal, Trim}
+use Rattle.quorum_cell.specs.Servers.{Server, length_of, is_sealed}
 use Rattle.file_loglet.specs.Held.{Held, is_armed, Rises}
 
 -- what the server holds stands in the log at its place

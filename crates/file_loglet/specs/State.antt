@@ -8,7 +8,7 @@ use Rattle.loglet_api.specs.declared.call.Kind.TheVariants.{File}
 use Rattle.loglet_api.specs.declared.call.Task.TheVariants.{Placing, Sealing}
 use Rattle.loglet_api.specs.View.{LogletView}
 use Rattle.loglet_api.specs.Step.{RoseBy}
-use Rattle.majority_rule.specs.Servers.{length_of, is_sealed}
+use Rattle.quorum_cell.specs.Servers.{length_of, is_sealed}
 use Rattle.file_loglet.specs.declared.marks.Marks.{Marks}
 use Rattle.file_loglet.specs.declared.pending.Pending.{Pending}
 use Rattle.file_loglet.specs.Held.{Held}

@@ -3,7 +3,7 @@ ghost use Rattle.std.specs.Prelude.{◌≡◌, ◌+◌, ◌^◌, ◌<◌, ◌≤
 ghost use Rattle.delos_types.specs.Spelling.{IsSpellable};
 ghost use Rattle.delos_types.specs.declared.entry.Entry as given;
 ghost use Rattle.loglet_api.specs.declared.call.Answer.TheVariants.{Sealed};
-ghost use Rattle.majority_rule.specs.Servers.{length_of, is_sealed};
+ghost use Rattle.quorum_cell.specs.Servers.{length_of, is_sealed};
 ghost use Rattle.file_loglet.specs.Held.{is_armed};
 ghost use Rattle.file_loglet.specs.Later.{IsLater, GoesOn, MayFail, Wears, is_sealing};
 ghost use Rattle.file_loglet.specs.Pending.{Fits, told_at};

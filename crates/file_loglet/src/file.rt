@@ -117,7 +117,7 @@ impl<D: Disk> Loglet for FileLoglet<D> {
     ghost use Rattle.loglet_api.specs.Step.{CanCall, LogletStep};
     ghost use Rattle.loglet_api.specs.Servers.{Serves};
     ghost use Rattle.loglet_api.specs.Answers.{begin_answer, carry_answer, stray_answer, restart_answer};
-    ghost use Rattle.majority_rule.specs.Servers.{restarted};
+    ghost use Rattle.quorum_cell.specs.Servers.{restarted};
     ghost use Rattle.file_loglet.specs.Later.{Wears};
     ghost use Rattle.file_loglet.specs.File.{IsDecidedAtOnce, Counts, held_in, serving_of};
 

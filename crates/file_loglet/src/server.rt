@@ -4,8 +4,8 @@ ghost use Rattle.delos_types.specs.Spelling.{IsSpellable};
 ghost use Rattle.disk_model.specs.Disk.{reads, IsSynced, Rose};
 ghost use Rattle.journal_core.specs.Records.{records_of};
 ghost use Rattle.journal_core.specs.Journal.{AnyCrashLeaves, LeavesRecords};
-ghost use Rattle.majority_rule.specs.declared.message.Ask.TheVariants.{Store, Seal, Trim};
-ghost use Rattle.majority_rule.specs.Servers.{length_of, is_sealed, writes, restarted};
+ghost use Rattle.quorum_cell.specs.declared.message.Ask.TheVariants.{Store, Seal, Trim};
+ghost use Rattle.quorum_cell.specs.Servers.{length_of, is_sealed, writes, restarted};
 ghost use Rattle.server_records.specs.Spelled.{empty_server, server_of};
 ghost use Rattle.file_loglet.specs.Held.{ask_of, Changes, Writes, Rises};
 

@@ -6,8 +6,8 @@ use Rattle.disk_model.specs.Crash.{AnyCrash}
 use Rattle.disk_model.specs.CrashLaws.{stays, weaker}
 use Rattle.journal_core.specs.Records.{records_of}
 use Rattle.journal_core.specs.Journal as journal
-use Rattle.majority_rule.specs.declared.message.Ask.{Ask}
-use Rattle.majority_rule.specs.Servers.{Server, length_of, writes, wrote}
+use Rattle.quorum_cell.specs.declared.message.Ask.{Ask}
+use Rattle.quorum_cell.specs.Servers.{Server, length_of, writes, wrote}
 use Rattle.std.proofs.Common.{slice_index_or}
 use Rattle.server_records.specs.declared.record.Record.{Record}
 use Rattle.server_records.specs.Reading.{record_of}

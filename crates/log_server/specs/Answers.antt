@@ -1,10 +1,10 @@
 -- What a log server answers, and what it does.
 use Rattle.std.specs.Prelude.{◌≡◌, ◌⊎◌, ◌≤◌, ℕ, Bool, true, false, ◌&&◌, if◌then◌else◌, List, Some}
 use Rattle.disk_model.specs.Disk.{Rose}
-use Rattle.majority_rule.specs.declared.message.Ask.{Ask}
-use Rattle.majority_rule.specs.declared.message.Told.{Told}
-use Rattle.majority_rule.specs.declared.message.Told.TheVariants.{DiskFault}
-use Rattle.majority_rule.specs.Servers.{Server, told, writes, written}
+use Rattle.quorum_cell.specs.declared.message.Ask.{Ask}
+use Rattle.quorum_cell.specs.declared.message.Told.{Told}
+use Rattle.quorum_cell.specs.declared.message.Told.TheVariants.{DiskFault}
+use Rattle.quorum_cell.specs.Servers.{Server, told, writes, written}
 use Rattle.server_records.specs.Spelled.{server_of}
 use Rattle.log_server.specs.View.{View, Spares, MayFind}
 

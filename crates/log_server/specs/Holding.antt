@@ -1,7 +1,7 @@
 -- What a log server keeps in memory, and how that and its journal belong together.
 use Rattle.std.specs.Prelude.{◌≡◌, ℕ, ◌^◌, ◌≤◌, true, false, not, List, Option, Some, None}
-use Rattle.majority_rule.specs.declared.message.Ask.{Ask}
-use Rattle.majority_rule.specs.Servers.{Server, length_of, writes, wrote}
+use Rattle.quorum_cell.specs.declared.message.Ask.{Ask}
+use Rattle.quorum_cell.specs.Servers.{Server, length_of, writes, wrote}
 use Rattle.server_records.specs.Spelled.{server_of, server_after}
 use Rattle.journal_core.specs.Journal as journal
 use Rattle.log_server.specs.declared.held.Held.{Held}

@@ -2,7 +2,7 @@
 use Rattle.std.specs.Prelude.{◌≡◌, ℕ, nat_lt, Bool, List, Some}
 use Rattle.disk_model.specs.Disk.{DiskView}
 use Rattle.journal_core.specs.Journal.{LeavesRecords}
-use Rattle.majority_rule.specs.Servers.{Server, restarted}
+use Rattle.quorum_cell.specs.Servers.{Server, restarted}
 use Rattle.server_records.specs.Spelled.{server_of}
 
 -- what it holds, whether it is up, the write inside which it stopped; and its disk

@@ -1,12 +1,12 @@
 //! What a log server holds.
 ghost use Rattle.std.specs.Prelude.{◌≡◌, ◌+◌, ◌-◌, ◌^◌, ◌<◌, ◌≤◌, true, [], drop, IfOk, OnOk, OnErr, IsTrue, ◌↔◌, IsSome, Some, None};
 ghost use Rattle.std.specs.VecDeque.{deque_len, deque_capacity};
-ghost use Rattle.majority_rule.specs.Servers.{length_of, writes, wrote};
+ghost use Rattle.quorum_cell.specs.Servers.{length_of, writes, wrote};
 ghost use Rattle.std.specs.Option.{ForSome};
 ghost use Rattle.server_records.specs.Spelled.{empty_server, follows, holding};
 
 use delos_types::entry::Entry;
-use majority_rule::message::Ask;
+use quorum_cell::message::Ask;
 use server_records::Record;
 use std::alloc::{AllocError, Global};
 use std::collections::VecDeque;

@@ -4,7 +4,7 @@
 //! - [`LogServer`]: its calls.
 //! - [`Refused`], [`OpenFault`]: why a disk wasn't opened.
 //!
-//! What it answers is the table of a server of a quorum cell (`majority_rule`); what its disk holds is spelled by
+//! What it answers is the table of a server of a quorum cell (`quorum_cell`); what its disk holds is spelled by
 //! `server_records`. The definitions here stand in `specs/`: `View` (a server as its callers see it, and what a crash
 //! leaves of it), `Answers` (what a call answers and does).
 #![tactic(auto)]

@@ -1,7 +1,7 @@
 //! What the records of a journal spell.
 ghost use Rattle.std.specs.Prelude.{◌≡◌, ◌≢◌, ℕ, ◌^◌, ◌≤◌, IfOk, IfErr, Some};
 ghost use Rattle.journal_core.specs.Journal as journal;
-ghost use Rattle.majority_rule.specs.Servers.{length_of};
+ghost use Rattle.quorum_cell.specs.Servers.{length_of};
 ghost use Rattle.server_records.specs.Spelled.{server_of, IsFirstBad};
 ghost use Rattle.log_server.specs.Holding.{server_with};
 

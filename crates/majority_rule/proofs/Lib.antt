@@ -1,13 +1,1 @@
 pub mod Majorities
-pub mod Growing
-pub mod Lists
-pub mod Table
-pub mod Laters
-pub mod Steps
-pub mod Tallies
-pub mod Votes
-pub mod Runs
-pub mod Conclusions
-pub mod Seals
-pub mod Grounds
-pub mod Lawful

@@ -1,7 +1,1 @@
 pub mod Majority
-pub mod Servers
-pub mod Cells
-pub mod Tallies
-pub mod Steps
-pub mod Law
-pub mod Outcomes

@@ -1,18 +1,4 @@
-//! The rule of majorities, and the cell of log servers that stands on it: a loglet whose servers
-//! each keep a copy of the log, and whose operations are decided by what more than half of them
-//! answer (OSDI 2020, section on native loglets).
-//!
-//! * `majority`: more than half of a set, and why two majorities share a member.
-//! * `message`: what a log server is asked, what it answers, and the messages that carry both.
-//! * `operation`: what operations on a cell are to do and what they come to, and the steps that a
-//!   cell can take.
-//! * `laws`: what holds of every cell, whatever messages are lost, repeated or reordered, and
-//!   wherever servers stop.
-//!
-//! The definitions stand in `specs/`. README.md says how to read them.
+//! The rule of majorities: how many are more than half of a set, how many votes were cast, and why two majorities share a member.
 #![tactic(auto)]
 
-pub mod laws;
 pub mod majority;
-pub mod message;
-pub mod operation;

@@ -14,12 +14,12 @@ use Rattle.delos_types.specs.Spelling.{IsSpellable}
 use Rattle.loglet_api.specs.Sound.{IsSound}
 use Rattle.loglet_api.specs.View.{LogletView, operation_at, size_of, IsOpen}
 use Rattle.loglet_api.specs.Step.{LogletStep, CanCall, Does, Moves, HasLeft}
-use Rattle.majority_rule.specs.declared.operation.Outcome.{Outcome}
-use Rattle.majority_rule.specs.declared.operation.CellStep.TheVariants.{Forget}
+use Rattle.quorum_cell.specs.declared.operation.Outcome.{Outcome}
+use Rattle.quorum_cell.specs.declared.operation.CellStep.TheVariants.{Forget}
 use Rattle.majority_rule.specs.Majority.{votes_below}
-use Rattle.majority_rule.specs.Servers.{Server}
-use Rattle.majority_rule.specs.Cells.{Cell, no_server}
-use Rattle.majority_rule.specs.Steps.{cell_step}
+use Rattle.quorum_cell.specs.Servers.{Server}
+use Rattle.quorum_cell.specs.Cells.{Cell, no_server}
+use Rattle.quorum_cell.specs.Steps.{cell_step}
 use Rattle.cell_views.specs.Views.{Manner, cell_view}
 use Rattle.log_server.specs.View.{View}
 use Rattle.native_plan.specs.declared.pending.Pending.{Pending}

@@ -14,14 +14,14 @@ use Rattle.loglet_api.specs.declared.call.LogletAnswer.TheVariants.{Begun, Refus
 use Rattle.loglet_api.specs.View.{LogletView}
 use Rattle.loglet_api.specs.Sound.{IsSound}
 use Rattle.loglet_api.specs.Step.{LogletStep, CanCall, CanBegin, IsAppend, entries_of, cut_by, seals_of}
-use Rattle.majority_rule.specs.declared.operation.Aim.{Aim}
-use Rattle.majority_rule.specs.declared.operation.Aim.TheVariants.{Append as AimAppend, Settle as AimSettle, Tail as AimTail, Seal as AimSeal, Read as AimRead, Trim as AimTrim}
-use Rattle.majority_rule.specs.declared.operation.CellStep.TheVariants.{Begin}
-use Rattle.majority_rule.specs.Servers.{Server}
-use Rattle.majority_rule.specs.Cells.{Cell, Operation, operation, no_server, no_operation, is_seal, is_lack, seals, lacks}
-use Rattle.majority_rule.specs.Steps.{is_append, is_full, entries_after, cut_after, wanted, begun, admit, begin, with_fault}
-use Rattle.majority_rule.proofs.Lawful.{step_lawful}
-use Rattle.majority_rule.proofs.Runs.{step_later}
+use Rattle.quorum_cell.specs.declared.operation.Aim.{Aim}
+use Rattle.quorum_cell.specs.declared.operation.Aim.TheVariants.{Append as AimAppend, Settle as AimSettle, Tail as AimTail, Seal as AimSeal, Read as AimRead, Trim as AimTrim}
+use Rattle.quorum_cell.specs.declared.operation.CellStep.TheVariants.{Begin}
+use Rattle.quorum_cell.specs.Servers.{Server}
+use Rattle.quorum_cell.specs.Cells.{Cell, Operation, operation, no_server, no_operation, is_seal, is_lack, seals, lacks}
+use Rattle.quorum_cell.specs.Steps.{is_append, is_full, entries_after, cut_after, wanted, begun, admit, begin, with_fault}
+use Rattle.quorum_cell.proofs.Lawful.{step_lawful}
+use Rattle.quorum_cell.proofs.Runs.{step_later}
 use Rattle.cell_views.specs.Views.{IsManner, BringsSpelled, counted, op_of}
 use Rattle.cell_views.proofs.Calls.{spelled_after}
 use Rattle.cell_views.proofs.Sounds.{open_known}

@@ -1,18 +1,18 @@
 -- Every message ever sent is there in each later cell.
 use Rattle.std.proofs.Common.{ℕ, Bool, true, false, List, [], ◌∷◌, ◌++◌, length, set, Option, Some, None}
 use Rattle.std.specs.Prelude.{◌&&◌, not, nat_lt, slice_get, if◌then◌else◌}
-use Rattle.majority_rule.specs.declared.message.Ask.{Ask}
-use Rattle.majority_rule.specs.declared.message.Told.TheVariants.{DiskFault}
-use Rattle.majority_rule.specs.declared.message.Request.{Request}
-use Rattle.majority_rule.specs.declared.message.Reply.{Reply}
-use Rattle.majority_rule.specs.declared.operation.Outcome.{Outcome}
-use Rattle.majority_rule.specs.declared.operation.CellStep.{CellStep}
-use Rattle.majority_rule.specs.declared.operation.CellStep.TheVariants.{Begin, Send, RequestComes, RequestStops, ReplyComes, Lose, Restart, RestartFails, Decide, Take, Forget}
-use Rattle.majority_rule.specs.Servers.{writes, restarted}
-use Rattle.majority_rule.specs.Cells.{Cell, Operation, operation, server}
-use Rattle.majority_rule.specs.Tallies.{may_decide}
-use Rattle.majority_rule.specs.Steps.{cell_step, run_cell, is_full, admit, with_fault, ask_for, sent, answered, request_comes, request_stops, waits, put_operation, reply_comes, lose, give}
-use Rattle.majority_rule.proofs.Lists.{slice_get_more}
+use Rattle.quorum_cell.specs.declared.message.Ask.{Ask}
+use Rattle.quorum_cell.specs.declared.message.Told.TheVariants.{DiskFault}
+use Rattle.quorum_cell.specs.declared.message.Request.{Request}
+use Rattle.quorum_cell.specs.declared.message.Reply.{Reply}
+use Rattle.quorum_cell.specs.declared.operation.Outcome.{Outcome}
+use Rattle.quorum_cell.specs.declared.operation.CellStep.{CellStep}
+use Rattle.quorum_cell.specs.declared.operation.CellStep.TheVariants.{Begin, Send, RequestComes, RequestStops, ReplyComes, Lose, Restart, RestartFails, Decide, Take, Forget}
+use Rattle.quorum_cell.specs.Servers.{writes, restarted}
+use Rattle.quorum_cell.specs.Cells.{Cell, Operation, operation, server}
+use Rattle.quorum_cell.specs.Tallies.{may_decide}
+use Rattle.quorum_cell.specs.Steps.{cell_step, run_cell, is_full, admit, with_fault, ask_for, sent, answered, request_comes, request_stops, waits, put_operation, reply_comes, lose, give}
+use Rattle.quorum_cell.proofs.Lists.{slice_get_more}
 use Rattle.native_ties.specs.Parts.{Extends}
 
 same : (c : Cell) → Extends c c

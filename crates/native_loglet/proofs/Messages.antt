@@ -10,14 +10,14 @@ use Rattle.loglet_api.specs.declared.call.LogletCall.TheVariants.{Carry as CallC
 use Rattle.loglet_api.specs.declared.call.LogletAnswer.TheVariants.{Carried}
 use Rattle.loglet_api.specs.View.{LogletView, Operation as OpenOperation, operation_at}
 use Rattle.loglet_api.specs.Step.{LogletStep, CanCall}
-use Rattle.majority_rule.specs.declared.message.Ask.{Ask}
-use Rattle.majority_rule.specs.declared.message.Told.{Told}
-use Rattle.majority_rule.specs.declared.message.Told.TheVariants.{DiskFault}
-use Rattle.majority_rule.specs.declared.operation.Outcome.{Outcome}
-use Rattle.majority_rule.specs.Servers.{Server, told as table, writes, written}
-use Rattle.majority_rule.specs.Cells.{Cell, operation, server, no_server}
-use Rattle.majority_rule.specs.Steps.{run_cell, ask_for}
-use Rattle.majority_rule.specs.Law.{QuorumLaw}
+use Rattle.quorum_cell.specs.declared.message.Ask.{Ask}
+use Rattle.quorum_cell.specs.declared.message.Told.{Told}
+use Rattle.quorum_cell.specs.declared.message.Told.TheVariants.{DiskFault}
+use Rattle.quorum_cell.specs.declared.operation.Outcome.{Outcome}
+use Rattle.quorum_cell.specs.Servers.{Server, told as table, writes, written}
+use Rattle.quorum_cell.specs.Cells.{Cell, operation, server, no_server}
+use Rattle.quorum_cell.specs.Steps.{run_cell, ask_for}
+use Rattle.quorum_cell.specs.Law.{QuorumLaw}
 use Rattle.cell_views.specs.Views.{counted}
 use Rattle.log_server.specs.View.{View}
 use Rattle.log_server.specs.Answers.{Answers as ServerAnswers, Stops, Tells, after_ask}

@@ -7,11 +7,11 @@ use Rattle.loglet_api.specs.declared.call.LogletCall.TheVariants.{Restart as Cal
 use Rattle.loglet_api.specs.declared.call.LogletAnswer.TheVariants.{Restarted}
 use Rattle.loglet_api.specs.View.{LogletView}
 use Rattle.loglet_api.specs.Step.{LogletStep}
-use Rattle.majority_rule.specs.declared.operation.CellStep.TheVariants.{Restart, RestartFails}
-use Rattle.majority_rule.specs.Servers.{Server, restarted}
-use Rattle.majority_rule.specs.Cells.{Cell, operation, server, no_server}
-use Rattle.majority_rule.specs.Steps.{restart, restart_fails, with_fault}
-use Rattle.majority_rule.proofs.Runs.{run_later}
+use Rattle.quorum_cell.specs.declared.operation.CellStep.TheVariants.{Restart, RestartFails}
+use Rattle.quorum_cell.specs.Servers.{Server, restarted}
+use Rattle.quorum_cell.specs.Cells.{Cell, operation, server, no_server}
+use Rattle.quorum_cell.specs.Steps.{restart, restart_fails, with_fault}
+use Rattle.quorum_cell.proofs.Runs.{run_later}
 use Rattle.cell_views.specs.Views.{counted}
 use Rattle.log_server.specs.View.{View}
 use Rattle.native_loglet.specs.Faults.{faults_after}

@@ -5,12 +5,12 @@ use Rattle.std.proofs.lemmas.Bool.{false≢true, cases_eq, eq-eqb, ne_eqb}
 use Rattle.std.proofs.lemmas.Option.{none-some, same_Some}
 use Rattle.std.proofs.lemmas.List.Sums.{sum_by-cons}
 use Rattle.delos_types.specs.declared.entry.Entry.{Entry}
-use Rattle.majority_rule.specs.declared.message.Ask.{Ask}
-use Rattle.majority_rule.specs.declared.message.Ask.TheVariants as asks
-use Rattle.majority_rule.specs.declared.message.Told.{Told}
-use Rattle.majority_rule.specs.declared.message.Told.TheVariants.{Down, DiskFault, Sealed, Unsealed, Behind, Ack, Cut, Short, Got, Trimmed}
-use Rattle.majority_rule.specs.Servers.{Server, length_of, is_sealed, told as table, told_up, told_entry, written, restarted}
-use Rattle.majority_rule.proofs.Table.{written_up, restarted_up}
+use Rattle.quorum_cell.specs.declared.message.Ask.{Ask}
+use Rattle.quorum_cell.specs.declared.message.Ask.TheVariants as asks
+use Rattle.quorum_cell.specs.declared.message.Told.{Told}
+use Rattle.quorum_cell.specs.declared.message.Told.TheVariants.{Down, DiskFault, Sealed, Unsealed, Behind, Ack, Cut, Short, Got, Trimmed}
+use Rattle.quorum_cell.specs.Servers.{Server, length_of, is_sealed, told as table, told_up, told_entry, written, restarted}
+use Rattle.quorum_cell.proofs.Table.{written_up, restarted_up}
 use Rattle.log_server.specs.View.{View}
 use Rattle.log_server.specs.Answers.{Answers as ServerAnswers, Tells as TellsSo}
 use Rattle.native_plan.specs.declared.member.Member.{Member}

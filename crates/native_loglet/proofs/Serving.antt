@@ -8,11 +8,11 @@ use Rattle.std.proofs.lemmas.List.Sums.{sum_by-cons}
 use Rattle.disk_model.specs.Disk.{DiskView, Rose}
 use Rattle.loglet_api.specs.Servers.{ServerState, ServersView, GoesDown, Wear, ChangesAt, IsArmed, RestartsTo, downs_of}
 use Rattle.loglet_api.specs.Step.{RoseBy}
-use Rattle.majority_rule.specs.declared.message.Ask.{Ask}
-use Rattle.majority_rule.specs.declared.message.Told.{Told}
-use Rattle.majority_rule.specs.declared.message.Told.TheVariants.{Down, DiskFault, Sealed, Unsealed, Behind, Ack, Cut, Short, Got, Trimmed}
-use Rattle.majority_rule.specs.Servers.{Server, restarted, writes, written}
-use Rattle.majority_rule.proofs.Table.{written_up, restarted_up}
+use Rattle.quorum_cell.specs.declared.message.Ask.{Ask}
+use Rattle.quorum_cell.specs.declared.message.Told.{Told}
+use Rattle.quorum_cell.specs.declared.message.Told.TheVariants.{Down, DiskFault, Sealed, Unsealed, Behind, Ack, Cut, Short, Got, Trimmed}
+use Rattle.quorum_cell.specs.Servers.{Server, restarted, writes, written}
+use Rattle.quorum_cell.proofs.Table.{written_up, restarted_up}
 use Rattle.log_server.specs.View.{View, Spares}
 use Rattle.log_server.specs.Answers.{Answers as ServerAnswers, Tells as TellsSo, Stops as StopsSo}
 use Rattle.native_plan.specs.declared.pending.Pending.{Pending}

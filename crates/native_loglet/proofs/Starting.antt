@@ -9,9 +9,9 @@ use Rattle.std.proofs.lemmas.List.Elements.{All-head, All-tail}
 use Rattle.delos_types.specs.declared.entry.Entry.{Entry}
 use Rattle.loglet_api.specs.View.{IsFresh}
 use Rattle.majority_rule.specs.Majority.{majority}
-use Rattle.majority_rule.specs.Servers.{Server, is_sealed}
-use Rattle.majority_rule.specs.Cells.{no_server, no_operation, start}
-use Rattle.majority_rule.proofs.Lawful.{start_lawful}
+use Rattle.quorum_cell.specs.Servers.{Server, is_sealed}
+use Rattle.quorum_cell.specs.Cells.{no_server, no_operation, start}
+use Rattle.quorum_cell.proofs.Lawful.{start_lawful}
 use Rattle.log_server.specs.View.{View}
 use Rattle.native_loglet.specs.declared.marks.Marks.{Marks}
 use Rattle.native_loglet.specs.Natives.{PendingMap, IsCount, IsNative, native_of, server_in, down_in, shut_in, look_in, loglet_of, IsOpenAs, IsTied}

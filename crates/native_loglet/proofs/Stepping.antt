@@ -13,13 +13,13 @@ use Rattle.loglet_api.specs.View.{LogletView, operation_at}
 use Rattle.loglet_api.specs.Sound.{IsSound}
 use Rattle.loglet_api.specs.Run.{LogletRun}
 use Rattle.loglet_api.specs.Step.{LogletStep, CanCall, Does, Moves, IsBelow, IsAtMost}
-use Rattle.majority_rule.specs.declared.operation.CellStep.{CellStep}
-use Rattle.majority_rule.specs.declared.operation.CellStep.TheVariants.{Forget}
-use Rattle.majority_rule.specs.Cells.{Cell, Operation, operation, seals, lacks, is_seal, is_lack}
-use Rattle.majority_rule.specs.Steps.{cell_step, run_cell, put_operation, forget}
-use Rattle.majority_rule.specs.Law.{Later}
-use Rattle.majority_rule.proofs.Runs.{run_later, step_later}
-use Rattle.majority_rule.proofs.Lawful.{step_lawful}
+use Rattle.quorum_cell.specs.declared.operation.CellStep.{CellStep}
+use Rattle.quorum_cell.specs.declared.operation.CellStep.TheVariants.{Forget}
+use Rattle.quorum_cell.specs.Cells.{Cell, Operation, operation, seals, lacks, is_seal, is_lack}
+use Rattle.quorum_cell.specs.Steps.{cell_step, run_cell, put_operation, forget}
+use Rattle.quorum_cell.specs.Law.{Later}
+use Rattle.quorum_cell.proofs.Runs.{run_later, step_later}
+use Rattle.quorum_cell.proofs.Lawful.{step_lawful}
 use Rattle.cell_views.specs.Views.{Manner, IsManner, IsNearer, BringsSpelled, cell_view, calls, counted}
 use Rattle.cell_views.proofs.Sounds.{view_sound, open_known}
 use Rattle.cell_views.proofs.Opened.{opened, opened_is}
@@ -237,7 +237,7 @@ nearer_in z y p q e f waiting some less = rw (e, f) (by q.outcome refl)
     below x y (inl l) = inl l
     below x y (inr l) = inr (l.0, omega (arith, l.1))
 
-    by : (o : Option Rattle.majority_rule.specs.declared.operation.Outcome.Outcome) → q.outcome ≡ o → IsAtMost (left_for q.outcome (plan_left q)) (left_for p.outcome (plan_left p))
+    by : (o : Option Rattle.quorum_cell.specs.declared.operation.Outcome.Outcome) → q.outcome ≡ o → IsAtMost (left_for q.outcome (plan_left q)) (left_for p.outcome (plan_left p))
     by None x = rw (x, waiting) (below (plan_left q) (plan_left p) (rw (x, waiting) at less))
     by (Some o) x = rw (x, waiting) (least (plan_left p) some)
 

@@ -2,12 +2,12 @@
 use Rattle.std.proofs.Common.{ℕ, refl, ◌∙◌, ap, subst, arith, List, [], ◌∷◌, Option, Some, None, inl, inr}
 use Rattle.loglet_api.specs.Step.{Moves, Advances, IsAtMost}
 use Rattle.loglet_api.specs.View.{Operation as OpenOperation}
-use Rattle.majority_rule.specs.declared.operation.CellStep.{CellStep}
-use Rattle.majority_rule.specs.Cells.{Cell, operation}
-use Rattle.majority_rule.specs.Steps.{cell_step, run_cell}
-use Rattle.majority_rule.specs.Law.{IsLawful, Later}
-use Rattle.majority_rule.proofs.Lawful.{step_lawful}
-use Rattle.majority_rule.proofs.Runs.{step_later, run_later}
+use Rattle.quorum_cell.specs.declared.operation.CellStep.{CellStep}
+use Rattle.quorum_cell.specs.Cells.{Cell, operation}
+use Rattle.quorum_cell.specs.Steps.{cell_step, run_cell}
+use Rattle.quorum_cell.specs.Law.{IsLawful, Later}
+use Rattle.quorum_cell.proofs.Lawful.{step_lawful}
+use Rattle.quorum_cell.proofs.Runs.{step_later, run_later}
 use Rattle.cell_views.specs.Views.{Manner, IsNearer, IsSpelled, BringsSpelled, IsStray, cell_view}
 use Rattle.cell_views.proofs.Moves.{Stirs, stirs_same, step_stirs, stirs_moves}
 use Rattle.cell_views.proofs.Calls.{spelled_after}
@@ -59,7 +59,7 @@ run_lawful [] c h = h
 run_lawful (s ∷ ss) c h = run_lawful ss (cell_step c s) (step_lawful c s h)
 
 stray_brings : (s : CellStep) → IsStray s → BringsSpelled s
-stray_brings (Rattle.majority_rule.specs.declared.operation.CellStep.TheVariants.Begin aim) h = absurd h
+stray_brings (Rattle.quorum_cell.specs.declared.operation.CellStep.TheVariants.Begin aim) h = absurd h
 stray_brings s h = tt
 
 pub run_spelled : (steps : List CellStep) (c : Cell) → AreStrays steps → IsSpelled c → IsSpelled (run_cell steps c)

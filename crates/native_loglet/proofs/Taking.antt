@@ -16,19 +16,19 @@ use Rattle.loglet_api.specs.declared.call.LogletAnswer.TheVariants.{Taken}
 use Rattle.loglet_api.specs.View.{LogletView, size_of}
 use Rattle.loglet_api.specs.Sound.{IsSound}
 use Rattle.loglet_api.specs.Step.{LogletStep, CanCall, IsUndecidedAt, task_of, wanted_by, told_reach, told_firm, told_cap, told_lacks}
-use Rattle.majority_rule.specs.declared.operation.Aim.{Aim}
-use Rattle.majority_rule.specs.declared.operation.Aim.TheVariants.{Append as AimAppend, Settle as AimSettle, Tail as AimTail, Seal as AimSeal, Read as AimRead, Trim as AimTrim}
-use Rattle.majority_rule.specs.declared.operation.Outcome.{Outcome}
-use Rattle.majority_rule.specs.declared.operation.Outcome.TheVariants.{Reached, OpenTail, SealedTail, Shut, Found, Gone, Beyond, TrimDone, NoQuorum}
-use Rattle.majority_rule.specs.declared.operation.CellStep.TheVariants.{Take}
-use Rattle.majority_rule.specs.Cells.{Cell, Operation, operation, no_operation, is_seal, is_lack, seals, lacks}
-use Rattle.majority_rule.specs.Tallies.{may_decide, entry_heard}
-use Rattle.majority_rule.specs.Outcomes.{OutcomeHolds}
-use Rattle.majority_rule.specs.Steps.{cell_step, give, given_outcome, reached, shown as shown_length, cap_after}
-use Rattle.majority_rule.specs.Law.{QuorumLaw}
-use Rattle.majority_rule.proofs.Conclusions.{outcome_holds}
-use Rattle.majority_rule.proofs.Lawful.{step_lawful}
-use Rattle.majority_rule.proofs.Runs.{step_later}
+use Rattle.quorum_cell.specs.declared.operation.Aim.{Aim}
+use Rattle.quorum_cell.specs.declared.operation.Aim.TheVariants.{Append as AimAppend, Settle as AimSettle, Tail as AimTail, Seal as AimSeal, Read as AimRead, Trim as AimTrim}
+use Rattle.quorum_cell.specs.declared.operation.Outcome.{Outcome}
+use Rattle.quorum_cell.specs.declared.operation.Outcome.TheVariants.{Reached, OpenTail, SealedTail, Shut, Found, Gone, Beyond, TrimDone, NoQuorum}
+use Rattle.quorum_cell.specs.declared.operation.CellStep.TheVariants.{Take}
+use Rattle.quorum_cell.specs.Cells.{Cell, Operation, operation, no_operation, is_seal, is_lack, seals, lacks}
+use Rattle.quorum_cell.specs.Tallies.{may_decide, entry_heard}
+use Rattle.quorum_cell.specs.Outcomes.{OutcomeHolds}
+use Rattle.quorum_cell.specs.Steps.{cell_step, give, given_outcome, reached, shown as shown_length, cap_after}
+use Rattle.quorum_cell.specs.Law.{QuorumLaw}
+use Rattle.quorum_cell.proofs.Conclusions.{outcome_holds}
+use Rattle.quorum_cell.proofs.Lawful.{step_lawful}
+use Rattle.quorum_cell.proofs.Runs.{step_later}
 use Rattle.cell_views.specs.Views.{counted, answer_of, taken, op_of}
 use Rattle.cell_views.proofs.Calls.{given_to, spelled_after}
 use Rattle.cell_views.proofs.Moves.{count_same}

@@ -3,10 +3,10 @@ use Rattle.std.proofs.Common.{◌≡◌, ℕ, suc, ◌+◌, ◌*◌, ◌^◌, �
 use Rattle.std.specs.Prelude.{not, count_by, if◌then◌else◌}
 use Rattle.std.proofs.lemmas.List.{length-map}
 use Rattle.std.proofs.lemmas.List.Sums.{sum_by-cons}
-use Rattle.majority_rule.specs.declared.operation.Outcome.{Outcome}
+use Rattle.quorum_cell.specs.declared.operation.Outcome.{Outcome}
 use Rattle.majority_rule.specs.Majority.{majority, is_majority, votes_below}
-use Rattle.majority_rule.specs.Servers.{Server, is_sealed}
-use Rattle.majority_rule.specs.Cells.{Cell, Operation, operation, no_operation, no_server}
+use Rattle.quorum_cell.specs.Servers.{Server, is_sealed}
+use Rattle.quorum_cell.specs.Cells.{Cell, Operation, operation, no_operation, no_server}
 use Rattle.majority_rule.proofs.Majorities.{votes_first}
 use Rattle.cell_views.specs.Views.{Manner, IsManner, cell_view, operation_view, open_from, left_of}
 use Rattle.log_server.specs.View.{View}

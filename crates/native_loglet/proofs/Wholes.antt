@@ -12,7 +12,7 @@ use Rattle.loglet_api.specs.declared.call.LogletAnswer.{LogletAnswer}
 use Rattle.loglet_api.specs.declared.call.LogletAnswer.TheVariants.{Begun, Carried, Refusal, Taken, Restarted}
 use Rattle.loglet_api.specs.View.{LogletView}
 use Rattle.loglet_api.specs.Step.{LogletStep, CanCall, entries_of, cut_by, seals_of, wanted_by, told_reach, told_firm, told_cap, told_lacks}
-use Rattle.majority_rule.specs.Servers.{restarted}
+use Rattle.quorum_cell.specs.Servers.{restarted}
 use Rattle.log_server.specs.View.{View}
 use Rattle.native_plan.specs.declared.pending.Pending.{Pending}
 use Rattle.native_loglet.specs.declared.marks.Marks.{Marks}

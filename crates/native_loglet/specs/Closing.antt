@@ -6,8 +6,8 @@ use Rattle.loglet_api.specs.declared.call.Answer.{Answer}
 use Rattle.loglet_api.specs.declared.call.Answer.TheVariants.{Placed, Settled, OpenTail as TailOpen, SealedTail as TailSealed, SealDone, Got, CutAt, Beyond as PastFirm, TrimDone as Trimmed, Sealed, NoQuorum as Lacking}
 use Rattle.loglet_api.specs.declared.call.Task.{Task}
 use Rattle.loglet_api.specs.declared.call.Task.TheVariants.{Placing, Sealing, Reading}
-use Rattle.majority_rule.specs.declared.operation.Outcome.{Outcome}
-use Rattle.majority_rule.specs.declared.operation.Outcome.TheVariants.{Reached, OpenTail, SealedTail, Shut, Found, Gone, Beyond, TrimDone, NoQuorum}
+use Rattle.quorum_cell.specs.declared.operation.Outcome.{Outcome}
+use Rattle.quorum_cell.specs.declared.operation.Outcome.TheVariants.{Reached, OpenTail, SealedTail, Shut, Found, Gone, Beyond, TrimDone, NoQuorum}
 use Rattle.native_plan.specs.declared.pending.Pending.{Pending}
 use Rattle.native_loglet.specs.declared.closing.Decided.{Decided}
 use Rattle.native_loglet.specs.Natives.{PendingMap, look_in}

@@ -4,11 +4,11 @@ use Rattle.delos_types.specs.declared.entry.Entry.{Entry}
 use Rattle.fate_words.specs.declared.fates.Fate.{Fate}
 use Rattle.fate_words.specs.declared.fates.Fate.TheVariants.{Lose}
 use Rattle.loglet_api.specs.declared.call.Op.{Op}
-use Rattle.majority_rule.specs.declared.message.Ask.{Ask}
-use Rattle.majority_rule.specs.declared.message.Told.{Told}
-use Rattle.majority_rule.specs.declared.message.Told.TheVariants.{DiskFault}
-use Rattle.majority_rule.specs.Servers.{Server, length_of}
-use Rattle.majority_rule.specs.Cells.{no_server}
+use Rattle.quorum_cell.specs.declared.message.Ask.{Ask}
+use Rattle.quorum_cell.specs.declared.message.Told.{Told}
+use Rattle.quorum_cell.specs.declared.message.Told.TheVariants.{DiskFault}
+use Rattle.quorum_cell.specs.Servers.{Server, length_of}
+use Rattle.quorum_cell.specs.Cells.{no_server}
 use Rattle.log_server.specs.View.{View}
 use Rattle.log_server.specs.Answers.{Answers as ServerAnswers}
 use Rattle.native_plan.specs.declared.member.Member.{Member}

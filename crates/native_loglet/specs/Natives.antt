@@ -7,11 +7,11 @@ use Rattle.delos_types.specs.declared.entry.Entry.{Entry}
 use Rattle.loglet_api.specs.declared.call.Kind.TheVariants.{Native as NativeKind}
 use Rattle.loglet_api.specs.View.{LogletView, Operation as OpenOperation}
 use Rattle.loglet_api.specs.Servers.{ServerState, ServersView}
-use Rattle.majority_rule.specs.declared.operation.Outcome.{Outcome}
+use Rattle.quorum_cell.specs.declared.operation.Outcome.{Outcome}
 use Rattle.majority_rule.specs.Majority.{majority}
-use Rattle.majority_rule.specs.Servers.{Server, is_sealed}
-use Rattle.majority_rule.specs.Cells.{Cell, operation, seals, lacks}
-use Rattle.majority_rule.specs.Law.{IsLawful}
+use Rattle.quorum_cell.specs.Servers.{Server, is_sealed}
+use Rattle.quorum_cell.specs.Cells.{Cell, operation, seals, lacks}
+use Rattle.quorum_cell.specs.Law.{IsLawful}
 use Rattle.cell_views.specs.Views.{Manner, IsSpelled, counted}
 use Rattle.log_server.specs.View.{View}
 use Rattle.native_plan.specs.declared.pending.Pending.{Pending}

@@ -1,7 +1,7 @@
 -- What an answer to the question for its length tells of a server.
 use Rattle.std.specs.Prelude.{ℕ, Bool, true, false}
-use Rattle.majority_rule.specs.declared.message.Told.{Told}
-use Rattle.majority_rule.specs.declared.message.Told.TheVariants.{Sealed, Unsealed}
+use Rattle.quorum_cell.specs.declared.message.Told.{Told}
+use Rattle.quorum_cell.specs.declared.message.Told.TheVariants.{Sealed, Unsealed}
 
 -- whether it is sealed; where it is down, whether it was before
 abbrev pub seal_told_by : Told → Bool → Bool

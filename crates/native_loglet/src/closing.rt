@@ -5,7 +5,7 @@ ghost use Rattle.native_loglet.specs.Closing.{TakesOut, Waits, placed_for, seale
 
 use delos_types::entry::Entry;
 use loglet_api::call::{Answer, Task};
-use majority_rule::operation::Outcome;
+use quorum_cell::operation::Outcome;
 use native_plan::pending::Pending;
 use std::collections::HashMap;
 

@@ -6,7 +6,7 @@ ghost use Rattle.delos_types.specs.declared.entry.Entry as entries_of;
 ghost use Rattle.loglet_api.specs.Step.{IsAppend, CanCall, LogletStep};
 ghost use Rattle.loglet_api.specs.Answers.{carry_answer, stray_answer, restart_answer};
 ghost use Rattle.loglet_api.specs.View.{IsFresh};
-ghost use Rattle.majority_rule.specs.Cells.{no_server};
+ghost use Rattle.quorum_cell.specs.Cells.{no_server};
 ghost use Rattle.native_plan.specs.declared.pending.Pending as pendings;
 ghost use Rattle.loglet_api.specs.Servers.{Wear, Serves};
 ghost use Rattle.native_loglet.specs.Natives.{IsCount, look_in, server_in, states_in, serving_of, down_in};

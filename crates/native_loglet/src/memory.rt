@@ -2,7 +2,7 @@
 ghost use Rattle.std.specs.Prelude.{◌≡◌, ◌≤◌, ◌^◌, true, length, All, IfOk};
 ghost use Rattle.loglet_api.specs.declared.call.Kind.TheVariants.{Native};
 ghost use Rattle.loglet_api.specs.View.{IsFresh};
-ghost use Rattle.majority_rule.specs.Cells.{no_server};
+ghost use Rattle.quorum_cell.specs.Cells.{no_server};
 ghost use Rattle.native_loglet.specs.Natives.{IsCount};
 
 use crate::loglet::NativeLoglet;

@@ -2,7 +2,7 @@
 ghost use Rattle.std.specs.Prelude.{◌≡◌, ◌+◌, ◌≤◌, ◌<◌, ◌^◌, ◌++◌, ◌⊎◌, ◌↔◌, length, get_or, nat_eq, OnOk, OnErr, IfOk, IsTrue, not};
 ghost use Rattle.std.specs.HashMap.{Updates, IsUnchanged};
 ghost use Rattle.std.specs.Prelude.{max, min, Some, count_by};
-ghost use Rattle.majority_rule.specs.Servers.{is_sealed};
+ghost use Rattle.quorum_cell.specs.Servers.{is_sealed};
 ghost use Rattle.loglet_api.specs.Step.{IsAppend, entries_of, task_of, wanted_by};
 ghost use Rattle.native_loglet.specs.Natives.{down_in, shut_in};
 ghost use Rattle.native_loglet.specs.Moving.{AreOf, BeginsOn};

@@ -2,8 +2,8 @@
 ghost use Rattle.std.specs.Prelude.{◌≡◌, ℕ, ◌^◌, ◌≤◌, ◌<◌, true, false, Bool, if◌then◌else◌, Some, Ok, IfOk, OnErr, List, length, slice_get};
 ghost use Rattle.delos_types.specs.Spelling.{IsSpellable};
 ghost use Rattle.delos_types.specs.declared.entry.Entry as entries_of;
-ghost use Rattle.majority_rule.specs.declared.message.Ask as asks;
-ghost use Rattle.majority_rule.specs.Servers.{length_of, is_sealed, restarted};
+ghost use Rattle.quorum_cell.specs.declared.message.Ask as asks;
+ghost use Rattle.quorum_cell.specs.Servers.{length_of, is_sealed, restarted};
 ghost use Rattle.log_server.specs.View.{View as server_views, Spares};
 ghost use Rattle.loglet_api.specs.Servers.{IsArmed, RestartsTo};
 ghost use Rattle.log_server.specs.Answers.{Answers};
@@ -14,7 +14,7 @@ ghost use Rattle.native_loglet.specs.Telling.{seal_told_by, length_told_by};
 use delos_types::entry::Entry;
 use disk_model::Disk;
 use log_server::LogServer;
-use majority_rule::message::Told;
+use quorum_cell::message::Told;
 use native_plan::message::Errand;
 use std::alloc::AllocError;
 use std::marker::Model;
@@ -30,7 +30,7 @@ pub struct Replica<D: Disk> {
 impl<D: Disk> Model for Replica<D> {
     ghost use Rattle.std.specs.Prelude.{◌≡◌};
     ghost use Rattle.log_server.specs.View.{View};
-    ghost use Rattle.majority_rule.specs.Servers.{is_sealed};
+    ghost use Rattle.quorum_cell.specs.Servers.{is_sealed};
 
     ghost Value = { View };
 

@@ -4,15 +4,15 @@ use Rattle.std.specs.Prelude.{◌&&◌, ◌||◌, ◌==◌, nat_le}
 use Rattle.std.proofs.lemmas.Bool.{le-leb, eq-eqb, ne_eqb, and_from, and_left, or_left, or_right}
 use Rattle.std.proofs.lemmas.Option.{none-some, same_Some}
 use Rattle.std.proofs.lemmas.List.Folds.{list_any-append}
-use Rattle.majority_rule.specs.declared.message.Ask.{Ask}
-use Rattle.majority_rule.specs.declared.message.Ask.TheVariants as ask
-use Rattle.majority_rule.specs.declared.message.Told.{Told}
-use Rattle.majority_rule.specs.declared.message.Told.TheVariants.{Down, DiskFault, Sealed, Unsealed, Ack, Got, Short, Cut, Trimmed}
-use Rattle.majority_rule.specs.declared.message.Reply.{Reply}
-use Rattle.majority_rule.specs.declared.operation.Aim.TheVariants.{Read as AimRead, Trim as AimTrim}
-use Rattle.majority_rule.specs.Servers.{Server, length_of}
-use Rattle.majority_rule.specs.Cells.{Operation, server_before}
-use Rattle.majority_rule.specs.Tallies.{open_told, sealed_told, mended_told, heard_from, open_at, sealed_at, mended_to, trimmed_to, told_trim, failed_reply, fails, lost_to, unreached, exactly, at_least}
+use Rattle.quorum_cell.specs.declared.message.Ask.{Ask}
+use Rattle.quorum_cell.specs.declared.message.Ask.TheVariants as ask
+use Rattle.quorum_cell.specs.declared.message.Told.{Told}
+use Rattle.quorum_cell.specs.declared.message.Told.TheVariants.{Down, DiskFault, Sealed, Unsealed, Ack, Got, Short, Cut, Trimmed}
+use Rattle.quorum_cell.specs.declared.message.Reply.{Reply}
+use Rattle.quorum_cell.specs.declared.operation.Aim.TheVariants.{Read as AimRead, Trim as AimTrim}
+use Rattle.quorum_cell.specs.Servers.{Server, length_of}
+use Rattle.quorum_cell.specs.Cells.{Operation, server_before}
+use Rattle.quorum_cell.specs.Tallies.{open_told, sealed_told, mended_told, heard_from, open_at, sealed_at, mended_to, trimmed_to, told_trim, failed_reply, fails, lost_to, unreached, exactly, at_least}
 use Rattle.native_plan.specs.declared.member.Member.{Member}
 use Rattle.native_plan.specs.declared.message.Errand.{Errand}
 use Rattle.native_plan.specs.declared.message.Errand.TheVariants.{Store, Seal, Tail, Repair, Read, Trim}

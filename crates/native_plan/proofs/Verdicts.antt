@@ -3,15 +3,15 @@ use Rattle.std.proofs.Common.{◌≡◌, ℕ, zero, suc, ◌+◌, ◌<◌, ◌�
 use Rattle.std.specs.Prelude.{◌⊎◌, ◌&&◌, ◌||◌, ◌==◌, not, nat_le, nat_lt, if◌then◌else◌, is_some, unwrap_or, count_by}
 use Rattle.std.specs.List.{list_any, list_all}
 use Rattle.std.proofs.lemmas.Bool.{false≢true, true≢false, leb-true, leb-false, le-leb, lt-ltb, ltb-true, ltb-false, eq-eqb, eqb-true, and_parts, and_from, or_cases, or_parts, or_left, or_right, or_from, cases_lt}
-use Rattle.majority_rule.specs.declared.message.Reply.{Reply}
-use Rattle.majority_rule.specs.declared.operation.Aim.{Aim}
-use Rattle.majority_rule.specs.declared.operation.Aim.TheVariants.{Append as AimAppend, Settle as AimSettle, Tail as AimTail, Seal as AimSeal, Read as AimRead, Trim as AimTrim}
-use Rattle.majority_rule.specs.declared.operation.Outcome.TheVariants.{Reached, OpenTail, SealedTail, Shut, Found, Gone, Beyond, TrimDone, NoQuorum}
+use Rattle.quorum_cell.specs.declared.message.Reply.{Reply}
+use Rattle.quorum_cell.specs.declared.operation.Aim.{Aim}
+use Rattle.quorum_cell.specs.declared.operation.Aim.TheVariants.{Append as AimAppend, Settle as AimSettle, Tail as AimTail, Seal as AimSeal, Read as AimRead, Trim as AimTrim}
+use Rattle.quorum_cell.specs.declared.operation.Outcome.TheVariants.{Reached, OpenTail, SealedTail, Shut, Found, Gone, Beyond, TrimDone, NoQuorum}
 use Rattle.majority_rule.specs.Majority.{is_majority}
-use Rattle.majority_rule.specs.Servers.{Server, length_of}
-use Rattle.majority_rule.specs.Cells.{Cell, Operation, server, server_before, is_seal}
-use Rattle.majority_rule.specs.Tallies.{open_told, sealed_told, heard_from, open_to, open_at, open_within, sealed_at, sealed_within, mended_to, mended_told, trimmed_to, says_sealed, gives_entry, unreached, may_decide, lacks_quorum, exactly, at_least, at_most}
-use Rattle.majority_rule.specs.Law.{QuorumLaw}
+use Rattle.quorum_cell.specs.Servers.{Server, length_of}
+use Rattle.quorum_cell.specs.Cells.{Cell, Operation, server, server_before, is_seal}
+use Rattle.quorum_cell.specs.Tallies.{open_told, sealed_told, heard_from, open_to, open_at, open_within, sealed_at, sealed_within, mended_to, mended_told, trimmed_to, says_sealed, gives_entry, unreached, may_decide, lacks_quorum, exactly, at_least, at_most}
+use Rattle.quorum_cell.specs.Law.{QuorumLaw}
 use Rattle.majority_rule.proofs.Majorities.{majority_stays}
 use Rattle.native_plan.specs.declared.member.Member.{Member}
 use Rattle.native_plan.specs.declared.aims.Aims.{Aims}

@@ -1,18 +1,18 @@
 -- What an operation knows, beside the quorum cell that it is a part of.
 use Rattle.std.specs.Prelude.{◌≡◌, ℕ, ◌+◌, ◌*◌, ◌<◌, ◌≤◌, ◌⊎◌, Bool, true, false, ◌||◌, nat_le, List, [], ◌∷◌, ◌++◌, length, get_or, Some, None, is_some, ⊤}
 use Rattle.std.specs.List.{list_any}
-use Rattle.majority_rule.specs.declared.operation.Aim.{Aim}
-use Rattle.majority_rule.specs.declared.operation.Aim.TheVariants.{Append as AimAppend, Settle as AimSettle, Tail as AimTail, Seal as AimSeal, Read as AimRead, Trim as AimTrim}
-use Rattle.majority_rule.specs.declared.operation.Outcome.TheVariants.{Found}
+use Rattle.quorum_cell.specs.declared.operation.Aim.{Aim}
+use Rattle.quorum_cell.specs.declared.operation.Aim.TheVariants.{Append as AimAppend, Settle as AimSettle, Tail as AimTail, Seal as AimSeal, Read as AimRead, Trim as AimTrim}
+use Rattle.quorum_cell.specs.declared.operation.Outcome.TheVariants.{Found}
 use Rattle.majority_rule.specs.Majority.{is_majority}
-use Rattle.majority_rule.specs.Servers.{Server, length_of}
-use Rattle.majority_rule.specs.Cells.{Cell, Operation, server, server_before, is_seal}
-use Rattle.majority_rule.specs.Tallies.{heard_from, open_at, open_within as open_up_to, sealed_at, sealed_within as sealed_up_to, mended_to, trimmed_to, says_sealed, open_told, mended_told, unreached, may_decide}
-use Rattle.majority_rule.specs.declared.message.Ask.{Ask}
-use Rattle.majority_rule.specs.declared.message.Ask.TheVariants as ask
-use Rattle.majority_rule.specs.declared.message.Told.{Told}
-use Rattle.majority_rule.specs.declared.message.Told.TheVariants.{Down, DiskFault, Sealed, Unsealed, Ack, Got, Short, Cut, Trimmed}
-use Rattle.majority_rule.specs.declared.message.Reply.{Reply}
+use Rattle.quorum_cell.specs.Servers.{Server, length_of}
+use Rattle.quorum_cell.specs.Cells.{Cell, Operation, server, server_before, is_seal}
+use Rattle.quorum_cell.specs.Tallies.{heard_from, open_at, open_within as open_up_to, sealed_at, sealed_within as sealed_up_to, mended_to, trimmed_to, says_sealed, open_told, mended_told, unreached, may_decide}
+use Rattle.quorum_cell.specs.declared.message.Ask.{Ask}
+use Rattle.quorum_cell.specs.declared.message.Ask.TheVariants as ask
+use Rattle.quorum_cell.specs.declared.message.Told.{Told}
+use Rattle.quorum_cell.specs.declared.message.Told.TheVariants.{Down, DiskFault, Sealed, Unsealed, Ack, Got, Short, Cut, Trimmed}
+use Rattle.quorum_cell.specs.declared.message.Reply.{Reply}
 use Rattle.native_plan.specs.declared.message.Errand.{Errand}
 use Rattle.native_plan.specs.declared.message.Errand.TheVariants.{Store, Seal, Tail, Repair, Read, Trim}
 use Rattle.native_plan.specs.declared.member.Member.{Member}

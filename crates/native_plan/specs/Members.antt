@@ -1,7 +1,7 @@
 -- What an operation knows of one server.
 use Rattle.std.specs.Prelude.{ℕ, ◌+◌, ◌-◌, ◌*◌, max, Bool, true, false, ◌&&◌, ◌==◌, nat_le, if◌then◌else◌, List, [], ◌∷◌, Option, Some, None, is_some, unwrap_or}
-use Rattle.majority_rule.specs.declared.message.Told.{Told}
-use Rattle.majority_rule.specs.declared.message.Told.TheVariants.{Down, Sealed, Unsealed, Ack, Short, Trimmed, Got, DiskFault}
+use Rattle.quorum_cell.specs.declared.message.Told.{Told}
+use Rattle.quorum_cell.specs.declared.message.Told.TheVariants.{Down, Sealed, Unsealed, Ack, Short, Trimmed, Got, DiskFault}
 use Rattle.native_plan.specs.declared.member.Member.{Member}
 use Rattle.native_plan.specs.declared.message.Errand.{Errand}
 use Rattle.native_plan.specs.declared.message.Errand.TheVariants.{Store, Seal}

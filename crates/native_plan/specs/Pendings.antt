@@ -1,14 +1,14 @@
 -- What an open operation shows, and how it goes on.
 use Rattle.std.specs.Prelude.{◌≡◌, ℕ, false, ◌==◌, List, get_or, set, Option, Some, None, is_some, sum_by}
 use Rattle.delos_types.specs.declared.entry.Entry.{Entry}
-use Rattle.majority_rule.specs.declared.operation.Outcome.{Outcome}
+use Rattle.quorum_cell.specs.declared.operation.Outcome.{Outcome}
 use Rattle.native_plan.specs.declared.aims.Aims.{Aims}
 use Rattle.native_plan.specs.declared.member.Member.{Member}
 use Rattle.native_plan.specs.declared.pending.Pending.{Pending}
 use Rattle.native_plan.specs.declared.pending.Start.{Start}
 use Rattle.native_plan.specs.declared.message.Errand.{Errand}
 use Rattle.native_plan.specs.declared.message.Message.TheVariants.{Told as Answered}
-use Rattle.majority_rule.specs.declared.message.Told.{Told}
+use Rattle.quorum_cell.specs.declared.message.Told.{Told}
 use Rattle.loglet_api.specs.declared.call.Op.{Op}
 use Rattle.loglet_api.specs.Step.{task_of}
 use Rattle.native_plan.specs.declared.judge.Verdict.{Verdict}

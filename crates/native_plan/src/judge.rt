@@ -2,7 +2,7 @@
 ghost use Rattle.std.specs.Prelude.{◌≡◌, ℕ, ◌^◌, ◌<◌, ◌||◌, nat_le, if◌then◌else◌, length, count_by, get_or, Some, None};
 ghost use Rattle.std.specs.List.{list_any, list_all};
 ghost use Rattle.majority_rule.specs.Majority.{majority as most};
-ghost use Rattle.majority_rule.specs.declared.operation.Outcome.TheVariants.{NoQuorum};
+ghost use Rattle.quorum_cell.specs.declared.operation.Outcome.TheVariants.{NoQuorum};
 ghost use Rattle.native_plan.specs.Members.{no_member, is_opened, is_opened_to, is_found_sealed, is_mended_to, is_passed, is_unreached, opened_of, sealed_of};
 ghost use Rattle.native_plan.specs.Plans.{many, greatest, is_settled, is_met, judged_filling, judged_shutting, judged_asking, judged_opening, judged_sealing, judged_mending, judged_reading, judged_trimming, judged};
 
@@ -10,7 +10,7 @@ use crate::aims::Aims;
 use crate::member::Member;
 use crate::message::Phase;
 use majority_rule::majority::majority;
-use majority_rule::operation::Outcome;
+use quorum_cell::operation::Outcome;
 
 /// What an operation comes to.
 #[derive(Clone, Copy, PartialEq, Eq, Debug)]

@@ -2,12 +2,12 @@
 //! nothing: its contract is the law.
 ghost use Rattle.std.specs.Prelude.{◌≡◌, ℕ, ◌<◌, ◌≤◌, Bool, true, List, length, get_or, Some, sum_by};
 ghost use Rattle.std.specs.List.{list_any};
-ghost use Rattle.majority_rule.specs.declared.message.Reply.{Reply};
-ghost use Rattle.majority_rule.specs.declared.message.Told.{Told};
-ghost use Rattle.majority_rule.specs.Servers.{Server};
-ghost use Rattle.majority_rule.specs.Cells.{Cell, Operation, server_before};
-ghost use Rattle.majority_rule.specs.Law.{QuorumLaw};
-ghost use Rattle.majority_rule.specs.Tallies.{gives_entry};
+ghost use Rattle.quorum_cell.specs.declared.message.Reply.{Reply};
+ghost use Rattle.quorum_cell.specs.declared.message.Told.{Told};
+ghost use Rattle.quorum_cell.specs.Servers.{Server};
+ghost use Rattle.quorum_cell.specs.Cells.{Cell, Operation, server_before};
+ghost use Rattle.quorum_cell.specs.Law.{QuorumLaw};
+ghost use Rattle.quorum_cell.specs.Tallies.{gives_entry};
 ghost use Rattle.native_plan.specs.declared.aims.Aims as aims;
 ghost use Rattle.native_plan.specs.declared.member.Member as members;
 ghost use Rattle.native_plan.specs.declared.message.Errand as errands;

@@ -1,12 +1,12 @@
 //! What an operation knows of one server.
 ghost use Rattle.std.specs.Prelude.{◌≡◌, ◌+◌, ◌^◌, ◌<◌, ◌≤◌, Some};
 ghost use Rattle.native_plan.specs.Members.{new_member, is_out, is_opened, is_opened_to, is_found_sealed, is_mended_to, is_passed, is_unreached, opened_of, sealed_of, heard_by, noted, acknowledged, got_of, turn_of, left_to, more_after, tried};
-ghost use Rattle.majority_rule.specs.declared.message.Told as told;
+ghost use Rattle.quorum_cell.specs.declared.message.Told as told;
 ghost use Rattle.native_plan.specs.declared.message.Errand as errand;
 
 use crate::message::{Errand, Message, Turn};
 use delos_types::entry::Entry;
-use majority_rule::message::Told;
+use quorum_cell::message::Told;
 
 /// What an operation knows of one server, and the one message that it has on its way to or from it.
 #[derive(Drop)]

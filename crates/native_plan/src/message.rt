@@ -1,6 +1,6 @@
 //! What operations send to servers.
 
-use majority_rule::message::Told;
+use quorum_cell::message::Told;
 
 /// What a server is asked, without the entry, which stands in the loglet's log.
 #[derive(Clone, Copy, PartialEq, Eq, Debug)]

@@ -3,7 +3,7 @@ ghost use Rattle.std.specs.Prelude.{◌≡◌, ℕ, ◌≤◌, ◌<◌, ◌^◌,
 ghost use Rattle.native_plan.specs.Plans.{place_of, goal_of, end_of, rank_of, first_phase};
 ghost use Rattle.native_plan.specs.Members.{no_member, is_out, nth_out, left_to};
 ghost use Rattle.native_plan.specs.Pendings.{newer_of, aims_of, left_now, verdict_of, Settles, Answers, Notes, NotesLoss, Hears, Loses, Begins};
-ghost use Rattle.majority_rule.specs.declared.message.Told as answers;
+ghost use Rattle.quorum_cell.specs.declared.message.Told as answers;
 ghost use Rattle.native_plan.specs.declared.message.Errand as errands;
 
 use crate::aims::Aims;
@@ -13,8 +13,8 @@ use crate::message::{Errand, Message, Phase};
 use crate::send::send_all;
 use delos_types::entry::Entry;
 use loglet_api::call::{Op, Task};
-use majority_rule::message::Told;
-use majority_rule::operation::Outcome;
+use quorum_cell::message::Told;
+use quorum_cell::operation::Outcome;
 
 /// An open operation, with what held as it began.
 #[derive(Drop)]

@@ -5,23 +5,23 @@ use Rattle.std.proofs.lemmas.Bool.{false≢true, cases_eq, ltb-true, ltb-false}
 use Rattle.std.proofs.lemmas.Option.{none-some}
 use Rattle.std.proofs.lemmas.List.{length-set, get_or-set_same, get_or-set_other}
 use Rattle.delos_types.specs.declared.entry.Entry.{Entry}
-use Rattle.majority_rule.specs.declared.message.Ask.{Ask}
-use Rattle.majority_rule.specs.declared.message.Ask.TheVariants as ask
-use Rattle.majority_rule.specs.declared.message.Request.{Request}
-use Rattle.majority_rule.specs.declared.message.Reply.{Reply}
-use Rattle.majority_rule.specs.declared.message.Told.{Told}
-use Rattle.majority_rule.specs.declared.message.Told.TheVariants.{Down, DiskFault, Sealed, Unsealed, Behind, Ack, Got, Short, Cut, Trimmed}
-use Rattle.majority_rule.specs.declared.operation.Outcome.TheVariants.{Found}
-use Rattle.majority_rule.specs.declared.operation.CellStep.{CellStep}
-use Rattle.majority_rule.specs.declared.operation.CellStep.TheVariants.{Send, RequestComes, RequestStops}
-use Rattle.majority_rule.specs.Servers.{Server, told, told_entry, length_of, is_sealed, writes, written}
-use Rattle.majority_rule.specs.Cells.{Cell, operation, server, server_before, no_server}
-use Rattle.majority_rule.specs.Tallies.{sealed_at, sealed_told, exactly}
-use Rattle.majority_rule.specs.Steps.{ask_for, send, answered, run_cell}
-use Rattle.majority_rule.specs.Law.{QuorumLaw, Later, ReplyHolds}
-use Rattle.majority_rule.proofs.Lists.{slice_get_push_new, slice_get_more}
-use Rattle.majority_rule.proofs.Runs.{run_later}
-use Rattle.majority_rule.proofs.Votes.{voted}
+use Rattle.quorum_cell.specs.declared.message.Ask.{Ask}
+use Rattle.quorum_cell.specs.declared.message.Ask.TheVariants as ask
+use Rattle.quorum_cell.specs.declared.message.Request.{Request}
+use Rattle.quorum_cell.specs.declared.message.Reply.{Reply}
+use Rattle.quorum_cell.specs.declared.message.Told.{Told}
+use Rattle.quorum_cell.specs.declared.message.Told.TheVariants.{Down, DiskFault, Sealed, Unsealed, Behind, Ack, Got, Short, Cut, Trimmed}
+use Rattle.quorum_cell.specs.declared.operation.Outcome.TheVariants.{Found}
+use Rattle.quorum_cell.specs.declared.operation.CellStep.{CellStep}
+use Rattle.quorum_cell.specs.declared.operation.CellStep.TheVariants.{Send, RequestComes, RequestStops}
+use Rattle.quorum_cell.specs.Servers.{Server, told, told_entry, length_of, is_sealed, writes, written}
+use Rattle.quorum_cell.specs.Cells.{Cell, operation, server, server_before, no_server}
+use Rattle.quorum_cell.specs.Tallies.{sealed_at, sealed_told, exactly}
+use Rattle.quorum_cell.specs.Steps.{ask_for, send, answered, run_cell}
+use Rattle.quorum_cell.specs.Law.{QuorumLaw, Later, ReplyHolds}
+use Rattle.quorum_cell.proofs.Lists.{slice_get_push_new, slice_get_more}
+use Rattle.quorum_cell.proofs.Runs.{run_later}
+use Rattle.quorum_cell.proofs.Votes.{voted}
 use Rattle.native_plan.specs.declared.member.Member.{Member}
 use Rattle.native_plan.specs.declared.pending.Pending.{Pending}
 use Rattle.native_plan.specs.declared.message.Errand.{Errand}

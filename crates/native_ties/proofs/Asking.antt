@@ -4,13 +4,13 @@ use Rattle.std.specs.Prelude.{◌⊎◌, ◌||◌, slice_get, is_some, if◌then
 use Rattle.std.specs.List.{list_any}
 use Rattle.std.proofs.lemmas.Bool.{false≢true, or_left, or_right, or_cases}
 use Rattle.delos_types.specs.declared.entry.Entry.{Entry}
-use Rattle.majority_rule.specs.declared.message.Ask.{Ask}
-use Rattle.majority_rule.specs.declared.message.Ask.TheVariants as ask
-use Rattle.majority_rule.specs.declared.message.Reply.{Reply}
-use Rattle.majority_rule.specs.declared.operation.Aim.TheVariants.{Read as AimRead}
-use Rattle.majority_rule.specs.Cells.{Cell, Operation, operation, is_seal}
-use Rattle.majority_rule.specs.Tallies.{says_sealed, sealed_at, sealed_told, exactly}
-use Rattle.majority_rule.specs.Steps.{ask_for, ask_read}
+use Rattle.quorum_cell.specs.declared.message.Ask.{Ask}
+use Rattle.quorum_cell.specs.declared.message.Ask.TheVariants as ask
+use Rattle.quorum_cell.specs.declared.message.Reply.{Reply}
+use Rattle.quorum_cell.specs.declared.operation.Aim.TheVariants.{Read as AimRead}
+use Rattle.quorum_cell.specs.Cells.{Cell, Operation, operation, is_seal}
+use Rattle.quorum_cell.specs.Tallies.{says_sealed, sealed_at, sealed_told, exactly}
+use Rattle.quorum_cell.specs.Steps.{ask_for, ask_read}
 use Rattle.native_plan.specs.declared.member.Member.{Member}
 use Rattle.native_plan.specs.declared.aims.Aims.{Aims}
 use Rattle.native_plan.specs.declared.pending.Pending.{Pending}

@@ -8,21 +8,21 @@ use Rattle.std.proofs.lemmas.List.{get_or-set_same, get_or-set_other}
 use Rattle.std.proofs.lemmas.List.Folds.{list_any-append}
 use Rattle.std.proofs.lemmas.List.Elements.{All-contains}
 use Rattle.delos_types.specs.declared.entry.Entry.{Entry}
-use Rattle.majority_rule.specs.declared.message.Ask.{Ask}
-use Rattle.majority_rule.specs.declared.message.Ask.TheVariants as ask
-use Rattle.majority_rule.specs.declared.message.Reply.{Reply}
-use Rattle.majority_rule.specs.declared.message.Told.{Told}
-use Rattle.majority_rule.specs.declared.message.Told.TheVariants.{Down, DiskFault, Sealed, Unsealed, Behind, Ack, Got, Short, Cut, Trimmed}
-use Rattle.majority_rule.specs.declared.operation.Aim.{Aim}
-use Rattle.majority_rule.specs.declared.operation.Aim.TheVariants.{Tail as AimTail, Read as AimRead, Trim as AimTrim}
-use Rattle.majority_rule.specs.declared.operation.CellStep.TheVariants.{ReplyComes}
-use Rattle.majority_rule.specs.Servers.{Server}
-use Rattle.majority_rule.specs.Cells.{Cell, Operation, operation, server_before}
-use Rattle.majority_rule.specs.Tallies.{gives_entry}
-use Rattle.majority_rule.specs.Steps.{put_operation, cell_step, run_cell}
-use Rattle.majority_rule.specs.Law.{QuorumLaw, ReplyHolds}
-use Rattle.majority_rule.proofs.Lists.{contained}
-use Rattle.majority_rule.proofs.Runs.{step_keeps}
+use Rattle.quorum_cell.specs.declared.message.Ask.{Ask}
+use Rattle.quorum_cell.specs.declared.message.Ask.TheVariants as ask
+use Rattle.quorum_cell.specs.declared.message.Reply.{Reply}
+use Rattle.quorum_cell.specs.declared.message.Told.{Told}
+use Rattle.quorum_cell.specs.declared.message.Told.TheVariants.{Down, DiskFault, Sealed, Unsealed, Behind, Ack, Got, Short, Cut, Trimmed}
+use Rattle.quorum_cell.specs.declared.operation.Aim.{Aim}
+use Rattle.quorum_cell.specs.declared.operation.Aim.TheVariants.{Tail as AimTail, Read as AimRead, Trim as AimTrim}
+use Rattle.quorum_cell.specs.declared.operation.CellStep.TheVariants.{ReplyComes}
+use Rattle.quorum_cell.specs.Servers.{Server}
+use Rattle.quorum_cell.specs.Cells.{Cell, Operation, operation, server_before}
+use Rattle.quorum_cell.specs.Tallies.{gives_entry}
+use Rattle.quorum_cell.specs.Steps.{put_operation, cell_step, run_cell}
+use Rattle.quorum_cell.specs.Law.{QuorumLaw, ReplyHolds}
+use Rattle.quorum_cell.proofs.Lists.{contained}
+use Rattle.quorum_cell.proofs.Runs.{step_keeps}
 use Rattle.cell_views.proofs.Sounds.{open_known}
 use Rattle.native_plan.specs.declared.member.Member.{Member}
 use Rattle.native_plan.specs.declared.aims.Aims.{Aims}
@@ -112,7 +112,7 @@ place_is place aim Trimming p a e = (let x : AimTrim a.0 ≡ AimRead p = sym a.1
 read_done : (cut firm place j : ℕ) (ms : List Member) (next : Phase) → judged_reading cut firm place j true ms ≡ Go next → ⊥
 read_done cut firm place j ms next = by (nat_le firm place) (nat_lt place cut)
   where
-    by : (a b : Bool) → (if a then Done Rattle.majority_rule.specs.declared.operation.Outcome.TheVariants.Beyond else (if b then Done Rattle.majority_rule.specs.declared.operation.Outcome.TheVariants.Gone else Done Rattle.majority_rule.specs.declared.operation.Outcome.TheVariants.Found)) ≡ Go next → ⊥
+    by : (a b : Bool) → (if a then Done Rattle.quorum_cell.specs.declared.operation.Outcome.TheVariants.Beyond else (if b then Done Rattle.quorum_cell.specs.declared.operation.Outcome.TheVariants.Gone else Done Rattle.quorum_cell.specs.declared.operation.Outcome.TheVariants.Found)) ≡ Go next → ⊥
     by true b h = cc
     by false true h = cc
     by false false h = cc

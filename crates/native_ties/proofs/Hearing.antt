@@ -6,19 +6,19 @@ use Rattle.std.proofs.lemmas.Bool.{true≢false, cases_eq, or_left, or_parts, eq
 use Rattle.std.proofs.lemmas.List.{length-set, get_or-set_same, get_or-set_other}
 use Rattle.std.proofs.lemmas.List.Folds.{list_any-append}
 use Rattle.std.proofs.lemmas.List.Elements.{All-contains}
-use Rattle.majority_rule.specs.declared.message.Reply.{Reply}
-use Rattle.majority_rule.specs.declared.message.Told.{Told}
-use Rattle.majority_rule.specs.declared.operation.Aim.{Aim}
-use Rattle.majority_rule.specs.declared.operation.Aim.TheVariants.{Tail as AimTail, Read as AimRead, Trim as AimTrim}
+use Rattle.quorum_cell.specs.declared.message.Reply.{Reply}
+use Rattle.quorum_cell.specs.declared.message.Told.{Told}
+use Rattle.quorum_cell.specs.declared.operation.Aim.{Aim}
+use Rattle.quorum_cell.specs.declared.operation.Aim.TheVariants.{Tail as AimTail, Read as AimRead, Trim as AimTrim}
 use Rattle.majority_rule.specs.Majority.{is_majority}
-use Rattle.majority_rule.specs.Servers.{Server, length_of}
-use Rattle.majority_rule.specs.Cells.{Cell, Operation, operation, server, no_operation, is_seal}
-use Rattle.majority_rule.specs.Tallies.{heard_from, says_sealed}
-use Rattle.majority_rule.specs.Steps.{put_operation, reply_comes, waits}
-use Rattle.majority_rule.specs.Law.{QuorumLaw, ReplyHolds}
+use Rattle.quorum_cell.specs.Servers.{Server, length_of}
+use Rattle.quorum_cell.specs.Cells.{Cell, Operation, operation, server, no_operation, is_seal}
+use Rattle.quorum_cell.specs.Tallies.{heard_from, says_sealed}
+use Rattle.quorum_cell.specs.Steps.{put_operation, reply_comes, waits}
+use Rattle.quorum_cell.specs.Law.{QuorumLaw, ReplyHolds}
 use Rattle.majority_rule.proofs.Majorities.{majority_stays}
-use Rattle.majority_rule.proofs.Lists.{contained}
-use Rattle.majority_rule.proofs.Steps.{unsealed_within}
+use Rattle.quorum_cell.proofs.Lists.{contained}
+use Rattle.quorum_cell.proofs.Steps.{unsealed_within}
 use Rattle.native_plan.specs.declared.member.Member.{Member}
 use Rattle.native_plan.specs.declared.aims.Aims.{Aims}
 use Rattle.native_plan.specs.declared.message.Errand.{Errand}

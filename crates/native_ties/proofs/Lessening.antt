@@ -5,13 +5,13 @@ use Rattle.std.proofs.lemmas.Bool.{false≢true, true≢false, cases_eq, lt-ltb,
 use Rattle.std.proofs.lemmas.List.{length-set, get_or-set_same, get_or-set_other}
 use Rattle.std.proofs.lemmas.List.Sums.{sum_by-cons}
 use Rattle.loglet_api.specs.Step.{IsBelow}
-use Rattle.majority_rule.specs.declared.message.Told.{Told}
-use Rattle.majority_rule.specs.declared.message.Told.TheVariants.{Down, DiskFault, Sealed, Unsealed, Behind, Ack, Got, Short, Cut, Trimmed}
-use Rattle.majority_rule.specs.declared.operation.Aim.{Aim}
-use Rattle.majority_rule.specs.declared.operation.Aim.TheVariants.{Tail as AimTail, Read as AimRead, Trim as AimTrim}
-use Rattle.majority_rule.specs.declared.operation.Outcome.TheVariants as outcomes
-use Rattle.majority_rule.specs.Cells.{Cell, operation, server_before}
-use Rattle.majority_rule.specs.Law.{QuorumLaw}
+use Rattle.quorum_cell.specs.declared.message.Told.{Told}
+use Rattle.quorum_cell.specs.declared.message.Told.TheVariants.{Down, DiskFault, Sealed, Unsealed, Behind, Ack, Got, Short, Cut, Trimmed}
+use Rattle.quorum_cell.specs.declared.operation.Aim.{Aim}
+use Rattle.quorum_cell.specs.declared.operation.Aim.TheVariants.{Tail as AimTail, Read as AimRead, Trim as AimTrim}
+use Rattle.quorum_cell.specs.declared.operation.Outcome.TheVariants as outcomes
+use Rattle.quorum_cell.specs.Cells.{Cell, operation, server_before}
+use Rattle.quorum_cell.specs.Law.{QuorumLaw}
 use Rattle.native_plan.specs.declared.member.Member.{Member}
 use Rattle.native_plan.specs.declared.pending.Pending.{Pending}
 use Rattle.native_plan.specs.declared.message.Errand.{Errand}

@@ -7,19 +7,19 @@ use Rattle.std.proofs.lemmas.Option.{none-some, same_Some}
 use Rattle.std.proofs.lemmas.List.{length-set, get_or-set_same, get_or-set_other}
 use Rattle.std.proofs.lemmas.List.Folds.{list_any-append}
 use Rattle.std.proofs.lemmas.List.Elements.{All-head, All-tail, All-append}
-use Rattle.majority_rule.specs.declared.message.Ask.{Ask}
-use Rattle.majority_rule.specs.declared.message.Request.{Request}
-use Rattle.majority_rule.specs.declared.message.Told.{Told}
-use Rattle.majority_rule.specs.declared.message.Told.TheVariants.{Down, DiskFault, Sealed, Unsealed, Ack, Got, Short, Cut, Trimmed}
-use Rattle.majority_rule.specs.declared.operation.Loss.{Loss}
-use Rattle.majority_rule.specs.declared.operation.CellStep.TheVariants.{Send, Lose}
-use Rattle.majority_rule.specs.Servers.{Server}
-use Rattle.majority_rule.specs.Cells.{Cell, Operation, operation, server, server_before}
-use Rattle.majority_rule.specs.Tallies.{tries_lost, lost_to, unreached, heard_from, failed_reply}
-use Rattle.majority_rule.specs.Steps.{put_operation, with_fault, waits, cell_step, run_cell, ask_for}
-use Rattle.majority_rule.specs.Law.{QuorumLaw, Later}
-use Rattle.majority_rule.proofs.Lists.{slice_get_push_new, slice_get_more}
-use Rattle.majority_rule.proofs.Runs.{step_keeps, step_later}
+use Rattle.quorum_cell.specs.declared.message.Ask.{Ask}
+use Rattle.quorum_cell.specs.declared.message.Request.{Request}
+use Rattle.quorum_cell.specs.declared.message.Told.{Told}
+use Rattle.quorum_cell.specs.declared.message.Told.TheVariants.{Down, DiskFault, Sealed, Unsealed, Ack, Got, Short, Cut, Trimmed}
+use Rattle.quorum_cell.specs.declared.operation.Loss.{Loss}
+use Rattle.quorum_cell.specs.declared.operation.CellStep.TheVariants.{Send, Lose}
+use Rattle.quorum_cell.specs.Servers.{Server}
+use Rattle.quorum_cell.specs.Cells.{Cell, Operation, operation, server, server_before}
+use Rattle.quorum_cell.specs.Tallies.{tries_lost, lost_to, unreached, heard_from, failed_reply}
+use Rattle.quorum_cell.specs.Steps.{put_operation, with_fault, waits, cell_step, run_cell, ask_for}
+use Rattle.quorum_cell.specs.Law.{QuorumLaw, Later}
+use Rattle.quorum_cell.proofs.Lists.{slice_get_push_new, slice_get_more}
+use Rattle.quorum_cell.proofs.Runs.{step_keeps, step_later}
 use Rattle.cell_views.proofs.Sounds.{open_known}
 use Rattle.native_plan.specs.declared.member.Member.{Member}
 use Rattle.native_plan.specs.declared.aims.Aims.{Aims}

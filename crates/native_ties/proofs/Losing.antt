@@ -4,9 +4,9 @@ use Rattle.std.specs.Prelude.{◌⊎◌, ◌&&◌, ◌==◌, nat_le, if◌then�
 use Rattle.std.specs.List.{list_any}
 use Rattle.std.proofs.lemmas.Bool.{false≢true, cases_eq, eq-eqb, ne_eqb, eqb-true, leb-true, leb-false, or_left, or_right, or_from, and_parts, and_from, false_from_ne_true}
 use Rattle.std.proofs.lemmas.List.Sums.{sum_by-append}
-use Rattle.majority_rule.specs.declared.operation.Loss.{Loss}
-use Rattle.majority_rule.specs.Cells.{Operation}
-use Rattle.majority_rule.specs.Tallies.{tries_lost}
+use Rattle.quorum_cell.specs.declared.operation.Loss.{Loss}
+use Rattle.quorum_cell.specs.Cells.{Operation}
+use Rattle.quorum_cell.specs.Tallies.{tries_lost}
 
 abbrev pub with_loss : Operation → ℕ → ℕ → Operation
 with_loss o k i = record o { lost = o.lost ++ record { message = k; server = i } ∷ [] }

@@ -2,12 +2,12 @@
 use Rattle.std.proofs.Common.{◌≡◌, ℕ, ◌≤◌, refl, sym, ◌∙◌, ap, arith, List, get_or, Option, Some, None, inl, inr}
 use Rattle.std.specs.Prelude.{All}
 use Rattle.std.proofs.lemmas.List.Elements.{All-weaker}
-use Rattle.majority_rule.specs.declared.message.Told.{Told}
-use Rattle.majority_rule.specs.declared.message.Told.TheVariants.{Down, DiskFault, Sealed, Unsealed, Ack, Got, Short, Cut, Trimmed}
-use Rattle.majority_rule.specs.declared.operation.Loss.{Loss}
-use Rattle.majority_rule.specs.Servers.{Server, length_of}
-use Rattle.majority_rule.specs.Cells.{Cell, Operation, operation, server, server_before}
-use Rattle.majority_rule.specs.Law.{Later}
+use Rattle.quorum_cell.specs.declared.message.Told.{Told}
+use Rattle.quorum_cell.specs.declared.message.Told.TheVariants.{Down, DiskFault, Sealed, Unsealed, Ack, Got, Short, Cut, Trimmed}
+use Rattle.quorum_cell.specs.declared.operation.Loss.{Loss}
+use Rattle.quorum_cell.specs.Servers.{Server, length_of}
+use Rattle.quorum_cell.specs.Cells.{Cell, Operation, operation, server, server_before}
+use Rattle.quorum_cell.specs.Law.{Later}
 use Rattle.native_plan.specs.declared.member.Member.{Member}
 use Rattle.native_plan.specs.declared.aims.Aims.{Aims}
 use Rattle.native_plan.specs.declared.pending.Pending.{Pending}

@@ -2,8 +2,8 @@
 use Rattle.std.proofs.Common.{◌≡◌, ℕ, zero, suc, ◌<◌, ◌≤◌, Bool, true, false, refl, sym, ◌∙◌, ap, subst, arith, List, [], ◌∷◌, length, get_or, Option, Some, None, inl, inr}
 use Rattle.std.specs.Prelude.{◌⊎◌, ◌&&◌, ◌||◌, nat_le, nat_lt, is_some, if◌then◌else◌}
 use Rattle.std.proofs.lemmas.Bool.{true≢false, leb-true, leb-false, ltb-true, or_parts, cases_lt}
-use Rattle.majority_rule.specs.Servers.{Server}
-use Rattle.majority_rule.specs.Cells.{Cell, Operation, server}
+use Rattle.quorum_cell.specs.Servers.{Server}
+use Rattle.quorum_cell.specs.Cells.{Cell, Operation, server}
 use Rattle.native_plan.specs.declared.member.Member.{Member}
 use Rattle.native_plan.specs.declared.aims.Aims.{Aims}
 use Rattle.native_plan.specs.declared.message.Errand.{Errand}

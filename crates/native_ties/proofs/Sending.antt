@@ -6,17 +6,17 @@ use Rattle.std.proofs.lemmas.Bool.{false≢true, cases_eq, lt-ltb, ltb-true, ltb
 use Rattle.std.proofs.lemmas.Option.{none-some, same_Some}
 use Rattle.std.proofs.lemmas.List.{length-set, get_or-set_same, get_or-set_other}
 use Rattle.delos_types.specs.declared.entry.Entry.{Entry}
-use Rattle.majority_rule.specs.declared.message.Ask.{Ask}
-use Rattle.majority_rule.specs.declared.message.Ask.TheVariants as ask
-use Rattle.majority_rule.specs.declared.message.Request.{Request}
-use Rattle.majority_rule.specs.declared.message.Told.TheVariants.{Down, Sealed, Unsealed, Behind, Ack, Cut, Trimmed}
-use Rattle.majority_rule.specs.declared.operation.Aim.TheVariants.{Read as AimRead}
-use Rattle.majority_rule.specs.declared.operation.Wish.{Wish}
-use Rattle.majority_rule.specs.Servers.{Server, told, told_place, told_entry, length_of, is_sealed}
-use Rattle.majority_rule.specs.Cells.{Cell, Operation, operation, server, server_before, is_seal}
-use Rattle.majority_rule.specs.Tallies.{says_sealed}
-use Rattle.majority_rule.specs.Steps.{ask_for, ask_read, send}
-use Rattle.majority_rule.specs.Law.{QuorumLaw}
+use Rattle.quorum_cell.specs.declared.message.Ask.{Ask}
+use Rattle.quorum_cell.specs.declared.message.Ask.TheVariants as ask
+use Rattle.quorum_cell.specs.declared.message.Request.{Request}
+use Rattle.quorum_cell.specs.declared.message.Told.TheVariants.{Down, Sealed, Unsealed, Behind, Ack, Cut, Trimmed}
+use Rattle.quorum_cell.specs.declared.operation.Aim.TheVariants.{Read as AimRead}
+use Rattle.quorum_cell.specs.declared.operation.Wish.{Wish}
+use Rattle.quorum_cell.specs.Servers.{Server, told, told_place, told_entry, length_of, is_sealed}
+use Rattle.quorum_cell.specs.Cells.{Cell, Operation, operation, server, server_before, is_seal}
+use Rattle.quorum_cell.specs.Tallies.{says_sealed}
+use Rattle.quorum_cell.specs.Steps.{ask_for, ask_read, send}
+use Rattle.quorum_cell.specs.Law.{QuorumLaw}
 use Rattle.native_plan.specs.declared.member.Member.{Member}
 use Rattle.native_plan.specs.declared.aims.Aims.{Aims}
 use Rattle.native_plan.specs.declared.message.Errand.{Errand}

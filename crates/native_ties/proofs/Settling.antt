@@ -5,15 +5,15 @@ use Rattle.std.specs.List.{list_any}
 use Rattle.std.proofs.lemmas.Bool.{false≢true, eqb-true}
 use Rattle.std.proofs.lemmas.Option.{none-some}
 use Rattle.delos_types.specs.declared.entry.Entry.{Entry}
-use Rattle.majority_rule.specs.declared.operation.Aim.{Aim}
-use Rattle.majority_rule.specs.declared.operation.Aim.TheVariants.{Tail as AimTail, Read as AimRead, Trim as AimTrim}
-use Rattle.majority_rule.specs.declared.operation.Outcome.{Outcome}
-use Rattle.majority_rule.specs.declared.operation.Outcome.TheVariants.{Found}
-use Rattle.majority_rule.specs.declared.operation.CellStep.TheVariants.{Decide}
-use Rattle.majority_rule.specs.Cells.{Cell, Operation, operation}
-use Rattle.majority_rule.specs.Tallies.{gives_entry, may_decide}
-use Rattle.majority_rule.specs.Steps.{put_operation, decide, waits}
-use Rattle.majority_rule.specs.Law.{QuorumLaw}
+use Rattle.quorum_cell.specs.declared.operation.Aim.{Aim}
+use Rattle.quorum_cell.specs.declared.operation.Aim.TheVariants.{Tail as AimTail, Read as AimRead, Trim as AimTrim}
+use Rattle.quorum_cell.specs.declared.operation.Outcome.{Outcome}
+use Rattle.quorum_cell.specs.declared.operation.Outcome.TheVariants.{Found}
+use Rattle.quorum_cell.specs.declared.operation.CellStep.TheVariants.{Decide}
+use Rattle.quorum_cell.specs.Cells.{Cell, Operation, operation}
+use Rattle.quorum_cell.specs.Tallies.{gives_entry, may_decide}
+use Rattle.quorum_cell.specs.Steps.{put_operation, decide, waits}
+use Rattle.quorum_cell.specs.Law.{QuorumLaw}
 use Rattle.cell_views.proofs.Sounds.{open_known}
 use Rattle.native_plan.specs.declared.member.Member.{Member}
 use Rattle.native_plan.specs.declared.pending.Pending.{Pending}

@@ -2,29 +2,29 @@
 use Rattle.std.specs.Prelude.{◌≡◌, ℕ, ◌<◌, ◌≤◌, ◌*◌, ◌^◌, ◌⊎◌, true, false, not, List, length, get_or, set, slice_get, Option, Some, None, All, [], ◌∷◌, ⊤, option_map}
 use Rattle.delos_types.specs.declared.entry.Entry.{Entry}
 use Rattle.loglet_api.specs.Step.{task_of}
-use Rattle.majority_rule.specs.declared.message.Ask.{Ask}
-use Rattle.majority_rule.specs.declared.message.Ask.TheVariants as ask
-use Rattle.majority_rule.specs.declared.message.Request.{Request}
-use Rattle.majority_rule.specs.declared.message.Reply.{Reply}
-use Rattle.majority_rule.specs.declared.message.Told.{Told}
-use Rattle.majority_rule.specs.declared.message.Told.TheVariants.{Trimmed}
-use Rattle.majority_rule.specs.declared.operation.Loss.{Loss}
-use Rattle.majority_rule.specs.declared.operation.Aim.{Aim}
-use Rattle.majority_rule.specs.declared.operation.Aim.TheVariants.{Read as AimRead}
-use Rattle.majority_rule.specs.declared.operation.Outcome.TheVariants.{Found}
-use Rattle.majority_rule.specs.declared.operation.CellStep.{CellStep}
-use Rattle.majority_rule.specs.Steps.{run_cell, ask_for, wanted}
+use Rattle.quorum_cell.specs.declared.message.Ask.{Ask}
+use Rattle.quorum_cell.specs.declared.message.Ask.TheVariants as ask
+use Rattle.quorum_cell.specs.declared.message.Request.{Request}
+use Rattle.quorum_cell.specs.declared.message.Reply.{Reply}
+use Rattle.quorum_cell.specs.declared.message.Told.{Told}
+use Rattle.quorum_cell.specs.declared.message.Told.TheVariants.{Trimmed}
+use Rattle.quorum_cell.specs.declared.operation.Loss.{Loss}
+use Rattle.quorum_cell.specs.declared.operation.Aim.{Aim}
+use Rattle.quorum_cell.specs.declared.operation.Aim.TheVariants.{Read as AimRead}
+use Rattle.quorum_cell.specs.declared.operation.Outcome.TheVariants.{Found}
+use Rattle.quorum_cell.specs.declared.operation.CellStep.{CellStep}
+use Rattle.quorum_cell.specs.Steps.{run_cell, ask_for, wanted}
 use Rattle.cell_views.specs.Views.{IsStray}
 use Rattle.majority_rule.specs.Majority.{is_majority, votes_below}
-use Rattle.majority_rule.specs.Servers.{Server, length_of, is_sealed}
-use Rattle.majority_rule.specs.Cells.{Cell, Operation, operation, server, server_before, is_shut, down}
-use Rattle.majority_rule.specs.Tallies.{tries_lost}
+use Rattle.quorum_cell.specs.Servers.{Server, length_of, is_sealed}
+use Rattle.quorum_cell.specs.Cells.{Cell, Operation, operation, server, server_before, is_shut, down}
+use Rattle.quorum_cell.specs.Tallies.{tries_lost}
 use Rattle.cell_views.specs.Views.{counted, op_of}
 use Rattle.native_plan.specs.declared.member.Member.{Member}
 use Rattle.native_plan.specs.declared.pending.Pending.{Pending}
 use Rattle.native_plan.specs.declared.pending.Start.{Start}
-use Rattle.majority_rule.specs.declared.operation.Wish.{Wish}
-use Rattle.majority_rule.specs.declared.operation.Wish.TheVariants as wish
+use Rattle.quorum_cell.specs.declared.operation.Wish.{Wish}
+use Rattle.quorum_cell.specs.declared.operation.Wish.TheVariants as wish
 use Rattle.native_plan.specs.declared.message.Errand.{Errand}
 use Rattle.native_plan.specs.declared.message.Errand.TheVariants.{Store, Seal, Tail, Repair, Read, Trim}
 use Rattle.native_plan.specs.declared.message.Message.{Message}

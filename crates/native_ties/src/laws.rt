@@ -1,13 +1,13 @@
 //! What ties open operations to their cell. Each function does nothing: its contract is the law.
 ghost use Rattle.std.specs.Prelude.{◌≡◌, ℕ, ◌<◌, ◌≤◌, ◌+◌, ◌*◌, ◌^◌, List, ◌&&◌, ◌++◌, ◌∷◌, [], true, false, if◌then◌else◌, length, get_or, Some, None};
-ghost use Rattle.majority_rule.specs.declared.message.Ask.{Ask};
-ghost use Rattle.majority_rule.specs.declared.message.Told.TheVariants.{DiskFault};
-ghost use Rattle.majority_rule.specs.Servers.{told, writes, written};
-ghost use Rattle.majority_rule.specs.Steps.{ask_for, admit, cut_after};
-ghost use Rattle.majority_rule.specs.declared.message.Told.{Told};
-ghost use Rattle.majority_rule.specs.Cells.{Cell, operation, server};
-ghost use Rattle.majority_rule.specs.Law.{QuorumLaw, Later};
-ghost use Rattle.majority_rule.specs.declared.operation.Aim as aims;
+ghost use Rattle.quorum_cell.specs.declared.message.Ask.{Ask};
+ghost use Rattle.quorum_cell.specs.declared.message.Told.TheVariants.{DiskFault};
+ghost use Rattle.quorum_cell.specs.Servers.{told, writes, written};
+ghost use Rattle.quorum_cell.specs.Steps.{ask_for, admit, cut_after};
+ghost use Rattle.quorum_cell.specs.declared.message.Told.{Told};
+ghost use Rattle.quorum_cell.specs.Cells.{Cell, operation, server};
+ghost use Rattle.quorum_cell.specs.Law.{QuorumLaw, Later};
+ghost use Rattle.quorum_cell.specs.declared.operation.Aim as aims;
 ghost use Rattle.loglet_api.specs.Step.{IsBelow};
 ghost use Rattle.cell_views.specs.Views.{op_of};
 ghost use Rattle.native_plan.specs.declared.member.Member as members;

@@ -1,8 +1,8 @@
 -- Which log server a list of records spells. A record follows where the server would write it.
 use Rattle.std.specs.Prelude.{◌≡◌, ℕ, ◌<◌, not, ◌==◌, nat_lt, Bool, true, if◌then◌else◌, List, [], length, take, fold, slice_index_or, Option, Some, None}
-use Rattle.majority_rule.specs.declared.message.Ask.{Ask}
-use Rattle.majority_rule.specs.declared.message.Ask.TheVariants.{Store, Seal, Tail, Repair, Read, Trim}
-use Rattle.majority_rule.specs.Servers.{Server, length_of, is_sealed, wrote}
+use Rattle.quorum_cell.specs.declared.message.Ask.{Ask}
+use Rattle.quorum_cell.specs.declared.message.Ask.TheVariants.{Store, Seal, Tail, Repair, Read, Trim}
+use Rattle.quorum_cell.specs.Servers.{Server, length_of, is_sealed, wrote}
 use Rattle.server_records.specs.declared.record.Record.{Record}
 use Rattle.server_records.specs.declared.record.Record.TheVariants.{Stored, Sealed, Trimmed}
 use Rattle.server_records.specs.Reading.{record_of}

@@ -1,8 +1,8 @@
 //! What holds of every record and every list of records.
 ghost use Rattle.std.specs.Prelude.{◌≡◌, ◌↔◌, ℕ, true, List, [], ◌∷◌, ◌++◌, Some};
 ghost use Rattle.delos_types.specs.Numbers.{IsBytes};
-ghost use Rattle.majority_rule.specs.declared.message.Ask as ask;
-ghost use Rattle.majority_rule.specs.Servers.{Server, writes, wrote};
+ghost use Rattle.quorum_cell.specs.declared.message.Ask as ask;
+ghost use Rattle.quorum_cell.specs.Servers.{Server, writes, wrote};
 ghost use Rattle.server_records.specs.declared.record.Record as view;
 ghost use Rattle.server_records.specs.Format.{SpellsRecord};
 ghost use Rattle.server_records.specs.Reading.{record_of};

@@ -8,7 +8,7 @@ use crate::workbench::{OnDisk, Refusal};
 use anyhow::{Result, bail};
 use disk_model::FailDisk;
 use log_server::LogServer;
-use majority_rule::message::Told;
+use quorum_cell::message::Told;
 use std::alloc::{AllocError, Global};
 use worked_cases::entries::entry;
 use worked_cases::words;

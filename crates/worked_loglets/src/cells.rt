@@ -1,7 +1,7 @@
 //! A quorum cell, and its steps.
 use anyhow::{Context, Result, bail};
 use delos_types::numbers::Ticket;
-use majority_rule::operation::{Aim, CellStep, Outcome, Wish};
+use quorum_cell::operation::{Aim, CellStep, Outcome, Wish};
 use std::alloc::Global;
 use worked_cases::bench::Bench;
 use worked_cases::entries::entry;

@@ -2,7 +2,7 @@
 ghost use Rattle.std.specs.Prelude.{◌≢◌, ℕ, IfOk};
 
 use anyhow::{Result, bail};
-use majority_rule::operation::Outcome;
+use quorum_cell::operation::Outcome;
 use native_plan::aims::Aims;
 use native_plan::judge::{Verdict, judge};
 use native_plan::member::Member;

@@ -4,15 +4,15 @@ use Rattle.std.specs.Prelude.{slice_get}
 use Rattle.std.specs.Option.{ForSome}
 use Rattle.std.proofs.lemmas.List.{get_or_default}
 use Rattle.std.proofs.lemmas.List.Elements.{All-contains}
-use Rattle.majority_rule.specs.declared.message.Ask.{Ask}
-use Rattle.majority_rule.specs.declared.message.Ask.TheVariants.{Store, Seal, Tail, Repair, Read, Trim}
-use Rattle.majority_rule.specs.declared.message.Request.{Request}
-use Rattle.majority_rule.specs.Servers.{Server}
-use Rattle.majority_rule.specs.Cells.{Cell, server, no_server}
-use Rattle.majority_rule.specs.Law.{IsOurs, RequestHolds}
-use Rattle.majority_rule.proofs.Lists.{contained}
-use Rattle.majority_rule.proofs.Steps.{cut_within}
-use Rattle.majority_rule.specs.Law.{IsLawful}
+use Rattle.quorum_cell.specs.declared.message.Ask.{Ask}
+use Rattle.quorum_cell.specs.declared.message.Ask.TheVariants.{Store, Seal, Tail, Repair, Read, Trim}
+use Rattle.quorum_cell.specs.declared.message.Request.{Request}
+use Rattle.quorum_cell.specs.Servers.{Server}
+use Rattle.quorum_cell.specs.Cells.{Cell, server, no_server}
+use Rattle.quorum_cell.specs.Law.{IsOurs, RequestHolds}
+use Rattle.quorum_cell.proofs.Lists.{contained}
+use Rattle.quorum_cell.proofs.Steps.{cut_within}
+use Rattle.quorum_cell.specs.Law.{IsLawful}
 use Rattle.world_steps.specs.Worlds.{AskFits}
 
 -- what is asked of a lawful cell's servers goes no further than its room

@@ -2,11 +2,11 @@
 use Rattle.std.proofs.Common.{◌≡◌, ℕ, ◌<◌, sym, subst, get_or, List, [], ◌∷◌, ◌++◌, length, set}
 use Rattle.std.specs.Prelude.{All}
 use Rattle.std.proofs.lemmas.List.Elements.{All-push, All-set}
-use Rattle.majority_rule.specs.declared.operation.CellStep.{CellStep}
-use Rattle.majority_rule.specs.Cells.{Cell}
-use Rattle.majority_rule.specs.Steps.{cell_step}
-use Rattle.majority_rule.proofs.Lawful.{step_lawful}
-use Rattle.majority_rule.specs.Law.{IsLawful}
+use Rattle.quorum_cell.specs.declared.operation.CellStep.{CellStep}
+use Rattle.quorum_cell.specs.Cells.{Cell}
+use Rattle.quorum_cell.specs.Steps.{cell_step}
+use Rattle.quorum_cell.proofs.Lawful.{step_lawful}
+use Rattle.quorum_cell.specs.Law.{IsLawful}
 
 pub added_lawful : (cells : List Cell) (c : Cell) → All IsLawful cells → IsLawful c → All IsLawful (cells ++ c ∷ [])
 added_lawful cells c all one = All-push IsLawful cells c all one

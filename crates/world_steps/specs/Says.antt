@@ -1,7 +1,7 @@
 -- What can be asked of a reply in a tally.
 use Rattle.std.specs.Prelude.{Bool}
-use Rattle.majority_rule.specs.declared.message.Reply.{Reply}
-use Rattle.majority_rule.specs.Tallies.{open_to, open_within, open_at, says_sealed, sealed_within, sealed_at, mended_to, trimmed_to, gives_entry, failed_reply}
+use Rattle.quorum_cell.specs.declared.message.Reply.{Reply}
+use Rattle.quorum_cell.specs.Tallies.{open_to, open_within, open_at, says_sealed, sealed_within, sealed_at, mended_to, trimmed_to, gives_entry, failed_reply}
 use Rattle.world_steps.specs.declared.tally.Says.{Says}
 use Rattle.world_steps.specs.declared.tally.Says.TheVariants.{OpenTo, OpenWithin, OpenAt, Sealed, SealedWithin, SealedAt, MendedTo, TrimmedTo, GivesEntry, Failed}
 

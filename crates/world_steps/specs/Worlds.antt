@@ -1,13 +1,13 @@
 -- The world: cells, and the steps that they take.
 use Rattle.std.specs.Prelude.{ℕ, ◌^◌, ◌≤◌, List, [], ◌∷◌, ◌++◌, if◌then◌else◌, set, slice_get, ⊤, Option, Some, None}
-use Rattle.majority_rule.specs.declared.message.Ask.{Ask}
-use Rattle.majority_rule.specs.declared.message.Ask.TheVariants.{Trim}
-use Rattle.majority_rule.specs.declared.operation.CellStep.{CellStep}
-use Rattle.majority_rule.specs.declared.message.Request.{Request}
-use Rattle.majority_rule.specs.declared.message.Told.{Told}
-use Rattle.majority_rule.specs.Servers.{written}
-use Rattle.majority_rule.specs.Cells.{Cell, server}
-use Rattle.majority_rule.specs.Steps.{cell_step}
+use Rattle.quorum_cell.specs.declared.message.Ask.{Ask}
+use Rattle.quorum_cell.specs.declared.message.Ask.TheVariants.{Trim}
+use Rattle.quorum_cell.specs.declared.operation.CellStep.{CellStep}
+use Rattle.quorum_cell.specs.declared.message.Request.{Request}
+use Rattle.quorum_cell.specs.declared.message.Told.{Told}
+use Rattle.quorum_cell.specs.Servers.{written}
+use Rattle.quorum_cell.specs.Cells.{Cell, server}
+use Rattle.quorum_cell.specs.Steps.{cell_step}
 use Rattle.world_steps.specs.declared.world.WorldStep.{WorldStep}
 use Rattle.world_steps.specs.declared.world.WorldStep.TheVariants.{InCell}
 

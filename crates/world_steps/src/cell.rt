@@ -1,17 +1,17 @@
 //! A cell: its servers, every message ever sent, and its operations.
 ghost use Rattle.std.specs.Prelude.{◌≡◌, ℕ, ◌+◌, ◌<◌, ◌≤◌, length, OnOk, IfOk, Some, not, IsTrue, slice_get, option_map};
-ghost use Rattle.majority_rule.specs.Servers.{told as told_by, length_of as length_by};
-ghost use Rattle.majority_rule.specs.Cells.{start, operation, server as server_of};
-ghost use Rattle.majority_rule.specs.Steps.{is_full as is_full_by, wanted as wanted_by, cut_after as cut_by, entries_after, begun as begun_by, admit as admitted, with_fault as faulted, begin as begun, ask_for as asked, send as after_send, request_comes as after_request, request_stops as after_stop, waits as waits_of, reply_comes as after_reply, lose as after_loss, restart as restarted, restart_fails as after_failed_restart, decide as after_decide, cap_after as cap_by, give as after_give, take_outcome as after_take, forget as after_forget, cell_step};
-ghost use Rattle.majority_rule.specs.Law.{IsLawful};
+ghost use Rattle.quorum_cell.specs.Servers.{told as told_by, length_of as length_by};
+ghost use Rattle.quorum_cell.specs.Cells.{start, operation, server as server_of};
+ghost use Rattle.quorum_cell.specs.Steps.{is_full as is_full_by, wanted as wanted_by, cut_after as cut_by, entries_after, begun as begun_by, admit as admitted, with_fault as faulted, begin as begun, ask_for as asked, send as after_send, request_comes as after_request, request_stops as after_stop, waits as waits_of, reply_comes as after_reply, lose as after_loss, restart as restarted, restart_fails as after_failed_restart, decide as after_decide, cap_after as cap_by, give as after_give, take_outcome as after_take, forget as after_forget, cell_step};
+ghost use Rattle.quorum_cell.specs.Law.{IsLawful};
 ghost use Rattle.world_steps.specs.Worlds.{AskFits, served, replied};
 
 use crate::server::ServerState;
 use crate::tally::OperationState;
 use delos_types::entry::Entry;
 use delos_types::numbers::Ticket;
-use majority_rule::message::{Ask, Reply, Request, Told};
-use majority_rule::operation::{Aim, CellStep, Loss, Outcome, Wish};
+use quorum_cell::message::{Ask, Reply, Request, Told};
+use quorum_cell::operation::{Aim, CellStep, Loss, Outcome, Wish};
 use std::alloc::{AllocError, Global};
 use std::marker::Model;
 
@@ -33,7 +33,7 @@ pub struct CellState {
 }
 
 impl Model for CellState {
-    ghost use Rattle.majority_rule.specs.Cells.{Cell};
+    ghost use Rattle.quorum_cell.specs.Cells.{Cell};
 
     ghost Value = { Cell };
 

@@ -1,5 +1,5 @@
 //! The world as plain lists, and its steps as a program: what every schedule of messages, losses,
-//! stops and restarts leads to. The laws of `majority_rule` hold of every world that it makes.
+//! stops and restarts leads to. The laws of `quorum_cell` hold of every world that it makes.
 //!
 //! * `server`: a log server.
 //! * `tally`: what an operation heard, and what it may come to.

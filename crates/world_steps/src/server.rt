@@ -1,12 +1,12 @@
 //! A log server: what it holds, what it tells, and what it holds afterwards.
 ghost use Rattle.std.specs.Prelude.{◌≡◌, ℕ, ◌+◌, ◌-◌, ◌^◌, ◌<◌, ◌≤◌, [], length, drop, true, false, OnOk, IfOk, None, Some};
 ghost use Rattle.std.specs.Option.{ForSome};
-ghost use Rattle.majority_rule.specs.declared.message.Ask.TheVariants.{Read};
-ghost use Rattle.majority_rule.specs.Servers.{told_up, told as told_by, writes as writes_of, written, restarted as restarted_by, length_of, told_place as told_place_of};
+ghost use Rattle.quorum_cell.specs.declared.message.Ask.TheVariants.{Read};
+ghost use Rattle.quorum_cell.specs.Servers.{told_up, told as told_by, writes as writes_of, written, restarted as restarted_by, length_of, told_place as told_place_of};
 ghost use Rattle.world_steps.specs.Worlds.{AskFits};
 
 use delos_types::entry::Entry;
-use majority_rule::message::{Ask, Told};
+use quorum_cell::message::{Ask, Told};
 use std::alloc::{AllocError, Global};
 use std::marker::Model;
 
@@ -22,7 +22,7 @@ pub struct ServerState {
 
 impl Model for ServerState {
     ghost use Rattle.std.specs.Prelude.{◌≤◌, ◌^◌};
-    ghost use Rattle.majority_rule.specs.Servers.{Server};
+    ghost use Rattle.quorum_cell.specs.Servers.{Server};
 
     ghost Value = { Server };
 

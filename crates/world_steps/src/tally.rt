@@ -2,15 +2,15 @@
 ghost use Rattle.std.specs.Prelude.{◌≡◌, ℕ, ◌+◌, ◌^◌, ◌<◌, ◌≤◌, ◌∷◌, ◌++◌, [], length, OnOk, IfOk, None, Some, true, is_some, ◌&&◌, ◌||◌};
 ghost use Rattle.std.specs.List.{list_any};
 ghost use Rattle.majority_rule.specs.Majority.{is_majority, votes_below};
-ghost use Rattle.majority_rule.specs.Tallies.{open_to, open_within, open_at, says_sealed, sealed_within, sealed_at, mended_to, trimmed_to, open_told, sealed_told, mended_told, told_trim, told_entry_at, fails as fails_of, heard_from as heard_by, tries_lost as tries_of, lost_to as lost_by, unreached as unreached_by, lacks_quorum as lacks_by, may_give_up as may_give_up_by, may_decide as may_decide_by};
-ghost use Rattle.majority_rule.specs.Steps.{waits as waits_of, reached as reached_of, shown as shown_of, given_outcome as given_of, ask_read as ask_read_of};
-ghost use Rattle.majority_rule.specs.Cells.{is_seal};
+ghost use Rattle.quorum_cell.specs.Tallies.{open_to, open_within, open_at, says_sealed, sealed_within, sealed_at, mended_to, trimmed_to, open_told, sealed_told, mended_told, told_trim, told_entry_at, fails as fails_of, heard_from as heard_by, tries_lost as tries_of, lost_to as lost_by, unreached as unreached_by, lacks_quorum as lacks_by, may_give_up as may_give_up_by, may_decide as may_decide_by};
+ghost use Rattle.quorum_cell.specs.Steps.{waits as waits_of, reached as reached_of, shown as shown_of, given_outcome as given_of, ask_read as ask_read_of};
+ghost use Rattle.quorum_cell.specs.Cells.{is_seal};
 ghost use Rattle.world_steps.specs.Says.{says as says_of};
 
 use crate::server::ServerState;
 use majority_rule::majority::majority;
-use majority_rule::message::{Ask, Reply, Told};
-use majority_rule::operation::{Aim, Loss, Outcome};
+use quorum_cell::message::{Ask, Reply, Told};
+use quorum_cell::operation::{Aim, Loss, Outcome};
 use std::alloc::AllocError;
 use std::marker::Model;
 
@@ -124,7 +124,7 @@ pub struct OperationState {
 }
 
 impl Model for OperationState {
-    ghost use Rattle.majority_rule.specs.Cells.{Operation};
+    ghost use Rattle.quorum_cell.specs.Cells.{Operation};
 
     ghost Value = { Operation };
 

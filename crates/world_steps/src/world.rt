@@ -1,11 +1,11 @@
 //! The world, and lists of steps.
 ghost use Rattle.std.specs.Prelude.{◌≡◌, ◌≤◌, ◌^◌, [], ◌++◌, ◌∷◌, slice_get, option_map, OnOk, OnErr, IfOk, All};
-ghost use Rattle.majority_rule.specs.Cells.{start};
-ghost use Rattle.majority_rule.specs.Law.{IsLawful};
+ghost use Rattle.quorum_cell.specs.Cells.{start};
+ghost use Rattle.quorum_cell.specs.Law.{IsLawful};
 ghost use Rattle.world_steps.specs.Worlds.{world_step, run_world, cells_after};
 
 use crate::cell::CellState;
-use majority_rule::operation::CellStep;
+use quorum_cell::operation::CellStep;
 use std::alloc::{AllocError, Global};
 use std::marker::Model;
 
@@ -24,7 +24,7 @@ pub struct World {
 
 impl Model for World {
     ghost use Rattle.std.specs.Prelude.{All};
-    ghost use Rattle.majority_rule.specs.Law.{IsLawful};
+    ghost use Rattle.quorum_cell.specs.Law.{IsLawful};
     ghost use Rattle.world_steps.specs.Worlds.{World as WorldOf};
 
     ghost Value = { WorldOf };

@@ -1,8 +1,8 @@
 use Rattle.std.proofs.Common.{◌≡◌, true, length}
 use Rattle.std.proofs.lemmas.List.{length-replicate}
 use Rattle.std.proofs.lemmas.Option.{none-some}
-use Rattle.majority_rule.specs.Cells.{start, no_server}
-use Rattle.majority_rule.proofs.Lawful.{start_lawful}
+use Rattle.quorum_cell.specs.Cells.{start, no_server}
+use Rattle.quorum_cell.proofs.Lawful.{start_lawful}
 use Rattle.cell_views.proofs.Moves.{step_moves}
 use Rattle.cell_views.proofs.Calls.{step_runs, steps_run}
 use Rattle.cell_views.proofs.laws.cells_are_loglets.Goals as goal

@@ -1,6 +1,6 @@
 use Rattle.std.proofs.Common.{◌≡◌, ◌<◌, length, Some, ap, sym, ◌∙◌, arith}
 use Rattle.std.specs.Prelude.{slice_get}
-use Rattle.majority_rule.specs.Servers.{Server, length_of, is_sealed}
+use Rattle.quorum_cell.specs.Servers.{Server, length_of, is_sealed}
 use Rattle.file_loglet.proofs.Laters.{got_at, later_then, store_later}
 use Rattle.file_loglet.proofs.decide.store_up_to.Goals as goal
 

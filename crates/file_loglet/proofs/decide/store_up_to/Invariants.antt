@@ -1,5 +1,5 @@
 use Rattle.std.proofs.Common.{◌≡◌, ℕ, ◌-◌, Bool, true, false}
-use Rattle.majority_rule.specs.Servers.{length_of, is_sealed}
+use Rattle.quorum_cell.specs.Servers.{length_of, is_sealed}
 use Rattle.file_loglet.specs.Held.{is_armed}
 use Rattle.file_loglet.specs.Later.{IsLater}
 use Rattle.file_loglet.proofs.decide.store_up_to.Given as goal

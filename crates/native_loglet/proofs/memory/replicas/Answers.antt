@@ -2,7 +2,7 @@ use Rattle.std.proofs.Common.{◌≡◌, true, arith, List, length, ap}
 use Rattle.std.proofs.lemmas.List.{length_push}
 use Rattle.std.proofs.lemmas.List.Elements.{All-push}
 use Rattle.log_server.specs.View.{View}
-use Rattle.majority_rule.specs.Cells.{no_server}
+use Rattle.quorum_cell.specs.Cells.{no_server}
 use Rattle.native_loglet.proofs.memory.replicas.Goals as goal
 
 pub loop-index-preserved : goal.loop-index-preserved

@@ -1,6 +1,6 @@
 use Rattle.std.proofs.Common.{◌≡◌, true, length, All}
 use Rattle.log_server.specs.View.{View}
-use Rattle.majority_rule.specs.Cells.{no_server}
+use Rattle.quorum_cell.specs.Cells.{no_server}
 use Rattle.native_loglet.proofs.memory.replicas.Given as goal
 
 abbrev pub invariant-loop-index : goal.invariant-loop-index

@@ -1,5 +1,5 @@
 use Rattle.std.proofs.Common.{ap, arith}
-use Rattle.majority_rule.specs.declared.message.Ask.TheVariants as asks
+use Rattle.quorum_cell.specs.declared.message.Ask.TheVariants as asks
 use Rattle.native_ties.specs.Parts.{asked_by}
 use Rattle.native_loglet.proofs.Rules.{stored_within, repaired_within, indexed, stored_answers, repaired_answers, plain_answers, read_told}
 use Rattle.native_loglet.proofs.replica.send.Goals as goal

@@ -1,6 +1,6 @@
 use Rattle.std.proofs.Common.{◌≡◌, drop}
 use Rattle.std.specs.Prelude.{All}
-use Rattle.majority_rule.specs.Law.{IsLawful}
+use Rattle.quorum_cell.specs.Law.{IsLawful}
 use Rattle.world_steps.specs.Worlds.{run_world}
 use Rattle.world_steps.proofs.world.run_steps.Given as goal
 

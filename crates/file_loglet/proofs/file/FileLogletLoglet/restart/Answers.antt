@@ -1,5 +1,5 @@
 use Rattle.std.proofs.Common.{ap, refl}
-use Rattle.majority_rule.specs.Servers.{Server}
+use Rattle.quorum_cell.specs.Servers.{Server}
 use Rattle.file_loglet.proofs.Wholes.{step_whole, alike_whole, brought_whole, whole_same, same_shown}
 use Rattle.file_loglet.proofs.Serving.{unmoved_served, restarted_served, restarted_shown, idle_shown, is_down}
 use Rattle.file_loglet.proofs.file.FileLogletLoglet.restart.Goals as goal

@@ -1,5 +1,5 @@
 use Rattle.std.proofs.Common.{subst}
-use Rattle.majority_rule.specs.declared.message.Ask.{Ask}
+use Rattle.quorum_cell.specs.declared.message.Ask.{Ask}
 use Rattle.file_loglet.specs.Held.{Writes}
 use Rattle.file_loglet.proofs.Writing.{store_asked, may_store}
 use Rattle.file_loglet.proofs.server.FileServer.store.Goals as goal

@@ -1,5 +1,5 @@
 use Rattle.std.proofs.Common.{subst, refl}
-use Rattle.majority_rule.specs.declared.message.Ask.{Ask}
+use Rattle.quorum_cell.specs.declared.message.Ask.{Ask}
 use Rattle.server_records.specs.declared.record.Record.TheVariants.{Trimmed}
 use Rattle.file_loglet.specs.Held.{Writes}
 use Rattle.file_loglet.proofs.Writing.{asked, may_trim}

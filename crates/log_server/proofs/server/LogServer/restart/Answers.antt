@@ -1,6 +1,6 @@
 use Rattle.std.proofs.Common.{◌≡◌, true, Option, Err, rules, arith, sym, ap, subst, ◌∙◌}
 use Rattle.disk_model.specs.Crash.{AnyCrash}
-use Rattle.majority_rule.specs.declared.message.Ask.{Ask}
+use Rattle.quorum_cell.specs.declared.message.Ask.{Ask}
 use Rattle.disk_model.specs.CrashLaws.{stays}
 use Rattle.journal_core.specs.Records.{records_of}
 use Rattle.log_server.specs.View.{View, MayFind, Survives}

@@ -1,5 +1,5 @@
 use Rattle.std.proofs.Common.{refl}
-use Rattle.majority_rule.specs.declared.message.Ask.TheVariants.{Seal}
+use Rattle.quorum_cell.specs.declared.message.Ask.TheVariants.{Seal}
 use Rattle.log_server.proofs.Keeping.{stays_during}
 use Rattle.log_server.proofs.server.LogServer.seal.Goals as goal
 

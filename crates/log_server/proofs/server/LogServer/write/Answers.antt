@@ -2,7 +2,7 @@ use Rattle.std.proofs.Common.{◌≡◌, ◌⊎◌, ◌≤◌, ◌^◌, List, []
 use Rattle.disk_model.specs.Crash.{AnyCrash}
 use Rattle.journal_core.specs.Records.{records_of}
 use Rattle.journal_core.specs.Journal as journal
-use Rattle.majority_rule.specs.Servers.{Server, length_of, writes, wrote}
+use Rattle.quorum_cell.specs.Servers.{Server, length_of, writes, wrote}
 use Rattle.log_server.specs.View.{View, Survives}
 use Rattle.log_server.specs.Answers.{MayFindDuring}
 use Rattle.log_server.specs.Holding.{server_with, view_of, IsKept}

@@ -1,5 +1,5 @@
 use Rattle.std.proofs.Common.{◌≤◌, ◌∙◌, ap, sym, subst}
-use Rattle.majority_rule.specs.Servers.{length_of}
+use Rattle.quorum_cell.specs.Servers.{length_of}
 use Rattle.log_server.specs.View.{View}
 use Rattle.native_loglet.specs.Telling.{length_told_by}
 use Rattle.native_loglet.proofs.Rules.{length_known}

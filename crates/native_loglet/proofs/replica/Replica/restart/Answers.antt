@@ -1,6 +1,6 @@
 use Rattle.std.proofs.Common.{◌≡◌, ◌∙◌, false, ap, sym, subst}
 use Rattle.std.specs.Prelude.{Ok}
-use Rattle.majority_rule.specs.Servers.{is_sealed}
+use Rattle.quorum_cell.specs.Servers.{is_sealed}
 use Rattle.log_server.specs.View.{View}
 use Rattle.loglet_api.specs.Servers.{RestartsTo}
 use Rattle.native_loglet.specs.Natives.{state_in}

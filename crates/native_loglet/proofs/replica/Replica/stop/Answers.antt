@@ -1,5 +1,5 @@
 use Rattle.std.proofs.Common.{◌∙◌, ap, sym, subst}
-use Rattle.majority_rule.specs.Servers.{is_sealed}
+use Rattle.quorum_cell.specs.Servers.{is_sealed}
 use Rattle.log_server.specs.View.{View}
 use Rattle.native_loglet.specs.Natives.{state_in}
 use Rattle.loglet_api.specs.Servers.{IsArmed}

@@ -1,5 +1,5 @@
 use Rattle.std.proofs.Common.{arith, ap}
-use Rattle.majority_rule.specs.Cells.{Cell}
+use Rattle.quorum_cell.specs.Cells.{Cell}
 use Rattle.world_steps.proofs.Bounds.{torn_fits}
 use Rattle.world_steps.proofs.cell.CellState.restart.Goals as goal
 

@@ -1,6 +1,6 @@
 use Rattle.std.proofs.Common.{◌≡◌}
 use Rattle.majority_rule.specs.Majority.{votes_below}
-use Rattle.majority_rule.specs.Tallies.{heard_from as heard_by}
+use Rattle.quorum_cell.specs.Tallies.{heard_from as heard_by}
 use Rattle.world_steps.specs.Says.{says as says_of}
 use Rattle.world_steps.proofs.tally.OperationState.majority_says.Given as goal
 

@@ -1,7 +1,7 @@
 use Rattle.std.proofs.Common.{sym, subst}
 use Rattle.std.specs.Prelude.{All}
-use Rattle.majority_rule.specs.Law.{IsLawful}
-use Rattle.majority_rule.proofs.Lawful.{start_lawful}
+use Rattle.quorum_cell.specs.Law.{IsLawful}
+use Rattle.quorum_cell.proofs.Lawful.{start_lawful}
 use Rattle.world_steps.proofs.Lawful.{added_lawful}
 use Rattle.world_steps.proofs.world.World.add_cell.Goals as goal
 

@@ -1,7 +1,0 @@
-use Rattle.majority_rule.specs.Cells.{start}
-use Rattle.majority_rule.specs.Steps.{run_cell}
-use Rattle.majority_rule.proofs.Seals.{cell_law_starts, cell_law_runs, shut_has_seal}
-use Rattle.majority_rule.proofs.laws.not_shut_without_a_seal.Goals as goal
-
-pub returns : goal.returns
-returns c = λ n room limit steps some. shut_has_seal (run_cell steps (start n room limit)) (cell_law_runs steps (start n room limit) (cell_law_starts n room limit some))

@@ -1,0 +1,8 @@
+use Rattle.quorum_cell.specs.Cells.{start}
+use Rattle.quorum_cell.specs.Steps.{run_cell}
+use Rattle.quorum_cell.proofs.Runs.{quorum_law as law}
+use Rattle.quorum_cell.proofs.Conclusions.{outcome_holds}
+use Rattle.quorum_cell.proofs.laws.outcomes_hold.Goals as goal
+
+pub returns : goal.returns
+returns c = λ n room limit steps some. outcome_holds (run_cell steps (start n room limit)) (law n room limit steps some)
