@@ -15,6 +15,7 @@ pub mod Holding
 pub mod Agreeing
 pub mod Sealing
 pub mod Saying
+pub mod Operating
 pub mod Sparing
 pub mod Stepping
 pub mod Calming

@@ -3,6 +3,7 @@ pub mod Causes
 pub mod Writing
 pub mod Sealing
 pub mod Saying
+pub mod Operating
 pub mod Tails
 pub mod Log
 pub mod Next

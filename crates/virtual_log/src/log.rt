@@ -1,5 +1,5 @@
 //! The virtual log.
-ghost use Rattle.std.specs.Prelude.{◌≡◌, ◌≤◌, ◌<◌, ◌+◌, ℕ, length, min, max, IfOk, OnOk, IfErr, OnErr};
+ghost use Rattle.std.specs.Prelude.{◌≡◌, ◌≤◌, ◌<◌, ◌+◌, ℕ, length, min, max, IfOk, OnOk, IfErr, OnErr, None};
 ghost use Rattle.delos_types.specs.Spelling.{IsSpellable};
 ghost use Rattle.chain_map.specs.Chain.{first_chain};
 ghost use Rattle.legal_journal.specs.Journal.{state_of, IsLegal, IsFree, tail_of, trim_of};
@@ -13,6 +13,7 @@ ghost use Rattle.virtual_log.specs.Log.{LogView, GoesBy};
 ghost use Rattle.virtual_log.specs.Extending.{IsExtension};
 ghost use Rattle.virtual_log.specs.Sealing.{SealsNone, SealsLast};
 ghost use Rattle.virtual_log.specs.Saying.{SaysOnly, words_of, is_among};
+ghost use Rattle.virtual_log.specs.Operating.{Operates, ClosesOwn};
 ghost use Rattle.virtual_log.specs.Truncating.{IsTruncated, IsPrefixTrimmed, Spares, TrimsLooked};
 
 use crate::calls::{Known, Next, append_on, read_from, tail_on};
@@ -165,6 +166,10 @@ impl<T: Turns, C: Chooser> VirtualLog<T, C> {
         // Each word with which it carried is one that the chooser may give, and those are the same after it.
         ensures words { SaysOnly (is_among self.old.words) self.old.who self.old.seen self.new.seen }
         ensures same { self.new.words ≡ self.old.words }
+
+        // Each own carry and closing is of an operation that this call began, one after another, and none of them is left
+        // open. Want of memory may leave the last one: a carry and a closing for which memory is wanting are no events.
+        ensures closes { ClosesOwn self.old.who self.old.seen result self.new.seen }
     {
         append_on(
             &mut self.turns,
@@ -201,6 +206,9 @@ impl<T: Turns, C: Chooser> VirtualLog<T, C> {
         ensures calm { OnOk result (CalmSince self.old.who self.old.seen self.new.seen) }
         ensures memory { IfErr result (λ fault. fault ≡ Memory → CalmSince self.old.who self.old.seen self.new.seen) }
         ensures unknown { OnErr result (self.new.known ≡ self.old.known) }
+
+        // Each own carry and closing is of an operation that this call began, and none is left open, as with `append`.
+        ensures closes { ClosesOwn self.old.who self.old.seen result self.new.seen }
     {
         tail_on(
             &mut self.turns,
@@ -237,6 +245,9 @@ impl<T: Turns, C: Chooser> VirtualLog<T, C> {
         ensures calm { OnOk result (CalmSince self.old.who self.old.seen self.new.seen) }
         ensures memory { IfErr result (λ fault. fault ≡ Memory → CalmSince self.old.who self.old.seen self.new.seen) }
         ensures unknown { OnErr result (self.new.known ≡ self.old.known) }
+
+        // Each own carry and closing is of an operation that this call began, and none is left open, as with `append`.
+        ensures closes { ClosesOwn self.old.who self.old.seen result self.new.seen }
     {
         extend_on(
             &mut self.turns,
@@ -273,6 +284,9 @@ impl<T: Turns, C: Chooser> VirtualLog<T, C> {
         ensures same { self.new.words ≡ self.old.words }
         ensures calm { OnOk result (CalmSince self.old.who self.old.seen self.new.seen) }
         ensures memory { IfErr result (λ fault. fault ≡ Memory → CalmSince self.old.who self.old.seen self.new.seen) }
+
+        // It leaves no operation open, and neither carries nor closes one that it did not begin.
+        ensures closes { Operates self.old.who None None self.old.seen self.new.seen }
     {
         truncate_on(&mut self.turns, self.alloc, &mut self.known, n)
     }
@@ -302,6 +316,9 @@ impl<T: Turns, C: Chooser> VirtualLog<T, C> {
         ensures same { self.new.words ≡ self.old.words }
         ensures calm { OnOk result (CalmSince self.old.who self.old.seen self.new.seen) }
         ensures memory { IfErr result (λ fault. fault ≡ Memory → CalmSince self.old.who self.old.seen self.new.seen) }
+
+        // Each own carry and closing is of an operation that this call began, and none is left open, as with `append`.
+        ensures closes { ClosesOwn self.old.who self.old.seen result self.new.seen }
     {
         prefix_trim_on(
             &mut self.turns,
@@ -338,6 +355,9 @@ impl<T: Turns, C: Chooser> VirtualLog<T, C> {
         ensures same { self.new.words ≡ self.old.words }
         ensures calm { OnOk result (CalmSince self.old.who self.old.seen self.new.seen) }
         ensures memory { IfErr result (λ fault. fault ≡ Memory → CalmSince self.old.who self.old.seen self.new.seen) }
+
+        // Each own carry and closing is of an operation that this call began, and none is left open, as with `append`.
+        ensures closes { ClosesOwn self.old.who self.old.seen result self.new.seen }
     {
         let end = most.min(self.known.tail);
         if end <= least {

@@ -10,6 +10,7 @@ ghost use Rattle.virtual_log.specs.Tails.{IsFound, IsSealedTail};
 ghost use Rattle.virtual_log.specs.Writing.{WroteNone};
 ghost use Rattle.virtual_log.specs.Sealing.{SealsNone, SealsAt};
 ghost use Rattle.virtual_log.specs.Saying.{SaysOnly};
+ghost use Rattle.virtual_log.specs.Operating.{ClosesOwn};
 
 use crate::fault::Fault;
 use crate::turn::{begin, carry_on};
@@ -46,6 +47,7 @@ pub fn append_to<T: Turns, C: Chooser>(
     ensures unsealed { SealsNone (T.who turns.old) (T.seen turns.old) (T.seen turns.new) }
     ensures calm { OnOk result (CalmSince (T.who turns.old) (T.seen turns.old) (T.seen turns.new)) }
     ensures memory { IfErr result (λ fault. fault ≡ Memory → CalmSince (T.who turns.old) (T.seen turns.old) (T.seen turns.new)) }
+    ensures closes { ClosesOwn (T.who turns.old) (T.seen turns.old) result (T.seen turns.new) }
 {
     let copy = entry.clone()?;
     let ticket = begin(turns, segment.id, Op::Append(copy))?;
@@ -90,6 +92,7 @@ pub fn find_tail<T: Turns, C: Chooser>(
     ensures err { IfErr result (λ fault. HasCause (T.who turns.old) (T.seen turns.old) fault (T.seen turns.new)) }
     ensures calm { OnOk result (CalmSince (T.who turns.old) (T.seen turns.old) (T.seen turns.new)) }
     ensures memory { IfErr result (λ fault. fault ≡ Memory → CalmSince (T.who turns.old) (T.seen turns.old) (T.seen turns.new)) }
+    ensures closes { ClosesOwn (T.who turns.old) (T.seen turns.old) result (T.seen turns.new) }
 {
     let ticket = begin(turns, segment.id, Op::Tail)?;
     match carry_on(turns, chooser, segment.id, ticket)? {
@@ -120,6 +123,7 @@ pub fn seal<T: Turns, C: Chooser>(turns: &mut T, chooser: &mut C, id: u32) -> Re
     ensures err { IfErr result (λ fault. HasCause (T.who turns.old) (T.seen turns.old) fault (T.seen turns.new)) }
     ensures calm { OnOk result (CalmSince (T.who turns.old) (T.seen turns.old) (T.seen turns.new)) }
     ensures memory { IfErr result (λ fault. fault ≡ Memory → CalmSince (T.who turns.old) (T.seen turns.old) (T.seen turns.new)) }
+    ensures closes { ClosesOwn (T.who turns.old) (T.seen turns.old) result (T.seen turns.new) }
 {
     let ticket = begin(turns, id, Op::Seal)?;
     match carry_on(turns, chooser, id, ticket)? {

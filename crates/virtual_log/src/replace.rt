@@ -9,6 +9,7 @@ ghost use Rattle.virtual_log.specs.Causes.{HasCause, CalmSince};
 ghost use Rattle.virtual_log.specs.declared.fault.Fault.TheVariants.{Memory};
 ghost use Rattle.virtual_log.specs.Sealing.{SealsNone};
 ghost use Rattle.virtual_log.specs.Saying.{SaysOnly};
+ghost use Rattle.virtual_log.specs.Operating.{ClosesOwn};
 
 use crate::calls::Known;
 use crate::fault::Fault;
@@ -54,6 +55,7 @@ fn finish<T: Turns, C: Chooser>(
     ensures unsealed { SealsNone (T.who turns.old) (T.seen turns.old) (T.seen turns.new) }
     ensures calm { OnOk result (CalmSince (T.who turns.old) (T.seen turns.old) (T.seen turns.new)) }
     ensures memory { IfErr result (λ fault. fault ≡ Memory → CalmSince (T.who turns.old) (T.seen turns.old) (T.seen turns.new)) }
+    ensures closes { ClosesOwn (T.who turns.old) (T.seen turns.old) result (T.seen turns.new) }
 {
     let last = last_of(&known.chain);
     let FoundTail::Sealed(length) = find_tail(turns, chooser, last)? else {
@@ -84,6 +86,7 @@ pub fn chain_behind<T: Turns, C: Chooser>(
     ensures unsealed { SealsNone (T.who turns.old) (T.seen turns.old) (T.seen turns.new) }
     ensures calm { OnOk result (CalmSince (T.who turns.old) (T.seen turns.old) (T.seen turns.new)) }
     ensures memory { IfErr result (λ fault. fault ≡ Memory → CalmSince (T.who turns.old) (T.seen turns.old) (T.seen turns.new)) }
+    ensures closes { ClosesOwn (T.who turns.old) (T.seen turns.old) result (T.seen turns.new) }
 {
     let (version, chain) = look(turns)?;
     if last_of(&chain).id > segment.id {

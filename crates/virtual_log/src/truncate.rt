@@ -1,5 +1,5 @@
 //! The trim of the chain is raised, and the loglets let go of what lies below it.
-ghost use Rattle.std.specs.Prelude.{◌≡◌, ◌<◌, ◌≤◌, ℕ, Some, slice_get, IfOk, OnOk, IfErr};
+ghost use Rattle.std.specs.Prelude.{◌≡◌, ◌<◌, ◌≤◌, ℕ, None, Some, slice_get, IfOk, OnOk, IfErr};
 ghost use Rattle.delos_types.specs.declared.chain.Segment.{Segment};
 ghost use Rattle.legal_journal.specs.Journal.{state_of, trim_of, IsLegal, IsFree};
 ghost use Rattle.virtual_log.specs.Turning.{Later, HasEvent};
@@ -9,6 +9,7 @@ ghost use Rattle.virtual_log.specs.Sealing.{SealsNone};
 ghost use Rattle.virtual_log.specs.Log.{GoesBy};
 ghost use Rattle.virtual_log.specs.Truncating.{IsTruncated, length_below, IsTrimOf, AreTrimmed, IsPrefixTrimmed, Spares, TrimsLooked};
 ghost use Rattle.virtual_log.specs.Saying.{SaysOnly, SaysNone};
+ghost use Rattle.virtual_log.specs.Operating.{Operates, ClosesOwn};
 
 use crate::calls::Known;
 use crate::fault::Fault;
@@ -45,6 +46,7 @@ pub fn truncate_on<T: Turns>(
     ensures unsealed { SealsNone (T.who turns.old) (T.seen turns.old) (T.seen turns.new) }
     ensures calm { OnOk result (CalmSince (T.who turns.old) (T.seen turns.old) (T.seen turns.new)) }
     ensures memory { IfErr result (λ fault. fault ≡ Memory → CalmSince (T.who turns.old) (T.seen turns.old) (T.seen turns.new)) }
+    ensures closes { Operates (T.who turns.old) None None (T.seen turns.old) (T.seen turns.new) }
 {
     let (version, chain) = look(turns)?;
     known.version = version;
@@ -85,6 +87,7 @@ fn trim_segment<T: Turns, C: Chooser>(
     ensures unsealed { SealsNone (T.who turns.old) (T.seen turns.old) (T.seen turns.new) }
     ensures calm { OnOk result (CalmSince (T.who turns.old) (T.seen turns.old) (T.seen turns.new)) }
     ensures memory { IfErr result (λ fault. fault ≡ Memory → CalmSince (T.who turns.old) (T.seen turns.old) (T.seen turns.new)) }
+    ensures closes { ClosesOwn (T.who turns.old) (T.seen turns.old) result (T.seen turns.new) }
 {
     if segment.start >= n {
         return Ok(());
@@ -118,6 +121,7 @@ fn trim_segments<T: Turns, C: Chooser>(
     ensures unsealed { SealsNone (T.who turns.old) (T.seen turns.old) (T.seen turns.new) }
     ensures calm { OnOk result (CalmSince (T.who turns.old) (T.seen turns.old) (T.seen turns.new)) }
     ensures memory { IfErr result (λ fault. fault ≡ Memory → CalmSince (T.who turns.old) (T.seen turns.old) (T.seen turns.new)) }
+    ensures closes { ClosesOwn (T.who turns.old) (T.seen turns.old) result (T.seen turns.new) }
 {
     'segment: for segment in segments {
         trim_segment(turns, chooser, *segment, n)?;
@@ -150,6 +154,7 @@ pub fn prefix_trim_on<T: Turns, C: Chooser>(
     ensures unsealed { SealsNone (T.who turns.old) (T.seen turns.old) (T.seen turns.new) }
     ensures calm { OnOk result (CalmSince (T.who turns.old) (T.seen turns.old) (T.seen turns.new)) }
     ensures memory { IfErr result (λ fault. fault ≡ Memory → CalmSince (T.who turns.old) (T.seen turns.old) (T.seen turns.new)) }
+    ensures closes { ClosesOwn (T.who turns.old) (T.seen turns.old) result (T.seen turns.new) }
 {
     let (version, chain) = look(turns)?;
     known.version = version;

@@ -1,5 +1,5 @@
 //! Single turns, and operations that are carried to their end.
-ghost use Rattle.std.specs.Prelude.{◌≡◌, ◌<◌, ℕ, false, length, IfOk, OnOk, IfErr, OnErr};
+ghost use Rattle.std.specs.Prelude.{◌≡◌, ◌<◌, ℕ, false, length, IfOk, OnOk, IfErr, OnErr, Option, None, Some};
 ghost use Rattle.legal_journal.specs.Told.{Running};
 ghost use Rattle.legal_journal.specs.Journal.{state_of, IsOwn, IsLegal};
 ghost use Rattle.legal_journal.specs.Turns.{MayTurn, HasRight, IsTurn};
@@ -11,6 +11,7 @@ ghost use Rattle.virtual_log.specs.declared.fault.Fault.TheVariants.{Memory};
 ghost use Rattle.virtual_log.specs.Writing.{WroteNone};
 ghost use Rattle.virtual_log.specs.Sealing.{SealsNone, SealsAt};
 ghost use Rattle.virtual_log.specs.Saying.{SaysOnly, SaysNone};
+ghost use Rattle.virtual_log.specs.Operating.{Operation, Operates};
 
 use crate::fault::Fault;
 use delos_types::chain::Chain;
@@ -33,6 +34,7 @@ pub fn look<T: Turns>(turns: &mut T) -> Result<(u64, Chain), Fault>
     ensures err { IfErr result (λ fault. HasCause (T.who turns.old) (T.seen turns.old) fault (T.seen turns.new)) }
     ensures calm { OnOk result (CalmSince (T.who turns.old) (T.seen turns.old) (T.seen turns.new)) }
     ensures memory { IfErr result (λ fault. fault ≡ Memory → CalmSince (T.who turns.old) (T.seen turns.old) (T.seen turns.new)) }
+    ensures closes { Operates (T.who turns.old) None None (T.seen turns.old) (T.seen turns.new) }
 {
     match turns.turn(FabricCall::ReadChain) {
         FabricAnswer::At(version, chain) => return Ok((version, chain)),
@@ -56,6 +58,8 @@ pub fn begin<T: Turns>(turns: &mut T, cell: u32, op: Op) -> Result<Ticket, Fault
     ensures err { IfErr result (λ fault. HasCause (T.who turns.old) (T.seen turns.old) fault (T.seen turns.new)) }
     ensures calm { OnOk result (CalmSince (T.who turns.old) (T.seen turns.old) (T.seen turns.new)) }
     ensures memory { IfErr result (λ fault. fault ≡ Memory → CalmSince (T.who turns.old) (T.seen turns.old) (T.seen turns.new)) }
+    ensures opens { IfOk result (λ t. Operates (T.who turns.old) None (Some (record { loglet = cell; ticket = t })) (T.seen turns.old) (T.seen turns.new)) }
+    ensures refused { OnErr result (Operates (T.who turns.old) None None (T.seen turns.old) (T.seen turns.new)) }
 {
     match turns.turn(FabricCall::Begin(cell, op)) {
         FabricAnswer::Begun(ticket) => return Ok(ticket),
@@ -105,6 +109,8 @@ pub fn carry_on<T: Turns, C: Chooser>(
     ensures same { C.may chooser.new ≡ C.may chooser.old }
     ensures calm { IfOk result (λ a. IsCalmAnswer a → CalmSince (T.who turns.old) (T.seen turns.old) (T.seen turns.new)) }
     ensures memory { OnErr result (CalmSince (T.who turns.old) (T.seen turns.old) (T.seen turns.new)) }
+    ensures closes { OnOk result (Operates (T.who turns.old) (Some (record { loglet = cell; ticket = ticket })) None (T.seen turns.old) (T.seen turns.new)) }
+    ensures left { OnErr result ((left : Option Operation) × Operates (T.who turns.old) (Some (record { loglet = cell; ticket = ticket })) left (T.seen turns.old) (T.seen turns.new)) }
 {
     loop {
         let word = chooser.word();

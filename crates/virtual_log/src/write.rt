@@ -1,6 +1,6 @@
 //! A change of the chain: it is written under the condition that the chain is the one that is known, and where another
 //! chain stands by then, over that one, until a chain stands that has the change.
-ghost use Rattle.std.specs.Prelude.{◌≡◌, IfOk, OnOk, IfErr, IsTrue, ◌↔◌};
+ghost use Rattle.std.specs.Prelude.{◌≡◌, IfOk, OnOk, IfErr, None, IsTrue, ◌↔◌};
 ghost use Rattle.chain_map.specs.Chain.{IsChain};
 ghost use Rattle.legal_journal.specs.Journal.{state_of, IsLegal};
 ghost use Rattle.legal_journal.specs.Turns.{MayTurn, IsTurn};
@@ -11,6 +11,7 @@ ghost use Rattle.virtual_log.specs.Changing.{with_change, Lacks, Has, Admits, Is
 ghost use Rattle.virtual_log.specs.Log.{GoesBy};
 ghost use Rattle.virtual_log.specs.Sealing.{SealsNone};
 ghost use Rattle.virtual_log.specs.Saying.{SaysNone};
+ghost use Rattle.virtual_log.specs.Operating.{Operates};
 
 use crate::calls::Known;
 use crate::fault::Fault;
@@ -84,6 +85,7 @@ fn write_over<T: Turns>(turns: &mut T, expected: u64, next: Chain) -> Result<Rep
     ensures err { IfErr result (λ fault. HasCause (T.who turns.old) (T.seen turns.old) fault (T.seen turns.new)) }
     ensures calm { OnOk result (CalmSince (T.who turns.old) (T.seen turns.old) (T.seen turns.new)) }
     ensures memory { IfErr result (λ fault. fault ≡ Memory → CalmSince (T.who turns.old) (T.seen turns.old) (T.seen turns.new)) }
+    ensures closes { Operates (T.who turns.old) None None (T.seen turns.old) (T.seen turns.new) }
 {
     match turns.turn(FabricCall::WriteChain(expected, next)) {
         FabricAnswer::Written(version) => return Ok(Reply::Written(version)),
@@ -118,6 +120,7 @@ pub(crate) fn write<T: Turns>(
     ensures err { IfErr result (λ fault. HasCause (T.who turns.old) (T.seen turns.old) fault (T.seen turns.new)) }
     ensures calm { OnOk result (CalmSince (T.who turns.old) (T.seen turns.old) (T.seen turns.new)) }
     ensures memory { IfErr result (λ fault. fault ≡ Memory → CalmSince (T.who turns.old) (T.seen turns.old) (T.seen turns.new)) }
+    ensures closes { Operates (T.who turns.old) None None (T.seen turns.old) (T.seen turns.new) }
 {
     'write: loop {
         let next = change.made(alloc, &known.chain)?;

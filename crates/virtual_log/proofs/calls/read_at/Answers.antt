@@ -19,6 +19,7 @@ use Rattle.virtual_log.proofs.Calming.{calm_then}
 use Rattle.virtual_log.proofs.Answering.{read_answers, never_beyond}
 use Rattle.std.proofs.lemmas.Result.{err_from_is_err_and}
 use Rattle.virtual_log.specs.Causes.{IsCalmAnswer, CalmSince}
+use Rattle.virtual_log.proofs.Operating.{operates_then, closes_none}
 use Rattle.virtual_log.proofs.calls.read_at.Goals as goal
 
 pub locate-requires : goal.locate-requires
@@ -253,3 +254,27 @@ unreachable-requires-in_default-2 g c =
     read_answers ((state_of x.moment).cells id).told r index c.in_ok-entry.field-0 x.may c.in_default-2.not-Got c.in_default-2.not-CutAt c.in_default-2.not-NoQuorum
     (λ n is. never_beyond p.may p.floor p.shelf who old mid new k.version k.tail c.args.pos id index c.in_ok-ticket.ticket n k.chain c.requires.legal c.requires.goes_by c.requires.tail place c.in_ok-ticket.ensures.later c.in_ok-entry.ensures.later o
     (subst (λ (a : Answer). Answered who mid id c.in_ok-ticket.ticket r a new) is x))
+
+pub returns-in_err-ticket-clause-closes : goal.returns-in_err-ticket-clause-closes
+returns-in_err-ticket-clause-closes g c = closes_none _ _ _ c.from_residual.result c.in_err-ticket.ensures.refused
+
+pub returns-in_err-entry-clause-closes : goal.returns-in_err-entry-clause-closes
+returns-in_err-entry-clause-closes g c =
+    let t = g.T.Turns in
+    let r = err_from_is_err_and c.from_residual-in_err-entry.result c.from_residual-in_err-entry.ensures.1 in
+    rw (r.1, r.2) (c.in_err-entry.ensures.left.0, operates_then (t.who c.args.turns.now) (t.who c.begin.new.turns) (t.seen c.args.turns.now) (t.seen c.begin.new.turns) (t.seen c.carry_on.new.turns) c.in_ok-ticket.ensures.who c.in_ok-ticket.ensures.opens c.in_err-entry.ensures.left.1)
+
+pub returns-in-Got-clause-closes : goal.returns-in-Got-clause-closes
+returns-in-Got-clause-closes g c =
+    let t = g.T.Turns in
+    operates_then (t.who c.args.turns.now) (t.who c.begin.new.turns) (t.seen c.args.turns.now) (t.seen c.begin.new.turns) (t.seen c.carry_on.new.turns) c.in_ok-ticket.ensures.who c.in_ok-ticket.ensures.opens c.in_ok-entry.ensures.closes
+
+pub returns-in-CutAt-clause-closes : goal.returns-in-CutAt-clause-closes
+returns-in-CutAt-clause-closes g c =
+    let t = g.T.Turns in
+    operates_then (t.who c.args.turns.now) (t.who c.begin.new.turns) (t.seen c.args.turns.now) (t.seen c.begin.new.turns) (t.seen c.carry_on.new.turns) c.in_ok-ticket.ensures.who c.in_ok-ticket.ensures.opens c.in_ok-entry.ensures.closes
+
+pub returns-in-NoQuorum-clause-closes : goal.returns-in-NoQuorum-clause-closes
+returns-in-NoQuorum-clause-closes g c =
+    let t = g.T.Turns in
+    operates_then (t.who c.args.turns.now) (t.who c.begin.new.turns) (t.seen c.args.turns.now) (t.seen c.begin.new.turns) (t.seen c.carry_on.new.turns) c.in_ok-ticket.ensures.who c.in_ok-ticket.ensures.opens c.in_ok-entry.ensures.closes

@@ -1,4 +1,4 @@
-use Rattle.std.proofs.Common.{◌≡◌, ◌∙◌, inr, ◌<◌, sym, ap, subst, ⊎_elim, IfNone, IfSome, arith, inl, refl}
+use Rattle.std.proofs.Common.{◌≡◌, ◌∙◌, inr, ◌<◌, sym, ap, subst, ⊎_elim, IfNone, IfSome, arith, inl, refl, None}
 use Rattle.std.proofs.lemmas.Result.{err_from_is_err_and}
 use Rattle.legal_journal.specs.Journal.{state_of, tail_of, trim_of}
 use Rattle.virtual_log.specs.Turning.{OnlyOwn}
@@ -11,6 +11,7 @@ use Rattle.virtual_log.proofs.Holding.{reads_found}
 use Rattle.virtual_log.proofs.Saying.{says_refl, says_then, says_on}
 use Rattle.virtual_log.proofs.Sealing.{seals_refl, seals_then}
 use Rattle.virtual_log.proofs.Calming.{calm_refl, calm_then}
+use Rattle.virtual_log.proofs.Operating.{operates_refl, operates_then, left_then, closes_none}
 use Rattle.virtual_log.proofs.calls.read_from.Goals as goal
 
 pub returns-in_err-entry-clause-goes_by : goal.returns-in_err-entry-clause-goes_by
@@ -146,6 +147,10 @@ trim-preserved g c =
           let who = t.who c.args.turns.now in
           let old = t.seen c.args.turns.now in
           calm_then who (t.who c.read_at.new.turns) old (t.seen c.read_at.new.turns) (t.seen c.look.new.turns) (c.in_ok-entry.ensures.who ∙ i.who) (calm_then who (t.who l.turns) old now (t.seen c.read_at.new.turns) i.who i.calm c.in_ok-entry.ensures.calm) c.in_ok-version.ensures.calm;
+      closes =
+          let who = t.who c.args.turns.now in
+          let old = t.seen c.args.turns.now in
+          operates_then who (t.who c.read_at.new.turns) old (t.seen c.read_at.new.turns) (t.seen c.look.new.turns) (c.in_ok-entry.ensures.who ∙ i.who) (operates_then who (t.who l.turns) old now (t.seen c.read_at.new.turns) i.who i.closes c.in_ok-entry.ensures.closes) c.in_ok-version.ensures.closes;
       same = c.in_ok-entry.ensures.same ∙ i.same;
     }
 
@@ -201,6 +206,7 @@ trim-init g c =
       words = says_refl (g.C.Chooser.may c.args.chooser.now) (t.who c.args.turns.now) old;
       unsealed = seals_refl (t.who c.args.turns.now) old;
       calm = calm_refl (t.who c.args.turns.now) old;
+      closes = operates_refl (t.who c.args.turns.now) None old;
       same = refl;
     }
 
@@ -265,3 +271,47 @@ returns-in_err-version-clause-memory g c =
     let now = t.seen l.turns in
     let r = err_from_is_err_and c.from_residual-in_err-version.result c.from_residual-in_err-version.ensures.1 in
     rw (r.1, r.2) (λ is. calm_then who (t.who c.read_at.new.turns) old (t.seen c.read_at.new.turns) (t.seen c.look.new.turns) (c.in_ok-entry.ensures.who ∙ i.who) (calm_then who (t.who l.turns) old now (t.seen c.read_at.new.turns) i.who i.calm c.in_ok-entry.ensures.calm) (c.in_err-version.ensures.memory is))
+
+pub returns-in_err-entry-clause-closes : goal.returns-in_err-entry-clause-closes
+returns-in_err-entry-clause-closes g c =
+    let t = g.T.Turns in
+    let who = t.who c.args.turns.now in
+    let old = t.seen c.args.turns.now in
+    let l = c.trim in
+    let i = l.invariant in
+    let now = t.seen l.turns in
+    let r = err_from_is_err_and c.from_residual.result c.from_residual.ensures.1 in
+    rw (r.1, r.2) (left_then who (t.who l.turns) old now (t.seen c.read_at.new.turns) c.in_err-entry.field-0.0 i.who i.closes c.in_err-entry.ensures.closes)
+
+pub returns-in-Some-clause-closes : goal.returns-in-Some-clause-closes
+returns-in-Some-clause-closes g c =
+    let t = g.T.Turns in
+    let who = t.who c.args.turns.now in
+    let old = t.seen c.args.turns.now in
+    let l = c.trim in
+    let i = l.invariant in
+    let now = t.seen l.turns in
+    operates_then who (t.who l.turns) old now (t.seen c.read_at.new.turns) i.who i.closes c.in_ok-entry.ensures.closes
+
+pub returns-in_err-version-clause-closes : goal.returns-in_err-version-clause-closes
+returns-in_err-version-clause-closes g c =
+    let t = g.T.Turns in
+    let who = t.who c.args.turns.now in
+    let old = t.seen c.args.turns.now in
+    let l = c.trim in
+    let i = l.invariant in
+    let now = t.seen l.turns in
+    closes_none _ _ _ c.from_residual-in_err-version.result (operates_then who (t.who c.read_at.new.turns) old (t.seen c.read_at.new.turns) (t.seen c.look.new.turns) (c.in_ok-entry.ensures.who ∙ i.who) (operates_then who (t.who l.turns) old now (t.seen c.read_at.new.turns) i.who i.closes c.in_ok-entry.ensures.closes) c.in_err-version.ensures.closes)
+
+pub returns-in_err-entry-clause-err : goal.returns-in_err-entry-clause-err
+returns-in_err-entry-clause-err g c =
+    let t = g.T.Turns in
+    let who = t.who c.args.turns.now in
+    let old = t.seen c.args.turns.now in
+    let l = c.trim in
+    let i = l.invariant in
+    let now = t.seen l.turns in
+    let new = t.seen c.read_at.new.turns in
+    let f = c.in_err-entry.field-0.0 in
+    let r = err_from_is_err_and c.from_residual.result c.from_residual.ensures.1 in
+    rw (r.1, r.2) (cause_since who f old now new i.later.more i.later.seen (subst (λ w. HasCause w now f new) i.who c.in_err-entry.ensures.err))

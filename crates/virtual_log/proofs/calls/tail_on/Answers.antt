@@ -1,4 +1,4 @@
-use Rattle.std.proofs.Common.{◌∙◌, sym, ap, subst, arith, refl}
+use Rattle.std.proofs.Common.{◌∙◌, sym, ap, subst, arith, refl, None}
 use Rattle.std.proofs.lemmas.Result.{err_from_is_err_and}
 use Rattle.delos_types.specs.declared.chain.Segment.{Segment}
 use Rattle.virtual_log.specs.Turning.{OnlyOwn, IsAbove, FirstTurn}
@@ -12,6 +12,7 @@ use Rattle.virtual_log.proofs.Holding.{above_known}
 use Rattle.virtual_log.proofs.Saying.{says_refl, says_on}
 use Rattle.virtual_log.proofs.Sealing.{seals_refl, seals_then}
 use Rattle.virtual_log.proofs.Calming.{calm_refl, calm_then}
+use Rattle.virtual_log.proofs.Operating.{operates_refl, operates_then, left_then}
 use Rattle.virtual_log.proofs.calls.tail_on.Goals as goal
 
 pub find_tail-requires-clause-started : goal.find_tail-requires-clause-started
@@ -203,6 +204,10 @@ segment-preserved g c =
           let who = t.who c.args.turns.now in
           let old = t.seen c.args.turns.now in
           calm_then who (t.who c.find_tail.new.turns) old (t.seen c.find_tail.new.turns) (t.seen c.chain_behind.new.turns) (c.in_ok-tail.ensures.who ∙ i.who) (calm_then who (t.who l.turns) old now (t.seen c.find_tail.new.turns) i.who i.calm c.in_ok-tail.ensures.calm) c.in_ok-version.ensures.calm;
+      closes =
+          let who = t.who c.args.turns.now in
+          let old = t.seen c.args.turns.now in
+          operates_then who (t.who c.find_tail.new.turns) old (t.seen c.find_tail.new.turns) (t.seen c.chain_behind.new.turns) (c.in_ok-tail.ensures.who ∙ i.who) (operates_then who (t.who l.turns) old now (t.seen c.find_tail.new.turns) i.who i.closes c.in_ok-tail.ensures.closes) c.in_ok-version.ensures.closes;
       same = from.same ∙ (c.in_ok-tail.ensures.same ∙ i.same);
     }
 
@@ -258,6 +263,7 @@ segment-init g c =
       words = says_refl (g.C.Chooser.may c.args.chooser.now) (t.who c.args.turns.now) old;
       unsealed = seals_refl (t.who c.args.turns.now) old;
       calm = calm_refl (t.who c.args.turns.now) old;
+      closes = operates_refl (t.who c.args.turns.now) None old;
       same = refl;
     }
 
@@ -322,3 +328,48 @@ returns-in_err-version-clause-memory g c =
     let now = t.seen l.turns in
     let r = err_from_is_err_and c.from_residual-in_err-version.result c.from_residual-in_err-version.ensures.1 in
     rw (r.1, r.2) (λ is. calm_then who (t.who c.find_tail.new.turns) old (t.seen c.find_tail.new.turns) (t.seen c.chain_behind.new.turns) (c.in_ok-tail.ensures.who ∙ i.who) (calm_then who (t.who l.turns) old now (t.seen c.find_tail.new.turns) i.who i.calm c.in_ok-tail.ensures.calm) (c.in_err-version.ensures.memory is))
+
+pub returns-in_err-tail-clause-closes : goal.returns-in_err-tail-clause-closes
+returns-in_err-tail-clause-closes g c =
+    let t = g.T.Turns in
+    let who = t.who c.args.turns.now in
+    let old = t.seen c.args.turns.now in
+    let l = c.segment in
+    let i = l.invariant in
+    let now = t.seen l.turns in
+    let r = err_from_is_err_and c.from_residual.result c.from_residual.ensures.1 in
+    rw (r.1, r.2) (left_then who (t.who l.turns) old now (t.seen c.find_tail.new.turns) c.in_err-tail.field-0.0 i.who i.closes c.in_err-tail.ensures.closes)
+
+pub returns-in-Open-clause-closes : goal.returns-in-Open-clause-closes
+returns-in-Open-clause-closes g c =
+    let t = g.T.Turns in
+    let who = t.who c.args.turns.now in
+    let old = t.seen c.args.turns.now in
+    let l = c.segment in
+    let i = l.invariant in
+    let now = t.seen l.turns in
+    operates_then who (t.who l.turns) old now (t.seen c.find_tail.new.turns) i.who i.closes c.in_ok-tail.ensures.closes
+
+pub returns-in_err-version-clause-closes : goal.returns-in_err-version-clause-closes
+returns-in_err-version-clause-closes g c =
+    let t = g.T.Turns in
+    let who = t.who c.args.turns.now in
+    let old = t.seen c.args.turns.now in
+    let l = c.segment in
+    let i = l.invariant in
+    let now = t.seen l.turns in
+    let r = err_from_is_err_and c.from_residual-in_err-version.result c.from_residual-in_err-version.ensures.1 in
+    rw (r.1, r.2) (left_then who (t.who c.find_tail.new.turns) old (t.seen c.find_tail.new.turns) (t.seen c.chain_behind.new.turns) c.in_err-version.field-0.0 (c.in_ok-tail.ensures.who ∙ i.who) (operates_then who (t.who l.turns) old now (t.seen c.find_tail.new.turns) i.who i.closes c.in_ok-tail.ensures.closes) c.in_err-version.ensures.closes)
+
+pub returns-in_err-tail-clause-err : goal.returns-in_err-tail-clause-err
+returns-in_err-tail-clause-err g c =
+    let t = g.T.Turns in
+    let who = t.who c.args.turns.now in
+    let old = t.seen c.args.turns.now in
+    let l = c.segment in
+    let i = l.invariant in
+    let now = t.seen l.turns in
+    let new = t.seen c.find_tail.new.turns in
+    let f = c.in_err-tail.field-0.0 in
+    let r = err_from_is_err_and c.from_residual.result c.from_residual.ensures.1 in
+    rw (r.1, r.2) (cause_since who f old now new i.later.more i.later.seen (subst (λ w. HasCause w now f new) i.who c.in_err-tail.ensures.err))

@@ -1,4 +1,4 @@
-use Rattle.std.proofs.Common.{◌≡◌, ◌-◌, ℕ, List, length}
+use Rattle.std.proofs.Common.{◌≡◌, ◌-◌, ℕ, List, length, None}
 use Rattle.chain_map.specs.Chain.{last_segment}
 use Rattle.legal_journal.specs.declared.events.Event.{Event}
 use Rattle.legal_journal.specs.Journal.{state_of}
@@ -7,6 +7,7 @@ use Rattle.virtual_log.specs.Log.{GoesBy}
 use Rattle.virtual_log.specs.Saying.{SaysOnly}
 use Rattle.virtual_log.specs.Sealing.{SealsNone}
 use Rattle.virtual_log.specs.Causes.{CalmSince}
+use Rattle.virtual_log.specs.Operating.{Operates}
 use Rattle.virtual_log.proofs.calls.tail_on.Given as goal
 
 abbrev pub invariant-segment : goal.invariant-segment
@@ -23,6 +24,7 @@ invariant-segment g l =
       words : SaysOnly (may l.fn.chooser) (t.who l.fn.turns) (t.seen l.fn.turns) (t.seen l.turns);
       unsealed : SealsNone (t.who l.fn.turns) (t.seen l.fn.turns) (t.seen l.turns);
       calm : CalmSince (t.who l.fn.turns) (t.seen l.fn.turns) (t.seen l.turns);
+      closes : Operates (t.who l.fn.turns) None None (t.seen l.fn.turns) (t.seen l.turns);
       same : may l.chooser ≡ may l.fn.chooser;
     }
 

@@ -11,6 +11,7 @@ use Rattle.virtual_log.proofs.Sealing.{seals_as, only_none, at_then, at_same, af
 use Rattle.virtual_log.proofs.Closing.{closed_since, follows_closed}
 use Rattle.virtual_log.proofs.Saying.{says_then, says_on}
 use Rattle.virtual_log.proofs.Calming.{calm_then}
+use Rattle.virtual_log.proofs.Operating.{operates_then, left_then, closes_none}
 use Rattle.virtual_log.proofs.extend.extend_on.Goals as goal
 
 pub returns-in_err-version-clause-goes_by : goal.returns-in_err-version-clause-goes_by
@@ -511,3 +512,62 @@ returns-clause-calm g c =
     let third = c.in_ok-length.ensures in
     let to_d = calm_then who (t.who c.seal.new.turns) old b d (second.who ∙ first.who) to_b third.calm in
     calm_then who (t.who c.find_tail.new.turns) old d (t.seen c.close_at.new.turns) (third.who ∙ (second.who ∙ first.who)) to_d c.in_ok-closed.ensures.calm
+
+pub returns-in_err-version-clause-closes : goal.returns-in_err-version-clause-closes
+returns-in_err-version-clause-closes g c = closes_none _ _ _ c.from_residual.result c.in_err-version.ensures.closes
+
+pub returns-then-last-shelf_len-clause-closes : goal.returns-then-last-shelf_len-clause-closes
+returns-then-last-shelf_len-clause-closes g c = c.in_ok-version.ensures.closes
+
+pub returns-in_err-seal-clause-closes : goal.returns-in_err-seal-clause-closes
+returns-in_err-seal-clause-closes g c =
+    let t = g.T.Turns in
+    let who = t.who c.args.turns.now in
+    let old = t.seen c.args.turns.now in
+    let a = t.seen c.look.new.turns in
+    let first = c.in_ok-version.ensures in
+    let r = err_from_is_err_and c.from_residual-in_err-seal.result c.from_residual-in_err-seal.ensures.1 in
+    rw (r.1, r.2) (left_then who (t.who c.look.new.turns) old a (t.seen c.seal.new.turns) c.in_err-seal.field-0.0 first.who first.closes c.in_err-seal.ensures.closes)
+
+pub returns-in_err-length-clause-closes : goal.returns-in_err-length-clause-closes
+returns-in_err-length-clause-closes g c =
+    let t = g.T.Turns in
+    let who = t.who c.args.turns.now in
+    let old = t.seen c.args.turns.now in
+    let a = t.seen c.look.new.turns in
+    let first = c.in_ok-version.ensures in
+    let b = t.seen c.seal.new.turns in
+    let second = c.in_ok-seal.ensures in
+    let to_b = operates_then who (t.who c.look.new.turns) old a b first.who first.closes second.closes in
+    let r = err_from_is_err_and c.from_residual-in_err-length.result c.from_residual-in_err-length.ensures.1 in
+    rw (r.1, r.2) (left_then who (t.who c.seal.new.turns) old b (t.seen c.find_tail.new.turns) c.in_err-length.field-0.0 (second.who ∙ first.who) to_b c.in_err-length.ensures.closes)
+
+pub returns-in_err-closed-clause-closes : goal.returns-in_err-closed-clause-closes
+returns-in_err-closed-clause-closes g c =
+    let t = g.T.Turns in
+    let who = t.who c.args.turns.now in
+    let old = t.seen c.args.turns.now in
+    let a = t.seen c.look.new.turns in
+    let first = c.in_ok-version.ensures in
+    let b = t.seen c.seal.new.turns in
+    let second = c.in_ok-seal.ensures in
+    let to_b = operates_then who (t.who c.look.new.turns) old a b first.who first.closes second.closes in
+    let d = t.seen c.find_tail.new.turns in
+    let third = c.in_ok-length.ensures in
+    let to_d = operates_then who (t.who c.seal.new.turns) old b d (second.who ∙ first.who) to_b third.closes in
+    closes_none _ _ _ c.from_residual-in_err-closed.result (operates_then who (t.who c.find_tail.new.turns) old d (t.seen c.close_at.new.turns) (third.who ∙ (second.who ∙ first.who)) to_d c.in_err-closed.ensures.closes)
+
+pub returns-clause-closes : goal.returns-clause-closes
+returns-clause-closes g c =
+    let t = g.T.Turns in
+    let who = t.who c.args.turns.now in
+    let old = t.seen c.args.turns.now in
+    let a = t.seen c.look.new.turns in
+    let first = c.in_ok-version.ensures in
+    let b = t.seen c.seal.new.turns in
+    let second = c.in_ok-seal.ensures in
+    let to_b = operates_then who (t.who c.look.new.turns) old a b first.who first.closes second.closes in
+    let d = t.seen c.find_tail.new.turns in
+    let third = c.in_ok-length.ensures in
+    let to_d = operates_then who (t.who c.seal.new.turns) old b d (second.who ∙ first.who) to_b third.closes in
+    operates_then who (t.who c.find_tail.new.turns) old d (t.seen c.close_at.new.turns) (third.who ∙ (second.who ∙ first.who)) to_d c.in_ok-closed.ensures.closes

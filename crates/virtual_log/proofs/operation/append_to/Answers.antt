@@ -17,6 +17,7 @@ use Rattle.virtual_log.proofs.Calming.{calm_refl, calm_then}
 use Rattle.virtual_log.proofs.Answering.{append_answers}
 use Rattle.std.proofs.lemmas.Result.{err_from_is_err_and}
 use Rattle.virtual_log.specs.Causes.{IsCalmAnswer, CalmSince}
+use Rattle.virtual_log.proofs.Operating.{operates_refl, operates_then, closes_none}
 use Rattle.virtual_log.proofs.operation.append_to.Goals as goal
 
 pub begin-requires-clause-may : goal.begin-requires-clause-may
@@ -229,3 +230,30 @@ unreachable-requires g c =
     let r = started ((state_of (t.seen c.args.turns.now ++ o.first.others)).cells c.args.segment.id).told (Append c.in_ok-copy.copy) in
     let x = c.in_ok-place.ensures.ok r (own_by _ _ _ _ _ c.in_ok-ticket.ensures.who o.own) in
     append_answers ((state_of x.moment).cells c.args.segment.id).told r c.in_ok-copy.copy c.in_ok-place.field-0 x.may c.in_default.not-Placed c.in_default.not-Sealed c.in_default.not-NoQuorum
+
+pub returns-in_err-copy-clause-closes : goal.returns-in_err-copy-clause-closes
+returns-in_err-copy-clause-closes g c = closes_none _ _ _ c.from_residual.result (operates_refl _ _ _)
+
+pub returns-in_err-ticket-clause-closes : goal.returns-in_err-ticket-clause-closes
+returns-in_err-ticket-clause-closes g c = closes_none _ _ _ c.from_residual-in_err-ticket.result c.in_err-ticket.ensures.refused
+
+pub returns-in_err-place-clause-closes : goal.returns-in_err-place-clause-closes
+returns-in_err-place-clause-closes g c =
+    let t = g.T.Turns in
+    let r = err_from_is_err_and c.from_residual-in_err-place.result c.from_residual-in_err-place.ensures.1 in
+    rw (r.1, r.2) (c.in_err-place.ensures.left.0, operates_then (t.who c.args.turns.now) (t.who c.begin.new.turns) (t.seen c.args.turns.now) (t.seen c.begin.new.turns) (t.seen c.carry_on.new.turns) c.in_ok-ticket.ensures.who c.in_ok-ticket.ensures.opens c.in_err-place.ensures.left.1)
+
+pub returns-in-Placed-clause-closes : goal.returns-in-Placed-clause-closes
+returns-in-Placed-clause-closes g c =
+    let t = g.T.Turns in
+    operates_then (t.who c.args.turns.now) (t.who c.begin.new.turns) (t.seen c.args.turns.now) (t.seen c.begin.new.turns) (t.seen c.carry_on.new.turns) c.in_ok-ticket.ensures.who c.in_ok-ticket.ensures.opens c.in_ok-place.ensures.closes
+
+pub returns-in-Sealed-clause-closes : goal.returns-in-Sealed-clause-closes
+returns-in-Sealed-clause-closes g c =
+    let t = g.T.Turns in
+    operates_then (t.who c.args.turns.now) (t.who c.begin.new.turns) (t.seen c.args.turns.now) (t.seen c.begin.new.turns) (t.seen c.carry_on.new.turns) c.in_ok-ticket.ensures.who c.in_ok-ticket.ensures.opens c.in_ok-place.ensures.closes
+
+pub returns-in-NoQuorum-clause-closes : goal.returns-in-NoQuorum-clause-closes
+returns-in-NoQuorum-clause-closes g c =
+    let t = g.T.Turns in
+    operates_then (t.who c.args.turns.now) (t.who c.begin.new.turns) (t.seen c.args.turns.now) (t.seen c.begin.new.turns) (t.seen c.carry_on.new.turns) c.in_ok-ticket.ensures.who c.in_ok-ticket.ensures.opens c.in_ok-place.ensures.closes

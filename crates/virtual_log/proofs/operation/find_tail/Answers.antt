@@ -14,6 +14,7 @@ use Rattle.virtual_log.proofs.Calming.{calm_then}
 use Rattle.virtual_log.proofs.Answering.{tail_answers}
 use Rattle.std.proofs.lemmas.Result.{err_from_is_err_and}
 use Rattle.virtual_log.specs.Causes.{IsCalmAnswer, CalmSince}
+use Rattle.virtual_log.proofs.Operating.{operates_then, closes_none}
 use Rattle.virtual_log.proofs.operation.find_tail.Goals as goal
 
 pub begin-requires-clause-may : goal.begin-requires-clause-may
@@ -190,3 +191,27 @@ unreachable-requires g c =
     let r = started ((state_of (t.seen c.args.turns.now ++ o.first.others)).cells c.args.segment.id).told Tail in
     let x = c.in_ok-length.ensures.ok r (own_by _ _ _ _ _ c.in_ok-ticket.ensures.who o.own) in
     tail_answers ((state_of x.moment).cells c.args.segment.id).told r c.in_ok-length.field-0 x.may c.in_default.not-OpenTail c.in_default.not-SealedTail c.in_default.not-NoQuorum
+
+pub returns-in-OpenTail-clause-closes : goal.returns-in-OpenTail-clause-closes
+returns-in-OpenTail-clause-closes g c =
+    let t = g.T.Turns in
+    operates_then (t.who c.args.turns.now) (t.who c.begin.new.turns) (t.seen c.args.turns.now) (t.seen c.begin.new.turns) (t.seen c.carry_on.new.turns) c.in_ok-ticket.ensures.who c.in_ok-ticket.ensures.opens c.in_ok-length.ensures.closes
+
+pub returns-in-SealedTail-clause-closes : goal.returns-in-SealedTail-clause-closes
+returns-in-SealedTail-clause-closes g c =
+    let t = g.T.Turns in
+    operates_then (t.who c.args.turns.now) (t.who c.begin.new.turns) (t.seen c.args.turns.now) (t.seen c.begin.new.turns) (t.seen c.carry_on.new.turns) c.in_ok-ticket.ensures.who c.in_ok-ticket.ensures.opens c.in_ok-length.ensures.closes
+
+pub returns-in-NoQuorum-clause-closes : goal.returns-in-NoQuorum-clause-closes
+returns-in-NoQuorum-clause-closes g c =
+    let t = g.T.Turns in
+    operates_then (t.who c.args.turns.now) (t.who c.begin.new.turns) (t.seen c.args.turns.now) (t.seen c.begin.new.turns) (t.seen c.carry_on.new.turns) c.in_ok-ticket.ensures.who c.in_ok-ticket.ensures.opens c.in_ok-length.ensures.closes
+
+pub returns-in_err-ticket-clause-closes : goal.returns-in_err-ticket-clause-closes
+returns-in_err-ticket-clause-closes g c = closes_none _ _ _ c.from_residual.result c.in_err-ticket.ensures.refused
+
+pub returns-in_err-length-clause-closes : goal.returns-in_err-length-clause-closes
+returns-in_err-length-clause-closes g c =
+    let t = g.T.Turns in
+    let r = err_from_is_err_and c.from_residual-in_err-length.result c.from_residual-in_err-length.ensures.1 in
+    rw (r.1, r.2) (c.in_err-length.ensures.left.0, operates_then (t.who c.args.turns.now) (t.who c.begin.new.turns) (t.seen c.args.turns.now) (t.seen c.begin.new.turns) (t.seen c.carry_on.new.turns) c.in_ok-ticket.ensures.who c.in_ok-ticket.ensures.opens c.in_err-length.ensures.left.1)

@@ -10,6 +10,7 @@ use Rattle.virtual_log.proofs.Replacing.{given_now, later_last}
 use Rattle.virtual_log.proofs.Saying.{says_then}
 use Rattle.virtual_log.proofs.Sealing.{seals_then}
 use Rattle.virtual_log.proofs.Calming.{calm_then}
+use Rattle.virtual_log.proofs.Operating.{operates_then, left_then, closes_none}
 use Rattle.virtual_log.proofs.replace.chain_behind.Goals as goal
 
 pub returns-then-last_of-segment-clause-given : goal.returns-then-last_of-segment-clause-given
@@ -199,3 +200,43 @@ returns-clause-calm g c =
     let second = c.in_ok-finish.ensures in
     let to_b = calm_then who (t.who c.look.new.turns) old a b first.who first.calm second.calm in
     calm_then who (t.who c.finish.new.turns) old b (t.seen c.look-2.new.turns) (second.who ∙ first.who) to_b c.in_ok-newer.ensures.calm
+
+pub returns-in_err-version-clause-closes : goal.returns-in_err-version-clause-closes
+returns-in_err-version-clause-closes g c = closes_none _ _ _ c.from_residual.result c.in_err-version.ensures.closes
+
+pub returns-then-last_of-segment-clause-closes : goal.returns-then-last_of-segment-clause-closes
+returns-then-last_of-segment-clause-closes g c = c.in_ok-version.ensures.closes
+
+pub returns-in_err-finish-clause-closes : goal.returns-in_err-finish-clause-closes
+returns-in_err-finish-clause-closes g c =
+    let t = g.T.Turns in
+    let who = t.who c.args.turns.now in
+    let old = t.seen c.args.turns.now in
+    let a = t.seen c.look.new.turns in
+    let first = c.in_ok-version.ensures in
+    let r = err_from_is_err_and c.from_residual-in_err-finish.result c.from_residual-in_err-finish.ensures.1 in
+    rw (r.1, r.2) (left_then who (t.who c.look.new.turns) old a (t.seen c.finish.new.turns) c.in_err-finish.field-0.0 first.who first.closes c.in_err-finish.ensures.closes)
+
+pub returns-in_err-newer-clause-closes : goal.returns-in_err-newer-clause-closes
+returns-in_err-newer-clause-closes g c =
+    let t = g.T.Turns in
+    let who = t.who c.args.turns.now in
+    let old = t.seen c.args.turns.now in
+    let a = t.seen c.look.new.turns in
+    let first = c.in_ok-version.ensures in
+    let b = t.seen c.finish.new.turns in
+    let second = c.in_ok-finish.ensures in
+    let to_b = operates_then who (t.who c.look.new.turns) old a b first.who first.closes second.closes in
+    closes_none _ _ _ c.from_residual-in_err-newer.result (operates_then who (t.who c.finish.new.turns) old b (t.seen c.look-2.new.turns) (second.who ∙ first.who) to_b c.in_err-newer.ensures.closes)
+
+pub returns-clause-closes : goal.returns-clause-closes
+returns-clause-closes g c =
+    let t = g.T.Turns in
+    let who = t.who c.args.turns.now in
+    let old = t.seen c.args.turns.now in
+    let a = t.seen c.look.new.turns in
+    let first = c.in_ok-version.ensures in
+    let b = t.seen c.finish.new.turns in
+    let second = c.in_ok-finish.ensures in
+    let to_b = operates_then who (t.who c.look.new.turns) old a b first.who first.closes second.closes in
+    operates_then who (t.who c.finish.new.turns) old b (t.seen c.look-2.new.turns) (second.who ∙ first.who) to_b c.in_ok-newer.ensures.closes

@@ -10,6 +10,7 @@ use Rattle.virtual_log.proofs.Going.{goes_later}
 use Rattle.virtual_log.proofs.Saying.{says_then}
 use Rattle.virtual_log.proofs.Sealing.{seals_then}
 use Rattle.virtual_log.proofs.Calming.{calm_then}
+use Rattle.virtual_log.proofs.Operating.{operates_then, closes_none}
 use Rattle.virtual_log.proofs.replace.finish.Goals as goal
 
 pub find_tail-requires-clause-started : goal.find_tail-requires-clause-started
@@ -113,3 +114,25 @@ returns-clause-calm g c =
     let new = t.seen c.write.new.turns in
     let first = c.in_ok-length.ensures in
     calm_then who user old mid new first.who first.calm c.in_ok-write.ensures.calm
+
+pub returns-in_err-write-clause-closes : goal.returns-in_err-write-clause-closes
+returns-in_err-write-clause-closes g c =
+    let t = g.T.Turns in
+    let who = t.who c.args.turns.now in
+    let old = t.seen c.args.turns.now in
+    let mid = t.seen c.find_tail.new.turns in
+    let user = t.who c.find_tail.new.turns in
+    let new = t.seen c.write.new.turns in
+    let first = c.in_ok-length.ensures in
+    closes_none _ _ _ c.from_residual-in_err-write.result (operates_then who user old mid new first.who first.closes c.in_err-write.ensures.closes)
+
+pub returns-clause-closes : goal.returns-clause-closes
+returns-clause-closes g c =
+    let t = g.T.Turns in
+    let who = t.who c.args.turns.now in
+    let old = t.seen c.args.turns.now in
+    let mid = t.seen c.find_tail.new.turns in
+    let user = t.who c.find_tail.new.turns in
+    let new = t.seen c.write.new.turns in
+    let first = c.in_ok-length.ensures in
+    operates_then who user old mid new first.who first.closes c.in_ok-write.ensures.closes

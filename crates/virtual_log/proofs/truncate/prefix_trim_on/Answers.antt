@@ -12,6 +12,7 @@ use Rattle.virtual_log.proofs.Trimming.{segments_started, trimmed_since}
 use Rattle.virtual_log.proofs.Saying.{says_then}
 use Rattle.virtual_log.proofs.Sealing.{seals_then}
 use Rattle.virtual_log.proofs.Calming.{calm_then}
+use Rattle.virtual_log.proofs.Operating.{operates_then, left_then, closes_none}
 use Rattle.virtual_log.proofs.truncate.prefix_trim_on.Goals as goal
 
 pub returns-in_err-version-clause-goes_by : goal.returns-in_err-version-clause-goes_by
@@ -355,3 +356,43 @@ returns-clause-looked g c =
       looks = looks_later who chain old a e to_e.more to_e.seen (looks_now who v chain old a first.ok);
       trimmed = subst (λ (l : List Segment). AreTrimmed who a l c.args.n e) same (trimmed_since who a b e c.as_slice.result.now c.args.n second.later.more second.later.seen (subst (λ w. AreTrimmed w b c.as_slice.result.now c.args.n e) (second.who ∙ first.who) third.trimmed));
     }
+
+pub returns-in_err-version-clause-closes : goal.returns-in_err-version-clause-closes
+returns-in_err-version-clause-closes g c = closes_none _ _ _ c.from_residual.result c.in_err-version.ensures.closes
+
+pub returns-in_err-looked-clause-closes : goal.returns-in_err-looked-clause-closes
+returns-in_err-looked-clause-closes g c = closes_none _ _ _ c.from_residual-in_err-looked.result c.in_ok-version.ensures.closes
+
+pub returns-in_err-trim-clause-closes : goal.returns-in_err-trim-clause-closes
+returns-in_err-trim-clause-closes g c =
+    let t = g.T.Turns in
+    let who = t.who c.args.turns.now in
+    let old = t.seen c.args.turns.now in
+    let a = t.seen c.look.new.turns in
+    let first = c.in_ok-version.ensures in
+    closes_none _ _ _ c.from_residual-in_err-trim.result (operates_then who (t.who c.look.new.turns) old a (t.seen c.truncate_on.new.turns) first.who first.closes c.in_err-trim.ensures.closes)
+
+pub returns-in_err-trim_segments-clause-closes : goal.returns-in_err-trim_segments-clause-closes
+returns-in_err-trim_segments-clause-closes g c =
+    let t = g.T.Turns in
+    let who = t.who c.args.turns.now in
+    let old = t.seen c.args.turns.now in
+    let a = t.seen c.look.new.turns in
+    let first = c.in_ok-version.ensures in
+    let b = t.seen c.truncate_on.new.turns in
+    let second = c.in_ok-trim.ensures in
+    let to_b = operates_then who (t.who c.look.new.turns) old a b first.who first.closes second.closes in
+    let r = err_from_is_err_and c.from_residual-in_err-trim_segments.result c.from_residual-in_err-trim_segments.ensures.1 in
+    rw (r.1, r.2) (left_then who (t.who c.truncate_on.new.turns) old b (t.seen c.trim_segments.new.turns) c.in_err-trim_segments.field-0.0 (second.who ∙ first.who) to_b c.in_err-trim_segments.ensures.closes)
+
+pub returns-clause-closes : goal.returns-clause-closes
+returns-clause-closes g c =
+    let t = g.T.Turns in
+    let who = t.who c.args.turns.now in
+    let old = t.seen c.args.turns.now in
+    let a = t.seen c.look.new.turns in
+    let first = c.in_ok-version.ensures in
+    let b = t.seen c.truncate_on.new.turns in
+    let second = c.in_ok-trim.ensures in
+    let to_b = operates_then who (t.who c.look.new.turns) old a b first.who first.closes second.closes in
+    operates_then who (t.who c.truncate_on.new.turns) old b (t.seen c.trim_segments.new.turns) (second.who ∙ first.who) to_b c.in_ok-trim_segments.ensures.closes

@@ -15,6 +15,7 @@ use Rattle.virtual_log.proofs.Calming.{calm_refl, calm_then}
 use Rattle.virtual_log.proofs.Answering.{trim_answers}
 use Rattle.std.proofs.lemmas.Result.{err_from_is_err_and}
 use Rattle.virtual_log.specs.Causes.{IsCalmAnswer, CalmSince}
+use Rattle.virtual_log.proofs.Operating.{operates_refl, operates_then, closes_none}
 use Rattle.virtual_log.proofs.truncate.trim_segment.Goals as goal
 
 pub begin-requires-clause-may : goal.begin-requires-clause-may
@@ -127,3 +128,25 @@ unreachable-requires g c =
     let r = started ((state_of (t.seen c.args.turns.now ++ o.first.others)).cells c.args.segment.id).told (Trim c.length_below-length.result) in
     let x = c.in_ok-carry_on.ensures.ok r (own_by _ _ _ _ _ c.in_ok-ticket.ensures.who o.own) in
     trim_answers ((state_of x.moment).cells c.args.segment.id).told r c.length_below-length.result c.in_ok-carry_on.field-0 x.may c.in_default.not-TrimDone c.in_default.not-NoQuorum
+
+pub returns-then-segment-n-clause-closes : goal.returns-then-segment-n-clause-closes
+returns-then-segment-n-clause-closes g c = operates_refl _ _ _
+
+pub returns-in_err-ticket-clause-closes : goal.returns-in_err-ticket-clause-closes
+returns-in_err-ticket-clause-closes g c = closes_none _ _ _ c.from_residual.result c.in_err-ticket.ensures.refused
+
+pub returns-in_err-carry_on-clause-closes : goal.returns-in_err-carry_on-clause-closes
+returns-in_err-carry_on-clause-closes g c =
+    let t = g.T.Turns in
+    let r = err_from_is_err_and c.from_residual-in_err-carry_on.result c.from_residual-in_err-carry_on.ensures.1 in
+    rw (r.1, r.2) (c.in_err-carry_on.ensures.left.0, operates_then (t.who c.args.turns.now) (t.who c.begin.new.turns) (t.seen c.args.turns.now) (t.seen c.begin.new.turns) (t.seen c.carry_on.new.turns) c.in_ok-ticket.ensures.who c.in_ok-ticket.ensures.opens c.in_err-carry_on.ensures.left.1)
+
+pub returns-in-TrimDone-clause-closes : goal.returns-in-TrimDone-clause-closes
+returns-in-TrimDone-clause-closes g c =
+    let t = g.T.Turns in
+    operates_then (t.who c.args.turns.now) (t.who c.begin.new.turns) (t.seen c.args.turns.now) (t.seen c.begin.new.turns) (t.seen c.carry_on.new.turns) c.in_ok-ticket.ensures.who c.in_ok-ticket.ensures.opens c.in_ok-carry_on.ensures.closes
+
+pub returns-in-NoQuorum-clause-closes : goal.returns-in-NoQuorum-clause-closes
+returns-in-NoQuorum-clause-closes g c =
+    let t = g.T.Turns in
+    operates_then (t.who c.args.turns.now) (t.who c.begin.new.turns) (t.seen c.args.turns.now) (t.seen c.begin.new.turns) (t.seen c.carry_on.new.turns) c.in_ok-ticket.ensures.who c.in_ok-ticket.ensures.opens c.in_ok-carry_on.ensures.closes

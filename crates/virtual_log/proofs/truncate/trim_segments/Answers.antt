@@ -5,12 +5,14 @@ use Rattle.std.proofs.lemmas.Option.{slice_get_within}
 use Rattle.delos_types.specs.declared.chain.Segment.{Segment}
 use Rattle.virtual_log.specs.Turning.{HasEvent}
 use Rattle.virtual_log.specs.Truncating.{IsTrimOf}
-use Rattle.virtual_log.proofs.OneTurn.{later_trans, later_continues, event_since, event_until, later_refl}
+use Rattle.virtual_log.specs.Causes.{HasCause}
+use Rattle.virtual_log.proofs.OneTurn.{later_trans, later_continues, event_since, event_until, later_refl, cause_since}
 use Rattle.virtual_log.proofs.Trimming.{at_index}
 use Rattle.virtual_log.proofs.Saying.{says_refl, says_on}
 use Rattle.virtual_log.proofs.Sealing.{seals_refl, seals_then}
 use Rattle.virtual_log.proofs.Calming.{calm_refl, calm_then}
 use Rattle.std.proofs.lemmas.Result.{err_from_is_err_and}
+use Rattle.virtual_log.proofs.Operating.{operates_refl, operates_then, left_then}
 use Rattle.virtual_log.proofs.truncate.trim_segments.Goals as goal
 
 pub trim_segment-requires-clause-started : goal.trim_segment-requires-clause-started
@@ -61,6 +63,7 @@ segment-preserved g c =
       words = says_on (g.C.Chooser.may c.args.chooser.now) (g.C.Chooser.may l.chooser) who (t.who l.turns) old now new i.same i.who i.words step.words;
       unsealed = seals_then who (t.who l.turns) old now new i.who i.unsealed step.unsealed;
       calm = calm_then who (t.who l.turns) old now new i.who i.calm step.calm;
+      closes = operates_then who (t.who l.turns) old now new i.who i.closes step.closes;
       same = step.same ∙ i.same;
     }
 
@@ -79,6 +82,7 @@ segment-init g c =
       words = says_refl (g.C.Chooser.may c.args.chooser.now) (t.who c.args.turns.now) old;
       unsealed = seals_refl (t.who c.args.turns.now) old;
       calm = calm_refl (t.who c.args.turns.now) old;
+      closes = operates_refl (t.who c.args.turns.now) None old;
       same = refl;
     }
 
@@ -114,3 +118,27 @@ returns-in_err-trim_segment-clause-memory g c =
     let now = t.seen l.turns in
     let r = err_from_is_err_and c.from_residual.result c.from_residual.ensures.1 in
     rw (r.1, r.2) (λ is. calm_then who (t.who l.turns) old now (t.seen c.trim_segment.new.turns) i.who i.calm (c.in_err-trim_segment.ensures.memory is))
+
+pub returns-in_err-trim_segment-clause-closes : goal.returns-in_err-trim_segment-clause-closes
+returns-in_err-trim_segment-clause-closes g c =
+    let t = g.T.Turns in
+    let who = t.who c.args.turns.now in
+    let old = t.seen c.args.turns.now in
+    let l = c.segment in
+    let i = l.invariant in
+    let now = t.seen l.turns in
+    let r = err_from_is_err_and c.from_residual.result c.from_residual.ensures.1 in
+    rw (r.1, r.2) (left_then who (t.who l.turns) old now (t.seen c.trim_segment.new.turns) c.in_err-trim_segment.field-0.0 i.who i.closes c.in_err-trim_segment.ensures.closes)
+
+pub returns-in_err-trim_segment-clause-err : goal.returns-in_err-trim_segment-clause-err
+returns-in_err-trim_segment-clause-err g c =
+    let t = g.T.Turns in
+    let who = t.who c.args.turns.now in
+    let old = t.seen c.args.turns.now in
+    let l = c.segment in
+    let i = l.invariant in
+    let now = t.seen l.turns in
+    let new = t.seen c.trim_segment.new.turns in
+    let f = c.in_err-trim_segment.field-0.0 in
+    let r = err_from_is_err_and c.from_residual.result c.from_residual.ensures.1 in
+    rw (r.1, r.2) (cause_since who f old now new i.later.more i.later.seen (subst (λ w. HasCause w now f new) i.who c.in_err-trim_segment.ensures.err))

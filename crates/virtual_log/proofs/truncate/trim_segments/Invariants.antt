@@ -1,4 +1,4 @@
-use Rattle.std.proofs.Common.{◌≡◌, ◌<◌, ℕ, Some}
+use Rattle.std.proofs.Common.{◌≡◌, ◌<◌, ℕ, Some, None}
 use Rattle.std.specs.Prelude.{slice_get}
 use Rattle.delos_types.specs.declared.chain.Segment.{Segment}
 use Rattle.virtual_log.specs.Turning.{Later, HasEvent}
@@ -6,6 +6,7 @@ use Rattle.virtual_log.specs.Truncating.{IsTrimOf}
 use Rattle.virtual_log.specs.Saying.{SaysOnly}
 use Rattle.virtual_log.specs.Sealing.{SealsNone}
 use Rattle.virtual_log.specs.Causes.{CalmSince}
+use Rattle.virtual_log.specs.Operating.{Operates}
 use Rattle.virtual_log.proofs.truncate.trim_segments.Given as goal
 
 abbrev pub invariant-segment : goal.invariant-segment
@@ -20,5 +21,6 @@ invariant-segment g l =
       words : SaysOnly (may l.fn.chooser) (t.who l.fn.turns) (t.seen l.fn.turns) (t.seen l.turns);
       unsealed : SealsNone (t.who l.fn.turns) (t.seen l.fn.turns) (t.seen l.turns);
       calm : CalmSince (t.who l.fn.turns) (t.seen l.fn.turns) (t.seen l.turns);
+      closes : Operates (t.who l.fn.turns) None None (t.seen l.fn.turns) (t.seen l.turns);
       same : may l.chooser ≡ may l.fn.chooser;
     }

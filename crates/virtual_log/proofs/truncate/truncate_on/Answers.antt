@@ -10,6 +10,7 @@ use Rattle.virtual_log.proofs.Changing.{settled_since}
 use Rattle.virtual_log.proofs.Saying.{says_then}
 use Rattle.virtual_log.proofs.Sealing.{seals_then}
 use Rattle.virtual_log.proofs.Calming.{calm_then}
+use Rattle.virtual_log.proofs.Operating.{operates_then}
 use Rattle.virtual_log.proofs.truncate.truncate_on.Goals as goal
 
 pub returns-in_err-version-clause-goes_by : goal.returns-in_err-version-clause-goes_by
@@ -150,3 +151,27 @@ returns-clause-calm g c =
     let new = t.seen c.write.new.turns in
     let first = c.in_ok-version.ensures in
     calm_then who user old mid new first.who first.calm c.in_ok-write.ensures.calm
+
+pub returns-in_err-write-clause-closes : goal.returns-in_err-write-clause-closes
+returns-in_err-write-clause-closes g c =
+    let p = g.T.Law.Rules in
+    let t = g.T.Turns in
+    let who = t.who c.args.turns.now in
+    let old = t.seen c.args.turns.now in
+    let mid = t.seen c.look.new.turns in
+    let user = t.who c.look.new.turns in
+    let new = t.seen c.write.new.turns in
+    let first = c.in_ok-version.ensures in
+    operates_then who user old mid new first.who first.closes c.in_err-write.ensures.closes
+
+pub returns-clause-closes : goal.returns-clause-closes
+returns-clause-closes g c =
+    let p = g.T.Law.Rules in
+    let t = g.T.Turns in
+    let who = t.who c.args.turns.now in
+    let old = t.seen c.args.turns.now in
+    let mid = t.seen c.look.new.turns in
+    let user = t.who c.look.new.turns in
+    let new = t.seen c.write.new.turns in
+    let first = c.in_ok-version.ensures in
+    operates_then who user old mid new first.who first.closes c.in_ok-write.ensures.closes

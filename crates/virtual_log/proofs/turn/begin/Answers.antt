@@ -1,10 +1,11 @@
-use Rattle.std.proofs.Common.{refl}
+use Rattle.std.proofs.Common.{None, Some, refl}
 use Rattle.virtual_log.proofs.OneTurn.{begin_ok}
 use Rattle.virtual_log.proofs.Writing.{turn_wrote}
 use Rattle.virtual_log.proofs.Sealing.{turn_none, turn_at}
 use Rattle.virtual_log.proofs.Saying.{turn_says}
 use Rattle.virtual_log.proofs.Calming.{turn_calm}
 use Rattle.virtual_log.proofs.Answering.{begin_answers}
+use Rattle.virtual_log.proofs.Operating.{turn_hands, turn_keeps}
 use Rattle.virtual_log.proofs.turn.begin.Goals as goal
 
 pub returns-in-Begun-clause-ok : goal.returns-in-Begun-clause-ok
@@ -48,3 +49,12 @@ returns-in-Memory-clause-memory g c = λ _. turn_calm _ _ _ _ _ _ _ _ c.in-Memor
 
 pub unreachable-requires : goal.unreachable-requires
 unreachable-requires g c = begin_answers _ _ _ _ _ _ _ _ _ c.turn.ensures.turn c.in_default.not-Begun c.in_default.not-Full c.in_default.not-Memory
+
+pub returns-in-Begun-clause-opens : goal.returns-in-Begun-clause-opens
+returns-in-Begun-clause-opens g c = turn_hands _ _ _ _ _ None (Some (record { loglet = c.args.cell; ticket = c.in-Begun.ticket })) _ _ _ c.in-Begun.ensures.turn c.in-Begun.ensures.turn.event refl
+
+pub returns-in-Full-clause-refused : goal.returns-in-Full-clause-refused
+returns-in-Full-clause-refused g c = turn_keeps _ _ _ _ _ None _ _ _ c.in-Full.ensures.turn refl
+
+pub returns-in-Memory-clause-refused : goal.returns-in-Memory-clause-refused
+returns-in-Memory-clause-refused g c = turn_keeps _ _ _ _ _ None _ _ _ c.in-Memory.ensures.turn refl

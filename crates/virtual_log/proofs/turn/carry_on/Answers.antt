@@ -1,8 +1,9 @@
-use Rattle.std.proofs.Common.{◌++◌, ◌∙◌, refl, sym, subst, arith, append_assoc}
+use Rattle.std.proofs.Common.{◌++◌, None, Some, ◌∙◌, refl, sym, subst, arith, append_assoc}
 use Rattle.legal_journal.specs.declared.events.FabricCall.TheVariants.{Forget}
 use Rattle.legal_journal.specs.Journal.{state_of, IsOwn}
 use Rattle.legal_journal.specs.Turns.{MayTurn}
 use Rattle.virtual_log.specs.Turning.{OnlyOwn, Answered}
+use Rattle.virtual_log.specs.Operating.{Operation}
 use Rattle.virtual_log.proofs.OneTurn.{may_carry, may_drop, going_ok, going_still, done_ok, answered_since, nil, turn_later, later_refl, later_trans}
 use Rattle.virtual_log.proofs.Owning.{own_split, still_trans, still_refl}
 use Rattle.virtual_log.proofs.Writing.{turn_wrote, wrote_refl, wrote_trans, wrote_by}
@@ -10,6 +11,7 @@ use Rattle.virtual_log.proofs.Sealing.{turn_none, seals_refl, seals_trans, seals
 use Rattle.virtual_log.proofs.Saying.{turn_says, says_refl, says_then, says_on}
 use Rattle.virtual_log.proofs.Calming.{turn_calm, calm_refl, calm_then}
 use Rattle.virtual_log.proofs.Answering.{carry_answers}
+use Rattle.virtual_log.proofs.Operating.{operates_refl, operates_then, turn_hands, turn_keeps, turn_forgets}
 use Rattle.virtual_log.proofs.turn.carry_on.Goals as goal
 
 pub turn-requires-clause-may : goal.turn-requires-clause-may
@@ -65,6 +67,8 @@ loop-answer-preserved g c =
           (seals_as _ _ _ _ l.invariant.who (turn_none p.may p.floor p.shelf _ _ _ _ _ c.in-Going.ensures.turn refl));
       calm = calm_then (t.who c.args.turns.now) (t.who l.turns) (t.seen c.args.turns.now) (t.seen l.turns) (t.seen c.turn.new.self) l.invariant.who l.invariant.calm
           (turn_calm p.may p.floor p.shelf _ _ _ _ _ c.in-Going.ensures.turn tt);
+      closes = operates_then (t.who c.args.turns.now) (t.who l.turns) (t.seen c.args.turns.now) (t.seen l.turns) (t.seen c.turn.new.self) l.invariant.who l.invariant.closes
+          (turn_keeps p.may p.floor p.shelf (t.who l.turns) (t.seen l.turns) (Some (record { loglet = c.args.cell; ticket = c.args.ticket })) _ _ _ c.in-Going.ensures.turn (refl, refl, refl));
       words = says_on (g.C.Chooser.may c.args.chooser.now) (g.C.Chooser.may l.chooser) (t.who c.args.turns.now) (t.who l.turns) (t.seen c.args.turns.now) (t.seen l.turns) (t.seen c.turn.new.self) l.invariant.same l.invariant.who l.invariant.words
           (turn_says p.may p.floor p.shelf (t.who l.turns) (t.seen l.turns) (g.C.Chooser.may l.chooser) _ _ _ c.in-Going.ensures.turn (c.word-word.ensures.given, omega arith));
       same = c.word-word.ensures.same ∙ l.invariant.same;
@@ -93,6 +97,7 @@ loop-answer-init g c =
       quiet = wrote_refl (t.who c.args.turns.now) old (nil old);
       unsealed = seals_refl (t.who c.args.turns.now) old;
       calm = calm_refl (t.who c.args.turns.now) old;
+      closes = operates_refl (t.who c.args.turns.now) _ old;
       words = says_refl (g.C.Chooser.may c.args.chooser.now) (t.who c.args.turns.now) old;
       same = refl;
     }
@@ -187,3 +192,23 @@ returns-in-Memory-clause-memory g c =
     (calm_then (t.who c.args.turns.now) (t.who l.turns) (t.seen c.args.turns.now) (t.seen l.turns) (t.seen c.turn.new.self) l.invariant.who l.invariant.calm
     (turn_calm p.may p.floor p.shelf _ _ _ _ _ c.in-Memory.ensures.turn tt))
     c.forget.ensures.calm
+
+pub returns-in-Done-clause-closes : goal.returns-in-Done-clause-closes
+returns-in-Done-clause-closes g c =
+    let t = g.T.Turns in
+    let p = g.T.Law.Rules in
+    let l = c.loop-answer in
+    let turn = c.in-Done.ensures.turn in
+    operates_then (t.who c.args.turns.now) (t.who l.turns) (t.seen c.args.turns.now) (t.seen l.turns) (t.seen c.turn.new.self) l.invariant.who l.invariant.closes
+    (turn_hands p.may p.floor p.shelf (t.who l.turns) (t.seen l.turns) (Some (record { loglet = c.args.cell; ticket = c.args.ticket })) None _ _ _ turn turn.event (refl, refl, refl))
+
+pub returns-in-Memory-clause-left : goal.returns-in-Memory-clause-left
+returns-in-Memory-clause-left g c =
+    let t = g.T.Turns in
+    let p = g.T.Law.Rules in
+    let l = c.loop-answer in
+    let o : Operation = record { loglet = c.args.cell; ticket = c.args.ticket } in
+    let carried = operates_then (t.who c.args.turns.now) (t.who l.turns) (t.seen c.args.turns.now) (t.seen l.turns) (t.seen c.turn.new.self) l.invariant.who l.invariant.closes
+    (turn_keeps p.may p.floor p.shelf (t.who l.turns) (t.seen l.turns) (Some o) _ _ _ c.in-Memory.ensures.turn (refl, refl, refl)) in
+    let left = turn_forgets p.may p.floor p.shelf (t.who c.turn.new.self) (t.seen c.turn.new.self) o _ _ c.forget.ensures.turn.2 in
+    (left.0, operates_then (t.who c.args.turns.now) (t.who c.turn.new.self) (t.seen c.args.turns.now) (t.seen c.turn.new.self) (t.seen c.forget.new.turns) (c.turn.ensures.who ∙ l.invariant.who) carried left.1)

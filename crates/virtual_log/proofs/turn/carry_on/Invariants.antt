@@ -1,4 +1,4 @@
-use Rattle.std.proofs.Common.{◌≡◌, ◌-◌}
+use Rattle.std.proofs.Common.{◌≡◌, ◌-◌, Some}
 use Rattle.legal_journal.specs.Told.{Running}
 use Rattle.legal_journal.specs.Journal.{state_of, IsOwn, patience}
 use Rattle.virtual_log.specs.Turning.{OnlyOwn, Still, Later}
@@ -6,6 +6,7 @@ use Rattle.virtual_log.specs.Writing.{WroteNone}
 use Rattle.virtual_log.specs.Causes.{CalmSince}
 use Rattle.virtual_log.specs.Sealing.{SealsNone}
 use Rattle.virtual_log.specs.Saying.{SaysOnly}
+use Rattle.virtual_log.specs.Operating.{Operates}
 use Rattle.virtual_log.proofs.turn.carry_on.Given as goal
 
 abbrev pub invariant-loop-answer : goal.invariant-loop-answer
@@ -21,6 +22,7 @@ invariant-loop-answer g l =
       quiet : WroteNone (t.who l.fn.turns) (t.seen l.fn.turns) (t.seen l.turns);
       unsealed : SealsNone (t.who l.fn.turns) (t.seen l.fn.turns) (t.seen l.turns);
       calm : CalmSince (t.who l.fn.turns) (t.seen l.fn.turns) (t.seen l.turns);
+      closes : Operates (t.who l.fn.turns) (Some (record { loglet = l.cell; ticket = l.ticket })) (Some (record { loglet = l.cell; ticket = l.ticket })) (t.seen l.fn.turns) (t.seen l.turns);
       words : SaysOnly (may l.fn.chooser) (t.who l.fn.turns) (t.seen l.fn.turns) (t.seen l.turns);
       same : may l.chooser ≡ may l.fn.chooser;
     }

@@ -1,10 +1,11 @@
-use Rattle.std.proofs.Common.{refl}
+use Rattle.std.proofs.Common.{refl, None}
 use Rattle.virtual_log.proofs.OneTurn.{look_ok}
 use Rattle.virtual_log.proofs.Writing.{turn_quiet}
 use Rattle.virtual_log.proofs.Sealing.{turn_none}
 use Rattle.virtual_log.proofs.Saying.{turn_says}
 use Rattle.virtual_log.proofs.Calming.{turn_calm}
 use Rattle.virtual_log.proofs.Answering.{look_answers}
+use Rattle.virtual_log.proofs.Operating.{turn_keeps}
 use Rattle.virtual_log.proofs.turn.look.Goals as goal
 
 pub returns-in-At-clause-ok : goal.returns-in-At-clause-ok
@@ -45,3 +46,12 @@ returns-in-Down-clause-quiet g c = turn_quiet _ _ _ _ _ _ _ _ c.in-Down.ensures.
 
 pub returns-in-Memory-clause-quiet : goal.returns-in-Memory-clause-quiet
 returns-in-Memory-clause-quiet g c = turn_quiet _ _ _ _ _ _ _ _ c.in-Memory.ensures.turn refl
+
+pub returns-in-At-clause-closes : goal.returns-in-At-clause-closes
+returns-in-At-clause-closes g c = turn_keeps _ _ _ _ _ None _ _ _ c.in-At.ensures.turn refl
+
+pub returns-in-Down-clause-closes : goal.returns-in-Down-clause-closes
+returns-in-Down-clause-closes g c = turn_keeps _ _ _ _ _ None _ _ _ c.in-Down.ensures.turn refl
+
+pub returns-in-Memory-clause-closes : goal.returns-in-Memory-clause-closes
+returns-in-Memory-clause-closes g c = turn_keeps _ _ _ _ _ None _ _ _ c.in-Memory.ensures.turn refl

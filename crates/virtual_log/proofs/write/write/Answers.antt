@@ -1,4 +1,4 @@
-use Rattle.std.proofs.Common.{◌∙◌, refl, subst, arith}
+use Rattle.std.proofs.Common.{◌∙◌, refl, subst, arith, None}
 use Rattle.std.proofs.lemmas.Result.{err_from_is_err_and}
 use Rattle.legal_journal.specs.declared.events.FabricCall.TheVariants.{WriteChain}
 use Rattle.legal_journal.specs.declared.events.FabricAnswer.TheVariants.{Written, Conflict}
@@ -13,6 +13,7 @@ use Rattle.virtual_log.proofs.Saying.{says_refl, says_then}
 use Rattle.virtual_log.proofs.Calming.{calm_refl, calm_then}
 use Rattle.virtual_log.proofs.Going.{goes_later}
 use Rattle.virtual_log.proofs.Changing.{granted_later, is_chain, admits, may_change, changed_has, changed_goes, changed_made, lost_goes, lost_later, lost, lacks_still, settled_since}
+use Rattle.virtual_log.proofs.Operating.{operates_refl, operates_then}
 use Rattle.virtual_log.proofs.write.write.Goals as goal
 
 pub made-requires-clause-chain : goal.made-requires-clause-chain
@@ -318,6 +319,7 @@ write-preserved g c =
       unsealed = seals_then who user old now new i.who i.unsealed c.in_ok-version.ensures.unsealed;
       silent = λ words. says_then words who user old now new i.who (i.silent words) (c.in_ok-version.ensures.silent words);
       calm = calm_then who user old now new i.who i.calm c.in_ok-version.ensures.calm;
+      closes = operates_then who user old now new i.who i.closes c.in_ok-version.ensures.closes;
     }
 
 pub write-init : goal.write-init
@@ -337,4 +339,47 @@ write-init g c =
       unsealed = seals_refl who old;
       silent = λ words. says_refl words who old;
       calm = calm_refl who old;
+      closes = operates_refl who None old;
     }
+
+pub returns-in_err-version-clause-closes : goal.returns-in_err-version-clause-closes
+returns-in_err-version-clause-closes g c =
+    let p = g.T.Law.Rules in
+    let t = g.T.Turns in
+    let l = c.write in
+    let i = l.invariant in
+    let k = l.known in
+    let now = t.seen l.turns in
+    let who = t.who c.args.turns.now in
+    let old = t.seen c.args.turns.now in
+    let user = t.who l.turns in
+    let new = t.seen c.write_over.new.turns in
+    operates_then who user old now new i.who i.closes c.in_err-version.ensures.closes
+
+pub returns-in-Written-clause-closes : goal.returns-in-Written-clause-closes
+returns-in-Written-clause-closes g c =
+    let p = g.T.Law.Rules in
+    let t = g.T.Turns in
+    let l = c.write in
+    let i = l.invariant in
+    let k = l.known in
+    let now = t.seen l.turns in
+    let who = t.who c.args.turns.now in
+    let old = t.seen c.args.turns.now in
+    let user = t.who l.turns in
+    let new = t.seen c.write_over.new.turns in
+    operates_then who user old now new i.who i.closes c.in_ok-version.ensures.closes
+
+pub returns-then-is_in-clause-closes : goal.returns-then-is_in-clause-closes
+returns-then-is_in-clause-closes g c =
+    let p = g.T.Law.Rules in
+    let t = g.T.Turns in
+    let l = c.write in
+    let i = l.invariant in
+    let k = l.known in
+    let now = t.seen l.turns in
+    let who = t.who c.args.turns.now in
+    let old = t.seen c.args.turns.now in
+    let user = t.who l.turns in
+    let new = t.seen c.write_over.new.turns in
+    operates_then who user old now new i.who i.closes c.in_ok-version.ensures.closes

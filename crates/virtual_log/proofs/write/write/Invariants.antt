@@ -1,4 +1,4 @@
-use Rattle.std.proofs.Common.{◌≡◌, ◌-◌, ◌^◌}
+use Rattle.std.proofs.Common.{◌≡◌, ◌-◌, ◌^◌, None}
 use Rattle.legal_journal.specs.Journal.{state_of}
 use Rattle.virtual_log.specs.Turning.{Later}
 use Rattle.virtual_log.specs.Writing.{WroteNone}
@@ -7,6 +7,7 @@ use Rattle.virtual_log.specs.Log.{GoesBy}
 use Rattle.virtual_log.specs.Saying.{SaysNone}
 use Rattle.virtual_log.specs.Causes.{CalmSince}
 use Rattle.virtual_log.specs.Changing.{Lacks, IsGranted}
+use Rattle.virtual_log.specs.Operating.{Operates}
 use Rattle.virtual_log.proofs.write.write.Given as goal
 
 abbrev pub invariant-write : goal.invariant-write
@@ -24,6 +25,7 @@ invariant-write g l =
       unsealed : SealsNone (t.who l.fn.turns) (t.seen l.fn.turns) (t.seen l.turns);
       silent : SaysNone (t.who l.fn.turns) (t.seen l.fn.turns) (t.seen l.turns);
       calm : CalmSince (t.who l.fn.turns) (t.seen l.fn.turns) (t.seen l.turns);
+      closes : Operates (t.who l.fn.turns) None None (t.seen l.fn.turns) (t.seen l.turns);
     }
 
 abbrev pub decreases-write : goal.decreases-write

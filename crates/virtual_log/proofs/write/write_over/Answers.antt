@@ -1,8 +1,9 @@
-use Rattle.std.proofs.Common.{refl}
+use Rattle.std.proofs.Common.{refl, None}
 use Rattle.virtual_log.proofs.Sealing.{turn_none}
 use Rattle.virtual_log.proofs.Saying.{turn_says}
 use Rattle.virtual_log.proofs.Calming.{turn_calm}
 use Rattle.virtual_log.proofs.Answering.{write_answers}
+use Rattle.virtual_log.proofs.Operating.{turn_keeps}
 use Rattle.virtual_log.proofs.write.write_over.Goals as goal
 
 pub returns-in-Written-clause-unsealed : goal.returns-in-Written-clause-unsealed
@@ -46,3 +47,18 @@ returns-in-Memory-clause-memory g c = λ _. turn_calm _ _ _ _ _ _ _ _ c.in-Memor
 
 pub unreachable-requires : goal.unreachable-requires
 unreachable-requires g c = write_answers _ _ _ _ _ _ _ _ _ c.turn.ensures.turn c.in_default.not-Written c.in_default.not-Conflict c.in_default.not-MetaFault c.in_default.not-Down c.in_default.not-Memory
+
+pub returns-in-Written-clause-closes : goal.returns-in-Written-clause-closes
+returns-in-Written-clause-closes g c = turn_keeps _ _ _ _ _ None _ _ _ c.in-Written.ensures.turn refl
+
+pub returns-in-Conflict-clause-closes : goal.returns-in-Conflict-clause-closes
+returns-in-Conflict-clause-closes g c = turn_keeps _ _ _ _ _ None _ _ _ c.in-Conflict.ensures.turn refl
+
+pub returns-in-MetaFault-clause-closes : goal.returns-in-MetaFault-clause-closes
+returns-in-MetaFault-clause-closes g c = turn_keeps _ _ _ _ _ None _ _ _ c.in-MetaFault.ensures.turn refl
+
+pub returns-in-Down-clause-closes : goal.returns-in-Down-clause-closes
+returns-in-Down-clause-closes g c = turn_keeps _ _ _ _ _ None _ _ _ c.in-Down.ensures.turn refl
+
+pub returns-in-Memory-clause-closes : goal.returns-in-Memory-clause-closes
+returns-in-Memory-clause-closes g c = turn_keeps _ _ _ _ _ None _ _ _ c.in-Memory.ensures.turn refl

@@ -1,6 +1,7 @@
 use Rattle.virtual_log.proofs.Sealing.{seals_refl}
 use Rattle.virtual_log.proofs.Calming.{calm_refl}
 use Rattle.virtual_log.proofs.Saying.{says_refl}
+use Rattle.virtual_log.proofs.Operating.{operates_refl}
 use Rattle.virtual_log.proofs.log.VirtualLog.read_next.Goals as goal
 
 pub returns-then-end-least-clause-unsealed : goal.returns-then-end-least-clause-unsealed
@@ -11,3 +12,6 @@ returns-then-end-least-clause-calm g c = calm_refl _ _
 
 pub returns-then-end-least-clause-words : goal.returns-then-end-least-clause-words
 returns-then-end-least-clause-words g c = says_refl _ _ _
+
+pub returns-then-end-least-clause-closes : goal.returns-then-end-least-clause-closes
+returns-then-end-least-clause-closes g c = operates_refl _ _ _
