@@ -2,7 +2,7 @@
 use Rattle.std.proofs.Common.{◌≡◌, ℕ, ◌+◌, ◌-◌, ◌<◌, ◌≤◌, Bool, true, false, refl, ap, sym, ◌∙◌, subst, arith, List, [], ◌∷◌, length, drop, Option, Some, None, inl, inr, length-drop}
 use Rattle.std.specs.Prelude.{if◌then◌else◌, ◌⊎◌, ◌&&◌, ◌||◌, ◌==◌, not, nat_le, nat_lt, is_some, unwrap_or, slice_get, All}
 use Rattle.std.specs.List.{list_any}
-use Rattle.std.proofs.lemmas.Bool.{leb-true, ltb-true, false≢true, and_parts, eqb-true, or_cases, or_right, cases_Bool}
+use Rattle.std.proofs.lemmas.Bool.{leb-true, le-leb, ltb-true, false≢true, and_parts, eqb-true, or_cases, or_right, cases_Bool}
 use Rattle.std.proofs.lemmas.Option.{none-some, same_Some}
 use Rattle.std.proofs.lemmas.List.Elements.{All-contains, All-head, All-tail}
 use Rattle.delos_types.specs.declared.entry.Entry.{Entry}
@@ -13,16 +13,16 @@ use Rattle.quorum_cell.specs.declared.operation.Outcome.TheVariants.{Reached, Op
 use Rattle.quorum_cell.specs.declared.message.Ask.{Ask}
 use Rattle.quorum_cell.specs.declared.message.Ask.TheVariants.{Read}
 use Rattle.quorum_cell.specs.declared.message.Told.{Told}
-use Rattle.quorum_cell.specs.declared.message.Told.TheVariants.{Got}
+use Rattle.quorum_cell.specs.declared.message.Told.TheVariants.{Got, Trimmed}
 use Rattle.quorum_cell.specs.declared.message.Reply.{Reply}
 use Rattle.majority_rule.specs.Majority.{is_majority, majority, votes_below}
 use Rattle.quorum_cell.specs.Servers.{Server, length_of, is_sealed, unsealed_length}
 use Rattle.quorum_cell.specs.declared.operation.Loss.{Loss}
 use Rattle.quorum_cell.specs.Cells.{Cell, Operation, server, operation, server_before, is_shut}
-use Rattle.quorum_cell.specs.Tallies.{may_decide, heard_from, unreached, failed_reply, fails, open_to, open_within, says_sealed, tries_lost, told_entry_at, gives_entry, entry_heard, first_entry, may_give_up, lacks_quorum}
+use Rattle.quorum_cell.specs.Tallies.{may_decide, heard_from, unreached, failed_reply, fails, open_to, open_within, says_sealed, tries_lost, told_entry_at, gives_entry, entry_heard, first_entry, may_give_up, lacks_quorum, told_trim, trimmed_to}
 use Rattle.quorum_cell.specs.Steps.{reached}
 use Rattle.quorum_cell.specs.Law.{ReplyHolds, SentFor, QuorumLaw, Later, faulted, failed_since}
-use Rattle.quorum_cell.specs.Outcomes.{OutcomeHolds, IsLacking, shut_before, down_before}
+use Rattle.quorum_cell.specs.Outcomes.{OutcomeHolds, IsLacking, IsLetGo, shut_before, down_before}
 use Rattle.majority_rule.proofs.Majorities.{votes_within, majorities_meet, majority_stays, votes_more, votes_either, votes_listed}
 use Rattle.quorum_cell.proofs.Lists.{one_of}
 use Rattle.quorum_cell.proofs.Laters.{capped_later, firm_later}
@@ -103,7 +103,7 @@ found_entry c t p (r ∷ rs) says all h = at (told_entry_at p r.ask r.told) refl
 
 ---- no quorum
 
-given_up : (c : Cell) → QuorumLaw c → (t i : ℕ) → unreached (operation c t) i ≡ true → failed_since c (operation c t) i ≡ true
+pub given_up : (c : Cell) → QuorumLaw c → (t i : ℕ) → unreached (operation c t) i ≡ true → failed_since c (operation c t) i ≡ true
 given_up c law t i h = by (or_cases _ _ h)
   where
     by : ((heard_from failed_reply (operation c t) i ≡ true) ⊎ (list_any (λ (l : Loss). (l.server == i) && nat_le 8 (tries_lost (operation c t) l.message)) (operation c t).lost ≡ true)) → failed_since c (operation c t) i ≡ true
@@ -126,6 +126,21 @@ unreached_few c law t =
       votes_listed (length c.servers) newer,
       length-drop o.faults_before c.faults,
     )
+
+---- a trim
+
+let_go_by : (n : ℕ) (told : Told) → told_trim n told ≡ true → (m : ℕ) × (told ≡ Trimmed m) × (n ≤ m)
+let_go_by n (Trimmed m) h = (m, refl, leb-true n m h)
+let_go_by n _ h = absurd (false≢true h)
+
+let_go_vote : (c : Cell) → QuorumLaw c → (t n i : ℕ) → heard_from (trimmed_to n) (operation c t) i ≡ true → nat_le n (server c i).base ≡ true
+let_go_vote c law t n i h =
+    let v : (r : Reply) × ReplyHolds c r × (r.server ≡ i) × (r.ticket ≡ t) × (trimmed_to n r ≡ true) = voted c law t (trimmed_to n) i h in
+    let m : (m : ℕ) × (v.0.told ≡ Trimmed m) × (n ≤ m) = let_go_by n v.0.told v.4 in
+    subst (λ j. nat_le n (server c j).base ≡ true) v.2 (le-leb _ _ (omega (arith, v.1.trimmed m.0 m.1, m.2)))
+
+let_go : (c : Cell) → QuorumLaw c → (t n : ℕ) → is_majority (length c.servers) (heard_from (trimmed_to n) (operation c t)) ≡ true → IsLetGo c n
+let_go c law t n h = majority_stays (length c.servers) (heard_from (trimmed_to n) (operation c t)) (λ i. nat_le n (server c i).base) (λ i _ e. let_go_vote c law t n i e) h
 
 ---- every outcome
 
@@ -172,7 +187,8 @@ at_outcome c law t (AimRead p) is Gone h = (p, is, ltb-true _ _ h)
 at_outcome c law t aim is Gone h = absurd (false≢true h)
 at_outcome c law t (AimRead p) is Beyond h = (p, is, leb-true _ _ h)
 at_outcome c law t aim is Beyond h = absurd (false≢true h)
-at_outcome c law t aim is TrimDone h = tt
+at_outcome c law t (AimTrim m) is TrimDone h = record { position = m; aim = is; far = (law.operations t).trimmed m is; gone = let_go c law t (operation c t).want h }
+at_outcome c law t aim is TrimDone h = absurd (false≢true h)
 at_outcome c law t aim is (NoQuorum u) h = let both = given_up_so c law t aim u h in (both.0, λ p e. both.1 p (sym is ∙ e))
 
 pub outcome_holds : (c : Cell) → QuorumLaw c → (t : ℕ) (a : Outcome) → (operation c t).decided ≡ Some a → OutcomeHolds c (operation c t) a

@@ -85,6 +85,7 @@ reply_later c d l before_now r h =
       sealed = λ n z. (still_sealed _ _ g (h.sealed n z).0, omega (arith, same_seal _ _ g (h.sealed n z).0, (h.sealed n z).1), omega (arith, (h.sealed n z).2, g.longer));
       mended = λ n z. (still_sealed _ _ g (h.mended n z).0, omega (arith, (h.mended n z).1, g.longer));
       got = λ p e i j. l.entries p e (h.got p e i j);
+      trimmed = λ n z. omega (arith, h.trimmed n z, g.base);
       failed = λ z. subst₂ (λ ss b. (not (get_or ss r.server no_server).up || faulted d.faults b r.server) ≡ true) (sym (l.before r.ticket h.known)) (sym (l.faults_before r.ticket h.known)) (down_later c d l (operation c r.ticket) r.server faults (h.failed z));
     }
 
@@ -111,6 +112,7 @@ operation_later c d l more t o down h = record {
   reached = omega (arith, h.reached, l.reach);
   firm = omega (arith, h.firm, l.firm);
   settled = h.settled;
+  trimmed = h.trimmed;
   ungiven = h.ungiven;
   placed = λ e z. ((h.placed e z).0, l.entries o.size_before e (h.placed e z).1);
 }

@@ -61,6 +61,7 @@ start_keeps n room limit some =
         reached = omega arith;
         firm = omega arith;
         settled = λ n z. absurd (cc);
+        trimmed = λ n z. absurd (cc);
         ungiven = λ _. refl;
         placed = λ e z. absurd (cc);
         faults = omega arith;

@@ -18,7 +18,7 @@ use Rattle.quorum_cell.specs.Law.{Grows, IsOurs, ServerHolds, RequestHolds, Repl
 use Rattle.majority_rule.proofs.Majorities.{majorities_meet}
 use Rattle.quorum_cell.proofs.Growing.{grows_same, written_grows, restarted_grows}
 use Rattle.quorum_cell.proofs.Lists.{at_set, faulted_more, faulted_now}
-use Rattle.quorum_cell.proofs.Table.{Fits, answer_fits, answer_got, written_holds, aside_holds, restarted_holds, up_not_failed, written_up, restarted_up}
+use Rattle.quorum_cell.proofs.Table.{Fits, answer_fits, answer_got, answer_trimmed, written_holds, aside_holds, restarted_holds, up_not_failed, written_up, restarted_up}
 use Rattle.quorum_cell.proofs.Laters.{server_later, request_later, reply_later, operation_later, reached_later, firm_later, capped_later, was_open, cap_stays, down_later}
 
 ---- what follows at once
@@ -123,15 +123,16 @@ reply_up c q law rh up =
       sealed = λ n z. rw here (fits.sealed n z);
       mended = λ n z. rw here (fits.mended n z);
       got = λ p e is_read is_got. answer_got c s q.ask p e (law.servers i) is_read is_got;
+      trimmed = λ n z. rw here (answer_trimmed s q.ask n z);
       failed = λ z. absurd (up_not_failed s q.ask z);
     }
 
 -- an answer that tells nothing but a failure
 down_tells : (d : Cell) (q : Request) → q.ticket < length d.operations → failed_since d (operation d q.ticket) q.server ≡ true → ReplyHolds d (record { ticket = q.ticket; server = q.server; ask = q.ask; told = Down })
-down_tells d q known failed = record { known = known; opened = λ n z. absurd (none-some n z); sealed = λ n z. absurd (none-some n z); mended = λ n z. absurd (none-some n z); got = λ p e i j. absurd (cc); failed = λ _. failed }
+down_tells d q known failed = record { known = known; opened = λ n z. absurd (none-some n z); sealed = λ n z. absurd (none-some n z); mended = λ n z. absurd (none-some n z); got = λ p e i j. absurd (cc); trimmed = λ n z. absurd (cc); failed = λ _. failed }
 
 fault_tells : (d : Cell) (q : Request) → q.ticket < length d.operations → failed_since d (operation d q.ticket) q.server ≡ true → ReplyHolds d (record { ticket = q.ticket; server = q.server; ask = q.ask; told = DiskFault })
-fault_tells d q known failed = record { known = known; opened = λ n z. absurd (none-some n z); sealed = λ n z. absurd (none-some n z); mended = λ n z. absurd (none-some n z); got = λ p e i j. absurd (cc); failed = λ _. failed }
+fault_tells d q known failed = record { known = known; opened = λ n z. absurd (none-some n z); sealed = λ n z. absurd (none-some n z); mended = λ n z. absurd (none-some n z); got = λ p e i j. absurd (cc); trimmed = λ n z. absurd (cc); failed = λ _. failed }
 
 pub request_comes_keeps : (c : Cell) (q : Request) → QuorumLaw c → RequestHolds c q → QuorumLaw (request_comes c (Some q))
 request_comes_keeps c q law rh = by (server c q.server).up refl

@@ -10,7 +10,7 @@ use Rattle.delos_types.specs.declared.entry.Entry.{Entry}
 use Rattle.quorum_cell.specs.declared.message.Ask.{Ask}
 use Rattle.quorum_cell.specs.declared.message.Ask.TheVariants.{Store, Seal, Tail, Repair, Read, Trim}
 use Rattle.quorum_cell.specs.declared.message.Told.{Told}
-use Rattle.quorum_cell.specs.declared.message.Told.TheVariants.{Got}
+use Rattle.quorum_cell.specs.declared.message.Told.TheVariants.{Got, Trimmed}
 use Rattle.quorum_cell.specs.Servers.{Server, length_of, is_sealed, unsealed_length, writes, wrote, written, restarted, told_up}
 use Rattle.quorum_cell.specs.Cells.{Cell}
 use Rattle.quorum_cell.specs.Tallies.{fails, open_told, sealed_told, mended_told}
@@ -148,6 +148,30 @@ answer_got c s ask p e h is_read is_got =
     let gave : (s.base ≤ p) × (slice_get s.entries (p - s.base) ≡ Some e) = read_gives s p e (rw is_read at is_got) in
     let at : s.base + (p - s.base) ≡ p = omega (arith, gave.0) in
     sym (h.same (p - s.base) (slice_get_within s.entries (p - s.base) e gave.1) ∙ ap (slice_get c.entries) at) ∙ gave.1
+
+-- a server that tells how far it let go has let go that far
+store_tells_no_trim : (s : Server) (p : ℕ) (e : Entry) (n : ℕ) → told_up s (Store p e) ≡ Trimmed n → ⊥
+store_tells_no_trim s p e n h = grind (arith, nat_tests)
+
+tail_tells_no_trim : (s : Server) (n : ℕ) → told_up s Tail ≡ Trimmed n → ⊥
+tail_tells_no_trim s n h = grind (arith, nat_tests)
+
+repair_tells_no_trim : (s : Server) (p : ℕ) (e : Entry) (n : ℕ) → told_up s (Repair p e) ≡ Trimmed n → ⊥
+repair_tells_no_trim s p e n h = grind (arith, nat_tests)
+
+read_tells_no_trim : (s : Server) (p n : ℕ) → told_up s (Read p) ≡ Trimmed n → ⊥
+read_tells_no_trim s p n h = grind (arith, nat_tests)
+
+trim_lets_go : (s : Server) (m n : ℕ) → told_up s (Trim m) ≡ Trimmed n → n ≤ (written s (Trim m)).base
+trim_lets_go s m n h = grind (arith, nat_tests)
+
+pub answer_trimmed : (s : Server) (ask : Ask) (n : ℕ) → told_up s ask ≡ Trimmed n → n ≤ (written s ask).base
+answer_trimmed s (Store p e) n h = absurd (store_tells_no_trim s p e n h)
+answer_trimmed s Seal n h = absurd (cc)
+answer_trimmed s Tail n h = absurd (tail_tells_no_trim s n h)
+answer_trimmed s (Repair p e) n h = absurd (repair_tells_no_trim s p e n h)
+answer_trimmed s (Read p) n h = absurd (read_tells_no_trim s p n h)
+answer_trimmed s (Trim m) n h = trim_lets_go s m n h
 
 -- a server that is up tells no failure
 store_not_failed : (s : Server) (p : ℕ) (e : Entry) → fails (told_up s (Store p e)) ≡ true → ⊥

@@ -108,6 +108,7 @@ reply_comes_keeps c k r law at = by (waits (operation c r.ticket)) refl
           reached = (law.operations r.ticket).reached;
           firm = (law.operations r.ticket).firm;
           settled = (law.operations r.ticket).settled;
+          trimmed = (law.operations r.ticket).trimmed;
           ungiven = (law.operations r.ticket).ungiven;
           placed = (law.operations r.ticket).placed;
           faults = (law.operations r.ticket).faults;
@@ -138,6 +139,7 @@ lose_keeps c k q law = by (waits (operation c q.ticket)) refl
           reached = (dlaw.operations q.ticket).reached;
           firm = (dlaw.operations q.ticket).firm;
           settled = (dlaw.operations q.ticket).settled;
+          trimmed = (dlaw.operations q.ticket).trimmed;
           ungiven = (dlaw.operations q.ticket).ungiven;
           placed = (dlaw.operations q.ticket).placed;
           faults = (dlaw.operations q.ticket).faults;
@@ -166,6 +168,7 @@ decide_keeps c t a law = by (waits (operation c t) && may_decide (length c.serve
           reached = (law.operations t).reached;
           firm = (law.operations t).firm;
           settled = (law.operations t).settled;
+          trimmed = (law.operations t).trimmed;
           ungiven = (law.operations t).ungiven;
           placed = (law.operations t).placed;
           faults = (law.operations t).faults;
@@ -263,6 +266,10 @@ begun_settled : (c : Cell) (aim : Aim) (n : ℕ) → aim ≡ AimSettle n → wan
 begun_settled c (AimSettle m) n z = let same : m ≡ n = cc in ap (λ k. min k (length c.entries)) same
 begun_settled c _ n z = absurd (cc)
 
+begun_trimmed : (c : Cell) (aim : Aim) (n : ℕ) → aim ≡ AimTrim n → min n c.reach ≤ wanted c aim
+begun_trimmed c (AimTrim m) n z = let same : m ≡ n = cc in rw same (omega arith)
+begun_trimmed c _ n z = absurd (cc)
+
 less_than : (a b : ℕ) → a ≤ b → (a == b) ≡ false → a < b
 less_than a b le h = by (cases_lt a b)
   where
@@ -309,7 +316,7 @@ admit_keeps c aim space law =
       requests = All-weaker (RequestHolds c) (RequestHolds d) (request_later c d l) c.requests law.requests;
       replies = All-weaker (ReplyHolds c) (ReplyHolds d) (reply_later c d l (faults_known c law)) c.replies law.replies;
       operations = at_push (λ j new. OperationHolds d j new) c.operations o no_operation (λ j. operation_later c d l (λ r h. h) j (operation c j) (down_stays c d l refl j (operation c j) (law.operations j)) (law.operations j))
-          (record { since = λ i. grows_same (server c i); heard = All-nil (SentFor d (length c.operations)); reach_before = law.reached; size = entries_more c aim; reached = omega arith; firm = omega arith; settled = λ n z. begun_settled c aim n z; ungiven = λ _. refl; placed = begun_placed c aim; faults = omega arith; down = λ i e. begun_down c i e; lost = All-nil (λ (l : Loss). faulted c.faults (length c.faults) l.server ≡ true); justified = λ a z. absurd (none-some a z) });
+          (record { since = λ i. grows_same (server c i); heard = All-nil (SentFor d (length c.operations)); reach_before = law.reached; size = entries_more c aim; reached = omega arith; firm = omega arith; settled = λ n z. begun_settled c aim n z; trimmed = λ n z. begun_trimmed c aim n z; ungiven = λ _. refl; placed = begun_placed c aim; faults = omega arith; down = λ i e. begun_down c i e; lost = All-nil (λ (l : Loss). faulted c.faults (length c.faults) l.server ≡ true); justified = λ a z. absurd (none-some a z) });
       fits = entries_fit c aim law.fits left.0;
       tickets = omega (arith, less_than _ _ law.tickets left.1, length-append c.operations (o ∷ []));
       cut = cut_reached c aim law.cut;
@@ -343,6 +350,7 @@ forget_keeps c t law = by (operation c t).closed
           reached = (law.operations t).reached;
           firm = (law.operations t).firm;
           settled = (law.operations t).settled;
+          trimmed = (law.operations t).trimmed;
           ungiven = λ e. absurd (false≢true (sym e));
           placed = (law.operations t).placed;
           faults = (law.operations t).faults;

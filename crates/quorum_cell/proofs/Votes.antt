@@ -206,7 +206,7 @@ give_keeps c law t None z = law
 give_keeps c law t (Some a) z =
     let may : may_decide (length c.servers) c.cut (operation c t) (operation c t).aim a ≡ true = (law.operations t).justified a z in
     tallied_keeps c t (record (operation c t) { given = Some (given_outcome c.cut (operation c t).aim a); closed = true }) (max c.reach (reached (operation c t) a)) (max c.firm (shown (operation c t) a)) (cap_after c.cap a) law refl refl refl (omega arith) (omega arith) (cap_lowers c.cap a)
-    (record { since = (law.operations t).since; heard = (law.operations t).heard; reach_before = (law.operations t).reach_before; size = (law.operations t).size; reached = (law.operations t).reached; firm = (law.operations t).firm; settled = (law.operations t).settled; ungiven = λ e. absurd (false≢true (sym e)); placed = (law.operations t).placed; faults = (law.operations t).faults; down = (law.operations t).down; lost = (law.operations t).lost; justified = (law.operations t).justified })
+    (record { since = (law.operations t).since; heard = (law.operations t).heard; reach_before = (law.operations t).reach_before; size = (law.operations t).size; reached = (law.operations t).reached; firm = (law.operations t).firm; settled = (law.operations t).settled; trimmed = (law.operations t).trimmed; ungiven = λ e. absurd (false≢true (sym e)); placed = (law.operations t).placed; faults = (law.operations t).faults; down = (law.operations t).down; lost = (law.operations t).lost; justified = (law.operations t).justified })
     (omega (arith, law.cut))
     (omega (arith, law.ordered, reached_is_shown (operation c t) a))
     (cap_is_shown (operation c t) c.cap c.firm a law.cap_shown)

@@ -2,11 +2,11 @@
 use Rattle.std.specs.Prelude.{◌≡◌, ℕ, min, ◌+◌, ◌^◌, ◌<◌, ◌≤◌, Bool, true, false, not, ◌&&◌, ◌||◌, ◌==◌, nat_le, List, length, drop, slice_get, Some, None, All, Contains, ⊤}
 use Rattle.std.specs.List.{list_any}
 use Rattle.delos_types.specs.declared.entry.Entry.{Entry}
-use Rattle.quorum_cell.specs.declared.operation.Aim.TheVariants.{Append as AimAppend, Settle as AimSettle}
+use Rattle.quorum_cell.specs.declared.operation.Aim.TheVariants.{Append as AimAppend, Settle as AimSettle, Trim as AimTrim}
 use Rattle.quorum_cell.specs.declared.operation.Outcome.{Outcome}
 use Rattle.quorum_cell.specs.declared.message.Ask.{Ask}
 use Rattle.quorum_cell.specs.declared.message.Ask.TheVariants.{Store, Seal, Repair, Read, Trim}
-use Rattle.quorum_cell.specs.declared.message.Told.TheVariants.{Got}
+use Rattle.quorum_cell.specs.declared.message.Told.TheVariants.{Got, Trimmed}
 use Rattle.quorum_cell.specs.declared.message.Request.{Request}
 use Rattle.quorum_cell.specs.declared.message.Reply.{Reply}
 use Rattle.majority_rule.specs.Majority.{is_majority}
@@ -57,6 +57,7 @@ pub record ReplyHolds (c : Cell) (r : Reply) : Type 0 where
       (is_sealed (server c r.server) ≡ true) × (unsealed_length (server c r.server) ≤ n) × (n ≤ length_of (server c r.server))
   pub mended : (n : ℕ) → mended_told r.ask r.told ≡ Some n → (is_sealed (server c r.server) ≡ true) × (n ≤ length_of (server c r.server))
   pub got : (p : ℕ) (e : Entry) → r.ask ≡ Read p → r.told ≡ Got e → slice_get c.entries p ≡ Some e
+  pub trimmed : (n : ℕ) → r.told ≡ Trimmed n → n ≤ (server c r.server).base
   pub failed : fails r.told ≡ true → failed_since c (operation c r.ticket) r.server ≡ true
 
 -- a reply that came to operation t was sent for it
@@ -75,6 +76,7 @@ pub record OperationHolds (c : Cell) (t : ℕ) (o : Operation) : Type 0 where
   pub firm : o.firm_before ≤ c.firm
   pub placed : (e : Entry) → o.aim ≡ AimAppend e → (o.want ≡ o.size_before + 1) × (slice_get c.entries o.size_before ≡ Some e)
   pub settled : (n : ℕ) → o.aim ≡ AimSettle n → o.want ≡ min n o.size_before
+  pub trimmed : (n : ℕ) → o.aim ≡ AimTrim n → min n o.reach_before ≤ o.want
   pub ungiven : o.closed ≡ false → o.given ≡ None
   pub justified : (a : Outcome) → o.decided ≡ Some a → may_decide (length c.servers) c.cut o o.aim a ≡ true
 
