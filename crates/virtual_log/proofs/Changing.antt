@@ -12,7 +12,7 @@ use Rattle.legal_journal.specs.declared.events.FabricCall.TheVariants.{WriteChai
 use Rattle.legal_journal.specs.declared.events.FabricAnswer.TheVariants.{Written, Conflict}
 use Rattle.legal_journal.specs.Journal.{state_of, IsLegal, ends}
 use Rattle.legal_journal.specs.Turns.{IsTurn, MayTurn}
-use Rattle.legal_journal.proofs.Log.{next, last_of_segments-extended_segments}
+use Rattle.legal_journal.proofs.Log.{next, rest_of, last_of_segments-extended_segments}
 use Rattle.legal_journal.proofs.Legal.{sound}
 use Rattle.legal_journal.proofs.Chains.{chain_ok}
 use Rattle.virtual_log.specs.declared.write.Change.{Change}
@@ -62,6 +62,13 @@ module _ (may : ℕ → Entry → Type 0) (floor : List Entry → ℕ → Type 0
   changed_has (Close last t) d is made = let up = behind t d made in omega (arith, up, ap (λ (s : Segment). s.id) is)
   changed_has (Raise n) d low made = omega (arith, ap (λ (x : Chain). x.trim) made)
 
+  pub changed_rises : (x : Change) (d : Chain) → d ≡ with_change x c → (last_segment c).id ≤ (last_segment d).id
+  changed_rises (Close last t) d made = omega (arith, behind t d made)
+  changed_rises (Raise n) d made =
+      let g = (sound may floor shelf old legal).olds v c goes.given in
+      let last_is : last_segment d ≡ last_segment c = ap (λ (x : Chain). last_of_segments x.segments) made ∙ (rest_of (ends (state_of old).cells) n g.id g.from c.segments g.joined).last in
+      omega (arith, ap (λ (s : Segment). s.id) last_is)
+
   pub changed_goes : (x : Change) (n : ℕ) (d e : Chain) (new : List Event) → Lacks x c → d ≡ with_change x c → e ≡ d → IsTurn may floor shelf who old (WriteChain v d) (Written n) new → GoesBy (state_of new) n e k
   changed_goes (Close last t) n d e new is made copy h =
       let given : (state_of new).register.given n ≡ Some e = written_given may floor shelf who old v c d goes.given n new h ∙ ap (λ (x : Chain). Some x) (sym copy) in
@@ -90,6 +97,9 @@ module _ (may : ℕ → Entry → Type 0) (floor : List Entry → ℕ → Type 0
   lost_goes n d e new h =
       let x = lost_ok may floor shelf who old v c d goes.given n e new h in
       goes_onto may floor shelf v k n c e old new legal (turn_later may floor shelf who old (WriteChain v d) (Conflict n e) new h) goes x.given x.last
+
+  pub lost_rises : (n : ℕ) (d e : Chain) (new : List Event) → IsTurn may floor shelf who old (WriteChain v d) (Conflict n e) new → (last_segment c).id ≤ (last_segment e).id
+  lost_rises n d e new h = (lost_ok may floor shelf who old v c d goes.given n e new h).last
 
   -- the version is later, and not great
   pub lost_later : (n : ℕ) (d e : Chain) (new : List Event) → IsTurn may floor shelf who old (WriteChain v d) (Conflict n e) new → (v < n) × (n ≤ 2 ^ 38 + 64)

@@ -16,6 +16,8 @@ pub mod Agreeing
 pub mod Sealing
 pub mod Saying
 pub mod Operating
+pub mod Outlasting
+pub mod Rising
 pub mod Sparing
 pub mod Stepping
 pub mod Calming

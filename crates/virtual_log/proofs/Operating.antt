@@ -6,7 +6,6 @@ use Rattle.legal_journal.specs.declared.events.Event.{Event}
 use Rattle.legal_journal.specs.declared.events.FabricCall.{FabricCall}
 use Rattle.legal_journal.specs.declared.events.FabricCall.TheVariants.{Forget}
 use Rattle.legal_journal.specs.declared.events.FabricAnswer.{FabricAnswer}
-use Rattle.legal_journal.specs.declared.events.FabricAnswer.TheVariants as fabric
 use Rattle.legal_journal.specs.Turns.{AreOthers, IsTurn}
 use Rattle.legal_journal.proofs.Sealing.{one_or_none}
 use Rattle.virtual_log.specs.declared.fault.Fault.{Fault}

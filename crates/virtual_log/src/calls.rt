@@ -64,6 +64,7 @@ pub fn append_on<T: Turns, C: Chooser>(
     ensures calm { OnOk result (CalmSince (T.who turns.old) (T.seen turns.old) (T.seen turns.new)) }
     ensures memory { IfErr result (λ fault. fault ≡ Memory → CalmSince (T.who turns.old) (T.seen turns.old) (T.seen turns.new)) }
     ensures closes { ClosesOwn (T.who turns.old) (T.seen turns.old) result (T.seen turns.new) }
+    ensures rises { (last_segment known.old.chain).id ≤ (last_segment known.new.chain).id }
 {
     'segment: loop {
         let last = last_of(&known.chain);
@@ -103,6 +104,7 @@ pub fn tail_on<T: Turns, C: Chooser>(
     ensures calm { OnOk result (CalmSince (T.who turns.old) (T.seen turns.old) (T.seen turns.new)) }
     ensures memory { IfErr result (λ fault. fault ≡ Memory → CalmSince (T.who turns.old) (T.seen turns.old) (T.seen turns.new)) }
     ensures closes { ClosesOwn (T.who turns.old) (T.seen turns.old) result (T.seen turns.new) }
+    ensures rises { (last_segment known.old.chain).id ≤ (last_segment known.new.chain).id }
 {
     'segment: loop {
         let last = last_of(&known.chain);
@@ -191,6 +193,7 @@ pub fn read_from<T: Turns, C: Chooser>(
     ensures calm { OnOk result (CalmSince (T.who turns.old) (T.seen turns.old) (T.seen turns.new)) }
     ensures memory { IfErr result (λ fault. fault ≡ Memory → CalmSince (T.who turns.old) (T.seen turns.old) (T.seen turns.new)) }
     ensures closes { ClosesOwn (T.who turns.old) (T.seen turns.old) result (T.seen turns.new) }
+    ensures rises { (last_segment known.old.chain).id ≤ (last_segment known.new.chain).id }
 {
     'trim: loop {
         let trim = known.chain.trim;

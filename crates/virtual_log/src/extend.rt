@@ -1,6 +1,6 @@
 //! The last loglet of the chain is replaced on request (OSDI 2020): it is sealed, its tail is found, and the chain is
 //! written that closes it there. Whoever writes first wins.
-ghost use Rattle.std.specs.Prelude.{◌≡◌, ◌<◌, ◌+◌, ℕ, length, IfOk, OnOk, IfErr, OnErr, None, Contains};
+ghost use Rattle.std.specs.Prelude.{◌≡◌, ◌<◌, ◌≤◌, ◌+◌, ℕ, length, IfOk, OnOk, IfErr, OnErr, None, Contains};
 ghost use Rattle.chain_map.specs.Chain.{last_segment};
 ghost use Rattle.legal_journal.specs.Journal.{state_of, IsLegal};
 ghost use Rattle.virtual_log.specs.Turning.{Later};
@@ -56,6 +56,7 @@ fn close_at<T: Turns>(
     ensures calm { OnOk result (CalmSince (T.who turns.old) (T.seen turns.old) (T.seen turns.new)) }
     ensures memory { IfErr result (λ fault. fault ≡ Memory → CalmSince (T.who turns.old) (T.seen turns.old) (T.seen turns.new)) }
     ensures closes { Operates (T.who turns.old) None None (T.seen turns.old) (T.seen turns.new) }
+    ensures rises { (last_segment known.old.chain).id ≤ (last_segment known.new.chain).id }
 {
     let last = last_of(&known.chain);
     match write(turns, alloc, known, Change::Close { last, length })? {
@@ -100,6 +101,7 @@ pub fn extend_on<T: Turns, C: Chooser>(
     ensures calm { OnOk result (CalmSince (T.who turns.old) (T.seen turns.old) (T.seen turns.new)) }
     ensures memory { IfErr result (λ fault. fault ≡ Memory → CalmSince (T.who turns.old) (T.seen turns.old) (T.seen turns.new)) }
     ensures closes { ClosesOwn (T.who turns.old) (T.seen turns.old) result (T.seen turns.new) }
+    ensures rises { (last_segment known.old.chain).id ≤ (last_segment known.new.chain).id }
 {
     let (version, chain) = look(turns)?;
     known.version = version;

@@ -15,9 +15,10 @@
 //! - `truncate`: the trim is raised, and the loglets let go of what lies below it.
 //!
 //! The definitions stand in `specs/`: `Turning` (what turns bring), `Causes` (the cause of each fault), `Writing`
-//! (which events write a chain), `Sealing` (which Seals a call begins), `Saying` (which words it carries with), `Log` (what a
-//! virtual log shows), `Next` and `Holding` (what its reads say), `Changing` (how a chain comes to have a
-//! change), `Extending`, `Truncating` and `Underway` (what an append that is underway rests on, and its turns).
+//! (which events write a chain), `Sealing` (which Seals a call begins), `Saying` (which words it carries with),
+//! `Operating` (which operations it leaves open), `Log` (what a virtual log shows), `Next` and `Holding` (what its reads
+//! say), `Changing` (how a chain comes to have a change), `Extending`, `Truncating` and `Underway` (what an append that is
+//! underway rests on, and its turns).
 #![tactic(auto)]
 
 pub mod calls;

@@ -1,7 +1,7 @@
 //! The virtual log.
 ghost use Rattle.std.specs.Prelude.{◌≡◌, ◌≤◌, ◌<◌, ◌+◌, ℕ, length, min, max, IfOk, OnOk, IfErr, OnErr, None};
 ghost use Rattle.delos_types.specs.Spelling.{IsSpellable};
-ghost use Rattle.chain_map.specs.Chain.{first_chain};
+ghost use Rattle.chain_map.specs.Chain.{first_chain, last_segment};
 ghost use Rattle.legal_journal.specs.Journal.{state_of, IsLegal, IsFree, tail_of, trim_of};
 ghost use Rattle.legal_journal.specs.Laws.{Stands};
 ghost use Rattle.virtual_log.specs.Turning.{OnlyOwn, Later, IsAbove};
@@ -170,6 +170,9 @@ impl<T: Turns, C: Chooser> VirtualLog<T, C> {
         // Each own carry and closing is of an operation that this call began, one after another, and none of them is left
         // open. Want of memory may leave the last one: a carry and a closing for which memory is wanting are no events.
         ensures closes { ClosesOwn self.old.who self.old.seen result self.new.seen }
+
+        // The chain that it goes by ends with no earlier loglet than before.
+        ensures rises { (last_segment self.old.chain).id ≤ (last_segment self.new.chain).id }
     {
         append_on(
             &mut self.turns,
@@ -209,6 +212,7 @@ impl<T: Turns, C: Chooser> VirtualLog<T, C> {
 
         // Each own carry and closing is of an operation that this call began, and none is left open, as with `append`.
         ensures closes { ClosesOwn self.old.who self.old.seen result self.new.seen }
+        ensures rises { (last_segment self.old.chain).id ≤ (last_segment self.new.chain).id }
     {
         tail_on(
             &mut self.turns,
@@ -248,6 +252,7 @@ impl<T: Turns, C: Chooser> VirtualLog<T, C> {
 
         // Each own carry and closing is of an operation that this call began, and none is left open, as with `append`.
         ensures closes { ClosesOwn self.old.who self.old.seen result self.new.seen }
+        ensures rises { (last_segment self.old.chain).id ≤ (last_segment self.new.chain).id }
     {
         extend_on(
             &mut self.turns,
@@ -287,6 +292,7 @@ impl<T: Turns, C: Chooser> VirtualLog<T, C> {
 
         // It leaves no operation open, and neither carries nor closes one that it did not begin.
         ensures closes { Operates self.old.who None None self.old.seen self.new.seen }
+        ensures rises { (last_segment self.old.chain).id ≤ (last_segment self.new.chain).id }
     {
         truncate_on(&mut self.turns, self.alloc, &mut self.known, n)
     }
@@ -319,6 +325,7 @@ impl<T: Turns, C: Chooser> VirtualLog<T, C> {
 
         // Each own carry and closing is of an operation that this call began, and none is left open, as with `append`.
         ensures closes { ClosesOwn self.old.who self.old.seen result self.new.seen }
+        ensures rises { (last_segment self.old.chain).id ≤ (last_segment self.new.chain).id }
     {
         prefix_trim_on(
             &mut self.turns,
@@ -358,6 +365,7 @@ impl<T: Turns, C: Chooser> VirtualLog<T, C> {
 
         // Each own carry and closing is of an operation that this call began, and none is left open, as with `append`.
         ensures closes { ClosesOwn self.old.who self.old.seen result self.new.seen }
+        ensures rises { (last_segment self.old.chain).id ≤ (last_segment self.new.chain).id }
     {
         let end = most.min(self.known.tail);
         if end <= least {

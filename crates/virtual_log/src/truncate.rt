@@ -1,5 +1,6 @@
 //! The trim of the chain is raised, and the loglets let go of what lies below it.
 ghost use Rattle.std.specs.Prelude.{◌≡◌, ◌<◌, ◌≤◌, ℕ, None, Some, slice_get, IfOk, OnOk, IfErr};
+ghost use Rattle.chain_map.specs.Chain.{last_segment};
 ghost use Rattle.delos_types.specs.declared.chain.Segment.{Segment};
 ghost use Rattle.legal_journal.specs.Journal.{state_of, trim_of, IsLegal, IsFree};
 ghost use Rattle.virtual_log.specs.Turning.{Later, HasEvent};
@@ -47,6 +48,7 @@ pub fn truncate_on<T: Turns>(
     ensures calm { OnOk result (CalmSince (T.who turns.old) (T.seen turns.old) (T.seen turns.new)) }
     ensures memory { IfErr result (λ fault. fault ≡ Memory → CalmSince (T.who turns.old) (T.seen turns.old) (T.seen turns.new)) }
     ensures closes { Operates (T.who turns.old) None None (T.seen turns.old) (T.seen turns.new) }
+    ensures rises { (last_segment known.old.chain).id ≤ (last_segment known.new.chain).id }
 {
     let (version, chain) = look(turns)?;
     known.version = version;
@@ -155,6 +157,7 @@ pub fn prefix_trim_on<T: Turns, C: Chooser>(
     ensures calm { OnOk result (CalmSince (T.who turns.old) (T.seen turns.old) (T.seen turns.new)) }
     ensures memory { IfErr result (λ fault. fault ≡ Memory → CalmSince (T.who turns.old) (T.seen turns.old) (T.seen turns.new)) }
     ensures closes { ClosesOwn (T.who turns.old) (T.seen turns.old) result (T.seen turns.new) }
+    ensures rises { (last_segment known.old.chain).id ≤ (last_segment known.new.chain).id }
 {
     let (version, chain) = look(turns)?;
     known.version = version;

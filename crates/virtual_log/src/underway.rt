@@ -1,7 +1,7 @@
 //! An append that is begun before another ends, turn by turn. Where its loglet is sealed, the chain is let go on behind
 //! it as every call does (OSDI 2020): its sealed tail is found, the chain is written that closes it there, and the
 //! append is begun again. Whoever comes first wins; the others take the chain that they find.
-ghost use Rattle.std.specs.Prelude.{◌≡◌, ◌≤◌, ◌+◌, ℕ, Bool, List, ◌++◌, max, IfOk, OnOk, IfErr, OnErr, IfSome, IfNone};
+ghost use Rattle.std.specs.Prelude.{◌≡◌, ◌≤◌, ◌+◌, ℕ, Bool, Option, None, List, ◌++◌, max, IfOk, OnOk, IfErr, OnErr, IfSome, IfNone};
 ghost use Rattle.delos_types.specs.declared.chain.Chain.{Chain};
 ghost use Rattle.chain_map.specs.Chain.{last_segment};
 ghost use Rattle.delos_types.specs.Spelling.{IsSpellable};
@@ -17,6 +17,7 @@ ghost use Rattle.virtual_log.specs.declared.underway.Going.{Going};
 ghost use Rattle.virtual_log.specs.declared.underway.Step.TheVariants.{Starting, Appending, Reading, Asking, Finding, Closing, Dropping};
 ghost use Rattle.virtual_log.specs.Sealing.{SealsNone};
 ghost use Rattle.virtual_log.specs.Saying.{SaysOnly, is_among};
+ghost use Rattle.virtual_log.specs.Operating.{Operation, Operates};
 ghost use Rattle.virtual_log.specs.Log.{GoesBy};
 ghost use Rattle.virtual_log.specs.Holding.{Holds};
 ghost use Rattle.virtual_log.specs.Underway.{IsGoing, IsDropping, AreApart, LeaveStep, LeavesNone, LeavesOthers, StaysGoing, LeavesOpen, OneTurn, Places, Moves, Forgets, Went, due};
@@ -462,6 +463,15 @@ pub fn what_is_going_stays<P: Rules>()
     ensures { (who : ℕ) (early seen more : List Event) (known newer : Chain) (going : Going) → IsLegal P.may P.floor P.shelf (seen ++ more)
         → (last_segment known).id ≤ (last_segment newer).id → LeaveStep who going.step more
         → IsGoing P.may who early seen known going → IsGoing P.may who early (seen ++ more) newer going }
+{}
+
+/// What is underway before another call of its value is so behind it, by the chain that the value goes by then: a call
+/// carries and closes what it began alone (`closes`), and that chain ends no earlier (`rises`). It does nothing: its
+/// contract is the law.
+pub fn what_is_going_outlasts_calls<P: Rules>()
+    ensures { (who : ℕ) (early old new : List Event) (known newer : Chain) (left : Option Operation) (going : Going) → Later P.may P.floor P.shelf old new
+        → (last_segment known).id ≤ (last_segment newer).id → Operates who None left old new
+        → IsGoing P.may who early old known going → IsGoing P.may who early new newer going }
 {}
 
 impl<T: Turns, C: Chooser> VirtualLog<T, C> {

@@ -1,7 +1,7 @@
 //! A change of the chain: it is written under the condition that the chain is the one that is known, and where another
 //! chain stands by then, over that one, until a chain stands that has the change.
-ghost use Rattle.std.specs.Prelude.{◌≡◌, IfOk, OnOk, IfErr, None, IsTrue, ◌↔◌};
-ghost use Rattle.chain_map.specs.Chain.{IsChain};
+ghost use Rattle.std.specs.Prelude.{◌≡◌, ◌≤◌, IfOk, OnOk, IfErr, None, IsTrue, ◌↔◌};
+ghost use Rattle.chain_map.specs.Chain.{IsChain, last_segment};
 ghost use Rattle.legal_journal.specs.Journal.{state_of, IsLegal};
 ghost use Rattle.legal_journal.specs.Turns.{MayTurn, IsTurn};
 ghost use Rattle.virtual_log.specs.Turning.{Later};
@@ -121,6 +121,7 @@ pub(crate) fn write<T: Turns>(
     ensures calm { OnOk result (CalmSince (T.who turns.old) (T.seen turns.old) (T.seen turns.new)) }
     ensures memory { IfErr result (λ fault. fault ≡ Memory → CalmSince (T.who turns.old) (T.seen turns.old) (T.seen turns.new)) }
     ensures closes { Operates (T.who turns.old) None None (T.seen turns.old) (T.seen turns.new) }
+    ensures rises { (last_segment known.old.chain).id ≤ (last_segment known.new.chain).id }
 {
     'write: loop {
         let next = change.made(alloc, &known.chain)?;

@@ -190,6 +190,7 @@ segment-preserved g c =
       who = from.who ∙ (c.in_ok-position.ensures.who ∙ i.who);
       goes_by = behind;
       tail = i.tail;
+      rises = omega (arith, i.rises, from.behind, ap (λ (x : Segment). x.id) c.last_of-last.ensures);
       above = λ pos new later x.
           i.above pos new (later_trans p.may p.floor p.shelf now end new (later_trans p.may p.floor p.shelf now mid end to_mid from.later) later)
           (above_since p.may p.floor p.shelf (t.who c.args.turns.now) pos now mid end new (subst (λ w. FirstTurn w now mid) i.who first) from.later later x);
@@ -264,6 +265,7 @@ segment-init g c =
       who = refl;
       goes_by = c.requires.goes_by;
       tail = refl;
+      rises = omega arith;
       above = λ pos new later x. x;
       words = says_refl (g.C.Chooser.may c.args.chooser.now) (t.who c.args.turns.now) old;
       unsealed = seals_refl (t.who c.args.turns.now) old;
@@ -378,3 +380,12 @@ returns-in_err-position-clause-err g c =
     let f = c.in_err-position.field-0.0 in
     let r = err_from_is_err_and c.from_residual.result c.from_residual.ensures.1 in
     rw (r.1, r.2) (cause_since who f old now new i.later.more i.later.seen (subst (λ w. HasCause w now f new) i.who c.in_err-position.ensures.err))
+
+pub returns-in_err-position-clause-rises : goal.returns-in_err-position-clause-rises
+returns-in_err-position-clause-rises g c = c.segment.invariant.rises
+
+pub returns-in-Some-clause-rises : goal.returns-in-Some-clause-rises
+returns-in-Some-clause-rises g c = c.segment.invariant.rises
+
+pub returns-in_err-version-clause-rises : goal.returns-in_err-version-clause-rises
+returns-in_err-version-clause-rises g c = c.segment.invariant.rises

@@ -1,4 +1,4 @@
-use Rattle.std.proofs.Common.{◌≡◌, ◌-◌, ℕ, List, length, None}
+use Rattle.std.proofs.Common.{◌≡◌, ◌-◌, ℕ, List, length, None, ◌≤◌}
 use Rattle.chain_map.specs.Chain.{last_segment}
 use Rattle.legal_journal.specs.declared.events.Event.{Event}
 use Rattle.legal_journal.specs.Journal.{state_of}
@@ -20,6 +20,7 @@ invariant-segment g l =
       who : t.who l.turns ≡ t.who l.fn.turns;
       goes_by : GoesBy (state_of (t.seen l.turns)) l.known.version l.known.chain l.known.tail;
       tail : l.known.tail ≡ l.fn.known.tail;
+      rises : (last_segment l.fn.known.chain).id ≤ (last_segment l.known.chain).id;
       above : (pos : ℕ) (new : List Event) → Later p.may p.floor p.shelf (t.seen l.turns) new → IsAbove (t.who l.fn.turns) (t.seen l.turns) pos new → IsAbove (t.who l.fn.turns) (t.seen l.fn.turns) pos new;
       words : SaysOnly (may l.fn.chooser) (t.who l.fn.turns) (t.seen l.fn.turns) (t.seen l.turns);
       unsealed : SealsNone (t.who l.fn.turns) (t.seen l.fn.turns) (t.seen l.turns);

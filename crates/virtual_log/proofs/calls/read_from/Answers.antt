@@ -12,6 +12,7 @@ use Rattle.virtual_log.proofs.Saying.{says_refl, says_then, says_on}
 use Rattle.virtual_log.proofs.Sealing.{seals_refl, seals_then}
 use Rattle.virtual_log.proofs.Calming.{calm_refl, calm_then}
 use Rattle.virtual_log.proofs.Operating.{operates_refl, operates_then, left_then, closes_none}
+use Rattle.virtual_log.proofs.Rising.{rises_now}
 use Rattle.virtual_log.proofs.calls.read_from.Goals as goal
 
 pub returns-in_err-entry-clause-goes_by : goal.returns-in_err-entry-clause-goes_by
@@ -128,6 +129,7 @@ trim-preserved g c =
       who = c.in_ok-version.ensures.who ∙ (c.in_ok-entry.ensures.who ∙ i.who);
       goes_by = goes_now p.may p.floor p.shelf (t.who c.read_at.new.turns) k.version k.tail c.in_ok-version.version k.chain c.in_ok-version.chain mid end to_mid.legal to_end at_mid c.in_ok-version.ensures.ok;
       tail = i.tail;
+      rises = omega (arith, i.rises, rises_now p.may p.floor p.shelf (t.who c.read_at.new.turns) k.version k.tail c.in_ok-version.version k.chain c.in_ok-version.chain mid end to_end at_mid c.in_ok-version.ensures.ok);
       first =
           let cut = subst (λ o. IfNone o (c.max-pos.result < trim_of (state_of mid))) c.in_default.is c.in_ok-entry.ensures.cut in
           inr (omega (arith, cut, (later_continues p.may p.floor p.shelf mid end to_end).trim, c.max-pos.ensures));
@@ -202,6 +204,7 @@ trim-init g c =
       who = refl;
       goes_by = c.requires.goes_by;
       tail = refl;
+      rises = omega arith;
       first = inl refl;
       words = says_refl (g.C.Chooser.may c.args.chooser.now) (t.who c.args.turns.now) old;
       unsealed = seals_refl (t.who c.args.turns.now) old;
@@ -315,3 +318,12 @@ returns-in_err-entry-clause-err g c =
     let f = c.in_err-entry.field-0.0 in
     let r = err_from_is_err_and c.from_residual.result c.from_residual.ensures.1 in
     rw (r.1, r.2) (cause_since who f old now new i.later.more i.later.seen (subst (λ w. HasCause w now f new) i.who c.in_err-entry.ensures.err))
+
+pub returns-in_err-entry-clause-rises : goal.returns-in_err-entry-clause-rises
+returns-in_err-entry-clause-rises g c = c.trim.invariant.rises
+
+pub returns-in-Some-clause-rises : goal.returns-in-Some-clause-rises
+returns-in-Some-clause-rises g c = c.trim.invariant.rises
+
+pub returns-in_err-version-clause-rises : goal.returns-in_err-version-clause-rises
+returns-in_err-version-clause-rises g c = c.trim.invariant.rises

@@ -1,4 +1,5 @@
-use Rattle.std.proofs.Common.{◌≡◌, ◌⊎◌, ◌-◌, ◌<◌, ◌^◌, None}
+use Rattle.chain_map.specs.Chain.{last_segment}
+use Rattle.std.proofs.Common.{◌≡◌, ◌⊎◌, ◌-◌, ◌<◌, ◌^◌, None, ◌≤◌}
 use Rattle.legal_journal.specs.Journal.{state_of, trim_of}
 use Rattle.virtual_log.specs.Turning.{Later}
 use Rattle.virtual_log.specs.Log.{GoesBy}
@@ -18,6 +19,7 @@ invariant-trim g l =
       who : t.who l.turns ≡ t.who l.fn.turns;
       goes_by : GoesBy (state_of (t.seen l.turns)) l.known.version l.known.chain l.known.tail;
       tail : l.known.tail ≡ l.fn.known.tail;
+      rises : (last_segment l.fn.known.chain).id ≤ (last_segment l.known.chain).id;
       first : (t.seen l.turns ≡ t.seen l.fn.turns) ⊎ (l.min < trim_of (state_of (t.seen l.turns)));
       words : SaysOnly (may l.fn.chooser) (t.who l.fn.turns) (t.seen l.fn.turns) (t.seen l.turns);
       unsealed : SealsNone (t.who l.fn.turns) (t.seen l.fn.turns) (t.seen l.turns);

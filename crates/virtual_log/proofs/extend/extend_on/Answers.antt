@@ -12,6 +12,7 @@ use Rattle.virtual_log.proofs.Closing.{closed_since, follows_closed}
 use Rattle.virtual_log.proofs.Saying.{says_then, says_on}
 use Rattle.virtual_log.proofs.Calming.{calm_then}
 use Rattle.virtual_log.proofs.Operating.{operates_then, left_then, closes_none}
+use Rattle.virtual_log.proofs.Rising.{rises_now}
 use Rattle.virtual_log.proofs.extend.extend_on.Goals as goal
 
 pub returns-in_err-version-clause-goes_by : goal.returns-in_err-version-clause-goes_by
@@ -571,3 +572,48 @@ returns-clause-closes g c =
     let third = c.in_ok-length.ensures in
     let to_d = operates_then who (t.who c.seal.new.turns) old b d (second.who ∙ first.who) to_b third.closes in
     operates_then who (t.who c.find_tail.new.turns) old d (t.seen c.close_at.new.turns) (third.who ∙ (second.who ∙ first.who)) to_d c.in_ok-closed.ensures.closes
+
+pub returns-then-last-shelf_len-clause-rises : goal.returns-then-last-shelf_len-clause-rises
+returns-then-last-shelf_len-clause-rises g c =
+    let p = g.T.Law.Rules in
+    let t = g.T.Turns in
+    let k = c.args.known.now in
+    let first = c.in_ok-version.ensures in
+    let up = rises_now p.may p.floor p.shelf (t.who c.args.turns.now) k.version k.tail c.in_ok-version.version k.chain c.in_ok-version.chain (t.seen c.args.turns.now) (t.seen c.look.new.turns) first.later c.requires.goes_by first.ok in
+    up
+
+pub returns-in_err-seal-clause-rises : goal.returns-in_err-seal-clause-rises
+returns-in_err-seal-clause-rises g c =
+    let p = g.T.Law.Rules in
+    let t = g.T.Turns in
+    let k = c.args.known.now in
+    let first = c.in_ok-version.ensures in
+    let up = rises_now p.may p.floor p.shelf (t.who c.args.turns.now) k.version k.tail c.in_ok-version.version k.chain c.in_ok-version.chain (t.seen c.args.turns.now) (t.seen c.look.new.turns) first.later c.requires.goes_by first.ok in
+    up
+
+pub returns-in_err-length-clause-rises : goal.returns-in_err-length-clause-rises
+returns-in_err-length-clause-rises g c =
+    let p = g.T.Law.Rules in
+    let t = g.T.Turns in
+    let k = c.args.known.now in
+    let first = c.in_ok-version.ensures in
+    let up = rises_now p.may p.floor p.shelf (t.who c.args.turns.now) k.version k.tail c.in_ok-version.version k.chain c.in_ok-version.chain (t.seen c.args.turns.now) (t.seen c.look.new.turns) first.later c.requires.goes_by first.ok in
+    up
+
+pub returns-in_err-closed-clause-rises : goal.returns-in_err-closed-clause-rises
+returns-in_err-closed-clause-rises g c =
+    let p = g.T.Law.Rules in
+    let t = g.T.Turns in
+    let k = c.args.known.now in
+    let first = c.in_ok-version.ensures in
+    let up = rises_now p.may p.floor p.shelf (t.who c.args.turns.now) k.version k.tail c.in_ok-version.version k.chain c.in_ok-version.chain (t.seen c.args.turns.now) (t.seen c.look.new.turns) first.later c.requires.goes_by first.ok in
+    omega (arith, up, c.in_err-closed.ensures.rises)
+
+pub returns-clause-rises : goal.returns-clause-rises
+returns-clause-rises g c =
+    let p = g.T.Law.Rules in
+    let t = g.T.Turns in
+    let k = c.args.known.now in
+    let first = c.in_ok-version.ensures in
+    let up = rises_now p.may p.floor p.shelf (t.who c.args.turns.now) k.version k.tail c.in_ok-version.version k.chain c.in_ok-version.chain (t.seen c.args.turns.now) (t.seen c.look.new.turns) first.later c.requires.goes_by first.ok in
+    omega (arith, up, c.in_ok-closed.ensures.rises)

@@ -13,6 +13,7 @@ use Rattle.virtual_log.proofs.Saying.{says_then}
 use Rattle.virtual_log.proofs.Sealing.{seals_then}
 use Rattle.virtual_log.proofs.Calming.{calm_then}
 use Rattle.virtual_log.proofs.Operating.{operates_then, left_then, closes_none}
+use Rattle.virtual_log.proofs.Rising.{rises_now}
 use Rattle.virtual_log.proofs.truncate.prefix_trim_on.Goals as goal
 
 pub returns-in_err-version-clause-goes_by : goal.returns-in_err-version-clause-goes_by
@@ -396,3 +397,39 @@ returns-clause-closes g c =
     let second = c.in_ok-trim.ensures in
     let to_b = operates_then who (t.who c.look.new.turns) old a b first.who first.closes second.closes in
     operates_then who (t.who c.truncate_on.new.turns) old b (t.seen c.trim_segments.new.turns) (second.who ∙ first.who) to_b c.in_ok-trim_segments.ensures.closes
+
+pub returns-in_err-looked-clause-rises : goal.returns-in_err-looked-clause-rises
+returns-in_err-looked-clause-rises g c =
+    let p = g.T.Law.Rules in
+    let t = g.T.Turns in
+    let k = c.args.known.now in
+    let first = c.in_ok-version.ensures in
+    let up = rises_now p.may p.floor p.shelf (t.who c.args.turns.now) k.version k.tail c.in_ok-version.version k.chain c.in_ok-version.chain (t.seen c.args.turns.now) (t.seen c.look.new.turns) first.later c.requires.goes_by first.ok in
+    up
+
+pub returns-in_err-trim-clause-rises : goal.returns-in_err-trim-clause-rises
+returns-in_err-trim-clause-rises g c =
+    let p = g.T.Law.Rules in
+    let t = g.T.Turns in
+    let k = c.args.known.now in
+    let first = c.in_ok-version.ensures in
+    let up = rises_now p.may p.floor p.shelf (t.who c.args.turns.now) k.version k.tail c.in_ok-version.version k.chain c.in_ok-version.chain (t.seen c.args.turns.now) (t.seen c.look.new.turns) first.later c.requires.goes_by first.ok in
+    omega (arith, up, c.in_err-trim.ensures.rises)
+
+pub returns-in_err-trim_segments-clause-rises : goal.returns-in_err-trim_segments-clause-rises
+returns-in_err-trim_segments-clause-rises g c =
+    let p = g.T.Law.Rules in
+    let t = g.T.Turns in
+    let k = c.args.known.now in
+    let first = c.in_ok-version.ensures in
+    let up = rises_now p.may p.floor p.shelf (t.who c.args.turns.now) k.version k.tail c.in_ok-version.version k.chain c.in_ok-version.chain (t.seen c.args.turns.now) (t.seen c.look.new.turns) first.later c.requires.goes_by first.ok in
+    omega (arith, up, c.in_ok-trim.ensures.rises)
+
+pub returns-clause-rises : goal.returns-clause-rises
+returns-clause-rises g c =
+    let p = g.T.Law.Rules in
+    let t = g.T.Turns in
+    let k = c.args.known.now in
+    let first = c.in_ok-version.ensures in
+    let up = rises_now p.may p.floor p.shelf (t.who c.args.turns.now) k.version k.tail c.in_ok-version.version k.chain c.in_ok-version.chain (t.seen c.args.turns.now) (t.seen c.look.new.turns) first.later c.requires.goes_by first.ok in
+    omega (arith, up, c.in_ok-trim.ensures.rises)

@@ -1,4 +1,4 @@
-use Rattle.std.proofs.Common.{subst}
+use Rattle.std.proofs.Common.{subst, arith}
 use Rattle.std.proofs.lemmas.Result.{err_from_is_err_and}
 use Rattle.legal_journal.specs.Journal.{state_of}
 use Rattle.virtual_log.specs.declared.write.Change.TheVariants.{Raise}
@@ -11,6 +11,7 @@ use Rattle.virtual_log.proofs.Saying.{says_then}
 use Rattle.virtual_log.proofs.Sealing.{seals_then}
 use Rattle.virtual_log.proofs.Calming.{calm_then}
 use Rattle.virtual_log.proofs.Operating.{operates_then}
+use Rattle.virtual_log.proofs.Rising.{rises_now}
 use Rattle.virtual_log.proofs.truncate.truncate_on.Goals as goal
 
 pub returns-in_err-version-clause-goes_by : goal.returns-in_err-version-clause-goes_by
@@ -175,3 +176,30 @@ returns-clause-closes g c =
     let new = t.seen c.write.new.turns in
     let first = c.in_ok-version.ensures in
     operates_then who user old mid new first.who first.closes c.in_ok-write.ensures.closes
+
+pub returns-then-n-known-clause-rises : goal.returns-then-n-known-clause-rises
+returns-then-n-known-clause-rises g c =
+    let p = g.T.Law.Rules in
+    let t = g.T.Turns in
+    let k = c.args.known.now in
+    let first = c.in_ok-version.ensures in
+    let up = rises_now p.may p.floor p.shelf (t.who c.args.turns.now) k.version k.tail c.in_ok-version.version k.chain c.in_ok-version.chain (t.seen c.args.turns.now) (t.seen c.look.new.turns) first.later c.requires.goes_by first.ok in
+    up
+
+pub returns-in_err-write-clause-rises : goal.returns-in_err-write-clause-rises
+returns-in_err-write-clause-rises g c =
+    let p = g.T.Law.Rules in
+    let t = g.T.Turns in
+    let k = c.args.known.now in
+    let first = c.in_ok-version.ensures in
+    let up = rises_now p.may p.floor p.shelf (t.who c.args.turns.now) k.version k.tail c.in_ok-version.version k.chain c.in_ok-version.chain (t.seen c.args.turns.now) (t.seen c.look.new.turns) first.later c.requires.goes_by first.ok in
+    omega (arith, up, c.in_err-write.ensures.rises)
+
+pub returns-clause-rises : goal.returns-clause-rises
+returns-clause-rises g c =
+    let p = g.T.Law.Rules in
+    let t = g.T.Turns in
+    let k = c.args.known.now in
+    let first = c.in_ok-version.ensures in
+    let up = rises_now p.may p.floor p.shelf (t.who c.args.turns.now) k.version k.tail c.in_ok-version.version k.chain c.in_ok-version.chain (t.seen c.args.turns.now) (t.seen c.look.new.turns) first.later c.requires.goes_by first.ok in
+    omega (arith, up, c.in_ok-write.ensures.rises)

@@ -12,7 +12,7 @@ use Rattle.virtual_log.proofs.Sealing.{seals_refl, seals_then}
 use Rattle.virtual_log.proofs.Saying.{says_refl, says_then}
 use Rattle.virtual_log.proofs.Calming.{calm_refl, calm_then}
 use Rattle.virtual_log.proofs.Going.{goes_later}
-use Rattle.virtual_log.proofs.Changing.{granted_later, is_chain, admits, may_change, changed_has, changed_goes, changed_made, lost_goes, lost_later, lost, lacks_still, settled_since}
+use Rattle.virtual_log.proofs.Changing.{granted_later, is_chain, admits, may_change, changed_has, changed_goes, changed_made, lost_goes, lost_later, lost, lacks_still, settled_since, changed_rises, lost_rises}
 use Rattle.virtual_log.proofs.Operating.{operates_refl, operates_then}
 use Rattle.virtual_log.proofs.write.write.Goals as goal
 
@@ -313,6 +313,7 @@ write-preserved g c =
       who = c.in_ok-version.ensures.who ∙ i.who;
       goes_by = lost_goes p.may p.floor p.shelf (t.who l.turns) now k.version k.tail k.chain i.later.legal i.goes_by c.in-Conflict.version c.in_ok-next.next c.in-Conflict.chain new turn;
       tail = i.tail;
+      rises = omega (arith, i.rises, lost_rises p.may p.floor p.shelf (t.who l.turns) now k.version k.tail k.chain i.later.legal i.goes_by c.in-Conflict.version c.in_ok-next.next c.in-Conflict.chain new turn);
       granted = granted_later p.may p.floor p.shelf k.tail now new c.args.change step i.granted;
       lacks = lacks_still p.may p.floor p.shelf (t.who l.turns) now k.version k.tail k.chain i.later.legal i.goes_by c.args.change c.in-Conflict.version c.in_ok-next.next c.in-Conflict.chain new i.lacks turn c.is_in.result c.if-is_in.false c.is_in.ensures;
       quiet = wrote_trans who old now new i.quiet (wrote_by who user now new i.who (lost p.may p.floor p.shelf (t.who l.turns) now k.version k.tail k.chain i.later.legal i.goes_by c.in-Conflict.version c.in_ok-next.next c.in-Conflict.chain new turn).quiet);
@@ -333,6 +334,7 @@ write-init g c =
       who = refl;
       goes_by = c.requires.goes_by;
       tail = refl;
+      rises = omega arith;
       granted = c.requires.granted;
       lacks = c.requires.lacks;
       quiet = wrote_refl who old (nil old);
@@ -383,3 +385,31 @@ returns-then-is_in-clause-closes g c =
     let user = t.who l.turns in
     let new = t.seen c.write_over.new.turns in
     operates_then who user old now new i.who i.closes c.in_ok-version.ensures.closes
+
+pub returns-in_err-version-clause-rises : goal.returns-in_err-version-clause-rises
+returns-in_err-version-clause-rises g c = c.write.invariant.rises
+
+pub returns-in-Written-clause-rises : goal.returns-in-Written-clause-rises
+returns-in-Written-clause-rises g c =
+    let p = g.T.Law.Rules in
+    let t = g.T.Turns in
+    let l = c.write in
+    let i = l.invariant in
+    let k = l.known in
+    let now = t.seen l.turns in
+    let up = changed_rises p.may p.floor p.shelf (t.who l.turns) now k.version k.tail k.chain i.later.legal i.goes_by c.args.change c.in_ok-copy.copy (c.in_ok-copy.ensures.cases ∙ c.in_ok-next.ensures) in
+    omega (arith, i.rises, up)
+
+pub returns-then-is_in-clause-rises : goal.returns-then-is_in-clause-rises
+returns-then-is_in-clause-rises g c =
+    let p = g.T.Law.Rules in
+    let t = g.T.Turns in
+    let l = c.write in
+    let i = l.invariant in
+    let k = l.known in
+    let now = t.seen l.turns in
+    let user = t.who l.turns in
+    let new = t.seen c.write_over.new.turns in
+    let turn : IsTurn p.may p.floor p.shelf user now (WriteChain k.version c.in_ok-next.next) (Conflict c.in-Conflict.version c.in-Conflict.chain) new = subst (λ r. IsTurn p.may p.floor p.shelf user now (WriteChain k.version c.in_ok-next.next) (told_by r) new) c.in-Conflict.is c.in_ok-version.ensures.ok in
+    let up = lost_rises p.may p.floor p.shelf user now k.version k.tail k.chain i.later.legal i.goes_by c.in-Conflict.version c.in_ok-next.next c.in-Conflict.chain new turn in
+    omega (arith, i.rises, up)

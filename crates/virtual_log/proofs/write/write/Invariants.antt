@@ -1,4 +1,5 @@
-use Rattle.std.proofs.Common.{◌≡◌, ◌-◌, ◌^◌, None}
+use Rattle.chain_map.specs.Chain.{last_segment}
+use Rattle.std.proofs.Common.{◌≡◌, ◌-◌, ◌^◌, None, ◌≤◌}
 use Rattle.legal_journal.specs.Journal.{state_of}
 use Rattle.virtual_log.specs.Turning.{Later}
 use Rattle.virtual_log.specs.Writing.{WroteNone}
@@ -19,6 +20,7 @@ invariant-write g l =
       who : t.who l.turns ≡ t.who l.fn.turns;
       goes_by : GoesBy (state_of (t.seen l.turns)) l.known.version l.known.chain l.known.tail;
       tail : l.known.tail ≡ l.fn.known.tail;
+      rises : (last_segment l.fn.known.chain).id ≤ (last_segment l.known.chain).id;
       granted : IsGranted p.floor (state_of (t.seen l.turns)) l.known.tail l.change;
       lacks : Lacks l.change l.known.chain;
       quiet : WroteNone (t.who l.fn.turns) (t.seen l.fn.turns) (t.seen l.turns);

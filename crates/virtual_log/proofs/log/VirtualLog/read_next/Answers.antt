@@ -1,3 +1,4 @@
+use Rattle.std.proofs.Common.{arith}
 use Rattle.virtual_log.proofs.Sealing.{seals_refl}
 use Rattle.virtual_log.proofs.Calming.{calm_refl}
 use Rattle.virtual_log.proofs.Saying.{says_refl}
@@ -15,3 +16,6 @@ returns-then-end-least-clause-words g c = says_refl _ _ _
 
 pub returns-then-end-least-clause-closes : goal.returns-then-end-least-clause-closes
 returns-then-end-least-clause-closes g c = operates_refl _ _ _
+
+pub returns-then-end-least-clause-rises : goal.returns-then-end-least-clause-rises
+returns-then-end-least-clause-rises g c = omega arith
