@@ -15,3 +15,4 @@ pub mod Counting
 pub mod Goes
 pub mod Runs
 pub mod Disks
+pub mod Aims

@@ -8,12 +8,13 @@ use Rattle.delos_types.specs.declared.entry.Entry.{Entry}
 use Rattle.loglet_api.specs.declared.call.Answer.{Answer}
 use Rattle.loglet_api.specs.declared.call.Answer.TheVariants.{Placed, SealedTail as TailSealed, TrimDone as Trimmed, NoQuorum as Lacking, CutAt}
 use Rattle.loglet_api.specs.declared.call.LogletCall.{LogletCall}
-use Rattle.loglet_api.specs.declared.call.LogletCall.TheVariants.{Take as CallTake}
+use Rattle.loglet_api.specs.declared.call.LogletCall.TheVariants.{Begin as CallBegin, Take as CallTake}
+use Rattle.loglet_api.specs.declared.call.Op.TheVariants.{Append}
 use Rattle.loglet_api.specs.declared.call.LogletAnswer.{LogletAnswer}
-use Rattle.loglet_api.specs.declared.call.LogletAnswer.TheVariants.{Taken}
+use Rattle.loglet_api.specs.declared.call.LogletAnswer.TheVariants.{Begun, Taken}
 use Rattle.loglet_api.specs.View.{LogletView}
 use Rattle.loglet_api.specs.Run.{LogletRun}
-use Rattle.loglet_api.specs.Step.{LogletStep, TakesAnswer}
+use Rattle.loglet_api.specs.Step.{LogletStep, Begins, TakesAnswer}
 use Rattle.majority_rule.specs.Majority.{is_majority}
 use Rattle.majority_rule.proofs.Majorities.{majority_stays}
 use Rattle.quorum_cell.specs.declared.operation.Aim.{Aim}
@@ -24,7 +25,7 @@ use Rattle.quorum_cell.specs.declared.operation.CellStep.{CellStep}
 use Rattle.quorum_cell.specs.Servers.{Server, length_of, unsealed_length}
 use Rattle.quorum_cell.specs.Cells.{Cell, Operation, operation, server, no_server}
 use Rattle.quorum_cell.specs.Tallies.{entry_heard}
-use Rattle.quorum_cell.specs.Steps.{run_cell, given_outcome}
+use Rattle.quorum_cell.specs.Steps.{run_cell, begin, given_outcome}
 use Rattle.quorum_cell.specs.Law.{QuorumLaw, ServerHolds, Later}
 use Rattle.quorum_cell.specs.Outcomes.{IsTrimmed, RestsOnCauses}
 use Rattle.quorum_cell.proofs.Conclusions.{outcome_holds, reach_stays}
@@ -32,6 +33,7 @@ use Rattle.quorum_cell.proofs.Grounds.{outcome_rests}
 use Rattle.quorum_cell.proofs.Runs.{run_later}
 use Rattle.quorum_cell.proofs.Steps.{unsealed_within, reach_within}
 use Rattle.cell_views.specs.Views.{taken, answer_of}
+use Rattle.native_loglet.proofs.Aims.{run_aim, begun_aim}
 use Rattle.native_loglet.specs.Natives.{Native, server_in, loglet_of, IsCellOf}
 use Rattle.native_loglet.specs.Moving.{server_at}
 use Rattle.native_loglet.specs.Standing.{Stands}
@@ -120,23 +122,6 @@ stands_in a c p e h below is = record {
         let place : (server c i).base + (p - (server c i).base) ≡ p = omega (arith, base) in
         holds.same (p - (server c i).base) (omega (arith, base, within)) ∙ ap (slice_get c.entries) place ∙ is
 
-entry_there : (es : List Entry) (p : ℕ) → p < length es → (e : Entry) × (slice_get es p ≡ Some e)
-entry_there [] p h = absurd (omega (arith, h))
-entry_there (e ∷ es) zero h = (e, refl)
-entry_there (e ∷ es) (suc p) h = entry_there es p (omega (arith, h))
-
-pub placed_stands : (a b d : Native) (calls more : List (LogletCall × LogletAnswer)) (c : Cell) (t p : ℕ) → IsCellOf a c → NativeRun a calls b → Contains calls (CallTake t, Taken (Some (Placed p))) → NativeRun b more d
-    → (e : Entry) × Stands b p e × Stands d p e
-placed_stands a b d calls more c t p h r there next =
-    let mid : (steps : List CellStep) × IsCellOf b (run_cell steps c) = run_in calls a b c h r in
-    let now : Cell = run_cell mid.0 c in
-    let told : p < b.marks.reach = placed_in calls a b c t p there.0 h r there.1 there.2 in
-    let below : p < now.reach = omega (arith, told, mid.1.reach) in
-    let x : (e : Entry) × (slice_get now.entries p ≡ Some e) = entry_there now.entries p (omega (arith, below, reach_within now mid.1.lawful.law.quorum)) in
-    let last : (steps : List CellStep) × IsCellOf d (run_cell steps now) = run_in more b d now mid.1 next in
-    let later : Later now (run_cell last.0 now) = run_later last.0 now in
-    (x.0, stands_in b now p x.0 mid.1 below x.1, stands_in d (run_cell last.0 now) p x.0 last.1 (omega (arith, below, later.reach)) (later.entries p x.0 x.1))
-
 -- no position that was told is past a sealed tail that was told
 pub placed_below : (a b : Native) (calls : List (LogletCall × LogletAnswer)) (c : Cell) (t s p n : ℕ) → IsCellOf a c → NativeRun a calls b → Contains calls (CallTake t, Taken (Some (Placed p))) → Contains calls (CallTake s, Taken (Some (TailSealed n))) → p < n
 placed_below a b calls c t s p n h r placed sealed =
@@ -217,3 +202,49 @@ trims_gone a b c t h s =
     let x : (o : Outcome) × ((operation c t).decided ≡ Some o) × (answer_of c.cut (operation c t) (operation c t).aim o ≡ Some Trimmed) = taken_of c.cut (operation c t) (operation c t).decided Trimmed (λ e. cc) one.are.0 in
     let is : x.0 ≡ TrimDone = trim_of c.cut (operation c t) (operation c t).aim x.0 x.2 in
     outcome_holds c h.lawful.law.quorum t TrimDone (x.1 ∙ ap (λ o. Some o) is)
+
+---- an append's own entry stands
+
+-- an operation that began is there in the cell, with its aim
+began_there : (a b : Native) (c : Cell) (e : Entry) (t : ℕ) → IsCellOf a c → (s : NativeStep a (CallBegin (Append e)) (Begun t) b) → (d : Cell) × IsCellOf b d × (t < length d.operations) × ((operation d t).aim ≡ AimAppend e)
+began_there a b c e t h s =
+    let one : Reaches a c (CallBegin (Append e)) (Begun t) b = s.cells c h in
+    let is : run_cell one.steps c ≡ begin c (AimAppend e) = ap (λ (steps : List CellStep). run_cell steps c) one.are in
+    let tied : IsCellOf b (begin c (AimAppend e)) = subst (λ (x : Cell). IsCellOf b x) is one.cell in
+    let x : Begins (loglet_of a) (Append e) t (loglet_of b) = s.loglet.does in
+    let more : b.marks.begun ≡ a.marks.begun + 1 = ap (λ (v : LogletView). v.begun) x.rest in
+    let ticket : t ≡ length c.operations = x.ticket ∙ sym h.begun in
+    let longer : length (begin c (AimAppend e)).operations ≡ length c.operations + 1 = omega (arith, tied.begun, more, h.begun) in
+    (begin c (AimAppend e), tied, omega (arith, longer, ticket), subst (λ k. (operation (begin c (AimAppend e)) k).aim ≡ AimAppend e) (sym ticket) (begun_aim c (AimAppend e) longer))
+
+-- an append that is answered its position reached its length there
+placed_of : (cut : ℕ) (o : Operation) (e : Entry) (a : Outcome) (p : ℕ) → answer_of cut o (AimAppend e) a ≡ Some (Placed p) → o.size_before ≡ p
+placed_of cut o e Reached p h = (let same : Placed o.size_before ≡ Placed p = same_Some _ _ h in let is : o.size_before ≡ p = cc in is)
+placed_of cut o e (OpenTail t) p h = absurd (cc)
+placed_of cut o e (SealedTail t) p h = absurd (cc)
+placed_of cut o e Shut p h = absurd (cc)
+placed_of cut o e Found p h = absurd (cc)
+placed_of cut o e Gone p h = absurd (cc)
+placed_of cut o e Beyond p h = absurd (cc)
+placed_of cut o e TrimDone p h = absurd (cc)
+placed_of cut o e (NoQuorum u) p h = absurd (cc)
+
+pub placed_stands : (a b w d l : Native) (calls more : List (LogletCall × LogletAnswer)) (c : Cell) (e : Entry) (t p : ℕ) → IsCellOf a c → NativeStep a (CallBegin (Append e)) (Begun t) b → NativeRun b calls w → NativeStep w (CallTake t) (Taken (Some (Placed p))) d
+    → NativeRun d more l → Stands d p e × Stands l p e
+placed_stands a b w d l calls more c e t p h began next took rest =
+    let x : (x : Cell) × IsCellOf b x × (t < length x.operations) × ((operation x t).aim ≡ AimAppend e) = began_there a b c e t h began in
+    let mid : (steps : List CellStep) × IsCellOf w (run_cell steps x.0) = run_in calls b w x.0 x.1 next in
+    let v : Cell = run_cell mid.0 x.0 in
+    let aim : (operation v t).aim ≡ AimAppend e = run_aim mid.0 x.0 t x.2 ∙ x.3 in
+    let one : Reaches w v (CallTake t) (Taken (Some (Placed p))) d = took.cells v mid.1 in
+    let told : (o : Outcome) × ((operation v t).decided ≡ Some o) × (answer_of v.cut (operation v t) (operation v t).aim o ≡ Some (Placed p)) = taken_of v.cut (operation v t) (operation v t).decided (Placed p) (λ z. cc) one.are.0 in
+    let size : (operation v t).size_before ≡ p = placed_of v.cut (operation v t) e told.0 p (ap {B = Option Answer} (λ (y : Aim). answer_of v.cut (operation v t) y told.0) (sym aim) ∙ told.2) in
+    let there : slice_get v.entries p ≡ Some e = ap (slice_get v.entries) (sym size) ∙ ((mid.1.lawful.law.quorum.operations t).placed e aim).1 in
+    let now : Cell = run_cell one.steps v in
+    let after : Later v now = run_later one.steps v in
+    let reached : p < now.reach = (let y : p < d.marks.reach = told_placed w d t p took.loglet in omega (arith, y, one.cell.reach)) in
+    let last : (steps : List CellStep) × IsCellOf l (run_cell steps now) = run_in more d l now one.cell rest in
+    let later : Later now (run_cell last.0 now) = run_later last.0 now in
+    let here : slice_get now.entries p ≡ Some e = after.entries p e there in
+    (stands_in d now p e one.cell reached here, stands_in l (run_cell last.0 now) p e last.1 (omega (arith, reached, later.reach)) (later.entries p e here))
+

@@ -2,9 +2,10 @@
 ghost use Rattle.std.specs.Prelude.{◌≡◌, ℕ, ◌+◌, ◌<◌, ◌≤◌, List, Contains, Some};
 ghost use Rattle.delos_types.specs.declared.entry.Entry as entries_of;
 ghost use Rattle.loglet_api.specs.declared.call.LogletCall as calls_of;
-ghost use Rattle.loglet_api.specs.declared.call.LogletCall.TheVariants.{Take};
+ghost use Rattle.loglet_api.specs.declared.call.LogletCall.TheVariants.{Begin, Take};
+ghost use Rattle.loglet_api.specs.declared.call.Op.TheVariants.{Append};
 ghost use Rattle.loglet_api.specs.declared.call.LogletAnswer as answers_of;
-ghost use Rattle.loglet_api.specs.declared.call.LogletAnswer.TheVariants.{Taken};
+ghost use Rattle.loglet_api.specs.declared.call.LogletAnswer.TheVariants.{Begun, Taken};
 ghost use Rattle.loglet_api.specs.declared.call.Answer.TheVariants.{Placed, SealedTail, TrimDone, NoQuorum};
 ghost use Rattle.loglet_api.specs.Run.{LogletRun};
 ghost use Rattle.quorum_cell.specs.declared.operation.CellStep as steps_of;
@@ -24,12 +25,12 @@ pub fn runs_are_of_cells()
         → LogletRun (loglet_of before) calls (loglet_of after) }
 {}
 
-/// Where an append was answered `Placed`, an entry stands at its position, and that entry stands there after
-/// whatever calls come then.
-pub fn placed_entries_stand()
-    ensures { (before after later : Native) (calls more : List (calls_of.LogletCall × answers_of.LogletAnswer)) (cell : Cell) (ticket position : ℕ) → IsCellOf before cell
-        → NativeRun before calls after → Contains calls (Take ticket, Taken (Some (Placed position))) → NativeRun after more later
-        → (entry : entries_of.Entry) × Stands after position entry × Stands later position entry }
+/// The entry of an append that was answered `Placed` stands at that position, and stands there after whatever
+/// calls come then.
+pub fn acknowledged_entries_stand()
+    ensures { (before begun waiting after later : Native) (calls more : List (calls_of.LogletCall × answers_of.LogletAnswer)) (cell : Cell) (entry : entries_of.Entry) (ticket position : ℕ) → IsCellOf before cell
+        → NativeStep before (Begin (Append entry)) (Begun ticket) begun → NativeRun begun calls waiting → NativeStep waiting (Take ticket) (Taken (Some (Placed position))) after → NativeRun after more later
+        → Stands after position entry × Stands later position entry }
 {}
 
 /// Each position that was ever answered `Placed` lies below each tail that was ever answered as sealed, whichever
