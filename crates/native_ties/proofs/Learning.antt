@@ -1,7 +1,7 @@
 -- What an operation knows of a server once an answer came that it didn't wait for.
 use Rattle.std.proofs.Common.{◌≡◌, ℕ, ◌≤◌, Bool, true, false, refl, sym, ◌∙◌, ap, subst, arith, Option, Some, None, inl, inr, max}
 use Rattle.std.specs.Prelude.{◌⊎◌, ◌&&◌, ◌||◌, ◌==◌, not, nat_le, is_some, if◌then◌else◌}
-use Rattle.std.proofs.lemmas.Bool.{true≢false, false≢true, leb-true, eqb-true, and_parts, or_cases}
+use Rattle.std.proofs.lemmas.Bool.{true≢false, false≢true, leb-true, eqb-true, and_parts, or_cases, or_right}
 use Rattle.quorum_cell.specs.declared.message.Ask.{Ask}
 use Rattle.quorum_cell.specs.declared.message.Ask.TheVariants as ask
 use Rattle.quorum_cell.specs.declared.message.Told.{Told}
@@ -183,27 +183,52 @@ module _ (s : Server) (o : Operation) (i : ℕ) (m : Member) (r : Reply) (k : Kn
 
 ---- what was known stays, but for what was learned
 
-pub same_losses : (ph : Phase) (want : ℕ) (n : News) (m : Member) → (learned_in ph want n m).losses ≡ m.losses
-same_losses ph want n m = by (bears ph n) n
+-- a member of which more is known
+pub record Grown (old new : Member) : Type 0 where
+  pub losses : new.losses ≡ old.losses
+  pub message : new.message ≡ old.message
+  pub sealed : is_some old.sealed ≡ true → is_some new.sealed ≡ true
+  pub turned : (old.passed || old.unreached) ≡ true → (new.passed || new.unreached) ≡ true
+
+grown_same : (m : Member) → Grown m m
+grown_same m = record { losses = refl; message = refl; sealed = λ h. h; turned = λ h. h }
+
+grown_or : (a b u : Bool) → (a || u) ≡ true → ((a || b) || u) ≡ true
+grown_or true b u h = refl
+grown_or false true u h = refl
+grown_or false false u h = h
+
+grown_by : (want : ℕ) (x : News) (m : Member) → Grown m (learned want x m)
+grown_by want news.Failed m = record { losses = refl; message = refl; sealed = λ h. h; turned = λ h. or_right m.passed true refl }
+grown_by want (news.Sealed l) m = by (nat_le m.at l)
   where
-    by : (b : Bool) (x : News) → (if b then learned want x m else m).losses ≡ m.losses
-    by false x = refl
-    by true news.Failed = refl
-    by true (news.Sealed l) = cases (nat_le m.at l)
-      where
-        cases : (b : Bool) → (if b then record m { sealed = Some l; at = l } else m).losses ≡ m.losses
-        cases true = refl
-        cases false = refl
-    by true (news.Opened l) = cases (not (is_found_sealed m) && nat_le m.at l)
-      where
-        cases : (b : Bool) → (if b then record m { opened = Some l; at = l } else m).losses ≡ m.losses
-        cases true = refl
-        cases false = refl
-    by true (news.Mended l) = cases (is_found_sealed m && nat_le m.at l)
-      where
-        cases : (b : Bool) → (if b then record m { at = l } else m).losses ≡ m.losses
-        cases true = refl
-        cases false = refl
-    by true (news.LetGo l) = refl
-    by true news.Missed = refl
-    by true news.Nothing = refl
+    by : (b : Bool) → Grown m (if b then record m { sealed = Some l; at = l } else m)
+    by true = record { losses = refl; message = refl; sealed = λ h. refl; turned = λ h. h }
+    by false = grown_same m
+grown_by want (news.Opened l) m = by (not (is_found_sealed m) && nat_le m.at l)
+  where
+    by : (b : Bool) → Grown m (if b then record m { opened = Some l; at = l } else m)
+    by true = record { losses = refl; message = refl; sealed = λ h. h; turned = λ h. h }
+    by false = grown_same m
+grown_by want (news.Mended l) m = by (is_found_sealed m && nat_le m.at l)
+  where
+    by : (b : Bool) → Grown m (if b then record m { at = l } else m)
+    by true = record { losses = refl; message = refl; sealed = λ h. h; turned = λ h. h }
+    by false = grown_same m
+grown_by want (news.LetGo l) m = record { losses = refl; message = refl; sealed = λ h. h; turned = grown_or m.passed (nat_le want l) m.unreached }
+grown_by want news.Missed m = record { losses = refl; message = refl; sealed = λ h. h; turned = λ h. refl }
+grown_by want news.Nothing m = grown_same m
+
+pub grown_in : (ph : Phase) (want : ℕ) (x : News) (m : Member) → Grown m (learned_in ph want x m)
+grown_in ph want x m = by (bears ph x)
+  where
+    by : (b : Bool) → Grown m (if b then learned want x m else m)
+    by true = grown_by want x m
+    by false = grown_same m
+
+pub turned_anew : (ph : Phase) (want i : ℕ) (x : News) (m : Member) → (m.passed || m.unreached) ≡ true → ((heard_anew ph want i x m).passed || (heard_anew ph want i x m).unreached) ≡ true
+turned_anew ph want i x m h = by (is_due ph want i m (learned_in ph want x m))
+  where
+    by : (b : Bool) → ((if b then learned_in ph want x m else record (learned_in ph want x m) { message = None }).passed || (if b then learned_in ph want x m else record (learned_in ph want x m) { message = None }).unreached) ≡ true
+    by true = (grown_in ph want x m).turned h
+    by false = (grown_in ph want x m).turned h

@@ -11,3 +11,5 @@ pub mod Losers
 pub mod Beginning
 pub mod Lessening
 pub mod Bounds
+pub mod Learning
+pub mod Straying

@@ -1,6 +1,5 @@
 -- Messages of operations that come again, as steps of their cell.
-use Rattle.std.specs.Prelude.{◌≡◌, ℕ, ◌≤◌, ◌⊎◌, List, [], ◌∷◌, set, slice_get, Some}
-use Rattle.loglet_api.specs.Step.{IsBelow}
+use Rattle.std.specs.Prelude.{◌≡◌, ℕ, ◌≤◌, List, [], ◌∷◌, set, slice_get, Some}
 use Rattle.quorum_cell.specs.declared.message.Ask.{Ask}
 use Rattle.quorum_cell.specs.declared.message.Ask.TheVariants.{Read}
 use Rattle.quorum_cell.specs.declared.message.Told.{Told}
@@ -46,7 +45,3 @@ pub record ComesTo (c : Cell) (comes : CellStep) (i : ℕ) (s : Server) (faults 
   pub operations : (q : ℕ) → operation (run_cell (comes ∷ []) c) q ≡ operation c q
   pub servers : (run_cell (comes ∷ []) c).servers ≡ set c.servers i s
   pub faults_are : (run_cell (comes ∷ []) c).faults ≡ faults
-
--- no more is left to do, the first number counting first
-abbrev pub IsNoMore : ℕ × ℕ → ℕ × ℕ → Type 0
-IsNoMore new old = (new ≡ old) ⊎ IsBelow new old

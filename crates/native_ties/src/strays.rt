@@ -1,6 +1,7 @@
 //! What ties messages that come again to their cell. Each function does nothing: its contract is the
 //! law.
 ghost use Rattle.std.specs.Prelude.{◌≡◌, ℕ, ◌<◌, List, ◌&&◌, ◌++◌, ◌∷◌, [], true, false, if◌then◌else◌, length, Some, None};
+ghost use Rattle.loglet_api.specs.Step.{IsAtMost};
 ghost use Rattle.quorum_cell.specs.declared.message.Ask.{Ask};
 ghost use Rattle.quorum_cell.specs.declared.message.Told.{Told};
 ghost use Rattle.quorum_cell.specs.declared.message.Told.TheVariants.{DiskFault};
@@ -12,7 +13,7 @@ ghost use Rattle.native_plan.specs.declared.pending.Pending as pending;
 ghost use Rattle.native_plan.specs.Pendings.{left_now};
 ghost use Rattle.native_plan.specs.Strays.{is_asked, HearsAgain};
 ghost use Rattle.native_ties.specs.Parts.{IsPartOf, GoesBy};
-ghost use Rattle.native_ties.specs.Strays.{IsRequest, IsReply, GoesAgain, ComesAgain, ComesTo, IsNoMore};
+ghost use Rattle.native_ties.specs.Strays.{IsRequest, IsReply, GoesAgain, ComesAgain, ComesTo};
 
 /// A reply of the cell that comes again to an undecided operation takes the step by which that reply
 /// comes in the cell, and then the operation is decided or goes on, as after any answer. A Read
@@ -43,5 +44,5 @@ pub fn requests_come_again()
 /// No message that comes again raises what is left to do of an operation.
 pub fn no_more_is_left()
     ensures { (cell : Cell) (k t i : ℕ) (ask : Ask) (told : Told) (p new : pending.Pending) → QuorumLaw cell → IsPartOf cell t p → p.outcome ≡ None → i < length cell.servers
-        → IsReply cell k t i ask told → HearsAgain cell.cut i ask told p new → IsNoMore (left_now new) (left_now p) }
+        → IsReply cell k t i ask told → HearsAgain cell.cut i ask told p new → IsAtMost (left_now new) (left_now p) }
 {}
