@@ -1,5 +1,6 @@
 -- How a bag lays its messages out. No public clause cites this module.
-use Rattle.std.specs.Prelude.{◌≡◌, ℕ, ◌<◌, ◌≤◌, Bool, true, false, not, ◌&&◌, ◌==◌, if◌then◌else◌, List, [], ◌∷◌, ◌++◌, length, filter, Option, Some, None, All}
+use Rattle.std.specs.Prelude.{◌≡◌, ℕ, ◌<◌, ◌≤◌, Bool, true, false, not, ◌&&◌, ◌==◌, if◌then◌else◌, List, [], ◌∷◌, ◌++◌, length, filter, Option, Some, None}
+use Rattle.std.specs.List.{AllByRecursion}
 use Rattle.slab.specs.Slab.{Slab, get, Updates}
 use Rattle.native_bag.specs.declared.places.Kept.{Kept}
 use Rattle.native_bag.specs.declared.places.Kept.TheVariants as kept
@@ -15,6 +16,9 @@ first_at t s (p ∷ ps) = if is_at t s p then Some p else first_at t s ps
 
 abbrev pub others_at : ℕ → ℕ → List Place → List Place
 others_at t s ps = filter (λ p. not (is_at t s p)) ps
+
+abbrev pub IsWithin : ℕ → Place → Type 0
+IsWithin servers p = (p.server < servers) × (p.losses < 8)
 
 module _ {M : Type 0} where
   -- the message at a place, before those of later places
@@ -43,10 +47,10 @@ module _ {M : Type 0} where
   IsStray s k = (m : M) × (get s k ≡ Some (kept.Stray m))
 
   pub record IsSound (servers : ℕ) (s : Slab (Kept M)) (ps : List Place) (ks : List ℕ) : Type 0 where
-    pub held : All (IsHeld s) ps
-    pub strays : All (IsStray s) ks
+    pub held : AllByRecursion (IsHeld s) ps
+    pub strays : AllByRecursion (IsStray s) ks
     pub few : length ks ≤ 64
-    pub within : All (λ (p : Place). (p.server < servers) × (p.losses < 8)) ps
+    pub within : AllByRecursion (IsWithin servers) ps
 
   -- what stood under a key, which was lost so often
   abbrev pub taken_one : ℕ → Option (Kept M) → Option (ℕ × M)

@@ -70,7 +70,7 @@ module _ (s : Server) (o : Operation) (i : ℕ) (m : Member) (r : Reply) (k : Kn
   more : (test : Reply → Bool) → heard_from test o i ≡ true → heard_from test (with_reply o r) i ≡ true
   more test h = heard_more test o r i h
 
-  pub reached_still : fails r.told ≡ false → unreached (with_reply o r) i ≡ m.unreached
+  reached_still : fails r.told ≡ false → unreached (with_reply o r) i ≡ m.unreached
   reached_still h = ap (λ b. b || lost_to o i) (heard_else failed_reply o r i (and_false (r.server == i) (failed_reply r) h)) ∙ k.unreached_is
     where
       and_false : (a b : Bool) → b ≡ false → (a && b) ≡ false
@@ -180,7 +180,7 @@ module _ (s : Server) (o : Operation) (i : ℕ) (m : Member) (r : Reply) (k : Kn
     long = k.long;
   }
 
-  store_told : (p n : ℕ) (a : Ask) → IsAskOf (Store p) a → open_told a (Ack n) ≡ Some n
+  pub store_told : (p n : ℕ) (a : Ask) → IsAskOf (Store p) a → open_told a (Ack n) ≡ Some n
   store_told p n (ask.Store q x) h = refl
   store_told p n ask.Seal h = absurd h
   store_told p n ask.Tail h = absurd h
@@ -188,7 +188,7 @@ module _ (s : Server) (o : Operation) (i : ℕ) (m : Member) (r : Reply) (k : Kn
   store_told p n (ask.Read q) h = absurd h
   store_told p n (ask.Trim q) h = absurd h
 
-  repair_told : (p n : ℕ) (a : Ask) → IsAskOf (Repair p) a → mended_told a (Ack n) ≡ Some n
+  pub repair_told : (p n : ℕ) (a : Ask) → IsAskOf (Repair p) a → mended_told a (Ack n) ≡ Some n
   repair_told p n (ask.Repair q x) h = refl
   repair_told p n ask.Seal h = absurd h
   repair_told p n ask.Tail h = absurd h

@@ -3,9 +3,10 @@ use Rattle.std.specs.Prelude.{◌≡◌, ℕ, Bool, true, false, not, ◌&&◌, 
 use Rattle.delos_types.specs.declared.entry.Entry.{Entry}
 use Rattle.quorum_cell.specs.declared.message.Ask.{Ask}
 use Rattle.quorum_cell.specs.declared.message.Ask.TheVariants as ask
+use Rattle.native_plan.specs.declared.message.Errand.{Errand}
+use Rattle.native_plan.specs.declared.message.Errand.TheVariants.{Store, Seal, Tail, Repair, Read, Trim}
 use Rattle.quorum_cell.specs.declared.message.Told.{Told}
 use Rattle.quorum_cell.specs.declared.message.Told.TheVariants as told
-use Rattle.quorum_cell.specs.Tallies.{told_entry_at}
 use Rattle.native_plan.specs.declared.member.Member.{Member}
 use Rattle.native_plan.specs.declared.message.Phase.{Phase}
 use Rattle.native_plan.specs.declared.message.Phase.TheVariants.{Filling, Asking, Opening, Mending, Reading, Trimming}
@@ -18,36 +19,44 @@ use Rattle.native_plan.specs.Pendings.{newer_of, verdict_of, Settles}
 
 ---- what an answer tells
 
+-- what a server is asked, without the entry and the position of a trim
+abbrev pub errand_in : Ask → Errand
+errand_in (ask.Store p e) = Store p
+errand_in ask.Seal = Seal
+errand_in ask.Tail = Tail
+errand_in (ask.Repair p e) = Repair p
+errand_in (ask.Read p) = Read p
+errand_in (ask.Trim n) = Trim
+
 -- a server that took an entry and is this long
-abbrev pub taken_news : Ask → ℕ → News
-taken_news (ask.Store p e) n = Opened n
-taken_news (ask.Repair p e) n = Mended n
-taken_news a n = Nothing
+abbrev pub taken_news : Errand → ℕ → News
+taken_news (Store p) n = Opened n
+taken_news (Repair p) n = Mended n
+taken_news e n = Nothing
 
-abbrev pub is_read_at : ℕ → Ask → Bool
-is_read_at place (ask.Read p) = place == p
-is_read_at place a = false
-
--- a server that doesn't have the entry that it was asked for
-abbrev pub missed_news : ℕ → Ask → News
-missed_news place (ask.Read p) = if place == p then Missed else Nothing
-missed_news place a = Nothing
+abbrev pub is_read_at : ℕ → Errand → Bool
+is_read_at place (Read p) = place == p
+is_read_at place e = false
 
 -- an answer to this, where a Read wants the entry at this place
-abbrev pub news_of : ℕ → Ask → Told → News
-news_of place a told.Down = Failed
-news_of place a told.DiskFault = Failed
-news_of place a (told.Sealed n) = Sealed n
-news_of place a (told.Unsealed n) = Opened n
-news_of place a (told.Ack n) = taken_news a n
-news_of place a (told.Trimmed n) = LetGo n
-news_of place a (told.Short n) = missed_news place a
-news_of place a z = Nothing
+abbrev pub news_of : ℕ → Errand → Told → News
+news_of place e told.Down = Failed
+news_of place e told.DiskFault = Failed
+news_of place e (told.Sealed n) = Sealed n
+news_of place e (told.Unsealed n) = Opened n
+news_of place e (told.Ack n) = taken_news e n
+news_of place e (told.Trimmed n) = LetGo n
+news_of place e (told.Short n) = if is_read_at place e then Missed else Nothing
+news_of place e z = Nothing
 
--- the entry that it gives to a Read
-abbrev pub entry_of : Phase → ℕ → Ask → Told → Option Entry
-entry_of (Reading j) place a z = told_entry_at place a z
-entry_of phase place a z = None
+-- the entry that it gives to such a Read
+abbrev pub given_to : ℕ → Errand → Told → Option Entry
+given_to place e (told.Got x) = if is_read_at place e then Some x else None
+given_to place e z = None
+
+abbrev pub entry_of : Phase → ℕ → Errand → Told → Option Entry
+entry_of (Reading j) place e z = given_to place e z
+entry_of phase place e z = None
 
 ---- what counts of it
 
@@ -94,20 +103,20 @@ heard_anew phase want i news m = let now = learned_in phase want news m in if is
 ---- the operation
 
 -- an answer of server i to this is noted
-pub record NotesAgain (i : ℕ) (a : Ask) (z : Told) (old new : Pending) : Type 0 where
-  pub rest : new ≡ record old { members = new.members; got = newer_of (entry_of old.phase (place_of old.task) a z) old.got }
-  pub members : new.members.items ≡ set old.members.items i (heard_anew old.phase old.want i (news_of (place_of old.task) a z) (get_or old.members.items i no_member))
+pub record NotesAgain (i : ℕ) (e : Errand) (z : Told) (old new : Pending) : Type 0 where
+  pub rest : new ≡ record old { members = new.members; got = newer_of (entry_of old.phase (place_of old.task) e z) old.got }
+  pub members : new.members.items ≡ set old.members.items i (heard_anew old.phase old.want i (news_of (place_of old.task) e z) (get_or old.members.items i no_member))
 
 -- and then it comes to what it comes to
-pub record HearsNews (cut i : ℕ) (a : Ask) (z : Told) (old new : Pending) : Type 0 where
+pub record HearsNews (cut i : ℕ) (e : Errand) (z : Told) (old new : Pending) : Type 0 where
   pub between : Pending
-  pub notes : NotesAgain i a z old between
+  pub notes : NotesAgain i e z old between
   pub settles : Settles cut between (verdict_of cut between) new
 
-abbrev pub HearsIf : Bool → ℕ → ℕ → Ask → Told → Pending → Pending → Type 0
-HearsIf true cut i a z old new = HearsNews cut i a z old new
-HearsIf false cut i a z old new = new ≡ old
+abbrev pub HearsIf : Bool → ℕ → ℕ → Errand → Told → Pending → Pending → Type 0
+HearsIf true cut i e z old new = HearsNews cut i e z old new
+HearsIf false cut i e z old new = new ≡ old
 
 -- an answer of server i to this comes, whatever the operation waits for
-abbrev pub HearsAgain : ℕ → ℕ → Ask → Told → Pending → Pending → Type 0
-HearsAgain cut i a z old new = HearsIf (is_asked old.phase i) cut i a z old new
+abbrev pub HearsAgain : ℕ → ℕ → Errand → Told → Pending → Pending → Type 0
+HearsAgain cut i e z old new = HearsIf (is_asked old.phase i) cut i e z old new

@@ -1,14 +1,13 @@
 //! Messages that come again: what an answer tells that an operation didn't wait for.
-ghost use Rattle.std.specs.Prelude.{◌≡◌, ℕ, ◌^◌, ◌<◌, ◌&&◌, ◌||◌, ◌==◌, not, length};
+ghost use Rattle.std.specs.Prelude.{◌≡◌, ℕ, ◌^◌, ◌<◌, ◌&&◌, ◌||◌, ◌==◌, if◌then◌else◌, not, length};
 ghost use Rattle.native_plan.specs.Members.{is_found_sealed};
-ghost use Rattle.native_plan.specs.Strays.{news_of, taken_news, missed_news, is_read_at, bears as bears_on, learned, learned_in, heard_anew, entry_of, is_asked as is_asked_in, NotesAgain, HearsNews, HearsAgain};
+ghost use Rattle.native_plan.specs.Strays.{news_of, taken_news, is_read_at, given_to, errand_in, bears as bears_on, learned, learned_in, heard_anew, entry_of, is_asked as is_asked_in, NotesAgain, HearsNews, HearsAgain};
 ghost use Rattle.native_plan.specs.Plans.{is_done};
 ghost use Rattle.native_plan.specs.Pendings.{aims_of};
-ghost use Rattle.quorum_cell.specs.Tallies.{told_entry_at};
 
 use crate::aims::Aims;
 use crate::member::Member;
-use crate::message::Phase;
+use crate::message::{Errand, Phase};
 use crate::pending::{Pending, newer, place};
 use crate::send::is_met_by;
 use delos_types::entry::Entry;
@@ -33,18 +32,32 @@ pub enum News {
     Nothing,
 }
 
+/// What a server is asked, without the entry and the position of a trim.
+pub fn errand_of(ask: &Ask) -> Errand
+    ensures { result ≡ errand_in ask.now }
+{
+    match ask {
+        Ask::Store(place, _) => Errand::Store(*place),
+        Ask::Seal => Errand::Seal,
+        Ask::Tail => Errand::Tail,
+        Ask::Repair(place, _) => Errand::Repair(*place),
+        Ask::Read(place) => Errand::Read(*place),
+        Ask::Trim(_) => Errand::Trim,
+    }
+}
+
 /// What an answer to this tells, where a Read wants the entry at `place`.
-fn news_in(place: u64, ask: &Ask, told: &Told) -> News
-    ensures { result ≡ news_of place ask.now told.now }
+fn news_in(place: u64, errand: Errand, told: &Told) -> News
+    ensures { result ≡ news_of place errand told.now }
 {
     match told {
         Told::Down => News::Failed,
         Told::DiskFault => News::Failed,
         Told::Sealed(length) => News::Sealed(*length),
         Told::Unsealed(length) => News::Opened(*length),
-        Told::Ack(length) => taken(ask, *length),
+        Told::Ack(length) => taken(errand, *length),
         Told::Trimmed(base) => News::LetGo(*base),
-        Told::Short(_) => missed(place, ask),
+        Told::Short(_) => missed(place, errand),
         Told::Behind(_) => News::Nothing,
         Told::Cut(_) => News::Nothing,
         Told::Got(_) => News::Nothing,
@@ -52,48 +65,43 @@ fn news_in(place: u64, ask: &Ask, told: &Told) -> News
 }
 
 /// What a server tells that took an entry and is this long.
-fn taken(ask: &Ask, length: u64) -> News
-    ensures { result ≡ taken_news ask.now length }
+fn taken(errand: Errand, length: u64) -> News
+    ensures { result ≡ taken_news errand length }
 {
-    match ask {
-        Ask::Store(_, _) => News::Opened(length),
-        Ask::Repair(_, _) => News::Mended(length),
+    match errand {
+        Errand::Store(_) => News::Opened(length),
+        Errand::Repair(_) => News::Mended(length),
         _ => News::Nothing,
     }
 }
 
 /// What a server tells that doesn't have the entry that it was asked for.
-fn missed(place: u64, ask: &Ask) -> News
-    ensures { result ≡ missed_news place ask.now }
+fn missed(place: u64, errand: Errand) -> News
+    ensures { result ≡ (if is_read_at place errand then News.Missed else News.Nothing) }
 {
-    match ask {
-        Ask::Read(position) => {
-            if place == *position {
-                News::Missed
-            } else {
-                News::Nothing
-            }
-        }
-        _ => News::Nothing,
+    if is_read_of(place, errand) {
+        News::Missed
+    } else {
+        News::Nothing
     }
 }
 
 /// The entry that an answer gives to a Read that wants the one at `place`.
-fn entry(phase: Phase, place: u64, ask: &Ask, told: Told) -> Option<Entry>
-    ensures { result ≡ entry_of phase place ask.now told }
+fn entry(phase: Phase, place: u64, errand: Errand, told: Told) -> Option<Entry>
+    ensures { result ≡ entry_of phase place errand told }
 {
     match phase {
-        Phase::Reading(_) => given(place, ask, told),
+        Phase::Reading(_) => given(place, errand, told),
         _ => None,
     }
 }
 
-fn given(place: u64, ask: &Ask, told: Told) -> Option<Entry>
-    ensures { result ≡ told_entry_at place ask.now told }
+fn given(place: u64, errand: Errand, told: Told) -> Option<Entry>
+    ensures { result ≡ given_to place errand told }
 {
     match told {
         Told::Got(entry) => {
-            if is_read_of(place, ask) {
+            if is_read_of(place, errand) {
                 Some(entry)
             } else {
                 None
@@ -103,11 +111,11 @@ fn given(place: u64, ask: &Ask, told: Told) -> Option<Entry>
     }
 }
 
-fn is_read_of(place: u64, ask: &Ask) -> bool
-    ensures { result ≡ is_read_at place ask.now }
+fn is_read_of(place: u64, errand: Errand) -> bool
+    ensures { result ≡ is_read_at place errand }
 {
-    match ask {
-        Ask::Read(position) => place == *position,
+    match errand {
+        Errand::Read(position) => place == position,
         _ => false,
     }
 }
@@ -199,40 +207,40 @@ fn hear_anew(aims: Aims, index: u64, news: News, member: &mut Member)
 }
 
 impl Pending {
-    /// An answer of server `index` to this ask comes that the operation doesn't wait for, under this
+    /// An answer of server `index` to this errand comes that the operation doesn't wait for, under this
     /// cut of the loglet: a copy of one that came before, or the answer to a copy of a request. The
     /// operation learns from it what it tells, and is decided or goes on. Its message to or from that
     /// server stays, with its losses, unless the plan now wants another or none.
-    pub fn hear_again(&mut self, index: usize, ask: &Ask, told: Told, cut: u64)
+    pub fn hear_again(&mut self, index: usize, errand: Errand, told: Told, cut: u64)
         requires here { index < length self.old.members.items }
         requires members { length self.old.members.items < 2 ^ 32 }
         requires server { (j : ℕ) → self.old.phase ≡ Phase.Reading j → j < 2 ^ 32 }
-        ensures { HearsAgain cut index ask.now told self.old self.new }
+        ensures { HearsAgain cut index errand told self.old self.new }
     {
         if is_asked(self.phase, index as u64) {
-            self.hear_news(index, ask, told, cut);
+            self.hear_news(index, errand, told, cut);
         }
     }
 
-    fn hear_news(&mut self, index: usize, ask: &Ask, told: Told, cut: u64)
+    fn hear_news(&mut self, index: usize, errand: Errand, told: Told, cut: u64)
         requires here { index < length self.old.members.items }
         requires members { length self.old.members.items < 2 ^ 32 }
         requires server { (j : ℕ) → self.old.phase ≡ Phase.Reading j → j < 2 ^ 32 }
-        ensures { HearsNews cut index ask.now told self.old self.new }
+        ensures { HearsNews cut index errand told self.old self.new }
     {
-        self.note_again(index, ask, told, cut);
+        self.note_again(index, errand, told, cut);
         self.settle(cut);
     }
 
-    fn note_again(&mut self, index: usize, ask: &Ask, told: Told, cut: u64)
+    fn note_again(&mut self, index: usize, errand: Errand, told: Told, cut: u64)
         requires { index < length self.old.members.items }
-        ensures notes { NotesAgain index ask.now told self.old self.new }
+        ensures notes { NotesAgain index errand told self.old self.new }
         ensures phase { self.new.phase ≡ self.old.phase }
         ensures as_many { length self.new.members.items ≡ length self.old.members.items }
     {
         let place = place(self.task);
-        let news = news_in(place, ask, &told);
-        let got = entry(self.phase, place, ask, told);
+        let news = news_in(place, errand, &told);
+        let got = entry(self.phase, place, errand, told);
         let aims = self.aims(cut);
         hear_anew(aims, index as u64, news, &mut self.members[index]);
         self.got = newer(got, self.got.take());

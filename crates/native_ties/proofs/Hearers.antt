@@ -90,7 +90,7 @@ is_got (Cut b) x g = absurd (none-some x g)
 is_got (Behind n) x g = absurd (none-some x g)
 is_got (Ack n) x g = absurd (none-some x g)
 
-read_ask : (p : ℕ) (a : Ask) → IsAskOf (Read p) a → a ≡ ask.Read p
+pub read_ask : (p : ℕ) (a : Ask) → IsAskOf (Read p) a → a ≡ ask.Read p
 read_ask p (ask.Read q) h = ap ask.Read (sym h)
 read_ask p (ask.Store q x) h = absurd h
 read_ask p ask.Seal h = absurd h

@@ -2,8 +2,6 @@
 use Rattle.std.proofs.Common.{◌≡◌, ℕ, ◌≤◌, Bool, true, false, refl, sym, ◌∙◌, ap, subst, arith, Option, Some, None, inl, inr, max}
 use Rattle.std.specs.Prelude.{◌⊎◌, ◌&&◌, ◌||◌, ◌==◌, not, nat_le, is_some, if◌then◌else◌}
 use Rattle.std.proofs.lemmas.Bool.{true≢false, false≢true, leb-true, eqb-true, and_parts, or_cases, or_right}
-use Rattle.quorum_cell.specs.declared.message.Ask.{Ask}
-use Rattle.quorum_cell.specs.declared.message.Ask.TheVariants as ask
 use Rattle.quorum_cell.specs.declared.message.Told.{Told}
 use Rattle.quorum_cell.specs.declared.message.Told.TheVariants as told
 use Rattle.quorum_cell.specs.declared.message.Reply.{Reply}
@@ -13,23 +11,23 @@ use Rattle.quorum_cell.specs.Servers.{Server, length_of}
 use Rattle.quorum_cell.specs.Cells.{Operation, server_before}
 use Rattle.quorum_cell.specs.Tallies.{fails, open_told, mended_told, trimmed_to, told_trim, open_at, sealed_at, mended_to}
 use Rattle.native_plan.specs.declared.member.Member.{Member}
-use Rattle.native_plan.specs.declared.message.Message.{Message}
+use Rattle.native_plan.specs.declared.message.Errand.{Errand}
+use Rattle.native_plan.specs.declared.message.Errand.TheVariants.{Store, Seal, Tail, Repair, Read, Trim}
 use Rattle.native_plan.specs.declared.message.Phase.{Phase}
 use Rattle.native_plan.specs.declared.message.Phase.TheVariants.{Filling, Asking, Opening, Shutting, Sealing, Mending, Reading, Trimming}
 use Rattle.native_plan.specs.declared.stray.News.{News}
 use Rattle.native_plan.specs.declared.stray.News.TheVariants as news
 use Rattle.native_plan.specs.Members.{is_found_sealed}
 use Rattle.native_plan.specs.Plans.{is_done}
-use Rattle.native_plan.specs.Course.{Knows, Fills, Shuts, AimsAt, with_reply}
-use Rattle.native_plan.specs.Strays.{news_of, taken_news, missed_news, bears, learned, learned_in, is_due, heard_anew}
-use Rattle.native_plan.proofs.Hears.{heard_more, heard_new, knows_failed, knows_sealed, knows_opened, knows_mended, knows_missed, knows_same, reached_still}
+use Rattle.native_plan.specs.Course.{Knows, Fills, Shuts, AimsAt, IsAskOf, with_reply}
+use Rattle.native_plan.specs.Strays.{news_of, taken_news, is_read_at, bears, learned, learned_in, is_due, heard_anew}
+use Rattle.native_plan.proofs.Hears.{heard_more, heard_new, knows_failed, knows_sealed, knows_opened, knows_mended, knows_missed, knows_same, store_told, repair_told}
 use Rattle.native_ties.proofs.Resending.{knows_as}
 
--- a reply speaks of no more than its server has, and of a Read's place as its operation began
+-- a reply speaks of no more than its server has
 pub record Speaks (s : Server) (o : Operation) (i : ℕ) (r : Reply) : Type 0 where
   pub opened : (n : ℕ) → open_told r.ask r.told ≡ Some n → n ≤ length_of s
   pub mended : (n : ℕ) → mended_told r.ask r.told ≡ Some n → n ≤ length_of s
-  pub short : (p n : ℕ) → r.ask ≡ ask.Read p → r.told ≡ told.Short n → length_of (server_before o i) ≤ p
 
 -- which operations count which news
 
@@ -69,6 +67,10 @@ max_is a n h = omega arith
 unfound : (z : Option ℕ) → not (is_some z) ≡ true → z ≡ None
 unfound None h = refl
 unfound (Some n) h = absurd (false≢true h)
+
+-- where a Read was told that a server doesn't have the entry, it wasn't so long as the operation began
+abbrev pub IsShort : Operation → ℕ → Errand → Told → Type 0
+IsShort o i f z = (p n : ℕ) → f ≡ Read p → z ≡ told.Short n → length_of (server_before o i) ≤ p
 
 module _ (s : Server) (o : Operation) (i : ℕ) (m : Member) (r : Reply) (k : Knows s o i m) (e : r.server ≡ i) (h : Speaks s o i r) where
   same : fails r.told ≡ false → Knows s (with_reply o r) i m
@@ -137,49 +139,50 @@ module _ (s : Server) (o : Operation) (i : ℕ) (m : Member) (r : Reply) (k : Kn
   either true now ok g = g refl
   either false now ok g = same ok
 
-  taken : (ph : Phase) (want n : ℕ) (a : Ask) → r.ask ≡ a → r.told ≡ told.Ack n → Knows s (with_reply o r) i (learned_in ph want (taken_news a n) m)
-  taken ph want n (ask.Store p x) asked is = either (bears ph (news.Opened n)) _ (ap fails is) (λ b. opened n (ap fails is) (rw (asked, is) refl))
-  taken ph want n (ask.Repair p x) asked is = either (bears ph (news.Mended n)) _ (ap fails is) (λ b. mended n (ap fails is) (rw (asked, is) refl))
-  taken ph want n ask.Seal asked is = either (bears ph news.Nothing) _ (ap fails is) (λ b. same (ap fails is))
-  taken ph want n ask.Tail asked is = either (bears ph news.Nothing) _ (ap fails is) (λ b. same (ap fails is))
-  taken ph want n (ask.Read p) asked is = either (bears ph news.Nothing) _ (ap fails is) (λ b. same (ap fails is))
-  taken ph want n (ask.Trim p) asked is = either (bears ph news.Nothing) _ (ap fails is) (λ b. same (ap fails is))
+  -- it tells nothing
+  nothing : (ph : Phase) (want : ℕ) → fails r.told ≡ false → Knows s (with_reply o r) i (learned_in ph want news.Nothing m)
+  nothing ph want ok = either (bears ph news.Nothing) m ok (λ b. same ok)
 
-  gone : (ph : Phase) (want n place : ℕ) (a : Ask) → AimsAt place o.aim ph → r.ask ≡ a → r.told ≡ told.Short n → Knows s (with_reply o r) i (learned_in ph want (missed_news place a) m)
-  gone ph want n place (ask.Read p) aims asked is = by (place == p) refl
+  taken : (ph : Phase) (want n : ℕ) (f : Errand) → IsAskOf f r.ask → r.told ≡ told.Ack n → Knows s (with_reply o r) i (learned_in ph want (taken_news f n) m)
+  taken ph want n (Store p) asked is = either (bears ph (news.Opened n)) _ (ap fails is) (λ b. opened n (ap fails is) (ap (open_told r.ask) is ∙ store_told s o i m r k p n r.ask asked))
+  taken ph want n (Repair p) asked is = either (bears ph (news.Mended n)) _ (ap fails is) (λ b. mended n (ap fails is) (ap (mended_told r.ask) is ∙ repair_told s o i m r k p n r.ask asked))
+  taken ph want n Seal asked is = nothing ph want (ap fails is)
+  taken ph want n Tail asked is = nothing ph want (ap fails is)
+  taken ph want n (Read p) asked is = nothing ph want (ap fails is)
+  taken ph want n Trim asked is = nothing ph want (ap fails is)
+
+  gone : (ph : Phase) (want n place : ℕ) (f : Errand) → AimsAt place o.aim ph → r.told ≡ told.Short n → ((p : ℕ) → f ≡ Read p → length_of (server_before o i) ≤ p) → Knows s (with_reply o r) i (learned_in ph want (if is_read_at place f then news.Missed else news.Nothing) m)
+  gone ph want n place (Read p) aims is short = by (place == p) refl
     where
       by : (b : Bool) → (place == p) ≡ b → Knows s (with_reply o r) i (learned_in ph want (if b then news.Missed else news.Nothing) m)
-      by true z = either (bears ph news.Missed) _ (ap fails is) (λ b. missed place (ap fails is) (missed_reads ph place o.aim b aims) (let same_place : place ≡ p = eqb-true place p z in let under = h.short p n asked is in omega (arith, same_place, under)))
-      by false z = either (bears ph news.Nothing) _ (ap fails is) (λ b. same (ap fails is))
-  gone ph want n place (ask.Store p x) aims asked is = either (bears ph news.Nothing) _ (ap fails is) (λ b. same (ap fails is))
-  gone ph want n place (ask.Repair p x) aims asked is = either (bears ph news.Nothing) _ (ap fails is) (λ b. same (ap fails is))
-  gone ph want n place ask.Seal aims asked is = either (bears ph news.Nothing) _ (ap fails is) (λ b. same (ap fails is))
-  gone ph want n place ask.Tail aims asked is = either (bears ph news.Nothing) _ (ap fails is) (λ b. same (ap fails is))
-  gone ph want n place (ask.Trim p) aims asked is = either (bears ph news.Nothing) _ (ap fails is) (λ b. same (ap fails is))
+      by true z = either (bears ph news.Missed) _ (ap fails is) (λ b. missed place (ap fails is) (missed_reads ph place o.aim b aims) (let same_place : place ≡ p = eqb-true place p z in let under = short p refl in omega (arith, same_place, under)))
+      by false z = nothing ph want (ap fails is)
+  gone ph want n place (Store p) aims is short = nothing ph want (ap fails is)
+  gone ph want n place (Repair p) aims is short = nothing ph want (ap fails is)
+  gone ph want n place Seal aims is short = nothing ph want (ap fails is)
+  gone ph want n place Tail aims is short = nothing ph want (ap fails is)
+  gone ph want n place Trim aims is short = nothing ph want (ap fails is)
 
   -- whatever was told
-  knows_news : (place want : ℕ) (ph : Phase) (z : Told) → o.want ≡ want → AimsAt place o.aim ph → r.told ≡ z → Knows s (with_reply o r) i (learned_in ph want (news_of place r.ask z) m)
-  knows_news place want ph told.Down wanted aims is = failed (ap fails is)
-  knows_news place want ph told.DiskFault wanted aims is = failed (ap fails is)
-  knows_news place want ph (told.Sealed n) wanted aims is = either (bears ph (news.Sealed n)) _ (ap fails is) (λ b. sealed n is (seal_no_trim ph n place o.aim b aims))
-  knows_news place want ph (told.Unsealed n) wanted aims is = either (bears ph (news.Opened n)) _ (ap fails is) (λ b. opened n (ap fails is) (ap (open_told r.ask) is))
-  knows_news place want ph (told.Ack n) wanted aims is = taken ph want n r.ask refl is
-  knows_news place want ph (told.Trimmed n) wanted aims is = either (bears ph (news.LetGo n)) _ (ap fails is) (λ b. let_go n want is wanted (trim_no_read ph n place o.aim b aims))
-  knows_news place want ph (told.Short n) wanted aims is = gone ph want n place r.ask aims refl is
-  knows_news place want ph (told.Behind n) wanted aims is = either (bears ph news.Nothing) _ (ap fails is) (λ b. same (ap fails is))
-  knows_news place want ph (told.Cut n) wanted aims is = either (bears ph news.Nothing) _ (ap fails is) (λ b. same (ap fails is))
-  knows_news place want ph (told.Got x) wanted aims is = either (bears ph news.Nothing) _ (ap fails is) (λ b. same (ap fails is))
+  knows_news : (place want : ℕ) (ph : Phase) (f : Errand) (z : Told) → o.want ≡ want → AimsAt place o.aim ph → IsAskOf f r.ask → IsShort o i f z → r.told ≡ z → Knows s (with_reply o r) i (learned_in ph want (news_of place f z) m)
+  knows_news place want ph f told.Down wanted aims asked short is = failed (ap fails is)
+  knows_news place want ph f told.DiskFault wanted aims asked short is = failed (ap fails is)
+  knows_news place want ph f (told.Sealed n) wanted aims asked short is = either (bears ph (news.Sealed n)) _ (ap fails is) (λ b. sealed n is (seal_no_trim ph n place o.aim b aims))
+  knows_news place want ph f (told.Unsealed n) wanted aims asked short is = either (bears ph (news.Opened n)) _ (ap fails is) (λ b. opened n (ap fails is) (ap (open_told r.ask) is))
+  knows_news place want ph f (told.Ack n) wanted aims asked short is = taken ph want n f asked is
+  knows_news place want ph f (told.Trimmed n) wanted aims asked short is = either (bears ph (news.LetGo n)) _ (ap fails is) (λ b. let_go n want is wanted (trim_no_read ph n place o.aim b aims))
+  knows_news place want ph f (told.Short n) wanted aims asked short is = gone ph want n place f aims is (λ p e. short p n e refl)
+  knows_news place want ph f (told.Behind n) wanted aims asked short is = nothing ph want (ap fails is)
+  knows_news place want ph f (told.Cut n) wanted aims asked short is = nothing ph want (ap fails is)
+  knows_news place want ph f (told.Got x) wanted aims asked short is = nothing ph want (ap fails is)
 
   -- and its message is kept or given up
-  pub knows_anew : (place want : ℕ) (ph : Phase) → o.want ≡ want → AimsAt place o.aim ph → Knows s (with_reply o r) i (heard_anew ph want i (news_of place r.ask r.told) m)
-  knows_anew place want ph wanted aims = by (is_due ph want i m (learned_in ph want (news_of place r.ask r.told) m))
+  pub knows_anew : (place want : ℕ) (ph : Phase) (f : Errand) (z : Told) → o.want ≡ want → AimsAt place o.aim ph → IsAskOf f r.ask → IsShort o i f z → r.told ≡ z → Knows s (with_reply o r) i (heard_anew ph want i (news_of place f z) m)
+  knows_anew place want ph f z wanted aims asked short is = by (is_due ph want i m (learned_in ph want (news_of place f z) m))
     where
-      now : Member
-      now = learned_in ph want (news_of place r.ask r.told) m
-
-      by : (b : Bool) → Knows s (with_reply o r) i (if b then learned_in ph want (news_of place r.ask r.told) m else record (learned_in ph want (news_of place r.ask r.told) m) { message = None })
-      by true = knows_news place want ph r.told wanted aims refl
-      by false = knows_as s (with_reply o r) i (learned_in ph want (news_of place r.ask r.told) m).losses None (learned_in ph want (news_of place r.ask r.told) m) (knows_news place want ph r.told wanted aims refl)
+      by : (b : Bool) → Knows s (with_reply o r) i (if b then learned_in ph want (news_of place f z) m else record (learned_in ph want (news_of place f z) m) { message = None })
+      by true = knows_news place want ph f z wanted aims asked short is
+      by false = knows_as s (with_reply o r) i (learned_in ph want (news_of place f z) m).losses None (learned_in ph want (news_of place f z) m) (knows_news place want ph f z wanted aims asked short is)
 
 ---- what was known stays, but for what was learned
 

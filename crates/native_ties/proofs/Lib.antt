@@ -13,3 +13,6 @@ pub mod Lessening
 pub mod Bounds
 pub mod Learning
 pub mod Straying
+pub mod Repeating
+pub mod Remaining
+pub mod Copying

@@ -2,13 +2,12 @@
 use Rattle.std.proofs.Common.{◌≡◌, ℕ, ◌<◌, ◌≤◌, Bool, true, false, refl, sym, ◌∙◌, ap, subst, arith, List, [], ◌∷◌, length, get_or, set, Option, Some, None, inl, inr}
 use Rattle.std.specs.Prelude.{◌⊎◌, ◌&&◌, ◌||◌, ◌==◌, not, nat_le, is_some, slice_get, if◌then◌else◌}
 use Rattle.std.specs.List.{list_any}
-use Rattle.std.proofs.lemmas.Bool.{true≢false, false≢true, cases_eq, leb-true, eqb-true, and_parts, or_cases, or_left, or_right}
-use Rattle.std.proofs.lemmas.Option.{none-some}
+use Rattle.std.proofs.lemmas.Bool.{true≢false, false≢true, cases_eq, leb-true, eqb-true, eq-eqb, and_parts, or_left, or_right}
+use Rattle.std.proofs.lemmas.Option.{none-some, same_Some}
 use Rattle.std.proofs.lemmas.List.{length-set, get_or-set_same, get_or-set_other}
 use Rattle.std.proofs.lemmas.List.Folds.{list_any-append}
 use Rattle.std.proofs.lemmas.List.Elements.{All-contains}
 use Rattle.delos_types.specs.declared.entry.Entry.{Entry}
-use Rattle.quorum_cell.specs.declared.message.Ask.{Ask}
 use Rattle.quorum_cell.specs.declared.message.Ask.TheVariants as ask
 use Rattle.quorum_cell.specs.declared.message.Reply.{Reply}
 use Rattle.quorum_cell.specs.declared.message.Told.{Told}
@@ -38,13 +37,13 @@ use Rattle.native_plan.specs.declared.judge.Verdict.TheVariants.{Go}
 use Rattle.native_plan.specs.Members.{no_member, is_out, is_found_sealed}
 use Rattle.native_plan.specs.Plans.{is_done, place_of, judged}
 use Rattle.native_plan.specs.Pendings.{newer_of, aims_of, verdict_of}
-use Rattle.native_plan.specs.Course.{Knows, AimsAt, PhaseFits, HaveTurned, IsOnCourse, IsPlanned, FillsTo, MendsTo, ToldWell, LetsGo, with_reply}
-use Rattle.native_plan.specs.Strays.{news_of, learned_in, is_due, heard_anew, entry_of, is_asked, NotesAgain, HearsNews, HearsAgain, HearsIf}
+use Rattle.native_plan.specs.Course.{Knows, AimsAt, PhaseFits, HaveTurned, IsOnCourse, IsAskOf, IsPlanned, FillsTo, MendsTo, ToldWell, LetsGo, with_reply}
+use Rattle.native_plan.specs.Strays.{news_of, learned_in, is_due, heard_anew, is_read_at, given_to, entry_of, is_asked, NotesAgain, HearsNews, HearsAgain, HearsIf}
 use Rattle.native_plan.proofs.Hears.{knows_other}
 use Rattle.native_ties.specs.Parts.{IsCarried, OnItsWay, ToldSo, Goes, IsPartOf, GoesBy}
 use Rattle.native_ties.specs.Strays.{IsReply, GoesAgain}
 use Rattle.native_ties.proofs.Hearing.{put_there, put_other, comes_is, any_more, many_more, either_more}
-use Rattle.native_ties.proofs.Hearers.{carried_put, newer_none, some_of, read_ends}
+use Rattle.native_ties.proofs.Hearers.{carried_put, newer_none, some_of, read_ends, read_ask}
 use Rattle.native_ties.proofs.Settling.{Noted, settled}
 use Rattle.native_ties.proofs.Learning.{Speaks, Grown, knows_anew, grown_in, turned_anew}
 
@@ -111,11 +110,11 @@ carried_like c o t i aims m now (Some (Answered e y)) s z l d out h = record {
   well = told_like (server_before o i) c.cut aims.phase aims.want m now e y s h.well;
 }
 
-not_true : (b : Bool) → not b ≡ true → b ≡ false
+pub not_true : (b : Bool) → not b ≡ true → b ≡ false
 not_true true h = absurd (false≢true h)
 not_true false h = refl
 
-seal_like : (a b : Bool) → (a ≡ true → b ≡ true) → (a || not b) ≡ true → b ≡ a
+pub seal_like : (a b : Bool) → (a ≡ true → b ≡ true) → (a || not b) ≡ true → b ≡ a
 seal_like true b keep h = keep refl
 seal_like false b keep h = not_true b h
 
@@ -144,48 +143,61 @@ news_fits c t i o r ms (Reading j) now among asked keep h = turned_news ms j i n
 news_fits c t i o r ms Trimming now among asked keep h = tt
 
 -- what a reply of the cell speaks of
-speaks : (c : Cell) (k t i : ℕ) (a : Ask) (z : Told) → QuorumLaw c → IsReply c k t i a z → Speaks (server c i) (operation c t) i (record { ticket = t; server = i; ask = a; told = z })
-speaks c k t i a z law h =
-    let r : Reply = record { ticket = t; server = i; ask = a; told = z } in
-    let holds : ReplyHolds c r = All-contains (ReplyHolds c) c.replies r law.replies (contained c.replies k r h.is) in
+speaks : (c : Cell) (k t i : ℕ) (e : Errand) (z : Told) → QuorumLaw c → (h : IsReply c k t i e z) → Speaks (server c i) (operation c t) i h.reply
+speaks c k t i e z law h =
+    let r : Reply = h.reply in
+    let holds : ReplyHolds c h.reply = All-contains (ReplyHolds c) c.replies h.reply law.replies (contained c.replies k h.reply h.is) in
     record {
-      opened = λ n x. (let most = (holds.opened n x).0 in let within = unsealed_within c (server c i) (law.servers i) in omega (arith, most, within));
-      mended = λ n x. (holds.mended n x).1;
-      short = h.short;
+      opened = λ n x. (let most = (holds.opened n x).0 in let within = unsealed_within c (server c h.reply.server) (law.servers h.reply.server) in subst (λ (j : ℕ). n ≤ length_of (server c j)) h.of_server (omega (arith, most, within)));
+      mended = λ n x. subst (λ (j : ℕ). n ≤ length_of (server c j)) h.of_server (holds.mended n x).1;
     }
 
 -- only a Read is given an entry
-given_read : (ph : Phase) (place : ℕ) (a : Ask) (z : Told) (x : Entry) → entry_of ph place a z ≡ Some x → (j : ℕ) × (ph ≡ Reading j) × (told_entry_at place a z ≡ Some x)
-given_read (Reading j) place a z x h = (j, refl, h)
-given_read Filling place a z x h = absurd (none-some x h)
-given_read Asking place a z x h = absurd (none-some x h)
-given_read (Opening t) place a z x h = absurd (none-some x h)
-given_read Shutting place a z x h = absurd (none-some x h)
-given_read Sealing place a z x h = absurd (none-some x h)
-given_read (Mending t) place a z x h = absurd (none-some x h)
-given_read Trimming place a z x h = absurd (none-some x h)
+given_read : (ph : Phase) (place : ℕ) (e : Errand) (z : Told) (x : Entry) → entry_of ph place e z ≡ Some x → (j : ℕ) × (ph ≡ Reading j) × (given_to place e z ≡ Some x)
+given_read (Reading j) place e z x h = (j, refl, h)
+given_read Filling place e z x h = absurd (none-some x h)
+given_read Asking place e z x h = absurd (none-some x h)
+given_read (Opening t) place e z x h = absurd (none-some x h)
+given_read Shutting place e z x h = absurd (none-some x h)
+given_read Sealing place e z x h = absurd (none-some x h)
+given_read (Mending t) place e z x h = absurd (none-some x h)
+given_read Trimming place e z x h = absurd (none-some x h)
 
-given_is : (place : ℕ) (a : Ask) (z : Told) (x : Entry) → told_entry_at place a z ≡ Some x → (a ≡ ask.Read place) × (z ≡ Got x)
-given_is place (ask.Read p) (Got y) x h = by (place == p) refl h
+read_at : (place : ℕ) (e : Errand) → is_read_at place e ≡ true → e ≡ Read place
+read_at place (Read p) h = ap Read (sym (eqb-true place p h))
+read_at place (Store p) h = absurd (false≢true h)
+read_at place Seal h = absurd (false≢true h)
+read_at place Tail h = absurd (false≢true h)
+read_at place (Repair p) h = absurd (false≢true h)
+read_at place Trim h = absurd (false≢true h)
+
+given_is : (place : ℕ) (e : Errand) (z : Told) (x : Entry) → given_to place e z ≡ Some x → (e ≡ Read place) × (z ≡ Got x)
+given_is place e (Got y) x h = by (is_read_at place e) refl h
   where
-    by : (b : Bool) → (place == p) ≡ b → (if b then Some y else None) ≡ Some x → (ask.Read p ≡ ask.Read place) × (Got y ≡ Got x)
-    by true e g = (ap ask.Read (sym (eqb-true place p e)), cc)
-    by false e g = absurd (none-some x g)
-given_is place a z x h = absurd (none-some x h)
+    by : (b : Bool) → is_read_at place e ≡ b → (if b then Some y else None) ≡ Some x → (e ≡ Read place) × (Got y ≡ Got x)
+    by true w g = (read_at place e w, ap Got (same_Some y x g))
+    by false w g = absurd (none-some x g)
+given_is place e z x h = absurd (none-some x h)
 
-module _ (c : Cell) (k t i : ℕ) (a : Ask) (z : Told) (p b : Pending) (law : QuorumLaw c) (part : IsPartOf c t p) (waiting : p.outcome ≡ None) (here : i < length c.servers)
-    (reply : IsReply c k t i a z) (asked : is_asked p.phase i ≡ true) (notes : NotesAgain i a z p b) where
+gives_is : (place : ℕ) (r : Reply) (x : Entry) → r.ask ≡ ask.Read place → r.told ≡ Got x → gives_entry place r ≡ true
+gives_is place r x a y = by r.ask r.told a y
+  where
+    by : (b : Rattle.quorum_cell.specs.declared.message.Ask.Ask) (z : Told) → b ≡ ask.Read place → z ≡ Got x → is_some (told_entry_at place b z) ≡ true
+    by b z e h = rw (e, h, eq-eqb place place refl) refl
+
+module _ (c : Cell) (k t i : ℕ) (e : Errand) (z : Told) (p b : Pending) (law : QuorumLaw c) (part : IsPartOf c t p) (waiting : p.outcome ≡ None) (here : i < length c.servers)
+    (reply : IsReply c k t i e z) (asked : is_asked p.phase i ≡ true) (notes : NotesAgain i e z p b) where
   goes : Goes c t p
   goes = part.goes waiting
 
   abbrev r : Reply
-  r = record { ticket = t; server = i; ask = a; told = z }
+  r = reply.reply
 
   abbrev m : Member
   m = get_or p.members.items i no_member
 
   abbrev now : Member
-  now = heard_anew p.phase p.want i (news_of (place_of p.task) a z) m
+  now = heard_anew p.phase p.want i (news_of (place_of p.task) e z) m
 
   abbrev o : Operation
   o = with_reply (operation c t) r
@@ -203,14 +215,14 @@ module _ (c : Cell) (k t i : ℕ) (a : Ask) (z : Told) (p b : Pending) (law : Qu
   among = omega (arith, here, goes.course.all)
 
   knows_now : Knows (server c i) o i now
-  knows_now = knows_anew (server c i) (operation c t) i m r (goes.course.knows i here) refl (speaks c k t i a z law reply) (place_of p.task) p.want p.phase goes.course.want goes.course.aims_at
+  knows_now = knows_anew (server c i) (operation c t) i m r (goes.course.knows i here) reply.of_server (speaks c k t i e z law reply) (place_of p.task) p.want p.phase e z goes.course.want goes.course.aims_at reply.asked reply.short reply.told_is
 
   knows_all : (q : ℕ) → q < length c.servers → Knows (server c q) o q (get_or (set p.members.items i now) q no_member)
   knows_all q l = by (cases_eq q i)
     where
       by : (q ≡ i) ⊎ (q ≡ i → ⊥) → Knows (server c q) o q (get_or (set p.members.items i now) q no_member)
       by (inl same) = rw (same, get_or-set_same p.members.items i now no_member among) knows_now
-      by (inr other) = rw (get_or-set_other p.members.items i q now no_member other) (knows_other (server c q) (operation c t) r q (get_or p.members.items q no_member) (λ e. other (sym e)) (goes.course.knows q l))
+      by (inr other) = rw (get_or-set_other p.members.items i q now no_member other) (knows_other (server c q) (operation c t) r q (get_or p.members.items q no_member) (λ x. other (sym x ∙ reply.of_server)) (goes.course.knows q l))
 
   course_now : IsOnCourse d o (aims_of c.cut p) (set p.members.items i now)
   course_now = record {
@@ -224,21 +236,21 @@ module _ (c : Cell) (k t i : ℕ) (a : Ask) (z : Told) (p b : Pending) (law : Qu
     held = goes.course.held;
     want_there = goes.course.want_there;
     aims_at = goes.course.aims_at;
-    phase = news_fits c t i (operation c t) r p.members.items p.phase now among asked (turned_anew p.phase p.want i (news_of (place_of p.task) a z) m) goes.course.phase;
+    phase = news_fits c t i (operation c t) r p.members.items p.phase now among asked (turned_anew p.phase p.want i (news_of (place_of p.task) e z) m) goes.course.phase;
   }
 
   -- its message stays as it was, where it stays
   carried_here : is_out now ≡ true → IsCarried c (operation c t) t i (aims_of c.cut p) now now.message
-  carried_here = by (is_due p.phase p.want i m (learned_in p.phase p.want (news_of (place_of p.task) a z) m)) refl
+  carried_here = by (is_due p.phase p.want i m (learned_in p.phase p.want (news_of (place_of p.task) e z) m)) refl
     where
       was : Member
       was = get_or p.members.items i no_member
 
       is : Member
-      is = learned_in p.phase p.want (news_of (place_of p.task) a z) (get_or p.members.items i no_member)
+      is = learned_in p.phase p.want (news_of (place_of p.task) e z) (get_or p.members.items i no_member)
 
-      grown : Grown m (learned_in p.phase p.want (news_of (place_of p.task) a z) m)
-      grown = grown_in p.phase p.want (news_of (place_of p.task) a z) m
+      grown : Grown m (learned_in p.phase p.want (news_of (place_of p.task) e z) m)
+      grown = grown_in p.phase p.want (news_of (place_of p.task) e z) m
 
       stays : (x : Member) → Grown was x → is_due p.phase p.want i was x ≡ true → is_out x ≡ true → IsCarried c (operation c t) t i (aims_of c.cut p) x x.message
       stays x g due out =
@@ -266,19 +278,24 @@ module _ (c : Cell) (k t i : ℕ) (a : Ask) (z : Told) (p b : Pending) (law : Qu
           put (get_or (set p.members.items i now) j no_member) (subst (λ (x : Member). IsCarried c (operation c t) t j (aims_of c.cut p) x x.message) (sym is) (subst (λ (x : ℕ). IsCarried c (operation c t) t x (aims_of c.cut p) now now.message) (sym same) (carried_here (sym (ap is_out is) ∙ out))))
       by (inr other) = put (get_or (set p.members.items i now) j no_member) (subst (λ (x : Member). IsCarried c (operation c t) t j (aims_of c.cut p) x x.message) (sym (get_or-set_other p.members.items i j now no_member other)) (goes.carried j l))
 
-  got_is : newer_of (entry_of p.phase (place_of p.task) a z) p.got ≡ entry_of p.phase (place_of p.task) a z
-  got_is = rw goes.ungot (newer_none (entry_of p.phase (place_of p.task) a z))
+  got_is : newer_of (entry_of p.phase (place_of p.task) e z) p.got ≡ entry_of p.phase (place_of p.task) e z
+  got_is = rw goes.ungot (newer_none (entry_of p.phase (place_of p.task) e z))
 
-  reads : (x : Entry) → entry_of p.phase (place_of p.task) a z ≡ Some x → ((operation c t).aim ≡ AimRead (place_of p.task)) × (told_entry_at (place_of p.task) a z ≡ Some x)
-  reads x g = (let w : (j : ℕ) × (p.phase ≡ Reading j) × (told_entry_at (place_of p.task) a z ≡ Some x) = given_read p.phase (place_of p.task) a z x g in
+  reads : (x : Entry) → entry_of p.phase (place_of p.task) e z ≡ Some x → ((operation c t).aim ≡ AimRead (place_of p.task)) × (given_to (place_of p.task) e z ≡ Some x)
+  reads x g = (let w : (j : ℕ) × (p.phase ≡ Reading j) × (given_to (place_of p.task) e z ≡ Some x) = given_read p.phase (place_of p.task) e z x g in
       (subst (λ (ph : Phase). AimsAt (place_of p.task) (operation c t).aim ph) w.1 goes.course.aims_at, w.2))
 
-  told_so : (x : Entry) → entry_of p.phase (place_of p.task) a z ≡ Some x → list_any (gives_entry (place_of p.task)) o.heard ≡ true
+  -- it was asked so, and gave this
+  gave : (x : Entry) → entry_of p.phase (place_of p.task) e z ≡ Some x → (r.ask ≡ ask.Read (place_of p.task)) × (r.told ≡ Got x)
+  gave x g = (let is : (e ≡ Read (place_of p.task)) × (z ≡ Got x) = given_is (place_of p.task) e z x (reads x g).1 in
+      (read_ask (place_of p.task) r.ask (subst (λ (f : Errand). IsAskOf f r.ask) is.0 reply.asked), reply.told_is ∙ is.1))
+
+  told_so : (x : Entry) → entry_of p.phase (place_of p.task) e z ≡ Some x → list_any (gives_entry (place_of p.task)) o.heard ≡ true
   told_so x g =
-      let given : gives_entry (place_of p.task) r ≡ true = ap (λ (y : Option Entry). is_some y) (reads x g).1 in
+      let given : gives_entry (place_of p.task) r ≡ true = gives_is (place_of p.task) r x (gave x g).0 (gave x g).1 in
       list_any-append (gives_entry (place_of p.task)) (operation c t).heard (r ∷ []) ∙ or_right (list_any (gives_entry (place_of p.task)) (operation c t).heard) (gives_entry (place_of p.task) r || false) (or_left (gives_entry (place_of p.task) r) false given)
 
-  noted : Noted d t (record p { members = b.members; got = newer_of (entry_of p.phase (place_of p.task) a z) p.got })
+  noted : Noted d t (record p { members = b.members; got = newer_of (entry_of p.phase (place_of p.task) e z) p.got })
   noted = record {
     shows = record { is_open = rw there part.shows.is_open; task = rw there part.shows.task; size = rw there part.shows.size; reach = rw there part.shows.reach; firm = rw there part.shows.firm; shut = rw there part.shows.shut; faults = rw there part.shows.faults; down = rw there part.shows.down };
     undecided = rw there (part.outcome ∙ waiting);
@@ -286,40 +303,39 @@ module _ (c : Cell) (k t i : ℕ) (a : Ask) (z : Told) (p b : Pending) (law : Qu
     course = rw there (subst (λ (ms : List Member). IsOnCourse d o (aims_of c.cut p) ms) (sym notes.members) course_now);
     carried = λ j l out. rw there (subst (λ (ms : List Member). is_out (get_or ms j no_member) ≡ true → IsCarried d o t j (aims_of c.cut p) (get_or ms j no_member) (get_or ms j no_member).message) (sym notes.members) (carried_on j l) out);
     losses = rw there goes.losses;
-    told = λ some. (let x : (x : Entry) × (newer_of (entry_of p.phase (place_of p.task) a z) p.got ≡ Some x) = some_of _ some in rw there (told_so x.0 (sym got_is ∙ x.1)));
-    got = λ ph v. ended (entry_of p.phase (place_of p.task) a z) refl ph v;
+    told = λ some. (let x : (x : Entry) × (newer_of (entry_of p.phase (place_of p.task) e z) p.got ≡ Some x) = some_of _ some in rw there (told_so x.0 (sym got_is ∙ x.1)));
+    got = λ ph v. ended (entry_of p.phase (place_of p.task) e z) refl ph v;
     there = λ x y q w. found x (sym got_is ∙ y) q (sym (ap (λ (w : Operation). w.aim) there) ∙ w);
     trimming = goes.trimming;
   }
     where
-      ended : (y : Option Entry) → entry_of p.phase (place_of p.task) a z ≡ y → (ph : Phase) → verdict_of c.cut (record p { members = b.members; got = newer_of (entry_of p.phase (place_of p.task) a z) p.got }) ≡ Go ph → newer_of (entry_of p.phase (place_of p.task) a z) p.got ≡ None
+      ended : (y : Option Entry) → entry_of p.phase (place_of p.task) e z ≡ y → (ph : Phase) → verdict_of c.cut (record p { members = b.members; got = newer_of (entry_of p.phase (place_of p.task) e z) p.got }) ≡ Go ph → newer_of (entry_of p.phase (place_of p.task) e z) p.got ≡ None
       ended None g ph v = got_is ∙ g
       ended (Some x) g ph v =
-          let some : is_some (newer_of (entry_of p.phase (place_of p.task) a z) p.got) ≡ true = ap is_some (got_is ∙ g) in
+          let some : is_some (newer_of (entry_of p.phase (place_of p.task) e z) p.got) ≡ true = ap is_some (got_is ∙ g) in
           absurd (read_ends p.phase p.want c.cut p.firm (place_of p.task) (place_of p.task) (operation c t).aim b.members.items ph goes.course.aims_at (reads x g).0 (subst (λ (y : Bool). judged p.phase p.want c.cut p.firm (place_of p.task) y b.members.items ≡ Go ph) some v))
 
-      found : (x : Entry) → entry_of p.phase (place_of p.task) a z ≡ Some x → (q : ℕ) → (operation c t).aim ≡ AimRead q → slice_get c.entries q ≡ Some x
+      found : (x : Entry) → entry_of p.phase (place_of p.task) e z ≡ Some x → (q : ℕ) → (operation c t).aim ≡ AimRead q → slice_get c.entries q ≡ Some x
       found x g q w =
-          let is : (a ≡ ask.Read (place_of p.task)) × (z ≡ Got x) = given_is (place_of p.task) a z x (reads x g).1 in
           let aims_same : AimRead (place_of p.task) ≡ AimRead q = sym (reads x g).0 ∙ w in
           let same : place_of p.task ≡ q = cc in
           let h : ReplyHolds c r = All-contains (ReplyHolds c) c.replies r law.replies (contained c.replies k r reply.is) in
-          subst (λ (y : ℕ). slice_get c.entries y ≡ Some x) same (h.got (place_of p.task) x is.0 is.1)
+          subst (λ (y : ℕ). slice_get c.entries y ≡ Some x) same (h.got (place_of p.task) x (gave x g).0 (gave x g).1)
 
 -- what it is once the answer came, before it comes to anything
-pub again_noted : (c : Cell) (k t i : ℕ) (a : Ask) (z : Told) (p b : Pending) → QuorumLaw c → IsPartOf c t p → p.outcome ≡ None → i < length c.servers → IsReply c k t i a z → is_asked p.phase i ≡ true → NotesAgain i a z p b → (d : Cell) × QuorumLaw d × Noted d t b × (d.cut ≡ c.cut)
-again_noted c k t i a z p b law part waiting here reply asked notes =
-    let r : Reply = record { ticket = t; server = i; ask = a; told = z } in
-    let is : cell_step c (ReplyComes k) ≡ put_operation c t (with_reply (operation c t) r) = comes_is c t k r reply.is refl part.shows.is_open (part.outcome ∙ waiting) in
-    (put_operation c t (with_reply (operation c t) r), subst QuorumLaw is (step_keeps c (ReplyComes k) law), subst (Noted (put_operation c t (with_reply (operation c t) r)) t) (sym notes.rest) (noted c k t i a z p b law part waiting here reply asked notes), refl)
+pub again_noted : (c : Cell) (k t i : ℕ) (e : Errand) (z : Told) (p b : Pending) → QuorumLaw c → IsPartOf c t p → p.outcome ≡ None → i < length c.servers → IsReply c k t i e z → is_asked p.phase i ≡ true → NotesAgain i e z p b → (d : Cell) × QuorumLaw d × Noted d t b × (d.cut ≡ c.cut)
+again_noted c k t i e z p b law part waiting here reply asked notes =
+    let r : Reply = reply.reply in
+    let is : cell_step c (ReplyComes k) ≡ put_operation c t (with_reply (operation c t) r) = comes_is c t k r reply.is reply.ticket part.shows.is_open (part.outcome ∙ waiting) in
+    (put_operation c t (with_reply (operation c t) r), subst QuorumLaw is (step_keeps c (ReplyComes k) law), subst (Noted (put_operation c t (with_reply (operation c t) r)) t) (sym notes.rest) (noted c k t i e z p b law part waiting here reply asked notes), refl)
 
 -- the steps: the reply comes, and then it may be decided
-pub again : (c : Cell) (k t i : ℕ) (a : Ask) (z : Told) (p new : Pending) → QuorumLaw c → IsPartOf c t p → p.outcome ≡ None → i < length c.servers → IsReply c k t i a z → is_asked p.phase i ≡ true → HearsNews c.cut i a z p new → GoesAgain c k t new
-again c k t i a z p new law part waiting here reply asked h =
-    let r : Reply = record { ticket = t; server = i; ask = a; told = z } in
-    let is : cell_step c (ReplyComes k) ≡ put_operation c t (with_reply (operation c t) r) = comes_is c t k r reply.is refl part.shows.is_open (part.outcome ∙ waiting) in
+pub again : (c : Cell) (k t i : ℕ) (e : Errand) (z : Told) (p new : Pending) → QuorumLaw c → IsPartOf c t p → p.outcome ≡ None → i < length c.servers → IsReply c k t i e z → is_asked p.phase i ≡ true → HearsNews c.cut i e z p new → GoesAgain c k t new
+again c k t i e z p new law part waiting here reply asked h =
+    let r : Reply = reply.reply in
+    let is : cell_step c (ReplyComes k) ≡ put_operation c t (with_reply (operation c t) r) = comes_is c t k r reply.is reply.ticket part.shows.is_open (part.outcome ∙ waiting) in
     let kept : QuorumLaw (put_operation c t (with_reply (operation c t) r)) = subst QuorumLaw is (step_keeps c (ReplyComes k) law) in
-    let then_noted : Noted (put_operation c t (with_reply (operation c t) r)) t h.between = subst (Noted (put_operation c t (with_reply (operation c t) r)) t) (sym h.notes.rest) (noted c k t i a z p h.between law part waiting here reply asked h.notes) in
+    let then_noted : Noted (put_operation c t (with_reply (operation c t) r)) t h.between = subst (Noted (put_operation c t (with_reply (operation c t) r)) t) (sym h.notes.rest) (noted c k t i e z p h.between law part waiting here reply asked h.notes) in
     let s : GoesBy (put_operation c t (with_reply (operation c t) r)) t c.faults new = settled (put_operation c t (with_reply (operation c t) r)) t h.between new kept then_noted h.settles in
     record {
       steps = s.steps;
@@ -330,17 +346,17 @@ again c k t i a z p new law part waiting here reply asked h =
       faults_are = ap (λ (x : Cell). (run_cell s.steps x).faults) is ∙ s.faults_are;
     }
 
-heard_if : (v : Bool) (cut i : ℕ) (a : Ask) (z : Told) (old new : Pending) → v ≡ true → HearsIf v cut i a z old new → HearsNews cut i a z old new
-heard_if true cut i a z old new e h = h
-heard_if false cut i a z old new e h = absurd (false≢true e)
+heard_if : (v : Bool) (cut i : ℕ) (e : Errand) (z : Told) (old new : Pending) → v ≡ true → HearsIf v cut i e z old new → HearsNews cut i e z old new
+heard_if true cut i e z old new v h = h
+heard_if false cut i e z old new v h = absurd (false≢true v)
 
-pub heard_again : (c : Cell) (k t i : ℕ) (a : Ask) (z : Told) (p new : Pending) → QuorumLaw c → IsPartOf c t p → p.outcome ≡ None → i < length c.servers → IsReply c k t i a z → is_asked p.phase i ≡ true → HearsAgain c.cut i a z p new → GoesAgain c k t new
-heard_again c k t i a z p new law part waiting here reply asked h = again c k t i a z p new law part waiting here reply asked (heard_if (is_asked p.phase i) c.cut i a z p new asked h)
+pub heard_again : (c : Cell) (k t i : ℕ) (e : Errand) (z : Told) (p new : Pending) → QuorumLaw c → IsPartOf c t p → p.outcome ≡ None → i < length c.servers → IsReply c k t i e z → is_asked p.phase i ≡ true → HearsAgain c.cut i e z p new → GoesAgain c k t new
+heard_again c k t i e z p new law part waiting here reply asked h = again c k t i e z p new law part waiting here reply asked (heard_if (is_asked p.phase i) c.cut i e z p new asked h)
 
-pub goes_again : (c : Cell) (k t i : ℕ) (a : Ask) (z : Told) (p new : Pending) → QuorumLaw c → IsPartOf c t p → p.outcome ≡ None → i < length c.servers → IsReply c k t i a z → HearsAgain c.cut i a z p new → GoesBy c t c.faults new
-goes_again c k t i a z p new law part waiting here reply h = by (is_asked p.phase i) refl h
+pub goes_again : (c : Cell) (k t i : ℕ) (e : Errand) (z : Told) (p new : Pending) → QuorumLaw c → IsPartOf c t p → p.outcome ≡ None → i < length c.servers → IsReply c k t i e z → HearsAgain c.cut i e z p new → GoesBy c t c.faults new
+goes_again c k t i e z p new law part waiting here reply h = by (is_asked p.phase i) refl h
   where
-    by : (v : Bool) → is_asked p.phase i ≡ v → HearsIf v c.cut i a z p new → GoesBy c t c.faults new
-    by true e x = (let g : GoesAgain c k t new = again c k t i a z p new law part waiting here reply e x in
+    by : (v : Bool) → is_asked p.phase i ≡ v → HearsIf v c.cut i e z p new → GoesBy c t c.faults new
+    by true y x = (let g : GoesAgain c k t new = again c k t i e z p new law part waiting here reply y x in
         record { steps = ReplyComes k ∷ g.steps; strays = (tt, g.strays); part = g.part; others = g.others; servers = g.servers; faults_are = g.faults_are })
-    by false e x = record { steps = []; strays = tt; part = subst (IsPartOf c t) (sym x) part; others = λ q n. refl; servers = refl; faults_are = refl }
+    by false y x = record { steps = []; strays = tt; part = subst (IsPartOf c t) (sym x) part; others = λ q n. refl; servers = refl; faults_are = refl }
