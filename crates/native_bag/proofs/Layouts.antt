@@ -1,5 +1,5 @@
 -- How what a bag shows follows what it holds.
-use Rattle.std.proofs.Common.{◌≡◌, ℕ, zero, suc, ◌+◌, ◌<◌, ◌≤◌, Bool, true, false, refl, sym, ◌∙◌, ap, subst, arith, List, [], ◌∷◌, ◌++◌, length, Option, Some, None, inl, inr}
+use Rattle.std.proofs.Common.{◌≡◌, ℕ, zero, suc, ◌+◌, ◌<◌, ◌≤◌, Bool, true, false, refl, sym, ◌∙◌, ap, subst, arith, List, [], ◌∷◌, ◌++◌, length, get_or, Option, Some, None}
 use Rattle.std.specs.Prelude.{◌⊎◌, ◌≢◌, ◌&&◌, ◌||◌, ◌==◌, not, nat_lt, filter, slice_get, is_some, if◌then◌else◌}
 use Rattle.std.specs.List.{AllByRecursion}
 use Rattle.std.proofs.lemmas.Bool.{true≢false, false≢true, eqb-true, eq-eqb, and_parts, cases_eq}
@@ -8,44 +8,56 @@ use Rattle.slab.specs.Slab.{Slab, get, Updates}
 use Rattle.native_bag.specs.declared.places.Kept.{Kept}
 use Rattle.native_bag.specs.declared.places.Kept.TheVariants as kept
 use Rattle.native_bag.specs.declared.places.Place.{Place}
-use Rattle.native_bag.specs.Bags.{Flying, is_of, first_of, is_out, others, without, put}
-use Rattle.native_bag.specs.Places.{is_at, first_at, others_at, flown, flown_one, kept_of, kept_one, IsHeld, IsStray, IsSound, TakesOut, TakesFrom, taken_one, PutsIn}
+use Rattle.native_bag.specs.Bags.{Flying, count_below, is_of, first_of, is_out, others, without}
+use Rattle.native_bag.specs.Places.{is_at, first_at, others_at, flown, flown_one, kept_of, kept_one, is_there, stray_of, IsHeld, IsStray, IsSound, TakesOut, TakesFrom, taken_one, PutsIn}
+
+both_at : (t u a b : ℕ) → ((a == t) && (b == u)) ≡ true → (a ≡ t) × (b ≡ u)
+both_at t u a b h = (let parts : ((a == t) ≡ true) × ((b == u) ≡ true) = and_parts (a == t) (b == u) h in (eqb-true a t parts.0, eqb-true b u parts.1))
+
+all_others : (P : Place → Type 0) (t u : ℕ) (ps : List Place) → AllByRecursion P ps → AllByRecursion P (others_at t u ps)
+all_others P t u [] h = tt
+all_others P t u (p ∷ ps) h = by (is_at t u p) (all_others P t u ps h.1)
+  where
+    by : (b : Bool) → AllByRecursion P (others_at t u ps) → AllByRecursion P (if not b then p ∷ others_at t u ps else others_at t u ps)
+    by true k = k
+    by false k = (h.0, k)
+
+all_push : {X : Type 0} (P : X → Type 0) (xs : List X) (x : X) → AllByRecursion P xs → P x → AllByRecursion P (xs ++ x ∷ [])
+all_push P [] x h k = (k, tt)
+all_push P (y ∷ xs) x h k = (h.0, all_push P xs x h.1 k)
 
 module _ {M : Type 0} where
   ---- which message stands where
 
-  both_at : (t u a b : ℕ) → ((a == t) && (b == u)) ≡ true → (a ≡ t) × (b ≡ u)
-  both_at t u a b h = (let parts : ((a == t) ≡ true) × ((b == u) ≡ true) = and_parts (a == t) (b == u) h in (eqb-true a t parts.0, eqb-true b u parts.1))
-
   pub found_held : (s : Slab (Kept M)) (t u : ℕ) (ps : List Place) (p : Place) → AllByRecursion (IsHeld s) ps → first_at t u ps ≡ Some p → IsHeld s p × (p.ticket ≡ t) × (p.server ≡ u)
   found_held s t u [] p h e = absurd (none-some p e)
-  found_held s t u (q ∷ ps) p h e = by (is_at t u q) refl e
+  found_held s t u (q ∷ ps) p h e = by (is_at t u q) refl (found_held s t u ps p h.1) e
     where
-      by : (b : Bool) → is_at t u q ≡ b → (if b then Some q else first_at t u ps) ≡ Some p → IsHeld s p × (p.ticket ≡ t) × (p.server ≡ u)
-      by true z g = (let same : q ≡ p = same_Some q p g in let at : (q.ticket ≡ t) × (q.server ≡ u) = both_at t u q.ticket q.server z in
+      by : (b : Bool) → is_at t u q ≡ b → (first_at t u ps ≡ Some p → IsHeld s p × (p.ticket ≡ t) × (p.server ≡ u)) → (if b then Some q else first_at t u ps) ≡ Some p → IsHeld s p × (p.ticket ≡ t) × (p.server ≡ u)
+      by true z k g = (let same : q ≡ p = same_Some q p g in let at : (q.ticket ≡ t) × (q.server ≡ u) = both_at t u q.ticket q.server z in
           (subst (IsHeld s) same h.0, subst (λ (x : Place). x.ticket ≡ t) same at.0, subst (λ (x : Place). x.server ≡ u) same at.1))
-      by false z g = found_held s t u ps p h.1 g
+      by false z k g = k g
 
   pub flown_none : (s : Slab (Kept M)) (t u : ℕ) (ps : List Place) → AllByRecursion (IsHeld s) ps → first_at t u ps ≡ None → first_of t u (flown s ps) ≡ None
   flown_none s t u [] h e = refl
-  flown_none s t u (q ∷ ps) h e = rw h.0.1 (by (is_at t u q) e)
+  flown_none s t u (q ∷ ps) h e = rw h.0.1 (by (is_at t u q) (flown_none s t u ps h.1) e)
     where
-      by : (b : Bool) → (if b then Some q else first_at t u ps) ≡ None → (if b then Some (record { ticket = q.ticket; server = q.server; losses = q.losses; message = h.0.0 }) else first_of t u (flown s ps)) ≡ None
-      by true g = absurd (none-some q (sym g))
-      by false g = flown_none s t u ps h.1 g
+      by : (b : Bool) → (first_at t u ps ≡ None → first_of t u (flown s ps) ≡ None) → (if b then Some q else first_at t u ps) ≡ None → (if b then Some (record { ticket = q.ticket; server = q.server; losses = q.losses; message = h.0.0 }) else first_of t u (flown s ps)) ≡ None
+      by true k g = absurd (none-some q (sym g))
+      by false k g = k g
 
   pub flown_first : (s : Slab (Kept M)) (t u : ℕ) (ps : List Place) (p : Place) (m : M) → AllByRecursion (IsHeld s) ps → first_at t u ps ≡ Some p → get s p.key ≡ Some (kept.Flying p.ticket p.server m) → first_of t u (flown s ps) ≡ Some (record { ticket = p.ticket; server = p.server; losses = p.losses; message = m })
   flown_first s t u [] p m h e g = absurd (none-some p e)
-  flown_first s t u (q ∷ ps) p m h e g = rw h.0.1 (by (is_at t u q) e)
+  flown_first s t u (q ∷ ps) p m h e g = rw h.0.1 (by (is_at t u q) (λ x. flown_first s t u ps p m h.1 x g) e)
     where
-      by : (b : Bool) → (if b then Some q else first_at t u ps) ≡ Some p → (if b then Some (record { ticket = q.ticket; server = q.server; losses = q.losses; message = h.0.0 }) else first_of t u (flown s ps)) ≡ Some (record { ticket = p.ticket; server = p.server; losses = p.losses; message = m })
-      by true z =
+      by : (b : Bool) → (first_at t u ps ≡ Some p → first_of t u (flown s ps) ≡ Some (record { ticket = p.ticket; server = p.server; losses = p.losses; message = m })) → (if b then Some q else first_at t u ps) ≡ Some p → (if b then Some (record { ticket = q.ticket; server = q.server; losses = q.losses; message = h.0.0 }) else first_of t u (flown s ps)) ≡ Some (record { ticket = p.ticket; server = p.server; losses = p.losses; message = m })
+      by true k z =
           let same : q ≡ p = same_Some q p z in
           let held : get s p.key ≡ Some (kept.Flying p.ticket p.server h.0.0) = subst (λ (x : Place). get s x.key ≡ Some (kept.Flying x.ticket x.server h.0.0)) same h.0.1 in
           let message : Some (kept.Flying p.ticket p.server h.0.0) ≡ Some (kept.Flying p.ticket p.server m) = sym held ∙ g in
           let is : h.0.0 ≡ m = cc in
           rw (same, is) refl
-      by false z = flown_first s t u ps p m h.1 z g
+      by false k z = k z
 
   pub flown_out : (s : Slab (Kept M)) (t u : ℕ) (ps : List Place) → AllByRecursion (IsHeld s) ps → is_out t (flown s ps) u ≡ is_some (first_at t u ps)
   flown_out s t u ps h = by (first_at t u ps) refl
@@ -56,41 +68,41 @@ module _ {M : Type 0} where
 
   flown_others : (s : Slab (Kept M)) (t u : ℕ) (ps : List Place) → AllByRecursion (IsHeld s) ps → flown s (others_at t u ps) ≡ others t u (flown s ps)
   flown_others s t u [] h = refl
-  flown_others s t u (q ∷ ps) h = rw h.0.1 (by (is_at t u q))
+  flown_others s t u (q ∷ ps) h = rw h.0.1 (by (is_at t u q) (flown_others s t u ps h.1))
     where
-      by : (b : Bool) → flown s (if not b then q ∷ others_at t u ps else others_at t u ps) ≡ (if not b then record { ticket = q.ticket; server = q.server; losses = q.losses; message = h.0.0 } ∷ others t u (flown s ps) else others t u (flown s ps))
-      by true = flown_others s t u ps h.1
-      by false = rw h.0.1 (ap (λ (fs : List (Flying M)). record { ticket = q.ticket; server = q.server; losses = q.losses; message = h.0.0 } ∷ fs) (flown_others s t u ps h.1))
+      by : (b : Bool) → flown s (others_at t u ps) ≡ others t u (flown s ps) → flown s (if not b then q ∷ others_at t u ps else others_at t u ps) ≡ (if not b then record { ticket = q.ticket; server = q.server; losses = q.losses; message = h.0.0 } ∷ others t u (flown s ps) else others t u (flown s ps))
+      by true k = k
+      by false k = rw h.0.1 (ap (λ (fs : List (Flying M)). record { ticket = q.ticket; server = q.server; losses = q.losses; message = h.0.0 } ∷ fs) k)
 
   ---- what another key has stays
 
-  abbrev Same : Slab (Kept M) → Slab (Kept M) → Place → Type 0
+  abbrev pub Same : Slab (Kept M) → Slab (Kept M) → Place → Type 0
   Same s z p = get z p.key ≡ get s p.key
 
-  flown_same : (s z : Slab (Kept M)) (ps : List Place) → AllByRecursion (Same s z) ps → flown z ps ≡ flown s ps
+  pub flown_same : (s z : Slab (Kept M)) (ps : List Place) → AllByRecursion (Same s z) ps → flown z ps ≡ flown s ps
   flown_same s z [] h = refl
   flown_same s z (p ∷ ps) h = rw (h.0, flown_same s z ps h.1) refl
 
-  kept_same : (s z : Slab (Kept M)) (ks : List ℕ) → AllByRecursion (λ k. get z k ≡ get s k) ks → kept_of z ks ≡ kept_of s ks
+  pub kept_same : (s z : Slab (Kept M)) (ks : List ℕ) → AllByRecursion (λ k. get z k ≡ get s k) ks → kept_of z ks ≡ kept_of s ks
   kept_same s z [] h = refl
   kept_same s z (k ∷ ks) h = rw (h.0, kept_same s z ks h.1) refl
 
-  held_same : (s z : Slab (Kept M)) (ps : List Place) → AllByRecursion (Same s z) ps → AllByRecursion (IsHeld s) ps → AllByRecursion (IsHeld z) ps
+  pub held_same : (s z : Slab (Kept M)) (ps : List Place) → AllByRecursion (Same s z) ps → AllByRecursion (IsHeld s) ps → AllByRecursion (IsHeld z) ps
   held_same s z [] h k = tt
   held_same s z (p ∷ ps) h k = ((k.0.0, h.0 ∙ k.0.1), held_same s z ps h.1 k.1)
 
-  strays_same : (s z : Slab (Kept M)) (ks : List ℕ) → AllByRecursion (λ k. get z k ≡ get s k) ks → AllByRecursion (IsStray s) ks → AllByRecursion (IsStray z) ks
+  pub strays_same : (s z : Slab (Kept M)) (ks : List ℕ) → AllByRecursion (λ k. get z k ≡ get s k) ks → AllByRecursion (IsStray s) ks → AllByRecursion (IsStray z) ks
   strays_same s z [] h k = tt
   strays_same s z (q ∷ ks) h k = ((k.0.0, h.0 ∙ k.0.1), strays_same s z ks h.1 k.1)
 
   -- a message of another operation or server stands under another key
   others_same : (s z : Slab (Kept M)) (t u key : ℕ) (m : M) (slot : Option (Kept M)) (ps : List Place) → get s key ≡ Some (kept.Flying t u m) → Updates s z key slot → AllByRecursion (IsHeld s) ps → AllByRecursion (Same s z) (others_at t u ps)
   others_same s z t u key m slot [] g up h = tt
-  others_same s z t u key m slot (p ∷ ps) g up h = by (is_at t u p) refl
+  others_same s z t u key m slot (p ∷ ps) g up h = by (is_at t u p) refl (others_same s z t u key m slot ps g up h.1)
     where
-      by : (b : Bool) → is_at t u p ≡ b → AllByRecursion (Same s z) (if not b then p ∷ others_at t u ps else others_at t u ps)
-      by true e = others_same s z t u key m slot ps g up h.1
-      by false e = (up.others p.key apart, others_same s z t u key m slot ps g up h.1)
+      by : (b : Bool) → is_at t u p ≡ b → AllByRecursion (Same s z) (others_at t u ps) → AllByRecursion (Same s z) (if not b then p ∷ others_at t u ps else others_at t u ps)
+      by true e k = k
+      by false e k = (up.others p.key apart, k)
         where
           apart : p.key ≡ key → ⊥
           apart same =
@@ -115,35 +127,23 @@ module _ {M : Type 0} where
   strays_vacant s z key slot [] g up h = tt
   strays_vacant s z key slot (k ∷ ks) g up h = (up.others k (λ same. (let has : Some (kept.Stray h.0.0) ≡ None = sym h.0.1 ∙ ap (get s) same ∙ g in cc)), strays_vacant s z key slot ks g up h.1)
 
-  all_others : (P : Place → Type 0) (t u : ℕ) (ps : List Place) → AllByRecursion P ps → AllByRecursion P (others_at t u ps)
-  all_others P t u [] h = tt
-  all_others P t u (p ∷ ps) h = by (is_at t u p)
-    where
-      by : (b : Bool) → AllByRecursion P (if not b then p ∷ others_at t u ps else others_at t u ps)
-      by true = all_others P t u ps h.1
-      by false = (h.0, all_others P t u ps h.1)
-
-  all_push : {X : Type 0} (P : X → Type 0) (xs : List X) (x : X) → AllByRecursion P xs → P x → AllByRecursion P (xs ++ x ∷ [])
-  all_push P [] x h k = (k, tt)
-  all_push P (y ∷ xs) x h k = (h.0, all_push P xs x h.1 k)
-
   flown_push : (s : Slab (Kept M)) (ps : List Place) (p : Place) → flown s (ps ++ p ∷ []) ≡ flown s ps ++ flown_one p (get s p.key) []
   flown_push s [] p = refl
-  flown_push s (q ∷ ps) p = by (get s q.key)
+  flown_push s (q ∷ ps) p = by (get s q.key) (flown_push s ps p)
     where
-      by : (z : Option (Kept M)) → flown_one q z (flown s (ps ++ p ∷ [])) ≡ flown_one q z (flown s ps) ++ flown_one p (get s p.key) []
-      by None = flown_push s ps p
-      by (Some (kept.Stray m)) = flown_push s ps p
-      by (Some (kept.Flying t u m)) = ap (λ (fs : List (Flying M)). record { ticket = q.ticket; server = q.server; losses = q.losses; message = m } ∷ fs) (flown_push s ps p)
+      by : (z : Option (Kept M)) → flown s (ps ++ p ∷ []) ≡ flown s ps ++ flown_one p (get s p.key) [] → flown_one q z (flown s (ps ++ p ∷ [])) ≡ flown_one q z (flown s ps) ++ flown_one p (get s p.key) []
+      by None k = k
+      by (Some (kept.Stray m)) k = k
+      by (Some (kept.Flying t u m)) k = ap (λ (fs : List (Flying M)). record { ticket = q.ticket; server = q.server; losses = q.losses; message = m } ∷ fs) k
 
   kept_push : (s : Slab (Kept M)) (ks : List ℕ) (k : ℕ) → kept_of s (ks ++ k ∷ []) ≡ kept_of s ks ++ kept_one (get s k) []
   kept_push s [] k = refl
-  kept_push s (q ∷ ks) k = by (get s q)
+  kept_push s (q ∷ ks) k = by (get s q) (kept_push s ks k)
     where
-      by : (z : Option (Kept M)) → kept_one z (kept_of s (ks ++ k ∷ [])) ≡ kept_one z (kept_of s ks) ++ kept_one (get s k) []
-      by None = kept_push s ks k
-      by (Some (kept.Flying t u m)) = kept_push s ks k
-      by (Some (kept.Stray m)) = ap (λ (xs : List M). m ∷ xs) (kept_push s ks k)
+      by : (z : Option (Kept M)) → kept_of s (ks ++ k ∷ []) ≡ kept_of s ks ++ kept_one (get s k) [] → kept_one z (kept_of s (ks ++ k ∷ [])) ≡ kept_one z (kept_of s ks) ++ kept_one (get s k) []
+      by None g = g
+      by (Some (kept.Flying t u m)) g = g
+      by (Some (kept.Stray m)) g = ap (λ (xs : List M). m ∷ xs) g
 
   ---- what the parts of a call do
 
@@ -157,13 +157,8 @@ module _ {M : Type 0} where
     pub strays_are : kept_of z ks ≡ kept_of s ks
     pub taken_is : taken ≡ losses_and_message (first_of t u (flown s ps))
 
-  others_none : (t u : ℕ) (fs : List (Flying M)) → first_of t u fs ≡ None → others t u fs ≡ fs
-  others_none t u [] h = refl
-  others_none t u (f ∷ fs) h = by (is_of t u f) h
-    where
-      by : (b : Bool) → (if b then Some f else first_of t u fs) ≡ None → (if not b then f ∷ others t u fs else others t u fs) ≡ f ∷ fs
-      by true g = absurd (none-some f (sym g))
-      by false g = ap (λ (xs : List (Flying M)). f ∷ xs) (others_none t u fs g)
+  flying_is : {a b t u : ℕ} {m : M} → a ≡ t → b ≡ u → Some (kept.Flying a b m) ≡ Some (kept.Flying t u m)
+  flying_is e f = cc
 
   pub takes : (servers t u : ℕ) (s z : Slab (Kept M)) (ps rest : List Place) (ks : List ℕ) (taken : Option (ℕ × M)) → IsSound servers s ps ks → TakesOut t u s ps z rest taken → Taken servers t u s z ps rest ks taken
   takes servers t u s z ps rest ks taken h out = by (first_at t u ps) refl out.messages
@@ -180,7 +175,7 @@ module _ {M : Type 0} where
           }
       by (Some p) e from =
           let found : IsHeld s p × (p.ticket ≡ t) × (p.server ≡ u) = found_held s t u ps p h.held e in
-          let there : get s p.key ≡ Some (kept.Flying t u found.0.0) = found.0.1 ∙ rw (found.1, found.2) refl in
+          let there : get s p.key ≡ Some (kept.Flying t u found.0.0) = found.0.1 ∙ flying_is found.1 found.2 in
           let same : AllByRecursion (Same s z) (others_at t u ps) = others_same s z t u p.key found.0.0 None ps there from.0 h.held in
           let strays : AllByRecursion (λ k. get z k ≡ get s k) ks = strays_apart s z t u p.key found.0.0 None ks there from.0 h.strays in
           record {
@@ -228,30 +223,29 @@ module _ {M : Type 0} where
   kept_length s [] h = refl
   kept_length s (k ∷ ks) h = rw h.0.1 (omega (arith, kept_length s ks h.1))
 
-  pub kept_at : (s : Slab (Kept M)) (ks : List ℕ) (j k : ℕ) (m : M) → AllByRecursion (IsStray s) ks → slice_get ks j ≡ Some k → get s k ≡ Some (kept.Stray m) → slice_get (kept_of s ks) j ≡ Some m
-  kept_at s [] j k m h e g = absurd (none-some k e)
-  kept_at s (q ∷ ks) zero k m h e g =
-      let same : q ≡ k = same_Some q k e in
-      let has : Some (kept.Stray h.0.0) ≡ Some (kept.Stray m) = sym h.0.1 ∙ ap (get s) same ∙ g in
-      let is : h.0.0 ≡ m = cc in
-      rw h.0.1 (ap Some is)
-  kept_at s (q ∷ ks) (suc j) k m h e g = rw h.0.1 (kept_at s ks j k m h.1 e g)
-
-  pub kept_here : (s : Slab (Kept M)) (ks : List ℕ) (j k : ℕ) → AllByRecursion (IsStray s) ks → slice_get ks j ≡ Some k → IsStray s k
-  kept_here s [] j k h e = absurd (none-some k e)
-  kept_here s (q ∷ ks) zero k h e = subst (IsStray s) (same_Some q k e) h.0
-  kept_here s (q ∷ ks) (suc j) k h e = kept_here s ks j k h.1 e
+  pub kept_at : (s : Slab (Kept M)) (ks : List ℕ) (j d : ℕ) → AllByRecursion (IsStray s) ks → j < length ks → slice_get (kept_of s ks) j ≡ stray_of (get s (get_or ks j d))
+  kept_at s [] j d h l = absurd (omega (arith, l))
+  kept_at s (q ∷ ks) zero d h l = rw h.0.1 refl
+  kept_at s (q ∷ ks) (suc j) d h l = rw h.0.1 (kept_at s ks j d h.1 (omega (arith, l)))
 
 pub others_at_none : (t u : ℕ) (ps : List Place) → first_at t u ps ≡ None → others_at t u ps ≡ ps
 others_at_none t u [] h = refl
-others_at_none t u (p ∷ ps) h = by (is_at t u p) h
+others_at_none t u (p ∷ ps) h = by (is_at t u p) (others_at_none t u ps) h
   where
-    by : (b : Bool) → (if b then Some p else first_at t u ps) ≡ None → (if not b then p ∷ others_at t u ps else others_at t u ps) ≡ p ∷ ps
-    by true g = absurd (none-some p (sym g))
-    by false g = ap (λ (xs : List Place). p ∷ xs) (others_at_none t u ps g)
+    by : (b : Bool) → (first_at t u ps ≡ None → others_at t u ps ≡ ps) → (if b then Some p else first_at t u ps) ≡ None → (if not b then p ∷ others_at t u ps else others_at t u ps) ≡ p ∷ ps
+    by true k g = absurd (none-some p (sym g))
+    by false k g = ap (λ (xs : List Place). p ∷ xs) (k g)
 
----- operations that are closed
+---- how many
 
--- those of a ticket to the servers below this one are out
-abbrev pub left_below : {M : Type 0} → ℕ → ℕ → List (Flying M) → List (Flying M)
-left_below t n fs = filter (λ (f : Flying _). not ((f.ticket == t) && nat_lt f.server n)) fs
+pub count_most : (test : ℕ → Bool) (n : ℕ) → count_below test n ≤ n
+count_most test zero = omega arith
+count_most test (suc n) = by (test n) (count_most test n)
+  where
+    by : (b : Bool) → count_below test n ≤ n → count_below test n + (if b then 1 else 0) ≤ suc n
+    by true k = omega (arith, k)
+    by false k = omega (arith, k)
+
+pub count_same : (one other : ℕ → Bool) (n : ℕ) → ((k : ℕ) → one k ≡ other k) → count_below one n ≡ count_below other n
+count_same one other zero h = refl
+count_same one other (suc n) h = rw (h n, count_same one other n h) refl

@@ -1,5 +1,5 @@
 -- What a bag of messages shows.
-use Rattle.std.specs.Prelude.{◌≡◌, ℕ, zero, suc, ◌+◌, ◌<◌, Bool, true, false, not, ◌&&◌, ◌==◌, nat_le, nat_lt, if◌then◌else◌, List, [], ◌∷◌, ◌++◌, length, filter, slice_get, Option, Some, None, is_some, option_map, refl}
+use Rattle.std.specs.Prelude.{◌≡◌, ℕ, zero, suc, ◌+◌, ◌<◌, Bool, true, false, not, ◌&&◌, ◌==◌, nat_le, nat_lt, if◌then◌else◌, List, [], ◌∷◌, ◌++◌, length, filter, map, slice_get, Option, Some, None, is_some, option_map, refl}
 use Rattle.native_bag.specs.declared.bag.Tries.{Tries}
 use Rattle.native_bag.specs.declared.bag.Tries.TheVariants.{Lost, Over, Idle}
 use Rattle.std.specs.Coded.{Coded, code_by, coded×, coded_ℕ, coded_list}
@@ -72,10 +72,13 @@ module _ {M : Type 0} where
   abbrev pub message_of : Option (Flying M) → Option M
   message_of f = option_map (λ (g : Flying M). g.message) f
 
-  -- the message there was lost once more: it is there still with its losses, or was lost for the last time and is taken out
+  abbrev pub with_losses : ℕ → ℕ → ℕ → Flying M → Flying M
+  with_losses t s n f = if is_of t s f then record f { losses = n } else f
+
+  -- the message there was lost once more: it stays with its losses, or was lost for the last time and is taken out
   abbrev pub lost_once : ℕ → ℕ → Option (Flying M) → List (Flying M) → List (Flying M)
   lost_once t s None fs = fs
-  lost_once t s (Some f) fs = if f.losses + 1 == most_tries then others t s fs else put t s (f.losses + 1) f.message fs
+  lost_once t s (Some f) fs = if f.losses + 1 == most_tries then others t s fs else map (with_losses t s (f.losses + 1)) fs
 
   -- a copy of the message there is kept, if there is one, and room for it
   abbrev pub KeepsAs : (M → M → Type 0) → Option (Flying M) → Bool → List M → List M → Type 0

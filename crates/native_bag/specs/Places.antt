@@ -1,5 +1,5 @@
 -- How a bag lays its messages out. No public clause cites this module.
-use Rattle.std.specs.Prelude.{◌≡◌, ℕ, ◌<◌, ◌≤◌, Bool, true, false, not, ◌&&◌, ◌==◌, if◌then◌else◌, List, [], ◌∷◌, ◌++◌, length, filter, Option, Some, None}
+use Rattle.std.specs.Prelude.{◌≡◌, ℕ, ◌<◌, ◌≤◌, Bool, true, false, not, ◌&&◌, ◌==◌, if◌then◌else◌, List, [], ◌∷◌, ◌++◌, length, get_or, filter, is_some, Option, Some, None}
 use Rattle.std.specs.List.{AllByRecursion}
 use Rattle.slab.specs.Slab.{Slab, get, Updates}
 use Rattle.native_bag.specs.declared.places.Kept.{Kept}
@@ -14,11 +14,27 @@ abbrev pub first_at : ℕ → ℕ → List Place → Option Place
 first_at t s [] = None
 first_at t s (p ∷ ps) = if is_at t s p then Some p else first_at t s ps
 
+-- whether there is one
+abbrev pub is_there : ℕ → List Place → ℕ → Bool
+is_there t ps s = is_some (first_at t s ps)
+
 abbrev pub others_at : ℕ → ℕ → List Place → List Place
 others_at t s ps = filter (λ p. not (is_at t s p)) ps
 
 abbrev pub IsWithin : ℕ → Place → Type 0
 IsWithin servers p = (p.server < servers) × (p.losses < 8)
+
+-- what stands at a number that names no place
+abbrev pub no_place : Place
+no_place = record { ticket = 0; server = 0; losses = 0; key = 0 }
+
+abbrev pub with_losses : ℕ → ℕ → ℕ → Place → Place
+with_losses t s n p = if is_at t s p then record p { losses = n } else p
+
+-- the message of this operation and server was lost so often
+pub record Resets (t s n : ℕ) (old new : List Place) : Type 0 where
+  pub as_many : length new ≡ length old
+  pub each : (i : ℕ) → i < length old → get_or new i no_place ≡ with_losses t s n (get_or old i no_place)
 
 module _ {M : Type 0} where
   -- the message at a place, before those of later places
@@ -33,6 +49,10 @@ module _ {M : Type 0} where
   abbrev pub kept_one : Option (Kept M) → List M → List M
   kept_one (Some (kept.Stray m)) rest = m ∷ rest
   kept_one z rest = rest
+
+  abbrev pub stray_of : Option (Kept M) → Option M
+  stray_of (Some (kept.Stray m)) = Some m
+  stray_of z = None
 
   -- the copies under these keys
   abbrev pub kept_of : Slab (Kept M) → List ℕ → List M
@@ -57,6 +77,10 @@ module _ {M : Type 0} where
   taken_one losses (Some (kept.Flying t u m)) = Some (losses, m)
   taken_one losses z = None
 
+  abbrev pub taken_message : Option (ℕ × M) → Option M
+  taken_message None = None
+  taken_message (Some t) = Some t.1
+
   -- the place is cleared, and what stood under its key is given
   abbrev pub TakesFrom : Option Place → Slab (Kept M) → Slab (Kept M) → Option (ℕ × M) → Type 0
   TakesFrom None old new taken = (new ≡ old) × (taken ≡ None)
@@ -78,3 +102,9 @@ module _ {M : Type 0} where
   abbrev pub CopiesOf : (M → M → Type 0) → Option (Kept M) → Option M → Type 0
   CopiesOf is_clone (Some (kept.Flying t s m)) copy = (c : M) × is_clone m c × (copy ≡ Some c)
   CopiesOf is_clone z copy = copy ≡ None
+
+  -- what is held is sound, and shows this
+  pub record Stands (servers : ℕ) (s : Slab (Kept M)) (ps : List Place) (ks : List ℕ) (fs : List (Flying M)) (ms : List M) : Type 0 where
+    pub sound : IsSound servers s ps ks
+    pub flown_are : flown s ps ≡ fs
+    pub strays_are : kept_of s ks ≡ ms

@@ -1,12 +1,10 @@
 //! A bag of messages: those on their way, and copies that may come again.
 ghost use Rattle.std.specs.Prelude.{◌≡◌, ℕ, ◌+◌, ◌<◌, ◌≤◌, ◌%◌, true, nat_lt, ◌++◌, ◌∷◌, [], length, slice_get, is_some, option_copied, option_map, Some, None, IfOk, OnOk, OnErr, IsOk, vec_len, vec_capacity};
 ghost use Rattle.fate_words.specs.Words.{pick_of};
-ghost use Rattle.slab.specs.Slab.{HasRoomFor};
 ghost use Rattle.native_bag.specs.Bags.{most_tries, most_strays, count_below, first_of, is_out, others, without, put, message_of, lost_once, KeepsAs, tries_of};
-ghost use Rattle.native_bag.specs.Places.{PutsIn, CopiesOf};
-ghost use Rattle.slab.specs.Slab.{get};
 
-use crate::places::{Kept, Place, find, take_out};
+use crate::moves::{close_in, keep_in, lose_in, send_in};
+use crate::places::{Kept, Place, count, is_there, message_in, nth, stray_at, take_out};
 use fate_words::words::pick;
 use slab::Slab;
 use std::alloc::{AllocError, Global};
@@ -79,31 +77,27 @@ impl<M: Drop> Bag<M> {
         ensures ok { OnOk result (self.new ≡ record self.old { outstanding = put ticket server 0 message self.old.outstanding }) }
         ensures err { OnErr result (self.new ≡ self.old) }
     {
-        self.messages.reserve(1)?;
-        self.places.reserve(1)?;
-        let _ = take_out(&mut self.messages, &mut self.places, ticket, server);
-        put_in(&mut self.messages, &mut self.places, ticket, server, 0, message);
-        Ok(())
+        send_in(
+            &mut self.messages,
+            &mut self.places,
+            ticket,
+            server,
+            message,
+        )
     }
 
     /// Whether a message of the operation is on its way to or from the server.
     pub fn is_outstanding(&self, ticket: u64, server: u32) -> bool
         ensures { result ≡ is_out ticket self.now.outstanding server }
     {
-        find(&self.places, ticket, server).is_some()
+        is_there(&self.places, ticket, server)
     }
 
     /// How many messages of the operation are on their way.
     pub fn outstanding(&self, ticket: u64) -> u32
         ensures { result ≡ count_below (is_out ticket self.now.outstanding) self.now.servers }
     {
-        let mut count = 0;
-        for server in 0..self.servers {
-            if self.is_outstanding(ticket, server) {
-                count += 1;
-            }
-        }
-        count
+        count(&self.places, ticket, self.servers)
     }
 
     /// The server whose message this word moves: of those on their way, in order of server, the one
@@ -115,16 +109,7 @@ impl<M: Drop> Bag<M> {
         ensures order { count_below (is_out ticket self.now.outstanding) result ≡ pick_of word (count_below (is_out ticket self.now.outstanding) self.now.servers) }
     {
         let skip = pick(word, self.outstanding(ticket) as u64);
-        let mut before = 0;
-        for server in 0..self.servers {
-            if self.is_outstanding(ticket, server) {
-                if before == skip {
-                    return server;
-                }
-                before += 1;
-            }
-        }
-        unreachable!()
+        nth(&self.places, ticket, self.servers, skip as u32)
     }
 
     /// Takes out the message of this operation and server, which comes.
@@ -132,8 +117,7 @@ impl<M: Drop> Bag<M> {
         ensures message { result ≡ message_of (first_of ticket server self.old.outstanding) }
         ensures rest { self.new ≡ record self.old { outstanding = others ticket server self.old.outstanding } }
     {
-        let (_, message) = take_out(&mut self.messages, &mut self.places, ticket, server)?;
-        Some(message)
+        message_in(take_out(&mut self.messages, &mut self.places, ticket, server))
     }
 
     /// One more try of the message of this operation and server is lost. The eighth takes it out.
@@ -141,26 +125,14 @@ impl<M: Drop> Bag<M> {
         ensures tries { result ≡ tries_of (first_of ticket server self.old.outstanding) }
         ensures rest { self.new ≡ record self.old { outstanding = lost_once ticket server (first_of ticket server self.old.outstanding) self.old.outstanding } }
     {
-        let Some((losses, message)) =
-            take_out(&mut self.messages, &mut self.places, ticket, server)
-        else {
-            return Tries::Idle;
-        };
-        let losses = losses + 1;
-        if losses == MOST_TRIES {
-            return Tries::Over;
-        }
-        put_in(&mut self.messages, &mut self.places, ticket, server, losses, message);
-        Tries::Lost(losses)
+        lose_in(&mut self.messages, &mut self.places, ticket, server)
     }
 
     /// Drops what is on its way of an operation. The copies stay.
     pub fn close(&mut self, ticket: u64)
         ensures { self.new ≡ record self.old { outstanding = without ticket self.old.outstanding } }
     {
-        for server in 0..self.servers {
-            let _ = take_out(&mut self.messages, &mut self.places, ticket, server);
-        }
+        close_in(&mut self.messages, &mut self.places, ticket, self.servers);
     }
 
     /// The copy that this word picks: its number is the word modulo their number, in the order in
@@ -168,15 +140,11 @@ impl<M: Drop> Bag<M> {
     pub fn stray(&self, word: u64) -> Option<&M>
         ensures { option_copied result ≡ slice_get self.now.strays (word % length self.now.strays) }
     {
-        let count = self.strays.len();
-        if count == 0 {
+        let kept = self.strays.len();
+        if kept == 0 {
             return None;
         }
-        let key = self.strays[(word % count as u64) as usize];
-        match self.messages.get(key)? {
-            Kept::Stray(message) => Some(message),
-            Kept::Flying(_, _, _) => None,
-        }
+        stray_at(&self.messages, self.strays[(word % kept as u64) as usize])
     }
 }
 
@@ -192,53 +160,12 @@ impl<M: Clone + Drop> Bag<M> {
         if self.strays.len() >= MOST_STRAYS {
             return Ok(());
         }
-        let Some(place) = find(&self.places, ticket, server) else {
-            return Ok(());
-        };
-        self.strays.reserve(1)?;
-        self.messages.reserve(1)?;
-        let Some(copy) = copy_of(&self.messages, place.key)? else {
-            return Ok(());
-        };
-        let key = self.messages.insert_reserved(Kept::Stray(copy));
-        let Ok(_) = self.strays.push(key) else {
-            unreachable!()
-        };
-        Ok(())
+        keep_in(
+            &mut self.messages,
+            &self.places,
+            &mut self.strays,
+            ticket,
+            server,
+        )
     }
-}
-
-/// A copy of the message that is on its way under this key.
-fn copy_of<M: Clone + Drop>(messages: &Slab<Kept<M>>, key: usize) -> Result<Option<M>, AllocError>
-    ensures { IfOk result (CopiesOf M.is_clone (get messages.now key)) }
-{
-    match messages.get(key) {
-        Some(Kept::Flying(_, _, message)) => Ok(Some(message.clone()?)),
-        _ => Ok(None),
-    }
-}
-
-/// Puts a message in that is on its way, where room was made.
-fn put_in<M: Drop>(
-    messages: &mut Slab<Kept<M>>,
-    places: &mut Vec<Place>,
-    ticket: u64,
-    server: u32,
-    losses: u32,
-    message: M,
-)
-    requires messages { HasRoomFor messages.old 1 }
-    requires places { vec_len places.old < vec_capacity places.old }
-    ensures puts { PutsIn ticket server losses message messages.old places.old.items messages.new places.new.items }
-{
-    let key = messages.insert_reserved(Kept::Flying(ticket, server, message));
-    let place = Place {
-        ticket,
-        server,
-        losses,
-        key,
-    };
-    let Ok(_) = places.push(place) else {
-        unreachable!()
-    };
 }
