@@ -1,15 +1,15 @@
 -- How what a bag shows follows what it holds.
 use Rattle.std.proofs.Common.{◌≡◌, ℕ, zero, suc, ◌+◌, ◌<◌, ◌≤◌, Bool, true, false, refl, sym, ◌∙◌, ap, subst, arith, List, [], ◌∷◌, ◌++◌, length, get_or, Option, Some, None}
-use Rattle.std.specs.Prelude.{◌⊎◌, ◌≢◌, ◌&&◌, ◌||◌, ◌==◌, not, nat_lt, filter, slice_get, is_some, if◌then◌else◌}
+use Rattle.std.specs.Prelude.{◌&&◌, ◌==◌, not, slice_get, is_some, if◌then◌else◌}
 use Rattle.std.specs.List.{AllByRecursion}
-use Rattle.std.proofs.lemmas.Bool.{true≢false, false≢true, eqb-true, eq-eqb, and_parts, cases_eq}
+use Rattle.std.proofs.lemmas.Bool.{true≢false, eqb-true, eq-eqb, and_parts}
 use Rattle.std.proofs.lemmas.Option.{none-some, same_Some}
 use Rattle.slab.specs.Slab.{Slab, get, Updates}
 use Rattle.native_bag.specs.declared.places.Kept.{Kept}
 use Rattle.native_bag.specs.declared.places.Kept.TheVariants as kept
 use Rattle.native_bag.specs.declared.places.Place.{Place}
-use Rattle.native_bag.specs.Bags.{Flying, count_below, is_of, first_of, is_out, others, without}
-use Rattle.native_bag.specs.Places.{is_at, first_at, others_at, flown, flown_one, kept_of, kept_one, is_there, stray_of, IsHeld, IsStray, IsSound, TakesOut, TakesFrom, taken_one, PutsIn}
+use Rattle.native_bag.specs.Bags.{Flying, count_below, first_of, is_out, others}
+use Rattle.native_bag.specs.Places.{is_at, first_at, others_at, flown, flown_one, kept_of, kept_one, stray_of, IsHeld, IsStray, IsSound, TakesOut, TakesFrom, taken_one, PutsIn}
 
 both_at : (t u a b : ℕ) → ((a == t) && (b == u)) ≡ true → (a ≡ t) × (b ≡ u)
 both_at t u a b h = (let parts : ((a == t) ≡ true) × ((b == u) ≡ true) = and_parts (a == t) (b == u) h in (eqb-true a t parts.0, eqb-true b u parts.1))

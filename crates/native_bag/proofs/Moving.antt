@@ -2,16 +2,15 @@
 use Rattle.std.proofs.Common.{◌≡◌, ℕ, zero, suc, ◌+◌, ◌<◌, ◌≤◌, Bool, true, false, refl, sym, ◌∙◌, ap, subst, arith, List, [], ◌∷◌, ◌++◌, length, get_or, Option, Some, None, inl, inr}
 use Rattle.std.specs.Prelude.{◌⊎◌, ◌&&◌, ◌||◌, ◌==◌, not, nat_lt, filter, map, if◌then◌else◌, Result, Ok, Err, OnOk, OnErr, is_ok}
 use Rattle.std.specs.List.{AllByRecursion}
-use Rattle.std.proofs.lemmas.Bool.{true≢false, false≢true, eqb-true, eq-eqb, ne_eqb, lt-ltb, ltb-true, ltb-false, and_left, and_right, cases_eq, cases_lt}
+use Rattle.std.proofs.lemmas.Bool.{true≢false, eq-eqb, ne_eqb, lt-ltb, ltb-true, and_right, cases_eq, cases_lt}
 use Rattle.std.proofs.lemmas.Option.{none-some, same_Some}
 use Rattle.slab.specs.Slab.{Slab, get, Updates}
 use Rattle.native_bag.specs.declared.places.Kept.{Kept}
 use Rattle.native_bag.specs.declared.places.Kept.TheVariants as kept
 use Rattle.native_bag.specs.declared.places.Place.{Place}
-use Rattle.native_bag.specs.declared.bag.Tries.{Tries}
 use Rattle.native_bag.specs.declared.bag.Tries.TheVariants.{Lost, Over, Idle}
-use Rattle.native_bag.specs.Bags.{Flying, BagView, is_of, first_of, others, without, put, with_losses, lost_once, tries_of, message_of, KeepsAs}
-use Rattle.native_bag.specs.Places.{is_at, first_at, with_losses as place_with, no_place, Resets, flown, kept_of, IsHeld, IsStray, IsWithin, IsSound, TakesOut, TakesFrom, PutsIn, CopiesOf, taken_message, Stands}
+use Rattle.native_bag.specs.Bags.{Flying, BagView, first_of, others, without, with_losses, lost_once, tries_of, message_of, KeepsAs}
+use Rattle.native_bag.specs.Places.{is_at, first_at, with_losses as place_with, no_place, Resets, flown, kept_of, IsHeld, IsWithin, IsSound, TakesOut, PutsIn, CopiesOf, taken_message, Stands}
 use Rattle.native_bag.proofs.Layouts.{losses_and_message, found_held, flown_none, flown_first, takes, puts, strays_in, Taken, Put, Strayed, Same, flown_same, kept_same, held_same, strays_same}
 
 -- what holds in any case holds after a failure

@@ -135,6 +135,14 @@ impl<M: Drop> Bag<M> {
         close_in(&mut self.messages, &mut self.places, ticket, self.servers);
     }
 
+    /// How many copies are kept.
+    pub fn copies(&self) -> usize
+        ensures count { result ≡ length self.now.strays }
+        ensures few { result ≤ most_strays }
+    {
+        self.strays.len()
+    }
+
     /// The copy that this word picks: its number is the word modulo their number, in the order in
     /// which they were kept. It stays, and may come again.
     pub fn stray(&self, word: u64) -> Option<&M>
@@ -167,5 +175,28 @@ impl<M: Clone + Drop> Bag<M> {
             ticket,
             server,
         )
+    }
+}
+
+#[cfg(test)]
+mod tests {
+    use super::*;
+    use std::test::Fail;
+
+    /// A message is sent, kept, lost and delivered; its copy comes again.
+    #[test]
+    fn a_message_comes_twice(rt: HostRuntime) -> Result<(), Fail> {
+        let mut bag = Bag::new(rt.alloc(), 3);
+        bag.send(7, 2, 20u64)?;
+        bag.send(7, 0, 5u64)?;
+        assert_eq!(rt; bag.outstanding(7), 2);
+        assert_eq!(rt; bag.pick(7, 8), 2);
+        bag.keep(7, 2)?;
+        assert_eq!(rt; bag.lose(7, 2), Tries::Lost(1));
+        assert_eq!(rt; bag.deliver(7, 2), Some(20));
+        bag.close(7);
+        assert_eq!(rt; bag.outstanding(7), 0);
+        assert_eq!(rt; bag.stray(11).copied(), Some(20));
+        Ok(())
     }
 }

@@ -1,6 +1,5 @@
 -- Copies of an operation's messages are messages of its cell.
-use Rattle.std.proofs.Common.{◌≡◌, ℕ, ◌<◌, ◌≤◌, sym, ◌∙◌, ap, subst, length, get_or, Some, None}
-use Rattle.std.specs.Prelude.{slice_get}
+use Rattle.std.proofs.Common.{◌≡◌, ℕ, ◌<◌, ◌≤◌, sym, subst, length, get_or, Some, None}
 use Rattle.std.proofs.lemmas.List.Elements.{All-contains}
 use Rattle.quorum_cell.specs.declared.message.Ask.{Ask}
 use Rattle.quorum_cell.specs.declared.message.Told.{Told}
@@ -26,16 +25,18 @@ short_well before cut ph want m e z p n h same told = subst (λ (x : Told). Told
 
 pub copied : (c : Cell) (t i : ℕ) (e : Errand) (z : Told) (p : Pending) → IsPartOf c t p → p.outcome ≡ None → i < length c.servers → (get_or p.members.items i no_member).message ≡ Some (Answered e z) → (k : ℕ) × IsReply c k t i e z
 copied c t i e z p part waiting here message =
-    let so : ToldSo c (operation c t) t i (aims_of c.cut p) (get_or p.members.items i no_member) e z = subst (IsCarried c (operation c t) t i (aims_of c.cut p) (get_or p.members.items i no_member)) message ((part.goes waiting).carried i here) in
-    (so.reply.number, record {
-      reply = so.reply.reply;
-      is = so.reply.is;
-      ticket = so.reply.ticket;
-      of_server = so.reply.of_server;
-      told_is = so.reply.told_is;
-      asked = so.reply.asked;
-      short = λ q n same told. short_well (server_before (operation c t) i) c.cut p.phase p.want (get_or p.members.items i no_member) e z q n so.well same told;
-    })
+    let so : ToldSo c (operation c t) t i (aims_of c.cut p) (get_or p.members.items i no_member) e z = subst (IsCarried c (operation c t) t i (aims_of c.cut p) (get_or p.members.items i no_member)) message ((part.goes waiting).carried i here) in (
+      so.reply.number,
+      record {
+        reply = so.reply.reply;
+        is = so.reply.is;
+        ticket = so.reply.ticket;
+        of_server = so.reply.of_server;
+        told_is = so.reply.told_is;
+        asked = so.reply.asked;
+        short = λ q n same told. short_well (server_before (operation c t) i) c.cut p.phase p.want (get_or p.members.items i no_member) e z q n so.well same told;
+      },
+    )
 
 pub asked_still : (c d : Cell) (k t i : ℕ) (a : Ask) → Extends c d → IsRequest c k t i a → IsRequest d k t i a
 asked_still c d k t i a x h = x.requests k _ h

@@ -1,7 +1,7 @@
 -- What an operation knows of a server once an answer came that it didn't wait for.
 use Rattle.std.proofs.Common.{◌≡◌, ℕ, ◌≤◌, Bool, true, false, refl, sym, ◌∙◌, ap, subst, arith, Option, Some, None, inl, inr, max}
 use Rattle.std.specs.Prelude.{◌⊎◌, ◌&&◌, ◌||◌, ◌==◌, not, nat_le, is_some, if◌then◌else◌}
-use Rattle.std.proofs.lemmas.Bool.{true≢false, false≢true, leb-true, eqb-true, and_parts, or_cases, or_right}
+use Rattle.std.proofs.lemmas.Bool.{false≢true, leb-true, eqb-true, and_parts, or_cases, or_right}
 use Rattle.quorum_cell.specs.declared.message.Told.{Told}
 use Rattle.quorum_cell.specs.declared.message.Told.TheVariants as told
 use Rattle.quorum_cell.specs.declared.message.Reply.{Reply}
@@ -18,7 +18,6 @@ use Rattle.native_plan.specs.declared.message.Phase.TheVariants.{Filling, Asking
 use Rattle.native_plan.specs.declared.stray.News.{News}
 use Rattle.native_plan.specs.declared.stray.News.TheVariants as news
 use Rattle.native_plan.specs.Members.{is_found_sealed}
-use Rattle.native_plan.specs.Plans.{is_done}
 use Rattle.native_plan.specs.Course.{Knows, Fills, Shuts, AimsAt, IsAskOf, with_reply}
 use Rattle.native_plan.specs.Strays.{news_of, taken_news, is_read_at, bears, learned, learned_in, is_due, heard_anew}
 use Rattle.native_plan.proofs.Hears.{heard_more, heard_new, knows_failed, knows_sealed, knows_opened, knows_mended, knows_missed, knows_same, store_told, repair_told}

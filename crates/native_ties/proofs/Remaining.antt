@@ -1,8 +1,7 @@
 -- No message that comes again raises what is left to do.
-use Rattle.std.proofs.Common.{◌≡◌, ℕ, zero, suc, ◌+◌, ◌-◌, ◌*◌, ◌<◌, ◌≤◌, Bool, true, false, refl, sym, ◌∙◌, ap, subst, arith, List, [], ◌∷◌, length, get_or, set, Option, Some, None, inl, inr}
+use Rattle.std.proofs.Common.{◌≡◌, ℕ, zero, suc, ◌+◌, ◌-◌, ◌*◌, ◌<◌, ◌≤◌, Bool, true, false, refl, sym, ◌∙◌, ap, subst, arith, List, [], ◌∷◌, length, get_or, Option, Some, None, inl, inr}
 use Rattle.std.specs.Prelude.{◌⊎◌, ◌&&◌, ◌||◌, ◌==◌, not, nat_le, is_some, sum_by, if◌then◌else◌}
-use Rattle.std.proofs.lemmas.Bool.{true≢false, false≢true, cases_eq, cases_lt, le-leb, leb-true, leb-false, eqb-true, eq-eqb, and_from, and_parts, or_cases, or_left, or_right, or_parts, not_from_false}
-use Rattle.std.proofs.lemmas.Option.{same_Some}
+use Rattle.std.proofs.lemmas.Bool.{true≢false, false≢true, cases_eq, le-leb, leb-true, leb-false, eqb-true, eq-eqb, and_from, and_parts, or_cases, or_left, or_right, or_parts, not_from_false}
 use Rattle.std.proofs.lemmas.List.{length-set, get_or-set_same, get_or-set_other}
 use Rattle.std.proofs.lemmas.List.Sums.{sum_by-cons}
 use Rattle.loglet_api.specs.Step.{IsAtMost}
@@ -25,16 +24,16 @@ use Rattle.native_plan.specs.Members.{no_member, is_out, is_found_sealed, at_lea
 use Rattle.native_plan.specs.Plans.{is_done, place_of, end_of, rank_of, errand_of, sent_on, resent, Resends}
 use Rattle.native_plan.specs.Pendings.{aims_of, plan_left, left_now, verdict_of, Settles}
 use Rattle.native_plan.specs.Course.{Knows, IsPlanned, MendsTo, IsAllowed}
-use Rattle.native_plan.specs.Strays.{news_of, bears, learned, learned_in, is_due, heard_anew, is_asked, HearsNews, HearsAgain, HearsIf}
+use Rattle.native_plan.specs.Strays.{news_of, bears, learned_in, is_due, heard_anew, is_asked, HearsNews, HearsAgain, HearsIf}
 use Rattle.native_plan.proofs.Falls.{plain_fill}
 use Rattle.native_plan.proofs.Verdicts.{verdict_allowed}
-use Rattle.native_ties.specs.Parts.{IsCarried, OnItsWay, Goes, IsPartOf}
+use Rattle.native_ties.specs.Parts.{IsCarried, Goes, IsPartOf}
 use Rattle.native_ties.specs.Strays.{IsReply}
 use Rattle.native_ties.proofs.Settling.{Noted}
 use Rattle.native_ties.proofs.Answering.{done_message}
 use Rattle.native_ties.proofs.Lessening.{kept_at_most, idle_done}
 use Rattle.native_ties.proofs.Learning.{Grown, grown_in}
-use Rattle.native_ties.proofs.Straying.{again_noted, not_true, seal_like}
+use Rattle.native_ties.proofs.Straying.{again_noted}
 
 ---- what was done stays done
 

@@ -1,15 +1,13 @@
 -- A request comes to its server again.
-use Rattle.std.proofs.Common.{◌≡◌, ℕ, ◌-◌, ◌<◌, ◌≤◌, Bool, true, false, refl, sym, ◌∙◌, ap, subst, arith, List, [], ◌∷◌, ◌++◌, length, get_or, set, Option, Some, None}
-use Rattle.std.specs.Prelude.{◌&&◌, nat_lt, is_some, slice_get, if◌then◌else◌}
+use Rattle.std.proofs.Common.{◌≡◌, ℕ, ◌-◌, ◌<◌, ◌≤◌, Bool, true, false, refl, sym, ◌∙◌, ap, subst, arith, List, [], ◌∷◌, ◌++◌, length, Option, Some, None}
+use Rattle.std.specs.Prelude.{◌&&◌, nat_lt, slice_get, if◌then◌else◌}
 use Rattle.std.proofs.lemmas.Bool.{ltb-false}
 use Rattle.std.proofs.lemmas.List.{length-set}
 use Rattle.delos_types.specs.declared.entry.Entry.{Entry}
 use Rattle.quorum_cell.specs.declared.message.Ask.{Ask}
 use Rattle.quorum_cell.specs.declared.message.Ask.TheVariants as ask
-use Rattle.quorum_cell.specs.declared.message.Request.{Request}
-use Rattle.quorum_cell.specs.declared.message.Reply.{Reply}
 use Rattle.quorum_cell.specs.declared.message.Told.{Told}
-use Rattle.quorum_cell.specs.declared.message.Told.TheVariants.{Down, DiskFault, Sealed, Unsealed, Behind, Ack, Got, Short, Cut, Trimmed}
+use Rattle.quorum_cell.specs.declared.message.Told.TheVariants.{Down, DiskFault, Short, Cut}
 use Rattle.quorum_cell.specs.declared.operation.CellStep.{CellStep}
 use Rattle.quorum_cell.specs.declared.operation.CellStep.TheVariants.{RequestComes, RequestStops}
 use Rattle.quorum_cell.specs.Servers.{Server, told, told_entry, length_of, writes, written}

@@ -2,7 +2,7 @@
 use Rattle.std.proofs.Common.{◌≡◌, ℕ, ◌<◌, ◌≤◌, Bool, true, false, refl, sym, ◌∙◌, ap, subst, arith, List, [], ◌∷◌, length, get_or, set, Option, Some, None, inl, inr}
 use Rattle.std.specs.Prelude.{◌⊎◌, ◌&&◌, ◌||◌, ◌==◌, not, nat_le, is_some, slice_get, if◌then◌else◌}
 use Rattle.std.specs.List.{list_any}
-use Rattle.std.proofs.lemmas.Bool.{true≢false, false≢true, cases_eq, leb-true, eqb-true, eq-eqb, and_parts, or_left, or_right}
+use Rattle.std.proofs.lemmas.Bool.{false≢true, cases_eq, leb-true, eqb-true, eq-eqb, and_parts, or_left, or_right}
 use Rattle.std.proofs.lemmas.Option.{none-some, same_Some}
 use Rattle.std.proofs.lemmas.List.{length-set, get_or-set_same, get_or-set_other}
 use Rattle.std.proofs.lemmas.List.Folds.{list_any-append}
@@ -11,8 +11,7 @@ use Rattle.delos_types.specs.declared.entry.Entry.{Entry}
 use Rattle.quorum_cell.specs.declared.message.Ask.TheVariants as ask
 use Rattle.quorum_cell.specs.declared.message.Reply.{Reply}
 use Rattle.quorum_cell.specs.declared.message.Told.{Told}
-use Rattle.quorum_cell.specs.declared.message.Told.TheVariants.{Down, DiskFault, Sealed, Unsealed, Behind, Ack, Got, Short, Cut, Trimmed}
-use Rattle.quorum_cell.specs.declared.operation.Aim.{Aim}
+use Rattle.quorum_cell.specs.declared.message.Told.TheVariants.{Down, DiskFault, Sealed, Unsealed, Ack, Got, Short, Cut, Trimmed}
 use Rattle.quorum_cell.specs.declared.operation.Aim.TheVariants.{Read as AimRead}
 use Rattle.quorum_cell.specs.declared.operation.CellStep.TheVariants.{ReplyComes}
 use Rattle.quorum_cell.specs.Servers.{Server, length_of}
@@ -40,7 +39,7 @@ use Rattle.native_plan.specs.Pendings.{newer_of, aims_of, verdict_of}
 use Rattle.native_plan.specs.Course.{Knows, AimsAt, PhaseFits, HaveTurned, IsOnCourse, IsAskOf, IsPlanned, FillsTo, MendsTo, ToldWell, LetsGo, with_reply}
 use Rattle.native_plan.specs.Strays.{news_of, learned_in, is_due, heard_anew, is_read_at, given_to, entry_of, is_asked, NotesAgain, HearsNews, HearsAgain, HearsIf}
 use Rattle.native_plan.proofs.Hears.{knows_other}
-use Rattle.native_ties.specs.Parts.{IsCarried, OnItsWay, ToldSo, Goes, IsPartOf, GoesBy}
+use Rattle.native_ties.specs.Parts.{IsCarried, OnItsWay, Goes, IsPartOf, GoesBy}
 use Rattle.native_ties.specs.Strays.{IsReply, GoesAgain}
 use Rattle.native_ties.proofs.Hearing.{put_there, put_other, comes_is, any_more, many_more, either_more}
 use Rattle.native_ties.proofs.Hearers.{carried_put, newer_none, some_of, read_ends, read_ask}

@@ -1,7 +1,7 @@
 use Rattle.std.proofs.Common.{◌≡◌, ◌≤◌, ap, sym, ◌∙◌, subst, arith, List, [], ◌∷◌, ◌++◌, length, length-append, Some, ℕ}
 use Rattle.slab.specs.Slab.{Slab, get}
 use Rattle.native_bag.specs.declared.places.Kept.{Kept}
-use Rattle.native_bag.specs.Places.{first_at, flown, kept_of, CopiesOf, Stands}
+use Rattle.native_bag.specs.Places.{flown, kept_of, CopiesOf, Stands}
 use Rattle.native_bag.proofs.Moving.{err_of, stands_same, kept_none, kept_one_more, never_uncopied, pushed}
 use Rattle.native_bag.proofs.moves.keep_in.Goals as goal
 

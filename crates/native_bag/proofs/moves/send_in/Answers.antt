@@ -1,4 +1,4 @@
-use Rattle.std.proofs.Common.{◌≡◌, ap, sym, ◌∙◌, refl, subst, lit<, List}
+use Rattle.std.proofs.Common.{ap, sym, subst, lit<, List}
 use Rattle.slab.specs.Slab.{Slab}
 use Rattle.native_bag.specs.declared.places.Kept.{Kept}
 use Rattle.native_bag.specs.declared.places.Place.{Place}

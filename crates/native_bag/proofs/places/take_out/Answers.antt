@@ -1,4 +1,4 @@
-use Rattle.std.proofs.Common.{◌≡◌, sym, ◌∙◌, ap, subst, Option, None, List, refl}
+use Rattle.std.proofs.Common.{◌≡◌, sym, ◌∙◌, ap, subst, Option, None, refl}
 use Rattle.native_bag.specs.declared.places.Place.{Place}
 use Rattle.native_bag.specs.Places.{first_at, TakesFrom}
 use Rattle.native_bag.proofs.Layouts.{others_at_none}

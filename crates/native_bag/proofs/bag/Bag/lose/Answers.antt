@@ -1,4 +1,4 @@
-use Rattle.std.proofs.Common.{◌≡◌, ap, sym, ◌∙◌, subst}
+use Rattle.std.proofs.Common.{◌≡◌, subst}
 use Rattle.native_bag.specs.Bags.{BagView, first_of, lost_once, tries_of}
 use Rattle.native_bag.specs.Places.{flown, kept_of}
 use Rattle.native_bag.proofs.Moving.{same_view, view_of}

@@ -2,7 +2,7 @@ use Rattle.std.proofs.Common.{◌≡◌, ◌<◌, ℕ, true, ap, sym, ◌∙◌,
 use Rattle.fate_words.specs.Words.{pick_of}
 use Rattle.native_bag.specs.declared.places.Place.{Place}
 use Rattle.native_bag.specs.Bags.{BagView, is_out, count_below}
-use Rattle.native_bag.specs.Places.{flown, is_there}
+use Rattle.native_bag.specs.Places.{is_there}
 use Rattle.native_bag.proofs.Layouts.{flown_out, count_same}
 use Rattle.native_bag.proofs.bag.Bag.pick.Goals as goal
 

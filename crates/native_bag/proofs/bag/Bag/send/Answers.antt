@@ -1,4 +1,4 @@
-use Rattle.std.proofs.Common.{◌≡◌, ◌<◌, ap, sym, ◌∙◌, subst}
+use Rattle.std.proofs.Common.{◌≡◌, ◌<◌, sym, ◌∙◌, subst}
 use Rattle.native_bag.specs.Bags.{BagView, put}
 use Rattle.native_bag.specs.Places.{flown, kept_of}
 use Rattle.native_bag.proofs.Moving.{in_both, ok_then, err_then, same_view, view_of}
