@@ -42,7 +42,7 @@ use Rattle.native_ties.proofs.Hearing.{read_reads}
 use Rattle.native_ties.proofs.Sending.{sent_is, asks_well, course_message}
 
 -- a message changes nothing of what is wanted
-done_message : (ph : Phase) (want i : ℕ) (m : Member) (z : Option Message) → is_done ph want i (record m { message = z }) ≡ is_done ph want i m
+pub done_message : (ph : Phase) (want i : ℕ) (m : Member) (z : Option Message) → is_done ph want i (record m { message = z }) ≡ is_done ph want i m
 done_message Filling want i m z = refl
 done_message Asking want i m z = refl
 done_message (Opening t) want i m z = refl

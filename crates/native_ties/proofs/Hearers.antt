@@ -91,7 +91,7 @@ is_got (Cut b) x g = absurd (none-some x g)
 is_got (Behind n) x g = absurd (none-some x g)
 is_got (Ack n) x g = absurd (none-some x g)
 
-read_ask : (p : ℕ) (a : Ask) → IsAskOf (Read p) a → a ≡ ask.Read p
+pub read_ask : (p : ℕ) (a : Ask) → IsAskOf (Read p) a → a ≡ ask.Read p
 read_ask p (ask.Read q) h = ap ask.Read (sym h)
 read_ask p (ask.Store q x) h = absurd h
 read_ask p ask.Seal h = absurd h
@@ -133,10 +133,10 @@ pooled_put : (c : Cell) (t i q losses : ℕ) (o z : Operation) → z.lost ≡ o.
 pooled_put c t i q losses o z same (inl none) = inl none
 pooled_put c t i q losses o z same (inr l) = inr (record { message = l.message; request = l.request; is = l.is; ticket = l.ticket; to_server = l.to_server; tries = rw same l.tries })
 
-way_put : (c : Cell) (t i q : ℕ) (o z : Operation) (aims : Aims) (m : Member) (e : Errand) → z.lost ≡ o.lost → OnItsWay c o t i aims m e → OnItsWay (put_operation c q z) z t i aims m e
+pub way_put : (c : Cell) (t i q : ℕ) (o z : Operation) (aims : Aims) (m : Member) (e : Errand) → z.lost ≡ o.lost → OnItsWay c o t i aims m e → OnItsWay (put_operation c q z) z t i aims m e
 way_put c t i q o z aims m e same h = record { planned = h.planned; unmet = h.unmet; few = h.few; pooled = pooled_put c t i q m.losses o z same h.pooled }
 
-carried_put : (c : Cell) (t i q : ℕ) (o z : Operation) (aims : Aims) (m : Member) (x : Option Message) → z.lost ≡ o.lost → z.servers_before ≡ o.servers_before → IsCarried c o t i aims m x → IsCarried (put_operation c q z) z t i aims m x
+pub carried_put : (c : Cell) (t i q : ℕ) (o z : Operation) (aims : Aims) (m : Member) (x : Option Message) → z.lost ≡ o.lost → z.servers_before ≡ o.servers_before → IsCarried c o t i aims m x → IsCarried (put_operation c q z) z t i aims m x
 carried_put c t i q o z aims m None same before h = h
 carried_put c t i q o z aims m (Some (Asked e)) same before h = way_put c t i q o z aims m e same h
 carried_put c t i q o z aims m (Some (Answered e told)) same before h = record {
@@ -145,11 +145,11 @@ carried_put c t i q o z aims m (Some (Answered e told)) same before h = record {
   well = rw before h.well;
 }
 
-newer_none : (z : Option Entry) → newer_of z None ≡ z
+pub newer_none : (z : Option Entry) → newer_of z None ≡ z
 newer_none None = refl
 newer_none (Some x) = refl
 
-some_of : (z : Option Entry) → is_some z ≡ true → (x : Entry) × (z ≡ Some x)
+pub some_of : (z : Option Entry) → is_some z ≡ true → (x : Entry) × (z ≡ Some x)
 some_of None h = absurd (false≢true h)
 some_of (Some x) h = (x, refl)
 
