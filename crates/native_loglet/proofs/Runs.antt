@@ -247,4 +247,3 @@ placed_stands a b w d l calls more c e t p h began next took rest =
     let later : Later now (run_cell last.0 now) = run_later last.0 now in
     let here : slice_get now.entries p ≡ Some e = after.entries p e there in
     (stands_in d now p e one.cell reached here, stands_in l (run_cell last.0 now) p e last.1 (omega (arith, reached, later.reach)) (later.entries p e here))
-

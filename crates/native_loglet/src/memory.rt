@@ -2,8 +2,9 @@
 ghost use Rattle.std.specs.Prelude.{◌≡◌, ◌≤◌, ◌^◌, true, length, All, IfOk};
 ghost use Rattle.loglet_api.specs.declared.call.Kind.TheVariants.{Native};
 ghost use Rattle.loglet_api.specs.View.{IsFresh};
-ghost use Rattle.quorum_cell.specs.Cells.{no_server};
-ghost use Rattle.native_loglet.specs.Natives.{IsCount};
+ghost use Rattle.quorum_cell.specs.Cells.{no_server, start};
+ghost use Rattle.log_server.specs.View.{Survives};
+ghost use Rattle.native_loglet.specs.Natives.{IsCount, IsCellOf};
 
 use crate::loglet::NativeLoglet;
 use crate::replica::Replica;
@@ -25,6 +26,8 @@ pub fn in_memory(
     ensures kind { IfOk result (λ made. made.loglet.kind ≡ Native servers) }
     ensures servers { IfOk result (λ made. made.loglet.servers ≡ servers) }
     ensures rounds { IfOk result (λ made. made.loglet.rounds ≡ 7) }
+    ensures cell { IfOk result (λ made. IsCellOf made.parts (start servers room (2 ^ 62))) }
+    ensures disks { IfOk result (λ made. All Survives made.replicas) }
 {
     let replicas = replicas(alloc, servers)?;
     Ok(NativeLoglet::new(alloc, replicas, room))
@@ -34,6 +37,7 @@ pub fn in_memory(
 fn replicas(alloc: Global, count: usize) -> Result<Vec<Replica<MemDisk>>, AllocError>
     ensures count { IfOk result (λ replicas. length replicas.items ≡ count) }
     ensures fresh { IfOk result (λ replicas. All (λ v. v.server ≡ record no_server { up = true }) replicas.items) }
+    ensures disks { IfOk result (λ replicas. All Survives replicas.items) }
 {
     let mut replicas = Vec::with_capacity(alloc, count)?;
     for _index in 0..count {
@@ -44,7 +48,8 @@ fn replicas(alloc: Global, count: usize) -> Result<Vec<Replica<MemDisk>>, AllocE
 
 /// A server on a fresh disk.
 fn replica(alloc: Global) -> Result<Replica<MemDisk>, AllocError>
-    ensures { IfOk result (λ v. v.server ≡ record no_server { up = true }) }
+    ensures fresh { IfOk result (λ v. v.server ≡ record no_server { up = true }) }
+    ensures disk { IfOk result Survives }
 {
     match LogServer::open_on(alloc, MemDisk::new(alloc)) {
         Ok(server) => Ok(Replica::new(server)),
