@@ -233,3 +233,11 @@ module _ {M : Type 0} where
       let there : get z p.key ≡ Some (kept.Flying p.ticket p.server seen.0) = ap (λ (xs : List (Option (Kept M))). Rattle.std.specs.Prelude.slice_index_or xs p.key None) same ∙ seen.2 in
       let clone : (c : M) × is_clone seen.0 c × (None ≡ Some c) = subst (λ (x : Option (Kept M)). CopiesOf is_clone x None) there copies in
       none-some clone.0 clone.2
+
+  -- a copy that was made is kept
+  pub strayed : (servers key : ℕ) (s z y : Slab (Kept M)) (ps : List Place) (ks all : List ℕ) (copy : M) → length ks < 64 → IsSound servers s ps ks → z.slots ≡ s.slots → get z key ≡ None → Updates z y key (Some (kept.Stray copy)) → all ≡ ks ++ key ∷ [] → length all ≤ 64
+      → Stands servers y ps all (flown s ps) (kept_of s ks ++ copy ∷ [])
+  strayed servers key s z y ps ks all copy room h same vacant up is few =
+      let now : Stands servers z ps ks (flown s ps) (kept_of s ks) = stands_same servers s z ps ks same h in
+      let a : Strayed servers copy z y ps ks all = strays_in servers key copy z y ps ks all room now.sound vacant up is few in
+      record { sound = a.sound; flown_are = a.flown_are ∙ now.flown_are; strays_are = a.strays_are ∙ ap (λ (xs : List M). xs ++ copy ∷ []) now.strays_are }

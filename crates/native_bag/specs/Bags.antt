@@ -1,5 +1,5 @@
 -- What a bag of messages shows.
-use Rattle.std.specs.Prelude.{◌≡◌, ℕ, zero, suc, ◌+◌, Bool, true, not, ◌&&◌, ◌==◌, if◌then◌else◌, List, [], ◌∷◌, ◌++◌, filter, map, Option, Some, None, is_some, option_map, refl}
+use Rattle.std.specs.Prelude.{◌≡◌, ℕ, zero, suc, ◌+◌, Bool, true, not, ◌&&◌, ◌==◌, nat_lt, length, if◌then◌else◌, List, [], ◌∷◌, ◌++◌, filter, map, Option, Some, None, is_some, option_map, refl}
 use Rattle.native_bag.specs.declared.bag.Tries.{Tries}
 use Rattle.native_bag.specs.declared.bag.Tries.TheVariants.{Lost, Over, Idle}
 use Rattle.std.specs.Coded.{Coded, code_by, coded×, coded_ℕ, coded_list}
@@ -79,6 +79,10 @@ module _ {M : Type 0} where
   abbrev pub lost_once : ℕ → ℕ → Option (Flying M) → List (Flying M) → List (Flying M)
   lost_once t s None fs = fs
   lost_once t s (Some f) fs = if f.losses + 1 == most_tries then others t s fs else map (with_losses t s (f.losses + 1)) fs
+
+  -- one copy more, if there is room for it
+  abbrev pub with_copy : M → List M → List M
+  with_copy m ms = if nat_lt (length ms) most_strays then ms ++ m ∷ [] else ms
 
   -- a copy of the message there is kept, if there is one, and room for it
   abbrev pub KeepsAs : (M → M → Type 0) → Option (Flying M) → Bool → List M → List M → Type 0

@@ -1,9 +1,9 @@
 //! A bag of messages: those on their way, and copies that may come again.
 ghost use Rattle.std.specs.Prelude.{◌≡◌, ℕ, ◌+◌, ◌<◌, ◌≤◌, ◌%◌, true, nat_lt, ◌++◌, ◌∷◌, [], length, slice_get, is_some, option_copied, option_map, Some, None, IfOk, OnOk, OnErr, IsOk, vec_len, vec_capacity};
 ghost use Rattle.fate_words.specs.Words.{pick_of};
-ghost use Rattle.native_bag.specs.Bags.{most_tries, most_strays, count_below, first_of, is_out, others, without, put, message_of, lost_once, KeepsAs, tries_of};
+ghost use Rattle.native_bag.specs.Bags.{most_tries, most_strays, count_below, first_of, is_out, others, without, put, message_of, lost_once, with_copy, KeepsAs, tries_of};
 
-use crate::moves::{close_in, keep_in, lose_in, send_in};
+use crate::moves::{close_in, keep_in, lose_in, send_in, stray_in};
 use crate::places::{Kept, Place, count, is_there, message_in, nth, stray_at, take_out};
 use fate_words::words::pick;
 use slab::Slab;
@@ -133,6 +133,18 @@ impl<M: Drop> Bag<M> {
         ensures { self.new ≡ record self.old { outstanding = without ticket self.old.outstanding } }
     {
         close_in(&mut self.messages, &mut self.places, ticket, self.servers);
+    }
+
+    /// Keeps a copy that was made elsewhere, where fewer than 64 are kept. Want of memory changes
+    /// nothing.
+    pub fn add_copy(&mut self, copy: M) -> Result<(), AllocError>
+        ensures ok { OnOk result (self.new ≡ record self.old { strays = with_copy copy self.old.strays }) }
+        ensures err { OnErr result (self.new ≡ self.old) }
+    {
+        if self.strays.len() >= MOST_STRAYS {
+            return Ok(());
+        }
+        stray_in(&mut self.messages, &mut self.strays, copy)
     }
 
     /// How many copies are kept.

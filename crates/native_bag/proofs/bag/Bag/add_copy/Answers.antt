@@ -1,0 +1,29 @@
+use Rattle.std.proofs.Common.{◌≡◌, ◌<◌, ◌≤◌, ap, ◌∙◌, sym, subst, refl, arith, length, false, List}
+use Rattle.std.specs.Prelude.{nat_lt}
+use Rattle.std.proofs.lemmas.Bool.{lt-ltb}
+use Rattle.native_bag.specs.Bags.{BagView, with_copy}
+use Rattle.native_bag.specs.Places.{flown, kept_of}
+use Rattle.native_bag.proofs.Layouts.{kept_length}
+use Rattle.native_bag.proofs.Moving.{in_both, ok_then, err_then, same_view, view_of, not_less}
+use Rattle.native_bag.proofs.bag.Bag.add_copy.Goals as goal
+
+pub returns-then-len-ge-MOST_STRAYS-clause-ok : goal.returns-then-len-ge-MOST_STRAYS-clause-ok
+returns-then-len-ge-MOST_STRAYS-clause-ok g c =
+    let full : 64 ≤ length (kept_of c.self.inside.messages c.self.inside.strays.items) = omega (arith, c.if-len-ge-MOST_STRAYS.true, c.len.ensures, c.self.inside.strays.ok, kept_length c.self.inside.messages c.self.inside.strays.items c.self.invariant.strays) in
+    let none : nat_lt (length c.args.self.now.strays) 64 ≡ false = subst (λ (b : BagView g.row.M.Denot). nat_lt (length b.strays) 64 ≡ false) c.self.view_is (not_less _ 64 full) in
+    ap (λ (xs : List g.row.M.Denot). view_of c.args.self.now.servers c.args.self.now.outstanding xs) (sym (rw none refl))
+
+pub invariant_of-self : goal.invariant_of-self
+invariant_of-self g c = in_both c.stray_in.result (ok_then c.stray_in.result (λ h. (h c.self.inside.servers c.self.inside.places.items c.self.invariant).sound) c.stray_in.ensures.ok) (err_then c.stray_in.result (λ h. (h c.self.inside.servers c.self.inside.places.items c.self.invariant).sound) c.stray_in.ensures.err)
+
+pub returns-clause-ok : goal.returns-clause-ok
+returns-clause-ok g c =
+    let few : length (kept_of c.self.inside.messages c.self.inside.strays.items) < 64 = omega (arith, c.if-len-ge-MOST_STRAYS.false, c.len.ensures, c.self.inside.strays.ok, kept_length c.self.inside.messages c.self.inside.strays.items c.self.invariant.strays) in
+    ok_then c.stray_in.result (λ h. (let now = h c.self.inside.servers c.self.inside.places.items c.self.invariant in
+    subst (λ (b : BagView g.row.M.Denot). view_of c.self.inside.servers (flown c.stray_in.new.messages c.self.inside.places.items) (kept_of c.stray_in.new.messages c.stray_in.new.strays.items) ≡ view_of b.servers b.outstanding (with_copy c.args.copy b.strays)) c.self.view_is
+    (same_view c.self.inside.servers _ _ _ _ now.flown_are (now.strays_are ∙ sym (rw (lt-ltb _ 64 few) refl))))) c.stray_in.ensures.ok
+
+pub returns-clause-err : goal.returns-clause-err
+returns-clause-err g c =
+    err_then c.stray_in.result (λ h. (let now = h c.self.inside.servers c.self.inside.places.items c.self.invariant in
+    same_view c.self.inside.servers _ _ _ _ now.flown_are now.strays_are ∙ c.self.view_is)) c.stray_in.ensures.err
