@@ -1,7 +1,7 @@
 -- Where nothing is seen to change: other servers that hold the same, other maps of the same operations.
 use Rattle.std.proofs.Common.{◌≡◌, ℕ, zero, suc, ◌*◌, ◌^◌, ◌<◌, ◌≤◌, Bool, true, false, nat_eq, refl, sym, ◌∙◌, ap, subst, arith, List, [], ◌∷◌, map, length, get_or, set, Option, Some, None, inr}
 use Rattle.std.specs.Prelude.{is_some, count_by, sum_by, IsSome, slice_get}
-use Rattle.std.specs.HashMap.{Updates}
+use Rattle.native_loglet.specs.Natives.{UpdatesAt}
 use Rattle.std.specs.Map.{lookup}
 use Rattle.std.proofs.lemmas.List.{length-map}
 use Rattle.std.proofs.lemmas.Bool.{false≢true}
@@ -29,14 +29,14 @@ use Rattle.native_plan.specs.Pendings.{plan_left, left_by, left_now}
 use Rattle.native_ties.specs.Parts.{IsBounded}
 use Rattle.native_ties.proofs.Bounds.{bounded}
 use Rattle.native_loglet.specs.declared.marks.Marks.{Marks}
-use Rattle.native_loglet.specs.Natives.{Native, NativeView, PendingMap, native_of, server_in, shown, look_in, loglet_of, manner_of, IsOpenAs, IsTied}
+use Rattle.native_loglet.specs.Natives.{Native, NativeView, PendingList, native_of, server_in, shown, look_in, loglet_of, manner_of, IsOpenAs, IsCellOf}
 use Rattle.native_loglet.proofs.Viewing.{count_servers, servers_many, FitsLeft, view_is, fits_own}
 use Rattle.native_loglet.proofs.Stirring.{run_moves}
 use Rattle.native_loglet.proofs.Stepping.{tied_sound, own_view, same_manner, step_same, open_is, open_there, seen_is, Keeps, forgets}
 
 -- a native loglet that is a cell's
 abbrev pub IsOwned : Native → Type 0
-IsOwned a = (c : Cell) × IsTied a c
+IsOwned a = (c : Cell) × IsCellOf a c
 
 ---- servers that hold the same
 
@@ -71,7 +71,7 @@ pub record Alike (a b : Native) : Type 0 where
   pub marks : b.marks ≡ a.marks
   pub pending : (t : ℕ) → look_in b.pending t ≡ look_in a.pending t
 
-pub alike_tied : (a b : Native) (c : Cell) → Alike a b → IsTied a c → IsTied b c
+pub alike_tied : (a b : Native) (c : Cell) → Alike a b → IsCellOf a c → IsCellOf b c
 alike_tied a b c k h = record {
   lawful = h.lawful;
   spelled = h.spelled;
@@ -92,7 +92,7 @@ alike_tied a b c k h = record {
   operations = λ t. subst (IsOpenAs c t) (sym (k.pending t)) (h.operations t);
 }
 
-pub alike_shown : (a b : Native) (c : Cell) → Alike a b → IsTied a c → loglet_of b ≡ loglet_of a
+pub alike_shown : (a b : Native) (c : Cell) → Alike a b → IsCellOf a c → loglet_of b ≡ loglet_of a
 alike_shown a b c k h =
     let fits : FitsLeft (manner_of a).left b.pending = λ t p is waiting. fits_own a t p (sym (k.pending t) ∙ is) waiting in
     view_is b c (manner_of a).left fits (alike_tied a b c k h) ∙ ap (λ (m : Manner). cell_view m c) (same_manner a b (manner_of a).left (many_alike a.replicas b.replicas k.servers)) ∙ sym (own_view a c h)
@@ -111,12 +111,12 @@ pub moves_same : (a : Native) → IsOwned a → Moves (loglet_of a) (loglet_of a
 moves_same a h = subst (λ (x : LogletView). Moves x x) (sym (own_view a h.0 h.1)) (run_moves (manner_of a) (manner_of a).left [] h.0 tt (λ t. inr (refl, omega arith)))
 
 -- where only a server was put in the place of one that holds the same
-pub put_alike : (room : ℕ) (es : List Entry) (vs : List View) (marks : Marks) (m : PendingMap) (i : ℕ) (was is : View) → i < length vs → was ≡ get_or vs i was → is.server ≡ was.server → Alike (native_of room es vs marks m) (native_of room es (set vs i is) marks m)
+pub put_alike : (room : ℕ) (es : List Entry) (vs : List View) (marks : Marks) (m : PendingList) (i : ℕ) (was is : View) → i < length vs → was ≡ get_or vs i was → is.server ≡ was.server → Alike (native_of room es vs marks m) (native_of room es (set vs i is) marks m)
 put_alike room es vs marks m i was is here there same = record { room = refl; entries = refl; servers = set_same vs i was is here (same ∙ ap server_in there); marks = refl; pending = λ t. refl }
 
 ---- open operations
 
-pub shows : {told : ℕ} (a : Native) (w : NativeView) → record { loglet = loglet_of a; replicas = a.replicas; told = told } ≡ w → loglet_of a ≡ w.loglet
+pub shows : {told : ℕ} (a : Native) (w : NativeView) → record { loglet = loglet_of a; replicas = a.replicas; told = told; parts = a } ≡ w → loglet_of a ≡ w.loglet
 shows a w e = ap (λ (x : NativeView). x.loglet) e
 
 pub open_owned : (a : Native) (v : LogletView) (t : ℕ) → loglet_of a ≡ v → IsOwned a → IsOpen v t → IsSome (look_in a.pending t)
@@ -150,9 +150,9 @@ left_small a t p h is waiting =
 
 ---- forget
 
-pub forgets_owned : (a b : Native) (v : LogletView) (t : ℕ) → loglet_of a ≡ v → IsOwned a → CanCall v (CallForget t) → Keeps a b → b.marks ≡ a.marks → Updates nat_eq a.pending b.pending t None → IsOwned b × LogletStep v (CallForget t) Forgotten (loglet_of b)
+pub forgets_owned : (a b : Native) (v : LogletView) (t : ℕ) → loglet_of a ≡ v → IsOwned a → CanCall v (CallForget t) → Keeps a b → b.marks ≡ a.marks → UpdatesAt a.pending b.pending t None → IsOwned b × LogletStep v (CallForget t) Forgotten (loglet_of b)
 forgets_owned a b v t e h can k marks u =
-    let z : IsTied b (cell_step h.0 (Forget t)) × LogletStep v (CallForget t) Forgotten (loglet_of b) = forgets a b h.0 v t e h.1 can k marks u in
+    let z : IsCellOf b (cell_step h.0 (Forget t)) × LogletStep v (CallForget t) Forgotten (loglet_of b) = forgets a b h.0 v t e h.1 can k marks u in
     ((cell_step h.0 (Forget t), z.0), z.1)
 
 ---- what each call may rely on
@@ -179,7 +179,7 @@ pub servers_few : (a : Native) → IsOwned a → length a.replicas ≤ 7
 servers_few a h = omega (arith, h.1.few, servers_many a h.0 h.1)
 
 -- where only the map of the operations was put in the place of one with the same entries
-pub map_alike : (room : ℕ) (es : List Entry) (vs : List View) (marks : Marks) (m n : PendingMap) → n.entries ≡ m.entries → Alike (native_of room es vs marks m) (native_of room es vs marks n)
+pub map_alike : (room : ℕ) (es : List Entry) (vs : List View) (marks : Marks) (m n : PendingList) → n ≡ m → Alike (native_of room es vs marks m) (native_of room es vs marks n)
 map_alike room es vs marks m n e = record { room = refl; entries = refl; servers = refl; marks = refl; pending = λ t. ap (lookup (nat_eq t)) e }
 
 -- a server that a call names is there
@@ -187,5 +187,5 @@ pub within_servers : (a : Native) (v : LogletView) (i : ℕ) → loglet_of a ≡
 within_servers a v i e h = subst (λ (x : LogletView). i < x.servers) (sym e) h
 
 -- where nothing was added
-pub added_alike : (room : ℕ) (es fs : List Entry) (vs : List View) (marks : Marks) (m n : PendingMap) → fs ≡ es → n.entries ≡ m.entries → Alike (native_of room es vs marks m) (native_of room fs vs marks n)
+pub added_alike : (room : ℕ) (es fs : List Entry) (vs : List View) (marks : Marks) (m n : PendingList) → fs ≡ es → n ≡ m → Alike (native_of room es vs marks m) (native_of room fs vs marks n)
 added_alike room es fs vs marks m n f e = record { room = refl; entries = f; servers = refl; marks = refl; pending = λ t. ap (lookup (nat_eq t)) e }

@@ -1,7 +1,7 @@
 -- An operation begins, or there is no room.
-use Rattle.std.proofs.Common.{◌≡◌, ℕ, zero, suc, ◌+◌, ◌-◌, ◌^◌, ◌<◌, ◌≤◌, Bool, true, false, cond, nat_eq, refl, sym, ◌∙◌, ap, subst, arith, List, [], ◌∷◌, ◌++◌, length, get_or, Option, Some, None, inl, inr, min, length-append}
+use Rattle.std.proofs.Common.{◌≡◌, ℕ, zero, suc, ◌+◌, ◌-◌, ◌^◌, ◌<◌, ◌≤◌, Bool, true, false, cond, refl, sym, ◌∙◌, ap, subst, arith, List, [], ◌∷◌, ◌++◌, length, get_or, Option, Some, None, inl, inr, min, length-append}
 use Rattle.std.specs.Prelude.{◌⊎◌, ◌&&◌, ◌==◌}
-use Rattle.std.specs.HashMap.{Updates}
+use Rattle.native_loglet.specs.Natives.{UpdatesAt}
 use Rattle.std.proofs.lemmas.Bool.{false≢true, and_parts, and_from, or_cases, or_left, or_right, eqb-true, eq-eqb}
 use Rattle.std.proofs.lemmas.List.{append-nil}
 use Rattle.std.proofs.lemmas.List.Sums.{sum_by-append}
@@ -15,7 +15,6 @@ use Rattle.loglet_api.specs.View.{LogletView}
 use Rattle.loglet_api.specs.Sound.{IsSound}
 use Rattle.loglet_api.specs.Step.{LogletStep, CanCall, CanBegin, IsAppend, entries_of, cut_by, seals_of}
 use Rattle.quorum_cell.specs.declared.operation.Aim.{Aim}
-use Rattle.quorum_cell.specs.declared.operation.Aim.TheVariants.{Append as AimAppend, Settle as AimSettle, Tail as AimTail, Seal as AimSeal, Read as AimRead, Trim as AimTrim}
 use Rattle.quorum_cell.specs.declared.operation.CellStep.TheVariants.{Begin}
 use Rattle.quorum_cell.specs.Servers.{Server}
 use Rattle.quorum_cell.specs.Cells.{Cell, Operation, operation, no_server, no_operation, is_seal, is_lack, seals, lacks}
@@ -35,7 +34,8 @@ use Rattle.native_ties.specs.Parts.{IsPartOf, StartsIn, AreKnown}
 use Rattle.native_ties.proofs.Beginning.{begins}
 use Rattle.native_ties.proofs.Parts.{part_later}
 use Rattle.native_loglet.specs.Faults.{faults_after}
-use Rattle.native_loglet.specs.Natives.{Native, PendingMap, down_in, shut_in, look_in, loglet_of, manner_of, IsOpenAs, IsTied}
+use Rattle.native_loglet.specs.Steps.{aim_of, Reaches}
+use Rattle.native_loglet.specs.Natives.{Native, PendingList, down_in, shut_in, look_in, loglet_of, manner_of, IsOpenAs, IsCellOf}
 use Rattle.native_loglet.specs.Moving.{Has, AreOf, BeginsOn}
 use Rattle.native_loglet.specs.Opening.{wanted_for}
 use Rattle.native_loglet.proofs.Viewing.{FitsLeft, fits_own, manner_is, servers_many, down_is, shut_is, manner_with}
@@ -44,14 +44,6 @@ use Rattle.native_loglet.proofs.Stepping.{tied_sound, call_of, not_at, others_op
 use Rattle.native_loglet.proofs.Alike.{IsOwned}
 
 ---- what it is in the cell
-
-abbrev pub aim_of : Op → Aim
-aim_of (Append e) = AimAppend e
-aim_of (Settle n) = AimSettle n
-aim_of Tail = AimTail
-aim_of Seal = AimSeal
-aim_of (Read p) = AimRead p
-aim_of (Trim n) = AimTrim n
 
 op_same : (op : Op) → op_of (aim_of op) ≡ op
 op_same (Append e) = refl
@@ -89,18 +81,18 @@ is_appending (Trim n) h = absurd (false≢true h)
 abbrev pub IsFullFor : Native → Op → Type 0
 IsFullFor a op = (IsAppend op × (length a.entries ≡ a.room)) ⊎ (a.marks.begun ≡ 2 ^ 62)
 
-full_in : (a : Native) (c : Cell) (op : Op) → IsTied a c → IsFullFor a op → is_full c (aim_of op) ≡ true
+full_in : (a : Native) (c : Cell) (op : Op) → IsCellOf a c → IsFullFor a op → is_full c (aim_of op) ≡ true
 full_in a c op h (inl x) = or_left _ _ (and_from _ _ (appends op x.0) (eq-eqb _ _ (ap (λ (es : List Entry). length es) h.entries ∙ x.1 ∙ sym h.room)))
 full_in a c op h (inr x) = or_right _ _ (eq-eqb _ _ (h.begun ∙ x ∙ sym h.limit))
 
-full_out : (a : Native) (c : Cell) (op : Op) → IsTied a c → is_full c (aim_of op) ≡ true → IsFullFor a op
+full_out : (a : Native) (c : Cell) (op : Op) → IsCellOf a c → is_full c (aim_of op) ≡ true → IsFullFor a op
 full_out a c op h e = by (or_cases _ _ e)
   where
     by : ((is_append (aim_of op) && (length c.entries == c.room)) ≡ true) ⊎ ((length c.operations == c.limit) ≡ true) → IsFullFor a op
     by (inl x) = (let parts : (is_append (aim_of op) ≡ true) × ((length c.entries == c.room) ≡ true) = and_parts _ _ x in inl (is_appending op parts.0, sym (ap (λ (es : List Entry). length es) h.entries) ∙ eqb-true _ _ parts.1 ∙ h.room))
     by (inr x) = inr (sym h.begun ∙ eqb-true _ _ x ∙ h.limit)
 
-not_full_in : (a : Native) (c : Cell) (op : Op) → IsTied a c → (IsFullFor a op → ⊥) → is_full c (aim_of op) ≡ false
+not_full_in : (a : Native) (c : Cell) (op : Op) → IsCellOf a c → (IsFullFor a op → ⊥) → is_full c (aim_of op) ≡ false
 not_full_in a c op h space = by (is_full c (aim_of op)) refl
   where
     by : (b : Bool) → is_full c (aim_of op) ≡ b → b ≡ false
@@ -119,7 +111,7 @@ begins_as c aim h = rw h refl
 abbrev pub refused_by : Native → Native
 refused_by a = record a { marks = record a.marks { faults = min (a.marks.faults + 1) (2 ^ 64 - 1) } }
 
-refused_tied : (a : Native) (c : Cell) (op : Op) → IsTied a c → CanBegin op → is_full c (aim_of op) ≡ true → IsTied (refused_by a) (begin c (aim_of op))
+refused_tied : (a : Native) (c : Cell) (op : Op) → IsCellOf a c → CanBegin op → is_full c (aim_of op) ≡ true → IsCellOf (refused_by a) (begin c (aim_of op))
 refused_tied a c op h can full = record {
   lawful = step_lawful c (Begin (aim_of op)) h.lawful;
   spelled = spelled_after c (Begin (aim_of op)) h.spelled (brings op can);
@@ -154,8 +146,11 @@ pub refuses_owned : (a : Native) (v : LogletView) (op : Op) → loglet_of a ≡ 
 refuses_owned a v op e h can full =
     let c : Cell = h.0 in
     let is : is_full c (aim_of op) ≡ true = full_in a c op h.1 full in
-    let tied : IsTied (refused_by a) (begin c (aim_of op)) = refused_tied a c op h.1 can is in
+    let tied : IsCellOf (refused_by a) (begin c (aim_of op)) = refused_tied a c op h.1 can is in
     ((begin c (aim_of op), tied), call_of a (refused_by a) c (Begin (aim_of op)) v (CallBegin op) (Refusal Full) e h.1 tied (brings op can) refl (manner_of a).left (fits_own a) (fits_own a) (manner_is a c h.1) (rw (is, op_same op) refl))
+
+pub refuses_in : (a : Native) (op : Op) (c : Cell) → IsCellOf a c → CanBegin op → IsFullFor a op → Reaches a c (CallBegin op) (Refusal Full) (refused_by a)
+refuses_in a op c h can full = record { steps = Begin (aim_of op) ∷ []; are = refl; cell = refused_tied a c op h can (full_in a c op h full) }
 
 ---- it begins
 
@@ -192,17 +187,17 @@ wanted_same c (Read p) = refl
 wanted_same c (Trim n) = refl
 
 -- the loglet after an operation began
-abbrev pub begun_to : Native → Op → PendingMap → Native
+abbrev pub begun_to : Native → Op → PendingList → Native
 begun_to a op n = record a { entries = a.entries ++ entries_of op; pending = n; marks = record a.marks { cut = cut_by op a.marks.cut a.marks.reach; begun = a.marks.begun + 1; seals = a.marks.seals + seals_of op } }
 
 -- what an operation notes of the loglet as it begins
 abbrev pub start_of : Native → Op → Start
 start_of a op = record { size = length a.entries; reach = a.marks.reach; firm = a.marks.firm; shut = shut_in a.replicas; faults = a.marks.faults; down = down_in a.replicas; want = wanted_for op (length a.entries) (cut_by op a.marks.cut a.marks.reach) }
 
-cut_is : (a : Native) (c : Cell) (op : Op) → IsTied a c → cut_by op a.marks.cut a.marks.reach ≡ cut_after c (aim_of op)
+cut_is : (a : Native) (c : Cell) (op : Op) → IsCellOf a c → cut_by op a.marks.cut a.marks.reach ≡ cut_after c (aim_of op)
 cut_is a c op h = sym (cut_same c op ∙ ap (λ k. cut_by op k c.reach) h.cut ∙ ap (cut_by op a.marks.cut) h.reach)
 
-starts_in : (a : Native) (c : Cell) (op : Op) → IsTied a c → StartsIn c (aim_of op) (start_of a op)
+starts_in : (a : Native) (c : Cell) (op : Op) → IsCellOf a c → StartsIn c (aim_of op) (start_of a op)
 starts_in a c op h = record {
   size = sym (ap (λ (es : List Entry). length es) h.entries);
   reach = sym h.reach;
@@ -213,13 +208,13 @@ starts_in a c op h = record {
   want = ap (wanted_for op (length a.entries)) (cut_is a c op h) ∙ ap (λ (es : List Entry). wanted_for op (length es) (cut_after c (aim_of op))) (sym h.entries) ∙ wanted_same c op;
 }
 
-are_known : (a : Native) (c : Cell) (ms : List Member) → IsTied a c → AreOf a.replicas ms → AreKnown c ms
+are_known : (a : Native) (c : Cell) (ms : List Member) → IsCellOf a c → AreOf a.replicas ms → AreKnown c ms
 are_known a c ms h k = record {
   all = k.all ∙ servers_many a c h;
   each = λ i here. subst (λ (s : Server). Has s (get_or ms i no_member)) (ap (λ (ss : List Server). get_or ss i no_server) (sym h.servers)) (k.each i (omega (arith, here, servers_many a c h)));
 }
 
-part_begun : (a : Native) (c : Cell) (op : Op) (p : Pending) → IsTied a c → BeginsOn a.replicas op (start_of a op) (cut_by op a.marks.cut a.marks.reach) p → IsPartOf (admit c (aim_of op)) (length c.operations) p
+part_begun : (a : Native) (c : Cell) (op : Op) (p : Pending) → IsCellOf a c → BeginsOn a.replicas op (start_of a op) (cut_by op a.marks.cut a.marks.reach) p → IsPartOf (admit c (aim_of op)) (length c.operations) p
 part_begun a c op p h b =
     let in_cell : Begins (op_of (aim_of op)) (start_of a op) (cut_after c (aim_of op)) b.known p = subst (λ k. Begins (op_of (aim_of op)) (start_of a op) k b.known p) (cut_is a c op h) (subst (λ (o : Op). Begins o (start_of a op) (cut_by op a.marks.cut a.marks.reach) b.known p) (sym (op_same op)) b.begins) in
     begins c (aim_of op) (start_of a op) b.known h.lawful.law.quorum h.odd.0 h.odd.1 h.few (starts_in a c op h) (are_known a c b.known h b.are) p in_cell
@@ -230,8 +225,8 @@ pushed_else [] o (suc q) h = refl
 pushed_else (x ∷ os) o zero h = refl
 pushed_else (x ∷ os) o (suc q) h = pushed_else os o q (λ e. h (omega (arith, e)))
 
-begun_tied : (a : Native) (c : Cell) (op : Op) (p : Pending) (n : PendingMap) → IsTied a c → CanBegin op → is_full c (aim_of op) ≡ false → BeginsOn a.replicas op (start_of a op) (cut_by op a.marks.cut a.marks.reach) p
-    → Updates nat_eq a.pending n a.marks.begun (Some p) → IsTied (begun_to a op n) (begin c (aim_of op))
+begun_tied : (a : Native) (c : Cell) (op : Op) (p : Pending) (n : PendingList) → IsCellOf a c → CanBegin op → is_full c (aim_of op) ≡ false → BeginsOn a.replicas op (start_of a op) (cut_by op a.marks.cut a.marks.reach) p
+    → UpdatesAt a.pending n a.marks.begun (Some p) → IsCellOf (begun_to a op n) (begin c (aim_of op))
 begun_tied a c op p n h can space b u = record {
   lawful = step_lawful c (Begin (aim_of op)) h.lawful;
   spelled = spelled_after c (Begin (aim_of op)) h.spelled (brings op can);
@@ -271,7 +266,7 @@ begun_tied a c op p n h can space b u = record {
     here = subst (IsOpenAs (begin c (aim_of op)) a.marks.begun) (sym u.1) (subst (λ (d : Cell). IsPartOf d a.marks.begun p) (sym is) (subst (λ k. IsPartOf (admit c (aim_of op)) k p) h.begun (part_begun a c op p h b)))
 
 -- what is left of those that were open before is what it was
-fits_before : (a : Native) (c : Cell) (op : Op) (p : Pending) (n : PendingMap) → IsTied a c → Updates nat_eq a.pending n a.marks.begun (Some p) → FitsLeft (manner_of (begun_to a op n)).left a.pending
+fits_before : (a : Native) (c : Cell) (op : Op) (p : Pending) (n : PendingList) → IsCellOf a c → UpdatesAt a.pending n a.marks.begun (Some p) → FitsLeft (manner_of (begun_to a op n)).left a.pending
 fits_before a c op p n h u q z is waiting = fits_own (begun_to a op n) q z (u.2 q (not_at a.marks.begun q other) ∙ is) waiting
   where
     part : IsPartOf c q z
@@ -280,16 +275,20 @@ fits_before a c op p n h u q z is waiting = fits_own (begun_to a op n) q z (u.2 
     other : q ≡ a.marks.begun → ⊥
     other e = (let known : q < length c.operations = open_known c q part.shows.is_open in omega (arith, known, h.begun, e))
 
-pub begins_owned : (a : Native) (v : LogletView) (op : Op) (p : Pending) (n : PendingMap) → loglet_of a ≡ v → IsOwned a → CanCall v (CallBegin op) → (IsFullFor a op → ⊥) → BeginsOn a.replicas op (start_of a op) (cut_by op a.marks.cut a.marks.reach) p
-    → Updates nat_eq a.pending n a.marks.begun (Some p) → IsOwned (begun_to a op n) × LogletStep v (CallBegin op) (Begun a.marks.begun) (loglet_of (begun_to a op n))
+pub begins_owned : (a : Native) (v : LogletView) (op : Op) (p : Pending) (n : PendingList) → loglet_of a ≡ v → IsOwned a → CanCall v (CallBegin op) → (IsFullFor a op → ⊥) → BeginsOn a.replicas op (start_of a op) (cut_by op a.marks.cut a.marks.reach) p
+    → UpdatesAt a.pending n a.marks.begun (Some p) → IsOwned (begun_to a op n) × LogletStep v (CallBegin op) (Begun a.marks.begun) (loglet_of (begun_to a op n))
 begins_owned a v op p n e h can space b u =
     let c : Cell = h.0 in
     let free : is_full c (aim_of op) ≡ false = not_full_in a c op h.1 space in
-    let tied : IsTied (begun_to a op n) (begin c (aim_of op)) = begun_tied a c op p n h.1 can free b u in
+    let tied : IsCellOf (begun_to a op n) (begin c (aim_of op)) = begun_tied a c op p n h.1 can free b u in
     let left : ℕ → ℕ × ℕ = (manner_of (begun_to a op n)).left in
     let servers : length (begin c (aim_of op)).servers ≡ length c.servers = ap (λ (d : Cell). length d.servers) (begins_as c (aim_of op) free) in
     let manner : IsManner (length c.servers) (manner_with a left) = subst (λ k. IsManner k (manner_with a left)) servers (manner_is (begun_to a op n) (begin c (aim_of op)) tied) in
     ((begin c (aim_of op), tied), call_of a (begun_to a op n) c (Begin (aim_of op)) v (CallBegin op) (Begun a.marks.begun) e h.1 tied (brings op can) refl left (fits_before a c op p n h.1 u) (fits_own (begun_to a op n)) manner (rw (free, op_same op, h.1.begun) refl))
+
+pub begins_in : (a : Native) (op : Op) (p : Pending) (n : PendingList) (c : Cell) → IsCellOf a c → CanBegin op → (IsFullFor a op → ⊥) → BeginsOn a.replicas op (start_of a op) (cut_by op a.marks.cut a.marks.reach) p
+    → UpdatesAt a.pending n a.marks.begun (Some p) → Reaches a c (CallBegin op) (Begun a.marks.begun) (begun_to a op n)
+begins_in a op p n c h can space b u = record { steps = Begin (aim_of op) ∷ []; are = refl; cell = begun_tied a c op p n h can (not_full_in a c op h space) b u }
 
 ---- the counts fit words
 

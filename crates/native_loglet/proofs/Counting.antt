@@ -1,6 +1,6 @@
 -- How calls count faults.
-use Rattle.std.proofs.Common.{◌≡◌, ℕ, Bool, sym, ◌∙◌, ap, subst, List, Some}
-use Rattle.std.specs.Prelude.{is_some, not}
+use Rattle.std.proofs.Common.{◌≡◌, ℕ, Bool, ◌∙◌, ap, List, Some}
+use Rattle.std.specs.Prelude.{is_some}
 use Rattle.loglet_api.specs.declared.call.LogletCall.TheVariants.{Carry as CallCarry}
 use Rattle.loglet_api.specs.View.{LogletView}
 use Rattle.loglet_api.specs.Step.{CanCall}

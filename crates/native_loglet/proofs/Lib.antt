@@ -12,3 +12,7 @@ pub mod Rules
 pub mod Wholes
 pub mod Serving
 pub mod Counting
+pub mod Goes
+pub mod Runs
+pub mod Disks
+pub mod Aims

@@ -31,15 +31,21 @@ use Rattle.native_plan.specs.Plans.{end_of}
 use Rattle.native_plan.specs.Pendings.{plan_left, left_by, aims_of, Answers, Hears, Loses}
 use Rattle.native_plan.specs.Course.{PhaseFits}
 use Rattle.native_ties.specs.Parts.{IsPartOf, IsAllowed, OnItsWay, Goes, GoesBy, AnswersBy, asked_by, wish_of}
-use Rattle.native_ties.proofs.Losers.{loses, way_of}
-use Rattle.native_ties.proofs.Hearers.{hears}
-use Rattle.native_ties.proofs.Answering.{comes, stops}
+use Rattle.native_ties.specs.Steps.{GoesAs, IsLoss, IsRequest, IsStop, IsAnswer}
+use Rattle.native_ties.proofs.Losers.{loses_as, way_of}
+use Rattle.native_ties.proofs.Hearers.{hears_as}
+use Rattle.native_ties.proofs.Answering.{comes_as, stops_as}
 use Rattle.native_ties.proofs.Asking.{allowed}
 use Rattle.native_ties.proofs.Lessening.{answered_less, heard_less, lost_less}
 use Rattle.native_ties.proofs.Bounds.{bounded}
 use Rattle.native_loglet.specs.Faults.{faults_after}
-use Rattle.native_loglet.specs.Natives.{Native, PendingMap, server_in, shown, look_in, loglet_of, IsTied}
-use Rattle.native_loglet.specs.Moving.{CanMove, FailsAs, MovesByLoss, MovesByRequest, MovesByAnswer, AnswersFor, Moves, CarriesAt}
+use Rattle.native_loglet.specs.Natives.{Native, PendingList, server_in, shown, look_in, loglet_of, IsCellOf}
+use Rattle.native_loglet.specs.Moving.{CanMove, FailsAs, MovesByLoss, MovesByRequest, MovesByAnswer, MovesBy, AnswersFor, Moves, CarriesAt}
+use Rattle.native_loglet.specs.Steps.{ComesBy, FatedBy, Reaches}
+use Rattle.native_loglet.proofs.Rules.{moves_so}
+use Rattle.fate_words.specs.declared.fates.Fate.{Fate}
+use Rattle.fate_words.specs.declared.fates.Fate.TheVariants.{Deliver, DeliverAndKeep, Lose}
+use Rattle.fate_words.specs.Words.{fate_of}
 use Rattle.native_loglet.proofs.Viewing.{servers_many}
 use Rattle.native_loglet.proofs.Extending.{run_extends}
 use Rattle.native_loglet.proofs.Stepping.{open_is, open_there, seen_is, GoesOn, carries}
@@ -87,7 +93,7 @@ out_here ms i h = by (cases_lt i (length ms))
     by (inl l) = l
     by (inr l) = absurd (false≢true (sym (ap (λ (m : Member). is_some m.message) (none_past ms i l)) ∙ h))
 
-can_move_in : (a : Native) (t : ℕ) (p : Pending) (c : Cell) → IsTied a c → IsPartOf c t p → Goes c t p → p.outcome ≡ None → CanMove a.entries a.marks.cut (length a.replicas) p
+can_move_in : (a : Native) (t : ℕ) (p : Pending) (c : Cell) → IsCellOf a c → IsPartOf c t p → Goes c t p → p.outcome ≡ None → CanMove a.entries a.marks.cut (length a.replicas) p
 can_move_in a t p c h part goes waiting = record {
   members = all ∙ sym (servers_many a c h);
   few = omega (arith, h.few, servers_many a c h);
@@ -129,22 +135,24 @@ server_there (w ∷ vs) zero v h = ap server_in (same_Some w v h)
 server_there (w ∷ vs) (suc i) v h = server_there vs i v h
 
 -- the loglet after an operation went on and faults were noted
-abbrev pub carried_to : Native → List View → PendingMap → Bool → Native
+abbrev pub carried_to : Native → List View → PendingList → Bool → Native
 carried_to a ws n failed = record a { replicas = ws; pending = n; marks = record a.marks { faults = faults_after failed a.marks.faults } }
 
-module _ (a : Native) (c : Cell) (h : IsTied a c) (t : ℕ) (p q : Pending) (n : PendingMap) (is : look_in a.pending t ≡ Some p) (waiting : p.outcome ≡ None) where
+module _ (a : Native) (c : Cell) (h : IsCellOf a c) (t : ℕ) (p q : Pending) (n : PendingList) (is : look_in a.pending t ≡ Some p) (waiting : p.outcome ≡ None) where
   part : IsPartOf c t p
   part = open_there a c t (Some p) is h
 
   law : QuorumLaw c
   law = h.lawful.law.quorum
 
-  by_loss : (i : ℕ) (ws : List View) (failed : Bool) → i < length c.servers → MovesByLoss a.marks.cut i p q a.replicas ws failed → GoesOn a (carried_to a ws n failed) c t p q
+  by_loss : (i : ℕ) (ws : List View) (failed : Bool) → i < length c.servers → MovesByLoss a.marks.cut i p q a.replicas ws failed → GoesOn a (carried_to a ws n failed) c t p q (IsLoss c t i (get_or p.members.items i no_member))
   by_loss i ws failed here m =
       let l : Loses c.cut i p q = subst (λ k. Loses k i p q) (sym h.cut) m.loses in
-      let g : GoesBy c t (c.faults ++ i ∷ []) q = loses c t i p q law part waiting here m.out l in
+      let moved : GoesAs c t (c.faults ++ i ∷ []) q (IsLoss c t i (get_or p.members.items i no_member)) = loses_as c t i p q law part waiting here m.out l in
+      let g : GoesBy c t (c.faults ++ i ∷ []) q = moved.0 in
       record {
-        steps = g.steps;
+        steps = moved.0.steps;
+        are = moved.1;
         strays = g.strays;
         part = g.part;
         others = g.others;
@@ -154,12 +162,14 @@ module _ (a : Native) (c : Cell) (h : IsTied a c) (t : ℕ) (p q : Pending) (n :
         less = lost_less c t i p q law part waiting here m.out l;
       }
 
-  by_answer : (i : ℕ) (ws : List View) (failed : Bool) → i < length c.servers → MovesByAnswer a.marks.cut i p q a.replicas ws failed → GoesOn a (carried_to a ws n failed) c t p q
+  by_answer : (i : ℕ) (ws : List View) (failed : Bool) → i < length c.servers → MovesByAnswer a.marks.cut i p q a.replicas ws failed → GoesOn a (carried_to a ws n failed) c t p q (ComesBy c t i (get_or p.members.items i no_member).message)
   by_answer i ws failed here m =
       let l : Hears c.cut i m.errand m.told p q = subst (λ k. Hears k i m.errand m.told p q) (sym h.cut) m.hears in
-      let g : GoesBy c t c.faults q = hears c t i p q m.errand m.told law part waiting here m.was_told l in
+      let moved : GoesAs c t c.faults q (IsAnswer c t i m.errand m.told) = hears_as c t i p q m.errand m.told law part waiting here m.was_told l in
+      let g : GoesBy c t c.faults q = moved.0 in
       record {
-        steps = g.steps;
+        steps = moved.0.steps;
+        are = subst (λ (x : Option Message). ComesBy c t i x moved.0.steps) (sym m.was_told) moved.1;
         strays = g.strays;
         part = g.part;
         others = g.others;
@@ -171,9 +181,10 @@ module _ (a : Native) (c : Cell) (h : IsTied a c) (t : ℕ) (p q : Pending) (n :
 
   -- a server answered
   by_server : (i : ℕ) (e : Errand) (told : Told) (was w : View) (s : Server) (faults : List ℕ) (failed : Bool) → i < length c.servers → (get_or p.members.items i no_member).message ≡ Some (Asked e) → Answers i e told p q
-      → AnswersBy c t i s faults q → s ≡ w.server → counted (length faults) ≡ faults_after failed a.marks.faults → GoesOn a (carried_to a (set a.replicas i w) n failed) c t p q
-  by_server i e told was w s faults failed here asked answers g same counts = record {
+      → (g : AnswersBy c t i s faults q) → IsRequest c t i e g.steps ⊎ IsStop c t i e g.steps → s ≡ w.server → counted (length faults) ≡ faults_after failed a.marks.faults → GoesOn a (carried_to a (set a.replicas i w) n failed) c t p q (ComesBy c t i (get_or p.members.items i no_member).message)
+  by_server i e told was w s faults failed here asked answers g are same counts = record {
     steps = g.steps;
+    are = subst (λ (x : Option Message). ComesBy c t i x g.steps) (sym asked) are;
     strays = g.strays;
     part = g.part;
     others = λ k other. g.others k;
@@ -184,61 +195,72 @@ module _ (a : Native) (c : Cell) (h : IsTied a c) (t : ℕ) (p q : Pending) (n :
   }
 
   by_ask : (i : ℕ) (e : Errand) (was w : View) (failed : Bool) → i < length c.servers → (get_or p.members.items i no_member).message ≡ Some (Asked e) → server c i ≡ was.server → (m : AnswersFor a.entries a.marks.cut i e p q was w failed)
-      → (ask : Ask) → ask_for c (operation c t) (wish_of e) ≡ Some ask → ServerAnswers was ask m.told w → GoesOn a (carried_to a (set a.replicas i w) n failed) c t p q
+      → (ask : Ask) → ask_for c (operation c t) (wish_of e) ≡ Some ask → ServerAnswers was ask m.told w → GoesOn a (carried_to a (set a.replicas i w) n failed) c t p q (ComesBy c t i (get_or p.members.items i no_member).message)
   by_ask i e was w failed here asked same m ask may x = by (fault_or was w ask m.told failed m.fault x)
     where
-      by : ((m.told ≡ DiskFault) × Stops was ask w × (failed ≡ true)) ⊎ (Tells was ask m.told w × (failed ≡ false)) → GoesOn a (carried_to a (set a.replicas i w) n failed) c t p q
+      by : ((m.told ≡ DiskFault) × Stops was ask w × (failed ≡ true)) ⊎ (Tells was ask m.told w × (failed ≡ false)) → GoesOn a (carried_to a (set a.replicas i w) n failed) c t p q (ComesBy c t i (get_or p.members.items i no_member).message)
       by (inl x) =
           let wanted : ((server c i).up && writes (server c i) ask) ≡ true = ap (λ (s : Server). s.up && writes s ask) same ∙ x.1.wanted in
           let answers : Answers i e DiskFault p q = subst (λ z. Answers i e z p q) x.0 m.answers in
-          by_server i e m.told was w (record (server c i) { up = false; torn = Some ask }) (c.faults ++ i ∷ []) failed here asked m.answers (stops c t i p q e ask law part waiting here asked may wanted answers)
+          by_server i e m.told was w (record (server c i) { up = false; torn = Some ask }) (c.faults ++ i ∷ []) failed here asked m.answers (stops_as c t i p q e ask law part waiting here asked may wanted answers).0 (inr (stops_as c t i p q e ask law part waiting here asked may wanted answers).1)
           (ap (λ (s : Server). record s { up = false; torn = Some ask }) same ∙ sym x.1.server) (one_more c.faults i a.marks.faults h.faults ∙ ap (λ b. faults_after b a.marks.faults) (sym x.2))
       by (inr x) =
           let answers : Answers i e (table (server c i) ask) p q = subst (λ z. Answers i e z p q) (x.0.told ∙ sym (ap (λ (s : Server). table s ask) same)) m.answers in
-          by_server i e m.told was w (if (server c i).up then written (server c i) ask else server c i) c.faults failed here asked m.answers (comes c t i p q e ask law part waiting here asked may answers)
+          by_server i e m.told was w (if (server c i).up then written (server c i) ask else server c i) c.faults failed here asked m.answers (comes_as c t i p q e ask law part waiting here asked may answers).0 (inl (comes_as c t i p q e ask law part waiting here asked may answers).1)
           (ap (λ (s : Server). after_ask s ask) same ∙ sym x.0.server) (h.faults ∙ ap (λ b. faults_after b a.marks.faults) (sym x.1))
 
   -- what is asked is the same in the cell
   asked_same : (e : Errand) (ask : Ask) → asked_by c.entries c.cut e ≡ Some ask → asked_by a.entries a.marks.cut e ≡ Some ask
   asked_same e ask known = ap {B = Option Ask} (λ (es : List Entry). asked_by es a.marks.cut e) (sym h.entries) ∙ ap {B = Option Ask} (λ k. asked_by c.entries k e) (sym h.cut) ∙ known
 
-  by_request : (i : ℕ) (ws : List View) (failed : Bool) → i < length c.servers → MovesByRequest a.entries a.marks.cut i p q a.replicas ws failed → GoesOn a (carried_to a ws n failed) c t p q
+  by_request : (i : ℕ) (ws : List View) (failed : Bool) → i < length c.servers → MovesByRequest a.entries a.marks.cut i p q a.replicas ws failed → GoesOn a (carried_to a ws n failed) c t p q (ComesBy c t i (get_or p.members.items i no_member).message)
   by_request i ws failed here m =
       let y : IsAllowed c t m.errand = allowed c t i p m.errand part waiting here m.asked in
       let same : server c i ≡ m.was.server = ap (λ (ss : List Server). get_or ss i no_server) h.servers ∙ server_there a.replicas i m.was m.there in
-      subst (λ (xs : List View). GoesOn a (carried_to a xs n failed) c t p q) (sym m.servers) (by_ask i m.errand m.was m.is failed here m.asked same m.answers y.ask y.allowed (m.answers.tells y.ask (asked_same m.errand y.ask y.is)))
+      subst (λ (xs : List View). GoesOn a (carried_to a xs n failed) c t p q (ComesBy c t i (get_or p.members.items i no_member).message)) (sym m.servers) (by_ask i m.errand m.was m.is failed here m.asked same m.answers y.ask y.allowed (m.answers.tells y.ask (asked_same m.errand y.ask y.is)))
 
-  pub goes_on : (ws : List View) (failed : Bool) → Moves a.entries a.marks.cut p q a.replicas ws failed → GoesOn a (carried_to a ws n failed) c t p q
-  goes_on ws failed m = by m.moves
+  pub goes_on : (word : ℕ) (ws : List View) (failed : Bool) → (m : Moves a.entries a.marks.cut word p q a.replicas ws failed) → GoesOn a (carried_to a ws n failed) c t p q (FatedBy (fate_of word) c t m.server (get_or p.members.items m.server no_member))
+  goes_on word ws failed m = by (fate_of word) m.moves
     where
       here : m.server < length c.servers
       here = (let all : length p.members.items ≡ length c.servers = (part.goes waiting).course.all in omega (arith, m.here, all))
 
-      by : MovesByLoss a.marks.cut m.server p q a.replicas ws failed ⊎ (MovesByRequest a.entries a.marks.cut m.server p q a.replicas ws failed ⊎ MovesByAnswer a.marks.cut m.server p q a.replicas ws failed) → GoesOn a (carried_to a ws n failed) c t p q
-      by (inl x) = by_loss m.server ws failed here x
-      by (inr (inl x)) = by_request m.server ws failed here x
-      by (inr (inr x)) = by_answer m.server ws failed here x
+      by : (f : Fate) → MovesBy f a.entries a.marks.cut m.server p q a.replicas ws failed → GoesOn a (carried_to a ws n failed) c t p q (FatedBy f c t m.server (get_or p.members.items m.server no_member))
+      by Lose x = by_loss m.server ws failed here x
+      by Deliver (inl x) = by_request m.server ws failed here x
+      by Deliver (inr x) = by_answer m.server ws failed here x
+      by DeliverAndKeep (inl x) = by_request m.server ws failed here x
+      by DeliverAndKeep (inr x) = by_answer m.server ws failed here x
 
 -- so many servers as before
-moved_many : (entries : List Entry) (cut : ℕ) (p q : Pending) (vs ws : List View) (failed : Bool) → Moves entries cut p q vs ws failed → length ws ≡ length vs
-moved_many entries cut p q vs ws failed m = by m.moves
+moved_many : (entries : List Entry) (cut word : ℕ) (p q : Pending) (vs ws : List View) (failed : Bool) → Moves entries cut word p q vs ws failed → length ws ≡ length vs
+moved_many entries cut word p q vs ws failed m = by (moves_so (fate_of word) entries cut m.server p q vs ws failed m.moves)
   where
     by : MovesByLoss cut m.server p q vs ws failed ⊎ (MovesByRequest entries cut m.server p q vs ws failed ⊎ MovesByAnswer cut m.server p q vs ws failed) → length ws ≡ length vs
     by (inl x) = ap (λ (xs : List View). length xs) x.servers
     by (inr (inl x)) = ap (λ (xs : List View). length xs) x.servers ∙ length-set vs m.server x.is
     by (inr (inr x)) = ap (λ (xs : List View). length xs) x.servers
 
+-- a carry, in the cell that the loglet is
+pub carries_in : (a : Native) (ws : List View) (n : PendingList) (v : LogletView) (t word : ℕ) (failed : Bool) (c : Cell) → loglet_of a ≡ v → IsCellOf a c → CanCall v (CallCarry t word)
+    → ((p : Pending) → look_in a.pending t ≡ Some p → CarriesAt a.entries a.marks.cut t word p a.pending n a.replicas ws failed)
+    → Reaches a c (CallCarry t word) Carried (carried_to a ws n failed) × LogletStep v (CallCarry t word) Carried (loglet_of (carried_to a ws n failed))
+carries_in a ws n v t word failed c e h can moved =
+    let w : (p : Pending) × (look_in a.pending t ≡ Some p) × (p.outcome ≡ None) = waits_at a v t word e (c, h) can in
+    let m : CarriesAt a.entries a.marks.cut t word w.0 a.pending n a.replicas ws failed = moved w.0 w.1 in
+    let k : Moves a.entries a.marks.cut word w.0 m.next a.replicas ws failed = m.moves in
+    let g : GoesOn a (carried_to a ws n failed) c t w.0 m.next (FatedBy (fate_of word) c t k.server (get_or w.0.members.items k.server no_member)) = goes_on a c h t w.0 m.next n w.1 w.2 word ws failed m.moves in
+    let z : IsCellOf (carried_to a ws n failed) (run_cell g.steps c) × LogletStep v (CallCarry t word) Carried (loglet_of (carried_to a ws n failed)) =
+    carries a (carried_to a ws n failed) c v t word w.0 m.next _ e h can g refl refl (moved_many a.entries a.marks.cut word w.0 m.next a.replicas ws failed m.moves) refl w.1 w.2 m.is m.others in
+    (record { steps = g.steps; are = record { p = w.0; is = w.1; server = k.server; picked = k.picked; moves = g.are }; cell = z.0 }, z.1)
+
 -- a carry, whole
-pub carries_owned : (a : Native) (ws : List View) (n : PendingMap) (v : LogletView) (t word : ℕ) (failed : Bool) → loglet_of a ≡ v → IsOwned a → CanCall v (CallCarry t word)
-    → ((p : Pending) → look_in a.pending t ≡ Some p → CarriesAt a.entries a.marks.cut t p a.pending n a.replicas ws failed)
+pub carries_owned : (a : Native) (ws : List View) (n : PendingList) (v : LogletView) (t word : ℕ) (failed : Bool) → loglet_of a ≡ v → IsOwned a → CanCall v (CallCarry t word)
+    → ((p : Pending) → look_in a.pending t ≡ Some p → CarriesAt a.entries a.marks.cut t word p a.pending n a.replicas ws failed)
     → IsOwned (carried_to a ws n failed) × LogletStep v (CallCarry t word) Carried (loglet_of (carried_to a ws n failed))
 carries_owned a ws n v t word failed e h can moved =
-    let w : (p : Pending) × (look_in a.pending t ≡ Some p) × (p.outcome ≡ None) = waits_at a v t word e h can in
-    let m : CarriesAt a.entries a.marks.cut t w.0 a.pending n a.replicas ws failed = moved w.0 w.1 in
-    let g : GoesOn a (carried_to a ws n failed) h.0 t w.0 m.next = goes_on a h.0 h.1 t w.0 m.next n w.1 w.2 ws failed m.moves in
-    let z : IsTied (carried_to a ws n failed) (run_cell g.steps h.0) × LogletStep v (CallCarry t word) Carried (loglet_of (carried_to a ws n failed)) =
-    carries a (carried_to a ws n failed) h.0 v t word w.0 m.next e h.1 can g refl refl (moved_many a.entries a.marks.cut w.0 m.next a.replicas ws failed m.moves) refl w.1 w.2 m.is m.others in
-    ((run_cell g.steps h.0, z.0), z.1)
+    let z : Reaches a h.0 (CallCarry t word) Carried (carried_to a ws n failed) × LogletStep v (CallCarry t word) Carried (loglet_of (carried_to a ws n failed)) = carries_in a ws n v t word failed h.0 e h.1 can moved in
+    ((run_cell z.0.steps h.0, z.0.cell), z.1)
 
 -- what a carry asks for
 pub can_carry : (a : Native) (v : LogletView) (t word : ℕ) → loglet_of a ≡ v → IsOwned a → CanCall v (CallCarry t word) → (p : Pending) → look_in a.pending t ≡ Some p → CanMove a.entries a.marks.cut (length a.replicas) p

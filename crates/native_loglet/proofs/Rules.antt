@@ -29,7 +29,10 @@ use Rattle.loglet_api.specs.declared.call.Answer.TheVariants.{CutAt}
 use Rattle.native_loglet.specs.declared.closing.Decided.{Decided}
 use Rattle.native_loglet.specs.Closing.{is_cut, answer_by, answer_for}
 use Rattle.native_loglet.specs.Telling.{seal_told_by, length_told_by}
-use Rattle.native_loglet.specs.Moving.{Has, server_at, AreOf, AnswersFor, Moves}
+use Rattle.native_loglet.specs.Moving.{Has, server_at, AreOf, LosesAs, AnswersFor, MovesByLoss, MovesByRequest, MovesByAnswer, MovesBy, Moves, picked_by}
+use Rattle.fate_words.specs.declared.fates.Fate.{Fate}
+use Rattle.fate_words.specs.declared.fates.Fate.TheVariants.{Deliver, DeliverAndKeep, Lose}
+use Rattle.fate_words.specs.Words.{fate_of}
 
 ---- which message moves
 
@@ -64,26 +67,55 @@ rests_of (Some (Answered f told)) h out = cc
 
 ---- what moved
 
-pub moved_by_loss : (entries : List Entry) (cut i : ℕ) (p q : Pending) (vs : List View) → i < length p.members.items → is_out (get_or p.members.items i no_member) ≡ true → Loses cut i p q → Moves entries cut p q vs vs true
-moved_by_loss entries cut i p q vs here out l = record { server = i; here = here; moves = inl (record { out = out; loses = l; servers = refl; fault = refl }) }
+-- by the fate that the code tests
+lost_by : (f : Fate) (lost : Bool) (entries : List Entry) (cut i : ℕ) (p q : Pending) (vs ws : List View) (failed : Bool) → LosesAs f lost → lost ≡ true → MovesByLoss cut i p q vs ws failed → MovesBy f entries cut i p q vs ws failed
+lost_by Lose lost entries cut i p q vs ws failed h e m = m
+lost_by Deliver lost entries cut i p q vs ws failed h e m = absurd (false≢true (sym h ∙ e))
+lost_by DeliverAndKeep lost entries cut i p q vs ws failed h e m = absurd (false≢true (sym h ∙ e))
 
-pub moved_by_answer : (entries : List Entry) (cut i : ℕ) (p q : Pending) (vs : List View) → i < length p.members.items → turn_of (get_or p.members.items i no_member).message ≡ Tells
-    → ((e : Errand) (told : Told) → (get_or p.members.items i no_member).message ≡ Some (Answered e told) → Hears cut i e told p q) → Moves entries cut p q vs vs false
-moved_by_answer entries cut i p q vs here turn h =
+comes_by : (f : Fate) (lost : Bool) (entries : List Entry) (cut i : ℕ) (p q : Pending) (vs ws : List View) (failed : Bool) → LosesAs f lost → lost ≡ false → MovesByRequest entries cut i p q vs ws failed ⊎ MovesByAnswer cut i p q vs ws failed → MovesBy f entries cut i p q vs ws failed
+comes_by Lose lost entries cut i p q vs ws failed h e m = absurd (false≢true (sym e ∙ h))
+comes_by Deliver lost entries cut i p q vs ws failed h e m = m
+comes_by DeliverAndKeep lost entries cut i p q vs ws failed h e m = m
+
+-- it is lost, or it comes
+pub moves_so : (f : Fate) (entries : List Entry) (cut i : ℕ) (p q : Pending) (vs ws : List View) (failed : Bool) → MovesBy f entries cut i p q vs ws failed → MovesByLoss cut i p q vs ws failed ⊎ (MovesByRequest entries cut i p q vs ws failed ⊎ MovesByAnswer cut i p q vs ws failed)
+moves_so Lose entries cut i p q vs ws failed m = inl m
+moves_so Deliver entries cut i p q vs ws failed m = inr m
+moves_so DeliverAndKeep entries cut i p q vs ws failed m = inr m
+
+pub moved_by_loss : (entries : List Entry) (cut word i : ℕ) (f : Fate) (lost : Bool) (p q : Pending) (vs : List View) → i ≡ picked_by word p → f ≡ fate_of word → LosesAs f lost → lost ≡ true → i < length p.members.items → is_out (get_or p.members.items i no_member) ≡ true → Loses cut i p q → Moves entries cut word p q vs vs true
+moved_by_loss entries cut word i f lost p q vs picked fate loses is here out l = record {
+  server = i;
+  picked = picked;
+  here = here;
+  moves = subst (λ (x : Fate). MovesBy x entries cut i p q vs vs true) fate (lost_by f lost entries cut i p q vs vs true loses is (record { out = out; loses = l; servers = refl; fault = refl }));
+}
+
+pub moved_by_answer : (entries : List Entry) (cut word i : ℕ) (f : Fate) (lost : Bool) (p q : Pending) (vs : List View) → i ≡ picked_by word p → f ≡ fate_of word → LosesAs f lost → lost ≡ false → i < length p.members.items → turn_of (get_or p.members.items i no_member).message ≡ Tells
+    → ((e : Errand) (told : Told) → (get_or p.members.items i no_member).message ≡ Some (Answered e told) → Hears cut i e told p q) → Moves entries cut word p q vs vs false
+moved_by_answer entries cut word i f lost p q vs picked fate loses is here turn h =
     let t : (e : Errand) × (told : Told) × ((get_or p.members.items i no_member).message ≡ Some (Answered e told)) = tells_of _ turn in
-    record { server = i; here = here; moves = inr (inr (record { errand = t.0; told = t.1; was_told = t.2; hears = h t.0 t.1 t.2; servers = refl; fault = refl })) }
+    record {
+      server = i;
+      picked = picked;
+      here = here;
+      moves = subst (λ (x : Fate). MovesBy x entries cut i p q vs vs false) fate (comes_by f lost entries cut i p q vs vs false loses is (inr (record { errand = t.0; told = t.1; was_told = t.2; hears = h t.0 t.1 t.2; servers = refl; fault = refl })));
+    }
 
 pub there_is : (vs : List View) (i : ℕ) (d : View) → i < length vs → slice_get vs i ≡ Some (get_or vs i d)
 there_is [] i d h = absurd (omega (arith, h))
 there_is (v ∷ vs) zero d h = refl
 there_is (v ∷ vs) (suc i) d h = there_is vs i d (omega (arith, h))
 
-pub moved_by_request : (entries : List Entry) (cut i : ℕ) (errand : Errand) (p q : Pending) (vs : List View) (was is : View) (failed : Bool) → i < length p.members.items → i < length vs → turn_of (get_or p.members.items i no_member).message ≡ Asks errand
-    → was ≡ get_or vs i was → AnswersFor entries cut i errand p q was is failed → Moves entries cut p q vs (set vs i is) failed
-moved_by_request entries cut i errand p q vs was is failed here within turn there a = record {
+pub moved_by_request : (entries : List Entry) (cut word i : ℕ) (f : Fate) (lost : Bool) (errand : Errand) (p q : Pending) (vs : List View) (was is : View) (failed : Bool) → i ≡ picked_by word p → f ≡ fate_of word → LosesAs f lost → lost ≡ false → i < length p.members.items → i < length vs → turn_of (get_or p.members.items i no_member).message ≡ Asks errand
+    → was ≡ get_or vs i was → AnswersFor entries cut i errand p q was is failed → Moves entries cut word p q vs (set vs i is) failed
+moved_by_request entries cut word i f lost errand p q vs was is failed picked fate loses kept here within turn there a = record {
   server = i;
+  picked = picked;
   here = here;
-  moves = inr (inl (record { errand = errand; was = was; is = is; asked = asks_of _ errand turn; there = there_is vs i was within ∙ ap (λ v. Some v) (sym there); answers = a; servers = refl }));
+  moves = subst (λ (x : Fate). MovesBy x entries cut i p q vs (set vs i is) failed) fate
+      (comes_by f lost entries cut i p q vs (set vs i is) failed loses kept (inl (record { errand = errand; was = was; is = is; asked = asks_of _ errand turn; there = there_is vs i was within ∙ ap (λ v. Some v) (sym there); answers = a; servers = refl })));
 }
 
 ---- what a server is asked

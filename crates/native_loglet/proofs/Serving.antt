@@ -1,6 +1,6 @@
 -- What is seen of the servers, and what a call of one of them does to it.
-use Rattle.std.proofs.Common.{◌≡◌, ℕ, zero, suc, ◌+◌, ◌-◌, ◌^◌, ◌<◌, ◌≤◌, Bool, true, false, cond, refl, sym, ◌∙◌, ap, subst, arith, List, [], ◌∷◌, map, length, get_or, set, Option, Some, None, inl, inr}
-use Rattle.std.specs.Prelude.{◌⊎◌, ◌&&◌, ◌||◌, ◌%◌, ◌==◌, not, nat_lt, min, slice_get, slice_set, count_by, if◌then◌else◌, Result, Ok, Err, IfOk, OnErr}
+use Rattle.std.proofs.Common.{◌≡◌, ℕ, zero, suc, ◌+◌, ◌<◌, ◌≤◌, Bool, true, false, cond, refl, sym, ◌∙◌, ap, subst, arith, List, [], ◌∷◌, length, get_or, set, Some, inl, inr}
+use Rattle.std.specs.Prelude.{◌⊎◌, ◌&&◌, ◌%◌, ◌==◌, not, nat_lt, slice_get, slice_set, if◌then◌else◌, Result, Ok, Err, OnErr}
 use Rattle.std.proofs.lemmas.Bool.{false≢true, and_parts, or_left, or_right, or_from, ltb-true, lt-ltb, false_from_ne_true}
 use Rattle.std.proofs.lemmas.Option.{none-some, same_Some}
 use Rattle.std.proofs.lemmas.List.{length-map}
@@ -19,6 +19,7 @@ use Rattle.native_plan.specs.declared.pending.Pending.{Pending}
 use Rattle.delos_types.specs.declared.entry.Entry.{Entry}
 use Rattle.native_loglet.specs.Natives.{state_of, state_in, states_in, down_in}
 use Rattle.fate_words.specs.Words.{fate_of}
+use Rattle.native_loglet.proofs.Rules.{moves_so}
 use Rattle.fate_words.specs.declared.fates.Fate.{Fate}
 use Rattle.fate_words.specs.declared.fates.Fate.TheVariants.{Deliver, DeliverAndKeep, Lose}
 use Rattle.native_loglet.specs.Faults.{is_failed}
@@ -185,8 +186,8 @@ other_stays (v ∷ vs) (suc i) (suc j) w other = other_stays vs i j w (λ e. oth
 
 ---- a message
 
-pub moves_wear : (entries : List Entry) (cut n : ℕ) (p q : Pending) (vs ws : List View) (failed : Bool) → CanMove entries cut n p → Moves entries cut p q vs ws failed → Wear (states_in vs) (states_in ws)
-moves_wear entries cut n p q vs ws failed can m = by m.moves
+pub moves_wear : (entries : List Entry) (cut n word : ℕ) (p q : Pending) (vs ws : List View) (failed : Bool) → CanMove entries cut n p → Moves entries cut word p q vs ws failed → Wear (states_in vs) (states_in ws)
+moves_wear entries cut n word p q vs ws failed can m = by (moves_so (fate_of word) entries cut m.server p q vs ws failed m.moves)
   where
     stays : ws ≡ vs → Wear (states_in vs) (states_in ws)
     stays e = subst (λ (xs : List View). Wear (states_in vs) (states_in xs)) (sym e) (wear_same (states_in vs))

@@ -1,7 +1,7 @@
 -- The calls of a native loglet as steps of a loglet.
 use Rattle.std.proofs.Common.{◌≡◌, ℕ, zero, suc, ◌^◌, ◌<◌, ◌≤◌, true, false, nat_eq, refl, sym, ◌∙◌, ap, subst, arith, List, [], ◌∷◌, map, length, Option, Some, None, inl, inr}
 use Rattle.std.specs.Prelude.{◌⊎◌, slice_get, is_some}
-use Rattle.std.specs.HashMap.{Updates}
+use Rattle.native_loglet.specs.Natives.{UpdatesAt}
 use Rattle.std.proofs.lemmas.Bool.{false≢true, cases_eq, ne_eqb}
 use Rattle.std.proofs.lemmas.Option.{none-some}
 use Rattle.std.proofs.lemmas.List.{length-set}
@@ -33,19 +33,19 @@ use Rattle.native_ties.proofs.Parts.{part_later}
 use Rattle.native_ties.proofs.Hearing.{put_there, put_other}
 use Rattle.native_ties.proofs.Bounds.{bounded}
 use Rattle.native_loglet.specs.declared.marks.Marks.{Marks}
-use Rattle.native_loglet.specs.Natives.{Native, server_in, shown, look_in, loglet_of, left_for, left_in, manner_of, IsOpenAs, IsTied}
+use Rattle.native_loglet.specs.Natives.{Native, server_in, shown, look_in, loglet_of, left_for, left_in, manner_of, IsOpenAs, IsCellOf}
 use Rattle.native_loglet.proofs.Viewing.{part_shown, FitsLeft, view_is, manner_with, fits_own, manner_is}
 use Rattle.native_loglet.proofs.Stirring.{run_stirs, run_moves, run_lawful, run_spelled}
 
 ---- it is sound
 
-pub own_view : (a : Native) (c : Cell) → IsTied a c → loglet_of a ≡ cell_view (manner_of a) c
+pub own_view : (a : Native) (c : Cell) → IsCellOf a c → loglet_of a ≡ cell_view (manner_of a) c
 own_view a c h = view_is a c (manner_of a).left (fits_own a) h
 
-pub tied_sound : (a : Native) (c : Cell) → IsTied a c → IsSound (loglet_of a)
+pub tied_sound : (a : Native) (c : Cell) → IsCellOf a c → IsSound (loglet_of a)
 tied_sound a c h = subst IsSound (sym (own_view a c h)) (view_sound (manner_of a) c (manner_is a c h) h.lawful h.spelled)
 
-pub step_of : (a b : Native) (c d : Cell) (v : LogletView) (call : LogletCall) (answer : LogletAnswer) → loglet_of a ≡ v → IsTied a c → IsTied b d → CanCall v call → Does (loglet_of a) call answer (loglet_of b) → LogletStep v call answer (loglet_of b)
+pub step_of : (a b : Native) (c d : Cell) (v : LogletView) (call : LogletCall) (answer : LogletAnswer) → loglet_of a ≡ v → IsCellOf a c → IsCellOf b d → CanCall v call → Does (loglet_of a) call answer (loglet_of b) → LogletStep v call answer (loglet_of b)
 step_of a b c d v call answer e h k can does = record {
   before = subst IsSound e (tied_sound a c h);
   can = can;
@@ -53,7 +53,7 @@ step_of a b c d v call answer e h k can does = record {
   after = tied_sound b d k;
 }
 
-pub step_same : (a : Native) (c : Cell) (v : LogletView) (call : LogletCall) (answer : LogletAnswer) → loglet_of a ≡ v → IsTied a c → CanCall v call → Does (loglet_of a) call answer (loglet_of a) → LogletStep v call answer v
+pub step_same : (a : Native) (c : Cell) (v : LogletView) (call : LogletCall) (answer : LogletAnswer) → loglet_of a ≡ v → IsCellOf a c → CanCall v call → Does (loglet_of a) call answer (loglet_of a) → LogletStep v call answer v
 step_same a c v call answer e h can does = subst (λ (x : LogletView). LogletStep v call answer x) e (step_of a a c c v call answer e h h can does)
 
 ---- a step of the cell that is one call
@@ -65,7 +65,7 @@ pub same_manner : (a b : Native) (left : ℕ → ℕ × ℕ) → length b.replic
 same_manner a b left many = rw many refl
 
 -- what the cell does by a step that is this call the loglet does
-pub call_of : (a b : Native) (c : Cell) (step : CellStep) (v : LogletView) (call : LogletCall) (answer : LogletAnswer) → loglet_of a ≡ v → IsTied a c → IsTied b (cell_step c step) → BringsSpelled step → length b.replicas ≡ length a.replicas
+pub call_of : (a b : Native) (c : Cell) (step : CellStep) (v : LogletView) (call : LogletCall) (answer : LogletAnswer) → loglet_of a ≡ v → IsCellOf a c → IsCellOf b (cell_step c step) → BringsSpelled step → length b.replicas ≡ length a.replicas
     → (left : ℕ → ℕ × ℕ) → FitsLeft left a.pending → FitsLeft left b.pending → IsManner (length c.servers) (manner_with a left)
     → calls c step ≡ (call, answer) ∷ [] → LogletStep v call answer (loglet_of b)
 call_of a b c step v call answer e h k spelled many left fits_a fits_b manner is =
@@ -77,7 +77,7 @@ call_of a b c step v call answer e h k spelled many left fits_a fits_b manner is
 
 ---- which operations are open
 
-pub open_there : (a : Native) (c : Cell) (t : ℕ) (z : Option Pending) → look_in a.pending t ≡ z → IsTied a c → IsOpenAs c t z
+pub open_there : (a : Native) (c : Cell) (t : ℕ) (z : Option Pending) → look_in a.pending t ≡ z → IsCellOf a c → IsOpenAs c t z
 open_there a c t z e h = subst (IsOpenAs c t) e (h.operations t)
 
 -- the operation that is shown is there
@@ -88,12 +88,12 @@ shown_there a c t None closed h = absurd (false≢true (sym (ap is_some (none_is
     none_is d = rw closed refl
 shown_there a c t (Some p) part h = (p, refl)
 
-pub open_is : (a : Native) (c : Cell) (v : LogletView) (t : ℕ) → loglet_of a ≡ v → IsTied a c → is_some (operation_at v.operations t) ≡ true → (p : Pending) × (look_in a.pending t ≡ Some p)
+pub open_is : (a : Native) (c : Cell) (v : LogletView) (t : ℕ) → loglet_of a ≡ v → IsCellOf a c → is_some (operation_at v.operations t) ≡ true → (p : Pending) × (look_in a.pending t ≡ Some p)
 open_is a c v t e h there =
     let seen : operation_at v.operations t ≡ opened (length c.servers) (manner_of a).left t (operation c t) = ap (λ (x : LogletView). operation_at x.operations t) (sym e ∙ own_view a c h) ∙ opened_is (length c.servers) (manner_of a).left t c.operations in
     shown_there a c t (look_in a.pending t) (h.operations t) (sym (ap is_some seen) ∙ there)
 
-pub seen_is : (a : Native) (c : Cell) (t : ℕ) (p : Pending) → IsTied a c → look_in a.pending t ≡ Some p → operation_at (loglet_of a).operations t ≡ Some (shown p)
+pub seen_is : (a : Native) (c : Cell) (t : ℕ) (p : Pending) → IsCellOf a c → look_in a.pending t ≡ Some p → operation_at (loglet_of a).operations t ≡ Some (shown p)
 seen_is a c t p h is =
     let part : IsPartOf c t p = open_there a c t (Some p) is h in
     ap (λ (x : LogletView). operation_at x.operations t) (own_view a c h) ∙ opened_is (length c.servers) (manner_of a).left t c.operations
@@ -104,7 +104,7 @@ seen_is a c t p h is =
 pub not_at : (t q : ℕ) → (q ≡ t → ⊥) → nat_eq t q ≡ false
 not_at t q n = ne_eqb t q (λ e. n (sym e))
 
-pub kept_left : (a b : Native) (t : ℕ) → Updates nat_eq a.pending b.pending t None → FitsLeft (manner_of a).left b.pending
+pub kept_left : (a b : Native) (t : ℕ) → UpdatesAt a.pending b.pending t None → FitsLeft (manner_of a).left b.pending
 kept_left a b t u q p is waiting = by (cases_eq q t)
   where
     by : (q ≡ t) ⊎ (q ≡ t → ⊥) → (manner_of a).left q ≡ plan_left p
@@ -112,7 +112,7 @@ kept_left a b t u q p is waiting = by (cases_eq q t)
     by (inr other) = fits_own a q p (sym (u.2 q (not_at t q other)) ∙ is) waiting
 
 -- the other operations go on as they were in a cell that leaves them alone
-pub others_open : (a b : Native) (c d : Cell) (t : ℕ) → IsTied a c → Later c d → Extends c d → ((q : ℕ) → (q ≡ t → ⊥) → operation d q ≡ operation c q) → ((q : ℕ) → (q ≡ t → ⊥) → look_in b.pending q ≡ look_in a.pending q) → IsOpenAs d t (look_in b.pending t) → (q : ℕ) → IsOpenAs d q (look_in b.pending q)
+pub others_open : (a b : Native) (c d : Cell) (t : ℕ) → IsCellOf a c → Later c d → Extends c d → ((q : ℕ) → (q ≡ t → ⊥) → operation d q ≡ operation c q) → ((q : ℕ) → (q ≡ t → ⊥) → look_in b.pending q ≡ look_in a.pending q) → IsOpenAs d t (look_in b.pending t) → (q : ℕ) → IsOpenAs d q (look_in b.pending q)
 others_open a b c d t h later extends same kept here q = by (cases_eq q t)
   where
     later_as : (z : Option Pending) → (q ≡ t → ⊥) → IsOpenAs c q z → IsOpenAs d q z
@@ -138,7 +138,7 @@ pub record Keeps (a b : Native) : Type 0 where
 closes : (c : Cell) (t : ℕ) → (operation c t).closed ≡ false → forget c t ≡ put_operation c t (record (operation c t) { closed = true })
 closes c t h = rw h refl
 
-forget_tied : (a b : Native) (c : Cell) (t : ℕ) → IsTied a c → (operation c t).closed ≡ false → Keeps a b → b.marks ≡ a.marks → Updates nat_eq a.pending b.pending t None → IsTied b (cell_step c (Forget t))
+forget_tied : (a b : Native) (c : Cell) (t : ℕ) → IsCellOf a c → (operation c t).closed ≡ false → Keeps a b → b.marks ≡ a.marks → UpdatesAt a.pending b.pending t None → IsCellOf b (cell_step c (Forget t))
 forget_tied a b c t h is_open k marks u = record {
   lawful = step_lawful c (Forget t) h.lawful;
   spelled = spelled_after c (Forget t) h.spelled tt;
@@ -165,18 +165,19 @@ forget_tied a b c t h is_open k marks u = record {
     here : IsOpenAs (cell_step c (Forget t)) t (look_in b.pending t)
     here = subst (IsOpenAs (cell_step c (Forget t)) t) (sym u.1) (ap (λ (x : Cell). (operation x t).closed) is ∙ ap (λ (o : Operation). o.closed) (put_there c t (record (operation c t) { closed = true }) (open_known c t is_open)))
 
-pub forgets : (a b : Native) (c : Cell) (v : LogletView) (t : ℕ) → loglet_of a ≡ v → IsTied a c → CanCall v (CallForget t) → Keeps a b → b.marks ≡ a.marks → Updates nat_eq a.pending b.pending t None → IsTied b (cell_step c (Forget t)) × LogletStep v (CallForget t) Forgotten (loglet_of b)
+pub forgets : (a b : Native) (c : Cell) (v : LogletView) (t : ℕ) → loglet_of a ≡ v → IsCellOf a c → CanCall v (CallForget t) → Keeps a b → b.marks ≡ a.marks → UpdatesAt a.pending b.pending t None → IsCellOf b (cell_step c (Forget t)) × LogletStep v (CallForget t) Forgotten (loglet_of b)
 forgets a b c v t e h can k marks u =
     let z : (p : Pending) × (look_in a.pending t ≡ Some p) = open_is a c v t e h can in
     let part : IsPartOf c t z.0 = open_there a c t (Some z.0) z.1 h in
-    let tied : IsTied b (cell_step c (Forget t)) = forget_tied a b c t h part.shows.is_open k marks u in
+    let tied : IsCellOf b (cell_step c (Forget t)) = forget_tied a b c t h part.shows.is_open k marks u in
     (tied, call_of a b c (Forget t) v (CallForget t) Forgotten e h tied tt (ap (λ (vs : List View). length vs) k.replicas) (manner_of a).left (fits_own a) (kept_left a b t u) (manner_is a c h) (rw part.shows.is_open refl))
 
 ---- an undecided operation goes on by steps that are nobody's call
 
 -- what it is in the cell, and that less is left of it
-pub record GoesOn (a b : Native) (c : Cell) (t : ℕ) (p q : Pending) : Type 0 where
+pub record GoesOn (a b : Native) (c : Cell) (t : ℕ) (p q : Pending) (Are : List CellStep → Type 0) : Type 0 where
   pub steps : List CellStep
+  pub are : Are steps
   pub strays : AreStrays steps
   pub part : IsPartOf (run_cell steps c) t q
   pub others : (k : ℕ) → (k ≡ t → ⊥) → operation (run_cell steps c) k ≡ operation c k
@@ -186,8 +187,8 @@ pub record GoesOn (a b : Native) (c : Cell) (t : ℕ) (p q : Pending) : Type 0 w
   pub less : IsBelow (left_now q) (left_now p)
 
 -- what only steps that are nobody's call changed is a cell's still
-pub stirred_tied : (a b : Native) (c : Cell) (steps : List CellStep) → IsTied a c → AreStrays steps → (run_cell steps c).servers ≡ map server_in b.replicas → counted (length (run_cell steps c).faults) ≡ b.marks.faults
-    → b.room ≡ a.room → b.entries ≡ a.entries → b.marks ≡ record a.marks { faults = b.marks.faults } → ((t : ℕ) → IsOpenAs (run_cell steps c) t (look_in b.pending t)) → IsTied b (run_cell steps c)
+pub stirred_tied : (a b : Native) (c : Cell) (steps : List CellStep) → IsCellOf a c → AreStrays steps → (run_cell steps c).servers ≡ map server_in b.replicas → counted (length (run_cell steps c).faults) ≡ b.marks.faults
+    → b.room ≡ a.room → b.entries ≡ a.entries → b.marks ≡ record a.marks { faults = b.marks.faults } → ((t : ℕ) → IsOpenAs (run_cell steps c) t (look_in b.pending t)) → IsCellOf b (run_cell steps c)
 stirred_tied a b c steps h strays servers faults room entries marks operations = record {
   lawful = run_lawful steps c h.lawful;
   spelled = run_spelled steps c strays h.spelled;
@@ -212,15 +213,15 @@ stirred_tied a b c steps h strays servers faults room entries marks operations =
     s = run_stirs (manner_of a).left (manner_of a).left steps c strays (λ k. inr (refl, omega arith))
 
 -- all operations stay what they are in a cell that leaves them alone
-pub all_open : (a : Native) (c d : Cell) → IsTied a c → Later c d → Extends c d → ((q : ℕ) → operation d q ≡ operation c q) → (q : ℕ) → IsOpenAs d q (look_in a.pending q)
+pub all_open : (a : Native) (c d : Cell) → IsCellOf a c → Later c d → Extends c d → ((q : ℕ) → operation d q ≡ operation c q) → (q : ℕ) → IsOpenAs d q (look_in a.pending q)
 all_open a c d h later extends same q = by (look_in a.pending q) (h.operations q)
   where
     by : (z : Option Pending) → IsOpenAs c q z → IsOpenAs d q z
     by None o = ap (λ (x : Operation). x.closed) (same q) ∙ o
     by (Some p) o = part_later c d q p later extends (same q) o
 
-pub carry_tied : (a b : Native) (c : Cell) (t : ℕ) (p q : Pending) → IsTied a c → (g : GoesOn a b c t p q) → b.room ≡ a.room → b.entries ≡ a.entries → b.marks ≡ record a.marks { faults = b.marks.faults } → look_in b.pending t ≡ Some q → ((k : ℕ) → (k ≡ t → ⊥) → look_in b.pending k ≡ look_in a.pending k) → IsTied b (run_cell g.steps c)
-carry_tied a b c t p q h g room entries marks is kept = stirred_tied a b c g.steps h g.strays g.servers g.faults room entries marks (others_open a b c (run_cell g.steps c) t h (run_later g.steps c) g.extends g.others kept (subst (IsOpenAs (run_cell g.steps c) t) (sym is) g.part))
+pub carry_tied : (a b : Native) (c : Cell) (t : ℕ) (p q : Pending) (Are : List CellStep → Type 0) → IsCellOf a c → (g : GoesOn a b c t p q Are) → b.room ≡ a.room → b.entries ≡ a.entries → b.marks ≡ record a.marks { faults = b.marks.faults } → look_in b.pending t ≡ Some q → ((k : ℕ) → (k ≡ t → ⊥) → look_in b.pending k ≡ look_in a.pending k) → IsCellOf b (run_cell g.steps c)
+carry_tied a b c t p q Are h g room entries marks is kept = stirred_tied a b c g.steps h g.strays g.servers g.faults room entries marks (others_open a b c (run_cell g.steps c) t h (run_later g.steps c) g.extends g.others kept (subst (IsOpenAs (run_cell g.steps c) t) (sym is) g.part))
 
 -- no more is left of any
 nearer_in : (z y : Option Pending) (p q : Pending) → z ≡ Some p → y ≡ Some q → p.outcome ≡ None → 0 < (plan_left p).1 → IsBelow (left_now q) (left_now p) → IsAtMost (left_in y) (left_in z)
@@ -241,10 +242,10 @@ nearer_in z y p q e f waiting some less = rw (e, f) (by q.outcome refl)
     by None x = rw (x, waiting) (below (plan_left q) (plan_left p) (rw (x, waiting) at less))
     by (Some o) x = rw (x, waiting) (least (plan_left p) some)
 
-pub carries : (a b : Native) (c : Cell) (v : LogletView) (t word : ℕ) (p q : Pending) → loglet_of a ≡ v → IsTied a c → CanCall v (CallCarry t word) → (g : GoesOn a b c t p q) → b.room ≡ a.room → b.entries ≡ a.entries → length b.replicas ≡ length a.replicas → b.marks ≡ record a.marks { faults = b.marks.faults }
-    → look_in a.pending t ≡ Some p → p.outcome ≡ None → look_in b.pending t ≡ Some q → ((k : ℕ) → (k ≡ t → ⊥) → look_in b.pending k ≡ look_in a.pending k) → IsTied b (run_cell g.steps c) × LogletStep v (CallCarry t word) Carried (loglet_of b)
-carries a b c v t word p q e h can g room entries many marks was waiting is kept =
-    let tied : IsTied b (run_cell g.steps c) = carry_tied a b c t p q h g room entries marks is kept in
+pub carries : (a b : Native) (c : Cell) (v : LogletView) (t word : ℕ) (p q : Pending) (Are : List CellStep → Type 0) → loglet_of a ≡ v → IsCellOf a c → CanCall v (CallCarry t word) → (g : GoesOn a b c t p q Are) → b.room ≡ a.room → b.entries ≡ a.entries → length b.replicas ≡ length a.replicas → b.marks ≡ record a.marks { faults = b.marks.faults }
+    → look_in a.pending t ≡ Some p → p.outcome ≡ None → look_in b.pending t ≡ Some q → ((k : ℕ) → (k ≡ t → ⊥) → look_in b.pending k ≡ look_in a.pending k) → IsCellOf b (run_cell g.steps c) × LogletStep v (CallCarry t word) Carried (loglet_of b)
+carries a b c v t word p q Are e h can g room entries many marks was waiting is kept =
+    let tied : IsCellOf b (run_cell g.steps c) = carry_tied a b c t p q Are h g room entries marks is kept in
     let small : length c.entries ≤ 2 ^ 32 = omega (arith, h.lawful.law.quorum.fits, h.lawful.shape.room.1) in
     let bound : IsBounded (length c.servers) p = bounded c t p (open_there a c t (Some p) was h) waiting small in
     let moved : Moves (cell_view (manner_of a) c) (cell_view (record (manner_of a) { left = (manner_of b).left }) (run_cell g.steps c)) = run_moves (manner_of a) (manner_of b).left g.steps c g.strays (near bound.some) in

@@ -1,7 +1,7 @@
 -- An answer is taken: it is what the client of the cell's operation is told.
-use Rattle.std.proofs.Common.{◌≡◌, ℕ, ◌+◌, ◌^◌, ◌<◌, ◌≤◌, Bool, true, false, cond, nat_eq, refl, sym, ◌∙◌, ap, subst, arith, [], ◌∷◌, length, set, Option, Some, None, max}
+use Rattle.std.proofs.Common.{◌≡◌, ℕ, ◌+◌, ◌^◌, ◌<◌, ◌≤◌, Bool, true, false, cond, refl, sym, ◌∙◌, ap, subst, arith, [], ◌∷◌, length, set, Option, Some, None, max}
 use Rattle.std.specs.Prelude.{is_some, IsSome, nat_lt, slice_get, count_by, option_map, if◌then◌else◌}
-use Rattle.std.specs.HashMap.{Updates}
+use Rattle.native_loglet.specs.Natives.{UpdatesAt}
 use Rattle.std.proofs.lemmas.Bool.{false≢true, true≢false}
 use Rattle.std.proofs.lemmas.Option.{same_Some}
 use Rattle.std.proofs.lemmas.List.{length-set}
@@ -13,7 +13,7 @@ use Rattle.loglet_api.specs.declared.call.Task.{Task}
 use Rattle.loglet_api.specs.declared.call.Task.TheVariants.{Reading}
 use Rattle.loglet_api.specs.declared.call.LogletCall.TheVariants.{Take as CallTake}
 use Rattle.loglet_api.specs.declared.call.LogletAnswer.TheVariants.{Taken}
-use Rattle.loglet_api.specs.View.{LogletView, size_of}
+use Rattle.loglet_api.specs.View.{LogletView, size_of, IsOpen}
 use Rattle.loglet_api.specs.Sound.{IsSound}
 use Rattle.loglet_api.specs.Step.{LogletStep, CanCall, IsUndecidedAt, task_of, wanted_by, told_reach, told_firm, told_cap, told_lacks}
 use Rattle.quorum_cell.specs.declared.operation.Aim.{Aim}
@@ -40,12 +40,13 @@ use Rattle.native_ties.specs.Parts.{IsPartOf, HasFound, IsBounded}
 use Rattle.native_ties.proofs.Bounds.{bounded}
 use Rattle.native_ties.proofs.Hearing.{put_there, put_other}
 use Rattle.native_loglet.specs.declared.closing.Decided.{Decided}
-use Rattle.native_loglet.specs.Natives.{Native, PendingMap, shown, look_in, loglet_of, manner_of, IsOpenAs, IsTied}
+use Rattle.native_loglet.specs.Steps.{Reaches}
+use Rattle.native_loglet.specs.Natives.{Native, PendingList, shown, look_in, loglet_of, manner_of, IsOpenAs, IsCellOf}
 use Rattle.native_loglet.specs.Closing.{TakesOut, Waits, answer_by, is_cut, answer_for}
 use Rattle.native_loglet.proofs.Viewing.{fits_own, manner_is}
 use Rattle.native_loglet.proofs.Extending.{run_extends}
 use Rattle.native_loglet.proofs.Stepping.{tied_sound, call_of, open_is, open_there, seen_is, not_at, kept_left, others_open}
-use Rattle.native_loglet.proofs.Alike.{IsOwned, Alike, step_alike}
+use Rattle.native_loglet.proofs.Alike.{IsOwned, Alike, alike_tied, step_alike}
 
 ---- what it is answered
 
@@ -118,7 +119,7 @@ answer_is c t p cut d law part cuts task size firm got outcome =
 ---- it is given
 
 -- the loglet after an answer was given to an operation that speaks of a length
-abbrev pub taken_to : Native → PendingMap → Answer → ℕ → Native
+abbrev pub taken_to : Native → PendingList → Answer → ℕ → Native
 taken_to a n y size = record a { pending = n; marks = record a.marks { reach = max a.marks.reach (told_reach size y); firm = max a.marks.firm (told_firm size y); cap = told_cap y a.marks.cap; lacks = a.marks.lacks + told_lacks y } }
 
 take_is : (c : Cell) (t : ℕ) (x : Outcome) → (operation c t).closed ≡ false → (operation c t).decided ≡ Some x → cell_step c (Take t) ≡ give c t (operation c t) (Some x)
@@ -128,7 +129,7 @@ take_is c t x h z = by (operation c t).closed h ∙ ap (give c t (operation c t)
     by true e = absurd (true≢false e)
     by false e = refl
 
-module _ (a : Native) (n : PendingMap) (c : Cell) (t : ℕ) (p : Pending) (x : Outcome) (y : Answer) (size : ℕ) (h : IsTied a c) (part : IsPartOf c t p) (outcome : p.outcome ≡ Some x) (u : Updates nat_eq a.pending n t None)
+module _ (a : Native) (n : PendingList) (c : Cell) (t : ℕ) (p : Pending) (x : Outcome) (y : Answer) (size : ℕ) (h : IsCellOf a c) (part : IsPartOf c t p) (outcome : p.outcome ≡ Some x) (u : UpdatesAt a.pending n t None)
     (z : Tells (manner_of a) c t (operation c t).aim x (given_outcome c.cut (operation c t).aim x)) (same : z.answer ≡ y) (sized : wanted_by p.task p.size ≡ size) where
   is : cell_step c (Take t) ≡ give c t (operation c t) (Some x)
   is = take_is c t x part.shows.is_open (part.outcome ∙ outcome)
@@ -159,7 +160,7 @@ module _ (a : Native) (n : PendingMap) (c : Cell) (t : ℕ) (p : Pending) (x : O
   here : IsOpenAs (cell_step c (Take t)) t (look_in n t)
   here = subst (IsOpenAs (cell_step c (Take t)) t) (sym u.1) (ap (λ (d : Cell). (operation d t).closed) is ∙ ap (λ (o : Operation). o.closed) (put_there c t (given_to c t x) known))
 
-  pub take_tied : IsTied (taken_to a n y size) (cell_step c (Take t))
+  pub take_tied : IsCellOf (taken_to a n y size) (cell_step c (Take t))
   take_tied = record {
     lawful = step_lawful c (Take t) h.lawful;
     spelled = spelled_after c (Take t) h.spelled tt;
@@ -180,18 +181,18 @@ module _ (a : Native) (n : PendingMap) (c : Cell) (t : ℕ) (p : Pending) (x : O
     operations = others_open a (taken_to a n y size) c (cell_step c (Take t)) t h (step_later c (Take t)) (run_extends (Take t ∷ []) c) (λ q other. ap (λ (d : Cell). operation d q) is ∙ put_other c t q (given_to c t x) other) (λ q other. u.2 q (not_at t q other)) here;
   }
 
-tells_of : (a : Native) (c : Cell) (t : ℕ) (p : Pending) (x : Outcome) → IsTied a c → IsPartOf c t p → p.outcome ≡ Some x → Tells (manner_of a) c t (operation c t).aim x (given_outcome c.cut (operation c t).aim x)
+tells_of : (a : Native) (c : Cell) (t : ℕ) (p : Pending) (x : Outcome) → IsCellOf a c → IsPartOf c t p → p.outcome ≡ Some x → Tells (manner_of a) c t (operation c t).aim x (given_outcome c.cut (operation c t).aim x)
 tells_of a c t p x h part outcome = tells (manner_of a) c h.lawful t (operation c t).aim refl x ((h.lawful.law.quorum.operations t).justified x (part.outcome ∙ outcome)) (outcome_holds c h.lawful.law.quorum t x (part.outcome ∙ outcome))
 
 -- what an operation of the cell that was taken out is
-record Out (a : Native) (n : PendingMap) (c : Cell) (t : ℕ) (d : Decided) (y : Answer) (size : ℕ) : Type 0 where
+record Out (a : Native) (n : PendingList) (c : Cell) (t : ℕ) (d : Decided) (y : Answer) (size : ℕ) : Type 0 where
   p : Pending
   part : IsPartOf c t p
   outcome : p.outcome ≡ Some d.outcome
   answer : answer_of c.cut (operation c t) (operation c t).aim (given_outcome c.cut (operation c t).aim d.outcome) ≡ Some y
-  tied : IsTied (taken_to a n y size) (cell_step c (Take t))
+  tied : IsCellOf (taken_to a n y size) (cell_step c (Take t))
 
-out_of : (a : Native) (n : PendingMap) (c : Cell) (t : ℕ) (d : Decided) (y : Answer) (size : ℕ) → IsTied a c → TakesOut a.pending t d n → Some y ≡ answer_for a.marks.cut d → size ≡ wanted_by d.task d.size → Out a n c t d y size
+out_of : (a : Native) (n : PendingList) (c : Cell) (t : ℕ) (d : Decided) (y : Answer) (size : ℕ) → IsCellOf a c → TakesOut a.pending t d n → Some y ≡ answer_for a.marks.cut d → size ≡ wanted_by d.task d.size → Out a n c t d y size
 out_of a n c t d y size h o answers sized =
     let part : IsPartOf c t o.p = open_there a c t (Some o.p) o.was h in
     let told = tells_of a c t o.p d.outcome h part o.outcome in
@@ -207,7 +208,7 @@ out_of a n c t d y size h o answers sized =
     }
 
 -- an answer is taken, whole
-pub takes_owned : (a : Native) (n : PendingMap) (v : LogletView) (t : ℕ) (d : Decided) (y : Answer) (size : ℕ) → loglet_of a ≡ v → IsOwned a → CanCall v (CallTake t) → TakesOut a.pending t d n → Some y ≡ answer_for a.marks.cut d → size ≡ wanted_by d.task d.size
+pub takes_owned : (a : Native) (n : PendingList) (v : LogletView) (t : ℕ) (d : Decided) (y : Answer) (size : ℕ) → loglet_of a ≡ v → IsOwned a → CanCall v (CallTake t) → TakesOut a.pending t d n → Some y ≡ answer_for a.marks.cut d → size ≡ wanted_by d.task d.size
     → IsOwned (taken_to a n y size) × LogletStep v (CallTake t) (Taken (Some y)) (loglet_of (taken_to a n y size))
 takes_owned a n v t d y size e h can o answers sized =
     let x : Out a n h.0 t d y size = out_of a n h.0 t d y size h.1 o answers sized in
@@ -217,8 +218,14 @@ takes_owned a n v t d y size e h can o answers sized =
           (rw (x.part.shows.is_open, decided) refl),
     )
 
+pub takes_in : (a : Native) (n : PendingList) (t : ℕ) (d : Decided) (y : Answer) (size : ℕ) (c : Cell) → IsCellOf a c → TakesOut a.pending t d n → Some y ≡ answer_for a.marks.cut d → size ≡ wanted_by d.task d.size
+    → Reaches a c (CallTake t) (Taken (Some y)) (taken_to a n y size)
+takes_in a n t d y size c h o answers sized =
+    let x : Out a n c t d y size = out_of a n c t d y size h o answers sized in
+    record { steps = Take t ∷ []; are = (ap (taken c.cut (operation c t)) (x.part.outcome ∙ x.outcome) ∙ x.answer, refl); cell = x.tied }
+
 -- the lengths that are told fit words
-pub taken_small : (a : Native) (n : PendingMap) (t : ℕ) (d : Decided) (y : Answer) (size : ℕ) → IsOwned a → TakesOut a.pending t d n → Some y ≡ answer_for a.marks.cut d → size ≡ wanted_by d.task d.size
+pub taken_small : (a : Native) (n : PendingList) (t : ℕ) (d : Decided) (y : Answer) (size : ℕ) → IsOwned a → TakesOut a.pending t d n → Some y ≡ answer_for a.marks.cut d → size ≡ wanted_by d.task d.size
     → (told_reach size y < 2 ^ 64) × (told_firm size y < 2 ^ 64) × (a.marks.lacks + 1 < 2 ^ 64)
 taken_small a n t d y size h o answers sized =
     let x : Out a n h.0 t d y size = out_of a n h.0 t d y size h.1 o answers sized in
@@ -232,13 +239,13 @@ taken_small a n t d y size h o answers sized =
     let begun_few : a.marks.begun ≤ 2 ^ 62 = before.begun in
     (omega (arith, reach, firm, within, room), omega (arith, firm, within, room), omega (arith, lacks_few, begun_few))
 
-pub size_small : (a : Native) (n : PendingMap) (t : ℕ) (d : Decided) → IsOwned a → TakesOut a.pending t d n → d.size + 1 < 2 ^ 64
+pub size_small : (a : Native) (n : PendingList) (t : ℕ) (d : Decided) → IsOwned a → TakesOut a.pending t d n → d.size + 1 < 2 ^ 64
 size_small a n t d h o =
     let part : IsPartOf h.0 t o.p = open_there a h.0 t (Some o.p) o.was h.1 in
     let size : (operation h.0 t).size_before ≤ length h.0.entries = (h.1.lawful.law.quorum.operations t).size in
     omega (arith, size, part.shows.size, o.size, h.1.lawful.law.quorum.fits, h.1.lawful.shape.room.1)
 
-pub found_got : (a : Native) (n : PendingMap) (t : ℕ) (d : Decided) → IsOwned a → TakesOut a.pending t d n → d.outcome ≡ Found → IsSome d.got
+pub found_got : (a : Native) (n : PendingList) (t : ℕ) (d : Decided) → IsOwned a → TakesOut a.pending t d n → d.outcome ≡ Found → IsSome d.got
 found_got a n t d h o found =
     let part : IsPartOf h.0 t o.p = open_there a h.0 t (Some o.p) o.was h.1 in
     ap is_some (sym o.got ∙ (part.found (o.outcome ∙ ap (λ y. Some y) found)).got)
@@ -255,3 +262,9 @@ waits_owned a b v t e h can k waits =
     let some : 0 < (left_now z.0).0 + (left_now z.0).1 = subst (λ (l : ℕ × ℕ). 0 < l.0 + l.1) (sym left) (omega (arith, bound.some)) in
     let undecided : IsUndecidedAt (loglet_of a) t = record { operation = shown z.0; is = seen_is a h.0 t z.0 h.1 z.1; undecided = some } in
     step_alike a b v (CallTake t) (Taken None) e h k can (undecided, refl)
+
+pub waits_in : (a b : Native) (t : ℕ) (c : Cell) → IsCellOf a c → IsOpen (loglet_of a) t → Alike a b → Waits a.pending t → Reaches a c (CallTake t) (Taken None) b
+waits_in a b t c h can k waits =
+    let z : (p : Pending) × (look_in a.pending t ≡ Some p) = open_is a c (loglet_of a) t refl h can in
+    let part : IsPartOf c t z.0 = open_there a c t (Some z.0) z.1 h in
+    record { steps = []; are = (ap (taken c.cut (operation c t)) (part.outcome ∙ waits z.0 z.1), refl); cell = alike_tied a b c k h }

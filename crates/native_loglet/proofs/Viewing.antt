@@ -14,7 +14,7 @@ use Rattle.native_plan.specs.declared.pending.Pending.{Pending}
 use Rattle.native_plan.specs.Pendings.{plan_left, left_by}
 use Rattle.native_ties.specs.Parts.{IsPartOf, IsBounded}
 use Rattle.native_ties.proofs.Bounds.{bounded}
-use Rattle.native_loglet.specs.Natives.{Native, PendingMap, server_in, down_in, shut_in, shown, shown_by, shown_from, look_in, loglet_of, left_for, left_in, manner_of, IsOpenAs, IsTied}
+use Rattle.native_loglet.specs.Natives.{Native, PendingList, server_in, down_in, shut_in, shown, shown_by, shown_from, look_in, loglet_of, left_for, left_in, manner_of, IsOpenAs, IsCellOf}
 
 ---- servers are counted as votes
 
@@ -44,7 +44,7 @@ shown_is n left look t (o ∷ os) h = both (look t) head (shown_is n left look (
     both (Some p) e r = rw (e.0, e.1, r) refl
 
 -- what is left of each open operation that is undecided
-abbrev pub FitsLeft : (ℕ → ℕ × ℕ) → PendingMap → Type 0
+abbrev pub FitsLeft : (ℕ → ℕ × ℕ) → PendingList → Type 0
 FitsLeft left pending = (t : ℕ) (p : Pending) → look_in pending t ≡ Some p → p.outcome ≡ None → left t ≡ plan_left p
 
 left_is : (z : Option Outcome) (l m : ℕ × ℕ) → (z ≡ None → l ≡ m) → left_of z l ≡ left_by z m
@@ -60,18 +60,18 @@ open_shown : (c : Cell) (left : ℕ → ℕ × ℕ) (t : ℕ) (z : Option Pendin
 open_shown c left t None fits h = h
 open_shown c left t (Some p) fits h = (h.shows.is_open, part_shown c t p (left t) (fits p refl) h)
 
-operations_are : (a : Native) (c : Cell) (left : ℕ → ℕ × ℕ) → FitsLeft left a.pending → IsTied a c → shown_from (look_in a.pending) 0 a.marks.begun ≡ open_from (length c.servers) left 0 c.operations
+operations_are : (a : Native) (c : Cell) (left : ℕ → ℕ × ℕ) → FitsLeft left a.pending → IsCellOf a c → shown_from (look_in a.pending) 0 a.marks.begun ≡ open_from (length c.servers) left 0 c.operations
 operations_are a c left fits h = ap (shown_from (look_in a.pending) 0) (sym h.begun) ∙ shown_is (length c.servers) left (look_in a.pending) 0 c.operations (λ j. (let here : 0 + j ≡ j = omega arith in subst (λ k. IsShown (length c.servers) left k (get_or c.operations j no_operation) (look_in a.pending k)) (sym here) (open_shown c left j (look_in a.pending j) (fits j) (h.operations j))))
 
 ---- what it shows
 
-pub servers_many : (a : Native) (c : Cell) → IsTied a c → length a.replicas ≡ length c.servers
+pub servers_many : (a : Native) (c : Cell) → IsCellOf a c → length a.replicas ≡ length c.servers
 servers_many a c h = sym (length-map a.replicas server_in) ∙ sym (ap (λ (ss : List Server). length ss) h.servers)
 
-pub down_is : (a : Native) (c : Cell) → IsTied a c → down_in a.replicas ≡ votes_below (length c.servers) (λ i. not (get_or c.servers i no_server).up)
+pub down_is : (a : Native) (c : Cell) → IsCellOf a c → down_in a.replicas ≡ votes_below (length c.servers) (λ i. not (get_or c.servers i no_server).up)
 down_is a c h = count_servers (λ s. not s.up) a.replicas ∙ ap (λ (ss : List Server). votes_below (length ss) (λ i. not (get_or ss i no_server).up)) (sym h.servers)
 
-pub shut_is : (a : Native) (c : Cell) → IsTied a c → shut_in a.replicas ≡ is_majority (length c.servers) (λ i. is_sealed (get_or c.servers i no_server))
+pub shut_is : (a : Native) (c : Cell) → IsCellOf a c → shut_in a.replicas ≡ is_majority (length c.servers) (λ i. is_sealed (get_or c.servers i no_server))
 shut_is a c h =
     let counted : count_by (λ (v : View). is_sealed v.server) a.replicas ≡ votes_below (length c.servers) (λ i. is_sealed (get_or c.servers i no_server)) = count_servers is_sealed a.replicas ∙ ap (λ (ss : List Server). votes_below (length ss) (λ i. is_sealed (get_or ss i no_server))) (sym h.servers) in
     rw (servers_many a c h, counted) refl
@@ -80,7 +80,7 @@ shut_is a c h =
 abbrev pub manner_with : Native → (ℕ → ℕ × ℕ) → Manner
 manner_with a left = record (manner_of a) { left = left }
 
-pub view_is : (a : Native) (c : Cell) (left : ℕ → ℕ × ℕ) → FitsLeft left a.pending → IsTied a c → loglet_of a ≡ cell_view (manner_with a left) c
+pub view_is : (a : Native) (c : Cell) (left : ℕ → ℕ × ℕ) → FitsLeft left a.pending → IsCellOf a c → loglet_of a ≡ cell_view (manner_with a left) c
 view_is a c left fits h =
     let many : length a.replicas ≡ length c.servers = servers_many a c h in
     let down_same = down_is a c h in
@@ -120,7 +120,7 @@ left_bound n (Some p) some h = by p.outcome refl
     by None e = (let b = h p refl e in (omega (arith, b.some), b.first, b.second))
     by (Some x) e = (omega arith, omega arith, omega (arith, some))
 
-pub manner_is : (a : Native) (c : Cell) → IsTied a c → IsManner (length c.servers) (manner_of a)
+pub manner_is : (a : Native) (c : Cell) → IsCellOf a c → IsManner (length c.servers) (manner_of a)
 manner_is a c h = record {
   rounds = omega arith;
   undecided = λ t. (bound t).0;

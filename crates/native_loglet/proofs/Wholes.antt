@@ -1,7 +1,7 @@
 -- Each call of a native loglet, by its fields.
-use Rattle.std.proofs.Common.{◌≡◌, ℕ, ◌+◌, ◌-◌, ◌^◌, ◌<◌, Bool, true, false, nat_eq, sym, subst, List, ◌++◌, length, get_or, set, Some, min, max}
+use Rattle.std.proofs.Common.{◌≡◌, ℕ, ◌+◌, ◌-◌, ◌^◌, ◌<◌, Bool, true, false, sym, subst, List, ◌++◌, length, get_or, set, Some, min, max}
 use Rattle.std.specs.Prelude.{not}
-use Rattle.std.specs.HashMap.{Updates}
+use Rattle.native_loglet.specs.Natives.{UpdatesAt}
 use Rattle.delos_types.specs.declared.entry.Entry.{Entry}
 use Rattle.loglet_api.specs.declared.call.Answer.{Answer}
 use Rattle.loglet_api.specs.declared.call.Op.{Op}
@@ -18,7 +18,7 @@ use Rattle.native_plan.specs.declared.pending.Pending.{Pending}
 use Rattle.native_loglet.specs.declared.marks.Marks.{Marks}
 use Rattle.native_loglet.specs.declared.closing.Decided.{Decided}
 use Rattle.native_loglet.specs.Faults.{faults_after}
-use Rattle.native_loglet.specs.Natives.{Native, PendingMap, look_in, loglet_of}
+use Rattle.native_loglet.specs.Natives.{Native, PendingList, look_in, loglet_of}
 use Rattle.native_loglet.specs.Moving.{BeginsOn, CarriesAt}
 use Rattle.native_loglet.specs.Closing.{TakesOut, answer_for}
 use Rattle.native_loglet.proofs.Alike.{IsOwned}
@@ -31,12 +31,12 @@ use Rattle.native_loglet.proofs.Beginning.{IsFullFor, start_of, refuses_owned, b
 abbrev pub LedTo : LogletView → LogletCall → LogletAnswer → Native → Type 0
 LedTo v call answer b = IsOwned b × LogletStep v call answer (loglet_of b)
 
-pub takes_whole : (a : Native) (n : PendingMap) (marks : Marks) (v : LogletView) (t : ℕ) (d : Decided) (y : Answer) (size : ℕ) → loglet_of a ≡ v → IsOwned a → CanCall v (CallTake t) → TakesOut a.pending t d n → Some y ≡ answer_for a.marks.cut d → size ≡ wanted_by d.task d.size
+pub takes_whole : (a : Native) (n : PendingList) (marks : Marks) (v : LogletView) (t : ℕ) (d : Decided) (y : Answer) (size : ℕ) → loglet_of a ≡ v → IsOwned a → CanCall v (CallTake t) → TakesOut a.pending t d n → Some y ≡ answer_for a.marks.cut d → size ≡ wanted_by d.task d.size
     → marks ≡ record a.marks { reach = max a.marks.reach (told_reach size y); firm = max a.marks.firm (told_firm size y); cap = told_cap y a.marks.cap; lacks = a.marks.lacks + told_lacks y } → LedTo v (CallTake t) (Taken (Some y)) (record a { pending = n; marks = marks })
 takes_whole a n marks v t d y size e h can o answers sized is = subst (λ (x : Marks). LedTo v (CallTake t) (Taken (Some y)) (record a { pending = n; marks = x })) (sym is) (takes_owned a n v t d y size e h can o answers sized)
 
-pub carries_whole : (a : Native) (ws : List View) (n : PendingMap) (marks : Marks) (v : LogletView) (t word : ℕ) (failed : Bool) → loglet_of a ≡ v → IsOwned a → CanCall v (CallCarry t word)
-    → ((p : Pending) → look_in a.pending t ≡ Some p → CarriesAt a.entries a.marks.cut t p a.pending n a.replicas ws failed) → marks ≡ record a.marks { faults = faults_after failed a.marks.faults }
+pub carries_whole : (a : Native) (ws : List View) (n : PendingList) (marks : Marks) (v : LogletView) (t word : ℕ) (failed : Bool) → loglet_of a ≡ v → IsOwned a → CanCall v (CallCarry t word)
+    → ((p : Pending) → look_in a.pending t ≡ Some p → CarriesAt a.entries a.marks.cut t word p a.pending n a.replicas ws failed) → marks ≡ record a.marks { faults = faults_after failed a.marks.faults }
     → LedTo v (CallCarry t word) Carried (record a { replicas = ws; pending = n; marks = marks })
 carries_whole a ws n marks v t word failed e h can moved is = subst (λ (x : Marks). LedTo v (CallCarry t word) Carried (record a { replicas = ws; pending = n; marks = x })) (sym is) (carries_owned a ws n v t word failed e h can moved)
 
@@ -48,8 +48,8 @@ restarts_whole a marks v i word was is up e h here there calm rose failed m = su
 pub refuses_whole : (a : Native) (marks : Marks) (v : LogletView) (op : Op) → loglet_of a ≡ v → IsOwned a → CanCall v (CallBegin op) → IsFullFor a op → marks ≡ record a.marks { faults = min (a.marks.faults + 1) (2 ^ 64 - 1) } → LedTo v (CallBegin op) (Refusal Full) (record a { marks = marks })
 refuses_whole a marks v op e h can full is = subst (λ (x : Marks). LedTo v (CallBegin op) (Refusal Full) (record a { marks = x })) (sym is) (refuses_owned a v op e h can full)
 
-pub begins_whole : (a : Native) (es : List Entry) (marks : Marks) (v : LogletView) (op : Op) (p : Pending) (n : PendingMap) → loglet_of a ≡ v → IsOwned a → CanCall v (CallBegin op) → (IsFullFor a op → ⊥) → BeginsOn a.replicas op (start_of a op) (cut_by op a.marks.cut a.marks.reach) p
-    → Updates nat_eq a.pending n a.marks.begun (Some p) → es ≡ a.entries ++ entries_of op → marks ≡ record a.marks { cut = cut_by op a.marks.cut a.marks.reach; begun = a.marks.begun + 1; seals = a.marks.seals + seals_of op }
+pub begins_whole : (a : Native) (es : List Entry) (marks : Marks) (v : LogletView) (op : Op) (p : Pending) (n : PendingList) → loglet_of a ≡ v → IsOwned a → CanCall v (CallBegin op) → (IsFullFor a op → ⊥) → BeginsOn a.replicas op (start_of a op) (cut_by op a.marks.cut a.marks.reach) p
+    → UpdatesAt a.pending n a.marks.begun (Some p) → es ≡ a.entries ++ entries_of op → marks ≡ record a.marks { cut = cut_by op a.marks.cut a.marks.reach; begun = a.marks.begun + 1; seals = a.marks.seals + seals_of op }
     → LedTo v (CallBegin op) (Begun a.marks.begun) (record a { entries = es; pending = n; marks = marks })
 begins_whole a es marks v op p n e h can space b u entries is =
     subst (λ (xs : List Entry). LedTo v (CallBegin op) (Begun a.marks.begun) (record a { entries = xs; pending = n; marks = marks })) (sym entries)

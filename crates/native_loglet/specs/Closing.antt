@@ -1,6 +1,6 @@
 -- How an operation is taken, and what it is answered.
-use Rattle.std.specs.Prelude.{◌≡◌, ℕ, nat_eq, nat_lt, Bool, false, if◌then◌else◌, Option, None, Some, option_map}
-use Rattle.std.specs.HashMap.{Updates}
+use Rattle.std.specs.Prelude.{◌≡◌, ℕ, nat_lt, Bool, false, if◌then◌else◌, Option, None, Some, option_map}
+use Rattle.native_loglet.specs.Natives.{UpdatesAt}
 use Rattle.delos_types.specs.declared.entry.Entry.{Entry}
 use Rattle.loglet_api.specs.declared.call.Answer.{Answer}
 use Rattle.loglet_api.specs.declared.call.Answer.TheVariants.{Placed, Settled, OpenTail as TailOpen, SealedTail as TailSealed, SealDone, Got, CutAt, Beyond as PastFirm, TrimDone as Trimmed, Sealed, NoQuorum as Lacking}
@@ -10,10 +10,10 @@ use Rattle.quorum_cell.specs.declared.operation.Outcome.{Outcome}
 use Rattle.quorum_cell.specs.declared.operation.Outcome.TheVariants.{Reached, OpenTail, SealedTail, Shut, Found, Gone, Beyond, TrimDone, NoQuorum}
 use Rattle.native_plan.specs.declared.pending.Pending.{Pending}
 use Rattle.native_loglet.specs.declared.closing.Decided.{Decided}
-use Rattle.native_loglet.specs.Natives.{PendingMap, look_in}
+use Rattle.native_loglet.specs.Natives.{PendingList, look_in}
 
 -- the operation of the ticket is taken out, with what it came to
-pub record TakesOut (old : PendingMap) (t : ℕ) (decided : Decided) (new : PendingMap) : Type 0 where
+pub record TakesOut (old : PendingList) (t : ℕ) (decided : Decided) (new : PendingList) : Type 0 where
   pub p : Pending
   pub was : look_in old t ≡ Some p
   pub task : p.task ≡ decided.task
@@ -21,10 +21,10 @@ pub record TakesOut (old : PendingMap) (t : ℕ) (decided : Decided) (new : Pend
   pub firm : p.firm ≡ decided.firm
   pub got : p.got ≡ decided.got
   pub outcome : p.outcome ≡ Some decided.outcome
-  pub rest : Updates nat_eq old new t None
+  pub rest : UpdatesAt old new t None
 
 -- the operation of the ticket isn't decided
-abbrev pub Waits : PendingMap → ℕ → Type 0
+abbrev pub Waits : PendingList → ℕ → Type 0
 Waits pending t = (p : Pending) → look_in pending t ≡ Some p → p.outcome ≡ None
 
 abbrev pub placed_for : Task → ℕ → Answer

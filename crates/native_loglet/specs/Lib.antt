@@ -4,3 +4,6 @@ pub mod Closing
 pub mod Opening
 pub mod Faults
 pub mod Telling
+pub mod Steps
+pub mod Standing
+pub mod Disks

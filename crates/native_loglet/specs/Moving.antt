@@ -3,6 +3,7 @@ use Rattle.std.specs.Prelude.{◌≡◌, ◌⊎◌, ℕ, ◌^◌, ◌<◌, ◌�
 use Rattle.delos_types.specs.declared.entry.Entry.{Entry}
 use Rattle.fate_words.specs.declared.fates.Fate.{Fate}
 use Rattle.fate_words.specs.declared.fates.Fate.TheVariants.{Lose}
+use Rattle.fate_words.specs.Words.{fate_of, pick_of}
 use Rattle.loglet_api.specs.declared.call.Op.{Op}
 use Rattle.quorum_cell.specs.declared.message.Ask.{Ask}
 use Rattle.quorum_cell.specs.declared.message.Told.{Told}
@@ -17,10 +18,10 @@ use Rattle.native_plan.specs.declared.pending.Start.{Start}
 use Rattle.native_plan.specs.declared.message.Errand.{Errand}
 use Rattle.native_plan.specs.declared.message.Message.TheVariants.{Asked, Told as Answered}
 use Rattle.native_plan.specs.declared.message.Phase.TheVariants.{Reading}
-use Rattle.native_plan.specs.Members.{no_member, new_member, is_out}
+use Rattle.native_plan.specs.Members.{no_member, new_member, is_out, nth_out}
 use Rattle.native_plan.specs.Pendings.{Answers, Hears, Loses, Begins}
 use Rattle.native_ties.specs.Parts.{asked_by}
-use Rattle.native_loglet.specs.Natives.{server_in, PendingMap, look_in}
+use Rattle.native_loglet.specs.Natives.{server_in, PendingList, look_in}
 
 ---- it begins
 
@@ -95,14 +96,25 @@ pub record MovesByAnswer (cut i : ℕ) (old new : Pending) (before after : List 
   pub servers : after ≡ before
   pub fault : failed ≡ false
 
-pub record Moves (entries : List Entry) (cut : ℕ) (old new : Pending) (before after : List View) (failed : Bool) : Type 0 where
-  pub server : ℕ
-  pub here : server < length old.members.items
-  pub moves : MovesByLoss cut server old new before after failed ⊎ (MovesByRequest entries cut server old new before after failed ⊎ MovesByAnswer cut server old new before after failed)
+-- the server whose message the word picks, of those that have one on its way
+abbrev pub picked_by : ℕ → Pending → ℕ
+picked_by word p = nth_out (pick_of word (count_by is_out p.members.items)) p.members.items
 
--- the operation of the ticket goes on by one message, and no other
-pub record CarriesAt (entries : List Entry) (cut t : ℕ) (p : Pending) (old new : PendingMap) (before after : List View) (failed : Bool) : Type 0 where
+-- by this fate it is lost, and by each other it comes
+abbrev pub MovesBy : Fate → List Entry → ℕ → ℕ → Pending → Pending → List View → List View → Bool → Type 0
+MovesBy Lose entries cut i old new before after failed = MovesByLoss cut i old new before after failed
+MovesBy fate entries cut i old new before after failed = MovesByRequest entries cut i old new before after failed ⊎ MovesByAnswer cut i old new before after failed
+
+-- the message that the word picks moves, and the word says its fate
+pub record Moves (entries : List Entry) (cut word : ℕ) (old new : Pending) (before after : List View) (failed : Bool) : Type 0 where
+  pub server : ℕ
+  pub picked : server ≡ picked_by word old
+  pub here : server < length old.members.items
+  pub moves : MovesBy (fate_of word) entries cut server old new before after failed
+
+-- the operation of the ticket goes on by the message that the word picks, and no other
+pub record CarriesAt (entries : List Entry) (cut t word : ℕ) (p : Pending) (old new : PendingList) (before after : List View) (failed : Bool) : Type 0 where
   pub next : Pending
-  pub moves : Moves entries cut p next before after failed
+  pub moves : Moves entries cut word p next before after failed
   pub is : look_in new t ≡ Some next
   pub others : (q : ℕ) → (q ≡ t → ⊥) → look_in new q ≡ look_in old q

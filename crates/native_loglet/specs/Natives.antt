@@ -1,8 +1,6 @@
 -- What a native loglet shows, and what ties it to the quorum cell that it is.
-use Rattle.std.specs.Prelude.{◌≡◌, ◌⊎◌, ℕ, zero, suc, ◌+◌, ◌*◌, ◌^◌, ◌≤◌, nat_eq, nat_le, nat_lt, not, ◌&&◌, Bool, true, List, [], ◌∷◌, map, drop, length, count_by, Option, None, Some}
-use Rattle.std.specs.HashMap.{HashMap, get}
-use Rattle.std.specs.declared.hash.FoldHasher.{FoldHasher}
-use Rattle.std.specs.declared.hash.BuildHasherDefault.{BuildHasherDefault}
+use Rattle.std.specs.Prelude.{◌≡◌, ◌⊎◌, ℕ, zero, suc, ◌+◌, ◌*◌, ◌^◌, ◌≤◌, nat_eq, nat_le, nat_lt, not, ◌&&◌, Bool, true, false, cond, List, [], ◌∷◌, map, drop, length, count_by, Option, None, Some}
+use Rattle.std.specs.Map.{lookup, KeepsOthers}
 use Rattle.delos_types.specs.declared.entry.Entry.{Entry}
 use Rattle.loglet_api.specs.declared.call.Kind.TheVariants.{Native as NativeKind}
 use Rattle.loglet_api.specs.View.{LogletView, Operation as OpenOperation}
@@ -24,8 +22,8 @@ abbrev pub IsCount : ℕ → Type 0
 IsCount n = (n ≡ 1) ⊎ ((n ≡ 3) ⊎ ((n ≡ 5) ⊎ (n ≡ 7)))
 
 -- the open operations, by ticket
-abbrev pub PendingMap : Type 0
-PendingMap = HashMap ℕ Pending (BuildHasherDefault FoldHasher)
+abbrev pub PendingList : Type 0
+PendingList = List (ℕ × Pending)
 
 -- the parts of a native loglet, as plain values
 pub record Native : Type 0 where
@@ -33,9 +31,9 @@ pub record Native : Type 0 where
   pub entries : List Entry
   pub replicas : List View
   pub marks : Marks
-  pub pending : PendingMap
+  pub pending : PendingList
 
-abbrev pub native_of : ℕ → List Entry → List View → Marks → PendingMap → Native
+abbrev pub native_of : ℕ → List Entry → List View → Marks → PendingList → Native
 native_of room entries replicas marks pending = record { room = room; entries = entries; replicas = replicas; marks = marks; pending = pending }
 
 abbrev pub server_in : View → Server
@@ -62,8 +60,12 @@ abbrev pub shown_from : (ℕ → Option Pending) → ℕ → ℕ → List (ℕ �
 shown_from look t zero = []
 shown_from look t (suc n) = shown_by t (look t) (shown_from look (suc t) n)
 
-abbrev pub look_in : PendingMap → ℕ → Option Pending
-look_in pending t = get nat_eq pending t
+abbrev pub look_in : PendingList → ℕ → Option Pending
+look_in pending t = lookup (nat_eq t) pending
+
+-- the operation of a ticket is this now, or none, and each other is what it was
+abbrev pub UpdatesAt : PendingList → PendingList → ℕ → Option Pending → Type 0
+UpdatesAt old new t now = ((q : ℕ) → look_in new q ≡ cond (nat_eq t q) now (look_in old q)) × (look_in new t ≡ now) × ((q : ℕ) → nat_eq t q ≡ false → look_in new q ≡ look_in old q) × KeepsOthers nat_eq (nat_eq t) old new
 
 ---- what it shows
 
@@ -89,14 +91,15 @@ loglet_of a = record {
   lacks = a.marks.lacks;
 }
 
--- a native loglet: what every loglet shows, its servers with their disks, and the word or count that it was told last
+-- a native loglet: what every loglet shows, its servers with their disks, the word or count that it was told last, and its parts
 pub record NativeView : Type 0 where
   pub loglet : LogletView
   pub replicas : List View
   pub told : ℕ
+  pub parts : Native
 
-abbrev pub native_view : ℕ → List Entry → List View → Marks → PendingMap → ℕ → NativeView
-native_view room entries replicas marks pending told = record { loglet = loglet_of (native_of room entries replicas marks pending); replicas = replicas; told = told }
+abbrev pub native_view : ℕ → List Entry → List View → Marks → PendingList → ℕ → NativeView
+native_view room entries replicas marks pending told = record { loglet = loglet_of (native_of room entries replicas marks pending); replicas = replicas; told = told; parts = native_of room entries replicas marks pending }
 
 ---- what is seen of its servers
 
@@ -132,7 +135,7 @@ abbrev pub IsOpenAs : Cell → ℕ → Option Pending → Type 0
 IsOpenAs c t None = (operation c t).closed ≡ true
 IsOpenAs c t (Some p) = IsPartOf c t p
 
-pub record IsTied (a : Native) (c : Cell) : Type 0 where
+pub record IsCellOf (a : Native) (c : Cell) : Type 0 where
   pub lawful : IsLawful c
   pub spelled : IsSpelled c
   pub odd : (k : ℕ) × (length c.servers ≡ 2 * k + 1)
@@ -152,5 +155,5 @@ pub record IsTied (a : Native) (c : Cell) : Type 0 where
   pub operations : (t : ℕ) → IsOpenAs c t (look_in a.pending t)
 
 -- there is a cell of which it is the code
-abbrev pub IsNative : ℕ → List Entry → List View → Marks → PendingMap → Type 0
-IsNative room entries replicas marks pending = (c : Cell) × IsTied (native_of room entries replicas marks pending) c
+abbrev pub IsNative : ℕ → List Entry → List View → Marks → PendingList → Type 0
+IsNative room entries replicas marks pending = (c : Cell) × IsCellOf (native_of room entries replicas marks pending) c

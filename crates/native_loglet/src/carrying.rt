@@ -5,6 +5,8 @@ ghost use Rattle.delos_types.specs.declared.entry.Entry as entries_of;
 ghost use Rattle.quorum_cell.specs.declared.message.Ask as asks;
 ghost use Rattle.quorum_cell.specs.declared.message.Told as tolds;
 ghost use Rattle.log_server.specs.Answers.{Answers as ServerAnswers};
+ghost use Rattle.log_server.specs.View.{Survives};
+ghost use Rattle.native_loglet.specs.Disks.{KeepDisks};
 ghost use Rattle.native_plan.specs.Pendings.{Answers};
 ghost use Rattle.native_ties.specs.Parts.{asked_by};
 ghost use Rattle.loglet_api.specs.Servers.{Wear};
@@ -17,9 +19,9 @@ use delos_types::entry::Entry;
 use disk_model::Disk;
 use fate_words::fates::Fate;
 use fate_words::words::{fate, pick};
-use quorum_cell::message::Told;
 use native_plan::message::{Errand, Turn};
 use native_plan::pending::Pending;
+use quorum_cell::message::Told;
 use std::alloc::AllocError;
 
 /// Moves the message of an undecided operation that the word picks: it is lost, or its request comes
@@ -38,12 +40,13 @@ pub fn carry_one<D: Disk>(
     requires spelled { (i : ℕ) (e : entries_of.Entry) → slice_get entries.now i ≡ Some e → IsSpellable e }
     requires small { length entries.now ≤ 2 ^ 32 }
     requires cut { cut ≤ 2 ^ 32 }
-    ensures moves { IfOk result (Moves entries.now cut p.old p.new replicas.old replicas.new) }
+    ensures moves { IfOk result (Moves entries.now cut word p.old p.new replicas.old replicas.new) }
     ensures p { OnErr result (p.new ≡ p.old) }
     ensures memory { OnErr result (map server_in replicas.new ≡ map server_in replicas.old) }
     ensures wear { IfOk result (λ _. Wear (states_in replicas.old) (states_in replicas.new)) }
     ensures spared { OnErr result (states_in replicas.new ≡ states_in replicas.old) }
     ensures failed { IfOk result (λ failed. failed ≡ is_failed word (down_in replicas.old) (down_in replicas.new)) }
+    ensures disks { KeepDisks replicas.old replicas.new }
 {
     let server = p.pick(pick(word, p.outstanding() as u64));
     if is_lost(fate(word)) {
@@ -85,6 +88,7 @@ fn ask<D: Disk>(
     ensures p { OnErr result (p.new ≡ p.old) }
     ensures memory { OnErr result (replica.new.server ≡ replica.old.server) }
     ensures spared { OnErr result (state_in replica.new ≡ state_in replica.old) }
+    ensures survives { Survives replica.new }
 {
     let told = replica.ask(errand, entries, cut)?;
     let failed = is_fault(&told);

@@ -5,8 +5,8 @@ ghost use Rattle.native_loglet.specs.Closing.{TakesOut, Waits, placed_for, seale
 
 use delos_types::entry::Entry;
 use loglet_api::call::{Answer, Task};
-use quorum_cell::operation::Outcome;
 use native_plan::pending::Pending;
+use quorum_cell::operation::Outcome;
 use std::collections::HashMap;
 
 /// An operation that was taken out, and what it came to.
@@ -22,8 +22,8 @@ pub struct Decided {
 /// Takes an operation out, where it is decided.
 pub fn take_decided(pending: &mut HashMap<u64, Pending>, number: u64) -> Option<Decided>
     ensures none { IfNone result (IsUnchanged pending.old pending.new) }
-    ensures waits { IfNone result (Waits pending.old number) }
-    ensures taken { IfSome result (λ d. TakesOut pending.old number d pending.new) }
+    ensures waits { IfNone result (Waits pending.old.entries number) }
+    ensures taken { IfSome result (λ d. TakesOut pending.old.entries number d pending.new.entries) }
 {
     let outcome = pending.get(&number)?.outcome?;
     let Pending {

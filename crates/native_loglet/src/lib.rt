@@ -7,10 +7,12 @@
 //! - `closing`: how an operation is taken, and what it is answered.
 //! - `marks`: what the loglet has told and counted.
 //! - `memory`: a loglet on disks in memory.
+//! - `laws`: what holds of it after any list of calls.
 #![tactic(auto)]
 
 pub mod carrying;
 pub mod closing;
+pub mod laws;
 pub mod loglet;
 pub mod marks;
 pub mod memory;

@@ -4,12 +4,15 @@ ghost use Rattle.std.specs.HashMap.{IsUnchanged};
 ghost use Rattle.delos_types.specs.Spelling.{IsSpellable};
 ghost use Rattle.delos_types.specs.declared.entry.Entry as entries_of;
 ghost use Rattle.loglet_api.specs.Step.{IsAppend, CanCall, LogletStep};
-ghost use Rattle.loglet_api.specs.Answers.{carry_answer, stray_answer, restart_answer};
+ghost use Rattle.loglet_api.specs.Answers.{begin_answer, carry_answer, stray_answer, restart_answer};
 ghost use Rattle.loglet_api.specs.View.{IsFresh};
-ghost use Rattle.quorum_cell.specs.Cells.{no_server};
+ghost use Rattle.majority_rule.specs.Majority.{majority};
+ghost use Rattle.quorum_cell.specs.Cells.{no_server, start};
 ghost use Rattle.native_plan.specs.declared.pending.Pending as pendings;
 ghost use Rattle.loglet_api.specs.Servers.{Wear, Serves};
-ghost use Rattle.native_loglet.specs.Natives.{IsCount, look_in, server_in, states_in, serving_of, down_in};
+ghost use Rattle.native_loglet.specs.Natives.{IsCount, IsCellOf, look_in, loglet_of, server_in, states_in, serving_of, down_in};
+ghost use Rattle.native_loglet.specs.Steps.{NativeStep};
+ghost use Rattle.native_loglet.specs.Disks.{KeepDisks};
 ghost use Rattle.native_loglet.specs.Faults.{faults_after, is_failed};
 ghost use Rattle.native_loglet.specs.Moving.{CanMove, CarriesAt};
 
@@ -62,9 +65,9 @@ impl<D: Disk> Model for NativeLoglet<D> {
 
     ghost Value = { NativeView };
 
-    ghost view = { λ a. native_view a.room a.entries.items a.replicas.items a.marks a.pending a.told };
+    ghost view = { λ a. native_view a.room a.entries.items a.replicas.items a.marks a.pending.entries a.told };
 
-    ghost invariant = { λ a. IsNative a.room a.entries.items a.replicas.items a.marks a.pending };
+    ghost invariant = { λ a. IsNative a.room a.entries.items a.replicas.items a.marks a.pending.entries };
 }
 
 impl<D: Disk> NativeLoglet<D> {
@@ -84,6 +87,11 @@ impl<D: Disk> NativeLoglet<D> {
         ensures limit { result.loglet.limit ≡ 2 ^ 62 }
         ensures replicas { result.replicas ≡ replicas.items }
         ensures told { result.told ≡ 0 }
+        ensures quorum { result.loglet.quorum ≡ majority (length replicas.items) }
+        ensures shown { result.loglet ≡ loglet_of result.parts }
+
+        // It is the cell at its start: so many empty servers that are up.
+        ensures cell { IsCellOf result.parts (start (length replicas.items) room (2 ^ 62)) }
     {
         NativeLoglet {
             alloc,
@@ -132,7 +140,14 @@ impl<D: Disk> Loglet for NativeLoglet<D> {
         down(&self.replicas)
     }
 
-    fn begin(&mut self, op: Op) -> Result<Ticket, Refused> {
+    fn begin(&mut self, op: Op) -> Result<Ticket, Refused>
+        requires { CanCall self.old.loglet (LogletCall.Begin op) }
+        ensures step { LogletStep self.old.loglet (LogletCall.Begin op) (begin_answer result) self.new.loglet }
+        ensures serves { Serves (serving_of self.old) (LogletCall.Begin op) (begin_answer result) (serving_of self.new) }
+
+        // The operation begins in its cell, or is refused there as full.
+        ensures goes { NativeStep self.old.parts (LogletCall.Begin op) (begin_answer result) self.new.parts }
+    {
         let size = self.entries.len() as u64;
         if is_full(&op, size, self.room, self.marks.begun) {
             self.marks = self.marks.after(true);
@@ -157,6 +172,12 @@ impl<D: Disk> Loglet for NativeLoglet<D> {
 
         // A fault is counted where the message is lost and where the disk of its server failed, and else none.
         ensures counts { OnOk result (self.new.loglet.faults ≡ faults_after (is_failed word self.old.loglet.down self.new.loglet.down) self.old.loglet.faults) }
+
+        // One message of this operation moves in its cell: the one that the word picks, and by the fate that the word says.
+        ensures goes { NativeStep self.old.parts (LogletCall.Carry ticket word) (carry_answer result) self.new.parts }
+
+        // A crash leaves of each disk that it touched what its server is.
+        ensures disks { KeepDisks self.old.replicas self.new.replicas }
     {
         let Ok(failed) = carry_at(
             &mut self.pending,
@@ -173,7 +194,14 @@ impl<D: Disk> Loglet for NativeLoglet<D> {
         Ok(())
     }
 
-    fn take(&mut self, ticket: Ticket) -> Option<Answer> {
+    fn take(&mut self, ticket: Ticket) -> Option<Answer>
+        requires { CanCall self.old.loglet (LogletCall.Take ticket) }
+        ensures step { LogletStep self.old.loglet (LogletCall.Take ticket) (LogletAnswer.Taken result) self.new.loglet }
+        ensures serves { Serves (serving_of self.old) (LogletCall.Take ticket) (LogletAnswer.Taken result) (serving_of self.new) }
+
+        // The outcome of this operation is given in its cell, and it is closed.
+        ensures goes { NativeStep self.old.parts (LogletCall.Take ticket) (LogletAnswer.Taken result) self.new.parts }
+    {
         let decided = take_decided(&mut self.pending, ticket.number())?;
         let length = decided.task.wanted(decided.size);
         let answer = answer(decided, self.marks.cut);
@@ -181,7 +209,14 @@ impl<D: Disk> Loglet for NativeLoglet<D> {
         Some(answer)
     }
 
-    fn forget(&mut self, ticket: Ticket) {
+    fn forget(&mut self, ticket: Ticket)
+        requires { CanCall self.old.loglet (LogletCall.Forget ticket) }
+        ensures step { LogletStep self.old.loglet (LogletCall.Forget ticket) LogletAnswer.Forgotten self.new.loglet }
+        ensures serves { Serves (serving_of self.old) (LogletCall.Forget ticket) LogletAnswer.Forgotten (serving_of self.new) }
+
+        // This operation is closed in its cell.
+        ensures goes { NativeStep self.old.parts (LogletCall.Forget ticket) LogletAnswer.Forgotten self.new.parts }
+    {
         let _ = self.pending.remove(&ticket.number());
     }
 
@@ -199,6 +234,7 @@ impl<D: Disk> Loglet for NativeLoglet<D> {
 
         // No message comes twice.
         ensures idle { self.new ≡ record self.old { told = word } }
+        ensures goes { NativeStep self.old.parts (LogletCall.Stray word) (stray_answer result) self.new.parts }
     {
         self.told = word;
         Ok(())
@@ -209,6 +245,10 @@ impl<D: Disk> Loglet for NativeLoglet<D> {
         requires { CanCall self.old.loglet (LogletCall.Stop server after) }
         ensures step { LogletStep self.old.loglet (LogletCall.Stop server after) LogletAnswer.Stopped self.new.loglet }
         ensures serves { Serves (serving_of self.old) (LogletCall.Stop server after) LogletAnswer.Stopped (serving_of self.new) }
+        ensures goes { NativeStep self.old.parts (LogletCall.Stop server after) LogletAnswer.Stopped self.new.parts }
+
+        // A crash leaves of each disk that it touched what its server is.
+        ensures disks { KeepDisks self.old.replicas self.new.replicas }
 
         // The other servers and their disks stay as they are.
         ensures others { (i : ℕ) → i ≢ server → slice_get self.new.replicas i ≡ slice_get self.old.replicas i }
@@ -228,6 +268,12 @@ impl<D: Disk> Loglet for NativeLoglet<D> {
 
         // A fault is counted where it stays down, and else none.
         ensures counts { IfOk result (λ up. self.new.loglet.faults ≡ faults_after (not up) self.old.loglet.faults) }
+
+        // This server comes up in its cell, or fails to once more.
+        ensures goes { NativeStep self.old.parts (LogletCall.Restart server word) (restart_answer result) self.new.parts }
+
+        // A crash leaves of each disk that it touched what its server is.
+        ensures disks { KeepDisks self.old.replicas self.new.replicas }
     {
         let Ok(up) = self.replicas[server as usize].restart(word) else {
             return Err(Refused::Memory);
@@ -254,16 +300,17 @@ fn carry_at<D: Disk>(
     number: u64,
     word: u64,
 ) -> Result<bool, AllocError>
-    requires can { (p : pendings.Pending) → look_in pending.old number ≡ Some p → CanMove entries.now cut (length replicas.old) p }
+    requires can { (p : pendings.Pending) → look_in pending.old.entries number ≡ Some p → CanMove entries.now cut (length replicas.old) p }
     requires spelled { (i : ℕ) (e : entries_of.Entry) → slice_get entries.now i ≡ Some e → IsSpellable e }
     requires small { length entries.now ≤ 2 ^ 32 }
     requires cut { cut ≤ 2 ^ 32 }
-    ensures carries { (p : pendings.Pending) → look_in pending.old number ≡ Some p → IfOk result (CarriesAt entries.now cut number p pending.old pending.new replicas.old replicas.new) }
-    ensures pending { OnErr result ((t : ℕ) → look_in pending.new t ≡ look_in pending.old t) }
+    ensures carries { (p : pendings.Pending) → look_in pending.old.entries number ≡ Some p → IfOk result (CarriesAt entries.now cut number word p pending.old.entries pending.new.entries replicas.old replicas.new) }
+    ensures pending { OnErr result ((t : ℕ) → look_in pending.new.entries t ≡ look_in pending.old.entries t) }
     ensures memory { OnErr result (map server_in replicas.new ≡ map server_in replicas.old) }
     ensures wear { IfOk result (λ _. Wear (states_in replicas.old) (states_in replicas.new)) }
     ensures spared { OnErr result (states_in replicas.new ≡ states_in replicas.old) }
-    ensures failed { (p : pendings.Pending) → look_in pending.old number ≡ Some p → IfOk result (λ failed. failed ≡ is_failed word (down_in replicas.old) (down_in replicas.new)) }
+    ensures disks { KeepDisks replicas.old replicas.new }
+    ensures failed { (p : pendings.Pending) → look_in pending.old.entries number ≡ Some p → IfOk result (λ failed. failed ≡ is_failed word (down_in replicas.old) (down_in replicas.new)) }
 {
     match pending.get_mut(&number) {
         Some(p) => carry_one(p, replicas, entries, cut, word),

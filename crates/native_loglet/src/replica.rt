@@ -4,7 +4,7 @@ ghost use Rattle.delos_types.specs.Spelling.{IsSpellable};
 ghost use Rattle.delos_types.specs.declared.entry.Entry as entries_of;
 ghost use Rattle.quorum_cell.specs.declared.message.Ask as asks;
 ghost use Rattle.quorum_cell.specs.Servers.{length_of, is_sealed, restarted};
-ghost use Rattle.log_server.specs.View.{View as server_views, Spares};
+ghost use Rattle.log_server.specs.View.{View as server_views, Spares, Survives};
 ghost use Rattle.loglet_api.specs.Servers.{IsArmed, RestartsTo};
 ghost use Rattle.log_server.specs.Answers.{Answers};
 ghost use Rattle.native_ties.specs.Parts.{asked_by};
@@ -14,13 +14,13 @@ ghost use Rattle.native_loglet.specs.Telling.{seal_told_by, length_told_by};
 use delos_types::entry::Entry;
 use disk_model::Disk;
 use log_server::LogServer;
-use quorum_cell::message::Told;
 use native_plan::message::Errand;
+use quorum_cell::message::Told;
 use std::alloc::AllocError;
 use std::marker::Model;
 
 /// A log server of which it is known whether it is sealed, also while it is down. Contracts see the
-/// server alone.
+/// server alone. After each call a crash leaves of its disk what it is (`survives`).
 #[derive(Drop)]
 pub struct Replica<D: Disk> {
     server: LogServer<D>,
@@ -79,6 +79,7 @@ impl<D: Disk> Replica<D> {
         ensures answers { IfOk result (λ told. (ask : asks.Ask) → asked_by entries.now cut errand ≡ Some ask → Answers self.old ask told self.new) }
         ensures memory { OnErr result (self.new.server ≡ self.old.server) }
         ensures spared { OnErr result (state_in self.new ≡ state_in self.old) }
+        ensures survives { Survives self.new }
     {
         let told = send(&mut self.server, errand, entries, cut)?;
         self.sealed = is_sealed_now(&self.server, self.sealed);
@@ -90,6 +91,7 @@ impl<D: Disk> Replica<D> {
         ensures server { self.new.server ≡ self.old.server }
         ensures arms { IsArmed after (state_in self.old) (state_in self.new) }
         ensures count { self.old.server.up ≡ true → self.new.disk.armed ≡ after }
+        ensures survives { Survives self.new }
     {
         self.server.stop(after);
     }
@@ -105,6 +107,7 @@ impl<D: Disk> Replica<D> {
         ensures memory { OnErr result (self.new.server ≡ self.old.server) }
         ensures rises { IfOk result (λ up. RestartsTo up (state_in self.old) (state_in self.new)) }
         ensures spared { OnErr result (state_in self.new ≡ state_in self.old) }
+        ensures survives { Survives self.new }
     {
         let up = self.server.restart(word)?;
         self.sealed = is_sealed_now(&self.server, self.sealed);
@@ -155,6 +158,7 @@ fn send<D: Disk>(
     ensures answers { IfOk result (λ told. (ask : asks.Ask) → asked_by entries.now cut errand ≡ Some ask → Answers server.old ask told server.new) }
     ensures memory { OnErr result (server.new.server ≡ server.old.server) }
     ensures spared { OnErr result (Spares server.old.disk server.new.disk) }
+    ensures survives { Survives server.new }
 {
     match errand {
         Errand::Store(place) => server.store(place, &entries[place as usize]),

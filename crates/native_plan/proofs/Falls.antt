@@ -20,7 +20,7 @@ use Rattle.native_plan.specs.Course.{IsPlanned, FillsTo, MendsTo, ToldWell, Lets
 abbrev Steps : Phase → ℕ → ℕ → ℕ → Member → Errand → Told → Member → Type 0
 Steps ph want place i m e told now = (is_done ph want i now ≡ true) ⊎ (((((m.at < now.at) × (m.at < end_of ph want)) ⊎ (more_after e ≡ 20)) × ((cut : ℕ) → more_after (errand_of ph cut want place now) ≡ 0)) ⊎ EndsRead e told)
 
-plain_fill : (goal cut at : ℕ) → more_after (fill_of goal cut at) ≡ 0
+pub plain_fill : (goal cut at : ℕ) → more_after (fill_of goal cut at) ≡ 0
 plain_fill goal cut at = by (nat_le goal at) (nat_lt at cut)
   where
     by : (a b : Bool) → more_after (if a then Tail else (if b then Trim else Store at)) ≡ 0

@@ -23,17 +23,17 @@ use Rattle.native_plan.specs.Course.{Knows, Comes, IsAskOf, ToldWell, with_reply
 heard_is : (test : Reply → Bool) (o : Operation) (r : Reply) (i : ℕ) → heard_from test (with_reply o r) i ≡ (heard_from test o i || (((r.server == i) && test r) || false))
 heard_is test o r i = list_any-append (λ (x : Reply). (x.server == i) && test x) o.heard (r ∷ [])
 
-heard_more : (test : Reply → Bool) (o : Operation) (r : Reply) (i : ℕ) → heard_from test o i ≡ true → heard_from test (with_reply o r) i ≡ true
+pub heard_more : (test : Reply → Bool) (o : Operation) (r : Reply) (i : ℕ) → heard_from test o i ≡ true → heard_from test (with_reply o r) i ≡ true
 heard_more test o r i h = heard_is test o r i ∙ or_left (heard_from test o i) (((r.server == i) && test r) || false) h
 
-heard_new : (test : Reply → Bool) (o : Operation) (r : Reply) (i : ℕ) → r.server ≡ i → test r ≡ true → heard_from test (with_reply o r) i ≡ true
+pub heard_new : (test : Reply → Bool) (o : Operation) (r : Reply) (i : ℕ) → r.server ≡ i → test r ≡ true → heard_from test (with_reply o r) i ≡ true
 heard_new test o r i e h = heard_is test o r i ∙ or_right (heard_from test o i) (((r.server == i) && test r) || false) (or_left ((r.server == i) && test r) false (and_from (r.server == i) (test r) (eq-eqb r.server i e) h))
 
 or_none : (a b : Bool) → b ≡ false → (a || (b || false)) ≡ a
 or_none true b h = refl
 or_none false b h = rw h refl
 
-heard_else : (test : Reply → Bool) (o : Operation) (r : Reply) (i : ℕ) → ((r.server == i) && test r) ≡ false → heard_from test (with_reply o r) i ≡ heard_from test o i
+pub heard_else : (test : Reply → Bool) (o : Operation) (r : Reply) (i : ℕ) → ((r.server == i) && test r) ≡ false → heard_from test (with_reply o r) i ≡ heard_from test o i
 heard_else test o r i h = heard_is test o r i ∙ or_none (heard_from test o i) ((r.server == i) && test r) h
 
 -- of another server it knows what it knew
@@ -80,7 +80,7 @@ module _ (s : Server) (o : Operation) (i : ℕ) (m : Member) (r : Reply) (k : Kn
   told_failed : r.server ≡ i → fails r.told ≡ true → unreached (with_reply o r) i ≡ true
   told_failed e h = or_left (heard_from failed_reply (with_reply o r) i) (lost_to o i) (heard_new failed_reply o r i e h)
 
-  knows_failed : r.server ≡ i → fails r.told ≡ true → Knows s (with_reply o r) i (record m { unreached = true; message = None })
+  pub knows_failed : r.server ≡ i → fails r.told ≡ true → Knows s (with_reply o r) i (record m { unreached = true; message = None })
   knows_failed e h = record {
     opened = λ l g. more (open_at l) (k.opened l g);
     sealed = λ l g. more (sealed_at l) (k.sealed l g);
@@ -94,7 +94,7 @@ module _ (s : Server) (o : Operation) (i : ℕ) (m : Member) (r : Reply) (k : Kn
     long = k.long;
   }
 
-  knows_sealed : (n : ℕ) → r.server ≡ i → r.told ≡ Sealed n → ((z : ℕ) → o.aim ≡ AimTrim z → ⊥) → m.at ≤ n → n ≤ length_of s → Knows s (with_reply o r) i (record m { sealed = Some n; at = max m.at n; message = None })
+  pub knows_sealed : (n : ℕ) → r.server ≡ i → r.told ≡ Sealed n → ((z : ℕ) → o.aim ≡ AimTrim z → ⊥) → m.at ≤ n → n ≤ length_of s → Knows s (with_reply o r) i (record m { sealed = Some n; at = max m.at n; message = None })
   knows_sealed n e t trims at long = record {
     opened = λ l g. more (open_at l) (k.opened l g);
     sealed = λ l g. heard_new (sealed_at l) o r i e (exact n (sealed_told r.told) l (ap sealed_told t) (same_Some n l g));
@@ -108,7 +108,7 @@ module _ (s : Server) (o : Operation) (i : ℕ) (m : Member) (r : Reply) (k : Kn
     long = longer m.at n (length_of s) k.long long;
   }
 
-  knows_opened : (n : ℕ) → r.server ≡ i → fails r.told ≡ false → open_told r.ask r.told ≡ Some n → m.sealed ≡ None → m.at ≤ n → n ≤ length_of s → Knows s (with_reply o r) i (record m { opened = Some n; at = max m.at n; message = None })
+  pub knows_opened : (n : ℕ) → r.server ≡ i → fails r.told ≡ false → open_told r.ask r.told ≡ Some n → m.sealed ≡ None → m.at ≤ n → n ≤ length_of s → Knows s (with_reply o r) i (record m { opened = Some n; at = max m.at n; message = None })
   knows_opened n e ok t unsealed at long = record {
     opened = λ l g. heard_new (open_at l) o r i e (exact n (open_told r.ask r.told) l t (same_Some n l g));
     sealed = λ l g. more (sealed_at l) (k.sealed l g);
@@ -122,7 +122,7 @@ module _ (s : Server) (o : Operation) (i : ℕ) (m : Member) (r : Reply) (k : Kn
     long = longer m.at n (length_of s) k.long long;
   }
 
-  knows_mended : (n : ℕ) → r.server ≡ i → fails r.told ≡ false → mended_told r.ask r.told ≡ Some n → m.at ≤ n → n ≤ length_of s → Knows s (with_reply o r) i (record m { at = max m.at n; message = None })
+  pub knows_mended : (n : ℕ) → r.server ≡ i → fails r.told ≡ false → mended_told r.ask r.told ≡ Some n → m.at ≤ n → n ≤ length_of s → Knows s (with_reply o r) i (record m { at = max m.at n; message = None })
   knows_mended n e ok t at long = record {
     opened = λ l g. more (open_at l) (k.opened l g);
     sealed = λ l g. more (sealed_at l) (k.sealed l g);
@@ -152,7 +152,7 @@ module _ (s : Server) (o : Operation) (i : ℕ) (m : Member) (r : Reply) (k : Kn
   }
 
   -- it doesn't have the entry
-  knows_missed : (p : ℕ) → fails r.told ≡ false → o.aim ≡ AimRead p → length_of (server_before o i) ≤ p → Knows s (with_reply o r) i (record m { passed = true; message = None })
+  pub knows_missed : (p : ℕ) → fails r.told ≡ false → o.aim ≡ AimRead p → length_of (server_before o i) ≤ p → Knows s (with_reply o r) i (record m { passed = true; message = None })
   knows_missed p ok aim short = record {
     opened = λ l g. more (open_at l) (k.opened l g);
     sealed = λ l g. more (sealed_at l) (k.sealed l g);
@@ -166,7 +166,7 @@ module _ (s : Server) (o : Operation) (i : ℕ) (m : Member) (r : Reply) (k : Kn
     long = k.long;
   }
 
-  knows_same : fails r.told ≡ false → Knows s (with_reply o r) i (record m { message = None })
+  pub knows_same : fails r.told ≡ false → Knows s (with_reply o r) i (record m { message = None })
   knows_same ok = record {
     opened = λ l g. more (open_at l) (k.opened l g);
     sealed = λ l g. more (sealed_at l) (k.sealed l g);
@@ -180,7 +180,7 @@ module _ (s : Server) (o : Operation) (i : ℕ) (m : Member) (r : Reply) (k : Kn
     long = k.long;
   }
 
-  store_told : (p n : ℕ) (a : Ask) → IsAskOf (Store p) a → open_told a (Ack n) ≡ Some n
+  pub store_told : (p n : ℕ) (a : Ask) → IsAskOf (Store p) a → open_told a (Ack n) ≡ Some n
   store_told p n (ask.Store q x) h = refl
   store_told p n ask.Seal h = absurd h
   store_told p n ask.Tail h = absurd h
@@ -188,7 +188,7 @@ module _ (s : Server) (o : Operation) (i : ℕ) (m : Member) (r : Reply) (k : Kn
   store_told p n (ask.Read q) h = absurd h
   store_told p n (ask.Trim q) h = absurd h
 
-  repair_told : (p n : ℕ) (a : Ask) → IsAskOf (Repair p) a → mended_told a (Ack n) ≡ Some n
+  pub repair_told : (p n : ℕ) (a : Ask) → IsAskOf (Repair p) a → mended_told a (Ack n) ≡ Some n
   repair_told p n (ask.Repair q x) h = refl
   repair_told p n ask.Seal h = absurd h
   repair_told p n ask.Tail h = absurd h

@@ -2,3 +2,4 @@ pub mod Members
 pub mod Plans
 pub mod Pendings
 pub mod Course
+pub mod Strays

@@ -7,6 +7,7 @@
 //! - `pending`: an open operation.
 //! - `send`: what an operation sends next.
 //! - `judge`: what an operation comes to, by what it knows.
+//! - `stray`: what it learns from messages that come again.
 //! - `laws`: what ties all that to the quorum cell.
 #![tactic(auto)]
 
@@ -17,3 +18,4 @@ pub mod member;
 pub mod message;
 pub mod pending;
 pub mod send;
+pub mod stray;

@@ -120,7 +120,7 @@ fn nth(members: &[Member], skip: u64) -> usize
 }
 
 /// An entry that was just given, or else what was given before.
-fn newer(got: Option<Entry>, before: Option<Entry>) -> Option<Entry>
+pub(crate) fn newer(got: Option<Entry>, before: Option<Entry>) -> Option<Entry>
     ensures { result ≡ newer_of got before }
 {
     if got.is_some() { got } else { before }
@@ -171,7 +171,7 @@ impl Pending {
     }
 
     /// What its messages, and what it comes to, depend on, under this cut of the loglet.
-    fn aims(&self, cut: u64) -> Aims
+    pub(crate) fn aims(&self, cut: u64) -> Aims
         ensures { result ≡ aims_of cut self.now }
     {
         Aims {
@@ -262,7 +262,7 @@ impl Pending {
     }
 
     /// It comes to what it comes to: it is decided, or sends what is to be sent.
-    fn settle(&mut self, cut: u64)
+    pub(crate) fn settle(&mut self, cut: u64)
         requires members { length self.old.members.items < 2 ^ 32 }
         requires server { (j : ℕ) → self.old.phase ≡ Phase.Reading j → j < 2 ^ 32 }
         ensures { Settles cut self.old (verdict_of cut self.old) self.new }

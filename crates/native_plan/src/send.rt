@@ -8,7 +8,7 @@ use crate::member::Member;
 use crate::message::{Errand, Message, Phase};
 
 /// Whether nothing more is wanted of server `index`.
-fn is_met_by(aims: Aims, index: u64, member: &Member) -> bool
+pub(crate) fn is_met_by(aims: Aims, index: u64, member: &Member) -> bool
     ensures { result ≡ is_met aims.phase aims.want index member.now }
 {
     match aims.phase {

@@ -35,13 +35,14 @@ use Rattle.native_plan.specs.Plans.{is_done, place_of}
 use Rattle.native_plan.specs.Pendings.{aims_of, Answers}
 use Rattle.native_plan.specs.Course.{Knows, IsOnCourse, IsAskOf, ToldWell}
 use Rattle.native_ties.specs.Parts.{IsCarried, OnItsWay, ToldSo, HasReply, Goes, IsPartOf, Extends, wish_of, AnswersBy}
+use Rattle.native_ties.specs.Steps.{IsRequest, IsStop, AnswersAs}
 use Rattle.native_ties.proofs.Parts.{part_later}
 use Rattle.native_ties.proofs.Resending.{planned_as}
 use Rattle.native_ties.proofs.Hearing.{read_reads}
 use Rattle.native_ties.proofs.Sending.{sent_is, asks_well, course_message}
 
 -- a message changes nothing of what is wanted
-done_message : (ph : Phase) (want i : ℕ) (m : Member) (z : Option Message) → is_done ph want i (record m { message = z }) ≡ is_done ph want i m
+pub done_message : (ph : Phase) (want i : ℕ) (m : Member) (z : Option Message) → is_done ph want i (record m { message = z }) ≡ is_done ph want i m
 done_message Filling want i m z = refl
 done_message Asking want i m z = refl
 done_message (Opening t) want i m z = refl
@@ -263,3 +264,11 @@ module _ (c : Cell) (t i : ℕ) (p new : Pending) (e : Errand) (a : Ask) (law : 
   -- its disk fails in the write that the table wants
   pub stops : ((server c i).up && writes (server c i) a) ≡ true → Answers i e DiskFault p new → AnswersBy c t i (record (server c i) { up = false; torn = Some a }) (c.faults ++ i ∷ []) new
   stops wanted answers = answered_by (c.faults ++ i ∷ []) (record (server c i) { up = false; torn = Some a }) DiskFault (RequestStops (length c.requests)) (inr refl) (rw (is_sent, found_request, wanted) refl) (λ n h. absurd (cc)) tt answers
+
+  pub comes_as : Answers i e (told (server c i) a) p new → AnswersAs c t i (if (server c i).up then written (server c i) a else server c i) c.faults new (IsRequest c t i e)
+  unfolding comes answered_by
+  comes_as answers = (comes answers, refl)
+
+  pub stops_as : ((server c i).up && writes (server c i) a) ≡ true → Answers i e DiskFault p new → AnswersAs c t i (record (server c i) { up = false; torn = Some a }) (c.faults ++ i ∷ []) new (IsStop c t i e)
+  unfolding stops answered_by
+  stops_as wanted answers = (stops wanted answers, refl)

@@ -39,8 +39,9 @@ use Rattle.native_plan.specs.Plans.{place_of, judged, judged_reading}
 use Rattle.native_plan.specs.Pendings.{newer_of, aims_of, verdict_of, Notes, Hears}
 use Rattle.native_plan.specs.Course.{Fills, Shuts, AimsAt, IsOnCourse, IsAskOf, ToldWell, with_reply}
 use Rattle.native_ties.specs.Parts.{IsCarried, OnItsWay, ToldSo, IsPooled, Goes, IsPartOf, GoesBy}
+use Rattle.native_ties.specs.Steps.{IsEnd, IsAnswer, GoesAs}
 use Rattle.native_ties.proofs.Hearing.{put_there, put_other, comes_is, heard_course, read_reads}
-use Rattle.native_ties.proofs.Settling.{Noted, settled}
+use Rattle.native_ties.proofs.Settling.{Noted, settles_as}
 
 -- a member that heard has no message
 pub silent : (want : ℕ) (e : Errand) (told : Told) (m : Member) → is_out (heard_by want e told m) ≡ false
@@ -90,7 +91,7 @@ is_got (Cut b) x g = absurd (none-some x g)
 is_got (Behind n) x g = absurd (none-some x g)
 is_got (Ack n) x g = absurd (none-some x g)
 
-read_ask : (p : ℕ) (a : Ask) → IsAskOf (Read p) a → a ≡ ask.Read p
+pub read_ask : (p : ℕ) (a : Ask) → IsAskOf (Read p) a → a ≡ ask.Read p
 read_ask p (ask.Read q) h = ap ask.Read (sym h)
 read_ask p (ask.Store q x) h = absurd h
 read_ask p ask.Seal h = absurd h
@@ -132,10 +133,10 @@ pooled_put : (c : Cell) (t i q losses : ℕ) (o z : Operation) → z.lost ≡ o.
 pooled_put c t i q losses o z same (inl none) = inl none
 pooled_put c t i q losses o z same (inr l) = inr (record { message = l.message; request = l.request; is = l.is; ticket = l.ticket; to_server = l.to_server; tries = rw same l.tries })
 
-way_put : (c : Cell) (t i q : ℕ) (o z : Operation) (aims : Aims) (m : Member) (e : Errand) → z.lost ≡ o.lost → OnItsWay c o t i aims m e → OnItsWay (put_operation c q z) z t i aims m e
+pub way_put : (c : Cell) (t i q : ℕ) (o z : Operation) (aims : Aims) (m : Member) (e : Errand) → z.lost ≡ o.lost → OnItsWay c o t i aims m e → OnItsWay (put_operation c q z) z t i aims m e
 way_put c t i q o z aims m e same h = record { planned = h.planned; unmet = h.unmet; few = h.few; pooled = pooled_put c t i q m.losses o z same h.pooled }
 
-carried_put : (c : Cell) (t i q : ℕ) (o z : Operation) (aims : Aims) (m : Member) (x : Option Message) → z.lost ≡ o.lost → z.servers_before ≡ o.servers_before → IsCarried c o t i aims m x → IsCarried (put_operation c q z) z t i aims m x
+pub carried_put : (c : Cell) (t i q : ℕ) (o z : Operation) (aims : Aims) (m : Member) (x : Option Message) → z.lost ≡ o.lost → z.servers_before ≡ o.servers_before → IsCarried c o t i aims m x → IsCarried (put_operation c q z) z t i aims m x
 carried_put c t i q o z aims m None same before h = h
 carried_put c t i q o z aims m (Some (Asked e)) same before h = way_put c t i q o z aims m e same h
 carried_put c t i q o z aims m (Some (Answered e told)) same before h = record {
@@ -144,11 +145,11 @@ carried_put c t i q o z aims m (Some (Answered e told)) same before h = record {
   well = rw before h.well;
 }
 
-newer_none : (z : Option Entry) → newer_of z None ≡ z
+pub newer_none : (z : Option Entry) → newer_of z None ≡ z
 newer_none None = refl
 newer_none (Some x) = refl
 
-some_of : (z : Option Entry) → is_some z ≡ true → (x : Entry) × (z ≡ Some x)
+pub some_of : (z : Option Entry) → is_some z ≡ true → (x : Entry) × (z ≡ Some x)
 some_of None h = absurd (false≢true h)
 some_of (Some x) h = (x, refl)
 
@@ -246,20 +247,23 @@ hears_noted c t i p b e told law part waiting here message notes =
     (put_operation c t (with_reply (operation c t) r), subst QuorumLaw is (step_keeps c (ReplyComes so_reply.reply.number) law), subst (Noted (put_operation c t (with_reply (operation c t) r)) t) (sym notes.rest) (noted c t i p b e told law part waiting here message notes), refl)
 
 -- the steps: the answer comes, and then it may be decided
-pub hears : (c : Cell) (t i : ℕ) (p new : Pending) (e : Errand) (told : Told) → QuorumLaw c → IsPartOf c t p → p.outcome ≡ None → i < length c.servers → (get_or p.members.items i no_member).message ≡ Some (Answered e told) → Hears c.cut i e told p new → GoesBy c t c.faults new
-hears c t i p new e told law part waiting here message h =
+pub hears_as : (c : Cell) (t i : ℕ) (p new : Pending) (e : Errand) (told : Told) → QuorumLaw c → IsPartOf c t p → p.outcome ≡ None → i < length c.servers → (get_or p.members.items i no_member).message ≡ Some (Answered e told) → Hears c.cut i e told p new → GoesAs c t c.faults new (IsAnswer c t i e told)
+hears_as c t i p new e told law part waiting here message h =
     let b : Pending = h.between in
     let so_reply : ToldSo c (operation c t) t i (aims_of c.cut p) (get_or p.members.items i no_member) e told = so c t i p b e told law part waiting here message h.notes in
     let r : Reply = so_reply.reply.reply in
     let is : cell_step c (ReplyComes so_reply.reply.number) ≡ put_operation c t (with_reply (operation c t) r) = comes_is c t so_reply.reply.number r so_reply.reply.is so_reply.reply.ticket part.shows.is_open (part.outcome ∙ waiting) in
     let kept : QuorumLaw (put_operation c t (with_reply (operation c t) r)) = subst QuorumLaw is (step_keeps c (ReplyComes so_reply.reply.number) law) in
     let then_noted : Noted (put_operation c t (with_reply (operation c t) r)) t b = subst (Noted (put_operation c t (with_reply (operation c t) r)) t) (sym h.notes.rest) (noted c t i p b e told law part waiting here message h.notes) in
-    let s : GoesBy (put_operation c t (with_reply (operation c t) r)) t c.faults new = settled (put_operation c t (with_reply (operation c t) r)) t b new kept then_noted h.settles in
-    record {
-      steps = ReplyComes so_reply.reply.number ∷ s.steps;
-      strays = (tt, s.strays);
-      part = subst (λ (x : Cell). IsPartOf (run_cell s.steps x) t new) (sym is) s.part;
-      others = λ q n. ap (λ (x : Cell). operation (run_cell s.steps x) q) is ∙ s.others q n ∙ put_other c t q (with_reply (operation c t) r) n;
-      servers = ap (λ (x : Cell). (run_cell s.steps x).servers) is ∙ s.servers;
-      faults_are = ap (λ (x : Cell). (run_cell s.steps x).faults) is ∙ s.faults_are;
-    }
+    let s : GoesAs (put_operation c t (with_reply (operation c t) r)) t c.faults new (IsEnd t) = settles_as (put_operation c t (with_reply (operation c t) r)) t b new kept then_noted h.settles in
+    (record {
+      steps = ReplyComes so_reply.reply.number ∷ s.0.steps;
+      strays = (tt, s.0.strays);
+      part = subst (λ (x : Cell). IsPartOf (run_cell s.0.steps x) t new) (sym is) s.0.part;
+      others = λ q n. ap (λ (x : Cell). operation (run_cell s.0.steps x) q) is ∙ s.0.others q n ∙ put_other c t q (with_reply (operation c t) r) n;
+      servers = ap (λ (x : Cell). (run_cell s.0.steps x).servers) is ∙ s.0.servers;
+      faults_are = ap (λ (x : Cell). (run_cell s.0.steps x).faults) is ∙ s.0.faults_are;
+    }, record { reply = so_reply.reply; ending = s.0.steps; ends = s.1; takes = refl })
+
+pub hears : (c : Cell) (t i : ℕ) (p new : Pending) (e : Errand) (told : Told) → QuorumLaw c → IsPartOf c t p → p.outcome ≡ None → i < length c.servers → (get_or p.members.items i no_member).message ≡ Some (Answered e told) → Hears c.cut i e told p new → GoesBy c t c.faults new
+hears c t i p new e told law part waiting here message h = (hears_as c t i p new e told law part waiting here message h).0

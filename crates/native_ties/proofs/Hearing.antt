@@ -136,13 +136,13 @@ coming c t i aims ms m e told law f cut k so =
 
 ---- it is on course
 
-any_more : (test : Reply → Bool) (o : Operation) (r : Reply) → list_any test o.heard ≡ true → list_any test (with_reply o r).heard ≡ true
+pub any_more : (test : Reply → Bool) (o : Operation) (r : Reply) → list_any test o.heard ≡ true → list_any test (with_reply o r).heard ≡ true
 any_more test o r h = list_any-append test o.heard (r ∷ []) ∙ or_left (list_any test o.heard) (list_any test (r ∷ [])) h
 
-many_more : (n : ℕ) (test : Reply → Bool) (o : Operation) (r : Reply) → is_majority n (heard_from test o) ≡ true → is_majority n (heard_from test (with_reply o r)) ≡ true
+pub many_more : (n : ℕ) (test : Reply → Bool) (o : Operation) (r : Reply) → is_majority n (heard_from test o) ≡ true → is_majority n (heard_from test (with_reply o r)) ≡ true
 many_more n test o r h = majority_stays n (heard_from test o) (heard_from test (with_reply o r)) (λ i l v. list_any-append (λ (x : Reply). (x.server == i) && test x) o.heard (r ∷ []) ∙ or_left (heard_from test o i) (list_any (λ (x : Reply). (x.server == i) && test x) (r ∷ [])) v) h
 
-either_more : (a b d : Bool) → (b ≡ true → d ≡ true) → (a || b) ≡ true → (a || d) ≡ true
+pub either_more : (a b d : Bool) → (b ≡ true → d ≡ true) → (a || b) ≡ true → (a || d) ≡ true
 either_more true b d h e = refl
 either_more false b d h e = h e
 

@@ -58,7 +58,7 @@ below_some (suc a) b h = inl (omega arith)
 
 ---- it comes to what it comes to
 
-kept_at_most : (ph : Phase) (cut want place j end : ℕ) (m : Member) → (is_out m ≡ false → is_done ph want j m ≡ true) → left_to end (resent ph cut want place true j m) ≤ left_to end m
+pub kept_at_most : (ph : Phase) (cut want place j end : ℕ) (m : Member) → (is_out m ≡ false → is_done ph want j m ≡ true) → left_to end (resent ph cut want place true j m) ≤ left_to end m
 kept_at_most ph cut want place j end m h = by (is_out m) refl
   where
     by : (b : Bool) → is_out m ≡ b → left_to end (if b then m else sent_on (is_done ph want j m) (errand_of ph cut want place m) m) ≤ left_to end m

@@ -11,3 +11,8 @@ pub mod Losers
 pub mod Beginning
 pub mod Lessening
 pub mod Bounds
+pub mod Learning
+pub mod Straying
+pub mod Repeating
+pub mod Remaining
+pub mod Copying

@@ -12,6 +12,7 @@ use Rattle.quorum_cell.specs.declared.message.Request.{Request}
 use Rattle.quorum_cell.specs.declared.message.Told.{Told}
 use Rattle.quorum_cell.specs.declared.message.Told.TheVariants.{Down, DiskFault, Sealed, Unsealed, Ack, Got, Short, Cut, Trimmed}
 use Rattle.quorum_cell.specs.declared.operation.Loss.{Loss}
+use Rattle.quorum_cell.specs.declared.operation.CellStep.{CellStep}
 use Rattle.quorum_cell.specs.declared.operation.CellStep.TheVariants.{Send, Lose}
 use Rattle.quorum_cell.specs.Servers.{Server}
 use Rattle.quorum_cell.specs.Cells.{Cell, Operation, operation, server, server_before}
@@ -35,13 +36,14 @@ use Rattle.native_plan.specs.Plans.{is_done}
 use Rattle.native_plan.specs.Pendings.{aims_of, NotesLoss, Loses}
 use Rattle.native_plan.specs.Course.{Knows, PhaseFits, IsOnCourse, ToldWell}
 use Rattle.native_ties.specs.Parts.{LostSo, IsPooled, OnItsWay, IsCarried, NamesRequest, Goes, IsPartOf, GoesBy, wish_of, asked_by}
+use Rattle.native_ties.specs.Steps.{IsEnd, IsLoss, GoesAs, errand_of}
 use Rattle.native_ties.proofs.Parts.{part_later}
 use Rattle.native_ties.proofs.Resending.{planned_as}
 use Rattle.native_ties.proofs.Hearing.{put_there, put_other, turned_heard}
 use Rattle.native_ties.proofs.Sending.{sent_is}
 use Rattle.native_ties.proofs.Losing.{with_loss, one_more, no_more, few_all, none_yet}
 use Rattle.native_ties.proofs.Asking.{can_ask}
-use Rattle.native_ties.proofs.Settling.{Noted, settled}
+use Rattle.native_ties.proofs.Settling.{Noted, settles_as}
 
 pub within : {X : Type 0} (xs : List X) (k : ℕ) (x : X) → slice_get xs k ≡ Some x → k < length xs
 within [] k x h = absurd (none-some x h)
@@ -135,6 +137,11 @@ lost_fits c d k i o ms Trimming want m now s x done h = tt
 
 not_done : (ph : Phase) (want i : ℕ) (m : Member) → is_done ph want i m ≡ false → m.unreached ≡ false
 not_done ph want i m h = (or_parts m.unreached _ h).0
+
+pub way_with : (c : Cell) (o : Operation) (t i : ℕ) (aims : Aims) (m : Member) (x : Option Message) → m.message ≡ x → is_some x ≡ true → IsCarried c o t i aims m x → (e : Errand) × OnItsWay c o t i aims m e × (errand_of m.message ≡ Some e)
+way_with c o t i aims m None is out h = absurd (false≢true out)
+way_with c o t i aims m (Some (Asked e)) is out h = (e, h, ap errand_of is)
+way_with c o t i aims m (Some (Answered e told)) is out h = (e, h.way, ap errand_of is)
 
 pub way_of : (c : Cell) (o : Operation) (t i : ℕ) (aims : Aims) (m : Member) (x : Option Message) → m.message ≡ x → is_some x ≡ true → IsCarried c o t i aims m x → (e : Errand) × OnItsWay c o t i aims m e
 way_of c o t i aims m None is out h = absurd (false≢true out)
@@ -303,26 +310,30 @@ module _ (c : Cell) (t i : ℕ) (p b : Pending) (law : QuorumLaw c) (part : IsPa
     trimming = goes.trimming;
   }
 
+-- a try of message k is lost, and then the operation is decided or goes on
+abbrev LosesOne : ℕ → ℕ → List CellStep → Type 0
+LosesOne t k steps = (ending : List CellStep) × IsEnd t ending × (steps ≡ Lose k ∷ ending)
+
 -- one more try of a message that was sent
-lost_known : (c : Cell) (t i : ℕ) (p new : Pending) → QuorumLaw c → IsPartOf c t p → p.outcome ≡ None → i < length c.servers → LostSo c (operation c t) t i (get_or p.members.items i no_member).losses → (e : Errand) → OnItsWay c (operation c t) t i (aims_of c.cut p) (get_or p.members.items i no_member) e → Loses c.cut i p new → GoesBy c t (c.faults ++ i ∷ []) new
+lost_known : (c : Cell) (t i : ℕ) (p new : Pending) → QuorumLaw c → IsPartOf c t p → p.outcome ≡ None → i < length c.servers → (l : LostSo c (operation c t) t i (get_or p.members.items i no_member).losses) → (e : Errand) → OnItsWay c (operation c t) t i (aims_of c.cut p) (get_or p.members.items i no_member) e → Loses c.cut i p new → GoesAs c t (c.faults ++ i ∷ []) new (LosesOne t l.message)
 lost_known c t i p new law part waiting here l e way h =
     let b : Pending = h.between in
     let is : cell_step c (Lose l.message) ≡ put_operation (with_fault c i) t (with_loss (operation c t) l.message i) = is_lost c t i p b law part waiting here l e way h.notes in
     let kept : QuorumLaw (put_operation (with_fault c i) t (with_loss (operation c t) l.message i)) = subst QuorumLaw is (step_keeps c (Lose l.message) law) in
     let then_noted : Noted (put_operation (with_fault c i) t (with_loss (operation c t) l.message i)) t b = subst (Noted (put_operation (with_fault c i) t (with_loss (operation c t) l.message i)) t) (sym h.notes.rest) (noted c t i p b law part waiting here l e way h.notes) in
-    let s : GoesBy (put_operation (with_fault c i) t (with_loss (operation c t) l.message i)) t (c.faults ++ i ∷ []) new = settled (put_operation (with_fault c i) t (with_loss (operation c t) l.message i)) t b new kept then_noted h.settles in
-    record {
-      steps = Lose l.message ∷ s.steps;
-      strays = (tt, s.strays);
-      part = subst (λ (x : Cell). IsPartOf (run_cell s.steps x) t new) (sym is) s.part;
-      others = λ q n. ap (λ (x : Cell). operation (run_cell s.steps x) q) is ∙ s.others q n ∙ put_other (with_fault c i) t q (with_loss (operation c t) l.message i) n;
-      servers = ap (λ (x : Cell). (run_cell s.steps x).servers) is ∙ s.servers;
-      faults_are = ap (λ (x : Cell). (run_cell s.steps x).faults) is ∙ s.faults_are;
-    }
+    let s : GoesAs (put_operation (with_fault c i) t (with_loss (operation c t) l.message i)) t (c.faults ++ i ∷ []) new (IsEnd t) = settles_as (put_operation (with_fault c i) t (with_loss (operation c t) l.message i)) t b new kept then_noted h.settles in
+    (record {
+      steps = Lose l.message ∷ s.0.steps;
+      strays = (tt, s.0.strays);
+      part = subst (λ (x : Cell). IsPartOf (run_cell s.0.steps x) t new) (sym is) s.0.part;
+      others = λ q n. ap (λ (x : Cell). operation (run_cell s.0.steps x) q) is ∙ s.0.others q n ∙ put_other (with_fault c i) t q (with_loss (operation c t) l.message i) n;
+      servers = ap (λ (x : Cell). (run_cell s.0.steps x).servers) is ∙ s.0.servers;
+      faults_are = ap (λ (x : Cell). (run_cell s.0.steps x).faults) is ∙ s.0.faults_are;
+    }, (s.0.steps, s.1, refl))
 
 -- the first try of a message: it was sent
-lost_first : (c : Cell) (t i : ℕ) (p new : Pending) → QuorumLaw c → IsPartOf c t p → p.outcome ≡ None → i < length c.servers → (get_or p.members.items i no_member).losses ≡ 0 → (e : Errand) → OnItsWay c (operation c t) t i (aims_of c.cut p) (get_or p.members.items i no_member) e → Loses c.cut i p new → GoesBy c t (c.faults ++ i ∷ []) new
-lost_first c t i p new law part waiting here none e way h =
+lost_first : (c : Cell) (t i : ℕ) (p new : Pending) → QuorumLaw c → IsPartOf c t p → p.outcome ≡ None → i < length c.servers → (get_or p.members.items i no_member).losses ≡ 0 → (e : Errand) → OnItsWay c (operation c t) t i (aims_of c.cut p) (get_or p.members.items i no_member) e → errand_of (get_or p.members.items i no_member).message ≡ Some e → Loses c.cut i p new → GoesAs c t (c.faults ++ i ∷ []) new (IsLoss c t i (get_or p.members.items i no_member))
+lost_first c t i p new law part waiting here none e way errand h =
     let goes : Goes c t p = part.goes waiting in
     let a : (a : Ask) × (asked_by c.entries c.cut e ≡ Some a) × (ask_for c (operation c t) (wish_of e) ≡ Some a) = can_ask c (operation c t) (aims_of c.cut p) p.members.items (get_or p.members.items i no_member) e goes.course way.planned in
     let d : Cell = record c { requests = c.requests ++ record { ticket = t; server = i; ask = a.0 } ∷ [] } in
@@ -339,26 +350,31 @@ lost_first c t i p new law part waiting here none e way h =
       to_server = refl;
       tries = tried_none ∙ sym none;
     } in
-    let s : GoesBy (record c { requests = c.requests ++ record { ticket = t; server = i; ask = a.0 } ∷ [] }) t (c.faults ++ i ∷ []) new =
+    let s : GoesAs (record c { requests = c.requests ++ record { ticket = t; server = i; ask = a.0 } ∷ [] }) t (c.faults ++ i ∷ []) new (LosesOne t (length c.requests)) =
     lost_known (record c { requests = c.requests ++ record { ticket = t; server = i; ask = a.0 } ∷ [] }) t i p new kept stays waiting here l e (record { planned = way.planned; unmet = way.unmet; few = way.few; pooled = inl none }) h in
-    record {
-      steps = Send t i (wish_of e) ∷ s.steps;
-      strays = (tt, s.strays);
-      part = subst (λ (x : Cell). IsPartOf (run_cell s.steps x) t new) (sym is) s.part;
-      others = λ q n. ap (λ (x : Cell). operation (run_cell s.steps x) q) is ∙ s.others q n;
-      servers = ap (λ (x : Cell). (run_cell s.steps x).servers) is ∙ s.servers;
-      faults_are = ap (λ (x : Cell). (run_cell s.steps x).faults) is ∙ s.faults_are;
-    }
+    (record {
+      steps = Send t i (wish_of e) ∷ s.0.steps;
+      strays = (tt, s.0.strays);
+      part = subst (λ (x : Cell). IsPartOf (run_cell s.0.steps x) t new) (sym is) s.0.part;
+      others = λ q n. ap (λ (x : Cell). operation (run_cell s.0.steps x) q) is ∙ s.0.others q n;
+      servers = ap (λ (x : Cell). (run_cell s.0.steps x).servers) is ∙ s.0.servers;
+      faults_are = ap (λ (x : Cell). (run_cell s.0.steps x).faults) is ∙ s.0.faults_are;
+    }, record { ending = s.1.0; ends = s.1.1; loses = inl (record { errand = e; is = errand; none = none; takes = ap (λ (xs : List CellStep). Send t i (wish_of e) ∷ xs) s.1.2 }) })
+
+pub loses_as : (c : Cell) (t i : ℕ) (p new : Pending) → QuorumLaw c → IsPartOf c t p → p.outcome ≡ None → i < length c.servers → is_out (get_or p.members.items i no_member) ≡ true → Loses c.cut i p new → GoesAs c t (c.faults ++ i ∷ []) new (IsLoss c t i (get_or p.members.items i no_member))
+loses_as c t i p new law part waiting here out h = by way.1.pooled
+  where
+    way : (e : Errand) × OnItsWay c (operation c t) t i (aims_of c.cut p) (get_or p.members.items i no_member) e × (errand_of (get_or p.members.items i no_member).message ≡ Some e)
+    way = way_with c (operation c t) t i (aims_of c.cut p) (get_or p.members.items i no_member) (get_or p.members.items i no_member).message refl out ((part.goes waiting).carried i here)
+
+    by : IsPooled c (operation c t) t i (get_or p.members.items i no_member).losses → GoesAs c t (c.faults ++ i ∷ []) new (IsLoss c t i (get_or p.members.items i no_member))
+    by (inl none) = lost_first c t i p new law part waiting here none way.0 way.1 way.2 h
+    by (inr l) =
+        let s : GoesAs c t (c.faults ++ i ∷ []) new (LosesOne t l.message) = lost_known c t i p new law part waiting here l way.0 way.1 h in
+        (s.0, record { ending = s.1.0; ends = s.1.1; loses = inr (record { lost = l; takes = s.1.2 }) })
 
 pub loses : (c : Cell) (t i : ℕ) (p new : Pending) → QuorumLaw c → IsPartOf c t p → p.outcome ≡ None → i < length c.servers → is_out (get_or p.members.items i no_member) ≡ true → Loses c.cut i p new → GoesBy c t (c.faults ++ i ∷ []) new
-loses c t i p new law part waiting here out h = by way.1.pooled
-  where
-    way : (e : Errand) × OnItsWay c (operation c t) t i (aims_of c.cut p) (get_or p.members.items i no_member) e
-    way = way_of c (operation c t) t i (aims_of c.cut p) (get_or p.members.items i no_member) (get_or p.members.items i no_member).message refl out ((part.goes waiting).carried i here)
-
-    by : IsPooled c (operation c t) t i (get_or p.members.items i no_member).losses → GoesBy c t (c.faults ++ i ∷ []) new
-    by (inl none) = lost_first c t i p new law part waiting here none way.0 way.1 h
-    by (inr l) = lost_known c t i p new law part waiting here l way.0 way.1 h
+loses c t i p new law part waiting here out h = (loses_as c t i p new law part waiting here out h).0
 
 ---- what it is once the message was lost, before it comes to anything
 

@@ -82,7 +82,7 @@ tail_well s before cut want ph m l = by s.up (is_sealed s)
     by true true = l
     by true false = l
 
-short_slice : (xs : List Entry) (k : ℕ) → slice_get xs k ≡ None → length xs ≤ k
+pub short_slice : (xs : List Entry) (k : ℕ) → slice_get xs k ≡ None → length xs ≤ k
 short_slice [] k h = omega arith
 short_slice (x ∷ xs) zero h = absurd (none-some x (sym h))
 short_slice (x ∷ xs) (suc k) h = omega (arith, short_slice xs k h)

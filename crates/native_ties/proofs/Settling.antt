@@ -27,6 +27,7 @@ use Rattle.native_plan.specs.Pendings.{aims_of, verdict_of, Settles}
 use Rattle.native_plan.specs.Course.{Fills, AimsAt, IsOnCourse, GoesOn, IsAllowed}
 use Rattle.native_plan.proofs.Verdicts.{verdict_allowed}
 use Rattle.native_ties.specs.Parts.{IsCarried, NamesRequest, Goes, Shows, IsPartOf, GoesBy}
+use Rattle.native_ties.specs.Steps.{IsEnd, GoesAs}
 use Rattle.native_ties.proofs.Resending.{course_again, carried_again, done_resent}
 use Rattle.native_ties.proofs.Hearing.{put_there, put_other}
 
@@ -150,9 +151,13 @@ go_part d t b new ph h verdict g s =
     record { steps = []; strays = tt; part = subst (IsPartOf d t) (sym s.0) part; others = λ q n. refl; servers = refl; faults_are = refl }
 
 -- whatever it comes to
-pub settled : (d : Cell) (t : ℕ) (b new : Pending) → QuorumLaw d → Noted d t b → Settles d.cut b (verdict_of d.cut b) new → GoesBy d t d.faults new
-settled d t b new law h s = by (verdict_of d.cut b) refl (verdict_allowed d (operation d t) (aims_of d.cut b) b.members.items (is_some b.got) law h.course h.told) s
+pub settles_as : (d : Cell) (t : ℕ) (b new : Pending) → QuorumLaw d → Noted d t b → Settles d.cut b (verdict_of d.cut b) new → GoesAs d t d.faults new (IsEnd t)
+unfolding done_part go_part
+settles_as d t b new law h s = by (verdict_of d.cut b) refl (verdict_allowed d (operation d t) (aims_of d.cut b) b.members.items (is_some b.got) law h.course h.told) s
   where
-    by : (v : Verdict) → verdict_of d.cut b ≡ v → IsAllowed d (operation d t) (aims_of d.cut b) b.members.items (is_some b.got) v → Settles d.cut b v new → GoesBy d t d.faults new
-    by (Done a) e allowed z = done_part d t b new a h allowed.0 allowed.1 z
-    by (Go ph) e allowed z = go_part d t b new ph h e allowed z
+    by : (v : Verdict) → verdict_of d.cut b ≡ v → IsAllowed d (operation d t) (aims_of d.cut b) b.members.items (is_some b.got) v → Settles d.cut b v new → GoesAs d t d.faults new (IsEnd t)
+    by (Done a) e allowed z = (done_part d t b new a h allowed.0 allowed.1 z, inr (a, refl))
+    by (Go ph) e allowed z = (go_part d t b new ph h e allowed z, inl refl)
+
+pub settled : (d : Cell) (t : ℕ) (b new : Pending) → QuorumLaw d → Noted d t b → Settles d.cut b (verdict_of d.cut b) new → GoesBy d t d.faults new
+settled d t b new law h s = (settles_as d t b new law h s).0

@@ -17,7 +17,8 @@ ghost use Rattle.native_plan.specs.declared.message.Errand as errands;
 ghost use Rattle.native_plan.specs.declared.message.Message.TheVariants.{Asked, Told as Answered};
 ghost use Rattle.native_plan.specs.Members.{no_member, is_out};
 ghost use Rattle.native_plan.specs.Pendings.{left_now, Begins, Answers, Hears, Loses};
-ghost use Rattle.native_ties.specs.Parts.{StartsIn, AreKnown, Extends, IsPartOf, IsAllowed, IsBounded, GoesBy, AnswersBy, wish_of};
+ghost use Rattle.native_ties.specs.Parts.{StartsIn, AreKnown, Extends, IsPartOf, IsAllowed, IsBounded, wish_of};
+ghost use Rattle.native_ties.specs.Steps.{GoesAs, AnswersAs, IsAnswer, IsRequest, IsStop, IsLoss};
 
 /// What an open operation is in its cell it is in each later one that leaves it alone.
 pub fn parts_stay()
@@ -33,15 +34,15 @@ pub fn operations_begin()
         → Begins (op_of aim) start (cut_after cell aim) known p → IsPartOf (admit cell aim) (length cell.operations) p }
 {}
 
-/// An operation that hears an answer, and then is decided or sends on, takes steps of its cell: the
-/// answer comes, and where the operation is decided the cell decides so. So whatever cell it was a
+/// An operation that hears an answer, and then is decided or sends on, takes these steps of its cell: the
+/// answer of this server to this errand comes, and where the operation is decided the cell decides so. So whatever cell it was a
 /// part of, it is a part of one that steps lead to.
 pub fn answers_come()
     ensures { (cell : Cell) (t i : ℕ) (p new : pending.Pending) (errand : errands.Errand) (told : Told) → QuorumLaw cell → IsPartOf cell t p → p.outcome ≡ None → i < length cell.servers
-        → (get_or p.members.items i no_member).message ≡ Some (Answered errand told) → Hears cell.cut i errand told p new → GoesBy cell t cell.faults new }
+        → (get_or p.members.items i no_member).message ≡ Some (Answered errand told) → Hears cell.cut i errand told p new → GoesAs cell t cell.faults new (IsAnswer cell t i errand told) }
 {}
 
-/// A request of an operation that comes to its server takes steps of the cell: it is sent, and comes.
+/// A request of an operation that comes to its server takes two steps of the cell: it is sent, and comes.
 /// What is asked is the errand as the cell has it: its own entry, or a trim to its cut. The server
 /// answers by its table, or its disk fails in the write that the table wants, and it is down; and
 /// the answer is on its way.
@@ -49,11 +50,11 @@ pub fn requests_come()
     ensures answered { (cell : Cell) (t i : ℕ) (p new : pending.Pending) (errand : errands.Errand) (ask : Ask) → QuorumLaw cell → IsPartOf cell t p → p.outcome ≡ None → i < length cell.servers
         → (get_or p.members.items i no_member).message ≡ Some (Asked errand) → ask_for cell (operation cell t) (wish_of errand) ≡ Some ask
         → Answers i errand (told (server cell i) ask) p new
-        → AnswersBy cell t i (if (server cell i).up then written (server cell i) ask else server cell i) cell.faults new }
+        → AnswersAs cell t i (if (server cell i).up then written (server cell i) ask else server cell i) cell.faults new (IsRequest cell t i errand) }
     ensures failed { (cell : Cell) (t i : ℕ) (p new : pending.Pending) (errand : errands.Errand) (ask : Ask) → QuorumLaw cell → IsPartOf cell t p → p.outcome ≡ None → i < length cell.servers
         → (get_or p.members.items i no_member).message ≡ Some (Asked errand) → ask_for cell (operation cell t) (wish_of errand) ≡ Some ask
         → ((server cell i).up && writes (server cell i) ask) ≡ true → Answers i errand DiskFault p new
-        → AnswersBy cell t i (record (server cell i) { up = false; torn = Some ask }) (cell.faults ++ i ∷ []) new }
+        → AnswersAs cell t i (record (server cell i) { up = false; torn = Some ask }) (cell.faults ++ i ∷ []) new (IsStop cell t i errand) }
 {}
 
 /// A request of an operation may be sent: its cell lets the operation ask just what the errand says.
@@ -62,12 +63,12 @@ pub fn requests_are_allowed()
         → (get_or p.members.items i no_member).message ≡ Some (Asked errand) → IsAllowed cell t errand }
 {}
 
-/// A message of an operation that is lost takes steps of the cell: it is sent, where it wasn't yet,
-/// and a try of it, or of its answer, is lost, which is a fault of its server. Then the operation is
+/// A message of an operation that is lost takes these steps of the cell: it is sent, where it wasn't yet,
+/// and one try of it, or of its answer, is lost, which is a fault of its server. Then the operation is
 /// decided, or sends on.
 pub fn messages_are_lost()
     ensures { (cell : Cell) (t i : ℕ) (p new : pending.Pending) → QuorumLaw cell → IsPartOf cell t p → p.outcome ≡ None → i < length cell.servers
-        → is_out (get_or p.members.items i no_member) ≡ true → Loses cell.cut i p new → GoesBy cell t (cell.faults ++ i ∷ []) new }
+        → is_out (get_or p.members.items i no_member) ≡ true → Loses cell.cut i p new → GoesAs cell t (cell.faults ++ i ∷ []) new (IsLoss cell t i (get_or p.members.items i no_member)) }
 {}
 
 /// With each message that moves less is left to do of an operation, the first number counting first.

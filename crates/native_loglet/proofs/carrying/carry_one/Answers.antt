@@ -1,12 +1,14 @@
 use Rattle.std.proofs.Common.{◌≡◌, ◌<◌, ◌∙◌, ap, sym, arith, length, get_or}
 use Rattle.log_server.specs.View.{View}
 use Rattle.native_plan.specs.declared.member.Member.{Member}
-use Rattle.native_plan.specs.Members.{no_member, turn_of}
+use Rattle.native_plan.specs.Members.{no_member, turn_of, nth_out}
+use Rattle.fate_words.specs.Words.{pick_of}
 use Rattle.native_plan.proofs.Counts.{same_default}
 use Rattle.native_loglet.proofs.Rules.{there_is, nth_is_out, asks_of, rests_of, moved_by_loss, moved_by_answer, moved_by_request, if_ok, on_err}
 use Rattle.native_loglet.proofs.Alike.{set_same}
 use Rattle.native_loglet.proofs.Serving.{wear_same, moves_wear, states_same, lost_failed, none_failed, asked_failed, is_lost_by, is_kept_by}
 use Rattle.native_loglet.specs.Natives.{states_in, down_in}
+use Rattle.native_loglet.proofs.Disks.{same_disks, put_disks}
 use Rattle.native_loglet.proofs.carrying.carry_one.Goals as goal
 
 pub pick-requires : goal.pick-requires
@@ -34,7 +36,7 @@ pub bounds-replicas-server : goal.bounds-replicas-server
 bounds-replicas-server g c = omega (arith, c.pick-server.ensures.here, c.requires.can.members)
 
 pub returns-then-is_lost-clause-moves : goal.returns-then-is_lost-clause-moves
-returns-then-is_lost-clause-moves g c = moved_by_loss _ _ c.pick-server.result _ _ _ c.pick-server.ensures.here (rw c.pick-server.ensures.value (nth_is_out c.pick.result c.args.p.now.members.items (omega (arith, c.pick.ensures.one, c.outstanding.ensures)))) c.lose.ensures
+returns-then-is_lost-clause-moves g c = moved_by_loss _ _ c.args.word c.pick-server.result c.fate.result c.is_lost.result _ _ _ (c.pick-server.ensures.value ∙ ap (λ k. nth_out k c.args.p.now.members.items) (c.pick.ensures.value ∙ ap (pick_of c.args.word) c.outstanding.ensures)) c.fate.ensures c.is_lost.ensures c.if-is_lost.true c.pick-server.ensures.here (rw c.pick-server.ensures.value (nth_is_out c.pick.result c.args.p.now.members.items (omega (arith, c.pick.ensures.one, c.outstanding.ensures)))) c.lose.ensures
 
 pub ask-requires-clause-there : goal.ask-requires-clause-there
 ask-requires-clause-there g c =
@@ -46,7 +48,7 @@ returns-in-Asks-clause-moves g c =
     let member : c.index.result.now ≡ get_or c.args.p.now.members.items c.pick-server.result no_member = c.index.ensures ∙ same_default _ _ _ _ c.pick-server.ensures.here in
     let here : c.pick-server.result < length c.args.replicas.now = omega (arith, c.pick-server.ensures.here, c.requires.can.members) in
     if_ok c.ask.result _ _
-    (λ failed a. moved_by_request _ _ c.pick-server.result c.in-Asks.errand _ _ _ (get_or c.args.replicas.now c.pick-server.result c.index-replicas-server.result) c.ask.new.replica failed c.pick-server.ensures.here here (ap (λ (m : Member). turn_of m.message) (sym member) ∙ sym c.turn.ensures ∙ c.in-Asks.is) (ap (λ (v : View). get_or c.args.replicas.now c.pick-server.result v) c.index-replicas-server.is) a)
+    (λ failed a. moved_by_request _ _ c.args.word c.pick-server.result c.fate.result c.is_lost.result c.in-Asks.errand _ _ _ (get_or c.args.replicas.now c.pick-server.result c.index-replicas-server.result) c.ask.new.replica failed (c.pick-server.ensures.value ∙ ap (λ k. nth_out k c.args.p.now.members.items) (c.pick.ensures.value ∙ ap (pick_of c.args.word) c.outstanding.ensures)) c.fate.ensures c.is_lost.ensures c.if-is_lost.false c.pick-server.ensures.here here (ap (λ (m : Member). turn_of m.message) (sym member) ∙ sym c.turn.ensures ∙ c.in-Asks.is) (ap (λ (v : View). get_or c.args.replicas.now c.pick-server.result v) c.index-replicas-server.is) a)
     c.ask.ensures.answers
 
 pub returns-in-Asks-clause-memory : goal.returns-in-Asks-clause-memory
@@ -57,7 +59,7 @@ returns-in-Asks-clause-memory g c =
 pub returns-in-Tells-clause-moves : goal.returns-in-Tells-clause-moves
 returns-in-Tells-clause-moves g c =
     let member : c.index.result.now ≡ get_or c.args.p.now.members.items c.pick-server.result no_member = c.index.ensures ∙ same_default _ _ _ _ c.pick-server.ensures.here in
-    moved_by_answer _ _ c.pick-server.result _ _ _ c.pick-server.ensures.here (ap (λ (m : Member). turn_of m.message) (sym member) ∙ sym c.turn.ensures ∙ c.in-Tells.is) c.hear.ensures
+    moved_by_answer _ _ c.args.word c.pick-server.result c.fate.result c.is_lost.result _ _ _ (c.pick-server.ensures.value ∙ ap (λ k. nth_out k c.args.p.now.members.items) (c.pick.ensures.value ∙ ap (pick_of c.args.word) c.outstanding.ensures)) c.fate.ensures c.is_lost.ensures c.if-is_lost.false c.pick-server.ensures.here (ap (λ (m : Member). turn_of m.message) (sym member) ∙ sym c.turn.ensures ∙ c.in-Tells.is) c.hear.ensures
 
 pub returns-in-Rests-clause-moves : goal.returns-in-Rests-clause-moves
 returns-in-Rests-clause-moves g c =
@@ -68,7 +70,7 @@ pub returns-then-is_lost-clause-wear : goal.returns-then-is_lost-clause-wear
 returns-then-is_lost-clause-wear g c = wear_same (states_in c.args.replicas.now)
 
 pub returns-in-Asks-clause-wear : goal.returns-in-Asks-clause-wear
-returns-in-Asks-clause-wear g c = if_ok c.ask.result _ _ (λ failed m. moves_wear _ _ _ _ _ _ _ failed c.requires.can m) (returns-in-Asks-clause-moves g c)
+returns-in-Asks-clause-wear g c = if_ok c.ask.result _ _ (λ failed m. moves_wear _ _ _ _ _ _ _ _ failed c.requires.can m) (returns-in-Asks-clause-moves g c)
 
 pub returns-in-Asks-clause-spared : goal.returns-in-Asks-clause-spared
 returns-in-Asks-clause-spared g c =
@@ -99,3 +101,15 @@ returns-in-Tells-clause-failed g c = none_failed c.args.word (down_in c.args.rep
 
 pub returns-in-Rests-clause-failed : goal.returns-in-Rests-clause-failed
 returns-in-Rests-clause-failed g c = none_failed c.args.word (down_in c.args.replicas.now) (is_kept_by c.fate.result c.is_lost.result c.args.word c.fate.ensures c.is_lost.ensures c.if-is_lost.false)
+
+pub returns-then-is_lost-clause-disks : goal.returns-then-is_lost-clause-disks
+returns-then-is_lost-clause-disks g c = same_disks c.args.replicas.now
+
+pub returns-in-Asks-clause-disks : goal.returns-in-Asks-clause-disks
+returns-in-Asks-clause-disks g c = put_disks c.args.replicas.now c.pick-server.result c.ask.new.replica c.ask.ensures.survives
+
+pub returns-in-Tells-clause-disks : goal.returns-in-Tells-clause-disks
+returns-in-Tells-clause-disks g c = same_disks c.args.replicas.now
+
+pub returns-in-Rests-clause-disks : goal.returns-in-Rests-clause-disks
+returns-in-Rests-clause-disks g c = same_disks c.args.replicas.now

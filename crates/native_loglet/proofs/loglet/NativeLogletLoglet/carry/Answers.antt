@@ -15,6 +15,9 @@ use Rattle.native_loglet.specs.Natives.{down_in}
 use Rattle.native_loglet.specs.Faults.{faults_after, is_failed}
 use Rattle.native_loglet.proofs.Counting.{carry_counts}
 use Rattle.native_loglet.proofs.Serving.{serving_with, states_with}
+use Rattle.native_loglet.specs.Steps.{NativeStep}
+use Rattle.native_loglet.proofs.Goes.{goes_from, stays_goes, carries_goes}
+use Rattle.native_loglet.specs.Disks.{KeepDisks}
 use Rattle.native_loglet.proofs.loglet.NativeLogletLoglet.carry.Goals as goal
 
 -- the servers that were lent come back
@@ -24,61 +27,61 @@ lent_back count vs ws many same = ap (λ n. take n (ws ++ drop (length ws) vs)) 
 pub carry_at-requires-clause-can : goal.carry_at-requires-clause-can
 carry_at-requires-clause-can g c =
     let i = c.self.inside in
-    let a : Native = native_of i.room i.entries.items i.replicas.items i.marks i.pending in
+    let a : Native = native_of i.room i.entries.items i.replicas.items i.marks i.pending.entries in
     rw (c.number.ensures, c.deref.ensures.value, c.deref_mut.ensures.value) (can_carry a _ c.args.ticket c.args.word (shows a _ c.self.view_is) c.self.invariant c.requires)
 
 pub carry_at-requires-clause-spelled : goal.carry_at-requires-clause-spelled
 carry_at-requires-clause-spelled g c =
     let i = c.self.inside in
-    let a : Native = native_of i.room i.entries.items i.replicas.items i.marks i.pending in
+    let a : Native = native_of i.room i.entries.items i.replicas.items i.marks i.pending.entries in
     rw c.deref.ensures.value (entries_spelled a c.self.invariant)
 
 pub carry_at-requires-clause-small : goal.carry_at-requires-clause-small
 carry_at-requires-clause-small g c =
     let i = c.self.inside in
-    let a : Native = native_of i.room i.entries.items i.replicas.items i.marks i.pending in
+    let a : Native = native_of i.room i.entries.items i.replicas.items i.marks i.pending.entries in
     rw c.deref.ensures.value (entries_small a c.self.invariant)
 
 pub carry_at-requires-clause-cut : goal.carry_at-requires-clause-cut
 carry_at-requires-clause-cut g c =
     let i = c.self.inside in
-    let a : Native = native_of i.room i.entries.items i.replicas.items i.marks i.pending in
+    let a : Native = native_of i.room i.entries.items i.replicas.items i.marks i.pending.entries in
     cut_small a c.self.invariant
 
 pub invariant_of-self : goal.invariant_of-self
 invariant_of-self g c =
     let i = c.self.inside in
-    let a : Native = native_of i.room i.entries.items i.replicas.items i.marks i.pending in
-    let b : Native = native_of i.room i.entries.items c.carry_at.new.replicas i.marks c.carry_at.new.pending in
+    let a : Native = native_of i.room i.entries.items i.replicas.items i.marks i.pending.entries in
+    let b : Native = native_of i.room i.entries.items c.carry_at.new.replicas i.marks c.carry_at.new.pending.entries in
     let same : Alike a b = record { room = refl; entries = refl; servers = c.in_default.ensures.memory ∙ ap (map server_in) c.deref_mut.ensures.value; marks = refl; pending = c.in_default.ensures.pending } in
     let back = lent_back i.replicas.len i.replicas.items c.carry_at.new.replicas i.replicas.ok.0 (c.carry_at.auto.replicas ∙ ap (λ (vs : List View). length vs) c.deref_mut.ensures.value) in
-    subst (λ (vs : List View). IsOwned (native_of i.room i.entries.items vs i.marks c.carry_at.new.pending)) (sym back) (alike_owned a b same c.self.invariant)
+    subst (λ (vs : List View). IsOwned (native_of i.room i.entries.items vs i.marks c.carry_at.new.pending.entries)) (sym back) (alike_owned a b same c.self.invariant)
 
 pub returns-in_default-clause-step : goal.returns-in_default-clause-step
 returns-in_default-clause-step g c =
     let i = c.self.inside in
-    let a : Native = native_of i.room i.entries.items i.replicas.items i.marks i.pending in
-    let b : Native = native_of i.room i.entries.items c.carry_at.new.replicas i.marks c.carry_at.new.pending in
+    let a : Native = native_of i.room i.entries.items i.replicas.items i.marks i.pending.entries in
+    let b : Native = native_of i.room i.entries.items c.carry_at.new.replicas i.marks c.carry_at.new.pending.entries in
     let same : Alike a b = record { room = refl; entries = refl; servers = c.in_default.ensures.memory ∙ ap (map server_in) c.deref_mut.ensures.value; marks = refl; pending = c.in_default.ensures.pending } in
     let back = lent_back i.replicas.len i.replicas.items c.carry_at.new.replicas i.replicas.ok.0 (c.carry_at.auto.replicas ∙ ap (λ (vs : List View). length vs) c.deref_mut.ensures.value) in
-    subst (λ (vs : List View). LogletStep c.args.self.now.loglet (Carry c.args.ticket c.args.word) (Refusal Memory) (loglet_of (native_of i.room i.entries.items vs i.marks c.carry_at.new.pending))) (sym back)
+    subst (λ (vs : List View). LogletStep c.args.self.now.loglet (Carry c.args.ticket c.args.word) (Refusal Memory) (loglet_of (native_of i.room i.entries.items vs i.marks c.carry_at.new.pending.entries))) (sym back)
     (step_alike a b _ _ _ (shows a _ c.self.view_is) c.self.invariant same c.requires refl)
 
 pub invariant_of-self-2 : goal.invariant_of-self-2
 invariant_of-self-2 g c =
     let i = c.self.inside in
-    let a : Native = native_of i.room i.entries.items i.replicas.items i.marks i.pending in
+    let a : Native = native_of i.room i.entries.items i.replicas.items i.marks i.pending.entries in
     let back = lent_back i.replicas.len i.replicas.items c.carry_at.new.replicas i.replicas.ok.0 (c.carry_at.auto.replicas ∙ ap (λ (vs : List View). length vs) c.deref_mut.ensures.value) in
-    subst (λ (vs : List View). IsOwned (native_of i.room i.entries.items vs c.after-self-inside.result c.carry_at.new.pending)) (sym back)
-    (carries_whole a c.carry_at.new.replicas c.carry_at.new.pending c.after-self-inside.result _ c.args.ticket c.args.word c.in-Ok.failed (shows a _ c.self.view_is) c.self.invariant c.requires (rw (c.number.ensures, c.deref.ensures.value, c.deref_mut.ensures.value) at c.in-Ok.ensures.carries) c.after-self-inside.ensures).0
+    subst (λ (vs : List View). IsOwned (native_of i.room i.entries.items vs c.after-self-inside.result c.carry_at.new.pending.entries)) (sym back)
+    (carries_whole a c.carry_at.new.replicas c.carry_at.new.pending.entries c.after-self-inside.result _ c.args.ticket c.args.word c.in-Ok.failed (shows a _ c.self.view_is) c.self.invariant c.requires (rw (c.number.ensures, c.deref.ensures.value, c.deref_mut.ensures.value) at c.in-Ok.ensures.carries) c.after-self-inside.ensures).0
 
 pub returns-clause-step : goal.returns-clause-step
 returns-clause-step g c =
     let i = c.self.inside in
-    let a : Native = native_of i.room i.entries.items i.replicas.items i.marks i.pending in
+    let a : Native = native_of i.room i.entries.items i.replicas.items i.marks i.pending.entries in
     let back = lent_back i.replicas.len i.replicas.items c.carry_at.new.replicas i.replicas.ok.0 (c.carry_at.auto.replicas ∙ ap (λ (vs : List View). length vs) c.deref_mut.ensures.value) in
-    subst (λ (vs : List View). LogletStep c.args.self.now.loglet (Carry c.args.ticket c.args.word) Carried (loglet_of (native_of i.room i.entries.items vs c.after-self-inside.result c.carry_at.new.pending))) (sym back)
-    (carries_whole a c.carry_at.new.replicas c.carry_at.new.pending c.after-self-inside.result _ c.args.ticket c.args.word c.in-Ok.failed (shows a _ c.self.view_is) c.self.invariant c.requires (rw (c.number.ensures, c.deref.ensures.value, c.deref_mut.ensures.value) at c.in-Ok.ensures.carries) c.after-self-inside.ensures).1
+    subst (λ (vs : List View). LogletStep c.args.self.now.loglet (Carry c.args.ticket c.args.word) Carried (loglet_of (native_of i.room i.entries.items vs c.after-self-inside.result c.carry_at.new.pending.entries))) (sym back)
+    (carries_whole a c.carry_at.new.replicas c.carry_at.new.pending.entries c.after-self-inside.result _ c.args.ticket c.args.word c.in-Ok.failed (shows a _ c.self.view_is) c.self.invariant c.requires (rw (c.number.ensures, c.deref.ensures.value, c.deref_mut.ensures.value) at c.in-Ok.ensures.carries) c.after-self-inside.ensures).1
 
 pub returns-in_default-clause-serves : goal.returns-in_default-clause-serves
 returns-in_default-clause-serves g c =
@@ -99,7 +102,39 @@ returns-clause-serves g c =
 pub returns-clause-counts : goal.returns-clause-counts
 returns-clause-counts g c =
     let i = c.self.inside in
-    let a : Native = native_of i.room i.entries.items i.replicas.items i.marks i.pending in
+    let a : Native = native_of i.room i.entries.items i.replicas.items i.marks i.pending.entries in
     let back = lent_back i.replicas.len i.replicas.items c.carry_at.new.replicas i.replicas.ok.0 (c.carry_at.auto.replicas ∙ ap (λ (vs : List View). length vs) c.deref_mut.ensures.value) in
     subst (λ (vs : List View). c.after-self-inside.result.faults ≡ faults_after (is_failed c.args.word c.args.self.now.loglet.down (down_in vs)) c.args.self.now.loglet.faults) (sym back)
     (carry_counts a c.carry_at.new.replicas c.after-self-inside.result _ c.args.ticket c.args.word c.in-Ok.failed (shows a _ c.self.view_is) c.self.invariant c.requires (rw (c.number.ensures, c.deref_mut.ensures.value) at c.in-Ok.ensures.failed) c.after-self-inside.ensures)
+
+pub returns-in_default-clause-goes : goal.returns-in_default-clause-goes
+returns-in_default-clause-goes g c =
+    let i = c.self.inside in
+    let a : Native = native_of i.room i.entries.items i.replicas.items i.marks i.pending.entries in
+    let b : Native = native_of i.room i.entries.items c.carry_at.new.replicas i.marks c.carry_at.new.pending.entries in
+    let same : Alike a b = record { room = refl; entries = refl; servers = c.in_default.ensures.memory ∙ ap (map server_in) c.deref_mut.ensures.value; marks = refl; pending = c.in_default.ensures.pending } in
+    let back = lent_back i.replicas.len i.replicas.items c.carry_at.new.replicas i.replicas.ok.0 (c.carry_at.auto.replicas ∙ ap (λ (vs : List View). length vs) c.deref_mut.ensures.value) in
+    subst (λ (vs : List View). NativeStep c.args.self.now.parts (Carry c.args.ticket c.args.word) (Refusal Memory) (native_of i.room i.entries.items vs i.marks c.carry_at.new.pending.entries)) (sym back)
+    (goes_from a _ _ _ b c.self.view_is c.requires (λ can. stays_goes a b _ _ c.self.invariant same can refl (λ d. refl)))
+
+pub returns-clause-goes : goal.returns-clause-goes
+returns-clause-goes g c =
+    let i = c.self.inside in
+    let a : Native = native_of i.room i.entries.items i.replicas.items i.marks i.pending.entries in
+    let back = lent_back i.replicas.len i.replicas.items c.carry_at.new.replicas i.replicas.ok.0 (c.carry_at.auto.replicas ∙ ap (λ (vs : List View). length vs) c.deref_mut.ensures.value) in
+    subst (λ (vs : List View). NativeStep c.args.self.now.parts (Carry c.args.ticket c.args.word) Carried (native_of i.room i.entries.items vs c.after-self-inside.result c.carry_at.new.pending.entries)) (sym back)
+    (goes_from a _ _ _ _ c.self.view_is c.requires (λ can. carries_goes a c.carry_at.new.replicas c.carry_at.new.pending.entries c.after-self-inside.result c.args.ticket c.args.word c.in-Ok.failed c.self.invariant can (rw (c.number.ensures, c.deref.ensures.value, c.deref_mut.ensures.value) at c.in-Ok.ensures.carries) c.after-self-inside.ensures))
+
+pub returns-in_default-clause-disks : goal.returns-in_default-clause-disks
+returns-in_default-clause-disks g c =
+    let i = c.self.inside in
+    let back = lent_back i.replicas.len i.replicas.items c.carry_at.new.replicas i.replicas.ok.0 (c.carry_at.auto.replicas ∙ ap (λ (vs : List View). length vs) c.deref_mut.ensures.value) in
+    subst (λ (vs : List View). KeepDisks c.args.self.now.replicas vs) (sym back)
+    (subst (λ (x : NativeView). KeepDisks x.replicas c.carry_at.new.replicas) c.self.view_is (subst (λ (vs : List View). KeepDisks vs c.carry_at.new.replicas) c.deref_mut.ensures.value c.carry_at.ensures.disks))
+
+pub returns-clause-disks : goal.returns-clause-disks
+returns-clause-disks g c =
+    let i = c.self.inside in
+    let back = lent_back i.replicas.len i.replicas.items c.carry_at.new.replicas i.replicas.ok.0 (c.carry_at.auto.replicas ∙ ap (λ (vs : List View). length vs) c.deref_mut.ensures.value) in
+    subst (λ (vs : List View). KeepDisks c.args.self.now.replicas vs) (sym back)
+    (subst (λ (x : NativeView). KeepDisks x.replicas c.carry_at.new.replicas) c.self.view_is (subst (λ (vs : List View). KeepDisks vs c.carry_at.new.replicas) c.deref_mut.ensures.value c.carry_at.ensures.disks))
