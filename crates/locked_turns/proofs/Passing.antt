@@ -36,7 +36,7 @@ are_others who (e ∷ es) h = (h.0, are_others who es h.1)
 module _ (may : ℕ → Entry → Type 0) (floor : List Entry → ℕ → Type 0) (shelf : List ℕ) (who : ℕ) (old : List Event) (call : FabricCall) where
   -- beside all others, a turn may be made where one may be taken
   pub may_take : MayTurn may floor shelf who old call → MayTake may floor shelf (λ user. user ≢ who) who old call
-  may_take h = λ others between legal. h others (are_others who others between) legal
+  may_take h = record { behind = λ others between legal. h others (are_others who others between) legal }
 
   pub is_turn : (answer : FabricAnswer) (new : List Event) → IsTaken may floor shelf (λ user. user ≢ who) who old call answer new → IsTurn may floor shelf who old call answer new
   is_turn answer new t = record { others = t.others; own = t.own; apart = are_others who t.others t.between; event = t.event; seen = t.seen; legal = t.legal }

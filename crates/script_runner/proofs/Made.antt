@@ -43,6 +43,9 @@ use Rattle.script_runner.specs.declared.ended.Status.{Status}
 use Rattle.script_runner.specs.declared.ended.Status.TheVariants as status
 use Rattle.script_runner.specs.Ends.{Ran, ComesFrom, any_open, Composes}
 use Rattle.script_runner.specs.Made.{CountsMade, lines_made}
+use Rattle.made_script.proofs.Asking.{count-logged, count-extends, sum-added, all-made}
+use Rattle.run_totals.proofs.Whole.{answered-acts}
+use Rattle.run_totals.proofs.Amounts.{whole-sum}
 use Rattle.script_runner.proofs.ScriptLines.{count_by-append, all_ranked}
 
 -- The same lines are counted
@@ -277,70 +280,43 @@ segments_made lines told yard shelf each cells fits own lone goes within =
 
 -- All of it
 
-abbrev pub LogsSoMany : ℕ → ℕ → ℕ → Type 0
-LogsSoMany seed count nodes = count_by logs_something (lines_of (made_lines seed count nodes)) ≡ count
-
-abbrev pub ExtendsSoOften : ℕ → ℕ → ℕ → Type 0
-ExtendsSoOften seed count nodes = count_by extends (lines_of (made_lines seed count nodes)) ≡ (count + 49) / 100
-
-abbrev pub AddsAlone : ℕ → ℕ → ℕ → Type 0
-AddsAlone seed count nodes = All (λ l. AddsOrExtends l.asks) (lines_of (made_lines seed count nodes))
-
-abbrev pub AddsSoMuch : ℕ → ℕ → ℕ → Type 0
-AddsSoMuch seed count nodes = sum_by added (lines_of (made_lines seed count nodes)) ≡ amounts seed count
-
-abbrev pub ActsWhole : Type 0
-ActsWhole = (lines : List NamedLine) (o : Told) → OneRowEach lines o.rows → any_open o.rows ≡ false → acted_in o.rows ≡ commands_in lines
-
-abbrev pub SumsUp : Type 0
-SumsUp = (lines : List NamedLine) (o : Told) → AreSmallAdds lines → OneRowEach lines o.rows → acted_in o.rows ≡ commands_in lines → sum_of_table (table_told lines o) ≡ amounts_in lines
-
--- the laws of made scripts and of totals
-pub record Laws : Type 0 where
-  pub logged : (seed count nodes : ℕ) → LogsSoMany seed count nodes
-  pub extended : (seed count nodes : ℕ) → ExtendsSoOften seed count nodes
-  pub adds : (seed count nodes : ℕ) → AddsAlone seed count nodes
-  pub sum : (seed count nodes : ℕ) → AddsSoMuch seed count nodes
-  pub whole : ActsWhole
-  pub sums : SumsUp
-
-counts_lines : Laws → (plan : Plan) (count : ℕ) (yard : Shown) (told : Told) → count ≤ 15000 → Fits (lines_made plan count) told yard
+counts_lines : (plan : Plan) (count : ℕ) (yard : Shown) (told : Told) → count ≤ 15000 → Fits (lines_made plan count) told yard
     → (IsCalm yard → length told.chain.segments ≡ min (length plan.shelf) (1 + count_by extends (lines_made plan count))) → CountsMade plan count yard told
-counts_lines laws plan count yard told few fits grown =
+counts_lines plan count yard told few fits grown =
     let lines = lines_made plan count in
-    let each = all_from (λ (l : NamedLine). AddsOrExtends l.asks) lines (laws.adds plan.seed count plan.nodes) in
-    let so_many : commands_in lines ≡ count = commands_same lines ∙ laws.logged plan.seed count plan.nodes in
-    let all : any_open told.rows ≡ false → acted_in told.rows ≡ commands_in lines = laws.whole lines told fits.one_row_each in
+    let each = all_from (λ (l : NamedLine). AddsOrExtends l.asks) lines (all-made plan.seed count plan.nodes) in
+    let so_many : commands_in lines ≡ count = commands_same lines ∙ count-logged plan.seed count plan.nodes in
+    let all : any_open told.rows ≡ false → acted_in told.rows ≡ commands_in lines = answered-acts lines told fits.one_row_each in
     let small : AreSmallAdds lines = record { ranked = all_ranked (made_lines plan.seed count plan.nodes); small = all_small lines each; few = omega (arith, so_many, few) } in
     record {
       commands = so_many;
       acted = λ none. all none ∙ so_many;
-      sum = λ none. laws.sums lines told small fits.one_row_each (all none) ∙ (adds_all lines each ∙ ap (λ k. pos k) (laws.sum plan.seed count plan.nodes));
-      segments = λ calm. grown calm ∙ ap (λ k. min (length plan.shelf) (1 + k)) (laws.extended plan.seed count plan.nodes);
+      sum = λ none. whole-sum lines told small fits.one_row_each (all none) ∙ (adds_all lines each ∙ ap (λ k. pos k) (sum-added plan.seed count plan.nodes));
+      segments = λ calm. grown calm ∙ ap (λ k. min (length plan.shelf) (1 + k)) (count-extends plan.seed count plan.nodes);
     }
 
 -- of a run of what was made
-counts_made : Laws → (plan : Plan) (count : ℕ) (left : Option (List ℕ)) (yard : Shown) (told : Told) → plan.task ≡ task.Make count → Ran plan left yard told → CountsMade plan count yard told
-counts_made laws plan count left yard told make ran =
+counts_made : (plan : Plan) (count : ℕ) (left : Option (List ℕ)) (yard : Shown) (told : Told) → plan.task ≡ task.Make count → Ran plan left yard told → CountsMade plan count yard told
+counts_made plan count left yard told make ran =
     let comes = subst (λ (t : Task). ComesFrom t plan left ran.bytes ran.script) make ran.comes in
     let few = subst IsTask make ran.plan_is.task in
     let lines : lines_of ran.script ≡ lines_made plan count = ap lines_of comes.1 in
-    counts_lines laws plan count yard told few.1 (subst (λ ls. Fits ls told yard) lines ran.fits)
-    (λ calm. segments_made (lines_of ran.script) told yard (length plan.shelf) (subst (AllByRecursion (λ (l : NamedLine). AddsOrExtends l.asks)) (sym lines) (all_from (λ (l : NamedLine). AddsOrExtends l.asks) (lines_made plan count) (laws.adds plan.seed count plan.nodes))) ran.shelf ran.fits (ran.answered calm) ran.lone (ran.extended calm) ran.shelved
+    counts_lines plan count yard told few.1 (subst (λ ls. Fits ls told yard) lines ran.fits)
+    (λ calm. segments_made (lines_of ran.script) told yard (length plan.shelf) (subst (AllByRecursion (λ (l : NamedLine). AddsOrExtends l.asks)) (sym lines) (all_from (λ (l : NamedLine). AddsOrExtends l.asks) (lines_made plan count) (all-made plan.seed count plan.nodes))) ran.shelf ran.fits (ran.answered calm) ran.lone (ran.extended calm) ran.shelved
     ∙ ap (λ ls. min (length plan.shelf) (1 + count_by extends ls)) lines)
 
-of_plan : Laws → (plan : Plan) (left : Option (List ℕ)) (yard : Shown) (told : Told) → Ran plan left yard told → (p : Plan) (count : ℕ) → Some plan ≡ Some p → p.task ≡ task.Make count → CountsMade p count yard told
-of_plan laws plan left yard told ran p count same make =
-    counts_made laws p count left yard told make (subst (λ (q : Plan). Ran q left yard told) (the_same plan p same) ran)
+of_plan : (plan : Plan) (left : Option (List ℕ)) (yard : Shown) (told : Told) → Ran plan left yard told → (p : Plan) (count : ℕ) → Some plan ≡ Some p → p.task ≡ task.Make count → CountsMade p count yard told
+of_plan plan left yard told ran p count same make =
+    counts_made p count left yard told make (subst (λ (q : Plan). Ran q left yard told) (the_same plan p same) ran)
   where
     the_same : (x y : Plan) → Some x ≡ Some y → x ≡ y
     the_same x y e = cc
 
 -- of what was composed
-pub counts_composed : Laws → (plan : Option Plan) (left : Option (List ℕ)) (yard : Shown) (end : Status) (told : Option Told) (refused : Option BadLine) (text : List ℕ)
+pub counts_composed : (plan : Option Plan) (left : Option (List ℕ)) (yard : Shown) (end : Status) (told : Option Told) (refused : Option BadLine) (text : List ℕ)
     → Composes plan left yard end told refused text → IfSome told (λ t. (p : Plan) (count : ℕ) → plan ≡ Some p → p.task ≡ task.Make count → CountsMade p count yard t)
-counts_composed laws (Some plan) left yard status.Done (Some told) None text h = of_plan laws plan left yard told h.0
-counts_composed laws (Some plan) left yard status.Open (Some told) None text h = of_plan laws plan left yard told h.0
-counts_composed laws (Some plan) left yard status.BadLine None (Some bad) text h = tt
-counts_composed laws None left yard status.BadWords None None text h = tt
-counts_composed laws plan left yard end told refused text h = absurd h
+counts_composed (Some plan) left yard status.Done (Some told) None text h = of_plan plan left yard told h.0
+counts_composed (Some plan) left yard status.Open (Some told) None text h = of_plan plan left yard told h.0
+counts_composed (Some plan) left yard status.BadLine None (Some bad) text h = tt
+counts_composed None left yard status.BadWords None None text h = tt
+counts_composed plan left yard end told refused text h = absurd h

@@ -18,7 +18,7 @@ use Rattle.script_runner.specs.declared.compose.Composed.{Composed}
 use Rattle.script_runner.specs.Composed.{IsComposed}
 use Rattle.script_runner.specs.Ends.{Composes, Puts, HasScript, IsRefused, TakesSource, read_limit}
 use Rattle.script_runner.specs.Standing.{StandsOver, HasEnded}
-use Rattle.script_runner.proofs.Made.{Laws, counts_composed}
+use Rattle.script_runner.proofs.Made.{counts_composed}
 use Rattle.script_runner.proofs.Outside.{calm-closed, told-composed, refused-composed}
 
 puts_whole : (plan : Option Plan) (left before after : Option (List ℕ)) (yard : Shown) (end : Status) (told : Option Told) (refused : Option BadLine) (text : List ℕ)
@@ -30,22 +30,22 @@ puts_whole None left before after yard status.BadWords None None text h put = re
 puts_whole plan left before after yard end told refused text h put = absurd h
 
 -- the text was put whole
-pub ends_whole : Laws → (plan : Option Plan) (left before after : Option (List ℕ)) (yard : Shown) (c : Composed)
+pub ends_whole : (plan : Option Plan) (left before after : Option (List ℕ)) (yard : Shown) (c : Composed)
     → IsComposed plan left yard c → Gains before after c.text → StandsOver plan left before after yard c.end
-ends_whole laws plan left before after yard c h put = record {
+ends_whole plan left before after yard c h put = record {
   told = told-composed plan left yard c.end.status c.end.told c.end.refused c.text h;
-  made = counts_composed laws plan left yard c.end.status c.end.told c.end.refused c.text h;
+  made = counts_composed plan left yard c.end.status c.end.told c.end.refused c.text h;
   puts = puts_whole plan left before after yard c.end.status c.end.told c.end.refused c.text h put;
   refused = refused-composed plan left yard c.end.status c.end.told c.end.refused c.text h;
   calm = calm-closed plan left yard c.end.status c.end.told c.end.refused c.text h;
 }
 
 -- a front of it was put
-pub ends_in_front : Laws → (plan : Option Plan) (left before after : Option (List ℕ)) (yard : Shown) (c : Composed)
+pub ends_in_front : (plan : Option Plan) (left before after : Option (List ℕ)) (yard : Shown) (c : Composed)
     → IsComposed plan left yard c → GainsFront before after c.text → StandsOver plan left before after yard (record c.end { status = status.SinkFault; refused = None })
-ends_in_front laws plan left before after yard c h put = record {
+ends_in_front plan left before after yard c h put = record {
   told = told-composed plan left yard c.end.status c.end.told c.end.refused c.text h;
-  made = counts_composed laws plan left yard c.end.status c.end.told c.end.refused c.text h;
+  made = counts_composed plan left yard c.end.status c.end.told c.end.refused c.text h;
   puts = (record { end = c.end.status; refused = c.end.refused; text = c.text; composed = h; front = put }, refl);
   refused = tt;
   calm = λ calm e. cc;
@@ -94,10 +94,10 @@ no_fault plan left yard end told refused text h = absurd h
 
 module _ {S K : Type 0} (left : S → Option (List ℕ)) (missed : S → ℕ) (held : K → Option (List ℕ)) (lost : K → ℕ) (plan : Option Plan) (source source' : S) (sink sink' : K) (yard : Shown) (untaken : (TakesSource plan → ⊥) → source' ≡ source) where
   -- the text was put whole
-  pub ended_whole : Laws → (c : Composed) → IsComposed plan (left source) yard c → Gains (held sink) (held sink') c.text → HasEnded left missed held lost plan source source' sink sink' yard c.end
-  ended_whole laws c h put =
+  pub ended_whole : (c : Composed) → IsComposed plan (left source) yard c → Gains (held sink) (held sink') c.text → HasEnded left missed held lost plan source source' sink sink' yard c.end
+  ended_whole c h put =
       let none = no_fault plan (left source) yard c.end.status c.end.told c.end.refused c.text h in record {
-        over = ends_whole laws plan (left source) (held sink) (held sink') yard c h put;
+        over = ends_whole plan (left source) (held sink) (held sink') yard c h put;
         leaves = record {
           sink_fault = λ e. absurd (none.0 e);
           source_fault = λ e. absurd (none.1.0 e);
@@ -108,10 +108,10 @@ module _ {S K : Type 0} (left : S → Option (List ℕ)) (missed : S → ℕ) (h
       }
 
   -- a front of it was put, and the sink counted its fault
-  pub ended_in_front : Laws → (c : Composed) → IsComposed plan (left source) yard c → GainsFront (held sink) (held sink') c.text → Rose (lost sink) (lost sink')
+  pub ended_in_front : (c : Composed) → IsComposed plan (left source) yard c → GainsFront (held sink) (held sink') c.text → Rose (lost sink) (lost sink')
       → HasEnded left missed held lost plan source source' sink sink' yard (record c.end { status = status.SinkFault; refused = None })
-  ended_in_front laws c h put rose = record {
-    over = ends_in_front laws plan (left source) (held sink) (held sink') yard c h put;
+  ended_in_front c h put rose = record {
+    over = ends_in_front plan (left source) (held sink) (held sink') yard c h put;
     leaves = record {
       sink_fault = λ e. rose;
       source_fault = λ e. absurd (cc);

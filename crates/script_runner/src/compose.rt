@@ -22,7 +22,6 @@ use fitting_run::fitting::is_open;
 use fitting_run::told::Told;
 use local_replica::layers::Layers;
 use loglet_api::loglet::Loglet;
-use made_script::laws::a_made_script_is_one;
 use made_script::make::make_script;
 use outside_ends::source::Source;
 use outside_ends::whole::{ReadError, read_up_to};
@@ -279,7 +278,6 @@ fn compose_made<L: Loglet, R: Register, E: Layers, D: Disk, C: Chooser>(
     ensures nodes { length result.yard.nodes.items ≡ length yard.nodes.items }
     ensures kinds { map (λ v. v.kind) (map L.view result.yard.shelf.items) ≡ map (λ v. v.kind) (map L.view yard.shelf.items) }
 {
-    a_made_script_is_one();
     let Ok(bytes) = make_script(alloc, plan.seed, count, plan.nodes) else {
         return Worked {
             yard,

@@ -13,12 +13,10 @@ use disk_model::Disk;
 use fate_words::chooser::Chooser;
 use local_replica::layers::Layers;
 use loglet_api::loglet::Loglet;
-use made_script::laws::its_lines_log_amounts;
 use outside_ends::sink::Sink;
 use outside_ends::source::Source;
 use outside_ends::whole::put_whole;
 use register_api::Register;
-use run_totals::laws::{adds_sum_up, answered_runs_act_whole};
 use script_words::plan::{Plan, WordsError, read_words};
 use std::alloc::Global;
 
@@ -77,9 +75,6 @@ pub fn run_plan<H, L: Loglet, R: Register, E: Layers, D: Disk, C: Chooser, S: So
     ensures loglets { length result.yard.shelf.items ≡ length yard.shelf.items }
     ensures nodes { length result.yard.nodes.items ≡ length yard.nodes.items }
 {
-    its_lines_log_amounts();
-    answered_runs_act_whole();
-    adds_sum_up();
     let Worked { yard, answer } = compose(alloc, plan, source, yard);
     match answer {
         Ok(composed) => {

@@ -13,11 +13,9 @@ abbrev pub AreBeside : (ℕ → Type 0) → List Event → Type 0
 AreBeside beside [] = Unit {0}
 AreBeside beside (e ∷ es) = beside e.who × AreBeside beside es
 
--- whatever legal events of those beside come before it
-abbrev pub MayTake : (ℕ → Entry → Type 0) → (List Entry → ℕ → Type 0) → List ℕ → (ℕ → Type 0) → ℕ → List Event → FabricCall → Type 0
-MayTake may floor shelf beside who seen call =
-    (others : List Event) → AreBeside beside others → IsLegal may floor shelf (seen ++ others)
-    → MayCall (state_of (seen ++ others)) may floor shelf who call
+-- a call that who may make, whatever legal events of those beside come before it
+pub record MayTake (may : ℕ → Entry → Type 0) (floor : List Entry → ℕ → Type 0) (shelf : List ℕ) (beside : ℕ → Type 0) (who : ℕ) (seen : List Event) (call : FabricCall) : Type 0 where
+  pub behind : (others : List Event) → AreBeside beside others → IsLegal may floor shelf (seen ++ others) → MayCall (state_of (seen ++ others)) may floor shelf who call
 
 -- what is seen then: what was seen, events of those beside, and the own event
 pub record IsTaken (may : ℕ → Entry → Type 0) (floor : List Entry → ℕ → Type 0) (shelf : List ℕ) (beside : ℕ → Type 0) (who : ℕ) (old : List Event) (call : FabricCall) (answer : FabricAnswer) (new : List Event) : Type 0 where

@@ -28,7 +28,7 @@ impl<L: Loglet, R: Register, P: Rules> Access for Lone<L, R, P> {
         self.who
     }
 
-    #[tactic(auto, using(crate::proofs::Alone::adds_taken))]
+    #[tactic(auto, using(crate::proofs::Alone::taken_at_once, crate::proofs::Alone::adds_taken))]
     fn take(&mut self, call: FabricCall) -> FabricAnswer {
         // The journal so far is legal.
         let _seen = self.fabric.journal();

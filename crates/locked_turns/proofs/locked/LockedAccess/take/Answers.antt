@@ -21,7 +21,7 @@ apply-answer-requires g c =
     let f : Follows (λ (e : Event). e.who) who seen was = All-head (λ (q : Part Event). Follows (λ (e : Event). e.who) q.0 q.1 was) (who, seen) [] known in
     let may = subst (λ (x : LockedView). MayTake p.may p.floor p.shelf (λ user. user ≢ x.who) x.who x.seen c.args.call) (sym c.self.view_is) c.requires.may in
     subst (λ (es : List Event). MayCall (state_of es) p.may p.floor p.shelf who c.args.call) (sym f.1)
-    (may f.0 (besides who f.0 f.2) (subst (IsLegal p.may p.floor p.shelf) f.1 c.journal-legal.ensures.legal))
+    (may.behind f.0 (besides who f.0 f.2) (subst (IsLegal p.may p.floor p.shelf) f.1 c.journal-legal.ensures.legal))
 
 pub leave-requires-clause-grew : goal.leave-requires-clause-grew
 leave-requires-clause-grew g c =
