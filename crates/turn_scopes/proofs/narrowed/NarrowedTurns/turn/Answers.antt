@@ -17,10 +17,12 @@ take-requires g c =
     let i = c.self.invariant in
     let may = subst (λ (x : NarrowView). MayTurn q.sends q.floor k.shelf x.who x.seen c.args.call) (sym c.self.view_is) c.requires.may in
     record {
-      may = record { behind = λ others between legal.
-          call_wider q.sends k.may q.floor k.floor k.shelf i.narrower i.lower (state_of (a.seen s.access ++ others)) (a.who s.access) c.args.call
-          (may others (are_others (a.who s.access) (a.beside (a.who c.self.inside.access)) i.apart others between)
-          (legal_beside k.may q.sends k.floor q.floor k.shelf (a.beside (a.who c.self.inside.access)) i.others i.trims (a.seen s.access) others between i.legal legal)) };
+      may = record {
+        behind = λ others between legal.
+            call_wider q.sends k.may q.floor k.floor k.shelf i.narrower i.lower (state_of (a.seen s.access ++ others)) (a.who s.access) c.args.call
+            (may others (are_others (a.who s.access) (a.beside (a.who c.self.inside.access)) i.apart others between)
+            (legal_beside k.may q.sends k.floor q.floor k.shelf (a.beside (a.who c.self.inside.access)) i.others i.trims (a.seen s.access) others between i.legal legal));
+      };
     }
 
 pub invariant_of-self : goal.invariant_of-self
