@@ -1,2 +1,5 @@
-pub mod Bounds
-pub mod Lawful
+pub mod Told
+pub mod Registers
+pub mod Kept
+pub mod Seen
+pub mod Stepped

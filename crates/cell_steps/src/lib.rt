@@ -1,0 +1,11 @@
+//! A quorum cell as plain lists, and its steps as a program: what every schedule of messages,
+//! losses, stops and restarts leads to. The laws of `quorum_cell` hold of every cell that it makes.
+//!
+//! * `server`: a log server.
+//! * `tally`: what an operation heard, and what it may come to.
+//! * `cell`: a cell, and what each of its steps does.
+#![tactic(auto)]
+
+pub mod cell;
+pub mod server;
+pub mod tally;
