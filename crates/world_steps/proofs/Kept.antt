@@ -3,6 +3,7 @@ use Rattle.std.proofs.Common.{◌≡◌, ◌≢◌, ◌⊎◌, inl, inr, ℕ, ze
 use Rattle.std.specs.Prelude.{◌||◌, slice_get, Contains}
 use Rattle.std.specs.List.{list_any}
 use Rattle.std.proofs.lemmas.Bool.{or_cases, false≢true}
+use Rattle.std.proofs.lemmas.List.{append-nil}
 use Rattle.std.proofs.lemmas.Option.{slice_get-get_or}
 use Rattle.delos_types.specs.declared.entry.Entry.{Entry}
 use Rattle.quorum_cell.specs.Cells.{Cell}
@@ -66,7 +67,16 @@ front_later old new later n h = record {
     no_entry : Entry
     no_entry = record { origin = 0; headers = []; payload = [] }
 
+-- the law holds of a world, and its events are those of an earlier one and maybe more
+pub record Goes (may : ℕ → Entry → Type 0) (floor : List Entry → ℕ → Type 0) (w new : World) : Type 0 where
+  pub law : WorldLaw may floor new
+  pub more : List Event
+  pub events : new.events ≡ w.events ++ more
+
 module _ (may : ℕ → Entry → Type 0) (floor : List Entry → ℕ → Type 0) (w : World) (law : WorldLaw may floor w) where
+  pub idle : Goes may floor w w
+  idle = record { law = law; more = []; events = sym (append-nil w.events) }
+
   pub state_ok : StateOk (length (shelf_of w)) (state_of w.events)
   state_ok = sound may floor (shelf_of w) w.events law.legal
 
@@ -74,13 +84,16 @@ module _ (may : ℕ → Entry → Type 0) (floor : List Entry → ℕ → Type 0
   pub event_kept : (cells : List Cell) (r : Register) (e : Event) → MayHappen (state_of w.events) may floor (shelf_of w) e → map (λ (c : Cell). length c.servers) cells ≡ shelf_of w → ((k : ℕ) → IsCellTold ((after (state_of w.events) e.who (move e)).cells k) (cell_at cells k)) → IsRegisterTold (after (state_of w.events) e.who (move e)).register r
       → ((k t who : ℕ) → is_begin_of who k t e ≡ true → (t < ((after (state_of w.events) e.who (move e)).cells k).told.begun) × (((after (state_of w.events) e.who (move e)).cells k).owner t ≡ who))
       → ((k n : ℕ) → ends k n e.call e.answer ≡ true → Contains ((after (state_of w.events) e.who (move e)).cells k).ends n)
-      → WorldLaw may floor (record w { cells = cells; register = r; events = w.events ++ e ∷ [] })
+      → Goes may floor w (record w { cells = cells; register = r; events = w.events ++ e ∷ [] })
   event_kept cells r e happens shelf told register owner ended =
       let es = w.events ++ e ∷ [] in
       let legal = legal_more may floor (shelf_of w) w.events e law.legal happens in
       let next : state_of es ≡ after (state_of w.events) e.who (move e) = state_more may floor (shelf_of w) w.events e in
       let goes : Continues (state_of w.events) (state_of es) = goes_on may floor (shelf_of w) w.events (e ∷ []) legal in
       record {
+        more = e ∷ [];
+        events = refl;
+        law = record {
         legal = subst (λ (s : List ℕ). IsLegal may floor s es) (sym shelf) legal;
         cells = λ k. subst (λ (s : State). IsCellTold (s.cells k) (cell_at cells k)) (sym next) (told k);
         owners = λ k t who h. ⊎_elim
@@ -96,27 +109,36 @@ module _ (may : ℕ → Entry → Type 0) (floor : List Entry → ℕ → Type 0
             (any_push (λ (x : Event). ends k n x.call x.answer) w.events e h);
         register = subst (λ (s : State). IsRegisterTold s.register r) (sym next) register;
         nodes = λ k. front_later (state_of w.events).shown (state_of es).shown goes.shown (node_at w.nodes k) (law.nodes k);
+        };
       }
 
   -- No event: a cell moves as nobody's call, or a node does something.
-  pub cell_kept : (i : ℕ) (c : Cell) → (i < length w.cells → IsCellTold ((state_of w.events).cells i) c) → length c.servers ≡ length (cell_at w.cells i).servers → WorldLaw may floor (record w { cells = set w.cells i c })
+  pub cell_kept : (i : ℕ) (c : Cell) → (i < length w.cells → IsCellTold ((state_of w.events).cells i) c) → length c.servers ≡ length (cell_at w.cells i).servers → Goes may floor w (record w { cells = set w.cells i c })
   cell_kept i c told servers =
       let shelf : map (λ (x : Cell). length x.servers) (set w.cells i c) ≡ shelf_of w = map_kept (λ (x : Cell). length x.servers) w.cells i c no_cell servers in
       record {
+        more = [];
+        events = sym (append-nil w.events);
+        law = record {
         legal = subst (λ (s : List ℕ). IsLegal may floor s w.events) (sym shelf) law.legal;
         cells = at_set (λ k x. IsCellTold ((state_of w.events).cells k) x) w.cells no_cell i c told law.cells;
         owners = law.owners;
         ends = law.ends;
         register = law.register;
         nodes = law.nodes;
+        };
       }
 
-  pub node_kept : (k : ℕ) (n : Node) → IsFront (state_of w.events).shown n → WorldLaw may floor (record w { nodes = set w.nodes k n })
+  pub node_kept : (k : ℕ) (n : Node) → IsFront (state_of w.events).shown n → Goes may floor w (record w { nodes = set w.nodes k n })
   node_kept k n front = record {
+    more = [];
+    events = sym (append-nil w.events);
+    law = record {
     legal = law.legal;
     cells = law.cells;
     owners = law.owners;
     ends = law.ends;
     register = law.register;
     nodes = at_set (λ (j : ℕ) (x : Node). IsFront (state_of w.events).shown x) w.nodes no_node k n (λ _. front) law.nodes;
+    };
   }

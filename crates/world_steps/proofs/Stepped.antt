@@ -4,7 +4,7 @@ use Rattle.std.specs.Prelude.{not, ◌&&◌, ◌||◌, ◌==◌, nat_lt, nat_le,
 use Rattle.std.specs.List.{list_any}
 use Rattle.std.proofs.lemmas.Bool.{false≢true, and_parts, or_cases, not-true, ltb-true, leb-true, eqb-true}
 use Rattle.std.proofs.lemmas.Bool.Decides.{nat_tests}
-use Rattle.std.proofs.lemmas.List.{length-map, append-nil}
+use Rattle.std.proofs.lemmas.List.{length-map, append-nil, append_assoc}
 use Rattle.std.proofs.lemmas.List.Elements.{Contains-append_right}
 use Rattle.delos_types.specs.declared.entry.Entry.{Entry}
 use Rattle.delos_types.specs.declared.chain.Segment.{Segment}
@@ -41,7 +41,7 @@ use Rattle.world_steps.specs.Steps.{event, answer_of, told, moves_inside, begins
 use Rattle.world_steps.specs.Laws.{IsCellTold, IsRegisterTold, IsFront, WorldLaw, IsLet, KeepsTo, AllKeepTo}
 use Rattle.world_steps.proofs.Told.{SpellsOp, begun_told, refused_told, inner_told, answered_told, dropped_told}
 use Rattle.world_steps.proofs.Registers.{push_here, push_else, gave_told, replaced_told, torn_told, missed_told, mended_told, IsKnown, expected}
-use Rattle.world_steps.proofs.Kept.{placed, at_set, map_kept, state_ok, event_kept, cell_kept, node_kept}
+use Rattle.world_steps.proofs.Kept.{Goes, idle, placed, at_set, map_kept, state_ok, event_kept, cell_kept, node_kept}
 use Rattle.world_steps.proofs.Seen.{shown_now}
 
 -- where some element passes a test
@@ -115,15 +115,15 @@ module _ (may : ℕ → Entry → Type 0) (floor : List Entry → ℕ → Type 0
 
   ---- cells
 
-  inside_kept : (i : ℕ) (s : CellStep) → WorldLaw may floor (done w (moves_inside w i s))
+  inside_kept : (i : ℕ) (s : CellStep) → Goes may floor w (done w (moves_inside w i s))
   inside_kept i s = by (nat_lt i (length w.cells) && is_inner s) refl
     where
-      no_event : WorldLaw may floor (record w { cells = set w.cells i (cell_step (cell_at w.cells i) s) }) → WorldLaw may floor (record w { cells = set w.cells i (cell_step (cell_at w.cells i) s); events = w.events ++ [] })
-      no_event h = subst (λ (es : List Event). WorldLaw may floor (record w { cells = set w.cells i (cell_step (cell_at w.cells i) s); events = es })) (sym (append-nil w.events)) h
+      no_event : Goes may floor w (record w { cells = set w.cells i (cell_step (cell_at w.cells i) s) }) → Goes may floor w (record w { cells = set w.cells i (cell_step (cell_at w.cells i) s); events = w.events ++ [] })
+      no_event h = subst (λ (es : List Event). Goes may floor w (record w { cells = set w.cells i (cell_step (cell_at w.cells i) s); events = es })) (sym (append-nil w.events)) h
 
-      by : (b : Bool) → (nat_lt i (length w.cells) && is_inner s) ≡ b → WorldLaw may floor (done w (if b then Some (record { at = i; step = s; event = [] }) else None))
+      by : (b : Bool) → (nat_lt i (length w.cells) && is_inner s) ≡ b → Goes may floor w (done w (if b then Some (record { at = i; step = s; event = [] }) else None))
       by true e = no_event (cell_kept may floor w law i (cell_step (cell_at w.cells i) s) (λ _. inner_told ((state_of w.events).cells i) (cell_at w.cells i) s (law.cells i) (and_parts _ _ e).1) (step_later (cell_at w.cells i) s).servers)
-      by false e = law
+      by false e = idle may floor w law
 
   begin_owner : (who i n : ℕ) (op : Op) → n ≡ ((state_of w.events).cells i).told.begun → (k t by : ℕ) → is_begin_of by k t (record { who = who; call = AskBegin i op; answer = Begun n }) ≡ true
       → (t < (put (state_of w.events).cells i (cell_after who ((state_of w.events).cells i) (Begins op n)) k).told.begun) × ((put (state_of w.events).cells i (cell_after who ((state_of w.events).cells i) (Begins op n)) k).owner t ≡ by)
@@ -137,10 +137,10 @@ module _ (may : ℕ → Entry → Type 0) (floor : List Entry → ℕ → Type 0
       let is : put (state_of w.events).cells i (cell_after who c (Begins op n)) k ≡ cell_after who c (Begins op n) = ap (put (state_of w.events).cells i (cell_after who c (Begins op n))) here ∙ put_same (state_of w.events).cells i (cell_after who c (Begins op n)) in
       subst (λ (x : CellState). (t < x.told.begun) × (x.owner t ≡ by)) (sym is) (omega (arith, ticket, at), ap (put c.owner n who) ticket ∙ (put_same c.owner n who ∙ same))
 
-  begins_kept : (who i : ℕ) (op : Op) → KeepsTo may floor w (step.Begin who i op) → WorldLaw may floor (done w (begins_op w who i op))
+  begins_kept : (who i : ℕ) (op : Op) → KeepsTo may floor w (step.Begin who i op) → Goes may floor w (done w (begins_op w who i op))
   begins_kept who i op keeps = by (nat_lt i (length w.cells) && may_begin w i op) refl (is_full (cell_at w.cells i) (aim_of op)) refl
     where
-      by : (b : Bool) → (nat_lt i (length w.cells) && may_begin w i op) ≡ b → (f : Bool) → is_full (cell_at w.cells i) (aim_of op) ≡ f → WorldLaw may floor (done w (if b then Some (record { at = i; step = cell.Begin (aim_of op); event = event who (AskBegin i op) (if f then Full else Begun (length (cell_at w.cells i).operations)) }) else None))
+      by : (b : Bool) → (nat_lt i (length w.cells) && may_begin w i op) ≡ b → (f : Bool) → is_full (cell_at w.cells i) (aim_of op) ≡ f → Goes may floor w (done w (if b then Some (record { at = i; step = cell.Begin (aim_of op); event = event who (AskBegin i op) (if f then Full else Begun (length (cell_at w.cells i).operations)) }) else None))
       by true e true full =
           let here : i < length w.cells = ltb-true _ _ (and_parts _ _ e).0 in
           event_kept may floor w law (set w.cells i (begin (cell_at w.cells i) (aim_of op))) w.register (record { who = who; call = AskBegin i op; answer = Full })
@@ -159,7 +159,7 @@ module _ (may : ℕ → Entry → Type 0) (floor : List Entry → ℕ → Type 0
           (cells_placed who i (Begins op (length (cell_at w.cells i).operations)) (cell.Begin (aim_of op)) here b.now)
           law.register
           (begin_owner who i (length (cell_at w.cells i).operations) op b.ticket) (λ k n h. absurd (false≢true h))
-      by false e f full = law
+      by false e f full = idle may floor w law
 
   -- an operation is answered
 
@@ -175,11 +175,11 @@ module _ (may : ℕ → Entry → Type 0) (floor : List Entry → ℕ → Type 0
       by_answer (SealedTail m) g = contains_push ((state_of w.events).cells i).ends m n (eqb-true _ _ g)
       by_answer x g = absurd (false≢true g)
 
-  takes_kept : (who i t : ℕ) → WorldLaw may floor (done w (takes_answer w who i t))
+  takes_kept : (who i t : ℕ) → Goes may floor w (done w (takes_answer w who i t))
   takes_kept who i t = by (nat_lt i (length w.cells) && is_owner w.events who i t) refl
     where
-      given : i < length w.cells → is_owner w.events who i t ≡ true → (x : Option Answer) → answer_of (cell_at w.cells i) t ≡ x → WorldLaw may floor (done w (told who i t x))
-      given here own None e = law
+      given : i < length w.cells → is_owner w.events who i t ≡ true → (x : Option Answer) → answer_of (cell_at w.cells i) t ≡ x → Goes may floor w (done w (told who i t x))
+      given here own None e = idle may floor w law
       given here own (Some a) e =
           let k = answered_told ((state_of w.events).cells i) (cell_at w.cells i) who t a (law.cells i) e in
           event_kept may floor w law (set w.cells i (take_outcome (cell_at w.cells i) t)) w.register (record { who = who; call = AskCarry i t 0; answer = Done a })
@@ -189,14 +189,14 @@ module _ (may : ℕ → Entry → Type 0) (floor : List Entry → ℕ → Type 0
           law.register
           (λ j u by h. absurd (false≢true h)) (λ j n h. told_end who i t a j n h)
 
-      by : (b : Bool) → (nat_lt i (length w.cells) && is_owner w.events who i t) ≡ b → WorldLaw may floor (done w (if b then told who i t (answer_of (cell_at w.cells i) t) else None))
+      by : (b : Bool) → (nat_lt i (length w.cells) && is_owner w.events who i t) ≡ b → Goes may floor w (done w (if b then told who i t (answer_of (cell_at w.cells i) t) else None))
       by true e = let parts = and_parts _ _ e in given (ltb-true _ _ parts.0) parts.1 (answer_of (cell_at w.cells i) t) refl
-      by false e = law
+      by false e = idle may floor w law
 
-  forgets_kept : (who i t : ℕ) → WorldLaw may floor (done w (forgets_op w who i t))
+  forgets_kept : (who i t : ℕ) → Goes may floor w (done w (forgets_op w who i t))
   forgets_kept who i t = by ((nat_lt i (length w.cells) && is_owner w.events who i t) && not (operation (cell_at w.cells i) t).closed) refl
     where
-      by : (b : Bool) → ((nat_lt i (length w.cells) && is_owner w.events who i t) && not (operation (cell_at w.cells i) t).closed) ≡ b → WorldLaw may floor (done w (if b then Some (record { at = i; step = cell.Forget t; event = event who (AskForget i t) Gone }) else None))
+      by : (b : Bool) → ((nat_lt i (length w.cells) && is_owner w.events who i t) && not (operation (cell_at w.cells i) t).closed) ≡ b → Goes may floor w (done w (if b then Some (record { at = i; step = cell.Forget t; event = event who (AskForget i t) Gone }) else None))
       by true e =
           let parts = and_parts _ _ e in
           let front = and_parts _ _ parts.0 in
@@ -208,7 +208,7 @@ module _ (may : ℕ → Entry → Type 0) (floor : List Entry → ℕ → Type 0
           (cells_placed who i (Drops t) (cell.Forget t) here k.now)
           law.register
           (λ j u by h. absurd (false≢true h)) (λ j n h. absurd (false≢true h))
-      by false e = law
+      by false e = idle may floor w law
 
   ---- the register
 
@@ -224,10 +224,10 @@ module _ (may : ℕ → Entry → Type 0) (floor : List Entry → ℕ → Type 0
   down_is : w.register.up ≡ false → (state_of w.events).register.down ≡ true
   down_is e = law.register.down ∙ ap not e
 
-  reads_kept : (who : ℕ) → WorldLaw may floor (reads w who)
+  reads_kept : (who : ℕ) → Goes may floor w (reads w who)
   reads_kept who = by w.register.up refl
     where
-      by : (b : Bool) → w.register.up ≡ b → WorldLaw may floor (if b then on_register w (gave w.register) who AskRead (At w.register.version w.register.chain) else on_register w w.register who AskRead Down)
+      by : (b : Bool) → w.register.up ≡ b → Goes may floor w (if b then on_register w (gave w.register) who AskRead (At w.register.version w.register.chain) else on_register w w.register who AskRead Down)
       by true e = event_kept may floor w law w.cells (gave w.register) (record { who = who; call = AskRead; answer = At w.register.version w.register.chain })
           (record { there = tt; allowed = (up_is e, law.register.current) }) refl law.cells (gave_told _ (state_of w.events) ok w.register law.register e) (no_begin who) no_end
       by false e = event_kept may floor w law w.cells w.register (record { who = who; call = AskRead; answer = Down })
@@ -242,42 +242,42 @@ module _ (may : ℕ → Entry → Type 0) (floor : List Entry → ℕ → Type 0
       let parts = and_parts _ _ h in
       inr (record { trim = n; above = ltb-true _ _ parts.0; small = leb-true _ _ parts.1; is = refl }, let_)
 
-  writes_kept : (who x : ℕ) (change : ChainChange) → IsLet floor w change → WorldLaw may floor (writes w who x change (given_under w.register x))
+  writes_kept : (who x : ℕ) (change : ChainChange) → IsLet floor w change → Goes may floor w (writes w who x change (given_under w.register x))
   writes_kept who x change let_ = by_old (given_under w.register x) refl
     where
-      by_old : (o : Option Chain) → given_under w.register x ≡ o → WorldLaw may floor (writes w who x change o)
-      by_old None e = law
+      by_old : (o : Option Chain) → given_under w.register x ≡ o → Goes may floor w (writes w who x change o)
+      by_old None e = idle may floor w law
       by_old (Some old) e = by_up w.register.up refl
         where
-          written : x ≡ w.register.version → w.register.up ≡ true → (b : Bool) → may_follow w old change ≡ b → WorldLaw may floor (if b then on_register w (replaced w.register (changed old change)) who (AskWrite x (changed old change)) (Written (w.register.version + 1)) else w)
+          written : x ≡ w.register.version → w.register.up ≡ true → (b : Bool) → may_follow w old change ≡ b → Goes may floor w (if b then on_register w (replaced w.register (changed old change)) who (AskWrite x (changed old change)) (Written (w.register.version + 1)) else w)
           written at up true f =
               let k = expected _ (state_of w.events) ok w.register law.register x old e at in
               event_kept may floor w law w.cells (replaced w.register (changed old change)) (record { who = who; call = AskWrite x (changed old change); answer = Written (w.register.version + 1) })
               (record { there = tt; allowed = (up_is up, at ∙ k.version, subst (λ (o : Chain). MayFollow (state_of w.events) floor (length (shelf_of w)) o (changed old change)) k.old_is (follows old change let_ f), ap (λ n. n + 1) (sym at)) })
               refl law.cells (replaced_told _ (state_of w.events) ok w.register law.register (changed old change) up k.version) (no_begin who) no_end
-          written at up false f = law
+          written at up false f = idle may floor w law
 
-          by_version : w.register.up ≡ true → (b : Bool) → (x == w.register.version) ≡ b → WorldLaw may floor (if not b then on_register w (gave w.register) who (AskWrite x (changed old change)) (Conflict w.register.version w.register.chain) else if may_follow w old change then on_register w (replaced w.register (changed old change)) who (AskWrite x (changed old change)) (Written (w.register.version + 1)) else w)
+          by_version : w.register.up ≡ true → (b : Bool) → (x == w.register.version) ≡ b → Goes may floor w (if not b then on_register w (gave w.register) who (AskWrite x (changed old change)) (Conflict w.register.version w.register.chain) else if may_follow w old change then on_register w (replaced w.register (changed old change)) who (AskWrite x (changed old change)) (Written (w.register.version + 1)) else w)
           by_version up true t = written (eqb-true _ _ t) up (may_follow w old change) refl
           by_version up false t =
               let apart : x ≢ w.register.version = grind (arith, nat_tests) in
               event_kept may floor w law w.cells (gave w.register) (record { who = who; call = AskWrite x (changed old change); answer = Conflict w.register.version w.register.chain })
               (record { there = tt; allowed = (up_is up, law.register.current, apart) }) refl law.cells (gave_told _ (state_of w.events) ok w.register law.register up) (no_begin who) no_end
 
-          by_up : (b : Bool) → w.register.up ≡ b → WorldLaw may floor (if not b then on_register w w.register who (AskWrite x (changed old change)) Down else if not (x == w.register.version) then on_register w (gave w.register) who (AskWrite x (changed old change)) (Conflict w.register.version w.register.chain) else if may_follow w old change then on_register w (replaced w.register (changed old change)) who (AskWrite x (changed old change)) (Written (w.register.version + 1)) else w)
+          by_up : (b : Bool) → w.register.up ≡ b → Goes may floor w (if not b then on_register w w.register who (AskWrite x (changed old change)) Down else if not (x == w.register.version) then on_register w (gave w.register) who (AskWrite x (changed old change)) (Conflict w.register.version w.register.chain) else if may_follow w old change then on_register w (replaced w.register (changed old change)) who (AskWrite x (changed old change)) (Written (w.register.version + 1)) else w)
           by_up true up = by_version up (x == w.register.version) refl
           by_up false up = event_kept may floor w law w.cells w.register (record { who = who; call = AskWrite x (changed old change); answer = Down })
               (record { there = tt; allowed = down_is up }) refl law.cells law.register (no_begin who) no_end
 
-  stops_kept : (who x : ℕ) (change : ChainChange) → IsLet floor w change → WorldLaw may floor (stops_writing w who x change (given_under w.register x))
+  stops_kept : (who x : ℕ) (change : ChainChange) → IsLet floor w change → Goes may floor w (stops_writing w who x change (given_under w.register x))
   stops_kept who x change let_ = by_old (given_under w.register x) refl
     where
-      by_old : (o : Option Chain) → given_under w.register x ≡ o → WorldLaw may floor (stops_writing w who x change o)
-      by_old None e = law
+      by_old : (o : Option Chain) → given_under w.register x ≡ o → Goes may floor w (stops_writing w who x change o)
+      by_old None e = idle may floor w law
       by_old (Some old) e = by ((w.register.up && (x == w.register.version)) && may_follow w old change) refl
         where
-          by : (b : Bool) → ((w.register.up && (x == w.register.version)) && may_follow w old change) ≡ b → WorldLaw may floor (if b then on_register w (torn_by w.register (changed old change)) who (AskWrite x (changed old change)) MetaFault else w)
-          by false h = law
+          by : (b : Bool) → ((w.register.up && (x == w.register.version)) && may_follow w old change) ≡ b → Goes may floor w (if b then on_register w (torn_by w.register (changed old change)) who (AskWrite x (changed old change)) MetaFault else w)
+          by false h = idle may floor w law
           by true h =
               let parts = and_parts _ _ h in
               let front = and_parts _ _ parts.0 in
@@ -287,19 +287,19 @@ module _ (may : ℕ → Entry → Type 0) (floor : List Entry → ℕ → Type 0
               (record { there = tt; allowed = (up_is front.0, at ∙ k.version, subst (λ (o : Chain). MayFollow (state_of w.events) floor (length (shelf_of w)) o (changed old change)) k.old_is (follows old change let_ parts.1)) })
               refl law.cells (torn_told _ (state_of w.events) ok w.register law.register x (changed old change) k.version k.chain) (no_begin who) no_end
 
-  mends_kept : (who : ℕ) (kept : Bool) → WorldLaw may floor (mends w who kept)
+  mends_kept : (who : ℕ) (kept : Bool) → Goes may floor w (mends w who kept)
   mends_kept who kept = by w.register.up
     where
-      by : (b : Bool) → WorldLaw may floor (if b then w else on_register w (mended w.register kept w.register.torn) who (AskMend 0) (Set true))
-      by true = law
+      by : (b : Bool) → Goes may floor w (if b then w else on_register w (mended w.register kept w.register.torn) who (AskMend 0) (Set true))
+      by true = idle may floor w law
       by false = event_kept may floor w law w.cells (mended w.register kept w.register.torn) (record { who = who; call = AskMend 0; answer = Set true })
           (record { there = tt; allowed = tt }) refl law.cells (mended_told _ (state_of w.events) ok w.register law.register kept) (no_begin who) no_end
 
-  down_kept : (who : ℕ) → WorldLaw may floor (stays_down w who)
+  down_kept : (who : ℕ) → Goes may floor w (stays_down w who)
   down_kept who = by w.register.up
     where
-      by : (b : Bool) → WorldLaw may floor (if b then w else on_register w w.register who (AskMend 0) (Set false))
-      by true = law
+      by : (b : Bool) → Goes may floor w (if b then w else on_register w w.register who (AskMend 0) (Set false))
+      by true = idle may floor w law
       by false = event_kept may floor w law w.cells w.register (record { who = who; call = AskMend 0; answer = Set false })
           (record { there = tt; allowed = tt }) refl law.cells (missed_told _ (state_of w.events) ok w.register law.register) (no_begin who) no_end
 
@@ -312,10 +312,10 @@ module _ (may : ℕ → Entry → Type 0) (floor : List Entry → ℕ → Type 0
   next_shown : (n : Node) (e : Entry) → next_entry w n ≡ Some e → (state_of w.events).shown (length n.applied) ≡ Some e
   next_shown n e h = shown_now may floor w law (length n.applied) e h
 
-  applies_kept : (k : ℕ) → WorldLaw may floor (applies w k)
+  applies_kept : (k : ℕ) → Goes may floor w (applies w k)
   applies_kept k = by (node_at w.nodes k).up refl
     where
-      by : (b : Bool) → (node_at w.nodes k).up ≡ b → WorldLaw may floor (if b then put_node w k (record (node_at w.nodes k) { applied = with_entry (node_at w.nodes k).applied (next_entry w (node_at w.nodes k)) }) else w)
+      by : (b : Bool) → (node_at w.nodes k).up ≡ b → Goes may floor w (if b then put_node w k (record (node_at w.nodes k) { applied = with_entry (node_at w.nodes k).applied (next_entry w (node_at w.nodes k)) }) else w)
       by true up =
           let n = node_at w.nodes k in
           let h = law.nodes k in
@@ -324,12 +324,12 @@ module _ (may : ℕ → Entry → Type 0) (floor : List Entry → ℕ → Type 0
             whole = h.whole;
             torn = λ e t. let no : None ≡ Some e = sym (h.whole up) ∙ t in absurd (cc);
           })
-      by false up = law
+      by false up = idle may floor w law
 
-  stops_node_kept : (k : ℕ) → WorldLaw may floor (stops_node w k)
+  stops_node_kept : (k : ℕ) → Goes may floor w (stops_node w k)
   stops_node_kept k = by (node_at w.nodes k).up
     where
-      by : (b : Bool) → WorldLaw may floor (if b then put_node w k (record (node_at w.nodes k) { torn = next_entry w (node_at w.nodes k); up = false }) else w)
+      by : (b : Bool) → Goes may floor w (if b then put_node w k (record (node_at w.nodes k) { torn = next_entry w (node_at w.nodes k); up = false }) else w)
       by true =
           let n = node_at w.nodes k in
           node_kept may floor w law k (record n { torn = next_entry w n; up = false }) (record {
@@ -337,17 +337,17 @@ module _ (may : ℕ → Entry → Type 0) (floor : List Entry → ℕ → Type 0
             whole = λ h. absurd (false≢true h);
             torn = λ e t. next_shown n e t;
           })
-      by false = law
+      by false = idle may floor w law
 
-  restarts_kept : (k : ℕ) (kept : Bool) → WorldLaw may floor (restarts_node w k kept)
+  restarts_kept : (k : ℕ) (kept : Bool) → Goes may floor w (restarts_node w k kept)
   restarts_kept k kept = by (node_at w.nodes k).up kept
     where
       back : (kept : Bool) → journal.Shows (state_of w.events).shown (if kept then with_entry (node_at w.nodes k).applied (node_at w.nodes k).torn else (node_at w.nodes k).applied)
       back true = with_front (node_at w.nodes k) (node_at w.nodes k).torn (law.nodes k).torn (law.nodes k).applied
       back false = (law.nodes k).applied
 
-      by : (b kept : Bool) → WorldLaw may floor (if b then w else put_node w k (record { applied = if kept then with_entry (node_at w.nodes k).applied (node_at w.nodes k).torn else (node_at w.nodes k).applied; torn = None; up = true }))
-      by true kept = law
+      by : (b kept : Bool) → Goes may floor w (if b then w else put_node w k (record { applied = if kept then with_entry (node_at w.nodes k).applied (node_at w.nodes k).torn else (node_at w.nodes k).applied; torn = None; up = true }))
+      by true kept = idle may floor w law
       by false kept =
           node_kept may floor w law k (record { applied = if kept then with_entry (node_at w.nodes k).applied (node_at w.nodes k).torn else (node_at w.nodes k).applied; torn = None; up = true }) (record {
             applied = back kept;
@@ -357,20 +357,29 @@ module _ (may : ℕ → Entry → Type 0) (floor : List Entry → ℕ → Type 0
 
 ---- every step, and every list of steps
 
-pub step_law : (may : ℕ → Entry → Type 0) (floor : List Entry → ℕ → Type 0) (w : World) (s : WorldStep) → WorldLaw may floor w → KeepsTo may floor w s → WorldLaw may floor (world_step w s)
-step_law may floor w (step.Inside i s) law keeps = inside_kept may floor w law i s
-step_law may floor w (step.Begin who i op) law keeps = begins_kept may floor w law who i op keeps
-step_law may floor w (step.Take who i t) law keeps = takes_kept may floor w law who i t
-step_law may floor w (step.Forget who i t) law keeps = forgets_kept may floor w law who i t
-step_law may floor w (step.ReadChain who) law keeps = reads_kept may floor w law who
-step_law may floor w (step.WriteChain who x change) law keeps = writes_kept may floor w law who x change keeps
-step_law may floor w (step.WriteStops who x change) law keeps = stops_kept may floor w law who x change keeps
-step_law may floor w (step.MendRegister who kept) law keeps = mends_kept may floor w law who kept
-step_law may floor w (step.MendFails who) law keeps = down_kept may floor w law who
-step_law may floor w (step.Apply k) law keeps = applies_kept may floor w law k
-step_law may floor w (step.StopNode k) law keeps = stops_node_kept may floor w law k
-step_law may floor w (step.RestartNode k kept) law keeps = restarts_kept may floor w law k kept
+pub step_goes : (may : ℕ → Entry → Type 0) (floor : List Entry → ℕ → Type 0) (w : World) (s : WorldStep) → WorldLaw may floor w → KeepsTo may floor w s → Goes may floor w (world_step w s)
+step_goes may floor w (step.Inside i s) law keeps = inside_kept may floor w law i s
+step_goes may floor w (step.Begin who i op) law keeps = begins_kept may floor w law who i op keeps
+step_goes may floor w (step.Take who i t) law keeps = takes_kept may floor w law who i t
+step_goes may floor w (step.Forget who i t) law keeps = forgets_kept may floor w law who i t
+step_goes may floor w (step.ReadChain who) law keeps = reads_kept may floor w law who
+step_goes may floor w (step.WriteChain who x change) law keeps = writes_kept may floor w law who x change keeps
+step_goes may floor w (step.WriteStops who x change) law keeps = stops_kept may floor w law who x change keeps
+step_goes may floor w (step.MendRegister who kept) law keeps = mends_kept may floor w law who kept
+step_goes may floor w (step.MendFails who) law keeps = down_kept may floor w law who
+step_goes may floor w (step.Apply k) law keeps = applies_kept may floor w law k
+step_goes may floor w (step.StopNode k) law keeps = stops_node_kept may floor w law k
+step_goes may floor w (step.RestartNode k kept) law keeps = restarts_kept may floor w law k kept
 
-pub run_law : (may : ℕ → Entry → Type 0) (floor : List Entry → ℕ → Type 0) (steps : List WorldStep) (w : World) → WorldLaw may floor w → AllKeepTo may floor w steps → WorldLaw may floor (run_world steps w)
-run_law may floor [] w law keeps = law
-run_law may floor (s ∷ steps) w law keeps = run_law may floor steps (world_step w s) (step_law may floor w s law keeps.0) keeps.1
+pub step_law : (may : ℕ → Entry → Type 0) (floor : List Entry → ℕ → Type 0) (w : World) (s : WorldStep) → WorldLaw may floor w → KeepsTo may floor w s → WorldLaw may floor (world_step w s)
+step_law may floor w s law keeps = (step_goes may floor w s law keeps).law
+
+pub run_goes : (may : ℕ → Entry → Type 0) (floor : List Entry → ℕ → Type 0) (steps : List WorldStep) (w : World) → WorldLaw may floor w → AllKeepTo may floor w steps → Goes may floor w (run_world steps w)
+run_goes may floor [] w law keeps = idle may floor w law
+run_goes may floor (s ∷ steps) w law keeps =
+    let one = step_goes may floor w s law keeps.0 in
+    let all = run_goes may floor steps (world_step w s) one.law keeps.1 in record {
+      law = all.law;
+      more = one.more ++ all.more;
+      events = all.events ∙ (ap (λ (es : List Event). es ++ all.more) one.events ∙ append_assoc w.events one.more all.more);
+    }

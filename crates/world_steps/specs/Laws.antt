@@ -17,6 +17,7 @@ use Rattle.world_steps.specs.declared.step.WorldStep.{WorldStep}
 use Rattle.world_steps.specs.declared.step.WorldStep.TheVariants.{Begin, WriteChain, WriteStops}
 use Rattle.world_steps.specs.Parts.{Register, Node, World, cell_at, node_at, given_under, last_given, shelf_of}
 use Rattle.world_steps.specs.Events.{is_owner, was_sealed_at}
+use Rattle.world_steps.specs.Logs.{Stands}
 use Rattle.world_steps.specs.Steps.{world_step}
 
 -- some bytes spell the entry that the step brings
@@ -87,6 +88,10 @@ pub record IsFront (shown : ℕ → Option Entry) (n : Node) : Type 0 where
   pub applied : Shows shown n.applied
   pub whole : n.up ≡ true → n.torn ≡ None
   pub torn : (e : Entry) → n.torn ≡ Some e → shown (length n.applied) ≡ Some e
+
+-- each of these entries stands in the log at its place, from position 0 on, or was trimmed there
+abbrev pub IsFrontOf : World → List Entry → Type 0
+IsFrontOf w front = (pos : ℕ) (e : Entry) → slice_get front pos ≡ Some e → Stands w pos e
 
 -- The law of worlds: the events are a legal journal, and all parts are as they tell.
 pub record WorldLaw (may : ℕ → Entry → Type 0) (floor : List Entry → ℕ → Type 0) (w : World) : Type 0 where

@@ -7,6 +7,6 @@
 //! * `laws`: what holds of every world that a list of steps leads to.
 #![tactic(auto)]
 
+pub mod laws;
 pub mod shape;
 pub mod step;
-
