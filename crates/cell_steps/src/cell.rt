@@ -112,6 +112,34 @@ impl CellState {
             .map(|server| server.length())
     }
 
+    /// How many operations were begun.
+    pub fn begun(&self) -> u64
+        ensures { result ≡ length self.now.operations }
+    {
+        self.operations.len() as u64
+    }
+
+    /// The operation of this ticket.
+    pub fn operation(&self, ticket: Ticket) -> Option<&OperationState>
+        ensures { option_map (λ operation. operation.now) result ≡ slice_get self.now.operations ticket }
+    {
+        self.operations.get(ticket.number() as usize)
+    }
+
+    /// The entries below it may be let go.
+    pub fn cut(&self) -> u64
+        ensures { result ≡ self.now.cut }
+    {
+        self.cut
+    }
+
+    /// The entry of the append that was begun at this place.
+    pub fn entry(&self, place: u64) -> Option<&Entry>
+        ensures { option_map (λ entry. entry.now) result ≡ slice_get self.now.entries place }
+    {
+        self.entries.get(place as usize)
+    }
+
     /// The greatest length that was given to an append, a settle or an open tail.
     pub fn reach(&self) -> u64
         ensures { result ≡ self.now.reach }
@@ -176,7 +204,7 @@ impl CellState {
     }
 
     /// There is no room for its entry, or no ticket left.
-    fn is_full(&self, aim: &Aim) -> bool
+    pub fn is_full(&self, aim: &Aim) -> bool
         ensures { result ≡ is_full_by self.now aim.now }
     {
         let no_room = self.entries.len() as u64 == self.room;

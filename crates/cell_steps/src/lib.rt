@@ -3,9 +3,11 @@
 //!
 //! * `server`: a log server.
 //! * `tally`: what an operation heard, and what it may come to.
+//! * `answer`: what its client is told.
 //! * `cell`: a cell, and what each of its steps does.
 #![tactic(auto)]
 
+pub mod answer;
 pub mod cell;
 pub mod server;
 pub mod tally;

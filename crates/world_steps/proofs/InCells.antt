@@ -38,8 +38,8 @@ same_if f a false x y h k = k
 writes_elsewhere : (w : World) (who x : ℕ) (change : ChainChange) (o : Option Chain) → (writes w who x change o).cells ≡ w.cells
 writes_elsewhere w who x change None = refl
 writes_elsewhere w who x change (Some old) =
-    same_if (λ v. v.cells) w.cells (not w.register.up) _ _ refl
-    (same_if (λ v. v.cells) w.cells (not (x == w.register.version)) _ _ refl (same_if (λ v. v.cells) w.cells (may_follow w old change) _ _ refl refl))
+    same_if (λ v. v.cells) w.cells (may_follow w old change) _ _
+    (same_if (λ v. v.cells) w.cells (not w.register.up) _ _ refl (same_if (λ v. v.cells) w.cells (not (x == w.register.version)) _ _ refl refl)) refl
 
 stops_elsewhere : (w : World) (who x : ℕ) (change : ChainChange) (o : Option Chain) → (stops_writing w who x change o).cells ≡ w.cells
 stops_elsewhere w who x change None = refl

@@ -6,3 +6,4 @@ pub mod Stepped
 pub mod Fresh
 pub mod InCells
 pub mod LogLaws
+pub mod Fits

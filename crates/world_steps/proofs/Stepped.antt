@@ -37,7 +37,7 @@ use Rattle.world_steps.specs.Parts.{Register, Node, World, no_cell, cell_at, nod
 use Rattle.world_steps.specs.Events.{is_begin_of, is_owner, is_tail, ends, was_sealed_at}
 use Rattle.world_steps.specs.Guards.{is_inner, aim_of, is_below, is_trimmed, may_begin, changed, may_follow}
 use Rattle.world_steps.specs.Logs.{log_at}
-use Rattle.world_steps.specs.Steps.{event, answer_of, told, moves_inside, begins_op, takes_answer, forgets_op, done, Deed, deed, gave, replaced, torn_by, mended, on_register, reads, writes, stops_writing, mends, stays_down, with_entry, next_entry, applies, stops_node, restarts_node, put_node, world_step, run_world}
+use Rattle.world_steps.specs.Steps.{event, answer_of, told, moves_inside, begins_op, takes_answer, forgets_op, done, Deed, deed, gave, replaced, torn_by, mended, on_register, reads, asked, writes, stops_writing, mends, stays_down, with_entry, next_entry, applies, stops_node, restarts_node, put_node, world_step, run_world}
 use Rattle.world_steps.specs.Laws.{IsCellTold, IsRegisterTold, IsFront, WorldLaw, IsLet, KeepsTo, AllKeepTo}
 use Rattle.world_steps.proofs.Told.{SpellsOp, begun_told, refused_told, inner_told, answered_told, dropped_told}
 use Rattle.world_steps.proofs.Registers.{push_here, push_else, gave_told, replaced_told, torn_told, missed_told, mended_told, IsKnown, expected}
@@ -247,27 +247,30 @@ module _ (may : ℕ → Entry → Type 0) (floor : List Entry → ℕ → Type 0
     where
       by_old : (o : Option Chain) → given_under w.register x ≡ o → Goes may floor w (writes w who x change o)
       by_old None e = idle may floor w law
-      by_old (Some old) e = by_up w.register.up refl
+      by_old (Some old) e = by_follow (may_follow w old change) refl
         where
-          written : x ≡ w.register.version → w.register.up ≡ true → (b : Bool) → may_follow w old change ≡ b → Goes may floor w (if b then on_register w (replaced w.register (changed old change)) who (AskWrite x (changed old change)) (Written (w.register.version + 1)) else w)
-          written at up true f =
+          written : may_follow w old change ≡ true → x ≡ w.register.version → w.register.up ≡ true → Goes may floor w (on_register w (replaced w.register (changed old change)) who (AskWrite x (changed old change)) (Written (w.register.version + 1)))
+          written f at up =
               let k = expected _ (state_of w.events) ok w.register law.register x old e at in
               event_kept may floor w law w.cells (replaced w.register (changed old change)) (record { who = who; call = AskWrite x (changed old change); answer = Written (w.register.version + 1) })
               (record { there = tt; allowed = (up_is up, at ∙ k.version, subst (λ (o : Chain). MayFollow (state_of w.events) floor (length (shelf_of w)) o (changed old change)) k.old_is (follows old change let_ f), ap (λ n. n + 1) (sym at)) })
               refl law.cells (replaced_told _ (state_of w.events) ok w.register law.register (changed old change) up k.version) (no_begin who) no_end
-          written at up false f = idle may floor w law
 
-          by_version : w.register.up ≡ true → (b : Bool) → (x == w.register.version) ≡ b → Goes may floor w (if not b then on_register w (gave w.register) who (AskWrite x (changed old change)) (Conflict w.register.version w.register.chain) else if may_follow w old change then on_register w (replaced w.register (changed old change)) who (AskWrite x (changed old change)) (Written (w.register.version + 1)) else w)
-          by_version up true t = written (eqb-true _ _ t) up (may_follow w old change) refl
-          by_version up false t =
+          by_version : may_follow w old change ≡ true → w.register.up ≡ true → (b : Bool) → (x == w.register.version) ≡ b → Goes may floor w (if not b then on_register w (gave w.register) who (AskWrite x (changed old change)) (Conflict w.register.version w.register.chain) else on_register w (replaced w.register (changed old change)) who (AskWrite x (changed old change)) (Written (w.register.version + 1)))
+          by_version f up true t = written f (eqb-true _ _ t) up
+          by_version f up false t =
               let apart : x ≢ w.register.version = grind (arith, nat_tests) in
               event_kept may floor w law w.cells (gave w.register) (record { who = who; call = AskWrite x (changed old change); answer = Conflict w.register.version w.register.chain })
               (record { there = tt; allowed = (up_is up, law.register.current, apart) }) refl law.cells (gave_told _ (state_of w.events) ok w.register law.register up) (no_begin who) no_end
 
-          by_up : (b : Bool) → w.register.up ≡ b → Goes may floor w (if not b then on_register w w.register who (AskWrite x (changed old change)) Down else if not (x == w.register.version) then on_register w (gave w.register) who (AskWrite x (changed old change)) (Conflict w.register.version w.register.chain) else if may_follow w old change then on_register w (replaced w.register (changed old change)) who (AskWrite x (changed old change)) (Written (w.register.version + 1)) else w)
-          by_up true up = by_version up (x == w.register.version) refl
-          by_up false up = event_kept may floor w law w.cells w.register (record { who = who; call = AskWrite x (changed old change); answer = Down })
+          by_up : may_follow w old change ≡ true → (b : Bool) → w.register.up ≡ b → Goes may floor w (if not b then on_register w w.register who (AskWrite x (changed old change)) Down else if not (x == w.register.version) then on_register w (gave w.register) who (AskWrite x (changed old change)) (Conflict w.register.version w.register.chain) else on_register w (replaced w.register (changed old change)) who (AskWrite x (changed old change)) (Written (w.register.version + 1)))
+          by_up f true up = by_version f up (x == w.register.version) refl
+          by_up f false up = event_kept may floor w law w.cells w.register (record { who = who; call = AskWrite x (changed old change); answer = Down })
               (record { there = tt; allowed = down_is up }) refl law.cells law.register (no_begin who) no_end
+
+          by_follow : (b : Bool) → may_follow w old change ≡ b → Goes may floor w (if b then asked w who x (changed old change) else w)
+          by_follow true f = by_up f w.register.up refl
+          by_follow false f = idle may floor w law
 
   stops_kept : (who x : ℕ) (change : ChainChange) → IsLet floor w change → Goes may floor w (stops_writing w who x change (given_under w.register x))
   stops_kept who x change let_ = by_old (given_under w.register x) refl

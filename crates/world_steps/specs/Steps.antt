@@ -100,16 +100,18 @@ reads w who =
     let r = w.register in
     if r.up then on_register w (gave r) who AskRead (At r.version r.chain) else on_register w r who AskRead Down
 
+-- a write of this chain comes to the register
+abbrev pub asked : World → ℕ → ℕ → Chain → World
+asked w who expected chain =
+    let r = w.register in
+    if not r.up then on_register w r who (AskWrite expected chain) Down
+    else if not (expected == r.version) then on_register w (gave r) who (AskWrite expected chain) (Conflict r.version r.chain)
+    else on_register w (replaced r chain) who (AskWrite expected chain) (Written (r.version + 1))
+
 -- a write comes to the register: it asks for the chain that follows, by this change, the one that was given under the version that it expects
 abbrev pub writes : World → ℕ → ℕ → ChainChange → Option Chain → World
 writes w who expected change None = w
-writes w who expected change (Some old) =
-    let r = w.register in
-    let call = AskWrite expected (changed old change) in
-    if not r.up then on_register w r who call Down
-    else if not (expected == r.version) then on_register w (gave r) who call (Conflict r.version r.chain)
-    else if may_follow w old change then on_register w (replaced r (changed old change)) who call (Written (r.version + 1))
-    else w
+writes w who expected change (Some old) = if may_follow w old change then asked w who expected (changed old change) else w
 
 -- .. and the register stops inside it
 abbrev pub stops_writing : World → ℕ → ℕ → ChainChange → Option Chain → World
