@@ -1,10 +1,10 @@
 -- What is possible, by the rules of a legal journal: of who may append what, and of how far a log may be trimmed, nothing
 -- is said here.
-use Rattle.std.specs.Prelude.{ℕ, ◌+◌, ◌^◌, Bool, true, false, not, ◌&&◌, ◌==◌, nat_lt, nat_le, List, length, if◌then◌else◌, Option, Some, None}
+use Rattle.std.specs.Prelude.{ℕ, ◌+◌, ◌^◌, ◌<◌, Bool, true, false, not, ◌&&◌, ◌==◌, nat_lt, nat_le, List, length, if◌then◌else◌, Option, Some, None}
 use Rattle.std.specs.List.{list_any}
 use Rattle.delos_types.specs.declared.chain.Segment.{Segment}
 use Rattle.delos_types.specs.declared.chain.Chain.{Chain}
-use Rattle.chain_map.specs.Chain.{last_id}
+use Rattle.chain_map.specs.Chain.{last_id, last_segment}
 use Rattle.chain_map.specs.Step.{extended, dropped_below}
 use Rattle.loglet_api.specs.declared.call.Op.{Op}
 use Rattle.loglet_api.specs.declared.call.Op.TheVariants.{Append, Settle, Tail, Seal, Read, Trim}
@@ -50,6 +50,11 @@ may_begin w i op = true
 abbrev pub changed : Chain → ChainChange → Chain
 changed c (Extend t) = extended c t
 changed c (Raise n) = dropped_below c n
+
+-- it has numbers that words have: an extended chain ends within a word and in one of 64 cells
+abbrev pub ChangeFits : Chain → ChainChange → Type 0
+ChangeFits c (Extend t) = ((last_segment c).start + t < 2 ^ 64) × (last_id c + 1 < 64)
+ChangeFits c (Raise n) = c.trim < n
 
 -- The last segment is closed at a sealed tail that its cell told, where there is a next cell; or the trim is raised.
 abbrev pub may_follow : World → Chain → ChainChange → Bool

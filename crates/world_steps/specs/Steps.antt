@@ -4,6 +4,7 @@ use Rattle.delos_types.specs.declared.entry.Entry.{Entry}
 use Rattle.delos_types.specs.declared.chain.Chain.{Chain}
 use Rattle.loglet_api.specs.declared.call.Op.{Op}
 use Rattle.loglet_api.specs.declared.call.Answer.{Answer}
+use Rattle.quorum_cell.specs.declared.operation.Aim.{Aim}
 use Rattle.quorum_cell.specs.declared.operation.CellStep.{CellStep}
 use Rattle.quorum_cell.specs.declared.operation.CellStep.TheVariants as cell
 use Rattle.quorum_cell.specs.Cells.{Cell, Operation, operation}
@@ -25,6 +26,10 @@ use Rattle.world_steps.specs.Logs.{log_at}
 abbrev pub event : ℕ → FabricCall → FabricAnswer → List Event
 event who call answer = record { who = who; call = call; answer = answer } ∷ []
 
+-- a client asked this, and was told that
+abbrev pub world_with : World → ℕ → FabricCall → FabricAnswer → World
+world_with w who call answer = record w { events = w.events ++ event who call answer }
+
 ---- cells
 
 -- a step in one cell, with the event that it is, if it is one
@@ -37,11 +42,14 @@ pub record Deed : Type 0 where
 abbrev pub moves_inside : World → ℕ → CellStep → Option Deed
 moves_inside w i step = if nat_lt i (length w.cells) && is_inner step then Some (record { at = i; step = step; event = [] }) else None
 
+-- what the client of an operation that begins is told
+abbrev pub begin_answer : Cell → Aim → FabricAnswer
+begin_answer c aim = if is_full c aim then Full else Begun (length c.operations)
+
 abbrev pub begins_op : World → ℕ → ℕ → Op → Option Deed
 begins_op w who i op =
-    let c = cell_at w.cells i in
     if nat_lt i (length w.cells) && may_begin w i op
-    then Some (record { at = i; step = cell.Begin (aim_of op); event = event who (AskBegin i op) (if is_full c (aim_of op) then Full else Begun (length c.operations)) })
+    then Some (record { at = i; step = cell.Begin (aim_of op); event = event who (AskBegin i op) (begin_answer (cell_at w.cells i) (aim_of op)) })
     else None
 
 -- what the client of an open operation that came to its end is told
@@ -100,6 +108,11 @@ reads w who =
     let r = w.register in
     if r.up then on_register w (gave r) who AskRead (At r.version r.chain) else on_register w r who AskRead Down
 
+-- the chain that follows this one, where one may
+abbrev pub followed : World → ChainChange → Option Chain → Option Chain
+followed w change None = None
+followed w change (Some old) = if may_follow w old change then Some (changed old change) else None
+
 -- a write of this chain comes to the register
 abbrev pub asked : World → ℕ → ℕ → Chain → World
 asked w who expected chain =
@@ -114,13 +127,13 @@ writes w who expected change None = w
 writes w who expected change (Some old) = if may_follow w old change then asked w who expected (changed old change) else w
 
 -- .. and the register stops inside it
+abbrev pub torn_world : World → ℕ → ℕ → Chain → World
+torn_world w who expected chain = on_register w (torn_by w.register chain) who (AskWrite expected chain) MetaFault
+
 abbrev pub stops_writing : World → ℕ → ℕ → ChainChange → Option Chain → World
 stops_writing w who expected change None = w
 stops_writing w who expected change (Some old) =
-    let r = w.register in
-    if (r.up && (expected == r.version)) && may_follow w old change
-    then on_register w (torn_by r (changed old change)) who (AskWrite expected (changed old change)) MetaFault
-    else w
+    if (w.register.up && (expected == w.register.version)) && may_follow w old change then torn_world w who expected (changed old change) else w
 
 abbrev pub mends : World → ℕ → Bool → World
 mends w who kept = let r = w.register in if r.up then w else on_register w (mended r kept r.torn) who (AskMend 0) (Set true)
@@ -148,11 +161,14 @@ applies w k = let n = node_at w.nodes k in if n.up then put_node w k (record n {
 abbrev pub stops_node : World → ℕ → World
 stops_node w k = let n = node_at w.nodes k in if n.up then put_node w k (record n { torn = next_entry w n; up = false }) else w
 
--- it finds that entry applied or not
+-- it comes up again, and finds that entry applied or not
+abbrev pub restarted_node : Node → Bool → Node
+restarted_node n kept = record { applied = if kept then with_entry n.applied n.torn else n.applied; torn = None; up = true }
+
 abbrev pub restarts_node : World → ℕ → Bool → World
 restarts_node w k kept =
     let n = node_at w.nodes k in
-    if n.up then w else put_node w k (record { applied = if kept then with_entry n.applied n.torn else n.applied; torn = None; up = true })
+    if n.up then w else put_node w k (restarted_node n kept)
 
 ---- every step
 

@@ -7,6 +7,10 @@
 //! * `laws`: what holds of every world that a list of steps leads to.
 #![tactic(auto)]
 
+pub mod events;
 pub mod laws;
+pub mod node;
+pub mod parts;
+pub mod register;
 pub mod shape;
 pub mod step;
