@@ -11,9 +11,10 @@ use Rattle.legal_journal.specs.Journal as journal
 use Rattle.legal_journal.proofs.Log.{last_starts}
 use Rattle.legal_journal.proofs.Sound.{StateOk}
 use Rattle.legal_journal.proofs.Chains.{chain_ok}
+use Rattle.world_steps.specs.declared.step.ChainChange.{ChainChange}
 use Rattle.world_steps.specs.declared.step.ChainChange.TheVariants.{Extend, Raise}
 use Rattle.world_steps.specs.Parts.{World, given_under, shelf_of}
-use Rattle.world_steps.specs.Guards.{may_follow}
+use Rattle.world_steps.specs.Guards.{ChangeFits, may_follow}
 use Rattle.world_steps.specs.Laws.{WorldLaw}
 use Rattle.world_steps.proofs.Kept.{state_ok}
 
@@ -52,3 +53,7 @@ module _ (may : ℕ → Entry → Type 0) (floor : List Entry → ℕ → Type 0
         seam = omega (arith, low, far.3, cell.firm, cell.room, next, many, ok.few);
         next = omega (arith, next, many, ok.few);
       }
+
+  pub change_fits : (v : ℕ) (c : Chain) (change : ChainChange) → given_under w.register v ≡ Some c → may_follow w c change ≡ true → ChangeFits c change
+  change_fits v c (Extend t) given h = let s = seam_fits v c t given h in (s.seam, s.next)
+  change_fits v c (Raise n) given h = ltb-true _ _ (and_parts _ _ h).0

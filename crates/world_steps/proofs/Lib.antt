@@ -7,3 +7,4 @@ pub mod Fresh
 pub mod InCells
 pub mod LogLaws
 pub mod Fits
+pub mod Taken

@@ -8,7 +8,7 @@ ghost use Rattle.world_steps.specs.Parts.{cell_at, node_at, given_under, fresh};
 ghost use Rattle.world_steps.specs.Guards.{is_inner as is_inner_by, aim_of as aim_by, may_begin as may_begin_by, may_follow as may_follow_by, changed as changed_by};
 ghost use Rattle.world_steps.specs.Logs.{reach_in, entries_in, log_at as log_by};
 ghost use Rattle.world_steps.specs.Steps.{begin_answer, answer_of, done, moves_inside, begins_op, takes_answer, forgets_op, reads, asked, writes, stops_writing, mends, stays_down, next_entry, applies, stops_node, restarts_node, world_step, world_with, followed, torn_world};
-ghost use Rattle.world_steps.specs.Laws.{WorldLaw, any_append, any_trim};
+ghost use Rattle.world_steps.specs.Laws.{WorldLaw, BringsSpelled, any_append, any_trim};
 
 use crate::events::{copy, is_owner, was_sealed_at};
 use crate::node::NodeState;
@@ -67,8 +67,18 @@ impl Parts {
         Ok(())
     }
 
-    /// Takes one step. After an error a part of it may have been done.
+    /// Takes one step, which keeps the law of worlds. After an error a part of it may have been
+    /// done.
     pub fn take_step(&mut self, alloc: Global, step: &WorldStep) -> Result<(), AllocError>
+        requires law { WorldLaw any_append any_trim self.old }
+        requires brings { BringsSpelled step.now }
+        ensures after { OnOk result (self.new ≡ world_step self.old step.now) }
+        ensures law { OnOk result (WorldLaw any_append any_trim self.new) }
+    {
+        self.make(alloc, step)
+    }
+
+    fn make(&mut self, alloc: Global, step: &WorldStep) -> Result<(), AllocError>
         requires { WorldLaw any_append any_trim self.old }
         ensures { OnOk result (self.new ≡ world_step self.old step.now) }
     {
