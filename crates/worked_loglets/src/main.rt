@@ -2,11 +2,10 @@
 //!
 //! - `topic`: what the cases of a file are about.
 //! - `loglets`: a loglet of any kind. `calls`: lists of its calls, and their answers in words.
-//! - `plans`: what an operation comes to, by what servers told. `cells`: a quorum cell.
+//! - `plans`: what an operation comes to, by what servers told.
 #![tactic(auto)]
 
 mod calls;
-mod cells;
 mod loglets;
 mod plans;
 mod topic;
@@ -15,7 +14,7 @@ use anyhow::Result;
 use topic::Part;
 use worked_cases::cases::print_file;
 
-const TOPICS: [Part; 3] = [Part::Loglets, Part::Plans, Part::Cells];
+const TOPICS: [Part; 2] = [Part::Loglets, Part::Plans];
 
 fn main(rt: HostRuntime) -> Result<()> {
     let mut plays = String::new(rt.alloc());

@@ -1,5 +1,4 @@
 //! What the cases of a file are about: loglets, or parts of native ones.
-use crate::cells::CellBench;
 use crate::loglets::LogletBench;
 use crate::plans::PlanBench;
 use anyhow::Result;
@@ -11,7 +10,6 @@ use worked_cases::cases::{Line, Topic, play_on};
 pub enum Part {
     Loglets,
     Plans,
-    Cells,
 }
 
 impl Topic for Part {
@@ -19,7 +17,6 @@ impl Topic for Part {
         match self {
             Part::Loglets => "loglets",
             Part::Plans => "plans",
-            Part::Cells => "cells",
         }
     }
 
@@ -27,7 +24,6 @@ impl Topic for Part {
         match self {
             Part::Loglets => play_on(alloc, &mut LogletBench::new(alloc), with, calls),
             Part::Plans => play_on(alloc, &mut PlanBench, with, calls),
-            Part::Cells => play_on(alloc, &mut CellBench::new(alloc), with, calls),
         }
     }
 }

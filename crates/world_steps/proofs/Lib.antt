@@ -1,2 +1,10 @@
-pub mod Bounds
-pub mod Lawful
+pub mod Told
+pub mod Registers
+pub mod Kept
+pub mod Seen
+pub mod Stepped
+pub mod Fresh
+pub mod InCells
+pub mod LogLaws
+pub mod Fits
+pub mod Taken

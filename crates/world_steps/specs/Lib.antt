@@ -1,2 +1,7 @@
-pub mod Worlds
-pub mod Says
+pub mod Parts
+pub mod Events
+pub mod Guards
+pub mod Steps
+pub mod Logs
+pub mod Moves
+pub mod Laws

@@ -1,13 +1,20 @@
-//! The world as plain lists, and its steps as a program: what every schedule of messages, losses,
-//! stops and restarts leads to. The laws of `quorum_cell` hold of every world that it makes.
+//! The world: cells, the register of the chain that joins them, and nodes that apply its log, as
+//! plain lists, and its steps as a program. Every schedule of clients, messages, losses, stops and
+//! restarts is a list of steps.
 //!
-//! * `server`: a log server.
-//! * `tally`: what an operation heard, and what it may come to.
-//! * `cell`: a cell, and what each of its steps does.
 //! * `world`: the world, and lists of steps.
+//! * `shape`: the cells that a world begins with.
+//! * `step`: what can happen next.
+//! * `parts`: the parts of a world, and what each step does to one of them.
+//! * `register`, `node`, `events`: the register, a node, and what clients' events tell.
+//! * `laws`: what holds of every world that a list of steps leads to.
 #![tactic(auto)]
 
-pub mod cell;
-pub mod server;
-pub mod tally;
+pub mod events;
+pub mod laws;
+pub mod node;
+pub mod parts;
+pub mod register;
+pub mod shape;
+pub mod step;
 pub mod world;

@@ -1,108 +1,174 @@
 //! The world, and lists of steps.
-ghost use Rattle.std.specs.Prelude.{◌≡◌, ◌≤◌, ◌^◌, [], ◌++◌, ◌∷◌, slice_get, option_map, OnOk, OnErr, IfOk, All};
-ghost use Rattle.quorum_cell.specs.Cells.{start};
-ghost use Rattle.quorum_cell.specs.Law.{IsLawful};
-ghost use Rattle.world_steps.specs.Worlds.{world_step, run_world, cells_after};
+ghost use Rattle.std.specs.Prelude.{◌≡◌, ◌<◌, ◌≤◌, ◌^◌, [], ◌∷◌, ◌++◌, length, slice_get, option_map, All, IfOk, OnOk, OnErr};
+ghost use Rattle.world_steps.specs.Parts.{fresh};
+ghost use Rattle.world_steps.specs.Steps.{world_step, run_world};
+ghost use Rattle.world_steps.specs.Laws.{IsShaped, BringsSpelled};
 
-use crate::cell::CellState;
-use quorum_cell::operation::CellStep;
+use crate::node::NodeState;
+use crate::parts::Parts;
+use crate::register::RegisterState;
+use crate::shape::Shape;
+use crate::step::WorldStep;
+use cell_steps::cell::CellState;
+use legal_journal::events::Event;
 use std::alloc::{AllocError, Global};
 use std::marker::Model;
 
-/// What can happen next. A step touches one part of the world.
+/// The shapes of the cells that a world begins with.
 #[derive(Drop)]
-pub enum WorldStep {
-    /// The cell of this number takes a step.
-    InCell(u64, CellStep),
+pub struct Shelf {
+    shapes: Vec<Shape>,
 }
 
-/// Cells that each meet the law of cells.
-#[derive(Drop)]
-pub struct World {
-    cells: Vec<CellState>,
+impl Model for Shelf {
+    ghost use Rattle.std.specs.Prelude.{List, All};
+    ghost use Rattle.world_steps.specs.declared.shape.Shape.{Shape};
+    ghost use Rattle.world_steps.specs.Laws.{IsShaped};
+
+    ghost Value = { List Shape };
+
+    ghost view = { λ s. s.shapes.items };
+
+    ghost invariant = { λ s. All IsShaped s.shapes.items };
 }
 
-impl Model for World {
-    ghost use Rattle.std.specs.Prelude.{All};
-    ghost use Rattle.quorum_cell.specs.Law.{IsLawful};
-    ghost use Rattle.world_steps.specs.Worlds.{World as WorldOf};
-
-    ghost Value = { WorldOf };
-
-    ghost view = { λ w. record { cells = w.cells.items } };
-
-    ghost invariant = { λ w. All IsLawful w.cells.items };
-}
-
-impl World {
-    /// A world of no cells.
-    pub fn new(alloc: Global) -> World
-        ensures { result ≡ record { cells = [] } }
+impl Shelf {
+    /// A shelf of no cells.
+    pub fn new(alloc: Global) -> Shelf
+        ensures { result ≡ [] }
     {
-        World {
-            cells: Vec::new(alloc),
+        Shelf {
+            shapes: Vec::new(alloc),
         }
     }
 
-    /// Adds a cell of `servers` empty servers, all up, that takes at most `room` entries and
-    /// `limit` operations.
-    pub fn add_cell(
-        &mut self,
-        alloc: Global,
-        servers: u32,
-        room: u64,
-        limit: u64,
-    ) -> Result<(), AllocError>
-        requires servers { (1 ≤ servers) × (servers ≤ 64) }
-        requires room { (1 ≤ room) × (room ≤ 2 ^ 32) }
-        requires limit { limit ≤ 2 ^ 62 }
-        ensures ok { OnOk result (self.new ≡ record { cells = self.old.cells ++ start servers room limit ∷ [] }) }
+    /// One more cell.
+    pub fn add(&mut self, shape: Shape) -> Result<(), AllocError>
+        requires { IsShaped shape }
+        ensures ok { OnOk result (self.new ≡ self.old ++ shape ∷ []) }
         ensures err { OnErr result (self.new ≡ self.old) }
     {
-        let cell = CellState::new(alloc, servers, room, limit)?;
-        self.cells.push(cell)?;
+        self.shapes.push(shape)?;
         Ok(())
     }
 
+    /// Their shapes.
+    fn as_slice(&self) -> &[Shape]
+        ensures value { result.now ≡ self.now }
+        ensures shaped { All IsShaped result.now }
+    {
+        self.shapes.as_slice()
+    }
+
+    /// How many cells it has.
+    pub fn len(&self) -> usize
+        ensures { result ≡ length self.now }
+    {
+        self.shapes.len()
+    }
+}
+
+/// A world that meets the law of worlds.
+#[derive(Drop)]
+pub struct World {
+    parts: Parts,
+}
+
+impl Model for World {
+    ghost use Rattle.world_steps.specs.Parts.{World as WorldOf};
+    ghost use Rattle.world_steps.specs.Laws.{WorldLaw, any_append, any_trim};
+
+    ghost Value = { WorldOf };
+
+    ghost view = { λ w. w.parts };
+
+    ghost invariant = { λ w. WorldLaw any_append any_trim w.parts };
+}
+
+impl World {
+    /// A world of new cells of these shapes and of so many nodes, in which nothing happened.
+    pub fn new(alloc: Global, shelf: &Shelf, nodes: u32) -> Result<World, AllocError>
+        requires { (0 < length shelf.now) × (length shelf.now ≤ 64) }
+        ensures { IfOk result (λ made. made ≡ fresh shelf.now nodes) }
+    {
+        let shapes = shelf.as_slice();
+        let parts = new_parts(alloc, shapes, nodes)?;
+        Ok(World { parts })
+    }
+
     /// The cell of this number.
-    pub fn cell(&self, number: u64) -> Option<&CellState>
+    pub fn cell(&self, number: u32) -> Option<&CellState>
         ensures { option_map (λ cell. cell.now) result ≡ slice_get self.now.cells number }
     {
-        self.cells.get(number as usize)
+        self.parts.cells.get(number as usize)
     }
+
+    /// The register of the chain.
+    pub fn register(&self) -> &RegisterState
+        ensures { result.now ≡ self.now.register }
+    {
+        &self.parts.register
+    }
+
+    /// The node of this number.
+    pub fn node(&self, number: u32) -> Option<&NodeState>
+        ensures { option_map (λ node. node.now) result ≡ slice_get self.now.nodes number }
+    {
+        self.parts.nodes.get(number as usize)
+    }
+
+    /// What clients asked, and what they were told.
+    pub fn events(&self) -> &[Event]
+        ensures { result.now ≡ self.now.events }
+    {
+        self.parts.events.as_slice()
+    }
+}
+
+/// The parts of a world of cells of these shapes.
+fn new_parts(alloc: Global, shapes: &[Shape], nodes: u32) -> Result<Parts, AllocError>
+    ensures { IfOk result (λ made. made ≡ fresh shapes.now nodes) }
+{
+    let cells = new_cells(alloc, shapes)?;
+    let register = RegisterState::new(alloc)?;
+    let nodes = vec![in alloc; NodeState::new(alloc); nodes as usize]?;
+    Ok(Parts {
+        cells,
+        register,
+        nodes,
+        events: Vec::new(alloc),
+    })
+}
+
+/// The cells that a world begins with.
+fn new_cells(alloc: Global, shapes: &[Shape]) -> Result<Vec<CellState>, AllocError>
+    ensures { IfOk result (λ made. made.items ≡ (fresh shapes.now 0).cells) }
+{
+    let mut cells = Vec::new(alloc);
+    for shape in shapes {
+        cells.push(CellState::new(alloc, shape.servers, shape.room, shape.limit)?)?;
+    }
+    Ok(cells)
 }
 
 /// The world after one step. It copies the world.
 pub fn step(alloc: Global, world: &World, step: &WorldStep) -> Result<World, AllocError>
+    requires { BringsSpelled step.now }
     ensures { IfOk result (λ after. after ≡ world_step world.now step.now) }
 {
-    let mut cells = world.cells.clone()?;
-    take_step(alloc, &mut cells, step)?;
-    Ok(World { cells })
+    let mut parts = world.parts.copied(alloc)?;
+    parts.take_step(alloc, step)?;
+    Ok(World { parts })
 }
 
 /// The world after these steps, one after another. It copies the world once.
 pub fn run_steps(alloc: Global, world: &World, steps: &[WorldStep]) -> Result<World, AllocError>
+    requires { All BringsSpelled steps.now }
     ensures { IfOk result (λ after. after ≡ run_world steps.now world.now) }
 {
-    let mut cells = world.cells.clone()?;
+    let mut parts = world.parts.copied(alloc)?;
     for step in steps {
-        take_step(alloc, &mut cells, step)?;
+        parts.take_step(alloc, step)?;
     }
-    Ok(World { cells })
-}
-
-fn take_step(alloc: Global, cells: &mut Vec<CellState>, step: &WorldStep) -> Result<(), AllocError>
-    requires lawful { All IsLawful cells.old.items }
-    ensures after { OnOk result (cells.new.items ≡ cells_after cells.old.items step.now) }
-    ensures lawful { OnOk result (All IsLawful cells.new.items) }
-{
-    match step {
-        WorldStep::InCell(number, step) => {
-            if *number < cells.len() as u64 {
-                cells[*number as usize].take_step(alloc, step)?;
-            }
-        }
-    }
-    Ok(())
+    Ok(World { parts })
 }

@@ -1,0 +1,38 @@
+-- The log that the chain joins, as it was given last, and what nodes make of it.
+use Rattle.std.specs.Prelude.{◌≡◌, ◌⊎◌, ℕ, ◌<◌, List, Option, Some}
+use Rattle.std.specs.FinMap as finmap
+use Rattle.delos_types.specs.declared.entry.Entry.{Entry}
+use Rattle.chain_map.specs.Chain.{last_of_segments}
+use Rattle.legal_journal.specs.Shown.{entry_of, end_of}
+use Rattle.engine_api.specs.declared.act.Act.{Act}
+use Rattle.engine_api.specs.Acted.{acted_log}
+use Rattle.world_steps.specs.Parts.{World, Node, cell_at, last_given}
+
+abbrev pub reach_in : World → ℕ → ℕ
+reach_in w i = (cell_at w.cells i).reach
+
+abbrev pub entries_in : World → ℕ → List Entry
+entries_in w i = (cell_at w.cells i).entries
+
+abbrev pub trim_of : World → ℕ
+trim_of w = (last_given w.register).trim
+
+-- the entry at a position, from the trim up to the tail
+abbrev pub log_at : World → ℕ → Option Entry
+log_at w pos = entry_of (reach_in w) (entries_in w) (last_given w.register) pos
+
+-- where the open segment ends: as far as its cell's answers reach
+abbrev pub tail_of : World → ℕ
+tail_of w = end_of (reach_in w) (last_of_segments (last_given w.register).segments)
+
+-- the entry stands at the position, or was trimmed there
+abbrev pub Stands : World → ℕ → Entry → Type 0
+Stands w pos e = (pos < trim_of w) ⊎ (log_at w pos ≡ Some e)
+
+-- what acts in these entries from position 0 on, with the replies of the table
+abbrev pub acts_in : List Entry → List Act
+acts_in entries = acted_log finmap.empty (λ s. 1) 0 entries
+
+-- the state of a node: what acted in the entries that it applied
+abbrev pub state_of : Node → List Act
+state_of n = acts_in n.applied

@@ -1,0 +1,16 @@
+-- What the steps of a world are in one of its cells.
+use Rattle.std.specs.Prelude.{ℕ, ◌==◌, if◌then◌else◌, List, [], ◌∷◌, ◌++◌, Option, Some, None}
+use Rattle.quorum_cell.specs.declared.operation.CellStep.{CellStep}
+use Rattle.world_steps.specs.declared.step.WorldStep.{WorldStep}
+use Rattle.world_steps.specs.Parts.{World}
+use Rattle.world_steps.specs.Steps.{Deed, deed, world_step}
+
+-- the step of cell i that a deed is
+abbrev pub step_in : ℕ → Option Deed → List CellStep
+step_in i None = []
+step_in i (Some d) = if d.at == i then d.step ∷ [] else []
+
+-- the steps that cell i takes, one after another
+abbrev pub steps_in : ℕ → List WorldStep → World → List CellStep
+steps_in i [] w = []
+steps_in i (step ∷ steps) w = step_in i (deed w step) ++ steps_in i steps (world_step w step)

@@ -1,0 +1,94 @@
+//! What holds of every world that a list of steps leads to from a fresh one, with any number of
+//! clients that seal, repair and extend. Each function does nothing: its contract is the law.
+ghost use Rattle.std.specs.Prelude.{◌≡◌, ℕ, ◌+◌, ◌<◌, ◌≤◌, List, map, slice_get, Some, IsSome, All};
+ghost use Rattle.delos_types.specs.declared.entry.Entry.{Entry};
+ghost use Rattle.delos_types.specs.declared.chain.Segment.{Segment};
+ghost use Rattle.delos_types.specs.declared.chain.Chain.{Chain};
+ghost use Rattle.chain_map.specs.Chain.{IsChain};
+ghost use Rattle.loglet_api.specs.Run.{LogletRun};
+ghost use Rattle.quorum_cell.specs.Law.{IsLawful};
+ghost use Rattle.quorum_cell.specs.Steps.{run_cell};
+ghost use Rattle.cell_views.specs.Views.{Manner, IsManner, cell_view, calls_of};
+ghost use Rattle.legal_journal.specs.Journal.{IsLegal};
+ghost use Rattle.world_steps.specs.declared.shape.Shape.{Shape};
+ghost use Rattle.world_steps.specs.declared.step.WorldStep.{WorldStep};
+ghost use Rattle.world_steps.specs.Parts.{World, fresh, cell_at, node_at, given_under};
+ghost use Rattle.world_steps.specs.Logs.{log_at, trim_of, tail_of, Stands, state_of, acts_in};
+ghost use Rattle.world_steps.specs.Steps.{run_world};
+ghost use Rattle.world_steps.specs.Moves.{steps_in};
+ghost use Rattle.world_steps.specs.Laws.{IsShelf, BringsSpelled, AllKeepTo, WorldLaw, IsFrontOf};
+
+use legal_journal::rules::Rules;
+
+/// The quorum law holds in each cell, and what a cell does is a run of a loglet, as its clients see
+/// it: its steps are those that the world's steps are in it, one after another.
+pub fn cells_are_lawful()
+    ensures law { (shapes : List Shape) (nodes : ℕ) (steps : List WorldStep) (cell : ℕ) → IsShelf shapes → All BringsSpelled steps
+        → IsLawful (cell_at (run_world steps (fresh shapes nodes)).cells cell) }
+    ensures steps { (steps : List WorldStep) (world : World) (cell : ℕ)
+        → cell_at (run_world steps world).cells cell ≡ run_cell (steps_in cell steps world) (cell_at world.cells cell) }
+    ensures run { (manner : Manner) (shapes : List Shape) (nodes : ℕ) (steps : List WorldStep) (cell : ℕ) (shape : Shape) → IsShelf shapes → All BringsSpelled steps
+        → slice_get shapes cell ≡ Some shape → IsManner shape.servers manner
+        → let world = fresh shapes nodes in let first = cell_at world.cells cell in
+        LogletRun (cell_view manner first) (calls_of (steps_in cell steps world) first) (cell_view manner (cell_at (run_world steps world).cells cell)) }
+{}
+
+/// The events are a legal journal, by any rules of who may append what and of how far the log may
+/// be trimmed to which the steps keep, and all parts are as the events tell.
+pub fn events_are_legal<P: Rules>()
+    ensures legal { (shapes : List Shape) (nodes : ℕ) (steps : List WorldStep) → IsShelf shapes
+        → AllKeepTo P.may P.floor (fresh shapes nodes) steps → IsLegal P.may P.floor (map (λ s. s.servers) shapes) (run_world steps (fresh shapes nodes)).events }
+    ensures told { (shapes : List Shape) (nodes : ℕ) (steps : List WorldStep) → IsShelf shapes
+        → AllKeepTo P.may P.floor (fresh shapes nodes) steps → WorldLaw P.may P.floor (run_world steps (fresh shapes nodes)) }
+{}
+
+/// The log of a later moment agrees with that of an earlier one on each position that both have.
+/// No position is missing from the trim up to the tail, which never goes back; nor does the trim.
+pub fn logs_agree()
+    ensures agree { (shapes : List Shape) (nodes : ℕ) (early late : List WorldStep) → IsShelf shapes → All BringsSpelled early → All BringsSpelled late
+        → let world = run_world early (fresh shapes nodes) in let later = run_world late world in
+        (pos : ℕ) (e f : Entry) → log_at world pos ≡ Some e → log_at later pos ≡ Some f → e ≡ f }
+    ensures whole { (shapes : List Shape) (nodes : ℕ) (early late : List WorldStep) → IsShelf shapes → All BringsSpelled early → All BringsSpelled late
+        → let world = run_world early (fresh shapes nodes) in let later = run_world late world in
+        (pos : ℕ) → trim_of later ≤ pos → pos < tail_of world → IsSome (log_at later pos) }
+    ensures grow { (shapes : List Shape) (nodes : ℕ) (early late : List WorldStep) → IsShelf shapes → All BringsSpelled early → All BringsSpelled late
+        → let world = run_world early (fresh shapes nodes) in let later = run_world late world in
+        (trim_of world ≤ trim_of later) × (tail_of world ≤ tail_of later) }
+{}
+
+/// Each position of a cell that an answer reached stands at its place of the log in every later
+/// chain that has the cell, or it was trimmed there.
+pub fn acknowledged_entries_stand()
+    ensures { (shapes : List Shape) (nodes : ℕ) (early late : List WorldStep) → IsShelf shapes → All BringsSpelled early → All BringsSpelled late
+        → let world = run_world early (fresh shapes nodes) in let later = run_world late world in
+        (version number place : ℕ) (chain : Chain) (segment : Segment) (e : Entry) → given_under later.register version ≡ Some chain
+        → slice_get chain.segments number ≡ Some segment → place < (cell_at world.cells segment.id).reach
+        → slice_get (cell_at world.cells segment.id).entries place ≡ Some e → Stands later (segment.start + place) e }
+{}
+
+/// Each chain that the register gives under a version is the only one, its segments join, and no
+/// answer of a cell reaches past the end of its closed segment.
+pub fn chains_are_joined()
+    ensures one { (shapes : List Shape) (nodes : ℕ) (early late : List WorldStep) → IsShelf shapes → All BringsSpelled early → All BringsSpelled late
+        → let world = run_world early (fresh shapes nodes) in let later = run_world late world in
+        (version : ℕ) (chain : Chain) → given_under world.register version ≡ Some chain → given_under later.register version ≡ Some chain }
+    ensures joined { (shapes : List Shape) (nodes : ℕ) (steps : List WorldStep) → IsShelf shapes → All BringsSpelled steps
+        → let world = run_world steps (fresh shapes nodes) in
+        (version : ℕ) (chain : Chain) → given_under world.register version ≡ Some chain → IsChain chain }
+    ensures closed { (shapes : List Shape) (nodes : ℕ) (steps : List WorldStep) → IsShelf shapes → All BringsSpelled steps
+        → let world = run_world steps (fresh shapes nodes) in
+        (version number end : ℕ) (chain : Chain) (segment : Segment) → given_under world.register version ≡ Some chain
+        → slice_get chain.segments number ≡ Some segment → segment.end ≡ Some end → segment.start + (cell_at world.cells segment.id).reach ≤ end }
+{}
+
+/// The state of a node is what a front of the log does, whatever stopped and came up again: each
+/// entry of it stands in the log, or was trimmed there. So nodes agree, at any two moments.
+pub fn nodes_follow_the_log()
+    ensures state { (shapes : List Shape) (nodes : ℕ) (steps : List WorldStep) (node : ℕ) → IsShelf shapes → All BringsSpelled steps
+        → let world = run_world steps (fresh shapes nodes) in
+        (front : List Entry) × IsFrontOf world front × (state_of (node_at world.nodes node) ≡ acts_in front) }
+    ensures agree { (shapes : List Shape) (nodes : ℕ) (early late : List WorldStep) → IsShelf shapes → All BringsSpelled early → All BringsSpelled late
+        → let world = run_world early (fresh shapes nodes) in let later = run_world late world in
+        (one other pos : ℕ) (e f : Entry) → slice_get (node_at world.nodes one).applied pos ≡ Some e
+        → slice_get (node_at later.nodes other).applied pos ≡ Some f → e ≡ f }
+{}
