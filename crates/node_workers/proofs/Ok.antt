@@ -22,11 +22,11 @@ ok_then (Ok x) k h = h x k
 ok_then (Err e) k h = tt
 
 -- both
-pub ok_pair : {A E : Type 0} {P Q : A → Type 0} (r : Result A E) → IfOk r P → IfOk r Q → IfOk r (λ x. P x × Q x)
-ok_pair (Ok x) h k = (h, k)
-ok_pair (Err e) h k = tt
+pub ok_pair : {A E : Type 0} (P Q : A → Type 0) (r : Result A E) → IfOk r P → IfOk r Q → IfOk r (λ x. P x × Q x)
+ok_pair P Q (Ok x) h k = (h, k)
+ok_pair P Q (Err e) h k = tt
 
 -- so of what a line came to by it
-pub ok_comes : {E : Type 0} {P : Option Cause → Type 0} {Q : Looked → Type 0} {looked : Looked} {is : Result Looked E} (told : Result (Option Cause) E) → is ≡ comes_to told looked → IfOk told P → ((failed : Option Cause) → P failed → Q (came_to failed looked)) → IfOk is Q
-ok_comes {Q} (Ok failed) same h k = subst (λ r. IfOk r Q) (sym same) (k failed h)
-ok_comes {Q} (Err e) same h k = subst (λ r. IfOk r Q) (sym same) tt
+pub ok_comes : {E : Type 0} {P : Option Cause → Type 0} (Q : Looked → Type 0) {looked : Looked} {is : Result Looked E} (told : Result (Option Cause) E) → is ≡ comes_to told looked → IfOk told P → ((failed : Option Cause) → P failed → Q (came_to failed looked)) → IfOk is Q
+ok_comes Q (Ok failed) same h k = subst (λ r. IfOk r Q) (sym same) (k failed h)
+ok_comes Q (Err e) same h k = subst (λ r. IfOk r Q) (sym same) tt

@@ -20,7 +20,7 @@ ghost use Rattle.node_workers.specs.Lines.{MayAskTrim, extends_on};
 
 use crate::line::{OwnLine, own_line};
 use crate::steps::{CatchUp, Clean, Cut, Extend, Least, Settle};
-use crate::telling::{came_to, tell, tell_and_play};
+use crate::told::{came_to, tell, tell_and_play};
 use crate::turns::Returned;
 use crate::within::{Back, in_turn};
 use crate::worker::Worker;
@@ -116,6 +116,7 @@ impl OwnLine for ReportLine {
 
     ghost moves = { λ may floor shelf line old new x h. record { others = h.others; moves = h.moves; kept = h.kept } };
 
+    #[tactic(auto, using(legal_journal::proofs::Sealing::unsealed_by))]
     fn go<L: Loglet, R: Register, K: Terms, S: Replica, C: Chooser>(
         self,
         fabric: Fabric<L, R, By<K>>,
@@ -218,6 +219,7 @@ impl OwnLine for LeaveLine {
 
     ghost moves = { λ may floor shelf line old new x h. record { others = h.others; moves = h.moves; kept = h.kept } };
 
+    #[tactic(auto, using(legal_journal::proofs::Sealing::unsealed_by))]
     fn go<L: Loglet, R: Register, K: Terms, S: Replica, C: Chooser>(
         self,
         fabric: Fabric<L, R, By<K>>,
@@ -319,6 +321,7 @@ impl OwnLine for TrimLine {
 
     ghost moves = { λ may floor shelf line old new x h. record { others = h.others; moves = h.moves; kept = h.kept } };
 
+    #[tactic(auto, using(legal_journal::proofs::Sealing::unsealed_by))]
     fn go<L: Loglet, R: Register, K: Terms, S: Replica, C: Chooser>(
         self,
         fabric: Fabric<L, R, By<K>>,

@@ -4,7 +4,7 @@
 //! - `step`: `NodeStep`, what a node does once, and what is then so.
 //! - `within`: any step within a scope, and in a turn by the rules of a run.
 //! - `steps`: the steps.
-//! - `telling`: an entry of no session is appended in a turn.
+//! - `told`: an entry of no session is appended in a turn.
 //! - `line`: `OwnLine`, steps one after the other, and any of them at a worker.
 //! - `admin`: a node's own lines.
 //! - `turns`: the lines of its sessions, and the end of a phase.
@@ -14,7 +14,7 @@ pub mod admin;
 pub mod line;
 pub mod step;
 pub mod steps;
-pub mod telling;
+pub mod told;
 pub mod turns;
 pub mod within;
 pub mod worker;

@@ -61,6 +61,7 @@ fn count(counts: &mut [u64; 64], session: SessionId)
 }
 
 /// The session's command is asked, at its desk. Where the session has no cause, the command is handed in.
+#[tactic(auto, using(legal_journal::proofs::Sealing::unsealed_by))]
 fn log_at<L: Loglet, R: Register, K: Terms, S: Replica, C: Chooser>(
     alloc: Global,
     fabric: Fabric<L, R, By<K>>,
@@ -160,6 +161,7 @@ pub fn log_line<L: Loglet, R: Register, K: Terms, S: Replica, C: Chooser>(
 }
 
 /// A line of a session that reads the table.
+#[tactic(auto, using(legal_journal::proofs::Sealing::unsealed_by))]
 pub fn look_line<L: Loglet, R: Register, K: Terms, S: Replica, C: Chooser>(
     fabric: Fabric<L, R, By<K>>,
     worker: Worker<S, C>,
@@ -201,6 +203,7 @@ pub fn look_line<L: Loglet, R: Register, K: Terms, S: Replica, C: Chooser>(
 }
 
 /// A phase ends at the worker's node. Answers why no tail was found, if none was.
+#[tactic(auto, using(legal_journal::proofs::Sealing::unsealed_by))]
 pub fn end_phase<L: Loglet, R: Register, K: Terms, S: Replica, C: Chooser>(
     fabric: Fabric<L, R, By<K>>,
     worker: Worker<S, C>,

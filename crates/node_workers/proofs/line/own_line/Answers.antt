@@ -18,7 +18,7 @@ returns-clause-worker g c =
     let b = c.go-seat.result.seat in
     let was = c.args.fabric.journal in
     let now = c.go-seat.result.fabric.journal in
-    ok_then c.go-seat.result.answer (ok_pair c.go-seat.result.answer c.go-seat.ensures.done c.go-seat.ensures.did)
+    ok_then c.go-seat.result.answer (ok_pair _ _ c.go-seat.result.answer c.go-seat.ensures.done c.go-seat.ensures.did)
     (λ x h.
     let came = g.Y.OwnLine.moves (Within p.may c.args.counts.now) p.floor p.shelf c.args.line (node_of a was) (node_of b now) x h.1 in
     worker_moves p.may p.floor p.shelf c.requires.run r.state r.spells a.who c.args.counts.now was now a b c.args.worker.desks.items came.others c.requires.worker h.0.ok (none-waits b came.kept) came.moves)

@@ -98,8 +98,8 @@ in_turn-requires-clause-can g c =
     let fine = proposable-session d.session n cmd stands.known some small c.requires.spelled c.requires.short in
     let under = ap (rank_under d.session) (content_of-session d.session n cmd stands.known some small c.requires.spelled) ∙ own_under d.session n (Some cmd) in
     let may_own : p.may seat.who (packed seat.who (item ∷ [])) = subst (λ w. p.may w (packed w (item ∷ []))) (sym keeps.who)
-        (subst (λ q. p.may c.args.seat.who (packed c.args.seat.who (session_item q n cmd ∷ []))) (sym named)
-        (subst (λ k. p.may c.args.seat.who (packed c.args.seat.who (session_item c.args.session k cmd ∷ []))) (sym (ap (λ k. k + 1) (all ∙ asked))) c.requires.own)) in
+    (subst (λ q. p.may c.args.seat.who (packed c.args.seat.who (session_item q n cmd ∷ []))) (sym named)
+    (subst (λ k. p.may c.args.seat.who (packed c.args.seat.who (session_item c.args.session k cmd ∷ []))) (sym (ap (λ k. k + 1) (all ∙ asked))) c.requires.own)) in
     let own = within-one p.may counts' seat.who d.session n item fine may_own under (λ q apart. rank_elsewhere d.session q n (content_of item) under apart) (omega (arith, counted)) in
     let origin : seat.node.replica.origin ≡ seat.who = keeps.origin ∙ (c.requires.origin ∙ sym keeps.who) in
     let waits = subst (All IsOfSession) (sym did.2) c.requires.waits in

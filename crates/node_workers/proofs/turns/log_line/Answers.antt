@@ -38,7 +38,7 @@ returns-clause-worker g c =
     let a = c.args.worker.seat in
     let back = c.log_at-seat.result in
     let at = desk_there xs c.from-i.result c.number.result s d c.requires.worker.size c.number.ensures.range c.from-i.ensures c.number.ensures.value c.index_mut.ensures.value in
-    ok_then back.answer (ok_pair back.answer (ok_pair back.answer c.log_at-seat.ensures.done c.log_at-seat.ensures.waits) (ok_pair back.answer c.log_at-seat.ensures.desk c.log_at-seat.ensures.logs))
+    ok_then back.answer (ok_pair _ _ back.answer (ok_pair _ _ back.answer c.log_at-seat.ensures.done c.log_at-seat.ensures.waits) (ok_pair _ _ back.answer c.log_at-seat.ensures.desk c.log_at-seat.ensures.logs))
     (λ x h. subst (λ k. WorkerOk p.may p.floor p.shelf r.state r.spells a.who counts' back.fabric.journal back.seat (slice_set xs k new)) (sym (c.from-i.ensures ∙ c.number.ensures.value))
     (worker_logs p.may p.floor p.shelf c.requires.run.low r.state r.spells a.who c.args.counts.now counts' c.args.fabric.journal back.fabric.journal a back.seat xs s d new c.requires.worker h.0.0.ok h.0.1 at h.1.0 h.1.1))
 

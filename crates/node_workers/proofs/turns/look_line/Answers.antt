@@ -26,7 +26,7 @@ returns-clause-worker g c =
     let p = g.K.Terms in
     let r = g.S.Replica in
     let back = c.in_turn-seat.result in
-    ok_then back.answer (ok_pair back.answer c.in_turn-seat.ensures.done c.in_turn-seat.ensures.did)
+    ok_then back.answer (ok_pair _ _ back.answer c.in_turn-seat.ensures.done c.in_turn-seat.ensures.did)
     (λ x h. worker_moves p.may p.floor p.shelf c.requires.run r.state r.spells c.args.worker.seat.who c.args.counts.now c.args.fabric.journal back.fabric.journal c.args.worker.seat back.seat c.args.worker.desks.items h.1.0.others c.requires.worker h.0.ok (none-waits back.seat h.1.1) h.1.0.moves)
 
 pub returns-clause-looks : goal.returns-clause-looks

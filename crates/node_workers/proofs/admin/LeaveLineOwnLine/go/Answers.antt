@@ -3,7 +3,9 @@ use Rattle.engine_api.specs.declared.content.Content.TheVariants as content
 use Rattle.engine_api.specs.Packing.{packed, leave_item}
 use Rattle.one_thread.specs.Seats.{node_of}
 use Rattle.node_lines.specs.Reporting.{IsPlain}
-use Rattle.node_lines.specs.Workers.{Within}
+use Rattle.node_lines.specs.Workers.{Within, LeaveAdds}
+use Rattle.node_lines.specs.Leaving.{Leaves}
+use Rattle.node_lines.specs.Steps.{IsDone}
 use Rattle.node_lines.proofs.Assembling.{leaves_unmeasured}
 use Rattle.node_workers.proofs.Joining.{says-one}
 use Rattle.node_workers.proofs.Ok.{on_ok, in_ok_at, ok_comes}
@@ -59,13 +61,18 @@ pub returns-clause-seals : goal.returns-clause-seals
 returns-clause-seals g c = unsealed_then c.in_turn-seat.ensures.right c.tell_and_play-seat.ensures.unsealed
 
 pub returns-clause-done : goal.returns-clause-done
-returns-clause-done g c = ok_comes c.tell_and_play-seat.result.answer c.came_to.ensures c.tell_and_play-seat.ensures.done (λ x h. done_both (on_ok _ c.in-Ok.is c.in_turn-seat.ensures.done) h)
+returns-clause-done g c =
+    let p = g.K.Terms in
+    let r = g.S.Replica in
+    let back = c.tell_and_play-seat.result in
+    ok_comes (λ _. IsDone p.may p.floor p.shelf r.state r.spells c.args.counts.now c.args.fabric.journal c.args.seat back.fabric.journal back.seat) back.answer c.came_to.ensures c.tell_and_play-seat.ensures.done
+    (λ x h. done_both (on_ok _ c.in-Ok.is c.in_turn-seat.ensures.done) h)
 
 pub returns-clause-did : goal.returns-clause-did
 returns-clause-did g c =
     let p = g.K.Terms in
     let made = c.in-Ok-leave_item.ensures in
-    ok_comes c.tell_and_play-seat.result.answer c.came_to.ensures c.tell_and_play-seat.ensures.did
+    ok_comes (Leaves (Within p.may c.args.counts.now) p.floor p.shelf (node_of c.args.seat c.args.fabric.journal) (node_of c.tell_and_play-seat.result.seat c.tell_and_play-seat.result.fabric.journal)) c.tell_and_play-seat.result.answer c.came_to.ensures c.tell_and_play-seat.ensures.did
     (λ failed t. leaves (Within p.may c.args.counts.now) p.floor p.shelf c.requires.run.low (node_of c.args.seat c.args.fabric.journal)
     (node_of c.in_turn-seat.result.seat c.in_turn-seat.result.fabric.journal)
     (node_of c.tell_and_play-seat.result.seat c.tell_and_play-seat.result.fabric.journal) c.args.self.number c.in-At.field-0 c.in-Ok-leave_item.item failed
@@ -77,7 +84,7 @@ returns-clause-adds g c =
     let b = c.in_turn-seat.result.seat in
     let item = c.in-Ok-leave_item.item in
     let made = c.in-Ok-leave_item.ensures in
-    ok_comes c.tell_and_play-seat.result.answer c.came_to.ensures c.tell_and_play-seat.ensures.adds
+    ok_comes (λ _. LeaveAdds a.who c.args.fabric.journal c.tell_and_play-seat.result.fabric.journal) c.tell_and_play-seat.result.answer c.came_to.ensures c.tell_and_play-seat.ensures.adds
     (λ failed h. adds_saying c.args.fabric.journal c.in_turn-seat.result.fabric.journal c.tell_and_play-seat.result.fabric.journal
     (packed b.node.replica.origin (item ∷ [])) (content.Leave a.who) (on_ok _ c.in-Ok.is c.in_turn-seat.ensures.adds) h
     (says-one b.node.replica.origin item (content.Leave a.who) made.proposable (made.says ∙ ap (λ n. Some (content.Leave n)) (sym c.requires.can.0))))

@@ -4,8 +4,9 @@ use Rattle.engine_api.specs.Members.{clean_position}
 use Rattle.engine_api.specs.Packing.{packed, alive_item}
 use Rattle.one_thread.specs.Seats.{node_of}
 use Rattle.node_lines.specs.declared.lines.Looked.TheVariants as looked
-use Rattle.node_lines.specs.Reporting.{IsPlain}
-use Rattle.node_lines.specs.Workers.{Within}
+use Rattle.node_lines.specs.Reporting.{IsPlain, Reports}
+use Rattle.node_lines.specs.Workers.{Within, ReportAdds}
+use Rattle.node_lines.specs.Steps.{IsDone}
 use Rattle.node_lines.proofs.Assembling.{reports_unmeasured}
 use Rattle.node_workers.proofs.Joining.{says-one}
 use Rattle.node_workers.proofs.Ok.{in_ok, on_ok, in_ok_at, ok_pair, ok_comes}
@@ -63,13 +64,18 @@ pub returns-clause-seals : goal.returns-clause-seals
 returns-clause-seals g c = unsealed_then c.in_turn-seat.ensures.right c.tell-seat.ensures.unsealed
 
 pub returns-clause-done : goal.returns-clause-done
-returns-clause-done g c = ok_comes c.tell-seat.result.answer c.came_to.ensures c.tell-seat.ensures.done (λ x h. done_both (on_ok _ c.in-Ok.is c.in_turn-seat.ensures.done) h)
+returns-clause-done g c =
+    let p = g.K.Terms in
+    let r = g.S.Replica in
+    let back = c.tell-seat.result in
+    ok_comes (λ _. IsDone p.may p.floor p.shelf r.state r.spells c.args.counts.now c.args.fabric.journal c.args.seat back.fabric.journal back.seat) back.answer c.came_to.ensures c.tell-seat.ensures.done
+    (λ x h. done_both (on_ok _ c.in-Ok.is c.in_turn-seat.ensures.done) h)
 
 pub returns-clause-did : goal.returns-clause-did
 returns-clause-did g c =
     let p = g.K.Terms in
     let made = c.in-Ok-alive_item.ensures in
-    ok_comes c.tell-seat.result.answer c.came_to.ensures c.tell-seat.ensures.did
+    ok_comes (Reports (Within p.may c.args.counts.now) p.floor p.shelf (node_of c.args.seat c.args.fabric.journal) (node_of c.tell-seat.result.seat c.tell-seat.result.fabric.journal)) c.tell-seat.result.answer c.came_to.ensures c.tell-seat.ensures.did
     (λ failed t. reports (Within p.may c.args.counts.now) p.floor p.shelf c.requires.run.low (node_of c.args.seat c.args.fabric.journal)
     (node_of c.in_turn-seat.result.seat c.in_turn-seat.result.fabric.journal) (node_of c.tell-seat.result.seat c.tell-seat.result.fabric.journal)
     c.args.self.number c.in-At.position c.in-Ok-alive_item.item failed (in_ok_at _ c.in-Ok.is c.in-At.is c.in_turn-seat.ensures.did) made.item
@@ -82,7 +88,7 @@ returns-clause-adds g c =
     let b = c.in_turn-seat.result.seat in
     let item = c.in-Ok-alive_item.item in
     let made = c.in-Ok-alive_item.ensures in
-    ok_comes c.tell-seat.result.answer c.came_to.ensures (ok_pair c.tell-seat.result.answer c.tell-seat.ensures.did c.tell-seat.ensures.adds)
+    ok_comes (ReportAdds a.who c.tell-seat.result.seat.node.replica.cursor c.args.fabric.journal c.tell-seat.result.fabric.journal) c.tell-seat.result.answer c.came_to.ensures (ok_pair _ _ c.tell-seat.result.answer c.tell-seat.ensures.did c.tell-seat.ensures.adds)
     (λ failed h. report_adds (Within p.may c.args.counts.now) p.floor p.shelf c.requires.run.low (node_of a c.args.fabric.journal)
     (node_of b c.in_turn-seat.result.fabric.journal) (node_of c.tell-seat.result.seat c.tell-seat.result.fabric.journal) a.who c.in-At.position
     (packed b.node.replica.origin (item ∷ [])) failed (in_ok_at _ c.in-Ok.is c.in-At.is c.in_turn-seat.ensures.did) h.0.moves

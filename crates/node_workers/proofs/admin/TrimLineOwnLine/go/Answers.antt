@@ -1,4 +1,5 @@
 use Rattle.std.proofs.Common.{◌⊎◌, refl, ◌∙◌, subst, inl, ◌<◌, ◌≤◌, ◌^◌, [], ◌∷◌, None, arith}
+use Rattle.delos_types.specs.declared.entry.Entry.{Entry}
 use Rattle.journal_changes.proofs.Changes.{adds_trans, adds_wider}
 use Rattle.engine_api.specs.declared.content.Content.TheVariants as content
 use Rattle.engine_api.specs.Acted.{unpack_all}
@@ -182,8 +183,8 @@ returns-clause-adds g c =
     let now = c.in_turn.result.fabric.journal in
     let item = c.in-Ok-trim_item.item in
     let first = on_ok _ c.in-Ok.is c.in_turn-seat.ensures.adds in
-    let P = λ e. IsOfSessions e ⊎ SaysAlone (content.Trim c.in-At.position) e in
-    ok_then c.in_turn.result.answer (ok_pair c.in_turn.result.answer (returns-clause-did g c) c.in_turn.ensures.adds)
+    let P : Entry → Type 0 = λ e. IsOfSessions e ⊎ SaysAlone (content.Trim c.in-At.position) e in
+    ok_then c.in_turn.result.answer (ok_pair _ _ c.in_turn.result.answer (returns-clause-did g c) c.in_turn.ensures.adds)
     (λ l h. trim_adds_told was now c.in-At.position
     (asks_clean_later (Within p.may c.args.counts.now) p.floor p.shelf c.requires.run.low (node_of c.args.seat was) (node_of b mid) c.in-At.position
     (in_ok_at _ c.in-Ok.is c.in-At.is c.in_turn-seat.ensures.did) first c.requires.can.cleans (node_of c.in_turn.result.seat now) h.0.moves.goes.keeps)

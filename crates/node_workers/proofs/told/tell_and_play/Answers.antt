@@ -1,4 +1,5 @@
 use Rattle.std.proofs.Common.{◌≡◌, ◌⊎◌, refl, subst, inl, inr, [], ◌∷◌}
+use Rattle.delos_types.specs.declared.entry.Entry.{Entry}
 use Rattle.journal_changes.proofs.Changes.{adds_trans, adds_wider}
 use Rattle.engine_api.specs.Packing.{packed}
 use Rattle.one_thread.specs.Seats.{node_of}
@@ -6,7 +7,7 @@ use Rattle.node_lines.specs.Reporting.{Tells}
 use Rattle.node_lines.specs.Workers.{Within, IsOfSessions}
 use Rattle.node_workers.proofs.Ok.{in_ok, on_ok, ok_then}
 use Rattle.node_workers.proofs.Stepping.{done_both, left_both, unsealed_last}
-use Rattle.node_workers.proofs.telling.tell_and_play.Goals as goal
+use Rattle.node_workers.proofs.told.tell_and_play.Goals as goal
 
 pub in_turn-requires-clause-seat : goal.in_turn-requires-clause-seat
 in_turn-requires-clause-seat g c = (on_ok _ c.in-Ok.is c.tell-seat.ensures.done).ok
@@ -37,7 +38,7 @@ returns-clause-done g c = ok_then c.in_turn.result.answer c.in_turn.ensures.done
 
 pub returns-clause-adds : goal.returns-clause-adds
 returns-clause-adds g c =
-    let P = λ e. IsOfSessions e ⊎ (e ≡ packed c.args.seat.node.replica.origin (c.args.item ∷ [])) in
+    let P : Entry → Type 0 = λ e. IsOfSessions e ⊎ (e ≡ packed c.args.seat.node.replica.origin (c.args.item ∷ [])) in
     let mid = c.tell-seat.result.fabric.journal in
     let now = c.in_turn.result.fabric.journal in
     ok_then c.in_turn.result.answer c.in_turn.ensures.adds (λ x h. adds_trans P c.args.fabric.journal mid now (on_ok _ c.in-Ok.is c.tell-seat.ensures.adds) (adds_wider IsOfSessions P mid now (λ e k. inl k) h))

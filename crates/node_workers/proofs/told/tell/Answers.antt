@@ -7,7 +7,7 @@ use Rattle.node_lines.specs.Workers.{Within, SendsToo, IsOfSessions, UpTo}
 use Rattle.node_lines.proofs.Widening.{tells_wider}
 use Rattle.node_lines.proofs.Scoping.{keeps_low, seat_tells, left_told, done_told, adds_told, always}
 use Rattle.node_workers.proofs.Ok.{ok_then}
-use Rattle.node_workers.proofs.telling.tell.Goals as goal
+use Rattle.node_workers.proofs.told.tell.Goals as goal
 
 pub within-requires-clause-floor : goal.within-requires-clause-floor
 within-requires-clause-floor g c = λ log n h. c.requires.run.low log n h.0
