@@ -1,4 +1,4 @@
-use Rattle.std.proofs.Common.{◌≡◌, ◌≤◌, arith}
+use Rattle.std.proofs.Common.{arith}
 use Rattle.legal_journal.proofs.Sealing.{unsealed_by}
 use Rattle.node_workers.proofs.Ok.{ok_then, ok_pair}
 use Rattle.node_workers.proofs.Working.{worker_ends}

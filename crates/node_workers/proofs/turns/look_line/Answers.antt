@@ -1,4 +1,4 @@
-use Rattle.std.proofs.Common.{◌≡◌, sym, ap, ◌∙◌, subst, Some, arith}
+use Rattle.std.proofs.Common.{sym, ap, ◌∙◌, subst, arith}
 use Rattle.legal_journal.proofs.Sealing.{unsealed_by}
 use Rattle.node_sessions.specs.declared.desk.Desk.{Desk}
 use Rattle.one_thread.specs.Seats.{node_of}

@@ -9,7 +9,7 @@ use Rattle.node_lines.specs.Workers.{Within, ReportAdds}
 use Rattle.node_lines.specs.Steps.{IsDone}
 use Rattle.node_lines.proofs.Assembling.{reports_unmeasured}
 use Rattle.node_workers.proofs.Joining.{says-one}
-use Rattle.node_workers.proofs.Ok.{in_ok, on_ok, in_ok_at, ok_pair, ok_comes}
+use Rattle.node_workers.proofs.Ok.{on_ok, in_ok_at, ok_pair, ok_comes}
 use Rattle.node_workers.proofs.Stepping.{done_both, left_both, unsealed_then}
 use Rattle.node_workers.proofs.Telling.{may_say, reports, report_adds, report_adds_none}
 use Rattle.node_workers.proofs.admin.ReportLineOwnLine.go.Goals as goal
