@@ -1,8 +1,9 @@
 -- A worker at a later moment.
-use Rattle.std.proofs.Common.{◌≡◌, sym, ap, ◌∙◌, subst, ◌⊎◌, inl, inr, ℕ, ◌<◌, ◌≤◌, List, [], Option, Some, arith}
-use Rattle.std.specs.Prelude.{All, slice_get}
+use Rattle.std.proofs.Common.{◌≡◌, refl, sym, ap, ◌∙◌, subst, ◌⊎◌, inl, inr, ℕ, ◌<◌, ◌≤◌, List, [], Option, Some, length, arith}
+use Rattle.std.specs.Prelude.{All, get_or, slice_get}
 use Rattle.std.proofs.lemmas.Bool.{cases_lt}
 use Rattle.std.proofs.lemmas.List.Elements.{All-nil}
+use Rattle.std.proofs.lemmas.Option.{slice_get_read}
 use Rattle.base_engine.specs.Node.{NodeView}
 use Rattle.delos_types.specs.Spaces.{SpaceMap}
 use Rattle.delos_types.specs.declared.entry.Entry.{Entry}
@@ -16,6 +17,10 @@ use Rattle.node_lines.specs.Turns.{ClosesIt, EndsTurn}
 use Rattle.node_lines.proofs.Desks.{desk_moves}
 use Rattle.node_lines.proofs.Turning.{was_at, same_at}
 use Rattle.node_lines.specs.Workers.{Within, Sends, IsOfSession, WorkerOk, MayRun, sent_of}
+
+-- the desk with a session's number
+pub desk_there : (xs : List Desk) (i n s : ℕ) (d : Desk) → length xs ≡ 64 → n ≤ 63 → i ≡ n → n ≡ s → d ≡ get_or xs i d → slice_get xs s ≡ Some d
+desk_there xs i n s d size low at is read = subst (λ k. slice_get xs k ≡ Some d) (at ∙ is) (slice_get_read xs (length xs) i d refl (omega (arith, size, low, at)) read)
 
 -- where nothing waits, all that waits is of sessions
 pub none-waits : (s : SeatView) → s.node.replica.kept ≡ [] → All IsOfSession s.node.replica.kept

@@ -10,18 +10,19 @@ ghost use Rattle.engine_laws.specs.State.{IsStateOf};
 ghost use Rattle.base_engine.specs.Trimming.{FloorIs};
 ghost use Rattle.one_thread.specs.Alone.{Since};
 ghost use Rattle.one_thread.specs.Seats.{SeatOk, node_of};
-ghost use Rattle.node_lines.specs.Moving.{CanPack};
 ghost use Rattle.node_lines.specs.Extending.{Extends};
 ghost use Rattle.node_lines.specs.Measuring.{AreClean};
 ghost use Rattle.node_lines.specs.Reporting.{Reports};
 ghost use Rattle.node_lines.specs.Leaving.{Leaves};
 ghost use Rattle.node_lines.specs.Trimming.{TrimsLog};
-ghost use Rattle.node_lines.specs.Workers.{WorkerOk, MayRun, Within, Sends, IsOfSessions, ReportAdds, LeaveAdds, TrimAdds, HasNotLeft, Grows};
-ghost use Rattle.node_lines.specs.Steps.{IsLeft, IsDone};
+ghost use Rattle.node_lines.specs.Workers.{WorkerOk, MayRun, Within, IsOfSessions, ReportAdds, LeaveAdds, TrimAdds, HasNotLeft, Grows};
+ghost use Rattle.node_workers.specs.Lines.{MayAskTrim, extends_on};
 
-use crate::steps::{came_to, catch_up, clean, cut, extend, least, settle, tell, tell_and_play};
+use crate::line::{OwnLine, own_line};
+use crate::steps::{CatchUp, Clean, Cut, Extend, Least, Settle};
+use crate::told::{came_to, tell, tell_and_play};
 use crate::turns::Returned;
-use crate::within::Back;
+use crate::within::{Back, in_turn};
 use crate::worker::Worker;
 use delos_types::numbers::NodeId;
 use engine_api::pack::{alive_item, leave_item, trim_item};
@@ -37,55 +38,43 @@ use replica_api::replica::Replica;
 use std::alloc::Global;
 
 /// All that the node was given is carried to its end, and the last loglet of the log is replaced.
-fn extend_at<L: Loglet, R: Register, K: Terms, S: Replica, C: Chooser>(
-    fabric: Fabric<L, R, By<K>>,
-    seat: Seat<S, C>,
-    counts: &[u64; 64],
-) -> Back<L, R, K, S, C, Looked>
-    requires run { MayRun K.may K.floor K.shelf }
-    requires seat { SeatOk (Sends K.may counts.now fabric.journal) K.floor K.shelf S.state S.spells fabric.journal seat }
-    requires high { TrimsUpTo seat.node.replica.cursor fabric.journal }
-    requires kept { CanPack seat.node.replica.kept }
-    ensures left { IsLeft K.may K.floor K.shelf S.state S.spells fabric.journal result.fabric.journal result.seat }
-    ensures done { IfOk result.answer (λ l. IsDone K.may K.floor K.shelf S.state S.spells counts.now fabric.journal seat result.fabric.journal result.seat) }
-    ensures adds { IfOk result.answer (λ l. Adds IsOfSessions fabric.journal result.fabric.journal) }
-    ensures extends { IfOk result.answer (Extends (Within K.may counts.now) K.floor K.shelf (node_of seat fabric.journal) (node_of result.seat result.fabric.journal)) }
-{
-    let Back {
-        seat,
-        fabric,
-        answer,
-    } = settle(fabric, seat, counts);
-    match answer {
-        Ok(()) => {}
-        Err(fault) => {
+#[derive(Drop)]
+struct ExtendLine;
+
+impl OwnLine for ExtendLine {
+    type Answer = Looked;
+
+    ghost reads = { ⊥ };
+
+    ghost can = { λ may floor line node. Unit {0} };
+
+    ghost seals = { λ old new. Unit {0} };
+
+    ghost adds = { λ line old new x. Adds IsOfSessions old.seen new.seen };
+
+    ghost did = { λ may floor shelf line old new x. Extends may floor shelf old new x };
+
+    ghost moves = { λ may floor shelf line old new x h. extends_on may floor shelf old new x h };
+
+    fn go<L: Loglet, R: Register, K: Terms, S: Replica, C: Chooser>(
+        self,
+        fabric: Fabric<L, R, By<K>>,
+        seat: Seat<S, C>,
+        counts: &[u64; 64],
+    ) -> Back<L, R, K, S, C, Looked> {
+        let Back {
+            seat,
+            fabric,
+            answer,
+        } = in_turn(fabric, seat, Settle, &mut (), counts);
+        if let Err(fault) = answer {
             return Back {
                 seat,
                 fabric,
                 answer: Err(fault),
             };
         }
-    }
-    let Back {
-        seat,
-        fabric,
-        answer,
-    } = extend(fabric, seat, counts);
-    match answer {
-        Ok(looked) => {
-            return Back {
-                seat,
-                fabric,
-                answer: Ok(looked),
-            };
-        }
-        Err(fault) => {
-            return Back {
-                seat,
-                fabric,
-                answer: Err(fault),
-            };
-        }
+        in_turn(fabric, seat, Extend, &mut (), counts)
     }
 }
 
@@ -107,108 +96,80 @@ pub fn extend_line<L: Loglet, R: Register, K: Terms, S: Replica, C: Chooser>(
     ensures adds { IfOk result.answer (λ l. Adds IsOfSessions fabric.journal result.fabric.journal) }
     ensures extends { IfOk result.answer (Extends (Within K.may counts.now) K.floor K.shelf (node_of worker.seat fabric.journal) (node_of result.worker.seat result.fabric.journal)) }
 {
-    let Worker { seat, desks } = worker;
-    let Back {
-        seat,
-        fabric,
-        answer,
-    } = extend_at(fabric, seat, counts);
-    match answer {
-        Ok(looked) => {
-            return Returned {
-                worker: Worker { seat, desks },
-                fabric,
-                answer: Ok(looked),
-            };
-        }
-        Err(fault) => {
-            return Returned {
-                worker: Worker { seat, desks },
-                fabric,
-                answer: Err(fault),
-            };
-        }
-    }
+    own_line(fabric, worker, ExtendLine, counts)
 }
 
 /// How many of the log's first entries are clean is read off the node's state at a tail, and an entry that says so is appended.
-fn report_at<L: Loglet, R: Register, K: Terms, S: Replica, C: Chooser>(
+struct ReportLine {
     alloc: Global,
-    fabric: Fabric<L, R, By<K>>,
-    seat: Seat<S, C>,
-    counts: &[u64; 64],
     number: NodeId,
-) -> Back<L, R, K, S, C, Looked>
-    requires run { MayRun K.may K.floor K.shelf }
-    requires state { (log : List Entry) (m : SpaceMap) → S.state log m → IsStateOf log m }
-    requires seat { SeatOk (Sends K.may counts.now fabric.journal) K.floor K.shelf S.state S.spells fabric.journal seat }
-    requires high { TrimsUpTo seat.node.replica.cursor fabric.journal }
-    requires kept { CanPack seat.node.replica.kept }
-    requires number { seat.who ≡ number }
-    requires origin { seat.node.replica.origin ≡ seat.who }
-    requires own { (position : ℕ) → position < 2 ^ 64 → K.may seat.who (packed seat.who (alive_item seat.who position ∷ [])) }
-    ensures left { IsLeft K.may K.floor K.shelf S.state S.spells fabric.journal result.fabric.journal result.seat }
-    ensures unsealed { Unsealed fabric.journal result.fabric.journal }
-    ensures done { IfOk result.answer (λ l. IsDone K.may K.floor K.shelf S.state S.spells counts.now fabric.journal seat result.fabric.journal result.seat) }
-    ensures adds { IfOk result.answer (ReportAdds seat.who result.seat.node.replica.cursor fabric.journal result.fabric.journal) }
-    ensures reports { IfOk result.answer (Reports (Within K.may counts.now) K.floor K.shelf (node_of seat fabric.journal) (node_of result.seat result.fabric.journal)) }
-{
-    // A report is spelled with the numbers of nodes alone.
-    prove!(number.number() <= 8);
-    let Back {
-        seat,
-        fabric,
-        answer,
-    } = clean(fabric, seat, counts);
-    let measured = match answer {
-        Ok(measured) => measured,
-        Err(fault) => {
-            return Back {
-                seat,
-                fabric,
-                answer: Err(fault),
-            };
-        }
-    };
-    let position = match measured {
-        Measured::At(position) => position,
-        Measured::Failed(cause) => {
-            return Back {
-                seat,
-                fabric,
-                answer: Ok(Looked::Failed(cause)),
-            };
-        }
-    };
-    let item = match alive_item(alloc, number, position) {
-        Ok(item) => item,
-        Err(fault) => {
-            return Back {
-                seat,
-                fabric,
-                answer: Err(fault),
-            };
-        }
-    };
-    let Back {
-        seat,
-        fabric,
-        answer,
-    } = tell(fabric, seat, item, counts);
-    match answer {
-        Ok(failed) => {
-            return Back {
-                seat,
-                fabric,
-                answer: Ok(came_to(failed, Looked::Reported(position))),
-            };
-        }
-        Err(fault) => {
-            return Back {
-                seat,
-                fabric,
-                answer: Err(fault),
-            };
+}
+
+impl OwnLine for ReportLine {
+    type Answer = Looked;
+
+    ghost can = { λ may floor line node. (node.who ≡ line.number) × ((position : ℕ) → position < 2 ^ 64 → may node.who (packed node.who (alive_item node.who position ∷ []))) };
+
+    ghost adds = { λ line old new x. ReportAdds old.who new.replica.cursor old.seen new.seen x };
+
+    ghost did = { λ may floor shelf line old new x. Reports may floor shelf old new x };
+
+    ghost moves = { λ may floor shelf line old new x h. record { others = h.others; moves = h.moves; kept = h.kept } };
+
+    #[tactic(auto, using(legal_journal::proofs::Sealing::unsealed_by))]
+    fn go<L: Loglet, R: Register, K: Terms, S: Replica, C: Chooser>(
+        self,
+        fabric: Fabric<L, R, By<K>>,
+        seat: Seat<S, C>,
+        counts: &[u64; 64],
+    ) -> Back<L, R, K, S, C, Looked> {
+        let ReportLine { alloc, number } = self;
+        // A report is spelled with the numbers of nodes alone.
+        prove!(number.number() <= 8);
+        let Back {
+            seat,
+            fabric,
+            answer,
+        } = in_turn(fabric, seat, Clean, &mut (), counts);
+        let measured = match answer {
+            Ok(measured) => measured,
+            Err(fault) => {
+                return Back {
+                    seat,
+                    fabric,
+                    answer: Err(fault),
+                };
+            }
+        };
+        let position = match measured {
+            Measured::At(position) => position,
+            Measured::Failed(cause) => {
+                return Back {
+                    seat,
+                    fabric,
+                    answer: Ok(Looked::Failed(cause)),
+                };
+            }
+        };
+        let item = match alive_item(alloc, number, position) {
+            Ok(item) => item,
+            Err(fault) => {
+                return Back {
+                    seat,
+                    fabric,
+                    answer: Err(fault),
+                };
+            }
+        };
+        let Back {
+            seat,
+            fabric,
+            answer,
+        } = tell(fabric, seat, item, counts);
+        Back {
+            seat,
+            fabric,
+            answer: came_to(answer, Looked::Reported(position)),
         }
     }
 }
@@ -238,108 +199,80 @@ pub fn report_line<L: Loglet, R: Register, K: Terms, S: Replica, C: Chooser>(
     ensures adds { IfOk result.answer (ReportAdds worker.seat.who result.worker.seat.node.replica.cursor fabric.journal result.fabric.journal) }
     ensures reports { IfOk result.answer (λ l. Reports (Within K.may counts.now) K.floor K.shelf (node_of worker.seat fabric.journal) (node_of result.worker.seat result.fabric.journal) l) }
 {
-    let Worker { seat, desks } = worker;
-    let Back {
-        seat,
-        fabric,
-        answer,
-    } = report_at(alloc, fabric, seat, counts, number);
-    match answer {
-        Ok(looked) => {
-            return Returned {
-                worker: Worker { seat, desks },
-                fabric,
-                answer: Ok(looked),
-            };
-        }
-        Err(fault) => {
-            return Returned {
-                worker: Worker { seat, desks },
-                fabric,
-                answer: Err(fault),
-            };
-        }
-    }
+    own_line(fabric, worker, ReportLine { alloc, number }, counts)
 }
 
 /// All that the node was given is carried to its end, and an entry that says that it leaves is appended and played.
-fn leave_at<L: Loglet, R: Register, K: Terms, S: Replica, C: Chooser>(
+struct LeaveLine {
     alloc: Global,
-    fabric: Fabric<L, R, By<K>>,
-    seat: Seat<S, C>,
-    counts: &[u64; 64],
     number: NodeId,
-) -> Back<L, R, K, S, C, Looked>
-    requires run { MayRun K.may K.floor K.shelf }
-    requires state { (log : List Entry) (m : SpaceMap) → S.state log m → IsStateOf log m }
-    requires seat { SeatOk (Sends K.may counts.now fabric.journal) K.floor K.shelf S.state S.spells fabric.journal seat }
-    requires high { TrimsUpTo seat.node.replica.cursor fabric.journal }
-    requires kept { CanPack seat.node.replica.kept }
-    requires number { seat.who ≡ number }
-    requires origin { seat.node.replica.origin ≡ seat.who }
-    requires own { K.may seat.who (packed seat.who (leave_item seat.who ∷ [])) }
-    ensures left { IsLeft K.may K.floor K.shelf S.state S.spells fabric.journal result.fabric.journal result.seat }
-    ensures unsealed { Unsealed fabric.journal result.fabric.journal }
-    ensures done { IfOk result.answer (λ l. IsDone K.may K.floor K.shelf S.state S.spells counts.now fabric.journal seat result.fabric.journal result.seat) }
-    ensures adds { IfOk result.answer (λ l. LeaveAdds seat.who fabric.journal result.fabric.journal) }
-    ensures leaves { IfOk result.answer (Leaves (Within K.may counts.now) K.floor K.shelf (node_of seat fabric.journal) (node_of result.seat result.fabric.journal)) }
-{
-    // A leave is spelled with the numbers of nodes alone.
-    prove!(number.number() <= 8);
-    let Back {
-        seat,
-        fabric,
-        answer,
-    } = catch_up(fabric, seat, counts);
-    let measured = match answer {
-        Ok(measured) => measured,
-        Err(fault) => {
-            return Back {
-                seat,
-                fabric,
-                answer: Err(fault),
-            };
+}
+
+impl OwnLine for LeaveLine {
+    type Answer = Looked;
+
+    ghost can = { λ may floor line node. (node.who ≡ line.number) × may node.who (packed node.who (leave_item node.who ∷ [])) };
+
+    ghost adds = { λ line old new x. LeaveAdds old.who old.seen new.seen };
+
+    ghost did = { λ may floor shelf line old new x. Leaves may floor shelf old new x };
+
+    ghost moves = { λ may floor shelf line old new x h. record { others = h.others; moves = h.moves; kept = h.kept } };
+
+    #[tactic(auto, using(legal_journal::proofs::Sealing::unsealed_by))]
+    fn go<L: Loglet, R: Register, K: Terms, S: Replica, C: Chooser>(
+        self,
+        fabric: Fabric<L, R, By<K>>,
+        seat: Seat<S, C>,
+        counts: &[u64; 64],
+    ) -> Back<L, R, K, S, C, Looked> {
+        let LeaveLine { alloc, number } = self;
+        // A leave is spelled with the numbers of nodes alone.
+        prove!(number.number() <= 8);
+        let Back {
+            seat,
+            fabric,
+            answer,
+        } = in_turn(fabric, seat, CatchUp, &mut (), counts);
+        let measured = match answer {
+            Ok(measured) => measured,
+            Err(fault) => {
+                return Back {
+                    seat,
+                    fabric,
+                    answer: Err(fault),
+                };
+            }
+        };
+        match measured {
+            Measured::At(_) => {},
+            Measured::Failed(cause) => {
+                return Back {
+                    seat,
+                    fabric,
+                    answer: Ok(Looked::Failed(cause)),
+                };
+            }
         }
-    };
-    match measured {
-        Measured::At(_) => {}
-        Measured::Failed(cause) => {
-            return Back {
-                seat,
-                fabric,
-                answer: Ok(Looked::Failed(cause)),
-            };
-        }
-    }
-    let item = match leave_item(alloc, number) {
-        Ok(item) => item,
-        Err(fault) => {
-            return Back {
-                seat,
-                fabric,
-                answer: Err(fault),
-            };
-        }
-    };
-    let Back {
-        seat,
-        fabric,
-        answer,
-    } = tell_and_play(fabric, seat, item, counts);
-    match answer {
-        Ok(failed) => {
-            return Back {
-                seat,
-                fabric,
-                answer: Ok(came_to(failed, Looked::Left)),
-            };
-        }
-        Err(fault) => {
-            return Back {
-                seat,
-                fabric,
-                answer: Err(fault),
-            };
+        let item = match leave_item(alloc, number) {
+            Ok(item) => item,
+            Err(fault) => {
+                return Back {
+                    seat,
+                    fabric,
+                    answer: Err(fault),
+                };
+            }
+        };
+        let Back {
+            seat,
+            fabric,
+            answer,
+        } = tell_and_play(fabric, seat, item, counts);
+        Back {
+            seat,
+            fabric,
+            answer: came_to(answer, Looked::Left),
         }
     }
 }
@@ -368,138 +301,94 @@ pub fn leave_line<L: Loglet, R: Register, K: Terms, S: Replica, C: Chooser>(
     ensures adds { IfOk result.answer (λ l. LeaveAdds worker.seat.who fabric.journal result.fabric.journal) }
     ensures leaves { IfOk result.answer (λ l. Leaves (Within K.may counts.now) K.floor K.shelf (node_of worker.seat fabric.journal) (node_of result.worker.seat result.fabric.journal) l) }
 {
-    let Worker { seat, desks } = worker;
-    let Back {
-        seat,
-        fabric,
-        answer,
-    } = leave_at(alloc, fabric, seat, counts, number);
-    match answer {
-        Ok(looked) => {
-            return Returned {
-                worker: Worker { seat, desks },
-                fabric,
-                answer: Ok(looked),
-            };
-        }
-        Err(fault) => {
-            return Returned {
-                worker: Worker { seat, desks },
-                fabric,
-                answer: Err(fault),
-            };
-        }
-    }
+    own_line(fabric, worker, LeaveLine { alloc, number }, counts)
 }
 
 /// A trim to the least position of a member is asked for, in the node's state at a tail, and played; then the log is trimmed.
-fn trim_at<L: Loglet, R: Register, K: Terms, S: Replica, C: Chooser>(
+struct TrimLine {
     alloc: Global,
-    fabric: Fabric<L, R, By<K>>,
-    seat: Seat<S, C>,
-    counts: &[u64; 64],
     number: NodeId,
-) -> Back<L, R, K, S, C, Looked>
-    requires run { MayRun K.may K.floor K.shelf }
-    requires state { (log : List Entry) (m : SpaceMap) → S.state log m → IsStateOf log m }
-    requires seat { SeatOk (Sends K.may counts.now fabric.journal) K.floor K.shelf S.state S.spells fabric.journal seat }
-    requires high { TrimsUpTo seat.node.replica.cursor fabric.journal }
-    requires kept { CanPack seat.node.replica.kept }
-    requires number { seat.who ≡ number }
-    requires origin { seat.node.replica.origin ≡ seat.who }
-    requires few { seat.who ≤ seat.node.nodes }
-    requires floor { FloorIs K.floor seat.node.nodes }
-    requires cleans { AreClean fabric.journal }
-    requires stays { HasNotLeft seat.who fabric.journal }
-    requires own { (position : ℕ) → position < 2 ^ 64 → K.may seat.who (packed seat.who (trim_item position ∷ [])) }
-    ensures left { IsLeft K.may K.floor K.shelf S.state S.spells fabric.journal result.fabric.journal result.seat }
-    ensures unsealed { Unsealed fabric.journal result.fabric.journal }
-    ensures done { IfOk result.answer (λ l. IsDone K.may K.floor K.shelf S.state S.spells counts.now fabric.journal seat result.fabric.journal result.seat) }
-    ensures adds { IfOk result.answer (λ l. TrimAdds fabric.journal result.fabric.journal) }
-    ensures trims { IfOk result.answer (TrimsLog (Within K.may counts.now) K.floor K.shelf (node_of seat fabric.journal) (node_of result.seat result.fabric.journal)) }
-{
-    // It is one of the nodes that may leave and report.
-    prove!(number.number() <= 8);
-    let Back {
-        seat,
-        fabric,
-        answer,
-    } = least(fabric, seat, counts);
-    let measured = match answer {
-        Ok(measured) => measured,
-        Err(fault) => {
-            return Back {
-                seat,
-                fabric,
-                answer: Err(fault),
-            };
-        }
-    };
-    let position = match measured {
-        Measured::At(position) => position,
-        Measured::Failed(cause) => {
+}
+
+impl OwnLine for TrimLine {
+    type Answer = Looked;
+
+    ghost can = { λ may floor line node. MayAskTrim may floor line.number node };
+
+    ghost adds = { λ line old new x. TrimAdds old.seen new.seen };
+
+    ghost did = { λ may floor shelf line old new x. TrimsLog may floor shelf old new x };
+
+    ghost moves = { λ may floor shelf line old new x h. record { others = h.others; moves = h.moves; kept = h.kept } };
+
+    #[tactic(auto, using(legal_journal::proofs::Sealing::unsealed_by))]
+    fn go<L: Loglet, R: Register, K: Terms, S: Replica, C: Chooser>(
+        self,
+        fabric: Fabric<L, R, By<K>>,
+        seat: Seat<S, C>,
+        counts: &[u64; 64],
+    ) -> Back<L, R, K, S, C, Looked> {
+        let TrimLine { alloc, number } = self;
+        // It is one of the nodes that may leave and report.
+        prove!(number.number() <= 8);
+        let Back {
+            seat,
+            fabric,
+            answer,
+        } = in_turn(fabric, seat, Least, &mut (), counts);
+        let measured = match answer {
+            Ok(measured) => measured,
+            Err(fault) => {
+                return Back {
+                    seat,
+                    fabric,
+                    answer: Err(fault),
+                };
+            }
+        };
+        let position = match measured {
+            Measured::At(position) => position,
+            Measured::Failed(cause) => {
+                return Back {
+                    seat,
+                    fabric,
+                    answer: Ok(Looked::Failed(cause)),
+                };
+            }
+        };
+        let item = match trim_item(alloc, position) {
+            Ok(item) => item,
+            Err(fault) => {
+                return Back {
+                    seat,
+                    fabric,
+                    answer: Err(fault),
+                };
+            }
+        };
+        let Back {
+            seat,
+            fabric,
+            answer,
+        } = tell_and_play(fabric, seat, item, counts);
+        let failed = match answer {
+            Ok(failed) => failed,
+            Err(fault) => {
+                return Back {
+                    seat,
+                    fabric,
+                    answer: Err(fault),
+                };
+            }
+        };
+        if let Some(cause) = failed {
             return Back {
                 seat,
                 fabric,
                 answer: Ok(Looked::Failed(cause)),
             };
         }
-    };
-    let item = match trim_item(alloc, position) {
-        Ok(item) => item,
-        Err(fault) => {
-            return Back {
-                seat,
-                fabric,
-                answer: Err(fault),
-            };
-        }
-    };
-    let Back {
-        seat,
-        fabric,
-        answer,
-    } = tell_and_play(fabric, seat, item, counts);
-    let failed = match answer {
-        Ok(failed) => failed,
-        Err(fault) => {
-            return Back {
-                seat,
-                fabric,
-                answer: Err(fault),
-            };
-        }
-    };
-    match failed {
-        None => {}
-        Some(cause) => {
-            return Back {
-                seat,
-                fabric,
-                answer: Ok(Looked::Failed(cause)),
-            };
-        }
-    }
-    let Back {
-        seat,
-        fabric,
-        answer,
-    } = cut(fabric, seat, counts);
-    match answer {
-        Ok(looked) => {
-            return Back {
-                seat,
-                fabric,
-                answer: Ok(looked),
-            };
-        }
-        Err(fault) => {
-            return Back {
-                seat,
-                fabric,
-                answer: Err(fault),
-            };
-        }
+        in_turn(fabric, seat, Cut, &mut (), counts)
     }
 }
 
@@ -532,26 +421,5 @@ pub fn trim_line<L: Loglet, R: Register, K: Terms, S: Replica, C: Chooser>(
     ensures adds { IfOk result.answer (λ l. TrimAdds fabric.journal result.fabric.journal) }
     ensures trims { IfOk result.answer (λ l. TrimsLog (Within K.may counts.now) K.floor K.shelf (node_of worker.seat fabric.journal) (node_of result.worker.seat result.fabric.journal) l) }
 {
-    let Worker { seat, desks } = worker;
-    let Back {
-        seat,
-        fabric,
-        answer,
-    } = trim_at(alloc, fabric, seat, counts, number);
-    match answer {
-        Ok(looked) => {
-            return Returned {
-                worker: Worker { seat, desks },
-                fabric,
-                answer: Ok(looked),
-            };
-        }
-        Err(fault) => {
-            return Returned {
-                worker: Worker { seat, desks },
-                fabric,
-                answer: Err(fault),
-            };
-        }
-    }
+    own_line(fabric, worker, TrimLine { alloc, number }, counts)
 }

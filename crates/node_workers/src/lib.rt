@@ -1,16 +1,20 @@
 //! A node that waits for its turn, with its sessions, and what it does in a turn.
 //!
 //! - `worker`: `Worker`, a seat and the desks of the sessions.
-//! - `within`: what it does for its sessions within a scope, as long as it has the fabric.
-//! - `admin_within`: what it does within a scope for a node's own lines.
-//! - `steps`: the steps of a node's own lines by the rules of a run, each within a scope of its own.
-//! - `turns`: what it does by the rules of a run for its sessions, and the end of a phase.
-//! - `admin`: a node's own lines by the rules of a run.
+//! - `step`: `NodeStep`, what a node does once, and what is then so.
+//! - `within`: any step within a scope, and in a turn by the rules of a run.
+//! - `steps`: the steps.
+//! - `told`: an entry of no session is appended in a turn.
+//! - `line`: `OwnLine`, steps one after the other, and any of them at a worker.
+//! - `admin`: a node's own lines.
+//! - `turns`: the lines of its sessions, and the end of a phase.
 #![tactic(auto)]
 
 pub mod admin;
-pub mod admin_within;
+pub mod line;
+pub mod step;
 pub mod steps;
+pub mod told;
 pub mod turns;
 pub mod within;
 pub mod worker;

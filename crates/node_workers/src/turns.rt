@@ -19,8 +19,8 @@ ghost use Rattle.node_lines.specs.Turns.{EndsTurn};
 ghost use Rattle.node_lines.specs.Workers.{WorkerOk, MayRun, LogsIt, Logs, Within, Sends, IsOfSession, IsOfSessions, Grows, sent_of};
 ghost use Rattle.node_lines.specs.Steps.{IsLeft, IsDone};
 
-use crate::steps::{end, log, look, ready};
-use crate::within::Back;
+use crate::steps::{End, Log, Look, Ready};
+use crate::within::{Back, in_turn};
 use crate::worker::Worker;
 use delos_types::cause::Cause;
 use delos_types::numbers::SessionId;
@@ -61,6 +61,7 @@ fn count(counts: &mut [u64; 64], session: SessionId)
 }
 
 /// The session's command is asked, at its desk. Where the session has no cause, the command is handed in.
+#[tactic(auto, using(legal_journal::proofs::Sealing::unsealed_by))]
 fn log_at<L: Loglet, R: Register, K: Terms, S: Replica, C: Chooser>(
     alloc: Global,
     fabric: Fabric<L, R, By<K>>,
@@ -95,7 +96,7 @@ fn log_at<L: Loglet, R: Register, K: Terms, S: Replica, C: Chooser>(
         seat,
         fabric,
         answer,
-    } = ready(fabric, seat, desk, counts);
+    } = in_turn(fabric, seat, Ready, desk, counts);
     let is_ready = match answer {
         Ok(is_ready) => is_ready,
         Err(fault) => {
@@ -115,27 +116,7 @@ fn log_at<L: Loglet, R: Register, K: Terms, S: Replica, C: Chooser>(
         };
     }
     count(counts, session);
-    let Back {
-        seat,
-        fabric,
-        answer,
-    } = log(alloc, fabric, seat, desk, command, counts);
-    match answer {
-        Ok(()) => {
-            return Back {
-                seat,
-                fabric,
-                answer: Ok(()),
-            };
-        }
-        Err(fault) => {
-            return Back {
-                seat,
-                fabric,
-                answer: Err(fault),
-            };
-        }
-    }
+    in_turn(fabric, seat, Log { alloc, command }, desk, counts)
 }
 
 /// A line of a session that logs a command. Where the session has no cause, the command is handed in.
@@ -172,25 +153,15 @@ pub fn log_line<L: Loglet, R: Register, K: Terms, S: Replica, C: Chooser>(
         fabric,
         answer,
     } = log_at(alloc, fabric, seat, &mut desks[i], counts, session, command);
-    match answer {
-        Ok(()) => {
-            return Returned {
-                worker: Worker { seat, desks },
-                fabric,
-                answer: Ok(()),
-            };
-        }
-        Err(fault) => {
-            return Returned {
-                worker: Worker { seat, desks },
-                fabric,
-                answer: Err(fault),
-            };
-        }
+    Returned {
+        worker: Worker { seat, desks },
+        fabric,
+        answer,
     }
 }
 
 /// A line of a session that reads the table.
+#[tactic(auto, using(legal_journal::proofs::Sealing::unsealed_by))]
 pub fn look_line<L: Loglet, R: Register, K: Terms, S: Replica, C: Chooser>(
     fabric: Fabric<L, R, By<K>>,
     worker: Worker<S, C>,
@@ -215,30 +186,24 @@ pub fn look_line<L: Loglet, R: Register, K: Terms, S: Replica, C: Chooser>(
 {
     let i = usize::from(session.number());
     let Worker { seat, desks } = worker;
+    let look = Look {
+        desk: &desks[i],
+        query,
+    };
     let Back {
         seat,
         fabric,
         answer,
-    } = look(fabric, seat, &desks[i], query, counts);
-    match answer {
-        Ok(looked) => {
-            return Returned {
-                worker: Worker { seat, desks },
-                fabric,
-                answer: Ok(looked),
-            };
-        }
-        Err(fault) => {
-            return Returned {
-                worker: Worker { seat, desks },
-                fabric,
-                answer: Err(fault),
-            };
-        }
+    } = in_turn(fabric, seat, look, &mut (), counts);
+    Returned {
+        worker: Worker { seat, desks },
+        fabric,
+        answer,
     }
 }
 
 /// A phase ends at the worker's node. Answers why no tail was found, if none was.
+#[tactic(auto, using(legal_journal::proofs::Sealing::unsealed_by))]
 pub fn end_phase<L: Loglet, R: Register, K: Terms, S: Replica, C: Chooser>(
     fabric: Fabric<L, R, By<K>>,
     worker: Worker<S, C>,
@@ -266,21 +231,10 @@ pub fn end_phase<L: Loglet, R: Register, K: Terms, S: Replica, C: Chooser>(
         seat,
         fabric,
         answer,
-    } = end(fabric, seat, &mut desks, counts);
-    match answer {
-        Ok(failed) => {
-            return Returned {
-                worker: Worker { seat, desks },
-                fabric,
-                answer: Ok(failed),
-            };
-        }
-        Err(fault) => {
-            return Returned {
-                worker: Worker { seat, desks },
-                fabric,
-                answer: Err(fault),
-            };
-        }
+    } = in_turn(fabric, seat, End, &mut desks, counts);
+    Returned {
+        worker: Worker { seat, desks },
+        fabric,
+        answer,
     }
 }

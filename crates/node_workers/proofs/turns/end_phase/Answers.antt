@@ -1,24 +1,25 @@
-use Rattle.node_workers.proofs.Ok.{in_ok}
+use Rattle.std.proofs.Common.{arith}
+use Rattle.legal_journal.proofs.Sealing.{unsealed_by}
+use Rattle.node_workers.proofs.Ok.{ok_then, ok_pair}
 use Rattle.node_workers.proofs.Working.{worker_ends}
 use Rattle.node_workers.proofs.turns.end_phase.Goals as goal
 
-pub returns-in-Ok-clause-worker : goal.returns-in-Ok-clause-worker
-returns-in-Ok-clause-worker g c =
+pub in_turn-seat-requires-clause-can : goal.in_turn-seat-requires-clause-can
+in_turn-seat-requires-clause-can g c = (c.requires.worker.packs, c.requires.worker.each, λ s d at some who e k allowed has. omega (arith, allowed.0.1 s k has, c.requires.worker.counted s d at some))
+
+pub returns-clause-worker : goal.returns-clause-worker
+returns-clause-worker g c =
     let p = g.K.Terms in
     let r = g.S.Replica in
-    let a = c.args.worker.seat in
-    let b = c.end-seat.result.seat in
-    let now = c.end-seat.result.fabric.journal in
-    let was = c.args.worker.desks.items in
-    let is_it = c.end-seat.new.desks.items in
-    let done = in_ok _ c.in-Ok.is c.end-seat.ensures.done in
-    let ends = in_ok _ c.in-Ok.is c.end-seat.ensures.ends in
-    worker_ends p.may p.floor p.shelf c.requires.run r.state r.spells a.who c.args.counts.now c.args.fabric.journal now a b was is_it c.in-Ok.failed c.requires.worker done.ok ends
+    let back = c.in_turn-seat.result in
+    ok_then back.answer (ok_pair _ _ back.answer c.in_turn-seat.ensures.done c.in_turn-seat.ensures.did)
+    (λ failed h. worker_ends p.may p.floor p.shelf c.requires.run r.state r.spells c.args.worker.seat.who c.args.counts.now c.args.fabric.journal back.fabric.journal c.args.worker.seat back.seat c.args.worker.desks.items c.in_turn-seat.new.on.items failed c.requires.worker h.0.ok h.1)
 
-pub returns-in-Ok-clause-since : goal.returns-in-Ok-clause-since
-returns-in-Ok-clause-since g c =
-    (in_ok _ c.in-Ok.is c.end-seat.ensures.done).since
+pub returns-clause-since : goal.returns-clause-since
+returns-clause-since g c = ok_then c.in_turn-seat.result.answer c.in_turn-seat.ensures.done (λ x h. h.since)
 
-pub returns-in-Ok-clause-high : goal.returns-in-Ok-clause-high
-returns-in-Ok-clause-high g c =
-    (in_ok _ c.in-Ok.is c.end-seat.ensures.done).high
+pub returns-clause-high : goal.returns-clause-high
+returns-clause-high g c = ok_then c.in_turn-seat.result.answer c.in_turn-seat.ensures.done (λ x h. h.high)
+
+pub returns-clause-unsealed : goal.returns-clause-unsealed
+returns-clause-unsealed g c = unsealed_by c.args.fabric.journal c.in_turn-seat.result.fabric.journal c.in_turn-seat.ensures.right

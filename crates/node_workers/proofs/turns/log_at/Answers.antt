@@ -1,168 +1,172 @@
-use Rattle.std.proofs.Common.{◌≡◌, sym, ap, ◌∙◌, subst, ◌+◌, [], ◌∷◌, true, false, None}
+use Rattle.std.proofs.Common.{◌≡◌, sym, ap, ◌∙◌, subst, ⊎_elim, ◌+◌, ◌^◌, ◌<◌, ◌≤◌, [], ◌∷◌, ◌++◌, Some, None, arith}
 use Rattle.std.specs.Prelude.{All}
-use Rattle.engine_api.specs.Packing.{packed, session_item}
-use Rattle.legal_journal.proofs.Sealing.{unsealed_both}
+use Rattle.std.proofs.lemmas.List.Elements.{All-push}
+use Rattle.legal_journal.proofs.Sealing.{unsealed_by}
 use Rattle.journal_changes.proofs.Changes.{adds_trans}
+use Rattle.engine_api.specs.Items.{content_of}
+use Rattle.engine_api.specs.Packing.{packed, session_item}
+use Rattle.engine_api.proofs.Packed.{content_of-session, proposable-session}
 use Rattle.base_engine.specs.Settling.{cause_in}
 use Rattle.node_sessions.specs.declared.desk.Desk.{Desk}
+use Rattle.node_sessions.specs.UnderWay.{rank_under}
 use Rattle.one_thread.specs.Seats.{node_of}
 use Rattle.node_lines.specs.Moving.{HandsIn}
 use Rattle.node_lines.specs.Desks.{DeskOk}
 use Rattle.node_lines.specs.Lines.{Readies}
-use Rattle.node_lines.specs.Workers.{Within, IsOfSession, IsOfSessions, LogsIt, sent_of}
+use Rattle.node_lines.proofs.Moving.{rank_elsewhere}
+use Rattle.node_lines.proofs.Sessions.{own_under}
+use Rattle.node_lines.specs.Workers.{Within, Sends, IsOfSession, IsOfSessions, LogsIt, sent_of}
+use Rattle.node_workers.proofs.Joining.{sends-next, session-command, within-one}
 use Rattle.node_workers.proofs.Logging.{OneMore, counts-rise, kept_logs, handed_logs}
-use Rattle.node_workers.proofs.Ok.{in_ok, on_ok}
-use Rattle.node_workers.proofs.Stepping.{done_both, left_both, seat_counted}
+use Rattle.node_workers.proofs.Ok.{in_ok, on_ok, ok_then}
+use Rattle.node_workers.proofs.Stepping.{done_both, left_both, unsealed_two, seat_counted}
+use Rattle.node_workers.proofs.Working.{none-waits}
 use Rattle.node_workers.proofs.turns.log_at.Goals as goal
 
-pub ready-seat-requires-clause-sent : goal.ready-seat-requires-clause-sent
-ready-seat-requires-clause-sent g c = c.requires.sent ∙ ap (sent_of c.args.counts.now) (sym c.requires.desk.session)
+pub in_turn-seat-requires-clause-can : goal.in_turn-seat-requires-clause-can
+in_turn-seat-requires-clause-can g c =
+    let d = c.args.desk.now in
+    let ok = c.requires.desk in
+    let sent = c.requires.sent ∙ ap (sent_of c.args.counts.now) (sym ok.session) in
+    (c.requires.kept, subst (λ k. DeskOk (node_of c.args.seat c.args.fabric.journal) k d) (sym ok.session) ok, λ who e k allowed has. omega (arith, allowed.0.1 d.session k has, sent), omega (arith, c.requires.few))
+
+pub returns-in-Err-clause-unsealed : goal.returns-in-Err-clause-unsealed
+returns-in-Err-clause-unsealed g c = unsealed_by c.args.fabric.journal c.in_turn-seat.result.fabric.journal c.in_turn-seat.ensures.right
+
+pub returns-then-not-is_ready-clause-unsealed : goal.returns-then-not-is_ready-clause-unsealed
+returns-then-not-is_ready-clause-unsealed g c = unsealed_by c.args.fabric.journal c.in_turn-seat.result.fabric.journal c.in_turn-seat.ensures.right
 
 pub returns-then-not-is_ready-clause-done : goal.returns-then-not-is_ready-clause-done
-returns-then-not-is_ready-clause-done g c =
-    on_ok _ c.in-Ok.is c.ready-seat.ensures.done
+returns-then-not-is_ready-clause-done g c = on_ok _ c.in-Ok.is c.in_turn-seat.ensures.done
 
 pub returns-then-not-is_ready-clause-adds : goal.returns-then-not-is_ready-clause-adds
-returns-then-not-is_ready-clause-adds g c = on_ok _ c.in-Ok.is c.ready-seat.ensures.adds
+returns-then-not-is_ready-clause-adds g c = on_ok _ c.in-Ok.is c.in_turn-seat.ensures.adds
 
 pub returns-then-not-is_ready-clause-waits : goal.returns-then-not-is_ready-clause-waits
-returns-then-not-is_ready-clause-waits g c =
-    let kept = on_ok _ c.in-Ok.is c.ready-seat.ensures.kept in
-    subst (All IsOfSession) (sym kept) c.requires.waits
+returns-then-not-is_ready-clause-waits g c = subst (All IsOfSession) (sym (in_ok _ c.in-Ok.is c.in_turn-seat.ensures.did).2) c.requires.waits
 
 pub returns-then-not-is_ready-clause-logs : goal.returns-then-not-is_ready-clause-logs
 returns-then-not-is_ready-clause-logs g c =
     let p = g.K.Terms in
     let old = node_of c.args.seat c.args.fabric.journal in
-    let mid = node_of c.ready-seat.result.seat c.ready-seat.result.fabric.journal in
-    let d = c.ready-seat.new.desk in
+    let mid = node_of c.in_turn-seat.result.seat c.in_turn-seat.result.fabric.journal in
+    let d = c.in_turn-seat.new.on in
     let s = c.args.session in
     let counts = c.args.counts.now in
-    let r : Readies (Within p.may counts) p.floor p.shelf old mid c.args.desk.now d c.in-Ok.is_ready = in_ok _ c.in-Ok.is c.ready-seat.ensures.readies in
-    let f : c.in-Ok.is_ready ≡ false = c.if-not-is_ready.true in
+    let r = (in_ok _ c.in-Ok.is c.in_turn-seat.ensures.did).0 in
     subst (λ (x : Desk). LogsIt p.may p.floor p.shelf counts counts old mid s c.args.desk.now x) (sym c.keep.ensures)
-    (kept_logs p.may p.floor p.shelf c.requires.run.low counts old mid s c.args.desk.now d (subst (λ b. Readies (Within p.may counts) p.floor p.shelf old mid c.args.desk.now d b) f r) c.requires.sent)
+    (kept_logs p.may p.floor p.shelf c.requires.run.low counts old mid s c.args.desk.now d (subst (λ b. Readies (Within p.may counts) p.floor p.shelf old mid c.args.desk.now d b) c.if-not-is_ready.true r) c.requires.sent)
 
-pub log-seat-requires-clause-seat : goal.log-seat-requires-clause-seat
-log-seat-requires-clause-seat g c =
+pub in_turn-requires-clause-seat : goal.in_turn-requires-clause-seat
+in_turn-requires-clause-seat g c =
     let p = g.K.Terms in
     let r = g.S.Replica in
     let counts = c.args.counts.now in
     let counts' = c.count.new.counts in
     let one : OneMore counts counts' c.args.session = record { own = c.count.ensures.own; others = c.count.ensures.others } in
-    let done = on_ok _ c.in-Ok.is c.ready-seat.ensures.done in
-    seat_counted p.may p.floor p.shelf r.state r.spells counts counts' c.ready-seat.result.fabric.journal c.ready-seat.result.seat (counts-rise counts counts' c.args.session one) done.ok
+    seat_counted p.may p.floor p.shelf r.state r.spells counts counts' c.in_turn-seat.result.fabric.journal c.in_turn-seat.result.seat (counts-rise counts counts' c.args.session one) (on_ok _ c.in-Ok.is c.in_turn-seat.ensures.done).ok
 
-pub log-seat-requires-clause-high : goal.log-seat-requires-clause-high
-log-seat-requires-clause-high g c =
-    (on_ok _ c.in-Ok.is c.ready-seat.ensures.done).high
+pub in_turn-requires-clause-high : goal.in_turn-requires-clause-high
+in_turn-requires-clause-high g c = (on_ok _ c.in-Ok.is c.in_turn-seat.ensures.done).high
 
-pub log-seat-requires-clause-waits : goal.log-seat-requires-clause-waits
-log-seat-requires-clause-waits g c =
-    let kept = on_ok _ c.in-Ok.is c.ready-seat.ensures.kept in
-    subst (All IsOfSession) (sym kept) c.requires.waits
-
-pub log-seat-requires-clause-origin : goal.log-seat-requires-clause-origin
-log-seat-requires-clause-origin g c =
+pub in_turn-requires-clause-can : goal.in_turn-requires-clause-can
+in_turn-requires-clause-can g c =
     let p = g.K.Terms in
-    let old = node_of c.args.seat c.args.fabric.journal in
-    let mid = node_of c.ready-seat.result.seat c.ready-seat.result.fabric.journal in
-    let counts = c.args.counts.now in
-    let r : Readies (Within p.may counts) p.floor p.shelf old mid c.args.desk.now c.ready-seat.new.desk c.in-Ok.is_ready = in_ok _ c.in-Ok.is c.ready-seat.ensures.readies in
-    r.moves.goes.keeps.origin ∙ (c.requires.origin ∙ sym r.moves.goes.keeps.who)
-
-pub log-seat-requires-clause-sent : goal.log-seat-requires-clause-sent
-log-seat-requires-clause-sent g c =
-    let p = g.K.Terms in
-    let old = node_of c.args.seat c.args.fabric.journal in
-    let mid = node_of c.ready-seat.result.seat c.ready-seat.result.fabric.journal in
-    let counts = c.args.counts.now in
-    let counts' = c.count.new.counts in
-    let d = c.ready-seat.new.desk in
-    let r : Readies (Within p.may counts) p.floor p.shelf old mid c.args.desk.now d c.in-Ok.is_ready = in_ok _ c.in-Ok.is c.ready-seat.ensures.readies in
-    let own_s : d.session ≡ c.args.session = ap (λ (x : Desk). x.session) r.desk ∙ c.requires.desk.session in
-    let sent : d.sent ≡ c.args.desk.now.sent = ap (λ (x : Desk). x.sent) r.desk in
-    ap (λ n. n + 1) (sent ∙ c.requires.sent) ∙ (sym c.count.ensures.own ∙ ap (sent_of counts') (sym own_s))
-
-pub log-seat-requires-clause-own : goal.log-seat-requires-clause-own
-log-seat-requires-clause-own g c =
-    let p = g.K.Terms in
-    let old = node_of c.args.seat c.args.fabric.journal in
-    let mid = node_of c.ready-seat.result.seat c.ready-seat.result.fabric.journal in
     let was = c.args.desk.now in
-    let d = c.ready-seat.new.desk in
+    let seat = c.in_turn-seat.result.seat in
+    let journal = c.in_turn-seat.result.fabric.journal in
+    let mid = node_of seat journal in
+    let d = c.in_turn-seat.new.on in
     let cmd = c.args.command.now in
-    let counts = c.args.counts.now in
-    let r : Readies (Within p.may counts) p.floor p.shelf old mid was d c.in-Ok.is_ready = in_ok _ c.in-Ok.is c.ready-seat.ensures.readies in
-    let t : c.in-Ok.is_ready ≡ true = c.if-not-is_ready.false in
-    let ok : DeskOk mid was.session d = on_ok _ c.in-Ok.is c.ready-seat.ensures.desk in
-    let free = (r.free t).0 in
-    let own_s : d.session ≡ c.args.session = ap (λ (x : Desk). x.session) r.desk ∙ c.requires.desk.session in
-    let asked : d.asked ≡ was.asked = ap (λ (x : Desk). x.asked) r.desk in
-    let all : d.sent ≡ d.asked = (ok.given free.0 (subst (λ q. cause_in q mid.outbox.given ≡ None) (ap (λ (x : Desk). x.session) r.desk) free.1)).0 in
-    let rank : d.sent + 1 ≡ was.asked + 1 = ap (λ k. k + 1) (all ∙ asked) in
-    subst (λ w. p.may w (packed w (session_item d.session (d.sent + 1) cmd ∷ []))) (sym r.moves.goes.keeps.who)
-    (subst (λ q. p.may c.args.seat.who (packed c.args.seat.who (session_item q (d.sent + 1) cmd ∷ []))) (sym own_s)
-    (subst (λ n. p.may c.args.seat.who (packed c.args.seat.who (session_item c.args.session n cmd ∷ []))) (sym rank) c.requires.own))
-
-pub returns-in-Ok-answer-clause-left : goal.returns-in-Ok-answer-clause-left
-returns-in-Ok-answer-clause-left g c =
-    let p = g.K.Terms in
-    let r = g.S.Replica in
-    let done = on_ok _ c.in-Ok.is c.ready-seat.ensures.done in
-    left_both p.may p.floor p.shelf r.state r.spells c.args.counts.now c.args.fabric.journal c.ready-seat.result.fabric.journal c.log-seat.result.fabric.journal c.args.seat c.ready-seat.result.seat c.log-seat.result.seat done c.log-seat.ensures.left
-
-pub returns-in-Err-answer-clause-left : goal.returns-in-Err-answer-clause-left
-returns-in-Err-answer-clause-left g c =
-    let p = g.K.Terms in
-    let r = g.S.Replica in
-    let done = on_ok _ c.in-Ok.is c.ready-seat.ensures.done in
-    left_both p.may p.floor p.shelf r.state r.spells c.args.counts.now c.args.fabric.journal c.ready-seat.result.fabric.journal c.log-seat.result.fabric.journal c.args.seat c.ready-seat.result.seat c.log-seat.result.seat done c.log-seat.ensures.left
-
-pub returns-in-Ok-answer-clause-unsealed : goal.returns-in-Ok-answer-clause-unsealed
-returns-in-Ok-answer-clause-unsealed g c = unsealed_both c.args.fabric.journal c.ready-seat.result.fabric.journal c.log-seat.result.fabric.journal c.ready-seat.ensures.unsealed c.log-seat.ensures.unsealed
-
-pub returns-in-Err-answer-clause-unsealed : goal.returns-in-Err-answer-clause-unsealed
-returns-in-Err-answer-clause-unsealed g c = unsealed_both c.args.fabric.journal c.ready-seat.result.fabric.journal c.log-seat.result.fabric.journal c.ready-seat.ensures.unsealed c.log-seat.ensures.unsealed
-
-pub returns-in-Ok-answer-clause-done : goal.returns-in-Ok-answer-clause-done
-returns-in-Ok-answer-clause-done g c =
-    let p = g.K.Terms in
-    let r = g.S.Replica in
-    let counts = c.args.counts.now in
     let counts' = c.count.new.counts in
-    let mid = c.ready-seat.result in
-    let new = c.log-seat.result in
-    let first = on_ok _ c.in-Ok.is c.ready-seat.ensures.done in
-    let next = on_ok _ c.in-Ok-answer.is c.log-seat.ensures.done in
-    done_both p.may p.floor p.shelf r.state r.spells counts counts' c.args.fabric.journal mid.fabric.journal new.fabric.journal c.args.seat mid.seat new.seat first next
+    let did = in_ok _ c.in-Ok.is c.in_turn-seat.ensures.did in
+    let r = did.0 in
+    let ok = did.1 in
+    let keeps = r.moves.goes.keeps in
+    let free = (r.free c.if-not-is_ready.false).0 in
+    let own_s : d.session ≡ was.session = ap (λ (x : Desk). x.session) r.desk in
+    let named : d.session ≡ c.args.session = own_s ∙ c.requires.desk.session in
+    let asked : d.asked ≡ was.asked = ap (λ (x : Desk). x.asked) r.desk in
+    let sent : d.sent ≡ was.sent = ap (λ (x : Desk). x.sent) r.desk in
+    let stands : DeskOk mid d.session d = subst (λ k. DeskOk mid k d) (sym own_s) ok in
+    let all : d.sent ≡ d.asked = (ok.given free.0 (subst (λ q. cause_in q mid.outbox.given ≡ None) own_s free.1)).0 in
+    let counted : d.sent + 1 ≡ sent_of counts' d.session = ap (λ n. n + 1) (sent ∙ c.requires.sent) ∙ (sym c.count.ensures.own ∙ ap (sent_of counts') (sym named)) in
+    let n = d.sent + 1 in
+    let item = session_item d.session n cmd in
+    let small : n < 2 ^ 64 = omega (arith, c.requires.few, asked, all) in
+    let some : 1 ≤ n = omega arith in
+    let fine = proposable-session d.session n cmd stands.known some small c.requires.spelled c.requires.short in
+    let under = ap (rank_under d.session) (content_of-session d.session n cmd stands.known some small c.requires.spelled) ∙ own_under d.session n (Some cmd) in
+    let may_own : p.may seat.who (packed seat.who (item ∷ [])) = subst (λ w. p.may w (packed w (item ∷ []))) (sym keeps.who)
+    (subst (λ q. p.may c.args.seat.who (packed c.args.seat.who (session_item q n cmd ∷ []))) (sym named)
+    (subst (λ k. p.may c.args.seat.who (packed c.args.seat.who (session_item c.args.session k cmd ∷ []))) (sym (ap (λ k. k + 1) (all ∙ asked))) c.requires.own)) in
+    let own = within-one p.may counts' seat.who d.session n item fine may_own under (λ q apart. rank_elsewhere d.session q n (content_of item) under apart) (omega (arith, counted)) in
+    let origin : seat.node.replica.origin ≡ seat.who = keeps.origin ∙ (c.requires.origin ∙ sym keeps.who) in
+    let waits = subst (All IsOfSession) (sym did.2) c.requires.waits in
+    record {
+      kept = r.moves.goes.packs c.requires.kept;
+      stands = stands;
+      stopped = free.0;
+      given = free.1;
+      near = (r.free c.if-not-is_ready.false).1;
+      few = omega (arith, c.requires.few, asked);
+      bound = λ who e k allowed has. omega (arith, allowed.0.1 d.session k has, counted);
+      spelled = c.requires.spelled;
+      short = c.requires.short;
+      own = subst (λ o. Sends p.may counts' journal seat.who (packed o (seat.node.replica.kept ++ item ∷ []))) (sym origin)
+          (sends-next p.may counts' journal seat.who seat.node.replica.kept item (c.requires.run.join seat.who) (r.moves.goes.packs c.requires.kept) waits
+          (λ waiting. subst (λ o. Within p.may counts' seat.who (packed o seat.node.replica.kept)) origin ((in_turn-requires-clause-seat g c).node.waiting waiting).0)
+          fine (session-command d.session n cmd stands.known some small c.requires.spelled) own);
+    }
 
-pub returns-in-Ok-answer-clause-adds : goal.returns-in-Ok-answer-clause-adds
-returns-in-Ok-answer-clause-adds g c =
-    let mid = c.ready-seat.result in
-    let new = c.log-seat.result in
-    adds_trans IsOfSessions c.args.fabric.journal mid.fabric.journal new.fabric.journal
-    (on_ok _ c.in-Ok.is c.ready-seat.ensures.adds)
-    (on_ok _ c.in-Ok-answer.is c.log-seat.ensures.adds)
+pub returns-clause-left : goal.returns-clause-left
+returns-clause-left g c = left_both (on_ok _ c.in-Ok.is c.in_turn-seat.ensures.done) c.in_turn.ensures.left
 
-pub returns-in-Ok-answer-clause-waits : goal.returns-in-Ok-answer-clause-waits
-returns-in-Ok-answer-clause-waits g c = on_ok _ c.in-Ok-answer.is c.log-seat.ensures.waits
+pub returns-clause-unsealed : goal.returns-clause-unsealed
+returns-clause-unsealed g c = unsealed_two c.in_turn-seat.ensures.right c.in_turn.ensures.right
 
-pub returns-in-Ok-answer-clause-logs : goal.returns-in-Ok-answer-clause-logs
-returns-in-Ok-answer-clause-logs g c =
+pub returns-clause-done : goal.returns-clause-done
+returns-clause-done g c = ok_then c.in_turn.result.answer c.in_turn.ensures.done (λ x h. done_both (on_ok _ c.in-Ok.is c.in_turn-seat.ensures.done) h)
+
+pub returns-clause-adds : goal.returns-clause-adds
+returns-clause-adds g c =
+    ok_then c.in_turn.result.answer c.in_turn.ensures.adds (λ x h. adds_trans IsOfSessions c.args.fabric.journal c.in_turn-seat.result.fabric.journal c.in_turn.result.fabric.journal (on_ok _ c.in-Ok.is c.in_turn-seat.ensures.adds) h)
+
+pub returns-clause-desk : goal.returns-clause-desk
+returns-clause-desk g c =
+    let did = in_ok _ c.in-Ok.is c.in_turn-seat.ensures.did in
+    let named = ap (λ (x : Desk). x.session) did.0.desk ∙ c.requires.desk.session in
+    ok_then c.in_turn.result.answer c.in_turn.ensures.did (λ x h. subst (λ k. DeskOk (node_of c.in_turn.result.seat c.in_turn.result.fabric.journal) k c.in_turn.new.on) named h.desk)
+
+pub returns-clause-waits : goal.returns-clause-waits
+returns-clause-waits g c =
+    let d = c.in_turn-seat.new.on in
+    let cmd = c.args.command.now in
+    let now = c.in_turn.result.seat in
+    let kept = c.in_turn-seat.result.seat.node.replica.kept in
+    let did = in_ok _ c.in-Ok.is c.in_turn-seat.ensures.did in
+    let asked : d.asked ≡ c.args.desk.now.asked = ap (λ (x : Desk). x.asked) did.0.desk in
+    let item = session_item d.session (d.sent + 1) cmd in
+    let known : d.session ≤ 63 = omega (arith, did.1.session, did.1.known) in
+    let says = session-command d.session (d.sent + 1) cmd known (omega arith) (omega (arith, c.requires.few, asked, did.1.few)) c.requires.spelled in
+    ok_then c.in_turn.result.answer c.in_turn.ensures.did
+    (λ x h. ⊎_elim
+    (λ (e : now.node.replica.kept ≡ kept ++ item ∷ []). subst (All IsOfSession) (sym e) (All-push IsOfSession kept item (subst (All IsOfSession) (sym did.2) c.requires.waits) says))
+    (λ (e : now.node.replica.kept ≡ []). none-waits now e) h.kept)
+
+pub returns-clause-logs : goal.returns-clause-logs
+returns-clause-logs g c =
     let p = g.K.Terms in
     let old = node_of c.args.seat c.args.fabric.journal in
-    let mid = node_of c.ready-seat.result.seat c.ready-seat.result.fabric.journal in
-    let new = node_of c.log-seat.result.seat c.log-seat.result.fabric.journal in
+    let mid = node_of c.in_turn-seat.result.seat c.in_turn-seat.result.fabric.journal in
+    let new = node_of c.in_turn.result.seat c.in_turn.result.fabric.journal in
     let was = c.args.desk.now in
-    let d = c.ready-seat.new.desk in
+    let d = c.in_turn-seat.new.on in
     let s = c.args.session in
     let counts = c.args.counts.now in
     let counts' = c.count.new.counts in
-    let r : Readies (Within p.may counts) p.floor p.shelf old mid was d c.in-Ok.is_ready = in_ok _ c.in-Ok.is c.ready-seat.ensures.readies in
-    let t : c.in-Ok.is_ready ≡ true = c.if-not-is_ready.false in
-    let h = on_ok _ c.in-Ok-answer.is c.log-seat.ensures.hands in
-    let own_s : d.session ≡ s = ap (λ (x : Desk). x.session) r.desk ∙ c.requires.desk.session in
-    let is_it = on_ok _ c.in-Ok-answer.is c.log-seat.ensures.counts in
-    handed_logs p.may p.floor p.shelf c.requires.run.low counts counts' old mid new s was d c.log-seat.new.desk (record { own = c.count.ensures.own; others = c.count.ensures.others })
-    (subst (λ b. Readies (Within p.may counts) p.floor p.shelf old mid was d b) t r) (subst (λ q. HandsIn (Within p.may counts') p.floor p.shelf mid new q d.sent) own_s h) c.requires.sent is_it
+    let r = (in_ok _ c.in-Ok.is c.in_turn-seat.ensures.did).0 in
+    let named : d.session ≡ s = ap (λ (x : Desk). x.session) r.desk ∙ c.requires.desk.session in
+    ok_then c.in_turn.result.answer c.in_turn.ensures.did
+    (λ x h. handed_logs p.may p.floor p.shelf c.requires.run.low counts counts' old mid new s was d c.in_turn.new.on (record { own = c.count.ensures.own; others = c.count.ensures.others })
+    (subst (λ b. Readies (Within p.may counts) p.floor p.shelf old mid was d b) c.if-not-is_ready.false r) (subst (λ q. HandsIn (Within p.may counts') p.floor p.shelf mid new q d.sent) named h.hands) c.requires.sent h.counts)

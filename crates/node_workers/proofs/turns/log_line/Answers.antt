@@ -1,87 +1,58 @@
-use Rattle.std.proofs.Common.{◌≡◌, refl, sym, ap, ◌∙◌, subst, Some, length, arith}
-use Rattle.std.specs.Prelude.{slice_get, slice_set}
-use Rattle.std.proofs.lemmas.Option.{slice_get_read}
+use Rattle.std.proofs.Common.{sym, ap, ◌∙◌, subst}
+use Rattle.std.specs.Prelude.{slice_set}
 use Rattle.node_lines.specs.Workers.{WorkerOk}
 use Rattle.node_workers.proofs.Logging.{worker_logs}
-use Rattle.node_workers.proofs.Ok.{on_ok}
+use Rattle.node_workers.proofs.Ok.{ok_then, ok_pair}
+use Rattle.node_workers.proofs.Working.{desk_there}
 use Rattle.node_workers.proofs.turns.log_line.Goals as goal
 
 pub log_at-seat-requires-clause-desk : goal.log_at-seat-requires-clause-desk
 log_at-seat-requires-clause-desk g c =
-    let xs = c.args.worker.desks.items in
     let d = c.index_mut.result.now in
-    let e : c.from-i.result ≡ c.args.session = c.from-i.ensures ∙ c.number.ensures.value in
-    let at : slice_get xs c.args.session ≡ Some d = subst (λ k. slice_get xs k ≡ Some d) e (slice_get_read xs (length xs) c.from-i.result d refl (omega (arith, c.requires.worker.size, c.number.ensures.range, e)) c.index_mut.ensures.value) in
-    c.requires.worker.each c.args.session d at
+    c.requires.worker.each c.args.session d (desk_there c.args.worker.desks.items c.from-i.result c.number.result c.args.session d c.requires.worker.size c.number.ensures.range c.from-i.ensures c.number.ensures.value c.index_mut.ensures.value)
 
 pub log_at-seat-requires-clause-sent : goal.log_at-seat-requires-clause-sent
 log_at-seat-requires-clause-sent g c =
-    let xs = c.args.worker.desks.items in
     let d = c.index_mut.result.now in
-    let e : c.from-i.result ≡ c.args.session = c.from-i.ensures ∙ c.number.ensures.value in
-    let at : slice_get xs c.args.session ≡ Some d = subst (λ k. slice_get xs k ≡ Some d) e (slice_get_read xs (length xs) c.from-i.result d refl (omega (arith, c.requires.worker.size, c.number.ensures.range, e)) c.index_mut.ensures.value) in
-    (c.requires.here d at).0
+    (c.requires.here d (desk_there c.args.worker.desks.items c.from-i.result c.number.result c.args.session d c.requires.worker.size c.number.ensures.range c.from-i.ensures c.number.ensures.value c.index_mut.ensures.value)).0
 
 pub log_at-seat-requires-clause-few : goal.log_at-seat-requires-clause-few
 log_at-seat-requires-clause-few g c =
-    let xs = c.args.worker.desks.items in
     let d = c.index_mut.result.now in
-    let e : c.from-i.result ≡ c.args.session = c.from-i.ensures ∙ c.number.ensures.value in
-    let at : slice_get xs c.args.session ≡ Some d = subst (λ k. slice_get xs k ≡ Some d) e (slice_get_read xs (length xs) c.from-i.result d refl (omega (arith, c.requires.worker.size, c.number.ensures.range, e)) c.index_mut.ensures.value) in
-    (c.requires.here d at).1
+    (c.requires.here d (desk_there c.args.worker.desks.items c.from-i.result c.number.result c.args.session d c.requires.worker.size c.number.ensures.range c.from-i.ensures c.number.ensures.value c.index_mut.ensures.value)).1
 
 pub log_at-seat-requires-clause-own : goal.log_at-seat-requires-clause-own
 log_at-seat-requires-clause-own g c =
-    let xs = c.args.worker.desks.items in
     let d = c.index_mut.result.now in
-    let e : c.from-i.result ≡ c.args.session = c.from-i.ensures ∙ c.number.ensures.value in
-    let at : slice_get xs c.args.session ≡ Some d = subst (λ k. slice_get xs k ≡ Some d) e (slice_get_read xs (length xs) c.from-i.result d refl (omega (arith, c.requires.worker.size, c.number.ensures.range, e)) c.index_mut.ensures.value) in
-    c.requires.own d at
+    c.requires.own d (desk_there c.args.worker.desks.items c.from-i.result c.number.result c.args.session d c.requires.worker.size c.number.ensures.range c.from-i.ensures c.number.ensures.value c.index_mut.ensures.value)
 
-pub returns-in-Ok-clause-worker : goal.returns-in-Ok-clause-worker
-returns-in-Ok-clause-worker g c =
+pub returns-clause-worker : goal.returns-clause-worker
+returns-clause-worker g c =
     let p = g.K.Terms in
     let r = g.S.Replica in
     let xs = c.args.worker.desks.items in
     let d = c.index_mut.result.now in
     let new = c.log_at-seat.new.desk in
     let s = c.args.session in
-    let counts = c.args.counts.now in
     let counts' = c.log_at-seat.new.counts in
     let a = c.args.worker.seat in
-    let b = c.log_at-seat.result.seat in
-    let now = c.log_at-seat.result.fabric.journal in
-    let e : c.from-i.result ≡ s = c.from-i.ensures ∙ c.number.ensures.value in
-    let at : slice_get xs s ≡ Some d = subst (λ k. slice_get xs k ≡ Some d) e (slice_get_read xs (length xs) c.from-i.result d refl (omega (arith, c.requires.worker.size, c.number.ensures.range, e)) c.index_mut.ensures.value) in
-    let done = on_ok _ c.in-Ok.is c.log_at-seat.ensures.done in
-    let waits = on_ok _ c.in-Ok.is c.log_at-seat.ensures.waits in
-    let fine = on_ok _ c.in-Ok.is c.log_at-seat.ensures.desk in
-    let logs = on_ok _ c.in-Ok.is c.log_at-seat.ensures.logs in
-    subst (λ k. WorkerOk p.may p.floor p.shelf r.state r.spells a.who counts' now b (slice_set xs k new)) (sym e)
-    (worker_logs p.may p.floor p.shelf c.requires.run.low r.state r.spells a.who counts counts' c.args.fabric.journal now a b xs s d new c.requires.worker done.ok waits at fine logs)
+    let back = c.log_at-seat.result in
+    let at = desk_there xs c.from-i.result c.number.result s d c.requires.worker.size c.number.ensures.range c.from-i.ensures c.number.ensures.value c.index_mut.ensures.value in
+    ok_then back.answer (ok_pair _ _ back.answer (ok_pair _ _ back.answer c.log_at-seat.ensures.done c.log_at-seat.ensures.waits) (ok_pair _ _ back.answer c.log_at-seat.ensures.desk c.log_at-seat.ensures.logs))
+    (λ x h. subst (λ k. WorkerOk p.may p.floor p.shelf r.state r.spells a.who counts' back.fabric.journal back.seat (slice_set xs k new)) (sym (c.from-i.ensures ∙ c.number.ensures.value))
+    (worker_logs p.may p.floor p.shelf c.requires.run.low r.state r.spells a.who c.args.counts.now counts' c.args.fabric.journal back.fabric.journal a back.seat xs s d new c.requires.worker h.0.0.ok h.0.1 at h.1.0 h.1.1))
 
-pub returns-in-Ok-clause-since : goal.returns-in-Ok-clause-since
-returns-in-Ok-clause-since g c =
-    (on_ok _ c.in-Ok.is c.log_at-seat.ensures.done).since
-
-pub returns-in-Ok-clause-high : goal.returns-in-Ok-clause-high
-returns-in-Ok-clause-high g c =
-    (on_ok _ c.in-Ok.is c.log_at-seat.ensures.done).high
-
-pub returns-in-Ok-clause-logs : goal.returns-in-Ok-clause-logs
-returns-in-Ok-clause-logs g c =
+pub returns-clause-logs : goal.returns-clause-logs
+returns-clause-logs g c =
     let xs = c.args.worker.desks.items in
     let d = c.index_mut.result.now in
     let new = c.log_at-seat.new.desk in
-    let s = c.args.session in
-    let counts = c.args.counts.now in
-    let counts' = c.log_at-seat.new.counts in
-    let e : c.from-i.result ≡ s = c.from-i.ensures ∙ c.number.ensures.value in
-    let at : slice_get xs s ≡ Some d = subst (λ k. slice_get xs k ≡ Some d) e (slice_get_read xs (length xs) c.from-i.result d refl (omega (arith, c.requires.worker.size, c.number.ensures.range, e)) c.index_mut.ensures.value) in
-    record {
-      before = d;
-      was_at = at;
-      after = new;
-      is_at = ap (λ k. slice_set xs k new) e;
-      logs = on_ok _ c.in-Ok.is c.log_at-seat.ensures.logs;
-    }
+    let e = c.from-i.ensures ∙ c.number.ensures.value in
+    let at = desk_there xs c.from-i.result c.number.result c.args.session d c.requires.worker.size c.number.ensures.range c.from-i.ensures c.number.ensures.value c.index_mut.ensures.value in
+    ok_then c.log_at-seat.result.answer c.log_at-seat.ensures.logs (λ x h. record { before = d; was_at = at; after = new; is_at = ap (λ k. slice_set xs k new) e; logs = h })
+
+pub returns-clause-since : goal.returns-clause-since
+returns-clause-since g c = ok_then c.log_at-seat.result.answer c.log_at-seat.ensures.done (λ x h. h.since)
+
+pub returns-clause-high : goal.returns-clause-high
+returns-clause-high g c = ok_then c.log_at-seat.result.answer c.log_at-seat.ensures.done (λ x h. h.high)

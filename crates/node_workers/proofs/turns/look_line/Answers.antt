@@ -1,65 +1,47 @@
-use Rattle.std.proofs.Common.{◌≡◌, refl, sym, ap, ◌∙◌, subst, Some, length, arith}
-use Rattle.std.specs.Prelude.{slice_get}
-use Rattle.std.proofs.lemmas.Option.{slice_get_read}
+use Rattle.std.proofs.Common.{sym, ap, ◌∙◌, subst, arith}
+use Rattle.legal_journal.proofs.Sealing.{unsealed_by}
 use Rattle.node_sessions.specs.declared.desk.Desk.{Desk}
 use Rattle.one_thread.specs.Seats.{node_of}
 use Rattle.node_lines.specs.Desks.{DeskOk}
 use Rattle.node_lines.specs.Lines.{Looks}
-use Rattle.node_lines.proofs.Turning.{same_at}
 use Rattle.node_lines.specs.Workers.{Within, sent_of}
-use Rattle.node_workers.proofs.Ok.{in_ok}
-use Rattle.node_workers.proofs.Working.{none-waits, worker_moves}
+use Rattle.node_lines.proofs.Turning.{same_at}
+use Rattle.node_workers.proofs.Ok.{ok_then, ok_pair}
+use Rattle.node_workers.proofs.Working.{desk_there, none-waits, worker_moves}
 use Rattle.node_workers.proofs.turns.look_line.Goals as goal
 
-pub look-seat-requires-clause-desk : goal.look-seat-requires-clause-desk
-look-seat-requires-clause-desk g c =
-    let xs = c.args.worker.desks.items in
+pub in_turn-seat-requires-clause-can : goal.in_turn-seat-requires-clause-can
+in_turn-seat-requires-clause-can g c =
     let d = c.index.result.now in
-    let s = c.args.session in
-    let e : c.from-i.result ≡ s = c.from-i.ensures ∙ c.number.ensures.value in
-    let at : slice_get xs s ≡ Some d = subst (λ k. slice_get xs k ≡ Some d) e (slice_get_read xs (length xs) c.from-i.result d refl (omega (arith, c.requires.worker.size, c.number.ensures.range, e)) c.index.ensures) in
-    let ok = c.requires.worker.each s d at in
-    subst (λ k. DeskOk (node_of c.args.worker.seat c.args.fabric.journal) k d) (sym ok.session) ok
+    let at = desk_there c.args.worker.desks.items c.from-i.result c.number.result c.args.session d c.requires.worker.size c.number.ensures.range c.from-i.ensures c.number.ensures.value c.index.ensures in
+    let ok = c.requires.worker.each c.args.session d at in
+    let sent = c.requires.here d at ∙ ap (sent_of c.args.counts.now) (sym ok.session) in
+    (c.requires.worker.packs, subst (λ k. DeskOk (node_of c.args.worker.seat c.args.fabric.journal) k d) (sym ok.session) ok, λ who e k allowed has. omega (arith, allowed.0.1 d.session k has, sent))
 
-pub look-seat-requires-clause-sent : goal.look-seat-requires-clause-sent
-look-seat-requires-clause-sent g c =
-    let xs = c.args.worker.desks.items in
-    let d = c.index.result.now in
-    let s = c.args.session in
-    let e : c.from-i.result ≡ s = c.from-i.ensures ∙ c.number.ensures.value in
-    let at : slice_get xs s ≡ Some d = subst (λ k. slice_get xs k ≡ Some d) e (slice_get_read xs (length xs) c.from-i.result d refl (omega (arith, c.requires.worker.size, c.number.ensures.range, e)) c.index.ensures) in
-    c.requires.here d at ∙ ap (sent_of c.args.counts.now) (sym (c.requires.worker.each s d at).session)
+pub returns-clause-unsealed : goal.returns-clause-unsealed
+returns-clause-unsealed g c = unsealed_by c.args.fabric.journal c.in_turn-seat.result.fabric.journal c.in_turn-seat.ensures.right
 
-pub returns-in-Ok-clause-worker : goal.returns-in-Ok-clause-worker
-returns-in-Ok-clause-worker g c =
+pub returns-clause-worker : goal.returns-clause-worker
+returns-clause-worker g c =
     let p = g.K.Terms in
     let r = g.S.Replica in
-    let a = c.args.worker.seat in
-    let b = c.look-seat.result.seat in
-    let now = c.look-seat.result.fabric.journal in
-    let looks = in_ok _ c.in-Ok.is c.look-seat.ensures.looks in
-    let done = in_ok _ c.in-Ok.is c.look-seat.ensures.done in
-    let kept = in_ok _ c.in-Ok.is c.look-seat.ensures.kept in
-    worker_moves p.may p.floor p.shelf c.requires.run r.state r.spells a.who c.args.counts.now c.args.fabric.journal now a b c.args.worker.desks.items looks.others c.requires.worker done.ok (none-waits b kept) looks.moves
+    let back = c.in_turn-seat.result in
+    ok_then back.answer (ok_pair _ _ back.answer c.in_turn-seat.ensures.done c.in_turn-seat.ensures.did)
+    (λ x h. worker_moves p.may p.floor p.shelf c.requires.run r.state r.spells c.args.worker.seat.who c.args.counts.now c.args.fabric.journal back.fabric.journal c.args.worker.seat back.seat c.args.worker.desks.items h.1.0.others c.requires.worker h.0.ok (none-waits back.seat h.1.1) h.1.0.moves)
 
-pub returns-in-Ok-clause-looks : goal.returns-in-Ok-clause-looks
-returns-in-Ok-clause-looks g c = λ other there.
+pub returns-clause-looks : goal.returns-clause-looks
+returns-clause-looks g c =
     let p = g.K.Terms in
     let xs = c.args.worker.desks.items in
     let d = c.index.result.now in
     let s = c.args.session in
-    let a = c.args.worker.seat in
-    let b = c.look-seat.result.seat in
-    let now = c.look-seat.result.fabric.journal in
-    let e : c.from-i.result ≡ s = c.from-i.ensures ∙ c.number.ensures.value in
-    let at : slice_get xs s ≡ Some d = subst (λ k. slice_get xs k ≡ Some d) e (slice_get_read xs (length xs) c.from-i.result d refl (omega (arith, c.requires.worker.size, c.number.ensures.range, e)) c.index.ensures) in
-    let looks = in_ok _ c.in-Ok.is c.look-seat.ensures.looks in
-    subst (λ (x : Desk). Looks (Within p.may c.args.counts.now) p.floor p.shelf (node_of a c.args.fabric.journal) (node_of b now) x c.args.query.now c.in-Ok.looked) (same_at xs s d other at there) looks
+    let back = c.in_turn-seat.result in
+    let at = desk_there xs c.from-i.result c.number.result s d c.requires.worker.size c.number.ensures.range c.from-i.ensures c.number.ensures.value c.index.ensures in
+    ok_then back.answer c.in_turn-seat.ensures.did
+    (λ l h other there. subst (λ (x : Desk). Looks (Within p.may c.args.counts.now) p.floor p.shelf (node_of c.args.worker.seat c.args.fabric.journal) (node_of back.seat back.fabric.journal) x c.args.query.now l) (same_at xs s d other at there) h.0)
 
-pub returns-in-Ok-clause-since : goal.returns-in-Ok-clause-since
-returns-in-Ok-clause-since g c =
-    (in_ok _ c.in-Ok.is c.look-seat.ensures.done).since
+pub returns-clause-since : goal.returns-clause-since
+returns-clause-since g c = ok_then c.in_turn-seat.result.answer c.in_turn-seat.ensures.done (λ x h. h.since)
 
-pub returns-in-Ok-clause-high : goal.returns-in-Ok-clause-high
-returns-in-Ok-clause-high g c =
-    (in_ok _ c.in-Ok.is c.look-seat.ensures.done).high
+pub returns-clause-high : goal.returns-clause-high
+returns-clause-high g c = ok_then c.in_turn-seat.result.answer c.in_turn-seat.ensures.done (λ x h. h.high)

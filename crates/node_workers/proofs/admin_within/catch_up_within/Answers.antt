@@ -1,7 +1,0 @@
-use Rattle.std.proofs.Common.{sym, subst}
-use Rattle.base_engine.specs.Node.{NodeView}
-use Rattle.node_lines.specs.Desks.{KeepsFrom}
-use Rattle.node_workers.proofs.admin_within.catch_up_within.Goals as goal
-
-pub catch_up-answer-requires-clause-keeps : goal.catch_up-answer-requires-clause-keeps
-catch_up-answer-requires-clause-keeps g c = subst (λ (n : NodeView). KeepsFrom g.Q.Scope.sends g.Q.Scope.floor g.K.Terms.shelf n.replica.cursor) (sym c.wake-node.ensures) c.requires.keeps

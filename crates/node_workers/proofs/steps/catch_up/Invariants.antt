@@ -1,5 +1,0 @@
-use Rattle.node_lines.specs.Workers.{Sends, UpTo}
-use Rattle.node_workers.proofs.steps.catch_up.Given as goal
-
-abbrev pub ghosts-catch_up_within : goal.ghosts-catch_up_within
-ghosts-catch_up_within g a = record { sends = Sends g.K.Terms.may a._counts.now a.fabric.journal; seals = λ _. ⊥; floor = UpTo g.K.Terms.floor a.seat.node.replica.cursor; since = a.fabric.journal }

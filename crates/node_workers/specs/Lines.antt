@@ -1,0 +1,39 @@
+-- What a node's own line asks, and what it leaves.
+use Rattle.std.specs.Prelude.{◌≡◌, ◌<◌, ◌≤◌, ◌^◌, ℕ, List, [], ◌∷◌, Option, Result, Ok, Err}
+use Rattle.std.proofs.Common.{ap, ◌∙◌}
+use Rattle.delos_types.specs.declared.entry.Entry.{Entry}
+use Rattle.delos_types.specs.declared.cause.Cause.{Cause}
+use Rattle.engine_api.specs.Packing.{packed, trim_item}
+use Rattle.replica_api.specs.Replica.{ReplicaView}
+use Rattle.base_engine.specs.Trimming.{FloorIs}
+use Rattle.base_engine.specs.Node.{NodeView}
+use Rattle.node_lines.specs.declared.lines.Looked.{Looked}
+use Rattle.node_lines.specs.Extending.{Extends}
+use Rattle.node_lines.specs.Measuring.{AreClean}
+use Rattle.node_lines.specs.Moving.{Moves}
+use Rattle.node_lines.specs.Workers.{HasNotLeft}
+use Rattle.node_lines.specs.Steps.{came_to}
+
+-- The node, which has this number, may ask for a trim to any position: it is one of those that may be members and hasn't left, and
+-- what was reported or asked to be trimmed is clean.
+pub record MayAskTrim (may : ℕ → Entry → Type 0) (floor : List Entry → ℕ → Type 0) (number : ℕ) (node : NodeView) : Type 0 where
+  pub who : node.who ≡ number
+  pub few : node.who ≤ node.nodes
+  pub goes_by : FloorIs floor node.nodes
+  pub cleans : AreClean node.seen
+  pub stays : HasNotLeft node.who node.seen
+  pub own : (position : ℕ) → position < 2 ^ 64 → may node.who (packed node.who (trim_item position ∷ []))
+
+-- no command of a session was lost, and nothing waits
+pub record MovesOn (may : ℕ → Entry → Type 0) (floor : List Entry → ℕ → Type 0) (shelf : List ℕ) (old new : NodeView) : Type 0 where
+  pub others : List Cause
+  pub moves : Moves may floor shelf old new others
+  pub kept : new.replica.kept ≡ []
+
+pub extends_on : (may : ℕ → Entry → Type 0) (floor : List Entry → ℕ → Type 0) (shelf : List ℕ) (old new : NodeView) (x : Looked) → Extends may floor shelf old new x → MovesOn may floor shelf old new
+extends_on may floor shelf old new x h = record { others = h.others; moves = h.moves; kept = ap (λ (v : ReplicaView). v.kept) h.replica ∙ h.kept }
+
+-- what a line came to by its last step
+abbrev pub comes_to : {E : Type 0} → Result (Option Cause) E → Looked → Result Looked E
+comes_to (Ok failed) l = Ok (came_to failed l)
+comes_to (Err e) l = Err e
