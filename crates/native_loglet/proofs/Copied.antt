@@ -57,9 +57,9 @@ taken_back (Some m) xs =
 
 ---- what comes again
 
-pub hears_undecided : (o : Option Outcome) (cut i : ℕ) (e : Errand) (z : Told) (p q : Pending) → not (is_some o) ≡ true → HearsAgain cut i e z p q → HearsOpen o cut i e z p (Some q)
+pub hears_undecided : (o : Option Outcome) (cut i : ℕ) (e : Errand) (z : Told) (p q : Pending) → is_some o ≡ false → HearsAgain cut i e z p q → HearsOpen o cut i e z p (Some q)
 hears_undecided None cut i e z p q h hears = (q, refl, hears)
-hears_undecided (Some a) cut i e z p q h hears = absurd (false≢true h)
+hears_undecided (Some a) cut i e z p q h hears = absurd (false≢true (sym h))
 
 pub asked_here : (n : ℕ) (m : Mail) (t i : ℕ) (a : Ask) → m ≡ mail.Asked t i a → CanCome n m → (i < n) × CanAsk a
 asked_here n m t i a is can = subst (CanCome n) is can
