@@ -1,9 +1,8 @@
 -- Which copy stays behind, as the code finds it.
 use Rattle.std.proofs.Common.{◌≡◌, ℕ, ◌-◌, ◌<◌, Bool, true, false, refl, sym, ◌∙◌, ap, subst, arith, List, [], ◌∷◌, ◌++◌, length, length-append, get_or, take, Option, Some, None}
-use Rattle.std.specs.Prelude.{◌&&◌, nat_lt, not, is_some, IsSome, if◌then◌else◌}
+use Rattle.std.specs.Prelude.{◌&&◌, nat_lt, is_some, if◌then◌else◌}
 use Rattle.std.proofs.Math.Seq.{take-append_seam}
 use Rattle.std.proofs.lemmas.Bool.{false≢true, lt-ltb, ltb-true}
-use Rattle.std.proofs.lemmas.Option.{none-some}
 use Rattle.delos_types.specs.declared.entry.Entry.{Entry}
 use Rattle.fate_words.specs.Words.{fate_of}
 use Rattle.native_bag.specs.Bags.{kept_with}
@@ -17,7 +16,7 @@ use Rattle.native_plan.specs.Strays.{HearsAgain}
 use Rattle.native_loglet.specs.declared.mail.Mail.{Mail}
 use Rattle.native_loglet.specs.declared.mail.Mail.TheVariants as mail
 use Rattle.native_loglet.specs.Moving.{picked_by}
-use Rattle.native_loglet.specs.Copies.{is_kept, mail_of, kept_by, copy_of, kept_after, HearsOpen, CanAsk, CanCome}
+use Rattle.native_loglet.specs.Copies.{is_kept, mail_of, copy_of, kept_after, HearsOpen, CanAsk, CanCome}
 
 -- by another fate there is none
 pub none_unkept : (entries : List Entry) (cut t word kept : ℕ) (z : Option Pending) → is_kept (fate_of word) ≡ false → None ≡ copy_of entries cut t word kept z

@@ -31,7 +31,7 @@ use Rattle.quorum_cell.specs.Outcomes.{IsTrimmed, RestsOnCauses}
 use Rattle.quorum_cell.proofs.Conclusions.{outcome_holds, reach_stays}
 use Rattle.quorum_cell.proofs.Grounds.{outcome_rests}
 use Rattle.quorum_cell.proofs.Runs.{run_later}
-use Rattle.quorum_cell.proofs.Steps.{unsealed_within, reach_within}
+use Rattle.quorum_cell.proofs.Steps.{unsealed_within}
 use Rattle.cell_views.specs.Views.{taken, answer_of}
 use Rattle.native_loglet.proofs.Aims.{run_aim, begun_aim}
 use Rattle.native_loglet.specs.Natives.{Native, server_in, loglet_of, IsCellOf}
@@ -247,4 +247,3 @@ placed_stands a b w d l calls more c e t p h began next took rest =
     let later : Later now (run_cell last.0 now) = run_later last.0 now in
     let here : slice_get now.entries p ≡ Some e = after.entries p e there in
     (stands_in d now p e one.cell reached here, stands_in l (run_cell last.0 now) p e last.1 (omega (arith, reached, later.reach)) (later.entries p e here))
-

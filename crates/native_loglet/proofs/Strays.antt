@@ -4,10 +4,9 @@ use Rattle.std.specs.Prelude.{◌⊎◌, ◌&&◌, slice_get, if◌then◌else�
 use Rattle.std.proofs.lemmas.Bool.{cases_eq}
 use Rattle.std.proofs.lemmas.List.{length-set}
 use Rattle.std.proofs.lemmas.List.Elements.{All-contains}
-use Rattle.delos_types.specs.Spelling.{IsSpellable}
 use Rattle.loglet_api.specs.declared.call.LogletCall.TheVariants.{Stray as CallStray}
 use Rattle.loglet_api.specs.declared.call.LogletAnswer.TheVariants.{Strayed}
-use Rattle.loglet_api.specs.Step.{LogletStep, Moves, IsBelow, IsAtMost}
+use Rattle.loglet_api.specs.Step.{LogletStep, Moves, IsAtMost}
 use Rattle.quorum_cell.specs.declared.message.Ask.{Ask}
 use Rattle.quorum_cell.specs.declared.message.Ask.TheVariants as ask
 use Rattle.quorum_cell.specs.declared.message.Told.{Told}
@@ -28,7 +27,7 @@ use Rattle.native_plan.specs.declared.pending.Pending.{Pending}
 use Rattle.native_plan.specs.declared.message.Errand.{Errand}
 use Rattle.native_plan.specs.Pendings.{plan_left, left_now}
 use Rattle.native_plan.specs.Strays.{errand_in, is_asked, HearsAgain}
-use Rattle.native_ties.specs.Parts.{IsPartOf, IsBounded, AreStrays}
+use Rattle.native_ties.specs.Parts.{IsPartOf, AreStrays}
 use Rattle.native_ties.specs.Steps.{GoesAs}
 use Rattle.native_ties.specs.Strays.{IsRequest, IsReply, HearsBy, ComesAgain as ComesAgainIn, ComesTo}
 use Rattle.native_ties.proofs.Bounds.{bounded}
@@ -38,10 +37,9 @@ use Rattle.native_ties.proofs.Repeating.{comes_again, stops_again, comes_to, sto
 use Rattle.native_ties.proofs.Straying.{goes_as_again}
 use Rattle.native_loglet.specs.declared.mail.Mail.{Mail}
 use Rattle.native_loglet.specs.declared.mail.Mail.TheVariants as mail
-use Rattle.native_loglet.specs.declared.marks.Marks.{Marks}
 use Rattle.native_loglet.specs.Faults.{faults_after}
 use Rattle.native_loglet.specs.Natives.{Native, PendingList, server_in, look_in, loglet_of, left_for, left_in, manner_of, IsOpenAs, IsMail, IsCellOf}
-use Rattle.native_loglet.specs.Copies.{hears_of, hears_in, HearsIn, HearsOpen, HearsAt, AsksAgain, TellsAgain, Rests, ComesAgain, CanAsk, CanCome, CanHear}
+use Rattle.native_loglet.specs.Copies.{hears_of, hears_in, HearsIn, HearsOpen, AsksAgain, TellsAgain, Rests, ComesAgain, CanAsk, CanCome, CanHear}
 use Rattle.native_loglet.specs.Steps.{AsksAgain as AsksAgainBy, ComesAgainBy, Reaches}
 use Rattle.native_loglet.proofs.Extending.{run_extends}
 use Rattle.native_loglet.proofs.Mails.{strays_stay}

@@ -7,7 +7,11 @@ use quorum_cell::message::{Ask, Told};
 #[derive(Drop)]
 pub enum Mail {
     /// What the operation of a ticket asked a server, with the entry or the position.
-    Asked { ticket: u64, server: u32, ask: Ask },
+    Asked {
+        ticket: u64,
+        server: u32,
+        ask: Ask,
+    },
     /// What a server answered to this errand of the operation.
     Told {
         ticket: u64,

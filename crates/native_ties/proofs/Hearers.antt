@@ -255,15 +255,17 @@ hears_as c t i p new e told law part waiting here message h =
     let is : cell_step c (ReplyComes so_reply.reply.number) ≡ put_operation c t (with_reply (operation c t) r) = comes_is c t so_reply.reply.number r so_reply.reply.is so_reply.reply.ticket part.shows.is_open (part.outcome ∙ waiting) in
     let kept : QuorumLaw (put_operation c t (with_reply (operation c t) r)) = subst QuorumLaw is (step_keeps c (ReplyComes so_reply.reply.number) law) in
     let then_noted : Noted (put_operation c t (with_reply (operation c t) r)) t b = subst (Noted (put_operation c t (with_reply (operation c t) r)) t) (sym h.notes.rest) (noted c t i p b e told law part waiting here message h.notes) in
-    let s : GoesAs (put_operation c t (with_reply (operation c t) r)) t c.faults new (IsEnd t) = settles_as (put_operation c t (with_reply (operation c t) r)) t b new kept then_noted h.settles in
-    (record {
-      steps = ReplyComes so_reply.reply.number ∷ s.0.steps;
-      strays = (tt, s.0.strays);
-      part = subst (λ (x : Cell). IsPartOf (run_cell s.0.steps x) t new) (sym is) s.0.part;
-      others = λ q n. ap (λ (x : Cell). operation (run_cell s.0.steps x) q) is ∙ s.0.others q n ∙ put_other c t q (with_reply (operation c t) r) n;
-      servers = ap (λ (x : Cell). (run_cell s.0.steps x).servers) is ∙ s.0.servers;
-      faults_are = ap (λ (x : Cell). (run_cell s.0.steps x).faults) is ∙ s.0.faults_are;
-    }, record { reply = so_reply.reply; ending = s.0.steps; ends = s.1; takes = refl })
+    let s : GoesAs (put_operation c t (with_reply (operation c t) r)) t c.faults new (IsEnd t) = settles_as (put_operation c t (with_reply (operation c t) r)) t b new kept then_noted h.settles in (
+      record {
+        steps = ReplyComes so_reply.reply.number ∷ s.0.steps;
+        strays = (tt, s.0.strays);
+        part = subst (λ (x : Cell). IsPartOf (run_cell s.0.steps x) t new) (sym is) s.0.part;
+        others = λ q n. ap (λ (x : Cell). operation (run_cell s.0.steps x) q) is ∙ s.0.others q n ∙ put_other c t q (with_reply (operation c t) r) n;
+        servers = ap (λ (x : Cell). (run_cell s.0.steps x).servers) is ∙ s.0.servers;
+        faults_are = ap (λ (x : Cell). (run_cell s.0.steps x).faults) is ∙ s.0.faults_are;
+      },
+      record { reply = so_reply.reply; ending = s.0.steps; ends = s.1; takes = refl },
+    )
 
 pub hears : (c : Cell) (t i : ℕ) (p new : Pending) (e : Errand) (told : Told) → QuorumLaw c → IsPartOf c t p → p.outcome ≡ None → i < length c.servers → (get_or p.members.items i no_member).message ≡ Some (Answered e told) → Hears c.cut i e told p new → GoesBy c t c.faults new
 hears c t i p new e told law part waiting here message h = (hears_as c t i p new e told law part waiting here message h).0

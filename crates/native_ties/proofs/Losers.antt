@@ -321,15 +321,17 @@ lost_known c t i p new law part waiting here l e way h =
     let is : cell_step c (Lose l.message) ≡ put_operation (with_fault c i) t (with_loss (operation c t) l.message i) = is_lost c t i p b law part waiting here l e way h.notes in
     let kept : QuorumLaw (put_operation (with_fault c i) t (with_loss (operation c t) l.message i)) = subst QuorumLaw is (step_keeps c (Lose l.message) law) in
     let then_noted : Noted (put_operation (with_fault c i) t (with_loss (operation c t) l.message i)) t b = subst (Noted (put_operation (with_fault c i) t (with_loss (operation c t) l.message i)) t) (sym h.notes.rest) (noted c t i p b law part waiting here l e way h.notes) in
-    let s : GoesAs (put_operation (with_fault c i) t (with_loss (operation c t) l.message i)) t (c.faults ++ i ∷ []) new (IsEnd t) = settles_as (put_operation (with_fault c i) t (with_loss (operation c t) l.message i)) t b new kept then_noted h.settles in
-    (record {
-      steps = Lose l.message ∷ s.0.steps;
-      strays = (tt, s.0.strays);
-      part = subst (λ (x : Cell). IsPartOf (run_cell s.0.steps x) t new) (sym is) s.0.part;
-      others = λ q n. ap (λ (x : Cell). operation (run_cell s.0.steps x) q) is ∙ s.0.others q n ∙ put_other (with_fault c i) t q (with_loss (operation c t) l.message i) n;
-      servers = ap (λ (x : Cell). (run_cell s.0.steps x).servers) is ∙ s.0.servers;
-      faults_are = ap (λ (x : Cell). (run_cell s.0.steps x).faults) is ∙ s.0.faults_are;
-    }, (s.0.steps, s.1, refl))
+    let s : GoesAs (put_operation (with_fault c i) t (with_loss (operation c t) l.message i)) t (c.faults ++ i ∷ []) new (IsEnd t) = settles_as (put_operation (with_fault c i) t (with_loss (operation c t) l.message i)) t b new kept then_noted h.settles in (
+      record {
+        steps = Lose l.message ∷ s.0.steps;
+        strays = (tt, s.0.strays);
+        part = subst (λ (x : Cell). IsPartOf (run_cell s.0.steps x) t new) (sym is) s.0.part;
+        others = λ q n. ap (λ (x : Cell). operation (run_cell s.0.steps x) q) is ∙ s.0.others q n ∙ put_other (with_fault c i) t q (with_loss (operation c t) l.message i) n;
+        servers = ap (λ (x : Cell). (run_cell s.0.steps x).servers) is ∙ s.0.servers;
+        faults_are = ap (λ (x : Cell). (run_cell s.0.steps x).faults) is ∙ s.0.faults_are;
+      },
+      (s.0.steps, s.1, refl),
+    )
 
 -- the first try of a message: it was sent
 lost_first : (c : Cell) (t i : ℕ) (p new : Pending) → QuorumLaw c → IsPartOf c t p → p.outcome ≡ None → i < length c.servers → (get_or p.members.items i no_member).losses ≡ 0 → (e : Errand) → OnItsWay c (operation c t) t i (aims_of c.cut p) (get_or p.members.items i no_member) e → errand_of (get_or p.members.items i no_member).message ≡ Some e → Loses c.cut i p new → GoesAs c t (c.faults ++ i ∷ []) new (IsLoss c t i (get_or p.members.items i no_member))
@@ -351,15 +353,17 @@ lost_first c t i p new law part waiting here none e way errand h =
       tries = tried_none ∙ sym none;
     } in
     let s : GoesAs (record c { requests = c.requests ++ record { ticket = t; server = i; ask = a.0 } ∷ [] }) t (c.faults ++ i ∷ []) new (LosesOne t (length c.requests)) =
-    lost_known (record c { requests = c.requests ++ record { ticket = t; server = i; ask = a.0 } ∷ [] }) t i p new kept stays waiting here l e (record { planned = way.planned; unmet = way.unmet; few = way.few; pooled = inl none }) h in
-    (record {
-      steps = Send t i (wish_of e) ∷ s.0.steps;
-      strays = (tt, s.0.strays);
-      part = subst (λ (x : Cell). IsPartOf (run_cell s.0.steps x) t new) (sym is) s.0.part;
-      others = λ q n. ap (λ (x : Cell). operation (run_cell s.0.steps x) q) is ∙ s.0.others q n;
-      servers = ap (λ (x : Cell). (run_cell s.0.steps x).servers) is ∙ s.0.servers;
-      faults_are = ap (λ (x : Cell). (run_cell s.0.steps x).faults) is ∙ s.0.faults_are;
-    }, record { ending = s.1.0; ends = s.1.1; loses = inl (record { errand = e; is = errand; none = none; takes = ap (λ (xs : List CellStep). Send t i (wish_of e) ∷ xs) s.1.2 }) })
+    lost_known (record c { requests = c.requests ++ record { ticket = t; server = i; ask = a.0 } ∷ [] }) t i p new kept stays waiting here l e (record { planned = way.planned; unmet = way.unmet; few = way.few; pooled = inl none }) h in (
+      record {
+        steps = Send t i (wish_of e) ∷ s.0.steps;
+        strays = (tt, s.0.strays);
+        part = subst (λ (x : Cell). IsPartOf (run_cell s.0.steps x) t new) (sym is) s.0.part;
+        others = λ q n. ap (λ (x : Cell). operation (run_cell s.0.steps x) q) is ∙ s.0.others q n;
+        servers = ap (λ (x : Cell). (run_cell s.0.steps x).servers) is ∙ s.0.servers;
+        faults_are = ap (λ (x : Cell). (run_cell s.0.steps x).faults) is ∙ s.0.faults_are;
+      },
+      record { ending = s.1.0; ends = s.1.1; loses = inl (record { errand = e; is = errand; none = none; takes = ap (λ (xs : List CellStep). Send t i (wish_of e) ∷ xs) s.1.2 }) },
+    )
 
 pub loses_as : (c : Cell) (t i : ℕ) (p new : Pending) → QuorumLaw c → IsPartOf c t p → p.outcome ≡ None → i < length c.servers → is_out (get_or p.members.items i no_member) ≡ true → Loses c.cut i p new → GoesAs c t (c.faults ++ i ∷ []) new (IsLoss c t i (get_or p.members.items i no_member))
 loses_as c t i p new law part waiting here out h = by way.1.pooled

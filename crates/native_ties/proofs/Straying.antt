@@ -39,7 +39,7 @@ use Rattle.native_plan.specs.Pendings.{newer_of, aims_of, verdict_of}
 use Rattle.native_plan.specs.Course.{Knows, AimsAt, PhaseFits, HaveTurned, IsOnCourse, IsAskOf, IsPlanned, FillsTo, MendsTo, ToldWell, LetsGo, with_reply}
 use Rattle.native_plan.specs.Strays.{news_of, learned_in, is_due, heard_anew, is_read_at, given_to, entry_of, is_asked, NotesAgain, HearsNews, HearsAgain, HearsIf}
 use Rattle.native_plan.proofs.Hears.{knows_other}
-use Rattle.native_ties.specs.Parts.{IsCarried, OnItsWay, Goes, IsPartOf, GoesBy}
+use Rattle.native_ties.specs.Parts.{IsCarried, OnItsWay, Goes, IsPartOf}
 use Rattle.native_ties.specs.Steps.{IsEnd, GoesAs}
 use Rattle.native_ties.specs.Strays.{HearsBy, IsReply, GoesAgain}
 use Rattle.native_ties.proofs.Hearing.{put_there, put_other, comes_is, any_more, many_more, either_more}

@@ -1,4 +1,4 @@
-use Rattle.std.proofs.Common.{◌≡◌, ◌<◌, refl, ap, sym, subst, length, get_or, set, Some}
+use Rattle.std.proofs.Common.{◌<◌, refl, ap, sym, subst, length, get_or, set, Some}
 use Rattle.log_server.specs.View.{View}
 use Rattle.native_plan.specs.declared.message.Errand.{Errand}
 use Rattle.native_loglet.specs.declared.mail.Mail.{Mail}

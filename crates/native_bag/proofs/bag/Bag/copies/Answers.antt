@@ -1,4 +1,4 @@
-use Rattle.std.proofs.Common.{◌≡◌, ◌≤◌, ◌∙◌, sym, subst, arith, length}
+use Rattle.std.proofs.Common.{◌≡◌, subst, arith, length}
 use Rattle.native_bag.specs.Bags.{BagView}
 use Rattle.native_bag.specs.Places.{kept_of}
 use Rattle.native_bag.proofs.Layouts.{kept_length}

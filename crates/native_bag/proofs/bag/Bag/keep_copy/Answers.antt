@@ -1,7 +1,7 @@
-use Rattle.std.proofs.Common.{◌≡◌, ◌<◌, ◌≤◌, ◌∙◌, ap, sym, subst, arith, length, false, [], ◌∷◌, ◌++◌, List, refl}
-use Rattle.std.specs.Prelude.{nat_lt, if◌then◌else◌}
+use Rattle.std.proofs.Common.{◌≡◌, ◌<◌, ◌≤◌, ◌∙◌, sym, subst, arith, length, false, [], ◌∷◌, ◌++◌, refl}
+use Rattle.std.specs.Prelude.{nat_lt}
 use Rattle.std.proofs.lemmas.Bool.{lt-ltb}
-use Rattle.native_bag.specs.Bags.{BagView, Flying, kept_with}
+use Rattle.native_bag.specs.Bags.{BagView, kept_with}
 use Rattle.native_bag.specs.Places.{flown, kept_of}
 use Rattle.native_bag.proofs.Layouts.{kept_length}
 use Rattle.native_bag.proofs.Moving.{in_both, ok_then, err_then, same_view, view_of, not_less}

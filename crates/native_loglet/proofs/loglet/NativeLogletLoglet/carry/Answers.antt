@@ -1,4 +1,4 @@
-use Rattle.std.proofs.Common.{◌≡◌, ℕ, refl, sym, ap, subst, ◌∙◌, List, ◌++◌, length, map, take, drop}
+use Rattle.std.proofs.Common.{◌≡◌, refl, sym, ap, subst, ◌∙◌, List, length, map}
 use Rattle.loglet_api.specs.declared.call.Refused.TheVariants.{Memory}
 use Rattle.loglet_api.specs.declared.call.LogletCall.TheVariants.{Carry}
 use Rattle.loglet_api.specs.declared.call.LogletAnswer.TheVariants.{Carried, Refusal}

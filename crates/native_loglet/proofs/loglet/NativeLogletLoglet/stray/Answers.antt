@@ -16,7 +16,7 @@ use Rattle.native_loglet.proofs.Alike.{IsOwned, Alike, shows, alike_owned, step_
 use Rattle.native_loglet.proofs.Counting.{marks_count}
 use Rattle.native_loglet.proofs.Disks.{lent_back}
 use Rattle.native_loglet.proofs.Serving.{serving_with, states_with, comes_wear, comes_failed}
-use Rattle.native_loglet.proofs.Strays.{can_come, can_hear, strays_owned, strays_step}
+use Rattle.native_loglet.proofs.Strays.{can_come, can_hear, strays_owned}
 use Rattle.native_loglet.proofs.Goes.{goes_from, stays_goes, strays_goes}
 use Rattle.native_loglet.proofs.loglet.NativeLogletLoglet.stray.Goals as goal
 
