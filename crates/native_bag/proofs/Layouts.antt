@@ -1,15 +1,16 @@
 -- How what a bag shows follows what it holds.
-use Rattle.std.proofs.Common.{◌≡◌, ℕ, zero, suc, ◌+◌, ◌<◌, ◌≤◌, Bool, true, false, refl, sym, ◌∙◌, ap, subst, arith, List, [], ◌∷◌, ◌++◌, length, get_or, Option, Some, None}
+use Rattle.std.proofs.Common.{◌≡◌, ℕ, zero, suc, ◌+◌, ◌-◌, take, length-append, ◌<◌, ◌≤◌, Bool, true, false, refl, sym, ◌∙◌, ap, subst, arith, List, [], ◌∷◌, ◌++◌, length, get_or, Option, Some, None}
 use Rattle.std.specs.Prelude.{◌&&◌, ◌==◌, not, slice_get, is_some, if◌then◌else◌}
 use Rattle.std.specs.List.{AllByRecursion}
 use Rattle.std.proofs.lemmas.Bool.{true≢false, eqb-true, eq-eqb, and_parts}
 use Rattle.std.proofs.lemmas.Option.{none-some, same_Some}
+use Rattle.std.proofs.Math.Seq.{take-append_seam}
 use Rattle.slab.specs.Slab.{Slab, get, Updates}
 use Rattle.native_bag.specs.declared.places.Kept.{Kept}
 use Rattle.native_bag.specs.declared.places.Kept.TheVariants as kept
 use Rattle.native_bag.specs.declared.places.Place.{Place}
 use Rattle.native_bag.specs.Bags.{Flying, count_below, first_of, is_out, others}
-use Rattle.native_bag.specs.Places.{is_at, first_at, others_at, flown, flown_one, kept_of, kept_one, stray_of, IsHeld, IsStray, IsSound, TakesOut, TakesFrom, taken_one, PutsIn}
+use Rattle.native_bag.specs.Places.{is_at, first_at, others_at, flown, flown_one, kept_of, kept_one, stray_of, IsHeld, IsStray, AreApart, IsSound, TakesOut, TakesFrom, taken_one, PutsIn}
 
 both_at : (t u a b : ℕ) → ((a == t) && (b == u)) ≡ true → (a ≡ t) × (b ≡ u)
 both_at t u a b h = (let parts : ((a == t) ≡ true) × ((b == u) ≡ true) = and_parts (a == t) (b == u) h in (eqb-true a t parts.0, eqb-true b u parts.1))
@@ -25,6 +26,10 @@ all_others P t u (p ∷ ps) h = by (is_at t u p) (all_others P t u ps h.1)
 all_push : {X : Type 0} (P : X → Type 0) (xs : List X) (x : X) → AllByRecursion P xs → P x → AllByRecursion P (xs ++ x ∷ [])
 all_push P [] x h k = (k, tt)
 all_push P (y ∷ xs) x h k = (h.0, all_push P xs x h.1 k)
+
+last_of : (P : ℕ → Type 0) (rest : List ℕ) (key : ℕ) → AllByRecursion P (rest ++ key ∷ []) → AllByRecursion P rest × P key
+last_of P [] key h = (tt, h.0)
+last_of P (k ∷ rest) key h = (let more = last_of P rest key h.1 in ((h.0, more.0), more.1))
 
 module _ {M : Type 0} where
   ---- which message stands where
@@ -168,7 +173,7 @@ module _ {M : Type 0} where
           let none : first_of t u (flown s ps) ≡ None = flown_none s t u ps h.held e in
           let same : flown s (others_at t u ps) ≡ others t u (flown s ps) = flown_others s t u ps h.held in
           record {
-            sound = rw (from.0, out.places) (record { held = all_others (IsHeld s) t u ps h.held; strays = h.strays; few = h.few; within = all_others _ t u ps h.within });
+            sound = rw (from.0, out.places) (record { held = all_others (IsHeld s) t u ps h.held; strays = h.strays; apart = h.apart; few = h.few; within = all_others _ t u ps h.within });
             flown_are = rw (from.0, out.places) same;
             strays_are = rw from.0 refl;
             taken_is = from.1 ∙ sym (ap losses_and_message none);
@@ -179,7 +184,7 @@ module _ {M : Type 0} where
           let same : AllByRecursion (Same s z) (others_at t u ps) = others_same s z t u p.key found.0.0 None ps there from.0 h.held in
           let strays : AllByRecursion (λ k. get z k ≡ get s k) ks = strays_apart s z t u p.key found.0.0 None ks there from.0 h.strays in
           record {
-            sound = rw out.places (record { held = held_same s z (others_at t u ps) same (all_others (IsHeld s) t u ps h.held); strays = strays_same s z ks strays h.strays; few = h.few; within = all_others _ t u ps h.within });
+            sound = rw out.places (record { held = held_same s z (others_at t u ps) same (all_others (IsHeld s) t u ps h.held); strays = strays_same s z ks strays h.strays; apart = h.apart; few = h.few; within = all_others _ t u ps h.within });
             flown_are = rw out.places (flown_same s z (others_at t u ps) same ∙ flown_others s t u ps h.held);
             strays_are = kept_same s z ks strays;
             taken_is = from.1 ∙ ap (taken_one p.losses) found.0.1 ∙ sym (ap losses_and_message (flown_first s t u ps p found.0.0 h.held e found.0.1));
@@ -197,10 +202,17 @@ module _ {M : Type 0} where
       let strays : AllByRecursion (λ k. get z k ≡ get s k) ks = strays_vacant s z puts_in.key _ ks puts_in.was_vacant puts_in.messages h.strays in
       let there : get z puts_in.key ≡ Some (kept.Flying t u m) = puts_in.messages.changed in
       record {
-        sound = rw puts_in.places (record { held = all_push (IsHeld z) ps p (held_same s z ps same h.held) (m, there); strays = strays_same s z ks strays h.strays; few = h.few; within = all_push _ ps p h.within (near, few) });
+        sound = rw puts_in.places (record { held = all_push (IsHeld z) ps p (held_same s z ps same h.held) (m, there); strays = strays_same s z ks strays h.strays; apart = h.apart; few = h.few; within = all_push _ ps p h.within (near, few) });
         flown_are = rw puts_in.places (flown_push z ps p ∙ rw (there, flown_same s z ps same) refl);
         strays_are = kept_same s z ks strays;
       }
+
+  apart_push : (s : Slab (Kept M)) (ks : List ℕ) (key : ℕ) → get s key ≡ None → AllByRecursion (IsStray s) ks → AreApart ks → AreApart (ks ++ key ∷ [])
+  apart_push s [] key vacant h a = (tt, tt)
+  apart_push s (k ∷ ks) key vacant h a = (all_push (λ j. j ≡ k → ⊥) ks key a.0 (λ same. none_there same), apart_push s ks key vacant h.1 a.1)
+    where
+      none_there : key ≡ k → ⊥
+      none_there same = none-some _ (sym vacant ∙ ap (get s) same ∙ h.0.1)
 
   pub record Strayed (servers : ℕ) (m : M) (s z : Slab (Kept M)) (ps : List Place) (ks all : List ℕ) : Type 0 where
     pub sound : IsSound servers z ps all
@@ -212,9 +224,49 @@ module _ {M : Type 0} where
       let same : AllByRecursion (Same s z) ps = all_vacant s z key _ ps vacant up h.held in
       let strays : AllByRecursion (λ k. get z k ≡ get s k) ks = strays_vacant s z key _ ks vacant up h.strays in
       record {
-        sound = record { held = held_same s z ps same h.held; strays = rw is (all_push (IsStray z) ks key (strays_same s z ks strays h.strays) (m, up.changed)); few = few; within = h.within };
+        sound = record { held = held_same s z ps same h.held; strays = rw is (all_push (IsStray z) ks key (strays_same s z ks strays h.strays) (m, up.changed)); apart = rw is (apart_push s ks key vacant h.strays h.apart); few = few; within = h.within };
         flown_are = flown_same s z ps same;
         strays_are = rw is (kept_push z ks key ∙ rw (up.changed, kept_same s z ks strays) refl);
+      }
+
+  ---- the copy that was kept last is dropped
+
+  places_apart : (s z : Slab (Kept M)) (key : ℕ) (m : M) (slot : Option (Kept M)) (ps : List Place) → get s key ≡ Some (kept.Stray m) → Updates s z key slot → AllByRecursion (IsHeld s) ps → AllByRecursion (Same s z) ps
+  places_apart s z key m slot [] g up h = tt
+  places_apart s z key m slot (p ∷ ps) g up h = (up.others p.key apart, places_apart s z key m slot ps g up h.1)
+    where
+      apart : p.key ≡ key → ⊥
+      apart same = (let has : Some (kept.Flying p.ticket p.server h.0.0) ≡ Some (kept.Stray m) = sym h.0.1 ∙ ap (get s) same ∙ g in cc)
+
+  firsts_apart : (s z : Slab (Kept M)) (key : ℕ) (slot : Option (Kept M)) (rest : List ℕ) → Updates s z key slot → AreApart (rest ++ key ∷ []) → AllByRecursion (λ k. get z k ≡ get s k) rest × AreApart rest
+  firsts_apart s z key slot [] up a = (tt, tt)
+  firsts_apart s z key slot (k ∷ rest) up a =
+      let more = firsts_apart s z key slot rest up a.1 in
+      let now = last_of (λ j. j ≡ k → ⊥) rest key a.0 in
+      ((up.others k (λ same. now.1 (sym same)), more.0), (now.0, more.1))
+
+  kept_firsts : (s : Slab (Kept M)) (rest : List ℕ) (key : ℕ) (m : M) → get s key ≡ Some (kept.Stray m) → take (length (kept_of s (rest ++ key ∷ [])) - 1) (kept_of s (rest ++ key ∷ [])) ≡ kept_of s rest
+  kept_firsts s rest key m g =
+      let all : kept_of s (rest ++ key ∷ []) ≡ kept_of s rest ++ m ∷ [] = kept_push s rest key ∙ rw g refl in
+      let long : length (kept_of s rest ++ m ∷ []) - 1 ≡ length (kept_of s rest) = rw (length-append (kept_of s rest) (m ∷ [])) (omega arith) in
+      rw (all, long) (take-append_seam (kept_of s rest) (m ∷ []))
+
+  pub record Dropped (servers : ℕ) (s z : Slab (Kept M)) (ps : List Place) (rest ks : List ℕ) : Type 0 where
+    pub sound : IsSound servers z ps rest
+    pub flown_are : flown z ps ≡ flown s ps
+    pub strays_are : kept_of z rest ≡ take (length (kept_of s ks) - 1) (kept_of s ks)
+
+  pub drops : (servers key : ℕ) (s z : Slab (Kept M)) (ps : List Place) (rest ks : List ℕ) → ks ≡ rest ++ key ∷ [] → Updates s z key None → IsSound servers s ps ks → Dropped servers s z ps rest ks
+  drops servers key s z ps rest ks is up h =
+      let strays = last_of (IsStray s) rest key (subst (AllByRecursion (IsStray s)) is h.strays) in
+      let there : get s key ≡ Some (kept.Stray strays.1.0) = strays.1.1 in
+      let same : AllByRecursion (Same s z) ps = places_apart s z key strays.1.0 None ps there up h.held in
+      let firsts = firsts_apart s z key None rest up (subst AreApart is h.apart) in
+      let many : length ks ≡ length rest + 1 = ap (λ (xs : List ℕ). length xs) is ∙ length-append rest (key ∷ []) in
+      record {
+        sound = record { held = held_same s z ps same h.held; strays = strays_same s z rest firsts.0 strays.0; apart = firsts.1; few = omega (arith, h.few, many); within = h.within };
+        flown_are = flown_same s z ps same;
+        strays_are = kept_same s z rest firsts.0 ∙ sym (rw is (kept_firsts s rest key strays.1.0 there));
       }
 
   ---- the copies by number

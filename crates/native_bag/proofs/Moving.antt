@@ -1,5 +1,5 @@
 -- What a bag shows once a message was sent, lost, dropped or kept.
-use Rattle.std.proofs.Common.{◌≡◌, ℕ, zero, suc, ◌+◌, ◌<◌, ◌≤◌, Bool, true, false, refl, sym, ◌∙◌, ap, subst, arith, List, [], ◌∷◌, ◌++◌, length, get_or, Option, Some, None, inl, inr}
+use Rattle.std.proofs.Common.{◌≡◌, ℕ, zero, suc, ◌+◌, ◌-◌, take, ◌<◌, ◌≤◌, Bool, true, false, refl, sym, ◌∙◌, ap, subst, arith, List, [], ◌∷◌, ◌++◌, length, get_or, Option, Some, None, inl, inr}
 use Rattle.std.specs.Prelude.{◌⊎◌, ◌&&◌, ◌||◌, ◌==◌, not, nat_lt, filter, map, if◌then◌else◌, Result, Ok, Err, OnOk, OnErr, is_ok}
 use Rattle.std.specs.List.{AllByRecursion}
 use Rattle.std.proofs.lemmas.Bool.{true≢false, eq-eqb, ne_eqb, lt-ltb, ltb-true, and_right, cases_eq, cases_lt}
@@ -11,7 +11,7 @@ use Rattle.native_bag.specs.declared.places.Place.{Place}
 use Rattle.native_bag.specs.declared.bag.Tries.TheVariants.{Lost, Over, Idle}
 use Rattle.native_bag.specs.Bags.{Flying, BagView, first_of, others, without, with_losses, lost_once, tries_of, message_of, KeepsAs}
 use Rattle.native_bag.specs.Places.{is_at, first_at, with_losses as place_with, no_place, Resets, flown, kept_of, IsHeld, IsWithin, IsSound, TakesOut, PutsIn, CopiesOf, taken_message, Stands}
-use Rattle.native_bag.proofs.Layouts.{losses_and_message, found_held, flown_none, flown_first, takes, puts, strays_in, Taken, Put, Strayed, Same, flown_same, kept_same, held_same, strays_same}
+use Rattle.native_bag.proofs.Layouts.{losses_and_message, found_held, flown_none, flown_first, takes, puts, strays_in, drops, Taken, Put, Strayed, Dropped, Same, flown_same, kept_same, held_same, strays_same}
 
 -- what holds in any case holds after a failure
 pub err_of : {T E P : Type 0} (r : Result T E) → P → OnErr r P
@@ -109,7 +109,7 @@ module _ {M : Type 0} where
   -- room that is made changes nothing
   pub stands_same : (servers : ℕ) (s z : Slab (Kept M)) (ps : List Place) (ks : List ℕ) → z.slots ≡ s.slots → IsSound servers s ps ks → Stands servers z ps ks (flown s ps) (kept_of s ks)
   stands_same servers s z ps ks e h = record {
-    sound = record { held = held_same s z ps (all_same s z ps e) h.held; strays = strays_same s z ks (strays_still s z ks e) h.strays; few = h.few; within = h.within };
+    sound = record { held = held_same s z ps (all_same s z ps e) h.held; strays = strays_same s z ks (strays_still s z ks e) h.strays; apart = h.apart; few = h.few; within = h.within };
     flown_are = flown_same s z ps (all_same s z ps e);
     strays_are = kept_same s z ks (strays_still s z ks e);
   }
@@ -144,7 +144,7 @@ module _ {M : Type 0} where
 
   pub stands_reset : (servers t u n : ℕ) (s : Slab (Kept M)) (ps qs : List Place) (ks : List ℕ) → n < 8 → IsSound servers s ps ks → Resets t u n ps qs → Stands servers s qs ks (map (with_losses t u n) (flown s ps)) (kept_of s ks)
   stands_reset servers t u n s ps qs ks few h r = rw (reset_list t u n ps qs r.as_many r.each) (record {
-    sound = record { held = held_reset s t u n ps h.held; strays = h.strays; few = h.few; within = within_reset servers t u n ps few h.within };
+    sound = record { held = held_reset s t u n ps h.held; strays = h.strays; apart = h.apart; few = h.few; within = within_reset servers t u n ps few h.within };
     flown_are = flown_reset s t u n ps h.held;
     strays_are = refl;
   })
@@ -234,10 +234,15 @@ module _ {M : Type 0} where
       let clone : (c : M) × is_clone seen.0 c × (None ≡ Some c) = subst (λ (x : Option (Kept M)). CopiesOf is_clone x None) there copies in
       none-some clone.0 clone.2
 
-  -- a copy that was made is kept
-  pub strayed : (servers key : ℕ) (s z y : Slab (Kept M)) (ps : List Place) (ks all : List ℕ) (copy : M) → length ks < 64 → IsSound servers s ps ks → z.slots ≡ s.slots → get z key ≡ None → Updates z y key (Some (kept.Stray copy)) → all ≡ ks ++ key ∷ [] → length all ≤ 64
-      → Stands servers y ps all (flown s ps) (kept_of s ks ++ copy ∷ [])
-  strayed servers key s z y ps ks all copy room h same vacant up is few =
+  ---- a copy that was made elsewhere, and one that is taken back
+
+  pub stands_kept : (servers key : ℕ) (m : M) (s z y : Slab (Kept M)) (ps : List Place) (ks all : List ℕ) → length ks < 64 → IsSound servers s ps ks → z.slots ≡ s.slots → get z key ≡ None → Updates z y key (Some (kept.Stray m)) → all ≡ ks ++ key ∷ [] → length all ≤ 64 → Stands servers y ps all (flown s ps) (kept_of s ks ++ m ∷ [])
+  stands_kept servers key m s z y ps ks all room h same vacant up is few =
       let now : Stands servers z ps ks (flown s ps) (kept_of s ks) = stands_same servers s z ps ks same h in
-      let a : Strayed servers copy z y ps ks all = strays_in servers key copy z y ps ks all room now.sound vacant up is few in
-      record { sound = a.sound; flown_are = a.flown_are ∙ now.flown_are; strays_are = a.strays_are ∙ ap (λ (xs : List M). xs ++ copy ∷ []) now.strays_are }
+      let a : Strayed servers m z y ps ks all = strays_in servers key m z y ps ks all room now.sound vacant up is few in
+      record { sound = a.sound; flown_are = a.flown_are ∙ now.flown_are; strays_are = a.strays_are ∙ ap (λ (xs : List M). xs ++ m ∷ []) now.strays_are }
+
+  pub stands_dropped : (servers key : ℕ) (s z : Slab (Kept M)) (ps : List Place) (rest ks : List ℕ) → ks ≡ rest ++ key ∷ [] → Updates s z key None → IsSound servers s ps ks → Stands servers z ps rest (flown s ps) (take (length (kept_of s ks) - 1) (kept_of s ks))
+  stands_dropped servers key s z ps rest ks is up h =
+      let a : Dropped servers s z ps rest ks = drops servers key s z ps rest ks is up h in
+      record { sound = a.sound; flown_are = a.flown_are; strays_are = a.strays_are }

@@ -1,5 +1,5 @@
 -- What a bag of messages shows.
-use Rattle.std.specs.Prelude.{◌≡◌, ℕ, zero, suc, ◌+◌, Bool, true, not, ◌&&◌, ◌==◌, nat_lt, length, if◌then◌else◌, List, [], ◌∷◌, ◌++◌, filter, map, Option, Some, None, is_some, option_map, refl}
+use Rattle.std.specs.Prelude.{◌≡◌, ℕ, zero, suc, ◌+◌, Bool, true, not, ◌&&◌, ◌==◌, if◌then◌else◌, nat_lt, length, List, [], ◌∷◌, ◌++◌, filter, map, Option, Some, None, is_some, option_map, refl}
 use Rattle.native_bag.specs.declared.bag.Tries.{Tries}
 use Rattle.native_bag.specs.declared.bag.Tries.TheVariants.{Lost, Over, Idle}
 use Rattle.std.specs.Coded.{Coded, code_by, coded×, coded_ℕ, coded_list}
@@ -80,14 +80,14 @@ module _ {M : Type 0} where
   lost_once t s None fs = fs
   lost_once t s (Some f) fs = if f.losses + 1 == most_tries then others t s fs else map (with_losses t s (f.losses + 1)) fs
 
-  -- one copy more, if there is room for it
-  abbrev pub with_copy : M → List M → List M
-  with_copy m ms = if nat_lt (length ms) most_strays then ms ++ m ∷ [] else ms
-
   -- a copy of the message there is kept, if there is one, and room for it
   abbrev pub KeepsAs : (M → M → Type 0) → Option (Flying M) → Bool → List M → List M → Type 0
   KeepsAs is_clone (Some f) true old new = (copy : M) × is_clone f.message copy × (new ≡ old ++ copy ∷ [])
   KeepsAs is_clone f room old new = new ≡ old
+
+  -- one copy more, where there is room for it
+  abbrev pub kept_with : M → List M → List M
+  kept_with copy kept = if nat_lt (length kept) most_strays then kept ++ copy ∷ [] else kept
 
   -- how often the message there was lost then
   abbrev pub tries_of : Option (Flying M) → Tries

@@ -1,5 +1,5 @@
 -- How a bag lays its messages out. No public clause cites this module.
-use Rattle.std.specs.Prelude.{◌≡◌, ℕ, ◌<◌, ◌≤◌, Bool, not, ◌&&◌, ◌==◌, if◌then◌else◌, List, [], ◌∷◌, ◌++◌, length, get_or, filter, is_some, Option, Some, None}
+use Rattle.std.specs.Prelude.{◌≡◌, ⊤, ℕ, ◌<◌, ◌≤◌, Bool, not, ◌&&◌, ◌==◌, if◌then◌else◌, List, [], ◌∷◌, ◌++◌, length, get_or, filter, is_some, Option, Some, None}
 use Rattle.std.specs.List.{AllByRecursion}
 use Rattle.slab.specs.Slab.{Slab, get, Updates}
 use Rattle.native_bag.specs.declared.places.Kept.{Kept}
@@ -23,6 +23,11 @@ others_at t s ps = filter (λ p. not (is_at t s p)) ps
 
 abbrev pub IsWithin : ℕ → Place → Type 0
 IsWithin servers p = (p.server < servers) × (p.losses < 8)
+
+-- no two copies stand under one key
+abbrev pub AreApart : List ℕ → Type 0
+AreApart [] = ⊤
+AreApart (k ∷ ks) = AllByRecursion (λ j. j ≡ k → ⊥) ks × AreApart ks
 
 -- what stands at a number that names no place
 abbrev pub no_place : Place
@@ -69,6 +74,7 @@ module _ {M : Type 0} where
   pub record IsSound (servers : ℕ) (s : Slab (Kept M)) (ps : List Place) (ks : List ℕ) : Type 0 where
     pub held : AllByRecursion (IsHeld s) ps
     pub strays : AllByRecursion (IsStray s) ks
+    pub apart : AreApart ks
     pub few : length ks ≤ 64
     pub within : AllByRecursion (IsWithin servers) ps
 

@@ -1,9 +1,9 @@
 //! A bag of messages: those on their way, and copies that may come again.
-ghost use Rattle.std.specs.Prelude.{◌≡◌, ℕ, ◌+◌, ◌<◌, ◌≤◌, ◌%◌, true, nat_lt, ◌++◌, ◌∷◌, [], length, slice_get, is_some, option_copied, option_map, Some, None, IfOk, OnOk, OnErr, IsOk, vec_len, vec_capacity};
+ghost use Rattle.std.specs.Prelude.{◌≡◌, ℕ, ◌+◌, ◌-◌, take, ◌<◌, ◌≤◌, ◌%◌, true, nat_lt, ◌++◌, ◌∷◌, [], length, slice_get, is_some, option_copied, option_map, Some, None, IfOk, OnOk, OnErr, IsOk, vec_len, vec_capacity};
 ghost use Rattle.fate_words.specs.Words.{pick_of};
-ghost use Rattle.native_bag.specs.Bags.{most_tries, most_strays, count_below, first_of, is_out, others, without, put, message_of, lost_once, with_copy, KeepsAs, tries_of};
+ghost use Rattle.native_bag.specs.Bags.{most_tries, most_strays, count_below, first_of, is_out, others, without, put, message_of, lost_once, KeepsAs, kept_with, tries_of};
 
-use crate::moves::{close_in, keep_in, lose_in, send_in, stray_in};
+use crate::moves::{close_in, drop_newest_in, keep_copy_in, keep_in, lose_in, send_in};
 use crate::places::{Kept, Place, count, is_there, message_in, nth, stray_at, take_out};
 use fate_words::words::pick;
 use slab::Slab;
@@ -135,18 +135,6 @@ impl<M: Drop> Bag<M> {
         close_in(&mut self.messages, &mut self.places, ticket, self.servers);
     }
 
-    /// Keeps a copy that was made elsewhere, where fewer than 64 are kept. Want of memory changes
-    /// nothing.
-    pub fn add_copy(&mut self, copy: M) -> Result<(), AllocError>
-        ensures ok { OnOk result (self.new ≡ record self.old { strays = with_copy copy self.old.strays }) }
-        ensures err { OnErr result (self.new ≡ self.old) }
-    {
-        if self.strays.len() >= MOST_STRAYS {
-            return Ok(());
-        }
-        stray_in(&mut self.messages, &mut self.strays, copy)
-    }
-
     /// How many copies are kept.
     pub fn copies(&self) -> usize
         ensures count { result ≡ length self.now.strays }
@@ -165,6 +153,28 @@ impl<M: Drop> Bag<M> {
             return None;
         }
         stray_at(&self.messages, self.strays[(word % kept as u64) as usize])
+    }
+}
+
+impl<M: Drop> Bag<M> {
+    /// Keeps a copy that its caller made, where fewer than 64 are kept; else nothing changes. Want of
+    /// memory changes nothing.
+    pub fn keep_copy(&mut self, copy: M) -> Result<(), AllocError>
+        ensures strays { OnOk result (self.new ≡ record self.old { strays = kept_with copy self.old.strays }) }
+        ensures err { OnErr result (self.new ≡ self.old) }
+        ensures full { most_strays ≤ length self.old.strays → IsOk result }
+    {
+        if self.strays.len() >= MOST_STRAYS {
+            return Ok(());
+        }
+        keep_copy_in(&mut self.messages, &mut self.strays, copy)
+    }
+
+    /// Drops the copy that was kept last, if there is one: it is to be as if it had never been kept.
+    pub fn drop_newest(&mut self)
+        ensures { self.new ≡ record self.old { strays = take (length self.old.strays - 1) self.old.strays } }
+    {
+        drop_newest_in(&mut self.messages, &mut self.strays);
     }
 }
 

@@ -1,7 +1,7 @@
 //! What becomes of the messages that a bag holds.
-ghost use Rattle.std.specs.Prelude.{◌≡◌, ℕ, ◌<◌, ◌≤◌, List, [], ◌∷◌, ◌++◌, length, OnOk, OnErr, Some, true};
+ghost use Rattle.std.specs.Prelude.{◌≡◌, ℕ, ◌-◌, ◌<◌, ◌≤◌, List, [], ◌∷◌, ◌++◌, length, take, OnOk, OnErr, Some, true};
 ghost use Rattle.std.specs.List.{AllByRecursion};
-ghost use Rattle.native_bag.specs.declared.places.Place as places_of;
+ghost use Rattle.native_bag.specs.declared.places.Place as places;
 ghost use Rattle.native_bag.specs.Bags.{first_of, put, without, lost_once, tries_of, KeepsAs};
 ghost use Rattle.native_bag.specs.Places.{flown, kept_of, IsWithin, IsSound, Stands};
 
@@ -99,16 +99,16 @@ pub fn keep_in<M: Clone + Drop>(
     Ok(())
 }
 
-/// Keeps a copy that was made. Room is made first.
-pub fn stray_in<M: Drop>(
+/// Keeps a copy that was made elsewhere. Room is made first.
+pub fn keep_copy_in<M: Drop>(
     messages: &mut Slab<Kept<M>>,
     strays: &mut Vec<usize>,
     copy: M,
 ) -> Result<(), AllocError>
     requires { length strays.old.items < 64 }
-    ensures ok { OnOk result ((servers : ℕ) (ps : List places_of.Place) → IsSound servers messages.old ps strays.old.items
+    ensures ok { OnOk result ((servers : ℕ) (ps : List places.Place) → IsSound servers messages.old ps strays.old.items
         → Stands servers messages.new ps strays.new.items (flown messages.old ps) (kept_of messages.old strays.old.items ++ copy ∷ [])) }
-    ensures err { OnErr result ((servers : ℕ) (ps : List places_of.Place) → IsSound servers messages.old ps strays.old.items
+    ensures err { OnErr result ((servers : ℕ) (ps : List places.Place) → IsSound servers messages.old ps strays.old.items
         → Stands servers messages.new ps strays.new.items (flown messages.old ps) (kept_of messages.old strays.old.items)) }
 {
     strays.reserve(1)?;
@@ -118,4 +118,15 @@ pub fn stray_in<M: Drop>(
         unreachable!()
     };
     Ok(())
+}
+
+/// Drops the copy that was kept last, if there is one.
+pub fn drop_newest_in<M: Drop>(messages: &mut Slab<Kept<M>>, strays: &mut Vec<usize>)
+    ensures { (servers : ℕ) (ps : List places.Place) → IsSound servers messages.old ps strays.old.items
+        → Stands servers messages.new ps strays.new.items (flown messages.old ps) (take (length (kept_of messages.old strays.old.items) - 1) (kept_of messages.old strays.old.items)) }
+{
+    let Some(key) = strays.pop() else {
+        return;
+    };
+    let _ = messages.try_remove(key);
 }

@@ -29,7 +29,9 @@ use Rattle.native_plan.specs.Pendings.{plan_left, left_by, left_now}
 use Rattle.native_ties.specs.Parts.{IsBounded}
 use Rattle.native_ties.proofs.Bounds.{bounded}
 use Rattle.native_loglet.specs.declared.marks.Marks.{Marks}
-use Rattle.native_loglet.specs.Natives.{Native, NativeView, PendingList, native_of, server_in, shown, look_in, loglet_of, manner_of, IsOpenAs, IsCellOf}
+use Rattle.native_loglet.specs.Natives.{Native, NativeView, PendingList, native_of, server_in, shown, look_in, loglet_of, manner_of, IsOpenAs, IsMail, IsCellOf}
+use Rattle.native_loglet.specs.declared.mail.Mail.{Mail}
+use Rattle.native_loglet.proofs.Mails.{same_strays}
 use Rattle.native_loglet.proofs.Viewing.{count_servers, servers_many, FitsLeft, view_is, fits_own}
 use Rattle.native_loglet.proofs.Stirring.{run_moves}
 use Rattle.native_loglet.proofs.Stepping.{tied_sound, own_view, same_manner, step_same, open_is, open_there, seen_is, Keeps, forgets}
@@ -69,6 +71,7 @@ pub record Alike (a b : Native) : Type 0 where
   pub entries : b.entries ≡ a.entries
   pub servers : map server_in b.replicas ≡ map server_in a.replicas
   pub marks : b.marks ≡ a.marks
+  pub strays : b.strays ≡ a.strays
   pub pending : (t : ℕ) → look_in b.pending t ≡ look_in a.pending t
 
 pub alike_tied : (a b : Native) (c : Cell) → Alike a b → IsCellOf a c → IsCellOf b c
@@ -90,6 +93,7 @@ alike_tied a b c k h = record {
   seals_are = h.seals_are ∙ sym (ap (λ (m : Marks). m.seals) k.marks);
   lacks_are = h.lacks_are ∙ sym (ap (λ (m : Marks). m.lacks) k.marks);
   operations = λ t. subst (IsOpenAs c t) (sym (k.pending t)) (h.operations t);
+  strays = same_strays a.strays b.strays (IsMail c) k.strays h.strays;
 }
 
 pub alike_shown : (a b : Native) (c : Cell) → Alike a b → IsCellOf a c → loglet_of b ≡ loglet_of a
@@ -111,8 +115,8 @@ pub moves_same : (a : Native) → IsOwned a → Moves (loglet_of a) (loglet_of a
 moves_same a h = subst (λ (x : LogletView). Moves x x) (sym (own_view a h.0 h.1)) (run_moves (manner_of a) (manner_of a).left [] h.0 tt (λ t. inr (refl, omega arith)))
 
 -- where only a server was put in the place of one that holds the same
-pub put_alike : (room : ℕ) (es : List Entry) (vs : List View) (marks : Marks) (m : PendingList) (i : ℕ) (was is : View) → i < length vs → was ≡ get_or vs i was → is.server ≡ was.server → Alike (native_of room es vs marks m) (native_of room es (set vs i is) marks m)
-put_alike room es vs marks m i was is here there same = record { room = refl; entries = refl; servers = set_same vs i was is here (same ∙ ap server_in there); marks = refl; pending = λ t. refl }
+pub put_alike : (xs : List Mail) (room : ℕ) (es : List Entry) (vs : List View) (marks : Marks) (m : PendingList) (i : ℕ) (was is : View) → i < length vs → was ≡ get_or vs i was → is.server ≡ was.server → Alike (native_of room es vs marks m xs) (native_of room es (set vs i is) marks m xs)
+put_alike xs room es vs marks m i was is here there same = record { room = refl; entries = refl; servers = set_same vs i was is here (same ∙ ap server_in there); marks = refl; strays = refl; pending = λ t. refl }
 
 ---- open operations
 
@@ -179,13 +183,13 @@ pub servers_few : (a : Native) → IsOwned a → length a.replicas ≤ 7
 servers_few a h = omega (arith, h.1.few, servers_many a h.0 h.1)
 
 -- where only the map of the operations was put in the place of one with the same entries
-pub map_alike : (room : ℕ) (es : List Entry) (vs : List View) (marks : Marks) (m n : PendingList) → n ≡ m → Alike (native_of room es vs marks m) (native_of room es vs marks n)
-map_alike room es vs marks m n e = record { room = refl; entries = refl; servers = refl; marks = refl; pending = λ t. ap (lookup (nat_eq t)) e }
+pub map_alike : (xs : List Mail) (room : ℕ) (es : List Entry) (vs : List View) (marks : Marks) (m n : PendingList) → n ≡ m → Alike (native_of room es vs marks m xs) (native_of room es vs marks n xs)
+map_alike xs room es vs marks m n e = record { room = refl; entries = refl; servers = refl; marks = refl; strays = refl; pending = λ t. ap (lookup (nat_eq t)) e }
 
 -- a server that a call names is there
 pub within_servers : (a : Native) (v : LogletView) (i : ℕ) → loglet_of a ≡ v → i < v.servers → i < length a.replicas
 within_servers a v i e h = subst (λ (x : LogletView). i < x.servers) (sym e) h
 
 -- where nothing was added
-pub added_alike : (room : ℕ) (es fs : List Entry) (vs : List View) (marks : Marks) (m n : PendingList) → fs ≡ es → n ≡ m → Alike (native_of room es vs marks m) (native_of room fs vs marks n)
-added_alike room es fs vs marks m n f e = record { room = refl; entries = f; servers = refl; marks = refl; pending = λ t. ap (lookup (nat_eq t)) e }
+pub added_alike : (xs : List Mail) (room : ℕ) (es fs : List Entry) (vs : List View) (marks : Marks) (m n : PendingList) → fs ≡ es → n ≡ m → Alike (native_of room es vs marks m xs) (native_of room fs vs marks n xs)
+added_alike xs room es fs vs marks m n f e = record { room = refl; entries = f; servers = refl; marks = refl; strays = refl; pending = λ t. ap (lookup (nat_eq t)) e }

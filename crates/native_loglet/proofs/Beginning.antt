@@ -39,6 +39,7 @@ use Rattle.native_loglet.specs.Natives.{Native, PendingList, down_in, shut_in, l
 use Rattle.native_loglet.specs.Moving.{Has, AreOf, BeginsOn}
 use Rattle.native_loglet.specs.Opening.{wanted_for}
 use Rattle.native_loglet.proofs.Viewing.{FitsLeft, fits_own, manner_is, servers_many, down_is, shut_is, manner_with}
+use Rattle.native_loglet.proofs.Mails.{strays_stay}
 use Rattle.native_loglet.proofs.Extending.{run_extends}
 use Rattle.native_loglet.proofs.Stepping.{tied_sound, call_of, not_at, others_open}
 use Rattle.native_loglet.proofs.Alike.{IsOwned}
@@ -130,6 +131,7 @@ refused_tied a c op h can full = record {
   seals_are = ap seals is ∙ h.seals_are;
   lacks_are = ap lacks is ∙ h.lacks_are;
   operations = λ q. still q (look_in a.pending q) (h.operations q);
+  strays = strays_stay a c (begin c (aim_of op)) h (step_later c (Begin (aim_of op))) (run_extends (Begin (aim_of op) ∷ []) c);
 }
   where
     is : begin c (aim_of op) ≡ with_fault c (length c.servers)
@@ -245,6 +247,7 @@ begun_tied a c op p n h can space b u = record {
   seals_are = ap seals is ∙ sealing ∙ ap (λ k. k + seals_of op) h.seals_are;
   lacks_are = ap lacks is ∙ lacking ∙ h.lacks_are;
   operations = others_open a (begun_to a op n) c (begin c (aim_of op)) a.marks.begun h (step_later c (Begin (aim_of op))) (run_extends (Begin (aim_of op) ∷ []) c) others (λ q other. u.2 q (not_at a.marks.begun q other)) here;
+  strays = strays_stay a c (begin c (aim_of op)) h (step_later c (Begin (aim_of op))) (run_extends (Begin (aim_of op) ∷ []) c);
 }
   where
     is : begin c (aim_of op) ≡ admit c (aim_of op)

@@ -1,5 +1,6 @@
 -- Which disks a call touches.
-use Rattle.std.proofs.Common.{◌≡◌, ℕ, zero, suc, subst, List, [], ◌∷◌, set, Some, inl, inr}
+use Rattle.std.proofs.Common.{◌≡◌, ℕ, zero, suc, sym, ◌∙◌, ap, subst, List, [], ◌∷◌, ◌++◌, length, set, take, drop, Some, inl, inr}
+use Rattle.std.proofs.Math.Seq.{take-append_seam}
 use Rattle.std.specs.Prelude.{◌⊎◌, slice_get}
 use Rattle.std.proofs.lemmas.Option.{same_Some}
 use Rattle.log_server.specs.View.{View, Survives}
@@ -18,3 +19,7 @@ put_disks vs i w s = λ j v h. at vs i j v h
     at (x ∷ xs) zero (suc j) v h = inl h
     at (x ∷ xs) (suc k) zero v h = inl h
     at (x ∷ xs) (suc k) (suc j) v h = at xs k j v h
+
+-- the servers that were lent come back
+pub lent_back : (count : ℕ) (vs ws : List View) → count ≡ length vs → length ws ≡ length vs → take count (ws ++ drop (length ws) vs) ≡ ws
+lent_back count vs ws many same = ap (λ n. take n (ws ++ drop (length ws) vs)) (many ∙ sym same) ∙ take-append_seam ws (drop (length ws) vs)

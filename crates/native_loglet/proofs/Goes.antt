@@ -1,15 +1,15 @@
 -- Each call is a step of the loglet, and steps of each cell that it may be.
-use Rattle.std.proofs.Common.{◌≡◌, ℕ, ◌+◌, ◌-◌, ◌^◌, ◌<◌, Bool, true, false, refl, sym, ap, subst, List, [], ◌∷◌, ◌++◌, length, get_or, set, Some, None, min, max}
-use Rattle.std.specs.Prelude.{not}
+use Rattle.std.proofs.Common.{◌≡◌, ℕ, ◌+◌, ◌-◌, ◌^◌, ◌%◌, ◌<◌, Bool, true, false, refl, sym, ap, subst, List, [], ◌∷◌, ◌++◌, length, get_or, set, Some, None, min, max}
+use Rattle.std.specs.Prelude.{not, slice_get}
 use Rattle.native_loglet.specs.Natives.{UpdatesAt}
 use Rattle.delos_types.specs.declared.entry.Entry.{Entry}
 use Rattle.loglet_api.specs.declared.call.Answer.{Answer}
 use Rattle.loglet_api.specs.declared.call.Op.{Op}
 use Rattle.loglet_api.specs.declared.call.Refused.TheVariants.{Full}
 use Rattle.loglet_api.specs.declared.call.LogletCall.{LogletCall}
-use Rattle.loglet_api.specs.declared.call.LogletCall.TheVariants.{Begin as CallBegin, Carry as CallCarry, Take as CallTake, Forget as CallForget, Restart as CallRestart}
+use Rattle.loglet_api.specs.declared.call.LogletCall.TheVariants.{Begin as CallBegin, Carry as CallCarry, Take as CallTake, Forget as CallForget, Stray as CallStray, Restart as CallRestart}
 use Rattle.loglet_api.specs.declared.call.LogletAnswer.{LogletAnswer}
-use Rattle.loglet_api.specs.declared.call.LogletAnswer.TheVariants.{Begun, Carried, Refusal, Taken, Forgotten, Restarted}
+use Rattle.loglet_api.specs.declared.call.LogletAnswer.TheVariants.{Begun, Carried, Refusal, Taken, Forgotten, Strayed, Restarted}
 use Rattle.loglet_api.specs.View.{LogletView}
 use Rattle.loglet_api.specs.Step.{CanCall, Does, entries_of, cut_by, seals_of, wanted_by, told_reach, told_firm, told_cap, told_lacks}
 use Rattle.quorum_cell.specs.declared.operation.CellStep.TheVariants.{Forget}
@@ -22,12 +22,15 @@ use Rattle.native_loglet.specs.declared.closing.Decided.{Decided}
 use Rattle.native_loglet.specs.Faults.{faults_after}
 use Rattle.native_loglet.specs.Natives.{Native, NativeView, PendingList, look_in, loglet_of}
 use Rattle.native_loglet.specs.Moving.{BeginsOn, CarriesAt}
+use Rattle.native_loglet.specs.declared.mail.Mail.{Mail}
+use Rattle.native_loglet.specs.Copies.{copy_in, kept_after, ComesAgain}
 use Rattle.native_loglet.specs.Closing.{TakesOut, Waits, answer_for}
 use Rattle.native_loglet.specs.Steps.{StepsOf, Reaches, NativeStep}
 use Rattle.native_loglet.proofs.Alike.{IsOwned, Alike, shows, alike_tied, step_alike, forgets_owned}
 use Rattle.native_loglet.proofs.Stepping.{Keeps, forgets}
 use Rattle.native_loglet.proofs.Restarting.{restarts_in}
 use Rattle.native_loglet.proofs.Messages.{carries_in}
+use Rattle.native_loglet.proofs.Strays.{strays_in, strays_step}
 use Rattle.native_loglet.proofs.Taking.{takes_in, waits_in, waits_owned}
 use Rattle.native_loglet.proofs.Beginning.{IsFullFor, start_of, refuses_in, begins_in}
 use Rattle.native_loglet.proofs.Wholes.{takes_whole, carries_whole, restarts_whole, refuses_whole, begins_whole}
@@ -40,16 +43,16 @@ goes_from a w call answer b e can f = subst (λ (x : Native). NativeStep x call 
 
 ---- a call that takes no step
 
-pub stays_goes : (a b : Native) (call : LogletCall) (answer : LogletAnswer) → IsOwned a → Alike a b → CanCall (loglet_of a) call → Does (loglet_of a) call answer (loglet_of a) → ((c : Cell) → StepsOf a.pending c call answer []) → NativeStep a call answer b
+pub stays_goes : (a b : Native) (call : LogletCall) (answer : LogletAnswer) → IsOwned a → Alike a b → CanCall (loglet_of a) call → Does (loglet_of a) call answer (loglet_of a) → ((c : Cell) → StepsOf a c call answer []) → NativeStep a call answer b
 stays_goes a b call answer h k can does none = record {
   loglet = step_alike a b (loglet_of a) call answer refl h k can does;
   cells = λ c t. record { steps = []; are = none c; cell = alike_tied a b c k t };
 }
 
 pub same_goes : {told : ℕ} (a : Native) (w : NativeView) (call : LogletCall) (answer : LogletAnswer) → record { loglet = loglet_of a; replicas = a.replicas; told = told; parts = a } ≡ w → CanCall w.loglet call → IsOwned a
-    → Does (loglet_of a) call answer (loglet_of a) → ((c : Cell) → StepsOf a.pending c call answer []) → NativeStep w.parts call answer w.parts
+    → Does (loglet_of a) call answer (loglet_of a) → ((c : Cell) → StepsOf a c call answer []) → NativeStep w.parts call answer w.parts
 same_goes a w call answer e can h does none =
-    let same : Alike a a = record { room = refl; entries = refl; servers = refl; marks = refl; pending = λ t. refl } in
+    let same : Alike a a = record { room = refl; entries = refl; servers = refl; marks = refl; strays = refl; pending = λ t. refl } in
     subst (λ (x : Native). NativeStep x call answer x) (ap (λ (x : NativeView). x.parts) e) (stays_goes a a call answer h same (subst (λ (x : LogletView). CanCall x call) (sym (shows a w e)) can) does none)
 
 pub waits_goes : (a b : Native) (t : ℕ) → IsOwned a → Alike a b → CanCall (loglet_of a) (CallTake t) → Waits a.pending t → NativeStep a (CallTake t) (Taken None) b
@@ -60,13 +63,20 @@ waits_goes a b t h k can waits = record {
 
 ---- the others
 
-pub carries_goes : (a : Native) (ws : List View) (n : PendingList) (marks : Marks) (t word : ℕ) (failed : Bool) → IsOwned a → CanCall (loglet_of a) (CallCarry t word)
-    → ((p : Pending) → look_in a.pending t ≡ Some p → CarriesAt a.entries a.marks.cut t word p a.pending n a.replicas ws failed) → marks ≡ record a.marks { faults = faults_after failed a.marks.faults }
-    → NativeStep a (CallCarry t word) Carried (record a { replicas = ws; pending = n; marks = marks })
-carries_goes a ws n marks t word failed h can moved is = record {
-  loglet = (carries_whole a ws n marks (loglet_of a) t word failed refl h can moved is).1;
-  cells = λ c k. subst (λ (x : Marks). Reaches a c (CallCarry t word) Carried (record a { replicas = ws; pending = n; marks = x })) (sym is) (carries_in a ws n (loglet_of a) t word failed c refl k can moved).0;
+pub carries_goes : (a : Native) (ws : List View) (n : PendingList) (ms : List Mail) (marks : Marks) (t word : ℕ) (failed : Bool) → IsOwned a → CanCall (loglet_of a) (CallCarry t word)
+    → ((p : Pending) → look_in a.pending t ≡ Some p → CarriesAt a.entries a.marks.cut t word p a.pending n a.replicas ws failed) → ms ≡ kept_after (copy_in a t word) a.strays → marks ≡ record a.marks { faults = faults_after failed a.marks.faults }
+    → NativeStep a (CallCarry t word) Carried (record a { replicas = ws; pending = n; strays = ms; marks = marks })
+carries_goes a ws n ms marks t word failed h can moved kept is = record {
+  loglet = (carries_whole a ws n ms marks (loglet_of a) t word failed refl h can moved kept is).1;
+  cells = λ c k. subst (λ (x : Marks). Reaches a c (CallCarry t word) Carried (record a { replicas = ws; pending = n; strays = ms; marks = x })) (sym is) (carries_in a ws n ms (loglet_of a) t word failed c refl k can moved kept).0;
 }
+
+pub strays_goes : (a : Native) (ws : List View) (n : PendingList) (marks : Marks) (word : ℕ) (failed : Bool) → IsOwned a → ComesAgain a.marks.cut (slice_get a.strays (word % length a.strays)) a.pending n a.replicas ws failed → marks ≡ record a.marks { faults = faults_after failed a.marks.faults }
+    → NativeStep a (CallStray word) Strayed (record a { replicas = ws; pending = n; marks = marks })
+strays_goes a ws n marks word failed h comes is = subst (λ (x : Marks). NativeStep a (CallStray word) Strayed (record a { replicas = ws; pending = n; marks = x })) (sym is) (record {
+  loglet = strays_step a ws n word failed h comes;
+  cells = λ c k. (strays_in a ws n word failed c k comes).0;
+})
 
 pub takes_goes : (a : Native) (n : PendingList) (marks : Marks) (t : ℕ) (d : Decided) (y : Answer) (size : ℕ) → IsOwned a → CanCall (loglet_of a) (CallTake t) → TakesOut a.pending t d n → Some y ≡ answer_for a.marks.cut d → size ≡ wanted_by d.task d.size
     → marks ≡ record a.marks { reach = max a.marks.reach (told_reach size y); firm = max a.marks.firm (told_firm size y); cap = told_cap y a.marks.cap; lacks = a.marks.lacks + told_lacks y } → NativeStep a (CallTake t) (Taken (Some y)) (record a { pending = n; marks = marks })

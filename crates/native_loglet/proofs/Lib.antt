@@ -1,10 +1,14 @@
 pub mod Viewing
 pub mod Stirring
 pub mod Extending
+pub mod Mails
+pub mod Copied
 pub mod Stepping
 pub mod Alike
 pub mod Restarting
+pub mod Keeping
 pub mod Messages
+pub mod Strays
 pub mod Taking
 pub mod Beginning
 pub mod Starting

@@ -50,6 +50,9 @@ use Rattle.native_loglet.proofs.Viewing.{servers_many}
 use Rattle.native_loglet.proofs.Extending.{run_extends}
 use Rattle.native_loglet.proofs.Stepping.{open_is, open_there, seen_is, GoesOn, carries}
 use Rattle.native_loglet.proofs.Alike.{IsOwned, map_set}
+use Rattle.native_loglet.specs.declared.mail.Mail.{Mail}
+use Rattle.native_loglet.specs.Copies.{copy_in, kept_after}
+use Rattle.native_loglet.proofs.Keeping.{all_kept, server_here}
 
 ---- it may be carried
 
@@ -122,30 +125,30 @@ can_move a t p h is waiting =
 
 ---- it goes on
 
-fault_or : (s w : View) (ask : Ask) (told : Told) (failed : Bool) → FailsAs told failed → ServerAnswers s ask told w → ((told ≡ DiskFault) × Stops s ask w × (failed ≡ true)) ⊎ (Tells s ask told w × (failed ≡ false))
+pub fault_or : (s w : View) (ask : Ask) (told : Told) (failed : Bool) → FailsAs told failed → ServerAnswers s ask told w → ((told ≡ DiskFault) × Stops s ask w × (failed ≡ true)) ⊎ (Tells s ask told w × (failed ≡ false))
 fault_or s w ask DiskFault failed f x = inl (refl, x, f)
 fault_or s w ask _ failed f x = inr (x, f)
 
-one_more : (fs : List ℕ) (i n : ℕ) → counted (length fs) ≡ n → counted (length (fs ++ i ∷ [])) ≡ faults_after true n
+pub one_more : (fs : List ℕ) (i n : ℕ) → counted (length fs) ≡ n → counted (length (fs ++ i ∷ [])) ≡ faults_after true n
 one_more fs i n h = (let more : counted (length (fs ++ i ∷ [])) ≡ min (counted (length fs) + 1) (2 ^ 64 - 1) = omega (arith, length-append fs (i ∷ [])) in more) ∙ ap (faults_after true) h
 
-server_there : (vs : List View) (i : ℕ) (v : View) → slice_get vs i ≡ Some v → get_or (map server_in vs) i no_server ≡ v.server
+pub server_there : (vs : List View) (i : ℕ) (v : View) → slice_get vs i ≡ Some v → get_or (map server_in vs) i no_server ≡ v.server
 server_there [] i v h = absurd (none-some v h)
 server_there (w ∷ vs) zero v h = ap server_in (same_Some w v h)
 server_there (w ∷ vs) (suc i) v h = server_there vs i v h
 
 -- the loglet after an operation went on and faults were noted
-abbrev pub carried_to : Native → List View → PendingList → Bool → Native
-carried_to a ws n failed = record a { replicas = ws; pending = n; marks = record a.marks { faults = faults_after failed a.marks.faults } }
+abbrev pub carried_to : Native → List View → PendingList → Bool → List Mail → Native
+carried_to a ws n failed ms = record a { replicas = ws; pending = n; strays = ms; marks = record a.marks { faults = faults_after failed a.marks.faults } }
 
-module _ (a : Native) (c : Cell) (h : IsCellOf a c) (t : ℕ) (p q : Pending) (n : PendingList) (is : look_in a.pending t ≡ Some p) (waiting : p.outcome ≡ None) where
+module _ (a : Native) (c : Cell) (h : IsCellOf a c) (t : ℕ) (p q : Pending) (n : PendingList) (ms : List Mail) (is : look_in a.pending t ≡ Some p) (waiting : p.outcome ≡ None) where
   part : IsPartOf c t p
   part = open_there a c t (Some p) is h
 
   law : QuorumLaw c
   law = h.lawful.law.quorum
 
-  by_loss : (i : ℕ) (ws : List View) (failed : Bool) → i < length c.servers → MovesByLoss a.marks.cut i p q a.replicas ws failed → GoesOn a (carried_to a ws n failed) c t p q (IsLoss c t i (get_or p.members.items i no_member))
+  by_loss : (i : ℕ) (ws : List View) (failed : Bool) → i < length c.servers → MovesByLoss a.marks.cut i p q a.replicas ws failed → GoesOn a (carried_to a ws n failed ms) c t p q (IsLoss c t i (get_or p.members.items i no_member))
   by_loss i ws failed here m =
       let l : Loses c.cut i p q = subst (λ k. Loses k i p q) (sym h.cut) m.loses in
       let moved : GoesAs c t (c.faults ++ i ∷ []) q (IsLoss c t i (get_or p.members.items i no_member)) = loses_as c t i p q law part waiting here m.out l in
@@ -162,7 +165,7 @@ module _ (a : Native) (c : Cell) (h : IsCellOf a c) (t : ℕ) (p q : Pending) (n
         less = lost_less c t i p q law part waiting here m.out l;
       }
 
-  by_answer : (i : ℕ) (ws : List View) (failed : Bool) → i < length c.servers → MovesByAnswer a.marks.cut i p q a.replicas ws failed → GoesOn a (carried_to a ws n failed) c t p q (ComesBy c t i (get_or p.members.items i no_member).message)
+  by_answer : (i : ℕ) (ws : List View) (failed : Bool) → i < length c.servers → MovesByAnswer a.marks.cut i p q a.replicas ws failed → GoesOn a (carried_to a ws n failed ms) c t p q (ComesBy c t i (get_or p.members.items i no_member).message)
   by_answer i ws failed here m =
       let l : Hears c.cut i m.errand m.told p q = subst (λ k. Hears k i m.errand m.told p q) (sym h.cut) m.hears in
       let moved : GoesAs c t c.faults q (IsAnswer c t i m.errand m.told) = hears_as c t i p q m.errand m.told law part waiting here m.was_told l in
@@ -181,7 +184,7 @@ module _ (a : Native) (c : Cell) (h : IsCellOf a c) (t : ℕ) (p q : Pending) (n
 
   -- a server answered
   by_server : (i : ℕ) (e : Errand) (told : Told) (was w : View) (s : Server) (faults : List ℕ) (failed : Bool) → i < length c.servers → (get_or p.members.items i no_member).message ≡ Some (Asked e) → Answers i e told p q
-      → (g : AnswersBy c t i s faults q) → IsRequest c t i e g.steps ⊎ IsStop c t i e g.steps → s ≡ w.server → counted (length faults) ≡ faults_after failed a.marks.faults → GoesOn a (carried_to a (set a.replicas i w) n failed) c t p q (ComesBy c t i (get_or p.members.items i no_member).message)
+      → (g : AnswersBy c t i s faults q) → IsRequest c t i e g.steps ⊎ IsStop c t i e g.steps → s ≡ w.server → counted (length faults) ≡ faults_after failed a.marks.faults → GoesOn a (carried_to a (set a.replicas i w) n failed ms) c t p q (ComesBy c t i (get_or p.members.items i no_member).message)
   by_server i e told was w s faults failed here asked answers g are same counts = record {
     steps = g.steps;
     are = subst (λ (x : Option Message). ComesBy c t i x g.steps) (sym asked) are;
@@ -195,10 +198,10 @@ module _ (a : Native) (c : Cell) (h : IsCellOf a c) (t : ℕ) (p q : Pending) (n
   }
 
   by_ask : (i : ℕ) (e : Errand) (was w : View) (failed : Bool) → i < length c.servers → (get_or p.members.items i no_member).message ≡ Some (Asked e) → server c i ≡ was.server → (m : AnswersFor a.entries a.marks.cut i e p q was w failed)
-      → (ask : Ask) → ask_for c (operation c t) (wish_of e) ≡ Some ask → ServerAnswers was ask m.told w → GoesOn a (carried_to a (set a.replicas i w) n failed) c t p q (ComesBy c t i (get_or p.members.items i no_member).message)
+      → (ask : Ask) → ask_for c (operation c t) (wish_of e) ≡ Some ask → ServerAnswers was ask m.told w → GoesOn a (carried_to a (set a.replicas i w) n failed ms) c t p q (ComesBy c t i (get_or p.members.items i no_member).message)
   by_ask i e was w failed here asked same m ask may x = by (fault_or was w ask m.told failed m.fault x)
     where
-      by : ((m.told ≡ DiskFault) × Stops was ask w × (failed ≡ true)) ⊎ (Tells was ask m.told w × (failed ≡ false)) → GoesOn a (carried_to a (set a.replicas i w) n failed) c t p q (ComesBy c t i (get_or p.members.items i no_member).message)
+      by : ((m.told ≡ DiskFault) × Stops was ask w × (failed ≡ true)) ⊎ (Tells was ask m.told w × (failed ≡ false)) → GoesOn a (carried_to a (set a.replicas i w) n failed ms) c t p q (ComesBy c t i (get_or p.members.items i no_member).message)
       by (inl x) =
           let wanted : ((server c i).up && writes (server c i) ask) ≡ true = ap (λ (s : Server). s.up && writes s ask) same ∙ x.1.wanted in
           let answers : Answers i e DiskFault p q = subst (λ z. Answers i e z p q) x.0 m.answers in
@@ -213,19 +216,19 @@ module _ (a : Native) (c : Cell) (h : IsCellOf a c) (t : ℕ) (p q : Pending) (n
   asked_same : (e : Errand) (ask : Ask) → asked_by c.entries c.cut e ≡ Some ask → asked_by a.entries a.marks.cut e ≡ Some ask
   asked_same e ask known = ap {B = Option Ask} (λ (es : List Entry). asked_by es a.marks.cut e) (sym h.entries) ∙ ap {B = Option Ask} (λ k. asked_by c.entries k e) (sym h.cut) ∙ known
 
-  by_request : (i : ℕ) (ws : List View) (failed : Bool) → i < length c.servers → MovesByRequest a.entries a.marks.cut i p q a.replicas ws failed → GoesOn a (carried_to a ws n failed) c t p q (ComesBy c t i (get_or p.members.items i no_member).message)
+  by_request : (i : ℕ) (ws : List View) (failed : Bool) → i < length c.servers → MovesByRequest a.entries a.marks.cut i p q a.replicas ws failed → GoesOn a (carried_to a ws n failed ms) c t p q (ComesBy c t i (get_or p.members.items i no_member).message)
   by_request i ws failed here m =
       let y : IsAllowed c t m.errand = allowed c t i p m.errand part waiting here m.asked in
       let same : server c i ≡ m.was.server = ap (λ (ss : List Server). get_or ss i no_server) h.servers ∙ server_there a.replicas i m.was m.there in
-      subst (λ (xs : List View). GoesOn a (carried_to a xs n failed) c t p q (ComesBy c t i (get_or p.members.items i no_member).message)) (sym m.servers) (by_ask i m.errand m.was m.is failed here m.asked same m.answers y.ask y.allowed (m.answers.tells y.ask (asked_same m.errand y.ask y.is)))
+      subst (λ (xs : List View). GoesOn a (carried_to a xs n failed ms) c t p q (ComesBy c t i (get_or p.members.items i no_member).message)) (sym m.servers) (by_ask i m.errand m.was m.is failed here m.asked same m.answers y.ask y.allowed (m.answers.tells y.ask (asked_same m.errand y.ask y.is)))
 
-  pub goes_on : (word : ℕ) (ws : List View) (failed : Bool) → (m : Moves a.entries a.marks.cut word p q a.replicas ws failed) → GoesOn a (carried_to a ws n failed) c t p q (FatedBy (fate_of word) c t m.server (get_or p.members.items m.server no_member))
+  pub goes_on : (word : ℕ) (ws : List View) (failed : Bool) → (m : Moves a.entries a.marks.cut word p q a.replicas ws failed) → GoesOn a (carried_to a ws n failed ms) c t p q (FatedBy (fate_of word) c t m.server (get_or p.members.items m.server no_member))
   goes_on word ws failed m = by (fate_of word) m.moves
     where
       here : m.server < length c.servers
       here = (let all : length p.members.items ≡ length c.servers = (part.goes waiting).course.all in omega (arith, m.here, all))
 
-      by : (f : Fate) → MovesBy f a.entries a.marks.cut m.server p q a.replicas ws failed → GoesOn a (carried_to a ws n failed) c t p q (FatedBy f c t m.server (get_or p.members.items m.server no_member))
+      by : (f : Fate) → MovesBy f a.entries a.marks.cut m.server p q a.replicas ws failed → GoesOn a (carried_to a ws n failed ms) c t p q (FatedBy f c t m.server (get_or p.members.items m.server no_member))
       by Lose x = by_loss m.server ws failed here x
       by Deliver (inl x) = by_request m.server ws failed here x
       by Deliver (inr x) = by_answer m.server ws failed here x
@@ -242,24 +245,25 @@ moved_many entries cut word p q vs ws failed m = by (moves_so (fate_of word) ent
     by (inr (inr x)) = ap (λ (xs : List View). length xs) x.servers
 
 -- a carry, in the cell that the loglet is
-pub carries_in : (a : Native) (ws : List View) (n : PendingList) (v : LogletView) (t word : ℕ) (failed : Bool) (c : Cell) → loglet_of a ≡ v → IsCellOf a c → CanCall v (CallCarry t word)
-    → ((p : Pending) → look_in a.pending t ≡ Some p → CarriesAt a.entries a.marks.cut t word p a.pending n a.replicas ws failed)
-    → Reaches a c (CallCarry t word) Carried (carried_to a ws n failed) × LogletStep v (CallCarry t word) Carried (loglet_of (carried_to a ws n failed))
-carries_in a ws n v t word failed c e h can moved =
+pub carries_in : (a : Native) (ws : List View) (n : PendingList) (ms : List Mail) (v : LogletView) (t word : ℕ) (failed : Bool) (c : Cell) → loglet_of a ≡ v → IsCellOf a c → CanCall v (CallCarry t word)
+    → ((p : Pending) → look_in a.pending t ≡ Some p → CarriesAt a.entries a.marks.cut t word p a.pending n a.replicas ws failed) → ms ≡ kept_after (copy_in a t word) a.strays
+    → Reaches a c (CallCarry t word) Carried (carried_to a ws n failed ms) × LogletStep v (CallCarry t word) Carried (loglet_of (carried_to a ws n failed ms))
+carries_in a ws n ms v t word failed c e h can moved kept =
     let w : (p : Pending) × (look_in a.pending t ≡ Some p) × (p.outcome ≡ None) = waits_at a v t word e (c, h) can in
     let m : CarriesAt a.entries a.marks.cut t word w.0 a.pending n a.replicas ws failed = moved w.0 w.1 in
     let k : Moves a.entries a.marks.cut word w.0 m.next a.replicas ws failed = m.moves in
-    let g : GoesOn a (carried_to a ws n failed) c t w.0 m.next (FatedBy (fate_of word) c t k.server (get_or w.0.members.items k.server no_member)) = goes_on a c h t w.0 m.next n w.1 w.2 word ws failed m.moves in
-    let z : IsCellOf (carried_to a ws n failed) (run_cell g.steps c) × LogletStep v (CallCarry t word) Carried (loglet_of (carried_to a ws n failed)) =
-    carries a (carried_to a ws n failed) c v t word w.0 m.next _ e h can g refl refl (moved_many a.entries a.marks.cut word w.0 m.next a.replicas ws failed m.moves) refl w.1 w.2 m.is m.others in
+    let g : GoesOn a (carried_to a ws n failed ms) c t w.0 m.next (FatedBy (fate_of word) c t k.server (get_or w.0.members.items k.server no_member)) = goes_on a c h t w.0 m.next n ms w.1 w.2 word ws failed m.moves in
+    let here : k.server < length c.servers = server_here a c h t w.0 w.1 w.2 k.server k.here in
+    let z : IsCellOf (carried_to a ws n failed ms) (run_cell g.steps c) × LogletStep v (CallCarry t word) Carried (loglet_of (carried_to a ws n failed ms)) =
+    carries a (carried_to a ws n failed ms) c v t word w.0 m.next _ e h can g refl refl (moved_many a.entries a.marks.cut word w.0 m.next a.replicas ws failed m.moves) refl w.1 w.2 m.is m.others (all_kept a c h t w.0 w.1 w.2 word k.server ms g.steps here k.picked g.are kept) in
     (record { steps = g.steps; are = record { p = w.0; is = w.1; server = k.server; picked = k.picked; moves = g.are }; cell = z.0 }, z.1)
 
 -- a carry, whole
-pub carries_owned : (a : Native) (ws : List View) (n : PendingList) (v : LogletView) (t word : ℕ) (failed : Bool) → loglet_of a ≡ v → IsOwned a → CanCall v (CallCarry t word)
-    → ((p : Pending) → look_in a.pending t ≡ Some p → CarriesAt a.entries a.marks.cut t word p a.pending n a.replicas ws failed)
-    → IsOwned (carried_to a ws n failed) × LogletStep v (CallCarry t word) Carried (loglet_of (carried_to a ws n failed))
-carries_owned a ws n v t word failed e h can moved =
-    let z : Reaches a h.0 (CallCarry t word) Carried (carried_to a ws n failed) × LogletStep v (CallCarry t word) Carried (loglet_of (carried_to a ws n failed)) = carries_in a ws n v t word failed h.0 e h.1 can moved in
+pub carries_owned : (a : Native) (ws : List View) (n : PendingList) (ms : List Mail) (v : LogletView) (t word : ℕ) (failed : Bool) → loglet_of a ≡ v → IsOwned a → CanCall v (CallCarry t word)
+    → ((p : Pending) → look_in a.pending t ≡ Some p → CarriesAt a.entries a.marks.cut t word p a.pending n a.replicas ws failed) → ms ≡ kept_after (copy_in a t word) a.strays
+    → IsOwned (carried_to a ws n failed ms) × LogletStep v (CallCarry t word) Carried (loglet_of (carried_to a ws n failed ms))
+carries_owned a ws n ms v t word failed e h can moved kept =
+    let z : Reaches a h.0 (CallCarry t word) Carried (carried_to a ws n failed ms) × LogletStep v (CallCarry t word) Carried (loglet_of (carried_to a ws n failed ms)) = carries_in a ws n ms v t word failed h.0 e h.1 can moved kept in
     ((run_cell z.0.steps h.0, z.0.cell), z.1)
 
 -- what a carry asks for

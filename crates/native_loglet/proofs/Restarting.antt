@@ -18,6 +18,7 @@ use Rattle.native_loglet.specs.Faults.{faults_after}
 use Rattle.native_loglet.specs.Natives.{Native, server_in, loglet_of, manner_of, IsCellOf}
 use Rattle.native_loglet.specs.Steps.{Reaches}
 use Rattle.native_loglet.proofs.Viewing.{fits_own, manner_is, servers_many}
+use Rattle.native_loglet.proofs.Mails.{strays_stay}
 use Rattle.native_loglet.proofs.Extending.{run_extends}
 use Rattle.native_loglet.proofs.Stepping.{call_of, stirred_tied, all_open}
 use Rattle.native_loglet.proofs.Alike.{IsOwned, mapped, map_set, set_same}
@@ -50,6 +51,7 @@ same_faults c i kept = by (server c i).up
 up_tied : (a : Native) (c : Cell) (i : ℕ) (kept : Bool) (is : View) → IsCellOf a c → (restart c i kept).servers ≡ map server_in (set a.replicas i is) → IsCellOf (restarted_to a i is false) (restart c i kept)
 up_tied a c i kept is h servers = stirred_tied a (restarted_to a i is false) c (Restart i kept ∷ []) h (tt, tt) servers (ap (λ (fs : List ℕ). counted (length fs)) (same_faults c i kept) ∙ h.faults) refl refl refl
     (all_open a c (restart c i kept) h (run_later (Restart i kept ∷ []) c) (run_extends (Restart i kept ∷ []) c) (same_operations c i kept))
+    (strays_stay a c (restart c i kept) h (run_later (Restart i kept ∷ []) c) (run_extends (Restart i kept ∷ []) c))
 
 up_owned : (a : Native) (c : Cell) (v : LogletView) (i word : ℕ) (kept : Bool) (is : View) → loglet_of a ≡ v → IsCellOf a c → i < length a.replicas → (restart c i kept).servers ≡ map server_in (set a.replicas i is)
     → IsOwned (restarted_to a i is false) × LogletStep v (CallRestart i word) (Restarted true) (loglet_of (restarted_to a i is false))
@@ -76,6 +78,7 @@ down_tied a c i was is h here there down same =
     let faults : counted (length (restart_fails c i).faults) ≡ faults_after true a.marks.faults = ap (λ (d : Cell). counted (length d.faults)) steps ∙ more ∙ ap (faults_after true) h.faults in
     let servers : (restart_fails c i).servers ≡ map server_in (set a.replicas i is) = ap (λ (d : Cell). d.servers) steps ∙ h.servers ∙ sym (set_same a.replicas i was is here (same ∙ ap server_in there)) in
     stirred_tied a (restarted_to a i is true) c (RestartFails i ∷ []) h (tt, tt) servers faults refl refl refl (all_open a c (restart_fails c i) h (run_later (RestartFails i ∷ []) c) (run_extends (RestartFails i ∷ []) c) (λ q. ap (λ (d : Cell). operation d q) steps))
+    (strays_stay a c (restart_fails c i) h (run_later (RestartFails i ∷ []) c) (run_extends (RestartFails i ∷ []) c))
 
 down_owned : (a : Native) (c : Cell) (v : LogletView) (i word : ℕ) (was is : View) → loglet_of a ≡ v → IsCellOf a c → i < length a.replicas → was ≡ get_or a.replicas i was → was.server.up ≡ false → is.server ≡ was.server
     → IsOwned (restarted_to a i is true) × LogletStep v (CallRestart i word) (Restarted false) (loglet_of (restarted_to a i is true))

@@ -31,7 +31,7 @@ use Rattle.quorum_cell.specs.Outcomes.{IsTrimmed, RestsOnCauses}
 use Rattle.quorum_cell.proofs.Conclusions.{outcome_holds, reach_stays}
 use Rattle.quorum_cell.proofs.Grounds.{outcome_rests}
 use Rattle.quorum_cell.proofs.Runs.{run_later}
-use Rattle.quorum_cell.proofs.Steps.{unsealed_within, reach_within}
+use Rattle.quorum_cell.proofs.Steps.{unsealed_within}
 use Rattle.cell_views.specs.Views.{taken, answer_of}
 use Rattle.native_loglet.proofs.Aims.{run_aim, begun_aim}
 use Rattle.native_loglet.specs.Natives.{Native, server_in, loglet_of, IsCellOf}

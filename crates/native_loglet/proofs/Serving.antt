@@ -1,5 +1,5 @@
 -- What is seen of the servers, and what a call of one of them does to it.
-use Rattle.std.proofs.Common.{◌≡◌, ℕ, zero, suc, ◌+◌, ◌<◌, ◌≤◌, Bool, true, false, cond, refl, sym, ◌∙◌, ap, subst, arith, List, [], ◌∷◌, length, get_or, set, Some, inl, inr}
+use Rattle.std.proofs.Common.{◌≡◌, ℕ, zero, suc, ◌+◌, ◌<◌, ◌≤◌, Bool, true, false, cond, refl, sym, ◌∙◌, ap, subst, arith, List, [], ◌∷◌, length, get_or, set, Option, Some, None, inl, inr}
 use Rattle.std.specs.Prelude.{◌⊎◌, ◌&&◌, ◌%◌, ◌==◌, not, nat_lt, slice_get, slice_set, if◌then◌else◌, Result, Ok, Err, OnErr}
 use Rattle.std.proofs.lemmas.Bool.{false≢true, and_parts, or_left, or_right, or_from, ltb-true, lt-ltb, false_from_ne_true}
 use Rattle.std.proofs.lemmas.Option.{none-some, same_Some}
@@ -17,7 +17,10 @@ use Rattle.log_server.specs.View.{View, Spares}
 use Rattle.log_server.specs.Answers.{Answers as ServerAnswers, Tells as TellsSo, Stops as StopsSo}
 use Rattle.native_plan.specs.declared.pending.Pending.{Pending}
 use Rattle.delos_types.specs.declared.entry.Entry.{Entry}
-use Rattle.native_loglet.specs.Natives.{state_of, state_in, states_in, down_in}
+use Rattle.native_loglet.specs.Natives.{PendingList, state_of, state_in, states_in, down_in}
+use Rattle.native_loglet.specs.declared.mail.Mail.{Mail}
+use Rattle.native_loglet.specs.declared.mail.Mail.TheVariants as mail
+use Rattle.native_loglet.specs.Copies.{ComesAgain}
 use Rattle.fate_words.specs.Words.{fate_of}
 use Rattle.native_loglet.proofs.Rules.{moves_so}
 use Rattle.fate_words.specs.declared.fates.Fate.{Fate}
@@ -288,3 +291,19 @@ asked_failed word vs i was is ask told failed kept there h f = by told h f
     by (Short n) x e = tells (Short n) x e
     by (Got b) x e = tells (Got b) x e
     by (Trimmed n) x e = tells (Trimmed n) x e
+
+---- a copy that comes again
+
+pub comes_wear : (cut : ℕ) (z : Option Mail) (old new : PendingList) (vs ws : List View) (failed : Bool) → ComesAgain cut z old new vs ws failed → Wear (states_in vs) (states_in ws)
+comes_wear cut None old new vs ws failed m = subst (λ (xs : List View). Wear (states_in vs) (states_in xs)) (sym m.servers) (wear_same (states_in vs))
+comes_wear cut (Some (mail.Asked t i x)) old new vs ws failed m = subst (λ (xs : List View). Wear (states_in vs) (states_in xs)) (sym m.servers) (wear_at vs i m.was m.is m.there (answers_wear m.was m.is x m.told m.answers))
+comes_wear cut (Some (mail.Told t i e z)) old new vs ws failed m = subst (λ (xs : List View). Wear (states_in vs) (states_in xs)) (sym m.servers) (wear_same (states_in vs))
+
+first_kept : fate_of 0 ≡ Lose → ⊥
+first_kept e = absurd (cc)
+
+-- a fault came just where one server more is down
+pub comes_failed : (cut : ℕ) (z : Option Mail) (old new : PendingList) (vs ws : List View) (failed : Bool) → ComesAgain cut z old new vs ws failed → failed ≡ nat_lt (down_in vs) (down_in ws)
+comes_failed cut None old new vs ws failed m = m.fault ∙ none_failed 0 (down_in vs) first_kept ∙ ap (λ (xs : List View). nat_lt (down_in vs) (down_in xs)) (sym m.servers)
+comes_failed cut (Some (mail.Asked t i x)) old new vs ws failed m = asked_failed 0 vs i m.was m.is x m.told failed first_kept m.there m.answers m.fault ∙ ap (λ (xs : List View). nat_lt (down_in vs) (down_in xs)) (sym m.servers)
+comes_failed cut (Some (mail.Told t i e z)) old new vs ws failed m = m.fault ∙ none_failed 0 (down_in vs) first_kept ∙ ap (λ (xs : List View). nat_lt (down_in vs) (down_in xs)) (sym m.servers)

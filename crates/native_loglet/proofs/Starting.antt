@@ -14,6 +14,7 @@ use Rattle.quorum_cell.specs.Cells.{no_server, no_operation, start}
 use Rattle.quorum_cell.proofs.Lawful.{start_lawful}
 use Rattle.log_server.specs.View.{View}
 use Rattle.native_loglet.specs.declared.marks.Marks.{Marks}
+use Rattle.native_loglet.specs.declared.mail.Mail.{Mail}
 use Rattle.native_loglet.specs.Natives.{PendingList, IsCount, IsNative, native_of, server_in, down_in, shut_in, look_in, loglet_of, IsOpenAs, IsCellOf}
 
 abbrev pub new_server : Server
@@ -42,7 +43,7 @@ long_count : (vs : List View) → length (replicate (length vs) new_server) ≡ 
 long_count [] = refl
 long_count (v ∷ vs) = ap suc (long_count vs)
 
-pub new_tied : (room : ℕ) (vs : List View) (m : PendingList) → IsCount (length vs) → All (λ (v : View). v.server ≡ new_server) vs → 1 ≤ room → room ≤ 2 ^ 32 → m ≡ [] → IsCellOf (native_of room [] vs new_marks m) (start (length vs) room (2 ^ 62))
+pub new_tied : (room : ℕ) (vs : List View) (m : PendingList) → IsCount (length vs) → All (λ (v : View). v.server ≡ new_server) vs → 1 ≤ room → room ≤ 2 ^ 32 → m ≡ [] → IsCellOf (native_of room [] vs new_marks m []) (start (length vs) room (2 ^ 62))
 new_tied room vs m count fresh least most empty = record {
   lawful = start_lawful (length vs) room (2 ^ 62) (few_count (length vs) count).0 (omega (arith, (few_count (length vs) count).1)) least most (omega arith);
   spelled = λ i e h. absurd (none-some e h);
@@ -61,6 +62,7 @@ new_tied room vs m count fresh least most empty = record {
   seals_are = refl;
   lacks_are = refl;
   operations = λ t. subst (IsOpenAs (start (length vs) room (2 ^ 62)) t) (sym (nothing t)) (none_there t);
+  strays = λ n m e. absurd (none-some m e);
 }
   where
     nothing : (t : ℕ) → look_in m t ≡ None
@@ -69,7 +71,7 @@ new_tied room vs m count fresh least most empty = record {
     none_there : (t : ℕ) → (get_or [] t no_operation).closed ≡ true
     none_there t = refl
 
-pub new_fresh : (room : ℕ) (vs : List View) (m : PendingList) → IsCount (length vs) → All (λ (v : View). v.server ≡ new_server) vs → 1 ≤ room → room ≤ 2 ^ 32 → m ≡ [] → IsFresh (loglet_of (native_of room [] vs new_marks m))
+pub new_fresh : (room : ℕ) (vs : List View) (m : PendingList) → IsCount (length vs) → All (λ (v : View). v.server ≡ new_server) vs → 1 ≤ room → room ≤ 2 ^ 32 → m ≡ [] → IsFresh (loglet_of (native_of room [] vs new_marks m []))
 new_fresh room vs m count fresh least most empty = record {
   cut = refl;
   log = refl;
@@ -106,14 +108,14 @@ new_fresh room vs m count fresh least most empty = record {
     shut_none : (ws : List View) → All (λ (v : View). v.server ≡ new_server) ws → shut_in ws ≡ false
     shut_none ws h = ap (nat_le (majority (length ws))) (none_sealed ws h) ∙ below_one (length ws / 2) (nat_le (length ws / 2 + 1) 0) refl
 
-pub new_owned : (room : ℕ) (es : List Entry) (vs : List View) (marks : Marks) (m : PendingList) → IsCount (length vs) → All (λ (v : View). v.server ≡ new_server) vs → (1 ≤ room) × (room ≤ 2 ^ 32) → es ≡ [] → marks ≡ new_marks → m ≡ [] → IsNative room es vs marks m
-new_owned room es vs marks m count fresh rooms none same empty =
-    subst (λ (xs : List Entry). IsNative room xs vs marks m) (sym none) (subst (λ (x : Marks). IsNative room [] vs x m) (sym same) (start (length vs) room (2 ^ 62), new_tied room vs m count fresh rooms.0 rooms.1 empty))
+pub new_owned : (room : ℕ) (es : List Entry) (vs : List View) (marks : Marks) (m : PendingList) (ms : List Mail) → IsCount (length vs) → All (λ (v : View). v.server ≡ new_server) vs → (1 ≤ room) × (room ≤ 2 ^ 32) → es ≡ [] → marks ≡ new_marks → m ≡ [] → ms ≡ [] → IsNative room es vs marks m ms
+new_owned room es vs marks m ms count fresh rooms none same empty kept =
+    subst (λ (ks : List Mail). IsNative room es vs marks m ks) (sym kept) (subst (λ (xs : List Entry). IsNative room xs vs marks m []) (sym none) (subst (λ (x : Marks). IsNative room [] vs x m []) (sym same) (start (length vs) room (2 ^ 62), new_tied room vs m count fresh rooms.0 rooms.1 empty)))
 
-pub new_cell : (room : ℕ) (es : List Entry) (vs : List View) (marks : Marks) (m : PendingList) → IsCount (length vs) → All (λ (v : View). v.server ≡ new_server) vs → (1 ≤ room) × (room ≤ 2 ^ 32) → es ≡ [] → marks ≡ new_marks → m ≡ [] → IsCellOf (native_of room es vs marks m) (start (length vs) room (2 ^ 62))
-new_cell room es vs marks m count fresh rooms none same empty =
-    subst (λ (xs : List Entry). IsCellOf (native_of room xs vs marks m) (start (length vs) room (2 ^ 62))) (sym none) (subst (λ (x : Marks). IsCellOf (native_of room [] vs x m) (start (length vs) room (2 ^ 62))) (sym same) (new_tied room vs m count fresh rooms.0 rooms.1 empty))
+pub new_cell : (room : ℕ) (es : List Entry) (vs : List View) (marks : Marks) (m : PendingList) (ms : List Mail) → IsCount (length vs) → All (λ (v : View). v.server ≡ new_server) vs → (1 ≤ room) × (room ≤ 2 ^ 32) → es ≡ [] → marks ≡ new_marks → m ≡ [] → ms ≡ [] → IsCellOf (native_of room es vs marks m ms) (start (length vs) room (2 ^ 62))
+new_cell room es vs marks m ms count fresh rooms none same empty kept =
+    subst (λ (ks : List Mail). IsCellOf (native_of room es vs marks m ks) (start (length vs) room (2 ^ 62))) (sym kept) (subst (λ (xs : List Entry). IsCellOf (native_of room xs vs marks m []) (start (length vs) room (2 ^ 62))) (sym none) (subst (λ (x : Marks). IsCellOf (native_of room [] vs x m []) (start (length vs) room (2 ^ 62))) (sym same) (new_tied room vs m count fresh rooms.0 rooms.1 empty)))
 
-pub new_shows : (room : ℕ) (es : List Entry) (vs : List View) (marks : Marks) (m : PendingList) → IsCount (length vs) → All (λ (v : View). v.server ≡ new_server) vs → (1 ≤ room) × (room ≤ 2 ^ 32) → es ≡ [] → marks ≡ new_marks → m ≡ [] → IsFresh (loglet_of (native_of room es vs marks m))
-new_shows room es vs marks m count fresh rooms none same empty =
-    subst (λ (xs : List Entry). IsFresh (loglet_of (native_of room xs vs marks m))) (sym none) (subst (λ (x : Marks). IsFresh (loglet_of (native_of room [] vs x m))) (sym same) (new_fresh room vs m count fresh rooms.0 rooms.1 empty))
+pub new_shows : (room : ℕ) (es : List Entry) (vs : List View) (marks : Marks) (m : PendingList) (ms : List Mail) → IsCount (length vs) → All (λ (v : View). v.server ≡ new_server) vs → (1 ≤ room) × (room ≤ 2 ^ 32) → es ≡ [] → marks ≡ new_marks → m ≡ [] → ms ≡ [] → IsFresh (loglet_of (native_of room es vs marks m ms))
+new_shows room es vs marks m ms count fresh rooms none same empty kept =
+    subst (λ (ks : List Mail). IsFresh (loglet_of (native_of room es vs marks m ks))) (sym kept) (subst (λ (xs : List Entry). IsFresh (loglet_of (native_of room xs vs marks m []))) (sym none) (subst (λ (x : Marks). IsFresh (loglet_of (native_of room [] vs x m []))) (sym same) (new_fresh room vs m count fresh rooms.0 rooms.1 empty)))

@@ -33,7 +33,10 @@ use Rattle.native_ties.proofs.Parts.{part_later}
 use Rattle.native_ties.proofs.Hearing.{put_there, put_other}
 use Rattle.native_ties.proofs.Bounds.{bounded}
 use Rattle.native_loglet.specs.declared.marks.Marks.{Marks}
-use Rattle.native_loglet.specs.Natives.{Native, server_in, shown, look_in, loglet_of, left_for, left_in, manner_of, IsOpenAs, IsCellOf}
+use Rattle.native_loglet.specs.Natives.{Native, server_in, shown, look_in, loglet_of, left_for, left_in, manner_of, IsOpenAs, IsMail, IsCellOf}
+use Rattle.native_loglet.specs.declared.mail.Mail.{Mail}
+use Rattle.native_loglet.proofs.Mails.{strays_stay, same_strays}
+use Rattle.native_loglet.proofs.Extending.{run_extends}
 use Rattle.native_loglet.proofs.Viewing.{part_shown, FitsLeft, view_is, manner_with, fits_own, manner_is}
 use Rattle.native_loglet.proofs.Stirring.{run_stirs, run_moves, run_lawful, run_spelled}
 
@@ -134,6 +137,7 @@ pub record Keeps (a b : Native) : Type 0 where
   pub faults : b.marks.faults ≡ a.marks.faults
   pub begun : b.marks.begun ≡ a.marks.begun
   pub seals_are : b.marks.seals ≡ a.marks.seals
+  pub strays : b.strays ≡ a.strays
 
 closes : (c : Cell) (t : ℕ) → (operation c t).closed ≡ false → forget c t ≡ put_operation c t (record (operation c t) { closed = true })
 closes c t h = rw h refl
@@ -157,6 +161,7 @@ forget_tied a b c t h is_open k marks u = record {
   seals_are = ap seals is ∙ count_same (λ (x : Operation). is_seal x.aim) c.operations t _ refl ∙ h.seals_are ∙ sym k.seals_are;
   lacks_are = ap lacks is ∙ count_same (λ (x : Operation). is_lack x.given) c.operations t _ refl ∙ h.lacks_are ∙ sym (ap (λ (m : Marks). m.lacks) marks);
   operations = others_open a b c (cell_step c (Forget t)) t h (step_later c (Forget t)) (record { requests = λ n q e. ap (λ (x : Cell). slice_get x.requests n) is ∙ e; replies = λ n r e. ap (λ (x : Cell). slice_get x.replies n) is ∙ e }) (λ q n. ap (λ (x : Cell). operation x q) is ∙ put_other c t q _ n) (λ q n. u.2 q (not_at t q n)) here;
+  strays = same_strays a.strays b.strays (IsMail (cell_step c (Forget t))) k.strays (strays_stay a c (cell_step c (Forget t)) h (step_later c (Forget t)) (run_extends (Forget t ∷ []) c));
 }
   where
     is : cell_step c (Forget t) ≡ put_operation c t (record (operation c t) { closed = true })
@@ -188,8 +193,8 @@ pub record GoesOn (a b : Native) (c : Cell) (t : ℕ) (p q : Pending) (Are : Lis
 
 -- what only steps that are nobody's call changed is a cell's still
 pub stirred_tied : (a b : Native) (c : Cell) (steps : List CellStep) → IsCellOf a c → AreStrays steps → (run_cell steps c).servers ≡ map server_in b.replicas → counted (length (run_cell steps c).faults) ≡ b.marks.faults
-    → b.room ≡ a.room → b.entries ≡ a.entries → b.marks ≡ record a.marks { faults = b.marks.faults } → ((t : ℕ) → IsOpenAs (run_cell steps c) t (look_in b.pending t)) → IsCellOf b (run_cell steps c)
-stirred_tied a b c steps h strays servers faults room entries marks operations = record {
+    → b.room ≡ a.room → b.entries ≡ a.entries → b.marks ≡ record a.marks { faults = b.marks.faults } → ((t : ℕ) → IsOpenAs (run_cell steps c) t (look_in b.pending t)) → ((n : ℕ) (m : Mail) → slice_get b.strays n ≡ Some m → IsMail (run_cell steps c) m) → IsCellOf b (run_cell steps c)
+stirred_tied a b c steps h strays servers faults room entries marks operations mails = record {
   lawful = run_lawful steps c h.lawful;
   spelled = run_spelled steps c strays h.spelled;
   odd = (h.odd.0, s.servers ∙ h.odd.1);
@@ -207,6 +212,7 @@ stirred_tied a b c steps h strays servers faults room entries marks operations =
   seals_are = s.seals ∙ h.seals_are ∙ sym (ap (λ (m : Marks). m.seals) marks);
   lacks_are = s.lacks ∙ h.lacks_are ∙ sym (ap (λ (m : Marks). m.lacks) marks);
   operations = operations;
+  strays = mails;
 }
   where
     s : Stirs (manner_of a).left (manner_of a).left c (run_cell steps c)
@@ -220,8 +226,8 @@ all_open a c d h later extends same q = by (look_in a.pending q) (h.operations q
     by None o = ap (λ (x : Operation). x.closed) (same q) ∙ o
     by (Some p) o = part_later c d q p later extends (same q) o
 
-pub carry_tied : (a b : Native) (c : Cell) (t : ℕ) (p q : Pending) (Are : List CellStep → Type 0) → IsCellOf a c → (g : GoesOn a b c t p q Are) → b.room ≡ a.room → b.entries ≡ a.entries → b.marks ≡ record a.marks { faults = b.marks.faults } → look_in b.pending t ≡ Some q → ((k : ℕ) → (k ≡ t → ⊥) → look_in b.pending k ≡ look_in a.pending k) → IsCellOf b (run_cell g.steps c)
-carry_tied a b c t p q Are h g room entries marks is kept = stirred_tied a b c g.steps h g.strays g.servers g.faults room entries marks (others_open a b c (run_cell g.steps c) t h (run_later g.steps c) g.extends g.others kept (subst (IsOpenAs (run_cell g.steps c) t) (sym is) g.part))
+pub carry_tied : (a b : Native) (c : Cell) (t : ℕ) (p q : Pending) (Are : List CellStep → Type 0) → IsCellOf a c → (g : GoesOn a b c t p q Are) → b.room ≡ a.room → b.entries ≡ a.entries → b.marks ≡ record a.marks { faults = b.marks.faults } → look_in b.pending t ≡ Some q → ((k : ℕ) → (k ≡ t → ⊥) → look_in b.pending k ≡ look_in a.pending k) → ((n : ℕ) (m : Mail) → slice_get b.strays n ≡ Some m → IsMail (run_cell g.steps c) m) → IsCellOf b (run_cell g.steps c)
+carry_tied a b c t p q Are h g room entries marks is kept mails = stirred_tied a b c g.steps h g.strays g.servers g.faults room entries marks (others_open a b c (run_cell g.steps c) t h (run_later g.steps c) g.extends g.others kept (subst (IsOpenAs (run_cell g.steps c) t) (sym is) g.part)) mails
 
 -- no more is left of any
 nearer_in : (z y : Option Pending) (p q : Pending) → z ≡ Some p → y ≡ Some q → p.outcome ≡ None → 0 < (plan_left p).1 → IsBelow (left_now q) (left_now p) → IsAtMost (left_in y) (left_in z)
@@ -243,9 +249,9 @@ nearer_in z y p q e f waiting some less = rw (e, f) (by q.outcome refl)
     by (Some o) x = rw (x, waiting) (least (plan_left p) some)
 
 pub carries : (a b : Native) (c : Cell) (v : LogletView) (t word : ℕ) (p q : Pending) (Are : List CellStep → Type 0) → loglet_of a ≡ v → IsCellOf a c → CanCall v (CallCarry t word) → (g : GoesOn a b c t p q Are) → b.room ≡ a.room → b.entries ≡ a.entries → length b.replicas ≡ length a.replicas → b.marks ≡ record a.marks { faults = b.marks.faults }
-    → look_in a.pending t ≡ Some p → p.outcome ≡ None → look_in b.pending t ≡ Some q → ((k : ℕ) → (k ≡ t → ⊥) → look_in b.pending k ≡ look_in a.pending k) → IsCellOf b (run_cell g.steps c) × LogletStep v (CallCarry t word) Carried (loglet_of b)
-carries a b c v t word p q Are e h can g room entries many marks was waiting is kept =
-    let tied : IsCellOf b (run_cell g.steps c) = carry_tied a b c t p q Are h g room entries marks is kept in
+    → look_in a.pending t ≡ Some p → p.outcome ≡ None → look_in b.pending t ≡ Some q → ((k : ℕ) → (k ≡ t → ⊥) → look_in b.pending k ≡ look_in a.pending k) → ((n : ℕ) (m : Mail) → slice_get b.strays n ≡ Some m → IsMail (run_cell g.steps c) m) → IsCellOf b (run_cell g.steps c) × LogletStep v (CallCarry t word) Carried (loglet_of b)
+carries a b c v t word p q Are e h can g room entries many marks was waiting is kept mails =
+    let tied : IsCellOf b (run_cell g.steps c) = carry_tied a b c t p q Are h g room entries marks is kept mails in
     let small : length c.entries ≤ 2 ^ 32 = omega (arith, h.lawful.law.quorum.fits, h.lawful.shape.room.1) in
     let bound : IsBounded (length c.servers) p = bounded c t p (open_there a c t (Some p) was h) waiting small in
     let moved : Moves (cell_view (manner_of a) c) (cell_view (record (manner_of a) { left = (manner_of b).left }) (run_cell g.steps c)) = run_moves (manner_of a) (manner_of b).left g.steps c g.strays (near bound.some) in

@@ -44,6 +44,7 @@ use Rattle.native_loglet.specs.Steps.{Reaches}
 use Rattle.native_loglet.specs.Natives.{Native, PendingList, shown, look_in, loglet_of, manner_of, IsOpenAs, IsCellOf}
 use Rattle.native_loglet.specs.Closing.{TakesOut, Waits, answer_by, is_cut, answer_for}
 use Rattle.native_loglet.proofs.Viewing.{fits_own, manner_is}
+use Rattle.native_loglet.proofs.Mails.{strays_stay}
 use Rattle.native_loglet.proofs.Extending.{run_extends}
 use Rattle.native_loglet.proofs.Stepping.{tied_sound, call_of, open_is, open_there, seen_is, not_at, kept_left, others_open}
 use Rattle.native_loglet.proofs.Alike.{IsOwned, Alike, alike_tied, step_alike}
@@ -179,6 +180,7 @@ module _ (a : Native) (n : PendingList) (c : Cell) (t : ℕ) (p : Pending) (x : 
     seals_are = ap seals is ∙ count_same (λ (o : Operation). is_seal o.aim) c.operations t (given_to c t x) refl ∙ h.seals_are;
     lacks_are = ap lacks is ∙ lacks_is;
     operations = others_open a (taken_to a n y size) c (cell_step c (Take t)) t h (step_later c (Take t)) (run_extends (Take t ∷ []) c) (λ q other. ap (λ (d : Cell). operation d q) is ∙ put_other c t q (given_to c t x) other) (λ q other. u.2 q (not_at t q other)) here;
+    strays = strays_stay a c (cell_step c (Take t)) h (step_later c (Take t)) (run_extends (Take t ∷ []) c);
   }
 
 tells_of : (a : Native) (c : Cell) (t : ℕ) (p : Pending) (x : Outcome) → IsCellOf a c → IsPartOf c t p → p.outcome ≡ Some x → Tells (manner_of a) c t (operation c t).aim x (given_outcome c.cut (operation c t).aim x)

@@ -20,6 +20,8 @@ use Rattle.native_loglet.specs.declared.closing.Decided.{Decided}
 use Rattle.native_loglet.specs.Faults.{faults_after}
 use Rattle.native_loglet.specs.Natives.{Native, PendingList, look_in, loglet_of}
 use Rattle.native_loglet.specs.Moving.{BeginsOn, CarriesAt}
+use Rattle.native_loglet.specs.declared.mail.Mail.{Mail}
+use Rattle.native_loglet.specs.Copies.{copy_in, kept_after}
 use Rattle.native_loglet.specs.Closing.{TakesOut, answer_for}
 use Rattle.native_loglet.proofs.Alike.{IsOwned}
 use Rattle.native_loglet.proofs.Restarting.{restarts_owned}
@@ -35,10 +37,10 @@ pub takes_whole : (a : Native) (n : PendingList) (marks : Marks) (v : LogletView
     → marks ≡ record a.marks { reach = max a.marks.reach (told_reach size y); firm = max a.marks.firm (told_firm size y); cap = told_cap y a.marks.cap; lacks = a.marks.lacks + told_lacks y } → LedTo v (CallTake t) (Taken (Some y)) (record a { pending = n; marks = marks })
 takes_whole a n marks v t d y size e h can o answers sized is = subst (λ (x : Marks). LedTo v (CallTake t) (Taken (Some y)) (record a { pending = n; marks = x })) (sym is) (takes_owned a n v t d y size e h can o answers sized)
 
-pub carries_whole : (a : Native) (ws : List View) (n : PendingList) (marks : Marks) (v : LogletView) (t word : ℕ) (failed : Bool) → loglet_of a ≡ v → IsOwned a → CanCall v (CallCarry t word)
-    → ((p : Pending) → look_in a.pending t ≡ Some p → CarriesAt a.entries a.marks.cut t word p a.pending n a.replicas ws failed) → marks ≡ record a.marks { faults = faults_after failed a.marks.faults }
-    → LedTo v (CallCarry t word) Carried (record a { replicas = ws; pending = n; marks = marks })
-carries_whole a ws n marks v t word failed e h can moved is = subst (λ (x : Marks). LedTo v (CallCarry t word) Carried (record a { replicas = ws; pending = n; marks = x })) (sym is) (carries_owned a ws n v t word failed e h can moved)
+pub carries_whole : (a : Native) (ws : List View) (n : PendingList) (ms : List Mail) (marks : Marks) (v : LogletView) (t word : ℕ) (failed : Bool) → loglet_of a ≡ v → IsOwned a → CanCall v (CallCarry t word)
+    → ((p : Pending) → look_in a.pending t ≡ Some p → CarriesAt a.entries a.marks.cut t word p a.pending n a.replicas ws failed) → ms ≡ kept_after (copy_in a t word) a.strays → marks ≡ record a.marks { faults = faults_after failed a.marks.faults }
+    → LedTo v (CallCarry t word) Carried (record a { replicas = ws; pending = n; strays = ms; marks = marks })
+carries_whole a ws n ms marks v t word failed e h can moved kept is = subst (λ (x : Marks). LedTo v (CallCarry t word) Carried (record a { replicas = ws; pending = n; strays = ms; marks = x })) (sym is) (carries_owned a ws n ms v t word failed e h can moved kept)
 
 pub restarts_whole : (a : Native) (marks : Marks) (v : LogletView) (i word : ℕ) (was is : View) (up : Bool) → loglet_of a ≡ v → IsOwned a → i < length a.replicas → was ≡ get_or a.replicas i was
     → (was.server.up ≡ true → (up ≡ true) × (is ≡ was)) → (up ≡ true → (kept : Bool) × (is.server ≡ restarted was.server kept was.server.torn)) → (up ≡ false → is.server ≡ was.server)

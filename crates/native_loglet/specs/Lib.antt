@@ -1,5 +1,6 @@
 pub mod Natives
 pub mod Moving
+pub mod Copies
 pub mod Closing
 pub mod Opening
 pub mod Faults

@@ -1,5 +1,5 @@
 -- What a native loglet shows, and what ties it to the quorum cell that it is.
-use Rattle.std.specs.Prelude.{◌≡◌, ◌⊎◌, ℕ, zero, suc, ◌+◌, ◌*◌, ◌^◌, ◌≤◌, nat_eq, nat_le, nat_lt, not, ◌&&◌, Bool, true, false, cond, List, [], ◌∷◌, map, drop, length, count_by, Option, None, Some}
+use Rattle.std.specs.Prelude.{◌≡◌, ◌⊎◌, ℕ, zero, suc, ◌+◌, ◌*◌, ◌^◌, ◌<◌, ◌≤◌, nat_eq, nat_le, nat_lt, not, ◌&&◌, Bool, true, false, cond, List, [], ◌∷◌, map, drop, length, count_by, slice_get, Option, None, Some}
 use Rattle.std.specs.Map.{lookup, KeepsOthers}
 use Rattle.delos_types.specs.declared.entry.Entry.{Entry}
 use Rattle.loglet_api.specs.declared.call.Kind.TheVariants.{Native as NativeKind}
@@ -15,7 +15,10 @@ use Rattle.log_server.specs.View.{View}
 use Rattle.native_plan.specs.declared.pending.Pending.{Pending}
 use Rattle.native_plan.specs.Pendings.{plan_left, left_now}
 use Rattle.native_ties.specs.Parts.{IsPartOf}
+use Rattle.native_ties.specs.Strays.{IsRequest, IsReply}
 use Rattle.native_loglet.specs.declared.marks.Marks.{Marks}
+use Rattle.native_loglet.specs.declared.mail.Mail.{Mail}
+use Rattle.native_loglet.specs.declared.mail.Mail.TheVariants as mail
 
 -- how many servers there may be
 abbrev pub IsCount : ℕ → Type 0
@@ -32,9 +35,11 @@ pub record Native : Type 0 where
   pub replicas : List View
   pub marks : Marks
   pub pending : PendingList
+  -- the copies of messages that came, which may come again
+  pub strays : List Mail
 
-abbrev pub native_of : ℕ → List Entry → List View → Marks → PendingList → Native
-native_of room entries replicas marks pending = record { room = room; entries = entries; replicas = replicas; marks = marks; pending = pending }
+abbrev pub native_of : ℕ → List Entry → List View → Marks → PendingList → List Mail → Native
+native_of room entries replicas marks pending strays = record { room = room; entries = entries; replicas = replicas; marks = marks; pending = pending; strays = strays }
 
 abbrev pub server_in : View → Server
 server_in v = v.server
@@ -98,8 +103,8 @@ pub record NativeView : Type 0 where
   pub told : ℕ
   pub parts : Native
 
-abbrev pub native_view : ℕ → List Entry → List View → Marks → PendingList → ℕ → NativeView
-native_view room entries replicas marks pending told = record { loglet = loglet_of (native_of room entries replicas marks pending); replicas = replicas; told = told; parts = native_of room entries replicas marks pending }
+abbrev pub native_view : ℕ → List Entry → List View → Marks → PendingList → List Mail → ℕ → NativeView
+native_view room entries replicas marks pending strays told = record { loglet = loglet_of (native_of room entries replicas marks pending strays); replicas = replicas; told = told; parts = native_of room entries replicas marks pending strays }
 
 ---- what is seen of its servers
 
@@ -135,6 +140,11 @@ abbrev pub IsOpenAs : Cell → ℕ → Option Pending → Type 0
 IsOpenAs c t None = (operation c t).closed ≡ true
 IsOpenAs c t (Some p) = IsPartOf c t p
 
+-- a copy is a message of the cell, by number, to or from one of its servers
+abbrev pub IsMail : Cell → Mail → Type 0
+IsMail c (mail.Asked t i a) = (k : ℕ) × IsRequest c k t i a × (i < length c.servers)
+IsMail c (mail.Told t i e z) = (k : ℕ) × IsReply c k t i e z × (i < length c.servers)
+
 pub record IsCellOf (a : Native) (c : Cell) : Type 0 where
   pub lawful : IsLawful c
   pub spelled : IsSpelled c
@@ -153,7 +163,8 @@ pub record IsCellOf (a : Native) (c : Cell) : Type 0 where
   pub seals_are : seals c ≡ a.marks.seals
   pub lacks_are : lacks c ≡ a.marks.lacks
   pub operations : (t : ℕ) → IsOpenAs c t (look_in a.pending t)
+  pub strays : (n : ℕ) (m : Mail) → slice_get a.strays n ≡ Some m → IsMail c m
 
 -- there is a cell of which it is the code
-abbrev pub IsNative : ℕ → List Entry → List View → Marks → PendingList → Type 0
-IsNative room entries replicas marks pending = (c : Cell) × IsCellOf (native_of room entries replicas marks pending) c
+abbrev pub IsNative : ℕ → List Entry → List View → Marks → PendingList → List Mail → Type 0
+IsNative room entries replicas marks pending strays = (c : Cell) × IsCellOf (native_of room entries replicas marks pending strays) c

@@ -1,5 +1,5 @@
 -- The steps that each call takes in the cell that the loglet is.
-use Rattle.std.specs.Prelude.{◌≡◌, ◌⊎◌, ℕ, Bool, false, List, [], ◌∷◌, get_or, Option, Some, None}
+use Rattle.std.specs.Prelude.{◌≡◌, ◌⊎◌, ◌%◌, ℕ, Bool, false, List, [], ◌∷◌, length, get_or, slice_get, Option, Some, None}
 use Rattle.fate_words.specs.declared.fates.Fate.{Fate}
 use Rattle.fate_words.specs.declared.fates.Fate.TheVariants.{Lose}
 use Rattle.fate_words.specs.Words.{fate_of}
@@ -15,7 +15,7 @@ use Rattle.loglet_api.specs.Step.{LogletStep}
 use Rattle.quorum_cell.specs.declared.operation.Aim.{Aim}
 use Rattle.quorum_cell.specs.declared.operation.Aim.TheVariants as aims
 use Rattle.quorum_cell.specs.declared.operation.CellStep.{CellStep}
-use Rattle.quorum_cell.specs.declared.operation.CellStep.TheVariants.{Begin, Take, Forget, Restart, RestartFails}
+use Rattle.quorum_cell.specs.declared.operation.CellStep.TheVariants.{Begin, RequestComes, RequestStops, Take, Forget, Restart, RestartFails}
 use Rattle.quorum_cell.specs.Cells.{Cell, operation}
 use Rattle.quorum_cell.specs.Steps.{run_cell}
 use Rattle.cell_views.specs.Views.{taken}
@@ -26,7 +26,11 @@ use Rattle.native_plan.specs.declared.message.Message.TheVariants.{Asked, Told a
 use Rattle.native_plan.specs.Members.{no_member}
 use Rattle.native_ties.specs.Steps.{IsLoss, IsRequest, IsStop, IsAnswer}
 use Rattle.native_loglet.specs.Natives.{Native, PendingList, look_in, loglet_of, IsCellOf}
+use Rattle.native_ties.specs.Strays.{IsRequest as IsRequestOf, IsReply, HearsBy}
+use Rattle.native_loglet.specs.declared.mail.Mail.{Mail}
+use Rattle.native_loglet.specs.declared.mail.Mail.TheVariants as mail
 use Rattle.native_loglet.specs.Moving.{picked_by}
+use Rattle.native_loglet.specs.Copies.{hears_of}
 
 ---- a carry
 
@@ -48,6 +52,20 @@ pub record IsCarry (pending : PendingList) (c : Cell) (t word : ℕ) (steps : Li
   pub server : ℕ
   pub picked : server ≡ picked_by word p
   pub moves : FatedBy (fate_of word) c t server (get_or p.members.items server no_member) steps
+
+---- a stray
+
+-- the answer to a copy of a request is the cell's last reply then
+pub record AsksAgain (z : Option Pending) (c : Cell) (t i k : ℕ) (steps : List CellStep) : Type 0 where
+  pub hearing : List CellStep
+  pub hears : HearsBy (hears_of z i) t (length c.replies) hearing
+  pub takes : (steps ≡ RequestComes k ∷ hearing) ⊎ (steps ≡ RequestStops k ∷ hearing)
+
+-- a copy comes: of a request to its server, which answers or stops inside the write; then the answer, or the copy of one, to the operation that hears it
+abbrev pub ComesAgainBy : PendingList → Cell → Option Mail → List CellStep → Type 0
+ComesAgainBy pending c None steps = steps ≡ []
+ComesAgainBy pending c (Some (mail.Asked t i a)) steps = (k : ℕ) × IsRequestOf c k t i a × AsksAgain (look_in pending t) c t i k steps
+ComesAgainBy pending c (Some (mail.Told t i e told)) steps = (k : ℕ) × IsReply c k t i e told × HearsBy (hears_of (look_in pending t) i) t k steps
 
 ---- each call
 
@@ -84,19 +102,25 @@ RestartSteps i (Refusal Memory) steps = steps ≡ []
 RestartSteps i (Restarted false) steps = steps ≡ RestartFails i ∷ []
 RestartSteps i answer steps = (kept : Bool) × (steps ≡ Restart i kept ∷ [])
 
--- what is left, a stop that is only armed and a stray take no step
-abbrev pub StepsOf : PendingList → Cell → LogletCall → LogletAnswer → List CellStep → Type 0
-StepsOf pending c (calls.Begin op) answer steps = BeginSteps op answer steps
-StepsOf pending c (calls.Carry t word) answer steps = CarrySteps pending c t word answer steps
-StepsOf pending c (calls.Take t) answer steps = TakeSteps c t answer steps
-StepsOf pending c (calls.Forget t) answer steps = steps ≡ Forget t ∷ []
-StepsOf pending c (calls.Restart i word) answer steps = RestartSteps i answer steps
-StepsOf pending c call answer steps = steps ≡ []
+-- the copy whose number is the word modulo their number comes again
+abbrev pub StraySteps : Native → Cell → ℕ → LogletAnswer → List CellStep → Type 0
+StraySteps a c word (Refusal Memory) steps = steps ≡ []
+StraySteps a c word answer steps = ComesAgainBy a.pending c (slice_get a.strays (word % length a.strays)) steps
+
+-- what is left, and a stop that is only armed, take no step
+abbrev pub StepsOf : Native → Cell → LogletCall → LogletAnswer → List CellStep → Type 0
+StepsOf a c (calls.Begin op) answer steps = BeginSteps op answer steps
+StepsOf a c (calls.Carry t word) answer steps = CarrySteps a.pending c t word answer steps
+StepsOf a c (calls.Take t) answer steps = TakeSteps c t answer steps
+StepsOf a c (calls.Forget t) answer steps = steps ≡ Forget t ∷ []
+StepsOf a c (calls.Stray word) answer steps = StraySteps a c word answer steps
+StepsOf a c (calls.Restart i word) answer steps = RestartSteps i answer steps
+StepsOf a c call answer steps = steps ≡ []
 
 -- the loglet is afterwards the cell before it, gone on by the steps of the call
 pub record Reaches (before : Native) (c : Cell) (call : LogletCall) (answer : LogletAnswer) (after : Native) : Type 0 where
   pub steps : List CellStep
-  pub are : StepsOf before.pending c call answer steps
+  pub are : StepsOf before c call answer steps
   pub cell : IsCellOf after (run_cell steps c)
 
 -- a call of a native loglet: a step of a loglet, and in each cell that the loglet may be these steps

@@ -97,7 +97,7 @@ fn ask<D: Disk>(
 }
 
 /// Whether it tells that the server's disk failed.
-fn is_fault(told: &Told) -> bool
+pub fn is_fault(told: &Told) -> bool
     ensures { FailsAs told.now result }
 {
     matches!(told, Told::DiskFault)

@@ -3,6 +3,9 @@
 //! - `loglet`: the loglet: the sequencer and its servers.
 //! - `replica`: one of its servers.
 //! - `carrying`: how an open operation goes on by one message.
+//! - `mail`: messages of which copies are kept.
+//! - `copying`: which copy stays behind of a message that moves.
+//! - `straying`: what a copy does that comes again.
 //! - `opening`: how an operation begins.
 //! - `closing`: how an operation is taken, and what it is answered.
 //! - `marks`: what the loglet has told and counted.
@@ -12,9 +15,12 @@
 
 pub mod carrying;
 pub mod closing;
+pub mod copying;
 pub mod laws;
 pub mod loglet;
+pub mod mail;
 pub mod marks;
 pub mod memory;
 pub mod opening;
 pub mod replica;
+pub mod straying;

@@ -1,5 +1,5 @@
 //! A loglet of several servers.
-ghost use Rattle.std.specs.Prelude.{◌≡◌, ◌≢◌, ℕ, ◌<◌, ◌≤◌, ◌^◌, ◌⊎◌, ◌↔◌, IsTrue, true, All, Some, length, slice_get, nat_eq, map, not, IfOk, OnOk, OnErr};
+ghost use Rattle.std.specs.Prelude.{◌≡◌, ◌≢◌, ℕ, ◌<◌, ◌≤◌, ◌^◌, ◌⊎◌, ◌↔◌, IsTrue, true, nat_lt, [], All, Some, length, slice_get, nat_eq, map, not, IfOk, OnOk, OnErr};
 ghost use Rattle.std.specs.HashMap.{IsUnchanged};
 ghost use Rattle.delos_types.specs.Spelling.{IsSpellable};
 ghost use Rattle.delos_types.specs.declared.entry.Entry as entries_of;
@@ -15,17 +15,22 @@ ghost use Rattle.native_loglet.specs.Steps.{NativeStep};
 ghost use Rattle.native_loglet.specs.Disks.{KeepDisks};
 ghost use Rattle.native_loglet.specs.Faults.{faults_after, is_failed};
 ghost use Rattle.native_loglet.specs.Moving.{CanMove, CarriesAt};
+ghost use Rattle.native_loglet.specs.Copies.{copy_of, copy_in, kept_after};
 
 use crate::carrying::carry_one;
 use crate::closing::{answer, take_decided};
+use crate::copying::{copy_at, keep, take_back};
+use crate::mail::Mail;
 use crate::marks::Marks;
 use crate::opening::{add, begin_on, down};
 use crate::replica::Replica;
+use crate::straying::stray_at;
 use delos_types::entry::Entry;
 use delos_types::numbers::Ticket;
 use disk_model::Disk;
 use loglet_api::call::{Answer, Kind, LogletAnswer, LogletCall, Op, Refused};
 use loglet_api::loglet::Loglet;
+use native_bag::bag::Bag;
 use native_plan::pending::Pending;
 use std::alloc::{AllocError, Global};
 use std::collections::HashMap;
@@ -56,6 +61,8 @@ pub struct NativeLoglet<D: Disk> {
     marks: Marks,
     /// The open operations, by ticket.
     pending: HashMap<u64, Pending>,
+    /// Copies of messages that came, which may come again.
+    strays: Bag<Mail>,
     /// The word or count of the last carry, stray, stop or restart that wasn't refused.
     told: u64,
 }
@@ -65,9 +72,9 @@ impl<D: Disk> Model for NativeLoglet<D> {
 
     ghost Value = { NativeView };
 
-    ghost view = { λ a. native_view a.room a.entries.items a.replicas.items a.marks a.pending.entries a.told };
+    ghost view = { λ a. native_view a.room a.entries.items a.replicas.items a.marks a.pending.entries a.strays.strays a.told };
 
-    ghost invariant = { λ a. IsNative a.room a.entries.items a.replicas.items a.marks a.pending.entries };
+    ghost invariant = { λ a. IsNative a.room a.entries.items a.replicas.items a.marks a.pending.entries a.strays.strays };
 }
 
 impl<D: Disk> NativeLoglet<D> {
@@ -87,12 +94,14 @@ impl<D: Disk> NativeLoglet<D> {
         ensures limit { result.loglet.limit ≡ 2 ^ 62 }
         ensures replicas { result.replicas ≡ replicas.items }
         ensures told { result.told ≡ 0 }
+        ensures strays { result.parts.strays ≡ [] }
         ensures quorum { result.loglet.quorum ≡ majority (length replicas.items) }
         ensures shown { result.loglet ≡ loglet_of result.parts }
 
         // It is the cell at its start: so many empty servers that are up.
         ensures cell { IsCellOf result.parts (start (length replicas.items) room (2 ^ 62)) }
     {
+        let strays = Bag::new(alloc, replicas.len() as u32);
         NativeLoglet {
             alloc,
             room,
@@ -100,6 +109,7 @@ impl<D: Disk> NativeLoglet<D> {
             replicas,
             marks: Marks::new(),
             pending: HashMap::new(alloc),
+            strays,
             told: 0,
         }
     }
@@ -176,10 +186,15 @@ impl<D: Disk> Loglet for NativeLoglet<D> {
         // One message of this operation moves in its cell: the one that the word picks, and by the fate that the word says.
         ensures goes { NativeStep self.old.parts (LogletCall.Carry ticket word) (carry_answer result) self.new.parts }
 
+        // A copy stays behind of the message that moved, just where the word says so and fewer than 64 are kept.
+        ensures keeps { OnOk result (self.new.parts.strays ≡ kept_after (copy_in self.old.parts ticket word) self.old.parts.strays) }
+        ensures spares { OnErr result (self.new.parts.strays ≡ self.old.parts.strays) }
+
         // A crash leaves of each disk that it touched what its server is.
         ensures disks { KeepDisks self.old.replicas self.new.replicas }
     {
-        let Ok(failed) = carry_at(
+        let Ok(failed) = carry_keeping(
+            &mut self.strays,
             &mut self.pending,
             &mut self.replicas,
             &self.entries,
@@ -232,10 +247,29 @@ impl<D: Disk> Loglet for NativeLoglet<D> {
         ensures step { LogletStep self.old.loglet (LogletCall.Stray word) (stray_answer result) self.new.loglet }
         ensures serves { Serves (serving_of self.old) (LogletCall.Stray word) (stray_answer result) (serving_of self.new) }
 
-        // No message comes twice.
-        ensures idle { self.new ≡ record self.old { told = word } }
+        // The copy whose number is the word modulo their number comes again in its cell: a request to its server, and
+        // the answer to the operation that hears it. Where there is no copy, nothing does.
         ensures goes { NativeStep self.old.parts (LogletCall.Stray word) (stray_answer result) self.new.parts }
+
+        // A fault is counted where the disk of the server failed, and else none.
+        ensures counts { OnOk result (self.new.loglet.faults ≡ faults_after (nat_lt self.old.loglet.down self.new.loglet.down) self.old.loglet.faults) }
+
+        // All copies stay.
+        ensures keeps { self.new.parts.strays ≡ self.old.parts.strays }
+
+        // A crash leaves of each disk that it touched what its server is.
+        ensures disks { KeepDisks self.old.replicas self.new.replicas }
     {
+        let Ok(fault) = stray_at(
+            &self.strays,
+            &mut self.pending,
+            &mut self.replicas,
+            self.marks.cut,
+            word,
+        ) else {
+            return Err(Refused::Memory);
+        };
+        self.marks = self.marks.after(fault);
         self.told = word;
         Ok(())
     }
@@ -289,6 +323,42 @@ fn is_full(op: &Op, size: u64, room: u64, begun: u64) -> bool
     ensures { IsTrue result ↔ ((IsAppend op.now × (size ≡ room)) ⊎ (begun ≡ LIMIT)) }
 {
     begun == LIMIT || (size == room && op.is_append())
+}
+
+/// Moves one message of the operation of a ticket, and keeps a copy of it where the word says so. Room for the copy
+/// is made before anything moves. True where a fault came.
+fn carry_keeping<D: Disk>(
+    strays: &mut Bag<Mail>,
+    pending: &mut HashMap<u64, Pending>,
+    replicas: &mut [Replica<D>],
+    entries: &[Entry],
+    cut: u64,
+    number: u64,
+    word: u64,
+) -> Result<bool, AllocError>
+    requires can { (p : pendings.Pending) → look_in pending.old.entries number ≡ Some p → CanMove entries.now cut (length replicas.old) p }
+    requires spelled { (i : ℕ) (e : entries_of.Entry) → slice_get entries.now i ≡ Some e → IsSpellable e }
+    requires small { length entries.now ≤ 2 ^ 32 }
+    requires cut { cut ≤ 2 ^ 32 }
+    ensures carries { (p : pendings.Pending) → look_in pending.old.entries number ≡ Some p → IfOk result (CarriesAt entries.now cut number word p pending.old.entries pending.new.entries replicas.old replicas.new) }
+    ensures pending { OnErr result ((t : ℕ) → look_in pending.new.entries t ≡ look_in pending.old.entries t) }
+    ensures memory { OnErr result (map server_in replicas.new ≡ map server_in replicas.old) }
+    ensures wear { IfOk result (λ _. Wear (states_in replicas.old) (states_in replicas.new)) }
+    ensures spared { OnErr result (states_in replicas.new ≡ states_in replicas.old) }
+    ensures disks { KeepDisks replicas.old replicas.new }
+    ensures failed { (p : pendings.Pending) → look_in pending.old.entries number ≡ Some p → IfOk result (λ failed. failed ≡ is_failed word (down_in replicas.old) (down_in replicas.new)) }
+    ensures keeps { IfOk result (λ _. strays.new.strays ≡ kept_after (copy_of entries.now cut number word (length strays.old.strays) (look_in pending.old.entries number)) strays.old.strays) }
+    ensures strays_stay { OnErr result (strays.new.strays ≡ strays.old.strays) }
+{
+    let copy = copy_at(pending, entries, cut, number, word, strays.copies())?;
+    let kept = keep(strays, copy)?;
+    match carry_at(pending, replicas, entries, cut, number, word) {
+        Ok(failed) => Ok(failed),
+        Err(fault) => {
+            take_back(strays, kept);
+            Err(fault)
+        }
+    }
 }
 
 /// Moves one message of the operation of a ticket. True where a fault came.

@@ -9,13 +9,14 @@ ghost use Rattle.loglet_api.specs.Servers.{IsArmed, RestartsTo};
 ghost use Rattle.log_server.specs.Answers.{Answers};
 ghost use Rattle.native_ties.specs.Parts.{asked_by};
 ghost use Rattle.native_loglet.specs.Natives.{state_in};
+ghost use Rattle.native_loglet.specs.Copies.{CanAsk};
 ghost use Rattle.native_loglet.specs.Telling.{seal_told_by, length_told_by};
 
 use delos_types::entry::Entry;
 use disk_model::Disk;
 use log_server::LogServer;
 use native_plan::message::Errand;
-use quorum_cell::message::Told;
+use quorum_cell::message::{Ask, Told};
 use std::alloc::AllocError;
 use std::marker::Model;
 
@@ -82,6 +83,21 @@ impl<D: Disk> Replica<D> {
         ensures survives { Survives self.new }
     {
         let told = send(&mut self.server, errand, entries, cut)?;
+        self.sealed = is_sealed_now(&self.server, self.sealed);
+        Ok(told)
+    }
+
+    /// It is asked this by a copy of a request, with the entry or the position that it was asked.
+    ///
+    /// Cost: that of the call of its server.
+    pub fn ask_again(&mut self, ask: &Ask) -> Result<Told, AllocError>
+        requires can { CanAsk ask.now }
+        ensures answers { IfOk result (λ told. Answers self.old ask.now told self.new) }
+        ensures memory { OnErr result (self.new.server ≡ self.old.server) }
+        ensures spared { OnErr result (state_in self.new ≡ state_in self.old) }
+        ensures survives { Survives self.new }
+    {
+        let told = send_again(&mut self.server, ask)?;
         self.sealed = is_sealed_now(&self.server, self.sealed);
         Ok(told)
     }
@@ -167,5 +183,23 @@ fn send<D: Disk>(
         Errand::Repair(place) => server.repair(place, &entries[place as usize]),
         Errand::Read(place) => server.read(place),
         Errand::Trim => server.trim(cut),
+    }
+}
+
+/// Asks a server this.
+fn send_again<D: Disk>(server: &mut LogServer<D>, ask: &Ask) -> Result<Told, AllocError>
+    requires can { CanAsk ask.now }
+    ensures answers { IfOk result (λ told. Answers server.old ask.now told server.new) }
+    ensures memory { OnErr result (server.new.server ≡ server.old.server) }
+    ensures spared { OnErr result (Spares server.old.disk server.new.disk) }
+    ensures survives { Survives server.new }
+{
+    match ask {
+        Ask::Store(place, entry) => server.store(*place, entry),
+        Ask::Seal => server.seal(),
+        Ask::Tail => Ok(server.tail()),
+        Ask::Repair(place, entry) => server.repair(*place, entry),
+        Ask::Read(place) => server.read(*place),
+        Ask::Trim(place) => server.trim(*place),
     }
 }

@@ -19,13 +19,15 @@ use Rattle.quorum_cell.proofs.Runs.{step_keeps, step_later}
 use Rattle.cell_views.specs.Views.{IsStray}
 use Rattle.native_plan.specs.declared.pending.Pending.{Pending}
 use Rattle.native_plan.specs.declared.message.Errand.TheVariants.{Read}
-use Rattle.native_plan.specs.Strays.{errand_in, HearsAgain}
+use Rattle.native_plan.specs.Strays.{errand_in, is_asked, HearsAgain}
 use Rattle.native_plan.specs.Course.{IsAskOf}
-use Rattle.native_ties.specs.Parts.{IsPartOf, GoesBy, Extends}
-use Rattle.native_ties.specs.Strays.{IsRequest, IsReply, ComesAgain, ComesTo}
+use Rattle.native_ties.specs.Parts.{IsPartOf, Extends}
+use Rattle.native_ties.specs.Steps.{GoesAs}
+use Rattle.native_ties.specs.Strays.{IsRequest, IsReply, HearsBy, ComesAgain, ComesTo}
 use Rattle.native_ties.proofs.Parts.{part_later}
 use Rattle.native_ties.proofs.Sending.{short_slice}
-use Rattle.native_ties.proofs.Straying.{goes_again}
+use Rattle.native_ties.proofs.Straying.{goes_as_again}
+use Rattle.native_ties.proofs.Remaining.{no_more}
 
 -- a server that doesn't have an entry isn't longer than its place
 short_told : (s : Server) (a : Ask) (p n : ℕ) → a ≡ ask.Read p → told s a ≡ Short n → length_of s ≤ p
@@ -64,19 +66,21 @@ module _ (c : Cell) (t i : ℕ) (a : Ask) (faults : List ℕ) (s : Server) (z : 
   extends = record { requests = λ k q h. h; replies = λ k r h. slice_get_more c.replies _ k r h }
 
   -- the answer comes to the operation
-  pub repeats : (p new : Pending) → QuorumLaw c → IsPartOf c t p → p.outcome ≡ None → i < length c.servers → ((q n : ℕ) → errand_in a ≡ Read q → z ≡ Short n → length_of (server_before (operation c t) i) ≤ q) → HearsAgain c.cut i (errand_in a) z p new → ComesAgain c step t i s faults new
+  pub repeats : (p new : Pending) → QuorumLaw c → IsPartOf c t p → p.outcome ≡ None → i < length c.servers → ((q n : ℕ) → errand_in a ≡ Read q → z ≡ Short n → length_of (server_before (operation c t) i) ≤ q) → HearsAgain c.cut i (errand_in a) z p new → ComesAgain c step t i s faults p new
   repeats p new law part waiting here short h =
       let kept : QuorumLaw d = subst QuorumLaw is (step_keeps c step law) in
       let stays : IsPartOf d t p = part_later c d t p later extends refl part in
       let reply : IsReply d (length c.replies) t i (errand_in a) z = record { reply = record { ticket = t; server = i; ask = a; told = z }; is = slice_get_push_new c.replies (record { ticket = t; server = i; ask = a; told = z }) (length c.replies) refl; ticket = refl; of_server = refl; told_is = refl; asked = asked_as a; short = short } in
-      let g : GoesBy d t faults new = goes_again d (length c.replies) t i (errand_in a) z p new kept stays waiting (omega (arith, here, length-set c.servers i s)) reply h in
+      let g : GoesAs d t faults new (HearsBy (is_asked p.phase i) t (length c.replies)) = goes_as_again d (length c.replies) t i (errand_in a) z p new kept stays waiting (omega (arith, here, length-set c.servers i s)) reply h in
       record {
-        steps = g.steps;
-        strays = (stray, g.strays);
-        part = subst (λ (x : Cell). IsPartOf (run_cell g.steps x) t new) (sym is) g.part;
-        others = λ q n. ap (λ (x : Cell). operation (run_cell g.steps x) q) is ∙ g.others q n;
-        servers = ap (λ (x : Cell). (run_cell g.steps x).servers) is ∙ g.servers;
-        faults_are = ap (λ (x : Cell). (run_cell g.steps x).faults) is ∙ g.faults_are;
+        steps = g.0.steps;
+        hears = g.1;
+        no_more = no_more d (length c.replies) t i (errand_in a) z p new kept stays waiting (omega (arith, here, length-set c.servers i s)) reply h;
+        strays = (stray, g.0.strays);
+        part = subst (λ (x : Cell). IsPartOf (run_cell g.0.steps x) t new) (sym is) g.0.part;
+        others = λ q n. ap (λ (x : Cell). operation (run_cell g.0.steps x) q) is ∙ g.0.others q n;
+        servers = ap (λ (x : Cell). (run_cell g.0.steps x).servers) is ∙ g.0.servers;
+        faults_are = ap (λ (x : Cell). (run_cell g.0.steps x).faults) is ∙ g.0.faults_are;
       }
 
   -- or to none
@@ -94,12 +98,12 @@ comes_is c k t i a is = rw is refl
 stops_is : (c : Cell) (k t i : ℕ) (a : Ask) → IsRequest c k t i a → ((server c i).up && writes (server c i) a) ≡ true → cell_step c (RequestStops k) ≡ answered (record c { faults = c.faults ++ i ∷ [] }) (record { ticket = t; server = i; ask = a }) (record (server c i) { up = false; torn = Some a }) DiskFault
 stops_is c k t i a is wanted = rw (is, wanted) refl
 
-pub comes_again : (c : Cell) (k t i : ℕ) (a : Ask) (p new : Pending) → QuorumLaw c → IsPartOf c t p → p.outcome ≡ None → i < length c.servers → IsRequest c k t i a → HearsAgain c.cut i (errand_in a) (told (server c i) a) p new → ComesAgain c (RequestComes k) t i (if (server c i).up then written (server c i) a else server c i) c.faults new
+pub comes_again : (c : Cell) (k t i : ℕ) (a : Ask) (p new : Pending) → QuorumLaw c → IsPartOf c t p → p.outcome ≡ None → i < length c.servers → IsRequest c k t i a → HearsAgain c.cut i (errand_in a) (told (server c i) a) p new → ComesAgain c (RequestComes k) t i (if (server c i).up then written (server c i) a else server c i) c.faults p new
 comes_again c k t i a p new law part waiting here is h =
     repeats c t i a c.faults (if (server c i).up then written (server c i) a else server c i) (told (server c i) a) (RequestComes k) (comes_is c k t i a is) tt p new law part waiting here
     (λ q n e w. (let now = short_told (server c i) a q n (asks_read a q e) w in let grown = ((law.operations t).since i).longer in omega (arith, now, grown))) h
 
-pub stops_again : (c : Cell) (k t i : ℕ) (a : Ask) (p new : Pending) → QuorumLaw c → IsPartOf c t p → p.outcome ≡ None → i < length c.servers → IsRequest c k t i a → ((server c i).up && writes (server c i) a) ≡ true → HearsAgain c.cut i (errand_in a) DiskFault p new → ComesAgain c (RequestStops k) t i (record (server c i) { up = false; torn = Some a }) (c.faults ++ i ∷ []) new
+pub stops_again : (c : Cell) (k t i : ℕ) (a : Ask) (p new : Pending) → QuorumLaw c → IsPartOf c t p → p.outcome ≡ None → i < length c.servers → IsRequest c k t i a → ((server c i).up && writes (server c i) a) ≡ true → HearsAgain c.cut i (errand_in a) DiskFault p new → ComesAgain c (RequestStops k) t i (record (server c i) { up = false; torn = Some a }) (c.faults ++ i ∷ []) p new
 stops_again c k t i a p new law part waiting here is wanted h =
     repeats c t i a (c.faults ++ i ∷ []) (record (server c i) { up = false; torn = Some a }) DiskFault (RequestStops k) (stops_is c k t i a is wanted) tt p new law part waiting here (λ q n e w. absurd (cc)) h
 

@@ -39,11 +39,12 @@ use Rattle.native_plan.specs.Pendings.{newer_of, aims_of, verdict_of}
 use Rattle.native_plan.specs.Course.{Knows, AimsAt, PhaseFits, HaveTurned, IsOnCourse, IsAskOf, IsPlanned, FillsTo, MendsTo, ToldWell, LetsGo, with_reply}
 use Rattle.native_plan.specs.Strays.{news_of, learned_in, is_due, heard_anew, is_read_at, given_to, entry_of, is_asked, NotesAgain, HearsNews, HearsAgain, HearsIf}
 use Rattle.native_plan.proofs.Hears.{knows_other}
-use Rattle.native_ties.specs.Parts.{IsCarried, OnItsWay, Goes, IsPartOf, GoesBy}
-use Rattle.native_ties.specs.Strays.{IsReply, GoesAgain}
+use Rattle.native_ties.specs.Parts.{IsCarried, OnItsWay, Goes, IsPartOf}
+use Rattle.native_ties.specs.Steps.{IsEnd, GoesAs}
+use Rattle.native_ties.specs.Strays.{HearsBy, IsReply, GoesAgain}
 use Rattle.native_ties.proofs.Hearing.{put_there, put_other, comes_is, any_more, many_more, either_more}
 use Rattle.native_ties.proofs.Hearers.{carried_put, newer_none, some_of, read_ends, read_ask}
-use Rattle.native_ties.proofs.Settling.{Noted, settled}
+use Rattle.native_ties.proofs.Settling.{Noted, settles_as}
 use Rattle.native_ties.proofs.Learning.{Speaks, Grown, knows_anew, grown_in, turned_anew}
 
 ---- a message that stays is what it was
@@ -335,14 +336,15 @@ again c k t i e z p new law part waiting here reply asked h =
     let is : cell_step c (ReplyComes k) ≡ put_operation c t (with_reply (operation c t) r) = comes_is c t k r reply.is reply.ticket part.shows.is_open (part.outcome ∙ waiting) in
     let kept : QuorumLaw (put_operation c t (with_reply (operation c t) r)) = subst QuorumLaw is (step_keeps c (ReplyComes k) law) in
     let then_noted : Noted (put_operation c t (with_reply (operation c t) r)) t h.between = subst (Noted (put_operation c t (with_reply (operation c t) r)) t) (sym h.notes.rest) (noted c k t i e z p h.between law part waiting here reply asked h.notes) in
-    let s : GoesBy (put_operation c t (with_reply (operation c t) r)) t c.faults new = settled (put_operation c t (with_reply (operation c t) r)) t h.between new kept then_noted h.settles in
+    let s : GoesAs (put_operation c t (with_reply (operation c t) r)) t c.faults new (IsEnd t) = settles_as (put_operation c t (with_reply (operation c t) r)) t h.between new kept then_noted h.settles in
     record {
-      steps = s.steps;
-      strays = s.strays;
-      part = subst (λ (x : Cell). IsPartOf (run_cell s.steps x) t new) (sym is) s.part;
-      others = λ q n. ap (λ (x : Cell). operation (run_cell s.steps x) q) is ∙ s.others q n ∙ put_other c t q (with_reply (operation c t) r) n;
-      servers = ap (λ (x : Cell). (run_cell s.steps x).servers) is ∙ s.servers;
-      faults_are = ap (λ (x : Cell). (run_cell s.steps x).faults) is ∙ s.faults_are;
+      steps = s.0.steps;
+      ends = s.1;
+      strays = s.0.strays;
+      part = subst (λ (x : Cell). IsPartOf (run_cell s.0.steps x) t new) (sym is) s.0.part;
+      others = λ q n. ap (λ (x : Cell). operation (run_cell s.0.steps x) q) is ∙ s.0.others q n ∙ put_other c t q (with_reply (operation c t) r) n;
+      servers = ap (λ (x : Cell). (run_cell s.0.steps x).servers) is ∙ s.0.servers;
+      faults_are = ap (λ (x : Cell). (run_cell s.0.steps x).faults) is ∙ s.0.faults_are;
     }
 
 heard_if : (v : Bool) (cut i : ℕ) (e : Errand) (z : Told) (old new : Pending) → v ≡ true → HearsIf v cut i e z old new → HearsNews cut i e z old new
@@ -352,10 +354,10 @@ heard_if false cut i e z old new v h = absurd (false≢true v)
 pub heard_again : (c : Cell) (k t i : ℕ) (e : Errand) (z : Told) (p new : Pending) → QuorumLaw c → IsPartOf c t p → p.outcome ≡ None → i < length c.servers → IsReply c k t i e z → is_asked p.phase i ≡ true → HearsAgain c.cut i e z p new → GoesAgain c k t new
 heard_again c k t i e z p new law part waiting here reply asked h = again c k t i e z p new law part waiting here reply asked (heard_if (is_asked p.phase i) c.cut i e z p new asked h)
 
-pub goes_again : (c : Cell) (k t i : ℕ) (e : Errand) (z : Told) (p new : Pending) → QuorumLaw c → IsPartOf c t p → p.outcome ≡ None → i < length c.servers → IsReply c k t i e z → HearsAgain c.cut i e z p new → GoesBy c t c.faults new
-goes_again c k t i e z p new law part waiting here reply h = by (is_asked p.phase i) refl h
+pub goes_as_again : (c : Cell) (k t i : ℕ) (e : Errand) (z : Told) (p new : Pending) → QuorumLaw c → IsPartOf c t p → p.outcome ≡ None → i < length c.servers → IsReply c k t i e z → HearsAgain c.cut i e z p new → GoesAs c t c.faults new (HearsBy (is_asked p.phase i) t k)
+goes_as_again c k t i e z p new law part waiting here reply h = by (is_asked p.phase i) refl h
   where
-    by : (v : Bool) → is_asked p.phase i ≡ v → HearsIf v c.cut i e z p new → GoesBy c t c.faults new
+    by : (v : Bool) → is_asked p.phase i ≡ v → HearsIf v c.cut i e z p new → GoesAs c t c.faults new (HearsBy v t k)
     by true y x = (let g : GoesAgain c k t new = again c k t i e z p new law part waiting here reply y x in
-        record { steps = ReplyComes k ∷ g.steps; strays = (tt, g.strays); part = g.part; others = g.others; servers = g.servers; faults_are = g.faults_are })
-    by false y x = record { steps = []; strays = tt; part = subst (IsPartOf c t) (sym x) part; others = λ q n. refl; servers = refl; faults_are = refl }
+        (record { steps = ReplyComes k ∷ g.steps; strays = (tt, g.strays); part = g.part; others = g.others; servers = g.servers; faults_are = g.faults_are }, (g.steps, g.ends, refl)))
+    by false y x = (record { steps = []; strays = tt; part = subst (IsPartOf c t) (sym x) part; others = λ q n. refl; servers = refl; faults_are = refl }, refl)

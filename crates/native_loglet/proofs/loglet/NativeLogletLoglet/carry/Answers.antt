@@ -1,5 +1,4 @@
-use Rattle.std.proofs.Common.{◌≡◌, ℕ, refl, sym, ap, subst, ◌∙◌, List, ◌++◌, length, map, take, drop}
-use Rattle.std.proofs.Math.Seq.{take-append_seam}
+use Rattle.std.proofs.Common.{◌≡◌, refl, sym, ap, subst, ◌∙◌, List, length, map}
 use Rattle.loglet_api.specs.declared.call.Refused.TheVariants.{Memory}
 use Rattle.loglet_api.specs.declared.call.LogletCall.TheVariants.{Carry}
 use Rattle.loglet_api.specs.declared.call.LogletAnswer.TheVariants.{Carried, Refusal}
@@ -8,6 +7,8 @@ use Rattle.log_server.specs.View.{View}
 use Rattle.native_loglet.specs.Natives.{Native, native_of, server_in, loglet_of}
 use Rattle.native_loglet.proofs.Alike.{IsOwned, Alike, shows, alike_owned, step_alike, entries_spelled, entries_small, cut_small}
 use Rattle.native_loglet.proofs.Messages.{can_carry}
+use Rattle.native_loglet.proofs.Disks.{lent_back}
+use Rattle.native_loglet.specs.Copies.{copy_in, kept_after}
 use Rattle.native_loglet.proofs.Wholes.{carries_whole}
 use Rattle.loglet_api.specs.Servers.{ServerState, Wear}
 use Rattle.native_loglet.specs.Natives.{NativeView, serving_of, states_in}
@@ -20,121 +21,126 @@ use Rattle.native_loglet.proofs.Goes.{goes_from, stays_goes, carries_goes}
 use Rattle.native_loglet.specs.Disks.{KeepDisks}
 use Rattle.native_loglet.proofs.loglet.NativeLogletLoglet.carry.Goals as goal
 
--- the servers that were lent come back
-lent_back : (count : ℕ) (vs ws : List View) → count ≡ length vs → length ws ≡ length vs → take count (ws ++ drop (length ws) vs) ≡ ws
-lent_back count vs ws many same = ap (λ n. take n (ws ++ drop (length ws) vs)) (many ∙ sym same) ∙ take-append_seam ws (drop (length ws) vs)
-
-pub carry_at-requires-clause-can : goal.carry_at-requires-clause-can
-carry_at-requires-clause-can g c =
+pub carry_keeping-requires-clause-can : goal.carry_keeping-requires-clause-can
+carry_keeping-requires-clause-can g c =
     let i = c.self.inside in
-    let a : Native = native_of i.room i.entries.items i.replicas.items i.marks i.pending.entries in
+    let a : Native = native_of i.room i.entries.items i.replicas.items i.marks i.pending.entries i.strays.strays in
     rw (c.number.ensures, c.deref.ensures.value, c.deref_mut.ensures.value) (can_carry a _ c.args.ticket c.args.word (shows a _ c.self.view_is) c.self.invariant c.requires)
 
-pub carry_at-requires-clause-spelled : goal.carry_at-requires-clause-spelled
-carry_at-requires-clause-spelled g c =
+pub carry_keeping-requires-clause-spelled : goal.carry_keeping-requires-clause-spelled
+carry_keeping-requires-clause-spelled g c =
     let i = c.self.inside in
-    let a : Native = native_of i.room i.entries.items i.replicas.items i.marks i.pending.entries in
+    let a : Native = native_of i.room i.entries.items i.replicas.items i.marks i.pending.entries i.strays.strays in
     rw c.deref.ensures.value (entries_spelled a c.self.invariant)
 
-pub carry_at-requires-clause-small : goal.carry_at-requires-clause-small
-carry_at-requires-clause-small g c =
+pub carry_keeping-requires-clause-small : goal.carry_keeping-requires-clause-small
+carry_keeping-requires-clause-small g c =
     let i = c.self.inside in
-    let a : Native = native_of i.room i.entries.items i.replicas.items i.marks i.pending.entries in
+    let a : Native = native_of i.room i.entries.items i.replicas.items i.marks i.pending.entries i.strays.strays in
     rw c.deref.ensures.value (entries_small a c.self.invariant)
 
-pub carry_at-requires-clause-cut : goal.carry_at-requires-clause-cut
-carry_at-requires-clause-cut g c =
+pub carry_keeping-requires-clause-cut : goal.carry_keeping-requires-clause-cut
+carry_keeping-requires-clause-cut g c =
     let i = c.self.inside in
-    let a : Native = native_of i.room i.entries.items i.replicas.items i.marks i.pending.entries in
+    let a : Native = native_of i.room i.entries.items i.replicas.items i.marks i.pending.entries i.strays.strays in
     cut_small a c.self.invariant
 
 pub invariant_of-self : goal.invariant_of-self
 invariant_of-self g c =
     let i = c.self.inside in
-    let a : Native = native_of i.room i.entries.items i.replicas.items i.marks i.pending.entries in
-    let b : Native = native_of i.room i.entries.items c.carry_at.new.replicas i.marks c.carry_at.new.pending.entries in
-    let same : Alike a b = record { room = refl; entries = refl; servers = c.in_default.ensures.memory ∙ ap (map server_in) c.deref_mut.ensures.value; marks = refl; pending = c.in_default.ensures.pending } in
-    let back = lent_back i.replicas.len i.replicas.items c.carry_at.new.replicas i.replicas.ok.0 (c.carry_at.auto.replicas ∙ ap (λ (vs : List View). length vs) c.deref_mut.ensures.value) in
-    subst (λ (vs : List View). IsOwned (native_of i.room i.entries.items vs i.marks c.carry_at.new.pending.entries)) (sym back) (alike_owned a b same c.self.invariant)
+    let a : Native = native_of i.room i.entries.items i.replicas.items i.marks i.pending.entries i.strays.strays in
+    let b : Native = native_of i.room i.entries.items c.carry_keeping.new.replicas i.marks c.carry_keeping.new.pending.entries c.carry_keeping.new.strays.strays in
+    let same : Alike a b = record { room = refl; entries = refl; servers = c.in_default.ensures.memory ∙ ap (map server_in) c.deref_mut.ensures.value; marks = refl; strays = c.in_default.ensures.strays_stay; pending = c.in_default.ensures.pending } in
+    let back = lent_back i.replicas.len i.replicas.items c.carry_keeping.new.replicas i.replicas.ok.0 (c.carry_keeping.auto.replicas ∙ ap (λ (vs : List View). length vs) c.deref_mut.ensures.value) in
+    subst (λ (vs : List View). IsOwned (native_of i.room i.entries.items vs i.marks c.carry_keeping.new.pending.entries c.carry_keeping.new.strays.strays)) (sym back) (alike_owned a b same c.self.invariant)
 
 pub returns-in_default-clause-step : goal.returns-in_default-clause-step
 returns-in_default-clause-step g c =
     let i = c.self.inside in
-    let a : Native = native_of i.room i.entries.items i.replicas.items i.marks i.pending.entries in
-    let b : Native = native_of i.room i.entries.items c.carry_at.new.replicas i.marks c.carry_at.new.pending.entries in
-    let same : Alike a b = record { room = refl; entries = refl; servers = c.in_default.ensures.memory ∙ ap (map server_in) c.deref_mut.ensures.value; marks = refl; pending = c.in_default.ensures.pending } in
-    let back = lent_back i.replicas.len i.replicas.items c.carry_at.new.replicas i.replicas.ok.0 (c.carry_at.auto.replicas ∙ ap (λ (vs : List View). length vs) c.deref_mut.ensures.value) in
-    subst (λ (vs : List View). LogletStep c.args.self.now.loglet (Carry c.args.ticket c.args.word) (Refusal Memory) (loglet_of (native_of i.room i.entries.items vs i.marks c.carry_at.new.pending.entries))) (sym back)
+    let a : Native = native_of i.room i.entries.items i.replicas.items i.marks i.pending.entries i.strays.strays in
+    let b : Native = native_of i.room i.entries.items c.carry_keeping.new.replicas i.marks c.carry_keeping.new.pending.entries c.carry_keeping.new.strays.strays in
+    let same : Alike a b = record { room = refl; entries = refl; servers = c.in_default.ensures.memory ∙ ap (map server_in) c.deref_mut.ensures.value; marks = refl; strays = c.in_default.ensures.strays_stay; pending = c.in_default.ensures.pending } in
+    let back = lent_back i.replicas.len i.replicas.items c.carry_keeping.new.replicas i.replicas.ok.0 (c.carry_keeping.auto.replicas ∙ ap (λ (vs : List View). length vs) c.deref_mut.ensures.value) in
+    subst (λ (vs : List View). LogletStep c.args.self.now.loglet (Carry c.args.ticket c.args.word) (Refusal Memory) (loglet_of (native_of i.room i.entries.items vs i.marks c.carry_keeping.new.pending.entries c.carry_keeping.new.strays.strays))) (sym back)
     (step_alike a b _ _ _ (shows a _ c.self.view_is) c.self.invariant same c.requires refl)
 
 pub invariant_of-self-2 : goal.invariant_of-self-2
 invariant_of-self-2 g c =
     let i = c.self.inside in
-    let a : Native = native_of i.room i.entries.items i.replicas.items i.marks i.pending.entries in
-    let back = lent_back i.replicas.len i.replicas.items c.carry_at.new.replicas i.replicas.ok.0 (c.carry_at.auto.replicas ∙ ap (λ (vs : List View). length vs) c.deref_mut.ensures.value) in
-    subst (λ (vs : List View). IsOwned (native_of i.room i.entries.items vs c.after-self-inside.result c.carry_at.new.pending.entries)) (sym back)
-    (carries_whole a c.carry_at.new.replicas c.carry_at.new.pending.entries c.after-self-inside.result _ c.args.ticket c.args.word c.in-Ok.failed (shows a _ c.self.view_is) c.self.invariant c.requires (rw (c.number.ensures, c.deref.ensures.value, c.deref_mut.ensures.value) at c.in-Ok.ensures.carries) c.after-self-inside.ensures).0
+    let a : Native = native_of i.room i.entries.items i.replicas.items i.marks i.pending.entries i.strays.strays in
+    let back = lent_back i.replicas.len i.replicas.items c.carry_keeping.new.replicas i.replicas.ok.0 (c.carry_keeping.auto.replicas ∙ ap (λ (vs : List View). length vs) c.deref_mut.ensures.value) in
+    subst (λ (vs : List View). IsOwned (native_of i.room i.entries.items vs c.after-self-inside.result c.carry_keeping.new.pending.entries c.carry_keeping.new.strays.strays)) (sym back)
+    (carries_whole a c.carry_keeping.new.replicas c.carry_keeping.new.pending.entries c.carry_keeping.new.strays.strays c.after-self-inside.result _ c.args.ticket c.args.word c.in-Ok.failed (shows a _ c.self.view_is) c.self.invariant c.requires (rw (c.number.ensures, c.deref.ensures.value, c.deref_mut.ensures.value) at c.in-Ok.ensures.carries) (rw (c.number.ensures, c.deref.ensures.value) at c.in-Ok.ensures.keeps) c.after-self-inside.ensures).0
 
 pub returns-clause-step : goal.returns-clause-step
 returns-clause-step g c =
     let i = c.self.inside in
-    let a : Native = native_of i.room i.entries.items i.replicas.items i.marks i.pending.entries in
-    let back = lent_back i.replicas.len i.replicas.items c.carry_at.new.replicas i.replicas.ok.0 (c.carry_at.auto.replicas ∙ ap (λ (vs : List View). length vs) c.deref_mut.ensures.value) in
-    subst (λ (vs : List View). LogletStep c.args.self.now.loglet (Carry c.args.ticket c.args.word) Carried (loglet_of (native_of i.room i.entries.items vs c.after-self-inside.result c.carry_at.new.pending.entries))) (sym back)
-    (carries_whole a c.carry_at.new.replicas c.carry_at.new.pending.entries c.after-self-inside.result _ c.args.ticket c.args.word c.in-Ok.failed (shows a _ c.self.view_is) c.self.invariant c.requires (rw (c.number.ensures, c.deref.ensures.value, c.deref_mut.ensures.value) at c.in-Ok.ensures.carries) c.after-self-inside.ensures).1
+    let a : Native = native_of i.room i.entries.items i.replicas.items i.marks i.pending.entries i.strays.strays in
+    let back = lent_back i.replicas.len i.replicas.items c.carry_keeping.new.replicas i.replicas.ok.0 (c.carry_keeping.auto.replicas ∙ ap (λ (vs : List View). length vs) c.deref_mut.ensures.value) in
+    subst (λ (vs : List View). LogletStep c.args.self.now.loglet (Carry c.args.ticket c.args.word) Carried (loglet_of (native_of i.room i.entries.items vs c.after-self-inside.result c.carry_keeping.new.pending.entries c.carry_keeping.new.strays.strays))) (sym back)
+    (carries_whole a c.carry_keeping.new.replicas c.carry_keeping.new.pending.entries c.carry_keeping.new.strays.strays c.after-self-inside.result _ c.args.ticket c.args.word c.in-Ok.failed (shows a _ c.self.view_is) c.self.invariant c.requires (rw (c.number.ensures, c.deref.ensures.value, c.deref_mut.ensures.value) at c.in-Ok.ensures.carries) (rw (c.number.ensures, c.deref.ensures.value) at c.in-Ok.ensures.keeps) c.after-self-inside.ensures).1
 
 pub returns-in_default-clause-serves : goal.returns-in_default-clause-serves
 returns-in_default-clause-serves g c =
     let i = c.self.inside in
-    let back = lent_back i.replicas.len i.replicas.items c.carry_at.new.replicas i.replicas.ok.0 (c.carry_at.auto.replicas ∙ ap (λ (vs : List View). length vs) c.deref_mut.ensures.value) in
+    let back = lent_back i.replicas.len i.replicas.items c.carry_keeping.new.replicas i.replicas.ok.0 (c.carry_keeping.auto.replicas ∙ ap (λ (vs : List View). length vs) c.deref_mut.ensures.value) in
     ap (λ (vs : List View). serving_with vs i.told) back ∙ ap (λ (ss : List ServerState). states_with ss i.told) (c.in_default.ensures.spared ∙ ap states_in c.deref_mut.ensures.value) ∙ ap serving_of c.self.view_is
 
 pub returns-clause-serves : goal.returns-clause-serves
 returns-clause-serves g c =
     let i = c.self.inside in
-    let back = lent_back i.replicas.len i.replicas.items c.carry_at.new.replicas i.replicas.ok.0 (c.carry_at.auto.replicas ∙ ap (λ (vs : List View). length vs) c.deref_mut.ensures.value) in (
+    let back = lent_back i.replicas.len i.replicas.items c.carry_keeping.new.replicas i.replicas.ok.0 (c.carry_keeping.auto.replicas ∙ ap (λ (vs : List View). length vs) c.deref_mut.ensures.value) in (
       subst (λ (vs : List View). Wear (states_in c.args.self.now.replicas) (states_in vs)) (sym back)
-          (subst (λ (x : NativeView). Wear (states_in x.replicas) (states_in c.carry_at.new.replicas)) c.self.view_is
-          (subst (λ (vs : List View). Wear (states_in vs) (states_in c.carry_at.new.replicas)) c.deref_mut.ensures.value c.in-Ok.ensures.wear)),
+          (subst (λ (x : NativeView). Wear (states_in x.replicas) (states_in c.carry_keeping.new.replicas)) c.self.view_is
+          (subst (λ (vs : List View). Wear (states_in vs) (states_in c.carry_keeping.new.replicas)) c.deref_mut.ensures.value c.in-Ok.ensures.wear)),
       refl,
     )
 
 pub returns-clause-counts : goal.returns-clause-counts
 returns-clause-counts g c =
     let i = c.self.inside in
-    let a : Native = native_of i.room i.entries.items i.replicas.items i.marks i.pending.entries in
-    let back = lent_back i.replicas.len i.replicas.items c.carry_at.new.replicas i.replicas.ok.0 (c.carry_at.auto.replicas ∙ ap (λ (vs : List View). length vs) c.deref_mut.ensures.value) in
+    let a : Native = native_of i.room i.entries.items i.replicas.items i.marks i.pending.entries i.strays.strays in
+    let back = lent_back i.replicas.len i.replicas.items c.carry_keeping.new.replicas i.replicas.ok.0 (c.carry_keeping.auto.replicas ∙ ap (λ (vs : List View). length vs) c.deref_mut.ensures.value) in
     subst (λ (vs : List View). c.after-self-inside.result.faults ≡ faults_after (is_failed c.args.word c.args.self.now.loglet.down (down_in vs)) c.args.self.now.loglet.faults) (sym back)
-    (carry_counts a c.carry_at.new.replicas c.after-self-inside.result _ c.args.ticket c.args.word c.in-Ok.failed (shows a _ c.self.view_is) c.self.invariant c.requires (rw (c.number.ensures, c.deref_mut.ensures.value) at c.in-Ok.ensures.failed) c.after-self-inside.ensures)
+    (carry_counts a c.carry_keeping.new.replicas c.after-self-inside.result _ c.args.ticket c.args.word c.in-Ok.failed (shows a _ c.self.view_is) c.self.invariant c.requires (rw (c.number.ensures, c.deref_mut.ensures.value) at c.in-Ok.ensures.failed) c.after-self-inside.ensures)
 
 pub returns-in_default-clause-goes : goal.returns-in_default-clause-goes
 returns-in_default-clause-goes g c =
     let i = c.self.inside in
-    let a : Native = native_of i.room i.entries.items i.replicas.items i.marks i.pending.entries in
-    let b : Native = native_of i.room i.entries.items c.carry_at.new.replicas i.marks c.carry_at.new.pending.entries in
-    let same : Alike a b = record { room = refl; entries = refl; servers = c.in_default.ensures.memory ∙ ap (map server_in) c.deref_mut.ensures.value; marks = refl; pending = c.in_default.ensures.pending } in
-    let back = lent_back i.replicas.len i.replicas.items c.carry_at.new.replicas i.replicas.ok.0 (c.carry_at.auto.replicas ∙ ap (λ (vs : List View). length vs) c.deref_mut.ensures.value) in
-    subst (λ (vs : List View). NativeStep c.args.self.now.parts (Carry c.args.ticket c.args.word) (Refusal Memory) (native_of i.room i.entries.items vs i.marks c.carry_at.new.pending.entries)) (sym back)
+    let a : Native = native_of i.room i.entries.items i.replicas.items i.marks i.pending.entries i.strays.strays in
+    let b : Native = native_of i.room i.entries.items c.carry_keeping.new.replicas i.marks c.carry_keeping.new.pending.entries c.carry_keeping.new.strays.strays in
+    let same : Alike a b = record { room = refl; entries = refl; servers = c.in_default.ensures.memory ∙ ap (map server_in) c.deref_mut.ensures.value; marks = refl; strays = c.in_default.ensures.strays_stay; pending = c.in_default.ensures.pending } in
+    let back = lent_back i.replicas.len i.replicas.items c.carry_keeping.new.replicas i.replicas.ok.0 (c.carry_keeping.auto.replicas ∙ ap (λ (vs : List View). length vs) c.deref_mut.ensures.value) in
+    subst (λ (vs : List View). NativeStep c.args.self.now.parts (Carry c.args.ticket c.args.word) (Refusal Memory) (native_of i.room i.entries.items vs i.marks c.carry_keeping.new.pending.entries c.carry_keeping.new.strays.strays)) (sym back)
     (goes_from a _ _ _ b c.self.view_is c.requires (λ can. stays_goes a b _ _ c.self.invariant same can refl (λ d. refl)))
 
 pub returns-clause-goes : goal.returns-clause-goes
 returns-clause-goes g c =
     let i = c.self.inside in
-    let a : Native = native_of i.room i.entries.items i.replicas.items i.marks i.pending.entries in
-    let back = lent_back i.replicas.len i.replicas.items c.carry_at.new.replicas i.replicas.ok.0 (c.carry_at.auto.replicas ∙ ap (λ (vs : List View). length vs) c.deref_mut.ensures.value) in
-    subst (λ (vs : List View). NativeStep c.args.self.now.parts (Carry c.args.ticket c.args.word) Carried (native_of i.room i.entries.items vs c.after-self-inside.result c.carry_at.new.pending.entries)) (sym back)
-    (goes_from a _ _ _ _ c.self.view_is c.requires (λ can. carries_goes a c.carry_at.new.replicas c.carry_at.new.pending.entries c.after-self-inside.result c.args.ticket c.args.word c.in-Ok.failed c.self.invariant can (rw (c.number.ensures, c.deref.ensures.value, c.deref_mut.ensures.value) at c.in-Ok.ensures.carries) c.after-self-inside.ensures))
+    let a : Native = native_of i.room i.entries.items i.replicas.items i.marks i.pending.entries i.strays.strays in
+    let back = lent_back i.replicas.len i.replicas.items c.carry_keeping.new.replicas i.replicas.ok.0 (c.carry_keeping.auto.replicas ∙ ap (λ (vs : List View). length vs) c.deref_mut.ensures.value) in
+    subst (λ (vs : List View). NativeStep c.args.self.now.parts (Carry c.args.ticket c.args.word) Carried (native_of i.room i.entries.items vs c.after-self-inside.result c.carry_keeping.new.pending.entries c.carry_keeping.new.strays.strays)) (sym back)
+    (goes_from a _ _ _ _ c.self.view_is c.requires (λ can. carries_goes a c.carry_keeping.new.replicas c.carry_keeping.new.pending.entries c.carry_keeping.new.strays.strays c.after-self-inside.result c.args.ticket c.args.word c.in-Ok.failed c.self.invariant can (rw (c.number.ensures, c.deref.ensures.value, c.deref_mut.ensures.value) at c.in-Ok.ensures.carries) (rw (c.number.ensures, c.deref.ensures.value) at c.in-Ok.ensures.keeps) c.after-self-inside.ensures))
 
 pub returns-in_default-clause-disks : goal.returns-in_default-clause-disks
 returns-in_default-clause-disks g c =
     let i = c.self.inside in
-    let back = lent_back i.replicas.len i.replicas.items c.carry_at.new.replicas i.replicas.ok.0 (c.carry_at.auto.replicas ∙ ap (λ (vs : List View). length vs) c.deref_mut.ensures.value) in
+    let back = lent_back i.replicas.len i.replicas.items c.carry_keeping.new.replicas i.replicas.ok.0 (c.carry_keeping.auto.replicas ∙ ap (λ (vs : List View). length vs) c.deref_mut.ensures.value) in
     subst (λ (vs : List View). KeepDisks c.args.self.now.replicas vs) (sym back)
-    (subst (λ (x : NativeView). KeepDisks x.replicas c.carry_at.new.replicas) c.self.view_is (subst (λ (vs : List View). KeepDisks vs c.carry_at.new.replicas) c.deref_mut.ensures.value c.carry_at.ensures.disks))
+    (subst (λ (x : NativeView). KeepDisks x.replicas c.carry_keeping.new.replicas) c.self.view_is (subst (λ (vs : List View). KeepDisks vs c.carry_keeping.new.replicas) c.deref_mut.ensures.value c.carry_keeping.ensures.disks))
 
 pub returns-clause-disks : goal.returns-clause-disks
 returns-clause-disks g c =
     let i = c.self.inside in
-    let back = lent_back i.replicas.len i.replicas.items c.carry_at.new.replicas i.replicas.ok.0 (c.carry_at.auto.replicas ∙ ap (λ (vs : List View). length vs) c.deref_mut.ensures.value) in
+    let back = lent_back i.replicas.len i.replicas.items c.carry_keeping.new.replicas i.replicas.ok.0 (c.carry_keeping.auto.replicas ∙ ap (λ (vs : List View). length vs) c.deref_mut.ensures.value) in
     subst (λ (vs : List View). KeepDisks c.args.self.now.replicas vs) (sym back)
-    (subst (λ (x : NativeView). KeepDisks x.replicas c.carry_at.new.replicas) c.self.view_is (subst (λ (vs : List View). KeepDisks vs c.carry_at.new.replicas) c.deref_mut.ensures.value c.carry_at.ensures.disks))
+    (subst (λ (x : NativeView). KeepDisks x.replicas c.carry_keeping.new.replicas) c.self.view_is (subst (λ (vs : List View). KeepDisks vs c.carry_keeping.new.replicas) c.deref_mut.ensures.value c.carry_keeping.ensures.disks))
+
+pub returns-clause-keeps : goal.returns-clause-keeps
+returns-clause-keeps g c =
+    let i = c.self.inside in
+    let a : Native = native_of i.room i.entries.items i.replicas.items i.marks i.pending.entries i.strays.strays in
+    subst (λ (x : NativeView). c.carry_keeping.new.strays.strays ≡ kept_after (copy_in x.parts c.args.ticket c.args.word) x.parts.strays) c.self.view_is (rw (c.number.ensures, c.deref.ensures.value) at c.in-Ok.ensures.keeps)
+
+pub returns-in_default-clause-spares : goal.returns-in_default-clause-spares
+returns-in_default-clause-spares g c = c.in_default.ensures.strays_stay ∙ ap (λ (x : NativeView). x.parts.strays) c.self.view_is

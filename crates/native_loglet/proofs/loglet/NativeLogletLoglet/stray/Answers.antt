@@ -1,26 +1,134 @@
-use Rattle.std.proofs.Common.{refl, sym, subst}
+use Rattle.std.proofs.Common.{◌≡◌, ◌∙◌, refl, sym, ap, subst, List, length, map}
+use Rattle.std.specs.Prelude.{nat_lt}
+use Rattle.loglet_api.specs.declared.call.Refused.TheVariants.{Memory}
 use Rattle.loglet_api.specs.declared.call.LogletCall.TheVariants.{Stray}
-use Rattle.loglet_api.specs.declared.call.LogletAnswer.TheVariants.{Strayed}
-use Rattle.loglet_api.specs.Servers.{Wear}
+use Rattle.loglet_api.specs.declared.call.LogletAnswer.TheVariants.{Strayed, Refusal}
+use Rattle.loglet_api.specs.Servers.{ServerState, Wear}
 use Rattle.loglet_api.specs.Step.{LogletStep}
 use Rattle.loglet_api.specs.View.{LogletView}
-use Rattle.native_loglet.specs.Natives.{Native, NativeView, native_of, states_in}
-use Rattle.native_loglet.proofs.Alike.{shows, same_owned, moves_same}
-use Rattle.native_loglet.proofs.Serving.{wear_same}
-use Rattle.native_loglet.proofs.Goes.{goes_from, stays_goes}
+use Rattle.log_server.specs.View.{View}
+use Rattle.native_loglet.specs.declared.marks.Marks.{Marks}
+use Rattle.native_loglet.specs.Disks.{KeepDisks}
+use Rattle.native_loglet.specs.Faults.{faults_after}
+use Rattle.native_loglet.specs.Natives.{Native, NativeView, native_of, server_in, serving_of, states_in, down_in, loglet_of}
+use Rattle.native_loglet.specs.Steps.{NativeStep}
+use Rattle.native_loglet.proofs.Alike.{IsOwned, Alike, shows, alike_owned, step_alike}
+use Rattle.native_loglet.proofs.Counting.{marks_count}
+use Rattle.native_loglet.proofs.Disks.{lent_back}
+use Rattle.native_loglet.proofs.Serving.{serving_with, states_with, comes_wear, comes_failed}
+use Rattle.native_loglet.proofs.Strays.{can_come, can_hear, strays_owned}
+use Rattle.native_loglet.proofs.Goes.{goes_from, stays_goes, strays_goes}
 use Rattle.native_loglet.proofs.loglet.NativeLogletLoglet.stray.Goals as goal
+
+pub stray_at-requires-clause-can : goal.stray_at-requires-clause-can
+stray_at-requires-clause-can g c =
+    let i = c.self.inside in
+    let a : Native = native_of i.room i.entries.items i.replicas.items i.marks i.pending.entries i.strays.strays in
+    rw c.deref_mut.ensures.value (can_come a c.self.invariant)
+
+pub stray_at-requires-clause-hears : goal.stray_at-requires-clause-hears
+stray_at-requires-clause-hears g c =
+    let i = c.self.inside in
+    let a : Native = native_of i.room i.entries.items i.replicas.items i.marks i.pending.entries i.strays.strays in
+    rw c.deref_mut.ensures.value (can_hear a c.self.invariant)
+
+pub invariant_of-self : goal.invariant_of-self
+invariant_of-self g c =
+    let i = c.self.inside in
+    let a : Native = native_of i.room i.entries.items i.replicas.items i.marks i.pending.entries i.strays.strays in
+    let b : Native = native_of i.room i.entries.items c.stray_at.new.replicas i.marks c.stray_at.new.pending.entries i.strays.strays in
+    let same : Alike a b = record { room = refl; entries = refl; servers = c.in_default.ensures.memory ∙ ap (map server_in) c.deref_mut.ensures.value; marks = refl; strays = refl; pending = c.in_default.ensures.pending } in
+    let back = lent_back i.replicas.len i.replicas.items c.stray_at.new.replicas i.replicas.ok.0 (c.stray_at.auto.replicas ∙ ap (λ (vs : List View). length vs) c.deref_mut.ensures.value) in
+    subst (λ (vs : List View). IsOwned (native_of i.room i.entries.items vs i.marks c.stray_at.new.pending.entries i.strays.strays)) (sym back) (alike_owned a b same c.self.invariant)
+
+pub returns-in_default-clause-step : goal.returns-in_default-clause-step
+returns-in_default-clause-step g c =
+    let i = c.self.inside in
+    let a : Native = native_of i.room i.entries.items i.replicas.items i.marks i.pending.entries i.strays.strays in
+    let b : Native = native_of i.room i.entries.items c.stray_at.new.replicas i.marks c.stray_at.new.pending.entries i.strays.strays in
+    let same : Alike a b = record { room = refl; entries = refl; servers = c.in_default.ensures.memory ∙ ap (map server_in) c.deref_mut.ensures.value; marks = refl; strays = refl; pending = c.in_default.ensures.pending } in
+    let back = lent_back i.replicas.len i.replicas.items c.stray_at.new.replicas i.replicas.ok.0 (c.stray_at.auto.replicas ∙ ap (λ (vs : List View). length vs) c.deref_mut.ensures.value) in
+    subst (λ (vs : List View). LogletStep c.args.self.now.loglet (Stray c.args.word) (Refusal Memory) (loglet_of (native_of i.room i.entries.items vs i.marks c.stray_at.new.pending.entries i.strays.strays))) (sym back)
+    (step_alike a b _ _ _ (shows a _ c.self.view_is) c.self.invariant same tt refl)
+
+pub returns-in_default-clause-serves : goal.returns-in_default-clause-serves
+returns-in_default-clause-serves g c =
+    let i = c.self.inside in
+    let back = lent_back i.replicas.len i.replicas.items c.stray_at.new.replicas i.replicas.ok.0 (c.stray_at.auto.replicas ∙ ap (λ (vs : List View). length vs) c.deref_mut.ensures.value) in
+    ap (λ (vs : List View). serving_with vs i.told) back ∙ ap (λ (ss : List ServerState). states_with ss i.told) (c.in_default.ensures.spared ∙ ap states_in c.deref_mut.ensures.value) ∙ ap serving_of c.self.view_is
+
+pub returns-in_default-clause-goes : goal.returns-in_default-clause-goes
+returns-in_default-clause-goes g c =
+    let i = c.self.inside in
+    let a : Native = native_of i.room i.entries.items i.replicas.items i.marks i.pending.entries i.strays.strays in
+    let b : Native = native_of i.room i.entries.items c.stray_at.new.replicas i.marks c.stray_at.new.pending.entries i.strays.strays in
+    let same : Alike a b = record { room = refl; entries = refl; servers = c.in_default.ensures.memory ∙ ap (map server_in) c.deref_mut.ensures.value; marks = refl; strays = refl; pending = c.in_default.ensures.pending } in
+    let back = lent_back i.replicas.len i.replicas.items c.stray_at.new.replicas i.replicas.ok.0 (c.stray_at.auto.replicas ∙ ap (λ (vs : List View). length vs) c.deref_mut.ensures.value) in
+    subst (λ (vs : List View). NativeStep c.args.self.now.parts (Stray c.args.word) (Refusal Memory) (native_of i.room i.entries.items vs i.marks c.stray_at.new.pending.entries i.strays.strays)) (sym back)
+    (goes_from a _ _ _ b c.self.view_is tt (λ can. stays_goes a b _ _ c.self.invariant same can refl (λ d. refl)))
+
+pub returns-in_default-clause-disks : goal.returns-in_default-clause-disks
+returns-in_default-clause-disks g c =
+    let i = c.self.inside in
+    let back = lent_back i.replicas.len i.replicas.items c.stray_at.new.replicas i.replicas.ok.0 (c.stray_at.auto.replicas ∙ ap (λ (vs : List View). length vs) c.deref_mut.ensures.value) in
+    subst (λ (vs : List View). KeepDisks c.args.self.now.replicas vs) (sym back)
+    (subst (λ (x : NativeView). KeepDisks x.replicas c.stray_at.new.replicas) c.self.view_is (subst (λ (vs : List View). KeepDisks vs c.stray_at.new.replicas) c.deref_mut.ensures.value c.stray_at.ensures.disks))
+
+pub invariant_of-self-2 : goal.invariant_of-self-2
+invariant_of-self-2 g c =
+    let i = c.self.inside in
+    let a : Native = native_of i.room i.entries.items i.replicas.items i.marks i.pending.entries i.strays.strays in
+    let back = lent_back i.replicas.len i.replicas.items c.stray_at.new.replicas i.replicas.ok.0 (c.stray_at.auto.replicas ∙ ap (λ (vs : List View). length vs) c.deref_mut.ensures.value) in
+    subst (λ (vs : List View). IsOwned (native_of i.room i.entries.items vs c.after-self-inside.result c.stray_at.new.pending.entries i.strays.strays)) (sym back)
+    (subst (λ (x : Marks). IsOwned (native_of i.room i.entries.items c.stray_at.new.replicas x c.stray_at.new.pending.entries i.strays.strays)) (sym c.after-self-inside.ensures)
+    (strays_owned a c.stray_at.new.replicas c.stray_at.new.pending.entries c.args.word c.in-Ok.fault c.self.invariant (rw c.deref_mut.ensures.value at c.in-Ok.ensures.comes)))
 
 pub returns-clause-step : goal.returns-clause-step
 returns-clause-step g c =
     let i = c.self.inside in
-    let a : Native = native_of i.room i.entries.items i.replicas.items i.marks i.pending.entries in
-    subst (λ (x : LogletView). LogletStep c.args.self.now.loglet (Stray c.args.word) Strayed x) (sym (shows a _ c.self.view_is)) (same_owned a _ _ _ (shows a _ c.self.view_is) c.self.invariant tt (moves_same a c.self.invariant))
+    let a : Native = native_of i.room i.entries.items i.replicas.items i.marks i.pending.entries i.strays.strays in
+    let back = lent_back i.replicas.len i.replicas.items c.stray_at.new.replicas i.replicas.ok.0 (c.stray_at.auto.replicas ∙ ap (λ (vs : List View). length vs) c.deref_mut.ensures.value) in
+    subst (λ (vs : List View). LogletStep c.args.self.now.loglet (Stray c.args.word) Strayed (loglet_of (native_of i.room i.entries.items vs c.after-self-inside.result c.stray_at.new.pending.entries i.strays.strays))) (sym back)
+    (subst (λ (x : LogletView). LogletStep x (Stray c.args.word) Strayed (loglet_of (native_of i.room i.entries.items c.stray_at.new.replicas c.after-self-inside.result c.stray_at.new.pending.entries i.strays.strays))) (shows a _ c.self.view_is)
+    (strays_goes a c.stray_at.new.replicas c.stray_at.new.pending.entries c.after-self-inside.result c.args.word c.in-Ok.fault c.self.invariant (rw c.deref_mut.ensures.value at c.in-Ok.ensures.comes) c.after-self-inside.ensures).loglet)
 
 pub returns-clause-serves : goal.returns-clause-serves
-returns-clause-serves g c = (subst (λ (x : NativeView). Wear (states_in x.replicas) (states_in c.self.inside.replicas.items)) c.self.view_is (wear_same (states_in c.self.inside.replicas.items)), refl)
+returns-clause-serves g c =
+    let i = c.self.inside in
+    let back = lent_back i.replicas.len i.replicas.items c.stray_at.new.replicas i.replicas.ok.0 (c.stray_at.auto.replicas ∙ ap (λ (vs : List View). length vs) c.deref_mut.ensures.value) in (
+      subst (λ (vs : List View). Wear (states_in c.args.self.now.replicas) (states_in vs)) (sym back)
+          (subst (λ (x : NativeView). Wear (states_in x.replicas) (states_in c.stray_at.new.replicas)) c.self.view_is
+          (comes_wear i.marks.cut _ i.pending.entries c.stray_at.new.pending.entries i.replicas.items c.stray_at.new.replicas c.in-Ok.fault (rw c.deref_mut.ensures.value at c.in-Ok.ensures.comes))),
+      refl,
+    )
 
 pub returns-clause-goes : goal.returns-clause-goes
 returns-clause-goes g c =
     let i = c.self.inside in
-    let a : Native = native_of i.room i.entries.items i.replicas.items i.marks i.pending.entries in
-    goes_from a _ _ _ a c.self.view_is tt (λ can. stays_goes a a _ _ c.self.invariant (record { room = refl; entries = refl; servers = refl; marks = refl; pending = λ t. refl }) can (moves_same a c.self.invariant) (λ d. refl))
+    let a : Native = native_of i.room i.entries.items i.replicas.items i.marks i.pending.entries i.strays.strays in
+    let back = lent_back i.replicas.len i.replicas.items c.stray_at.new.replicas i.replicas.ok.0 (c.stray_at.auto.replicas ∙ ap (λ (vs : List View). length vs) c.deref_mut.ensures.value) in
+    subst (λ (vs : List View). NativeStep c.args.self.now.parts (Stray c.args.word) Strayed (native_of i.room i.entries.items vs c.after-self-inside.result c.stray_at.new.pending.entries i.strays.strays)) (sym back)
+    (goes_from a _ _ _ _ c.self.view_is tt (λ can. strays_goes a c.stray_at.new.replicas c.stray_at.new.pending.entries c.after-self-inside.result c.args.word c.in-Ok.fault c.self.invariant (rw c.deref_mut.ensures.value at c.in-Ok.ensures.comes) c.after-self-inside.ensures))
+
+pub returns-clause-counts : goal.returns-clause-counts
+returns-clause-counts g c =
+    let i = c.self.inside in
+    let a : Native = native_of i.room i.entries.items i.replicas.items i.marks i.pending.entries i.strays.strays in
+    let back = lent_back i.replicas.len i.replicas.items c.stray_at.new.replicas i.replicas.ok.0 (c.stray_at.auto.replicas ∙ ap (λ (vs : List View). length vs) c.deref_mut.ensures.value) in
+    subst (λ (vs : List View). c.after-self-inside.result.faults ≡ faults_after (nat_lt c.args.self.now.loglet.down (down_in vs)) c.args.self.now.loglet.faults) (sym back)
+    (marks_count a c.after-self-inside.result _ c.in-Ok.fault (shows a _ c.self.view_is) c.after-self-inside.ensures
+    ∙ ap (λ b. faults_after b c.args.self.now.loglet.faults) (comes_failed i.marks.cut _ i.pending.entries c.stray_at.new.pending.entries i.replicas.items c.stray_at.new.replicas c.in-Ok.fault (rw c.deref_mut.ensures.value at c.in-Ok.ensures.comes))
+    ∙ ap (λ (x : LogletView). faults_after (nat_lt x.down (down_in c.stray_at.new.replicas)) c.args.self.now.loglet.faults) (shows a _ c.self.view_is))
+
+pub returns-in_default-clause-keeps : goal.returns-in_default-clause-keeps
+returns-in_default-clause-keeps g c = ap (λ (x : NativeView). x.parts.strays) c.self.view_is
+
+pub returns-clause-keeps : goal.returns-clause-keeps
+returns-clause-keeps g c = ap (λ (x : NativeView). x.parts.strays) c.self.view_is
+
+pub returns-clause-disks : goal.returns-clause-disks
+returns-clause-disks g c =
+    let i = c.self.inside in
+    let back = lent_back i.replicas.len i.replicas.items c.stray_at.new.replicas i.replicas.ok.0 (c.stray_at.auto.replicas ∙ ap (λ (vs : List View). length vs) c.deref_mut.ensures.value) in
+    subst (λ (vs : List View). KeepDisks c.args.self.now.replicas vs) (sym back)
+    (subst (λ (x : NativeView). KeepDisks x.replicas c.stray_at.new.replicas) c.self.view_is (subst (λ (vs : List View). KeepDisks vs c.stray_at.new.replicas) c.deref_mut.ensures.value c.stray_at.ensures.disks))
