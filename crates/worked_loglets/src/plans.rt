@@ -2,11 +2,11 @@
 ghost use Rattle.std.specs.Prelude.{◌≢◌, ℕ, IfOk};
 
 use anyhow::{Result, bail};
-use quorum_cell::operation::Outcome;
 use native_plan::aims::Aims;
 use native_plan::judge::{Verdict, judge};
 use native_plan::member::Member;
 use native_plan::message::Phase;
+use quorum_cell::operation::Outcome;
 use std::alloc::{AllocError, Global};
 use worked_cases::bench::Bench;
 

@@ -94,21 +94,21 @@ module _ (may : ℕ → Entry → Type 0) (floor : List Entry → ℕ → Type 0
         more = e ∷ [];
         events = refl;
         law = record {
-        legal = subst (λ (s : List ℕ). IsLegal may floor s es) (sym shelf) legal;
-        cells = λ k. subst (λ (s : State). IsCellTold (s.cells k) (cell_at cells k)) (sym next) (told k);
-        owners = λ k t who h. ⊎_elim
-            (λ (old : is_owner w.events who k t ≡ true).
-            let was = law.owners k t who old in
-            let on = goes.cell k in (omega (arith, was.0, on.begun), on.owner t was.0 ∙ was.1))
-            (λ (new : is_begin_of who k t e ≡ true).
-            subst (λ (s : State). (t < (s.cells k).told.begun) × ((s.cells k).owner t ≡ who)) (sym next) (owner k t who new))
-            (any_push (is_begin_of who k t) w.events e h);
-        ends = λ k n h. ⊎_elim
-            (λ (old : was_sealed_at w.events k n ≡ true). (goes.cell k).ends n (law.ends k n old))
-            (λ (new : ends k n e.call e.answer ≡ true). subst (λ (s : State). Contains (s.cells k).ends n) (sym next) (ended k n new))
-            (any_push (λ (x : Event). ends k n x.call x.answer) w.events e h);
-        register = subst (λ (s : State). IsRegisterTold s.register r) (sym next) register;
-        nodes = λ k. front_later (state_of w.events).shown (state_of es).shown goes.shown (node_at w.nodes k) (law.nodes k);
+          legal = subst (λ (s : List ℕ). IsLegal may floor s es) (sym shelf) legal;
+          cells = λ k. subst (λ (s : State). IsCellTold (s.cells k) (cell_at cells k)) (sym next) (told k);
+          owners = λ k t who h. ⊎_elim
+              (λ (old : is_owner w.events who k t ≡ true).
+              let was = law.owners k t who old in
+              let on = goes.cell k in (omega (arith, was.0, on.begun), on.owner t was.0 ∙ was.1))
+              (λ (new : is_begin_of who k t e ≡ true).
+              subst (λ (s : State). (t < (s.cells k).told.begun) × ((s.cells k).owner t ≡ who)) (sym next) (owner k t who new))
+              (any_push (is_begin_of who k t) w.events e h);
+          ends = λ k n h. ⊎_elim
+              (λ (old : was_sealed_at w.events k n ≡ true). (goes.cell k).ends n (law.ends k n old))
+              (λ (new : ends k n e.call e.answer ≡ true). subst (λ (s : State). Contains (s.cells k).ends n) (sym next) (ended k n new))
+              (any_push (λ (x : Event). ends k n x.call x.answer) w.events e h);
+          register = subst (λ (s : State). IsRegisterTold s.register r) (sym next) register;
+          nodes = λ k. front_later (state_of w.events).shown (state_of es).shown goes.shown (node_at w.nodes k) (law.nodes k);
         };
       }
 
@@ -120,12 +120,12 @@ module _ (may : ℕ → Entry → Type 0) (floor : List Entry → ℕ → Type 0
         more = [];
         events = sym (append-nil w.events);
         law = record {
-        legal = subst (λ (s : List ℕ). IsLegal may floor s w.events) (sym shelf) law.legal;
-        cells = at_set (λ k x. IsCellTold ((state_of w.events).cells k) x) w.cells no_cell i c told law.cells;
-        owners = law.owners;
-        ends = law.ends;
-        register = law.register;
-        nodes = law.nodes;
+          legal = subst (λ (s : List ℕ). IsLegal may floor s w.events) (sym shelf) law.legal;
+          cells = at_set (λ k x. IsCellTold ((state_of w.events).cells k) x) w.cells no_cell i c told law.cells;
+          owners = law.owners;
+          ends = law.ends;
+          register = law.register;
+          nodes = law.nodes;
         };
       }
 
@@ -134,11 +134,11 @@ module _ (may : ℕ → Entry → Type 0) (floor : List Entry → ℕ → Type 0
     more = [];
     events = sym (append-nil w.events);
     law = record {
-    legal = law.legal;
-    cells = law.cells;
-    owners = law.owners;
-    ends = law.ends;
-    register = law.register;
-    nodes = at_set (λ (j : ℕ) (x : Node). IsFront (state_of w.events).shown x) w.nodes no_node k n (λ _. front) law.nodes;
+      legal = law.legal;
+      cells = law.cells;
+      owners = law.owners;
+      ends = law.ends;
+      register = law.register;
+      nodes = at_set (λ (j : ℕ) (x : Node). IsFront (state_of w.events).shown x) w.nodes no_node k n (λ _. front) law.nodes;
     };
   }

@@ -11,7 +11,9 @@ use std::alloc::AllocError;
 pub fn is_owner(events: &[Event], who: u32, cell: u32, ticket: Ticket) -> bool
     ensures { result ≡ is_owner_by events.now who cell ticket }
 {
-    events.iter().any(|event| is_begin(event, who, cell, ticket))
+    events
+        .iter()
+        .any(|event| is_begin(event, who, cell, ticket))
 }
 
 /// The event is who's begin of this ticket on the cell.
@@ -34,14 +36,17 @@ fn begins(call: &FabricCall, answer: &FabricAnswer, cell: u32, ticket: Ticket) -
 pub fn was_sealed_at(events: &[Event], cell: u32, tail: u64) -> bool
     ensures { result ≡ was_sealed_by events.now cell tail }
 {
-    events.iter().any(|event| ends(&event.call, &event.answer, cell, tail))
+    events
+        .iter()
+        .any(|event| ends(&event.call, &event.answer, cell, tail))
 }
 
 fn ends(call: &FabricCall, answer: &FabricAnswer, cell: u32, tail: u64) -> bool
     ensures { result ≡ ends_by cell tail call.now answer.now }
 {
     match (call, answer) {
-        (FabricCall::Carry(at, _, _), FabricAnswer::Done(answer)) => *at == cell && is_tail(answer, tail),
+        (FabricCall::Carry(at, _, _), FabricAnswer::Done(answer)) => *at == cell
+            && is_tail(answer, tail),
         _ => false,
     }
 }

@@ -180,10 +180,20 @@ impl Parts {
             return Ok(());
         };
         self.step_in(alloc, cell, &CellStep::Take(ticket))?;
-        self.tell(who, FabricCall::Carry(cell, ticket, 0), FabricAnswer::Done(answer))
+        self.tell(
+            who,
+            FabricCall::Carry(cell, ticket, 0),
+            FabricAnswer::Done(answer),
+        )
     }
 
-    fn forget(&mut self, alloc: Global, who: u32, cell: u32, ticket: Ticket) -> Result<(), AllocError>
+    fn forget(
+        &mut self,
+        alloc: Global,
+        who: u32,
+        cell: u32,
+        ticket: Ticket,
+    ) -> Result<(), AllocError>
         requires { WorldLaw any_append any_trim self.old }
         ensures { OnOk result (self.new ≡ done self.old (forgets_op self.old who cell ticket)) }
     {
@@ -202,7 +212,10 @@ impl Parts {
 fn is_inner(step: &CellStep) -> bool
     ensures { result ≡ is_inner_by step.now }
 {
-    !matches!(step, CellStep::Begin(_) | CellStep::Take(_) | CellStep::Forget(_))
+    !matches!(
+        step,
+        CellStep::Begin(_) | CellStep::Take(_) | CellStep::Forget(_)
+    )
 }
 
 fn aim_of(op: &Op) -> Result<Aim, AllocError>
@@ -282,7 +295,12 @@ impl Parts {
 
     /// The chain that follows, by this change, the one that was given under a version; None where
     /// none may.
-    fn following(&self, alloc: Global, expected: u64, change: ChainChange) -> Result<Option<Chain>, AllocError>
+    fn following(
+        &self,
+        alloc: Global,
+        expected: u64,
+        change: ChainChange,
+    ) -> Result<Option<Chain>, AllocError>
         requires { WorldLaw any_append any_trim self.now }
         ensures { IfOk result (λ chain. chain ≡ followed self.now change (given_under self.now.register expected)) }
     {
@@ -295,7 +313,13 @@ impl Parts {
         Ok(Some(changed(alloc, old, change)?))
     }
 
-    fn write(&mut self, alloc: Global, who: u32, expected: u64, change: ChainChange) -> Result<(), AllocError>
+    fn write(
+        &mut self,
+        alloc: Global,
+        who: u32,
+        expected: u64,
+        change: ChainChange,
+    ) -> Result<(), AllocError>
         requires { WorldLaw any_append any_trim self.old }
         ensures { OnOk result (self.new ≡ writes self.old who expected change (given_under self.old.register expected)) }
     {
@@ -325,7 +349,13 @@ impl Parts {
         self.tell(who, call, FabricAnswer::Written(version + 1))
     }
 
-    fn stop_writing(&mut self, alloc: Global, who: u32, expected: u64, change: ChainChange) -> Result<(), AllocError>
+    fn stop_writing(
+        &mut self,
+        alloc: Global,
+        who: u32,
+        expected: u64,
+        change: ChainChange,
+    ) -> Result<(), AllocError>
         requires { WorldLaw any_append any_trim self.old }
         ensures { OnOk result (self.new ≡ stops_writing self.old who expected change (given_under self.old.register expected)) }
     {
@@ -344,7 +374,11 @@ impl Parts {
     {
         let own_chain = chain.clone()?;
         self.register.tear(chain);
-        self.tell(who, FabricCall::WriteChain(expected, own_chain), FabricAnswer::MetaFault)
+        self.tell(
+            who,
+            FabricCall::WriteChain(expected, own_chain),
+            FabricAnswer::MetaFault,
+        )
     }
 
     fn mend(&mut self, who: u32, kept: bool) -> Result<(), AllocError>

@@ -109,7 +109,9 @@ impl RegisterState {
         ensures { result ≡ is_trimmed_by self.now cell n }
     {
         let trim = self.last_given().trim;
-        self.given.iter().any(|chain| is_below(chain, trim, cell, n))
+        self.given
+            .iter()
+            .any(|chain| is_below(chain, trim, cell, n))
     }
 
     /// A client is given what stands.

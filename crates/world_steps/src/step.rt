@@ -21,20 +21,43 @@ pub enum WorldStep {
     /// server stops inside a write or restarts, an operation comes to its end.
     Inside(u32, CellStep),
     /// A client begins an operation on a cell.
-    Begin { who: u32, cell: u32, op: Op },
+    Begin {
+        who: u32,
+        cell: u32,
+        op: Op,
+    },
     /// The client that began an operation is told what it came to, and the operation is closed.
-    Take { who: u32, cell: u32, ticket: Ticket },
+    Take {
+        who: u32,
+        cell: u32,
+        ticket: Ticket,
+    },
     /// The client that began an operation closes it without that.
-    Forget { who: u32, cell: u32, ticket: Ticket },
+    Forget {
+        who: u32,
+        cell: u32,
+        ticket: Ticket,
+    },
     /// A client asks the register for its version and chain.
     ReadChain(u32),
     /// A client asks the register for a change of the chain that was given under the version that
     /// it expects.
-    WriteChain { who: u32, expected: u64, change: ChainChange },
+    WriteChain {
+        who: u32,
+        expected: u64,
+        change: ChainChange,
+    },
     /// The same, and the register stops inside the write.
-    WriteStops { who: u32, expected: u64, change: ChainChange },
+    WriteStops {
+        who: u32,
+        expected: u64,
+        change: ChainChange,
+    },
     /// The register comes up again, and finds the write inside which it stopped done or not.
-    MendRegister { who: u32, kept: bool },
+    MendRegister {
+        who: u32,
+        kept: bool,
+    },
     /// The register doesn't come up.
     MendFails(u32),
     /// A node applies the next entry of the log.
@@ -42,5 +65,8 @@ pub enum WorldStep {
     /// A node stops, maybe inside the application of the next entry.
     StopNode(u32),
     /// A node comes up again, and finds that entry applied or not.
-    RestartNode { node: u32, kept: bool },
+    RestartNode {
+        node: u32,
+        kept: bool,
+    },
 }
