@@ -247,7 +247,10 @@ impl WorldBench {
         let requests = self.sent_in(cell)?.requests;
         let before = self.show(alloc)?;
         for request in 0..requests {
-            self.one(alloc, WorldStep::Inside(cell, CellStep::RequestComes(request)))?;
+            self.one(
+                alloc,
+                WorldStep::Inside(cell, CellStep::RequestComes(request)),
+            )?;
             let after = self.show(alloc)?;
             if after.as_str() != before.as_str() {
                 return Ok(format!(in alloc; "request {request}: {after}")?);
