@@ -98,8 +98,8 @@ impl WorldBench {
 
     /// A client begins an operation on a cell.
     fn begin(&mut self, alloc: Global, words: &[&str]) -> Result<String> {
-        let who = word(words, 0)? as u32;
-        let cell = word(words, 1)? as u32;
+        let who = short(words, 0)?;
+        let cell = short(words, 1)?;
         let Some(name) = words.get(2) else {
             bail!("an operation is wanted");
         };
@@ -110,9 +110,9 @@ impl WorldBench {
     /// An operation sends to a server. Where it is heard, the server answers, and the operation hears
     /// the answer.
     fn send(&mut self, alloc: Global, words: &[&str], heard: bool) -> Result<String> {
-        let cell = word(words, 0)? as u32;
+        let cell = short(words, 0)?;
         let ticket = Ticket::new(word(words, 1)?);
-        let server = word(words, 2)? as u32;
+        let server = short(words, 2)?;
         let Some(name) = words.get(3) else {
             bail!("a wish is wanted");
         };
@@ -147,7 +147,7 @@ impl WorldBench {
 
     /// A message of this number moves in a cell, or a server comes up.
     fn move_inside(&mut self, alloc: Global, name: &str, words: &[&str]) -> Result<String> {
-        let cell = word(words, 0)? as u32;
+        let cell = short(words, 0)?;
         let which = word(words, 1)?;
         let step = match name {
             "comes" => CellStep::RequestComes(which),
@@ -155,7 +155,7 @@ impl WorldBench {
             "stops" => CellStep::RequestStops(which),
             "lost" => CellStep::Lose(which),
             _ => CellStep::Restart {
-                server: which as u32,
+                server: short(words, 1)?,
                 kept: kept(words, 2)?,
             },
         };
@@ -167,8 +167,8 @@ impl WorldBench {
 
     /// An operation comes to its end, and its client is told.
     fn end(&mut self, alloc: Global, words: &[&str]) -> Result<String> {
-        let who = word(words, 0)? as u32;
-        let cell = word(words, 1)? as u32;
+        let who = short(words, 0)?;
+        let cell = short(words, 1)?;
         let ticket = Ticket::new(word(words, 2)?);
         let Some(name) = words.get(3) else {
             bail!("an outcome is wanted");
@@ -181,15 +181,15 @@ impl WorldBench {
     }
 
     fn forget(&mut self, alloc: Global, words: &[&str]) -> Result<String> {
-        let who = word(words, 0)? as u32;
-        let cell = word(words, 1)? as u32;
+        let who = short(words, 0)?;
+        let cell = short(words, 1)?;
         let ticket = Ticket::new(word(words, 2)?);
         self.one(alloc, WorldStep::Forget { who, cell, ticket })
     }
 
     /// A client writes the chain, and the register may stop inside the write.
     fn write(&mut self, alloc: Global, words: &[&str], stops: bool) -> Result<String> {
-        let who = word(words, 0)? as u32;
+        let who = short(words, 0)?;
         let expected = word(words, 1)?;
         let Some(name) = words.get(2) else {
             bail!("a change is wanted");
@@ -222,7 +222,7 @@ impl WorldBench {
 
     /// A step of the register or of a node.
     fn other(&mut self, alloc: Global, name: &str, words: &[&str]) -> Result<String> {
-        let number = word(words, 0)? as u32;
+        let number = short(words, 0)?;
         let step = match name {
             "read" => WorldStep::ReadChain(number),
             "mend" => WorldStep::MendRegister {
@@ -243,7 +243,7 @@ impl WorldBench {
     /// Each request ever sent in a cell comes again, one after another: whether the world is the same
     /// after each.
     fn again(&mut self, alloc: Global, words: &[&str]) -> Result<String> {
-        let cell = number(words)? as u32;
+        let cell = short(words, 0)?;
         let requests = self.sent_in(cell)?.requests;
         let before = self.show(alloc)?;
         for request in 0..requests {
@@ -262,9 +262,11 @@ impl WorldBench {
     /// The cells, the chain and the nodes.
     fn show(&self, alloc: Global) -> Result<String> {
         let mut out = String::new(alloc);
-        for (number, servers) in self.servers.iter().enumerate() {
-            pictures::cell(&mut out, &self.world, number as u32, *servers)?;
+        let mut number = 0u32;
+        for servers in &self.servers {
+            pictures::cell(&mut out, &self.world, number, *servers)?;
             out.push_str("; ")?;
+            number = number.wrapping_add(1);
         }
         pictures::chain(&mut out, self.world.register().last_given())?;
         for node in 0..self.nodes {
@@ -277,7 +279,7 @@ impl WorldBench {
 
     /// So many nodes, and the servers of each cell.
     fn renew(&mut self, alloc: Global, words: &[&str]) -> Result<String> {
-        let nodes = word(words, 0)? as u32;
+        let nodes = short(words, 0)?;
         let mut servers = Vec::new(alloc);
         for word in &words[1..] {
             servers.push(word.parse::<u32>()?)?;
@@ -311,8 +313,13 @@ impl Bench for WorldBench {
 /// The number at a place.
 fn word(words: &[&str], place: usize) -> Result<u64> {
     let text = words.get(place).context("a number is wanted")?;
-    let number = text.parse::<u32>()?;
-    Ok(number as u64)
+    Ok(text.parse::<u64>()?)
+}
+
+/// The number of a client, a cell, a server or a node.
+fn short(words: &[&str], place: usize) -> Result<u32> {
+    let text = words.get(place).context("a number is wanted")?;
+    Ok(text.parse::<u32>()?)
 }
 
 /// Whether a write is kept.
@@ -351,7 +358,7 @@ fn outcome_of(name: &str, words: &[&str]) -> Result<Outcome> {
     match name {
         "open" => Ok(Outcome::OpenTail(number(words)?)),
         "sealed" => Ok(Outcome::SealedTail(number(words)?)),
-        "lack" => Ok(Outcome::NoQuorum(word(words, 0)? as u32)),
+        "lack" => Ok(Outcome::NoQuorum(short(words, 0)?)),
         _ => outcome_alone(name),
     }
 }

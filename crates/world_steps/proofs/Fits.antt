@@ -1,11 +1,10 @@
 -- Numbers of a world stay small, and the chain that follows one that was given is one.
-use Rattle.std.proofs.Common.{◌≡◌, inl, inr, ⊎_elim, ℕ, ◌+◌, ◌*◌, ◌<◌, ◌≤◌, ◌^◌, Bool, true, sym, ◌∙◌, ap, arith, List, length, Some, Option}
-use Rattle.std.specs.Prelude.{◌&&◌, nat_lt}
+use Rattle.std.proofs.Common.{◌≡◌, ⊎_elim, ℕ, ◌+◌, ◌<◌, ◌^◌, true, ◌∙◌, arith, List, length, Some}
 use Rattle.std.proofs.lemmas.Bool.{and_parts, ltb-true}
 use Rattle.std.proofs.lemmas.List.{length-map}
 use Rattle.delos_types.specs.declared.entry.Entry.{Entry}
 use Rattle.delos_types.specs.declared.chain.Chain.{Chain}
-use Rattle.chain_map.specs.Chain.{IsChain, last_segment, last_id, last_of_segments}
+use Rattle.chain_map.specs.Chain.{IsChain, last_segment, last_id}
 use Rattle.quorum_cell.specs.Cells.{Cell}
 use Rattle.legal_journal.specs.Journal as journal
 use Rattle.legal_journal.proofs.Log.{last_starts}

@@ -1,5 +1,5 @@
 -- The law of a fresh world, and of every world that steps lead to.
-use Rattle.std.proofs.Common.{◌≡◌, ◌≢◌, inl, ℕ, zero, suc, ◌+◌, ◌<◌, ◌≤◌, Bool, true, false, refl, sym, ◌∙◌, ap, subst, arith, List, [], ◌∷◌, length, map, get_or, Option, Some, None}
+use Rattle.std.proofs.Common.{◌≡◌, inl, ℕ, zero, suc, true, refl, sym, ◌∙◌, ap, subst, arith, List, [], ◌∷◌, length, map, Some, None}
 use Rattle.std.specs.Prelude.{All, replicate, slice_get}
 use Rattle.std.proofs.lemmas.Bool.{false≢true}
 use Rattle.std.proofs.lemmas.Option.{none-some}
@@ -21,7 +21,7 @@ use Rattle.world_steps.specs.declared.step.ChainChange.{ChainChange}
 use Rattle.world_steps.specs.declared.step.ChainChange.TheVariants.{Extend, Raise}
 use Rattle.world_steps.specs.declared.step.WorldStep.{WorldStep}
 use Rattle.world_steps.specs.declared.step.WorldStep.TheVariants as step
-use Rattle.world_steps.specs.Parts.{Node, World, no_cell, no_node, cell_at, node_at, of_version, given_under, first_register, fresh, shelf_of}
+use Rattle.world_steps.specs.Parts.{Node, World, no_cell, no_node, cell_at, node_at, of_version, fresh, shelf_of}
 use Rattle.world_steps.specs.Steps.{world_step, run_world}
 use Rattle.world_steps.specs.Laws.{IsShaped, IsShelf, IsCellTold, IsFront, WorldLaw, BringsSpelled, IsLet, KeepsTo, AllKeepTo, any_append, any_trim}
 use Rattle.world_steps.proofs.Told.{view_of}

@@ -1,10 +1,9 @@
 -- What steps of a world are in a cell.
-use Rattle.std.proofs.Common.{◌≡◌, ◌≢◌, ◌⊎◌, inl, inr, ⊎_elim, ℕ, zero, suc, ◌<◌, Bool, true, false, refl, sym, ◌∙◌, ap, subst, arith, List, [], ◌∷◌, ◌++◌, length, map, get_or, set, Option, Some, None, get_or-set_same, get_or-set_other}
+use Rattle.std.proofs.Common.{◌≡◌, ◌≢◌, ◌⊎◌, inl, inr, ⊎_elim, ℕ, ◌<◌, Bool, true, false, refl, sym, ◌∙◌, ap, subst, arith, List, [], ◌∷◌, length, map, set, Option, Some, None, get_or-set_same, get_or-set_other}
 use Rattle.std.specs.Prelude.{◌&&◌, ◌==◌, not, nat_lt, if◌then◌else◌, All}
 use Rattle.std.proofs.lemmas.Bool.{false≢true, and_parts, ltb-true, eqb-true}
 use Rattle.std.proofs.lemmas.Bool.Decides.{nat_tests}
 use Rattle.std.proofs.lemmas.List.Elements.{All-nil, All-cons, All-head, All-tail, All-append}
-use Rattle.delos_types.specs.declared.entry.Entry.{Entry}
 use Rattle.delos_types.specs.declared.chain.Chain.{Chain}
 use Rattle.loglet_api.specs.declared.call.Op.{Op}
 use Rattle.loglet_api.specs.declared.call.Op.TheVariants.{Append, Settle, Tail, Seal, Read, Trim}
@@ -12,19 +11,16 @@ use Rattle.loglet_api.specs.declared.call.Answer.{Answer}
 use Rattle.quorum_cell.specs.declared.operation.CellStep.{CellStep}
 use Rattle.quorum_cell.specs.declared.operation.CellStep.TheVariants as cell
 use Rattle.quorum_cell.specs.Cells.{Cell, operation}
-use Rattle.quorum_cell.specs.Steps.{cell_step, run_cell, is_full}
+use Rattle.quorum_cell.specs.Steps.{cell_step, run_cell}
 use Rattle.quorum_cell.proofs.Runs.{run_cell-append, step_later}
 use Rattle.cell_views.specs.Views as views
-use Rattle.legal_journal.specs.declared.events.FabricCall.{FabricCall}
-use Rattle.legal_journal.specs.declared.events.FabricCall.TheVariants.{Begin as AskBegin, Forget as AskForget}
-use Rattle.legal_journal.specs.declared.events.FabricAnswer.TheVariants.{Begun, Full, Gone}
 use Rattle.world_steps.specs.declared.step.ChainChange.{ChainChange}
 use Rattle.world_steps.specs.declared.step.WorldStep.{WorldStep}
 use Rattle.world_steps.specs.declared.step.WorldStep.TheVariants as step
-use Rattle.world_steps.specs.Parts.{Register, World, no_cell, cell_at, node_at, given_under, shelf_of}
+use Rattle.world_steps.specs.Parts.{World, no_cell, cell_at, node_at, given_under, shelf_of}
 use Rattle.world_steps.specs.Events.{is_owner}
-use Rattle.world_steps.specs.Guards.{is_inner, aim_of, may_begin, changed, may_follow}
-use Rattle.world_steps.specs.Steps.{event, Deed, deed, done, moves_inside, begins_op, takes_answer, forgets_op, answer_of, told, reads, writes, stops_writing, mends, stays_down, applies, stops_node, restarts_node, put_node, world_step, run_world}
+use Rattle.world_steps.specs.Guards.{is_inner, aim_of, may_begin, may_follow}
+use Rattle.world_steps.specs.Steps.{Deed, deed, done, takes_answer, answer_of, told, writes, stops_writing, world_step, run_world}
 use Rattle.world_steps.specs.Moves.{step_in, steps_in}
 use Rattle.world_steps.specs.Laws.{BringsSpelled}
 use Rattle.world_steps.proofs.Kept.{map_kept}

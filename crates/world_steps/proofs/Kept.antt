@@ -1,6 +1,6 @@
 -- The law of worlds is kept by an event, and by what is no event.
-use Rattle.std.proofs.Common.{◌≡◌, ◌≢◌, ◌⊎◌, inl, inr, ℕ, zero, suc, ◌+◌, ◌<◌, ◌≤◌, Bool, true, false, refl, sym, ◌∙◌, ap, subst, ⊎_elim, arith, List, [], ◌∷◌, ◌++◌, length, map, get_or, set, Option, Some, None, get_or-set_same, get_or-set_other}
-use Rattle.std.specs.Prelude.{◌||◌, slice_get, Contains}
+use Rattle.std.proofs.Common.{◌≡◌, ◌⊎◌, inl, inr, ℕ, zero, suc, ◌<◌, Bool, true, false, refl, sym, ◌∙◌, ap, subst, ⊎_elim, arith, List, [], ◌∷◌, ◌++◌, length, map, get_or, set, Option, Some, get_or-set_same, get_or-set_other}
+use Rattle.std.specs.Prelude.{◌||◌, Contains}
 use Rattle.std.specs.List.{list_any}
 use Rattle.std.proofs.lemmas.Bool.{or_cases, false≢true}
 use Rattle.std.proofs.lemmas.List.{append-nil}
@@ -10,7 +10,7 @@ use Rattle.quorum_cell.specs.Cells.{Cell}
 use Rattle.legal_journal.specs.declared.events.Event.{Event}
 use Rattle.legal_journal.specs.Told.{put}
 use Rattle.legal_journal.specs.Moves.{move}
-use Rattle.legal_journal.specs.Journal.{CellState, RegisterState, State, state_of, after, MayHappen, IsLegal, Shows}
+use Rattle.legal_journal.specs.Journal.{State, state_of, after, MayHappen, IsLegal}
 use Rattle.legal_journal.specs.Laws.{Continues}
 use Rattle.legal_journal.proofs.Cells.{put_cases}
 use Rattle.legal_journal.proofs.Sound.{StateOk}

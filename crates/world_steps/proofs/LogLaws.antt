@@ -1,5 +1,5 @@
 -- What follows for the log, the chains and the nodes of two worlds, one later than the other.
-use Rattle.std.proofs.Common.{◌≡◌, ◌⊎◌, inl, inr, ℕ, zero, suc, ◌+◌, ◌<◌, ◌≤◌, refl, sym, ◌∙◌, ap, subst, ⊎_elim, arith, List, ◌++◌, length, Option, Some, None, IsSome}
+use Rattle.std.proofs.Common.{◌≡◌, inl, inr, ℕ, ◌+◌, ◌<◌, ◌≤◌, sym, ◌∙◌, ap, subst, arith, List, ◌++◌, length, Option, Some, IsSome}
 use Rattle.std.specs.Prelude.{slice_get}
 use Rattle.std.proofs.lemmas.Option.{slice_get_within}
 use Rattle.delos_types.specs.declared.entry.Entry.{Entry}
@@ -15,7 +15,7 @@ use Rattle.legal_journal.proofs.Log.{slice_get_front, HasStart-in}
 use Rattle.legal_journal.proofs.Sound.{StateOk, reach_le_end}
 use Rattle.legal_journal.proofs.Legal.{goes_on, agrees, whole, reached_stands}
 use Rattle.legal_journal.proofs.Chains.{chain_ok, closed_at, is_in_at}
-use Rattle.world_steps.specs.Parts.{World, Node, cell_at, node_at, given_under, shelf_of}
+use Rattle.world_steps.specs.Parts.{World, cell_at, node_at, given_under, shelf_of}
 use Rattle.world_steps.specs.Logs.{log_at, trim_of, tail_of, Stands}
 use Rattle.world_steps.specs.Laws.{WorldLaw, IsFrontOf}
 use Rattle.world_steps.proofs.Kept.{Goes, state_ok}

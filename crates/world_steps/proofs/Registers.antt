@@ -1,16 +1,15 @@
 -- A register that does what it is asked goes on as the events tell.
-use Rattle.std.proofs.Common.{◌≡◌, ◌≢◌, inl, inr, ℕ, zero, suc, ◌+◌, ◌-◌, ◌<◌, ◌≤◌, Bool, true, false, refl, sym, ◌∙◌, ap, subst, ⊎_elim, arith, List, [], ◌∷◌, ◌++◌, length, get_or, Option, Some, None, length-append}
+use Rattle.std.proofs.Common.{◌≡◌, ◌≢◌, inl, inr, ℕ, zero, suc, ◌+◌, ◌-◌, Bool, true, false, refl, sym, ◌∙◌, ap, ⊎_elim, arith, List, [], ◌∷◌, ◌++◌, length, get_or, Option, Some, None, length-append}
 use Rattle.std.specs.Prelude.{not, ◌==◌, if◌then◌else◌, slice_get}
 use Rattle.std.proofs.lemmas.Bool.{eqb-true}
 use Rattle.std.proofs.lemmas.Bool.Decides.{nat_tests}
 use Rattle.delos_types.specs.declared.chain.Chain.{Chain}
 use Rattle.chain_map.specs.Chain.{first_chain}
-use Rattle.legal_journal.specs.Told.{put}
 use Rattle.legal_journal.specs.Moves.{Faults, Mends}
-use Rattle.legal_journal.specs.Journal.{RegisterState, State, known, register_after, IsCurrent}
+use Rattle.legal_journal.specs.Journal.{State, known, register_after}
 use Rattle.legal_journal.proofs.Cells.{put_cases}
 use Rattle.legal_journal.proofs.Sound.{StateOk}
-use Rattle.world_steps.specs.Parts.{Register, of_version, given_under, last_given}
+use Rattle.world_steps.specs.Parts.{Register, of_version, given_under}
 use Rattle.world_steps.specs.Steps.{gave, replaced, torn_by, mended}
 use Rattle.world_steps.specs.Laws.{IsRegisterTold}
 

@@ -1,6 +1,6 @@
 -- What a world's log shows is what the events tell.
-use Rattle.std.proofs.Common.{◌≡◌, ◌≢◌, ℕ, zero, suc, ◌+◌, ◌-◌, ◌<◌, ◌≤◌, Bool, true, false, cond, refl, sym, ◌∙◌, ap, subst, arith, List, [], ◌∷◌, length, Option, Some, None}
-use Rattle.std.specs.Prelude.{◌&&◌, nat_lt, nat_le, if◌then◌else◌, unwrap_or, slice_get}
+use Rattle.std.proofs.Common.{◌≡◌, ℕ, ◌+◌, ◌-◌, Bool, true, false, cond, refl, sym, ◌∙◌, ap, arith, List, [], ◌∷◌, Option, Some, None}
+use Rattle.std.specs.Prelude.{nat_lt, unwrap_or, slice_get}
 use Rattle.std.proofs.lemmas.Bool.Decides.{nat_tests}
 use Rattle.delos_types.specs.declared.entry.Entry.{Entry}
 use Rattle.delos_types.specs.declared.chain.Segment.{Segment}
@@ -11,7 +11,7 @@ use Rattle.legal_journal.specs.Shown.{end_of, is_within, entry_in, entry_of}
 use Rattle.legal_journal.specs.Moves.{Move, OnCell, OnRegister, Nothing, Never, move}
 use Rattle.legal_journal.specs.Journal.{State, after, after_all, start, now_or_before, reach, entries}
 use Rattle.legal_journal.specs.Journal as journal
-use Rattle.world_steps.specs.Parts.{World, cell_at, last_given}
+use Rattle.world_steps.specs.Parts.{World, last_given}
 use Rattle.world_steps.specs.Logs.{reach_in, entries_in, log_at, trim_of, tail_of}
 use Rattle.world_steps.specs.Laws.{WorldLaw}
 

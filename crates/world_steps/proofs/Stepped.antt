@@ -1,6 +1,6 @@
 -- Each step of a world keeps its law.
-use Rattle.std.proofs.Common.{◌≡◌, ◌≢◌, ◌⊎◌, inl, inr, ℕ, zero, suc, ◌+◌, ◌<◌, ◌≤◌, ◌^◌, Bool, true, false, refl, sym, ◌∙◌, ap, subst, ⊎_elim, arith, List, [], ◌∷◌, ◌++◌, length, map, set, Option, Some, None, length-append}
-use Rattle.std.specs.Prelude.{not, ◌&&◌, ◌||◌, ◌==◌, nat_lt, nat_le, if◌then◌else◌, slice_get, Contains}
+use Rattle.std.proofs.Common.{◌≡◌, ◌≢◌, inl, inr, ℕ, zero, suc, ◌+◌, ◌<◌, ◌≤◌, Bool, true, false, refl, sym, ◌∙◌, ap, subst, ⊎_elim, arith, List, [], ◌∷◌, ◌++◌, length, map, set, Option, Some, None, length-append}
+use Rattle.std.specs.Prelude.{not, ◌&&◌, ◌==◌, nat_lt, nat_le, if◌then◌else◌, slice_get, Contains}
 use Rattle.std.specs.List.{list_any}
 use Rattle.std.proofs.lemmas.Bool.{false≢true, and_parts, or_cases, not-true, ltb-true, leb-true, eqb-true}
 use Rattle.std.proofs.lemmas.Bool.Decides.{nat_tests}
@@ -9,11 +9,11 @@ use Rattle.std.proofs.lemmas.List.Elements.{Contains-append_right}
 use Rattle.delos_types.specs.declared.entry.Entry.{Entry}
 use Rattle.delos_types.specs.declared.chain.Segment.{Segment}
 use Rattle.delos_types.specs.declared.chain.Chain.{Chain}
-use Rattle.chain_map.specs.Chain.{last_id, last_of_segments}
+use Rattle.chain_map.specs.Chain.{last_id}
 use Rattle.loglet_api.specs.declared.call.Op.{Op}
 use Rattle.loglet_api.specs.declared.call.Op.TheVariants.{Append, Settle, Tail, Seal, Read, Trim}
 use Rattle.loglet_api.specs.declared.call.Answer.{Answer}
-use Rattle.loglet_api.specs.declared.call.Answer.TheVariants.{SealedTail, Placed, Settled, OpenTail, SealDone, Got, CutAt, Beyond, TrimDone, Sealed, NoQuorum}
+use Rattle.loglet_api.specs.declared.call.Answer.TheVariants.{SealedTail}
 use Rattle.quorum_cell.specs.declared.operation.CellStep.{CellStep}
 use Rattle.quorum_cell.specs.declared.operation.CellStep.TheVariants as cell
 use Rattle.quorum_cell.specs.Cells.{Cell, operation}
@@ -26,21 +26,20 @@ use Rattle.legal_journal.specs.Told.{put}
 use Rattle.legal_journal.specs.Moves.{CellMove, Begins, Answers, Drops}
 use Rattle.legal_journal.specs.Journal.{CellState, State, state_of, cell_after, ends_told, MayBegin, MayFollow, Extends, Raises, IsFree, Exists}
 use Rattle.legal_journal.specs.Journal as journal
-use Rattle.legal_journal.proofs.Cells.{put_cases, put_same}
+use Rattle.legal_journal.proofs.Cells.{put_same}
 use Rattle.legal_journal.proofs.Log.{HasStart}
 use Rattle.legal_journal.proofs.Sound.{StateOk}
 use Rattle.world_steps.specs.declared.step.ChainChange.{ChainChange}
 use Rattle.world_steps.specs.declared.step.ChainChange.TheVariants.{Extend, Raise}
 use Rattle.world_steps.specs.declared.step.WorldStep.{WorldStep}
 use Rattle.world_steps.specs.declared.step.WorldStep.TheVariants as step
-use Rattle.world_steps.specs.Parts.{Register, Node, World, no_cell, cell_at, node_at, of_version, given_under, last_given, shelf_of}
-use Rattle.world_steps.specs.Events.{is_begin_of, is_owner, is_tail, ends, was_sealed_at}
+use Rattle.world_steps.specs.Parts.{Node, World, no_cell, cell_at, node_at, given_under, last_given, shelf_of}
+use Rattle.world_steps.specs.Events.{is_begin_of, is_owner, is_tail}
 use Rattle.world_steps.specs.Guards.{is_inner, aim_of, is_below, is_trimmed, may_begin, changed, may_follow}
-use Rattle.world_steps.specs.Logs.{log_at}
-use Rattle.world_steps.specs.Steps.{event, answer_of, told, moves_inside, begins_op, takes_answer, forgets_op, done, Deed, deed, gave, replaced, torn_by, mended, on_register, reads, asked, writes, stops_writing, mends, stays_down, with_entry, next_entry, applies, stops_node, restarts_node, put_node, world_step, run_world}
-use Rattle.world_steps.specs.Laws.{IsCellTold, IsRegisterTold, IsFront, WorldLaw, IsLet, KeepsTo, AllKeepTo}
+use Rattle.world_steps.specs.Steps.{event, answer_of, told, moves_inside, begins_op, takes_answer, forgets_op, done, gave, replaced, torn_by, mended, on_register, reads, asked, writes, stops_writing, mends, stays_down, with_entry, next_entry, applies, stops_node, restarts_node, put_node, world_step, run_world}
+use Rattle.world_steps.specs.Laws.{IsCellTold, WorldLaw, IsLet, KeepsTo, AllKeepTo}
 use Rattle.world_steps.proofs.Told.{SpellsOp, begun_told, refused_told, inner_told, answered_told, dropped_told}
-use Rattle.world_steps.proofs.Registers.{push_here, push_else, gave_told, replaced_told, torn_told, missed_told, mended_told, IsKnown, expected}
+use Rattle.world_steps.proofs.Registers.{push_here, push_else, gave_told, replaced_told, torn_told, missed_told, mended_told, expected}
 use Rattle.world_steps.proofs.Kept.{Goes, idle, placed, at_set, map_kept, state_ok, event_kept, cell_kept, node_kept}
 use Rattle.world_steps.proofs.Seen.{shown_now}
 

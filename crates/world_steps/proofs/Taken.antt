@@ -1,5 +1,5 @@
 -- The operation of a ticket, and what its client is told.
-use Rattle.std.proofs.Common.{◌≡◌, ℕ, zero, suc, Bool, true, false, refl, sym, ◌∙◌, ap, subst, List, [], ◌∷◌, get_or, Option, Some, None}
+use Rattle.std.proofs.Common.{◌≡◌, ℕ, zero, suc, Bool, true, false, refl, sym, ap, subst, List, [], ◌∷◌, get_or, Option, Some, None}
 use Rattle.std.specs.Prelude.{if◌then◌else◌, slice_get}
 use Rattle.loglet_api.specs.declared.call.Answer.{Answer}
 use Rattle.quorum_cell.specs.Cells.{Cell, Operation, operation, no_operation}

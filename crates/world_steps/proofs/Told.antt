@@ -1,6 +1,6 @@
 -- A cell that takes a step goes on as the events tell.
-use Rattle.std.proofs.Common.{◌≡◌, ℕ, ◌+◌, ◌<◌, ◌≤◌, Bool, true, false, inl, inr, refl, sym, ◌∙◌, ap, subst, arith, List, [], ◌∷◌, ◌++◌, length, Option, Some, None}
-use Rattle.std.specs.Prelude.{not, if◌then◌else◌}
+use Rattle.std.proofs.Common.{◌≡◌, ℕ, Bool, true, false, inr, refl, sym, ◌∙◌, ap, subst, arith, List, [], ◌∷◌, ◌++◌, length, Option, Some, None}
+use Rattle.std.specs.Prelude.{if◌then◌else◌}
 use Rattle.std.proofs.lemmas.Bool.{false≢true}
 use Rattle.std.proofs.lemmas.List.{append-nil}
 use Rattle.delos_types.specs.declared.entry.Entry.{Entry}
@@ -15,9 +15,8 @@ use Rattle.loglet_api.specs.declared.call.LogletAnswer.{LogletAnswer}
 use Rattle.loglet_api.specs.declared.call.LogletAnswer.TheVariants as answer
 use Rattle.loglet_api.specs.View.{LogletView}
 use Rattle.loglet_api.specs.Sound.{IsSound}
-use Rattle.loglet_api.specs.Step.{LogletStep, Begins, TakesAnswer, Forgets, Moves, IsAtMost, entries_of, bumped}
+use Rattle.loglet_api.specs.Step.{LogletStep, Begins, TakesAnswer, Forgets, Moves, entries_of, bumped}
 use Rattle.loglet_api.specs.Run.{LogletRun}
-use Rattle.quorum_cell.specs.declared.operation.Aim.{Aim}
 use Rattle.quorum_cell.specs.declared.operation.CellStep.{CellStep}
 use Rattle.quorum_cell.specs.declared.operation.CellStep.TheVariants as cell
 use Rattle.quorum_cell.specs.declared.operation.Outcome.{Outcome}
@@ -25,7 +24,6 @@ use Rattle.quorum_cell.specs.Cells.{Cell, Operation, operation}
 use Rattle.quorum_cell.specs.Steps.{cell_step, is_full, begin, admit, with_fault, give, take_outcome, forget, put_operation, entries_after}
 use Rattle.quorum_cell.specs.Law.{IsLawful}
 use Rattle.quorum_cell.proofs.Lawful.{step_lawful}
-use Rattle.quorum_cell.proofs.Runs.{step_later}
 use Rattle.cell_views.specs.Views.{IsManner, IsSpelled, IsStray, IsNearer, BringsSpelled, cell_view, op_of, taken}
 use Rattle.cell_views.proofs.Calls.{step_runs, spelled_after}
 use Rattle.cell_views.proofs.Moves.{step_moves, step_stirs}
@@ -34,7 +32,7 @@ use Rattle.legal_journal.specs.Told.{MayAnswer, Running}
 use Rattle.legal_journal.specs.Moves.{Begins as BeginsMove, Answers, Drops}
 use Rattle.legal_journal.specs.Journal.{CellState, cell_after, HasRoom}
 use Rattle.fabric_core.specs.Fabric.{IsAsTold}
-use Rattle.fabric_core.proofs.AsTold.{has_room, begun_as_told, moved_as_told, moved_left, Answered, answered_as_told, Dropped, dropped_as_told}
+use Rattle.fabric_core.proofs.AsTold.{has_room, begun_as_told, moved_as_told, moved_left, answered_as_told, dropped_as_told}
 use Rattle.world_steps.specs.Guards.{is_inner, aim_of}
 use Rattle.world_steps.specs.Steps.{answer_of}
 use Rattle.world_steps.specs.Laws.{IsCellTold, plain}

@@ -1,5 +1,5 @@
 -- What holds of every world that steps lead to.
-use Rattle.std.specs.Prelude.{◌≡◌, ℕ, ◌+◌, ◌<◌, ◌≤◌, ◌^◌, true, not, List, [], ◌∷◌, length, slice_get, Option, Some, None, All, Contains, ⊤}
+use Rattle.std.specs.Prelude.{◌≡◌, ℕ, ◌<◌, ◌≤◌, ◌^◌, true, not, List, [], ◌∷◌, length, slice_get, Option, Some, None, All, Contains, ⊤}
 use Rattle.delos_types.specs.declared.entry.Entry.{Entry}
 use Rattle.delos_types.specs.declared.chain.Chain.{Chain}
 use Rattle.delos_types.specs.Spelling.{IsSpellable}
@@ -8,7 +8,7 @@ use Rattle.loglet_api.specs.declared.call.Op.TheVariants.{Append}
 use Rattle.quorum_cell.specs.Cells.{Cell}
 use Rattle.quorum_cell.specs.Law.{IsLawful}
 use Rattle.cell_views.specs.Views.{Manner, IsSpelled, cell_view}
-use Rattle.legal_journal.specs.Journal.{CellState, RegisterState, State, state_of, IsLegal, IsCurrent, IsFree, Shows}
+use Rattle.legal_journal.specs.Journal.{CellState, RegisterState, state_of, IsLegal, IsCurrent, IsFree, Shows}
 use Rattle.fabric_core.specs.Fabric.{IsAsTold}
 use Rattle.world_steps.specs.declared.shape.Shape.{Shape}
 use Rattle.world_steps.specs.declared.step.ChainChange.{ChainChange}

@@ -1,5 +1,5 @@
 -- The steps of a world. A step touches one part, and one that is not possible changes nothing.
-use Rattle.std.specs.Prelude.{ℕ, ◌+◌, Bool, true, false, not, ◌&&◌, ◌==◌, nat_lt, if◌then◌else◌, List, [], ◌∷◌, ◌++◌, length, set, slice_get, Option, Some, None}
+use Rattle.std.specs.Prelude.{ℕ, ◌+◌, Bool, true, false, not, ◌&&◌, ◌==◌, nat_lt, if◌then◌else◌, List, [], ◌∷◌, ◌++◌, length, set, Option, Some, None}
 use Rattle.delos_types.specs.declared.entry.Entry.{Entry}
 use Rattle.delos_types.specs.declared.chain.Chain.{Chain}
 use Rattle.loglet_api.specs.declared.call.Op.{Op}
@@ -7,7 +7,7 @@ use Rattle.loglet_api.specs.declared.call.Answer.{Answer}
 use Rattle.quorum_cell.specs.declared.operation.Aim.{Aim}
 use Rattle.quorum_cell.specs.declared.operation.CellStep.{CellStep}
 use Rattle.quorum_cell.specs.declared.operation.CellStep.TheVariants as cell
-use Rattle.quorum_cell.specs.Cells.{Cell, Operation, operation}
+use Rattle.quorum_cell.specs.Cells.{Cell, operation}
 use Rattle.quorum_cell.specs.Steps.{cell_step, is_full}
 use Rattle.cell_views.specs.Views.{taken}
 use Rattle.legal_journal.specs.declared.events.FabricCall.{FabricCall}

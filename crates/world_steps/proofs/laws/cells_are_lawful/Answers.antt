@@ -1,7 +1,5 @@
-use Rattle.std.proofs.Common.{◌≡◌, ℕ, zero, suc, sym, subst, List, ◌∷◌, length, map, Some, ap}
-use Rattle.std.specs.Prelude.{slice_get}
-use Rattle.std.proofs.lemmas.List.{length-replicate}
-use Rattle.quorum_cell.specs.Cells.{Cell, start, no_server}
+use Rattle.std.proofs.Common.{sym, subst}
+use Rattle.quorum_cell.specs.Cells.{Cell}
 use Rattle.cell_views.specs.Views.{IsManner, cell_view, calls_of}
 use Rattle.cell_views.proofs.Calls.{steps_run}
 use Rattle.loglet_api.specs.Run.{LogletRun}
