@@ -279,9 +279,12 @@ impl WorldBench {
 
     /// So many nodes, and the servers of each cell.
     fn renew(&mut self, alloc: Global, words: &[&str]) -> Result<String> {
+        let [_, cells @ ..] = words else {
+            bail!("a world has nodes and cells");
+        };
         let nodes = short(words, 0)?;
         let mut servers = Vec::new(alloc);
-        for word in &words[1..] {
+        for word in cells {
             servers.push(word.parse::<u32>()?)?;
         }
         *self = WorldBench::of(alloc, servers, nodes)?;
