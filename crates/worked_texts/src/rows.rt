@@ -93,7 +93,7 @@ fn outcome_in(alloc: Global, words: &[&str], numbers: &[u64]) -> io::Result<Outc
     })
 }
 
-/// A row: `row 1 session a` or `row 1 node 2`, and its answer.
+/// What a line of the case tells of a command: its number, whose it is (`session a` or `node 2`), and its answer.
 fn row_in(alloc: Global, line: &str) -> io::Result<Row> {
     let words: Vec<&str> = line.split(' ').collect(alloc)?;
     let numbers = numbers_in(alloc, line)?;
