@@ -1,5 +1,5 @@
 -- Where nothing is seen to change: other servers that hold the same, other maps of the same operations.
-use Rattle.std.proofs.Common.{◌≡◌, ℕ, zero, suc, ◌*◌, ◌^◌, ◌<◌, ◌≤◌, Bool, true, false, nat_eq, refl, sym, ◌∙◌, ap, subst, arith, List, [], ◌∷◌, map, length, get_or, set, Option, Some, None, inr}
+use Rattle.std.proofs.Common.{◌≡◌, ℕ, zero, suc, ◌+◌, ◌*◌, ◌^◌, ◌<◌, ◌≤◌, Bool, true, false, nat_eq, refl, sym, ◌∙◌, ap, subst, arith, List, [], ◌∷◌, map, length, get_or, set, Option, Some, None, inr}
 use Rattle.std.specs.Prelude.{is_some, count_by, sum_by, IsSome, slice_get}
 use Rattle.native_loglet.specs.Natives.{UpdatesAt}
 use Rattle.std.specs.Map.{lookup}
@@ -11,8 +11,7 @@ use Rattle.loglet_api.specs.declared.call.LogletCall.TheVariants.{Forget as Call
 use Rattle.loglet_api.specs.declared.call.LogletAnswer.{LogletAnswer}
 use Rattle.loglet_api.specs.declared.call.LogletAnswer.TheVariants.{Forgotten}
 use Rattle.delos_types.specs.Spelling.{IsSpellable}
-use Rattle.loglet_api.specs.Sound.{IsSound}
-use Rattle.loglet_api.specs.View.{LogletView, operation_at, size_of, IsOpen}
+use Rattle.loglet_api.specs.View.{LogletView, operation_at, IsOpen}
 use Rattle.loglet_api.specs.Step.{LogletStep, CanCall, Does, Moves, HasLeft}
 use Rattle.quorum_cell.specs.declared.operation.Outcome.{Outcome}
 use Rattle.quorum_cell.specs.declared.operation.CellStep.TheVariants.{Forget}
@@ -20,6 +19,7 @@ use Rattle.majority_rule.specs.Majority.{votes_below}
 use Rattle.quorum_cell.specs.Servers.{Server}
 use Rattle.quorum_cell.specs.Cells.{Cell, no_server}
 use Rattle.quorum_cell.specs.Steps.{cell_step}
+use Rattle.quorum_cell.proofs.Lists.{slice_get_drop}
 use Rattle.cell_views.specs.Views.{Manner, cell_view}
 use Rattle.log_server.specs.View.{View}
 use Rattle.native_plan.specs.declared.pending.Pending.{Pending}
@@ -32,9 +32,9 @@ use Rattle.native_loglet.specs.declared.marks.Marks.{Marks}
 use Rattle.native_loglet.specs.Natives.{Native, NativeView, PendingList, native_of, server_in, shown, look_in, loglet_of, manner_of, IsOpenAs, IsMail, IsCellOf}
 use Rattle.native_loglet.specs.declared.mail.Mail.{Mail}
 use Rattle.native_loglet.proofs.Mails.{same_strays}
-use Rattle.native_loglet.proofs.Viewing.{count_servers, servers_many, FitsLeft, view_is, fits_own}
+use Rattle.native_loglet.proofs.Viewing.{size_is, count_servers, servers_many, FitsLeft, view_is, fits_own}
 use Rattle.native_loglet.proofs.Stirring.{run_moves}
-use Rattle.native_loglet.proofs.Stepping.{tied_sound, own_view, same_manner, step_same, open_is, open_there, seen_is, Keeps, forgets}
+use Rattle.native_loglet.proofs.Stepping.{own_view, same_manner, step_same, open_is, open_there, seen_is, Keeps, forgets}
 
 -- a native loglet that is a cell's
 abbrev pub IsOwned : Native → Type 0
@@ -162,22 +162,13 @@ forgets_owned a b v t e h can k marks u =
 ---- what each call may rely on
 
 pub entries_spelled : (a : Native) → IsOwned a → (i : ℕ) (e : Entry) → slice_get a.entries i ≡ Some e → IsSpellable e
-entries_spelled a h i e is = h.1.spelled i e (ap (λ (es : List Entry). slice_get es i) h.1.entries ∙ is)
+entries_spelled a h i e is = h.1.spelled (h.0.cut + i) e (sym (slice_get_drop h.0.cut h.0.entries i) ∙ ap (λ (es : List Entry). slice_get es i) h.1.entries ∙ is)
 
-pub entries_small : (a : Native) → IsOwned a → length a.entries ≤ 2 ^ 32
-entries_small a h =
-    let small : length h.0.entries ≤ 2 ^ 32 = omega (arith, h.1.lawful.law.quorum.fits, h.1.lawful.shape.room.1) in
-    omega (arith, small, ap (λ (es : List Entry). length es) h.1.entries)
+pub entries_small : (a : Native) → IsOwned a → a.marks.cut + length a.entries ≤ 2 ^ 32
+entries_small a h = omega (arith, size_is a h.0 h.1, h.1.lawful.law.quorum.fits, h.1.lawful.shape.room.1)
 
 pub cut_small : (a : Native) → IsOwned a → a.marks.cut ≤ 2 ^ 32
-cut_small a h =
-    let s : IsSound (loglet_of a) = tied_sound a h.0 h.1 in
-    let cut : a.marks.cut ≤ a.marks.reach = s.cut in
-    let reach : a.marks.reach ≤ a.marks.firm = s.reach in
-    let firm : a.marks.firm ≤ size_of (loglet_of a) = s.firm in
-    let size : size_of (loglet_of a) ≤ a.room = s.size in
-    let room : a.room ≤ 2 ^ 32 = s.shape.room.1 in
-    omega (arith, cut, reach, firm, size, room)
+cut_small a h = (let all = entries_small a h in omega (arith, all))
 
 pub servers_few : (a : Native) → IsOwned a → length a.replicas ≤ 7
 servers_few a h = omega (arith, h.1.few, servers_many a h.0 h.1)

@@ -1,9 +1,9 @@
 -- An operation begins, or there is no room.
-use Rattle.std.proofs.Common.{◌≡◌, ℕ, zero, suc, ◌+◌, ◌-◌, ◌^◌, ◌<◌, ◌≤◌, Bool, true, false, cond, refl, sym, ◌∙◌, ap, subst, arith, List, [], ◌∷◌, ◌++◌, length, get_or, Option, Some, None, inl, inr, min, length-append}
+use Rattle.std.proofs.Common.{◌≡◌, ℕ, zero, suc, ◌+◌, ◌-◌, ◌^◌, ◌<◌, ◌≤◌, Bool, true, false, cond, refl, sym, ◌∙◌, ap, subst, arith, List, [], ◌∷◌, ◌++◌, length, get_or, drop, Option, Some, None, inl, inr, min, length-append}
 use Rattle.std.specs.Prelude.{◌⊎◌, ◌&&◌, ◌==◌}
 use Rattle.native_loglet.specs.Natives.{UpdatesAt}
 use Rattle.std.proofs.lemmas.Bool.{false≢true, and_parts, and_from, or_cases, or_left, or_right, eqb-true, eq-eqb}
-use Rattle.std.proofs.lemmas.List.{append-nil}
+use Rattle.std.proofs.lemmas.List.{append-nil, drop-drop, drop-append-le}
 use Rattle.std.proofs.lemmas.List.Sums.{sum_by-append}
 use Rattle.delos_types.specs.declared.entry.Entry.{Entry}
 use Rattle.loglet_api.specs.declared.call.Op.{Op}
@@ -20,6 +20,7 @@ use Rattle.quorum_cell.specs.Servers.{Server}
 use Rattle.quorum_cell.specs.Cells.{Cell, Operation, operation, no_server, no_operation, is_seal, is_lack, seals, lacks}
 use Rattle.quorum_cell.specs.Steps.{is_append, is_full, entries_after, cut_after, wanted, begun, admit, begin, with_fault}
 use Rattle.quorum_cell.proofs.Lawful.{step_lawful}
+use Rattle.quorum_cell.proofs.Steps.{cut_within}
 use Rattle.quorum_cell.proofs.Runs.{step_later}
 use Rattle.cell_views.specs.Views.{IsManner, BringsSpelled, counted, op_of}
 use Rattle.cell_views.proofs.Calls.{spelled_after}
@@ -33,16 +34,17 @@ use Rattle.native_plan.specs.Pendings.{Begins}
 use Rattle.native_ties.specs.Parts.{IsPartOf, StartsIn, AreKnown}
 use Rattle.native_ties.proofs.Beginning.{begins}
 use Rattle.native_ties.proofs.Parts.{part_later}
+use Rattle.native_loglet.specs.declared.marks.Marks.{Marks}
 use Rattle.native_loglet.specs.Faults.{faults_after}
 use Rattle.native_loglet.specs.Steps.{aim_of, Reaches}
 use Rattle.native_loglet.specs.Natives.{Native, PendingList, down_in, shut_in, look_in, loglet_of, manner_of, IsOpenAs, IsCellOf}
 use Rattle.native_loglet.specs.Moving.{Has, AreOf, BeginsOn}
 use Rattle.native_loglet.specs.Opening.{wanted_for}
-use Rattle.native_loglet.proofs.Viewing.{FitsLeft, fits_own, manner_is, servers_many, down_is, shut_is, manner_with}
+use Rattle.native_loglet.proofs.Viewing.{FitsLeft, fits_own, manner_is, servers_many, size_is, down_is, shut_is, manner_with}
 use Rattle.native_loglet.proofs.Mails.{strays_stay}
 use Rattle.native_loglet.proofs.Extending.{run_extends}
 use Rattle.native_loglet.proofs.Stepping.{tied_sound, call_of, not_at, others_open}
-use Rattle.native_loglet.proofs.Alike.{IsOwned}
+use Rattle.native_loglet.proofs.Alike.{IsOwned, entries_small}
 
 ---- what it is in the cell
 
@@ -80,17 +82,17 @@ is_appending (Trim n) h = absurd (false≢true h)
 
 -- there is no room for it, in the loglet's numbers
 abbrev pub IsFullFor : Native → Op → Type 0
-IsFullFor a op = (IsAppend op × (length a.entries ≡ a.room)) ⊎ (a.marks.begun ≡ 2 ^ 62)
+IsFullFor a op = (IsAppend op × (a.marks.cut + length a.entries ≡ a.room)) ⊎ (a.marks.begun ≡ 2 ^ 62)
 
 full_in : (a : Native) (c : Cell) (op : Op) → IsCellOf a c → IsFullFor a op → is_full c (aim_of op) ≡ true
-full_in a c op h (inl x) = or_left _ _ (and_from _ _ (appends op x.0) (eq-eqb _ _ (ap (λ (es : List Entry). length es) h.entries ∙ x.1 ∙ sym h.room)))
+full_in a c op h (inl x) = or_left _ _ (and_from _ _ (appends op x.0) (eq-eqb _ _ (size_is a c h ∙ x.1 ∙ sym h.room)))
 full_in a c op h (inr x) = or_right _ _ (eq-eqb _ _ (h.begun ∙ x ∙ sym h.limit))
 
 full_out : (a : Native) (c : Cell) (op : Op) → IsCellOf a c → is_full c (aim_of op) ≡ true → IsFullFor a op
 full_out a c op h e = by (or_cases _ _ e)
   where
     by : ((is_append (aim_of op) && (length c.entries == c.room)) ≡ true) ⊎ ((length c.operations == c.limit) ≡ true) → IsFullFor a op
-    by (inl x) = (let parts : (is_append (aim_of op) ≡ true) × ((length c.entries == c.room) ≡ true) = and_parts _ _ x in inl (is_appending op parts.0, sym (ap (λ (es : List Entry). length es) h.entries) ∙ eqb-true _ _ parts.1 ∙ h.room))
+    by (inl x) = (let parts : (is_append (aim_of op) ≡ true) × ((length c.entries == c.room) ≡ true) = and_parts _ _ x in inl (is_appending op parts.0, sym (size_is a c h) ∙ eqb-true _ _ parts.1 ∙ h.room))
     by (inr x) = inr (sym h.begun ∙ eqb-true _ _ x ∙ h.limit)
 
 not_full_in : (a : Native) (c : Cell) (op : Op) → IsCellOf a c → (IsFullFor a op → ⊥) → is_full c (aim_of op) ≡ false
@@ -120,7 +122,7 @@ refused_tied a c op h can full = record {
   few = omega (arith, h.few, ap (λ (d : Cell). length d.servers) is);
   room = ap (λ (d : Cell). d.room) is ∙ h.room;
   limit = ap (λ (d : Cell). d.limit) is ∙ h.limit;
-  entries = ap (λ (d : Cell). d.entries) is ∙ h.entries;
+  entries = ap (λ (d : Cell). drop d.cut d.entries) is ∙ h.entries;
   servers = ap (λ (d : Cell). d.servers) is ∙ h.servers;
   cut = ap (λ (d : Cell). d.cut) is ∙ h.cut;
   reach = ap (λ (d : Cell). d.reach) is ∙ h.reach;
@@ -188,26 +190,59 @@ wanted_same c Seal = refl
 wanted_same c (Read p) = refl
 wanted_same c (Trim n) = refl
 
+-- the entries that are kept then: with that of an Append, and from where a Trim cuts
+abbrev pub begun_entries : Native → Op → List Entry
+begun_entries a op = drop (cut_by op a.marks.cut a.marks.reach - a.marks.cut) (a.entries ++ entries_of op)
+
+cut_grows : (op : Op) (cut reach : ℕ) → cut ≤ cut_by op cut reach
+cut_grows (Append e) cut reach = omega arith
+cut_grows (Settle n) cut reach = omega arith
+cut_grows Tail cut reach = omega arith
+cut_grows Seal cut reach = omega arith
+cut_grows (Read p) cut reach = omega arith
+cut_grows (Trim n) cut reach = omega arith
+
+-- the code's numbers of what is let go
+pub cut_rises : (op : Op) (old new : Marks) → new.cut ≡ cut_by op old.cut old.reach → old.cut ≤ new.cut
+cut_rises op old new is = omega (arith, is, cut_grows op old.cut old.reach)
+
+kept_on : (xs ys : List Entry) (old new : ℕ) → old ≤ new → old ≤ length xs → drop new (xs ++ ys) ≡ drop (new - old) (drop old xs ++ ys)
+kept_on xs ys old new l within =
+    let sum : old + (new - old) ≡ new = omega (arith, l) in
+    ap (λ n. drop n (xs ++ ys)) (sym sum) ∙ sym (drop-drop (new - old) old (xs ++ ys)) ∙ ap (drop (new - old)) (drop-append-le old xs ys within)
+
 -- the loglet after an operation began
 abbrev pub begun_to : Native → Op → PendingList → Native
-begun_to a op n = record a { entries = a.entries ++ entries_of op; pending = n; marks = record a.marks { cut = cut_by op a.marks.cut a.marks.reach; begun = a.marks.begun + 1; seals = a.marks.seals + seals_of op } }
+begun_to a op n = record a { entries = begun_entries a op; pending = n; marks = record a.marks { cut = cut_by op a.marks.cut a.marks.reach; begun = a.marks.begun + 1; seals = a.marks.seals + seals_of op } }
 
 -- what an operation notes of the loglet as it begins
 abbrev pub start_of : Native → Op → Start
-start_of a op = record { size = length a.entries; reach = a.marks.reach; firm = a.marks.firm; shut = shut_in a.replicas; faults = a.marks.faults; down = down_in a.replicas; want = wanted_for op (length a.entries) (cut_by op a.marks.cut a.marks.reach) }
+start_of a op = record { size = a.marks.cut + length a.entries; reach = a.marks.reach; firm = a.marks.firm; shut = shut_in a.replicas; faults = a.marks.faults; down = down_in a.replicas; want = wanted_for op (a.marks.cut + length a.entries) (cut_by op a.marks.cut a.marks.reach) }
 
 cut_is : (a : Native) (c : Cell) (op : Op) → IsCellOf a c → cut_by op a.marks.cut a.marks.reach ≡ cut_after c (aim_of op)
 cut_is a c op h = sym (cut_same c op ∙ ap (λ k. cut_by op k c.reach) h.cut ∙ ap (cut_by op a.marks.cut) h.reach)
 
+begun_kept : (a : Native) (c : Cell) (op : Op) → IsCellOf a c → drop (cut_after c (aim_of op)) (entries_after c (aim_of op)) ≡ begun_entries a op
+begun_kept a c op h =
+    let within : c.cut ≤ length c.entries = cut_within c h.lawful.law.quorum in
+    let grows : c.cut ≤ cut_after c (aim_of op) = omega (arith, cut_same c op, cut_grows op c.cut c.reach) in
+    let count : cut_after c (aim_of op) - c.cut ≡ cut_by op a.marks.cut a.marks.reach - a.marks.cut = omega (arith, cut_is a c op h, h.cut) in
+    ap (drop (cut_after c (aim_of op))) (entries_same c op) ∙ kept_on c.entries (entries_of op) c.cut (cut_after c (aim_of op)) grows within
+    ∙ ap (λ (es : List Entry). drop (cut_after c (aim_of op) - c.cut) (es ++ entries_of op)) h.entries ∙ ap (λ n. drop n (a.entries ++ entries_of op)) count
+
+-- what the code lets go
+pub let_go_kept : (a : Native) (op : Op) (added kept : List Entry) (marks : Marks) → marks ≡ record a.marks { cut = cut_by op a.marks.cut a.marks.reach; begun = a.marks.begun + 1; seals = a.marks.seals + seals_of op } → added ≡ a.entries ++ entries_of op → kept ≡ drop (marks.cut - a.marks.cut) added → kept ≡ begun_entries a op
+let_go_kept a op added kept marks is add go = go ∙ ap (drop (marks.cut - a.marks.cut)) add ∙ ap (λ (m : Marks). drop (m.cut - a.marks.cut) (a.entries ++ entries_of op)) is
+
 starts_in : (a : Native) (c : Cell) (op : Op) → IsCellOf a c → StartsIn c (aim_of op) (start_of a op)
 starts_in a c op h = record {
-  size = sym (ap (λ (es : List Entry). length es) h.entries);
+  size = sym (size_is a c h);
   reach = sym h.reach;
   firm = sym h.firm;
   shut = shut_is a c h;
   faults = sym h.faults;
   down = down_is a c h;
-  want = ap (wanted_for op (length a.entries)) (cut_is a c op h) ∙ ap (λ (es : List Entry). wanted_for op (length es) (cut_after c (aim_of op))) (sym h.entries) ∙ wanted_same c op;
+  want = ap (wanted_for op (a.marks.cut + length a.entries)) (cut_is a c op h) ∙ ap (λ n. wanted_for op n (cut_after c (aim_of op))) (sym (size_is a c h)) ∙ wanted_same c op;
 }
 
 are_known : (a : Native) (c : Cell) (ms : List Member) → IsCellOf a c → AreOf a.replicas ms → AreKnown c ms
@@ -236,7 +271,7 @@ begun_tied a c op p n h can space b u = record {
   few = omega (arith, h.few, ap (λ (d : Cell). length d.servers) is);
   room = ap (λ (d : Cell). d.room) is ∙ h.room;
   limit = ap (λ (d : Cell). d.limit) is ∙ h.limit;
-  entries = ap (λ (d : Cell). d.entries) is ∙ entries_same c op ∙ ap (λ (es : List Entry). es ++ entries_of op) h.entries;
+  entries = ap (λ (d : Cell). drop d.cut d.entries) is ∙ begun_kept a c op h;
   servers = ap (λ (d : Cell). d.servers) is ∙ h.servers;
   cut = ap (λ (d : Cell). d.cut) is ∙ sym (cut_is a c op h);
   reach = ap (λ (d : Cell). d.reach) is ∙ h.reach;
@@ -295,29 +330,29 @@ begins_in a op p n c h can space b u = record { steps = Begin (aim_of op) ∷ []
 
 ---- the counts fit words
 
-pub begun_small : (a : Native) (op : Op) → IsOwned a → (IsFullFor a op → ⊥) → (a.marks.begun + 1 < 2 ^ 64) × (a.marks.seals + 1 < 2 ^ 64) × (length a.entries + 1 < 2 ^ 64)
+pub begun_small : (a : Native) (op : Op) → IsOwned a → (IsFullFor a op → ⊥) → (a.marks.begun + 1 < 2 ^ 64) × (a.marks.seals + 1 < 2 ^ 64) × (a.marks.cut + length a.entries + 1 < 2 ^ 64)
 begun_small a op h space =
     let s : IsSound (loglet_of a) = tied_sound a h.0 h.1 in
     let begun_few : a.marks.begun ≤ 2 ^ 62 = s.begun in
     let seals_few : a.marks.seals ≤ a.marks.begun = s.seals in
-    let few : length a.entries ≤ 2 ^ 32 = (let small : length h.0.entries ≤ 2 ^ 32 = omega (arith, h.1.lawful.law.quorum.fits, h.1.lawful.shape.room.1) in omega (arith, small, ap (λ (es : List Entry). length es) h.1.entries)) in
+    let few : a.marks.cut + length a.entries ≤ 2 ^ 32 = entries_small a h in
     (omega (arith, begun_few), omega (arith, begun_few, seals_few), omega (arith, few))
 
 -- the code's test for room
-pub full_of : (a : Native) (op : Op) (size : ℕ) → size ≡ length a.entries → (IsAppend op × (size ≡ a.room)) ⊎ (a.marks.begun ≡ 2 ^ 62) → IsFullFor a op
+pub full_of : (a : Native) (op : Op) (size : ℕ) → size ≡ a.marks.cut + length a.entries → (IsAppend op × (size ≡ a.room)) ⊎ (a.marks.begun ≡ 2 ^ 62) → IsFullFor a op
 full_of a op size e (inl x) = inl (x.0, sym e ∙ x.1)
 full_of a op size e (inr x) = inr x
 
-pub space_of : (a : Native) (op : Op) (size : ℕ) → size ≡ length a.entries → ((IsAppend op × (size ≡ a.room)) ⊎ (a.marks.begun ≡ 2 ^ 62) → ⊥) → IsFullFor a op → ⊥
+pub space_of : (a : Native) (op : Op) (size : ℕ) → size ≡ a.marks.cut + length a.entries → ((IsAppend op × (size ≡ a.room)) ⊎ (a.marks.begun ≡ 2 ^ 62) → ⊥) → IsFullFor a op → ⊥
 space_of a op size e space (inl x) = space (inl (x.0, e ∙ x.1))
 space_of a op size e space (inr x) = space (inr x)
 
 -- an operation that notes these numbers notes the loglet's
-pub begun_on : (a : Native) (op : Op) (size cut : ℕ) (vs : List View) (p : Pending) → size ≡ length a.entries → cut ≡ cut_by op a.marks.cut a.marks.reach → vs ≡ a.replicas
+pub begun_on : (a : Native) (op : Op) (size cut : ℕ) (vs : List View) (p : Pending) → size ≡ a.marks.cut + length a.entries → cut ≡ cut_by op a.marks.cut a.marks.reach → vs ≡ a.replicas
     → BeginsOn vs op (record { size = size; reach = a.marks.reach; firm = a.marks.firm; shut = shut_in vs; faults = a.marks.faults; down = down_in vs; want = wanted_for op size cut }) cut p → BeginsOn a.replicas op (start_of a op) (cut_by op a.marks.cut a.marks.reach) p
 begun_on a op size cut vs p sizes cuts same b =
     let by_servers : BeginsOn a.replicas op (record { size = size; reach = a.marks.reach; firm = a.marks.firm; shut = shut_in a.replicas; faults = a.marks.faults; down = down_in a.replicas; want = wanted_for op size cut }) cut p =
     subst (λ (ws : List View). BeginsOn ws op (record { size = size; reach = a.marks.reach; firm = a.marks.firm; shut = shut_in ws; faults = a.marks.faults; down = down_in ws; want = wanted_for op size cut }) cut p) same b in
-    let by_size : BeginsOn a.replicas op (record { size = length a.entries; reach = a.marks.reach; firm = a.marks.firm; shut = shut_in a.replicas; faults = a.marks.faults; down = down_in a.replicas; want = wanted_for op (length a.entries) cut }) cut p =
+    let by_size : BeginsOn a.replicas op (record { size = a.marks.cut + length a.entries; reach = a.marks.reach; firm = a.marks.firm; shut = shut_in a.replicas; faults = a.marks.faults; down = down_in a.replicas; want = wanted_for op (a.marks.cut + length a.entries) cut }) cut p =
     subst (λ (n : ℕ). BeginsOn a.replicas op (record { size = n; reach = a.marks.reach; firm = a.marks.firm; shut = shut_in a.replicas; faults = a.marks.faults; down = down_in a.replicas; want = wanted_for op n cut }) cut p) sizes by_servers in
-    subst (λ (n : ℕ). BeginsOn a.replicas op (record { size = length a.entries; reach = a.marks.reach; firm = a.marks.firm; shut = shut_in a.replicas; faults = a.marks.faults; down = down_in a.replicas; want = wanted_for op (length a.entries) n }) n p) cuts by_size
+    subst (λ (n : ℕ). BeginsOn a.replicas op (record { size = a.marks.cut + length a.entries; reach = a.marks.reach; firm = a.marks.firm; shut = shut_in a.replicas; faults = a.marks.faults; down = down_in a.replicas; want = wanted_for op (a.marks.cut + length a.entries) n }) n p) cuts by_size

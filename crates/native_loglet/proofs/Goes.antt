@@ -1,5 +1,5 @@
 -- Each call is a step of the loglet, and steps of each cell that it may be.
-use Rattle.std.proofs.Common.{◌≡◌, ℕ, ◌+◌, ◌-◌, ◌^◌, ◌%◌, ◌<◌, Bool, true, false, refl, sym, ap, subst, List, [], ◌∷◌, ◌++◌, length, get_or, set, Some, None, min, max}
+use Rattle.std.proofs.Common.{◌≡◌, ℕ, ◌+◌, ◌-◌, ◌^◌, ◌%◌, ◌<◌, Bool, true, false, refl, sym, ap, subst, List, [], ◌∷◌, length, get_or, set, Some, None, min, max}
 use Rattle.std.specs.Prelude.{not, slice_get}
 use Rattle.native_loglet.specs.Natives.{UpdatesAt}
 use Rattle.delos_types.specs.declared.entry.Entry.{Entry}
@@ -11,7 +11,7 @@ use Rattle.loglet_api.specs.declared.call.LogletCall.TheVariants.{Begin as CallB
 use Rattle.loglet_api.specs.declared.call.LogletAnswer.{LogletAnswer}
 use Rattle.loglet_api.specs.declared.call.LogletAnswer.TheVariants.{Begun, Carried, Refusal, Taken, Forgotten, Strayed, Restarted}
 use Rattle.loglet_api.specs.View.{LogletView}
-use Rattle.loglet_api.specs.Step.{CanCall, Does, entries_of, cut_by, seals_of, wanted_by, told_reach, told_firm, told_cap, told_lacks}
+use Rattle.loglet_api.specs.Step.{CanCall, Does, cut_by, seals_of, wanted_by, told_reach, told_firm, told_cap, told_lacks}
 use Rattle.quorum_cell.specs.declared.operation.CellStep.TheVariants.{Forget}
 use Rattle.quorum_cell.specs.Servers.{restarted}
 use Rattle.quorum_cell.specs.Cells.{Cell}
@@ -32,7 +32,7 @@ use Rattle.native_loglet.proofs.Restarting.{restarts_in}
 use Rattle.native_loglet.proofs.Messages.{carries_in}
 use Rattle.native_loglet.proofs.Strays.{strays_in, strays_step}
 use Rattle.native_loglet.proofs.Taking.{takes_in, waits_in, waits_owned}
-use Rattle.native_loglet.proofs.Beginning.{IsFullFor, start_of, refuses_in, begins_in}
+use Rattle.native_loglet.proofs.Beginning.{IsFullFor, start_of, refuses_in, begins_in, begun_entries}
 use Rattle.native_loglet.proofs.Wholes.{takes_whole, carries_whole, restarts_whole, refuses_whole, begins_whole}
 
 ---- what is seen of the loglet is what its parts are
@@ -106,10 +106,10 @@ refuses_goes a marks op h can full is = record {
 }
 
 pub begins_goes : (a : Native) (es : List Entry) (marks : Marks) (op : Op) (p : Pending) (n : PendingList) → IsOwned a → CanCall (loglet_of a) (CallBegin op) → (IsFullFor a op → ⊥) → BeginsOn a.replicas op (start_of a op) (cut_by op a.marks.cut a.marks.reach) p
-    → UpdatesAt a.pending n a.marks.begun (Some p) → es ≡ a.entries ++ entries_of op → marks ≡ record a.marks { cut = cut_by op a.marks.cut a.marks.reach; begun = a.marks.begun + 1; seals = a.marks.seals + seals_of op }
+    → UpdatesAt a.pending n a.marks.begun (Some p) → es ≡ begun_entries a op → marks ≡ record a.marks { cut = cut_by op a.marks.cut a.marks.reach; begun = a.marks.begun + 1; seals = a.marks.seals + seals_of op }
     → NativeStep a (CallBegin op) (Begun a.marks.begun) (record a { entries = es; pending = n; marks = marks })
 begins_goes a es marks op p n h can space b u entries is = record {
   loglet = (begins_whole a es marks (loglet_of a) op p n refl h can space b u entries is).1;
   cells = λ c k. subst (λ (xs : List Entry). Reaches a c (CallBegin op) (Begun a.marks.begun) (record a { entries = xs; pending = n; marks = marks })) (sym entries)
-      (subst (λ (x : Marks). Reaches a c (CallBegin op) (Begun a.marks.begun) (record a { entries = a.entries ++ entries_of op; pending = n; marks = x })) (sym is) (begins_in a op p n c k can space b u));
+      (subst (λ (x : Marks). Reaches a c (CallBegin op) (Begun a.marks.begun) (record a { entries = begun_entries a op; pending = n; marks = x })) (sym is) (begins_in a op p n c k can space b u));
 }

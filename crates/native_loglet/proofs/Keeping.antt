@@ -1,5 +1,5 @@
 -- The copy that a carry keeps is a message of the cell that it leads to.
-use Rattle.std.proofs.Common.{◌≡◌, ℕ, ◌<◌, Bool, true, false, refl, sym, ◌∙◌, ap, subst, arith, List, [], ◌∷◌, length, get_or, Option, Some, None, inl, inr}
+use Rattle.std.proofs.Common.{◌≡◌, ℕ, ◌<◌, Bool, true, false, refl, sym, ◌∙◌, ap, subst, arith, List, [], ◌∷◌, length, drop, get_or, Option, Some, None, inl, inr}
 use Rattle.std.specs.Prelude.{◌⊎◌, nat_lt, slice_get, option_map}
 use Rattle.std.proofs.lemmas.Bool.{lt-ltb}
 use Rattle.std.proofs.lemmas.Option.{none-some, same_Some}
@@ -20,7 +20,7 @@ use Rattle.native_plan.specs.declared.pending.Pending.{Pending}
 use Rattle.native_plan.specs.declared.message.Errand.{Errand}
 use Rattle.native_plan.specs.declared.message.Message.{Message}
 use Rattle.native_plan.specs.declared.message.Message.TheVariants.{Asked, Told as Answered}
-use Rattle.native_plan.specs.Members.{no_member}
+use Rattle.native_plan.specs.Members.{no_member, due_of}
 use Rattle.native_ties.specs.Parts.{IsPartOf, IsAllowed, asked_by, wish_of}
 use Rattle.native_ties.specs.Steps.{IsRequest, IsStop}
 use Rattle.native_ties.specs.Strays.{IsRequest as IsRequestOf, IsReply}
@@ -46,8 +46,8 @@ module _ (a : Native) (c : Cell) (h : IsCellOf a c) (t : ℕ) (p : Pending) (is 
   pub server_here : (i : ℕ) → i < length p.members.items → i < length c.servers
   server_here i here = (let all : length p.members.items ≡ length c.servers = (part.goes waiting).course.all in omega (arith, here, all))
 
-  asked_same : (e : Errand) (ask : Ask) → asked_by c.entries c.cut e ≡ Some ask → asked_by a.entries a.marks.cut e ≡ Some ask
-  asked_same e ask known = ap {B = Option Ask} (λ (es : List Entry). asked_by es a.marks.cut e) (sym h.entries) ∙ ap {B = Option Ask} (λ k. asked_by c.entries k e) (sym h.cut) ∙ known
+  asked_same : (e : Errand) (ask : Ask) → asked_by (drop c.cut c.entries) c.cut (due_of c.cut e) ≡ Some ask → asked_by a.entries a.marks.cut (due_of a.marks.cut e) ≡ Some ask
+  asked_same e ask known = ap {B = Option Ask} (λ (es : List Entry). asked_by es a.marks.cut (due_of a.marks.cut e)) (sym h.entries) ∙ ap {B = Option Ask} (λ k. asked_by (drop c.cut c.entries) k (due_of k e)) (sym h.cut) ∙ known
 
   -- what is sent is the cell's last request
   sent_there : (i : ℕ) (e : Errand) (x : Ask) → i < length c.servers → ask_for c (operation c t) (wish_of e) ≡ Some x → IsRequestOf (cell_step c (Send t i (wish_of e))) (length c.requests) t i x
@@ -55,16 +55,16 @@ module _ (a : Native) (c : Cell) (h : IsCellOf a c) (t : ℕ) (p : Pending) (is 
       let sends : cell_step c (Send t i (wish_of e)) ≡ sent c t i (Some x) = rw (part.shows.is_open, lt-ltb i (length c.servers) here, may) refl in
       ap (λ (d : Cell). slice_get d.requests (length c.requests)) sends ∙ slice_get_push_new c.requests (record { ticket = t; server = i; ask = x }) (length c.requests) refl
 
-  asked_kept : (i : ℕ) (e : Errand) (m : Mail) (steps : List CellStep) → i < length c.servers → (get_or p.members.items i no_member).message ≡ Some (Asked e) → IsRequest c t i e steps ⊎ IsStop c t i e steps → mail_of a.entries a.marks.cut t i (Some (Asked e)) ≡ Some m → IsMail (run_cell steps c) m
+  asked_kept : (i : ℕ) (e : Errand) (m : Mail) (steps : List CellStep) → i < length c.servers → (get_or p.members.items i no_member).message ≡ Some (Asked e) → IsRequest c t i (due_of c.cut e) steps ⊎ IsStop c t i (due_of c.cut e) steps → mail_of a.entries a.marks.cut t i (Some (Asked e)) ≡ Some m → IsMail (run_cell steps c) m
   asked_kept i e m steps here asked are copy =
-      let y : IsAllowed c t e = allowed c t i p e part waiting here asked in
+      let y : IsAllowed c t (due_of c.cut e) = allowed c t i p e part waiting here asked in
       let same : mail.Asked t i y.ask ≡ m = same_Some _ _ (sym (ap (option_map (λ x. mail.Asked t i x)) (asked_same e y.ask y.is)) ∙ copy) in
-      let there : IsRequestOf (cell_step c (Send t i (wish_of e))) (length c.requests) t i y.ask = sent_there i e y.ask here y.allowed in
+      let there : IsRequestOf (cell_step c (Send t i (wish_of (due_of c.cut e)))) (length c.requests) t i y.ask = sent_there i (due_of c.cut e) y.ask here y.allowed in
       subst (IsMail (run_cell steps c)) same (length c.requests, by y.ask there are, (let many = (run_later steps c).servers in omega (arith, here, many)))
     where
-      by : (x : Ask) → IsRequestOf (cell_step c (Send t i (wish_of e))) (length c.requests) t i x → IsRequest c t i e steps ⊎ IsStop c t i e steps → IsRequestOf (run_cell steps c) (length c.requests) t i x
-      by x there (inl same) = subst (λ (ss : List CellStep). IsRequestOf (run_cell ss c) (length c.requests) t i x) (sym same) ((run_extends (RequestComes (length c.requests) ∷ []) (cell_step c (Send t i (wish_of e)))).requests (length c.requests) _ there)
-      by x there (inr same) = subst (λ (ss : List CellStep). IsRequestOf (run_cell ss c) (length c.requests) t i x) (sym same) ((run_extends (RequestStops (length c.requests) ∷ []) (cell_step c (Send t i (wish_of e)))).requests (length c.requests) _ there)
+      by : (x : Ask) → IsRequestOf (cell_step c (Send t i (wish_of (due_of c.cut e)))) (length c.requests) t i x → IsRequest c t i (due_of c.cut e) steps ⊎ IsStop c t i (due_of c.cut e) steps → IsRequestOf (run_cell steps c) (length c.requests) t i x
+      by x there (inl same) = subst (λ (ss : List CellStep). IsRequestOf (run_cell ss c) (length c.requests) t i x) (sym same) ((run_extends (RequestComes (length c.requests) ∷ []) (cell_step c (Send t i (wish_of (due_of c.cut e))))).requests (length c.requests) _ there)
+      by x there (inr same) = subst (λ (ss : List CellStep). IsRequestOf (run_cell ss c) (length c.requests) t i x) (sym same) ((run_extends (RequestStops (length c.requests) ∷ []) (cell_step c (Send t i (wish_of (due_of c.cut e))))).requests (length c.requests) _ there)
 
   told_kept : (i : ℕ) (e : Errand) (z : Told) (m : Mail) (steps : List CellStep) → i < length c.servers → (get_or p.members.items i no_member).message ≡ Some (Answered e z) → mail_of a.entries a.marks.cut t i (Some (Answered e z)) ≡ Some m → IsMail (run_cell steps c) m
   told_kept i e z m steps here told copy =

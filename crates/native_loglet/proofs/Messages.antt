@@ -1,5 +1,5 @@
 -- A carry moves one message: what it moves in the loglet it moves in its cell.
-use Rattle.std.proofs.Common.{◌≡◌, ℕ, zero, suc, ◌+◌, ◌-◌, ◌*◌, ◌^◌, ◌<◌, ◌≤◌, Bool, true, false, cond, refl, sym, ◌∙◌, ap, subst, arith, List, [], ◌∷◌, ◌++◌, map, length, get_or, set, Option, Some, None, inl, inr, length-append}
+use Rattle.std.proofs.Common.{◌≡◌, ℕ, zero, suc, ◌+◌, ◌-◌, ◌*◌, ◌^◌, ◌<◌, ◌≤◌, Bool, true, false, cond, refl, sym, ◌∙◌, ap, subst, arith, List, [], ◌∷◌, ◌++◌, map, length, drop, get_or, set, Option, Some, None, inl, inr, length-append}
 use Rattle.std.specs.Prelude.{◌⊎◌, ◌&&◌, min, is_some, slice_get, sum_by, count_by, if◌then◌else◌}
 use Rattle.std.proofs.lemmas.Bool.{false≢true, cases_lt}
 use Rattle.std.proofs.lemmas.Option.{none-some, same_Some}
@@ -26,7 +26,7 @@ use Rattle.native_plan.specs.declared.pending.Pending.{Pending}
 use Rattle.native_plan.specs.declared.message.Errand.{Errand}
 use Rattle.native_plan.specs.declared.message.Message.{Message}
 use Rattle.native_plan.specs.declared.message.Message.TheVariants.{Asked}
-use Rattle.native_plan.specs.Members.{no_member, is_out, left_to, left_with}
+use Rattle.native_plan.specs.Members.{no_member, is_out, left_to, left_with, due_of}
 use Rattle.native_plan.specs.Plans.{end_of}
 use Rattle.native_plan.specs.Pendings.{plan_left, left_by, aims_of, Answers, Hears, Loses}
 use Rattle.native_plan.specs.Course.{PhaseFits}
@@ -75,7 +75,7 @@ out_counts end (m ∷ ms) h = by m.message refl (out_counts end ms)
   where
     by : (z : Option Message) → m.message ≡ z → (0 < sum_by (left_to end) ms → 0 < count_by is_out ms) → 0 < count_by is_out (m ∷ ms)
     by None e more =
-        let none : left_to end m ≡ 0 = ap (left_with (20 * (end - m.at)) m.losses) e in
+        let none : left_to end m ≡ 0 = ap (left_with (40 * (end - m.at)) m.losses) e in
         let idle : cond (is_out m) 1 0 ≡ 0 = ap {B = ℕ} (λ (x : Option Message). cond (is_some x) 1 0) e in
         let rest : 0 < sum_by (left_to end) ms = omega (arith, h, sum_by-cons (left_to end) m ms, none) in
         omega (arith, more rest, sum_by-cons (λ (x : Member). cond (is_out x) 1 0) m ms, idle)
@@ -102,7 +102,7 @@ can_move_in a t p c h part goes waiting = record {
   few = omega (arith, h.few, servers_many a c h);
   some = out_counts (end_of p.phase p.want) p.members.items (bounded c t p part waiting small).some;
   losses = λ i out. (way i (omega (arith, out_here p.members.items i out, all)) out).1.few;
-  asks = λ i e asked. (let y : IsAllowed c t e = allowed c t i p e part waiting (omega (arith, out_here p.members.items i (ap is_some asked), all)) asked in (y.ask, ap {B = Option Ask} (λ (es : List Entry). asked_by es a.marks.cut e) (sym h.entries) ∙ ap {B = Option Ask} (λ n. asked_by c.entries n e) (sym h.cut) ∙ y.is));
+  asks = λ i e asked. (let y : IsAllowed c t (due_of c.cut e) = allowed c t i p e part waiting (omega (arith, out_here p.members.items i (ap is_some asked), all)) asked in (y.ask, ap {B = Option Ask} (λ (es : List Entry). asked_by es a.marks.cut (due_of a.marks.cut e)) (sym h.entries) ∙ ap {B = Option Ask} (λ n. asked_by (drop c.cut c.entries) n (due_of n e)) (sym h.cut) ∙ y.is));
   turns = λ j reads. turn j (subst (PhaseFits c (operation c t) p.members.items) reads goes.course.phase).here;
 }
   where
@@ -183,8 +183,8 @@ module _ (a : Native) (c : Cell) (h : IsCellOf a c) (t : ℕ) (p q : Pending) (n
       }
 
   -- a server answered
-  by_server : (i : ℕ) (e : Errand) (told : Told) (was w : View) (s : Server) (faults : List ℕ) (failed : Bool) → i < length c.servers → (get_or p.members.items i no_member).message ≡ Some (Asked e) → Answers i e told p q
-      → (g : AnswersBy c t i s faults q) → IsRequest c t i e g.steps ⊎ IsStop c t i e g.steps → s ≡ w.server → counted (length faults) ≡ faults_after failed a.marks.faults → GoesOn a (carried_to a (set a.replicas i w) n failed ms) c t p q (ComesBy c t i (get_or p.members.items i no_member).message)
+  by_server : (i : ℕ) (e : Errand) (told : Told) (was w : View) (s : Server) (faults : List ℕ) (failed : Bool) → i < length c.servers → (get_or p.members.items i no_member).message ≡ Some (Asked e) → Answers i (due_of c.cut e) told p q
+      → (g : AnswersBy c t i s faults q) → IsRequest c t i (due_of c.cut e) g.steps ⊎ IsStop c t i (due_of c.cut e) g.steps → s ≡ w.server → counted (length faults) ≡ faults_after failed a.marks.faults → GoesOn a (carried_to a (set a.replicas i w) n failed ms) c t p q (ComesBy c t i (get_or p.members.items i no_member).message)
   by_server i e told was w s faults failed here asked answers g are same counts = record {
     steps = g.steps;
     are = subst (λ (x : Option Message). ComesBy c t i x g.steps) (sym asked) are;
@@ -197,28 +197,31 @@ module _ (a : Native) (c : Cell) (h : IsCellOf a c) (t : ℕ) (p q : Pending) (n
     less = answered_less c t i p q e told part waiting here asked answers;
   }
 
-  by_ask : (i : ℕ) (e : Errand) (was w : View) (failed : Bool) → i < length c.servers → (get_or p.members.items i no_member).message ≡ Some (Asked e) → server c i ≡ was.server → (m : AnswersFor a.entries a.marks.cut i e p q was w failed)
-      → (ask : Ask) → ask_for c (operation c t) (wish_of e) ≡ Some ask → ServerAnswers was ask m.told w → GoesOn a (carried_to a (set a.replicas i w) n failed ms) c t p q (ComesBy c t i (get_or p.members.items i no_member).message)
+  by_ask : (i : ℕ) (e : Errand) (was w : View) (failed : Bool) → i < length c.servers → (get_or p.members.items i no_member).message ≡ Some (Asked e) → server c i ≡ was.server → (m : AnswersFor a.entries a.marks.cut i (due_of a.marks.cut e) p q was w failed)
+      → (ask : Ask) → ask_for c (operation c t) (wish_of (due_of c.cut e)) ≡ Some ask → ServerAnswers was ask m.told w → GoesOn a (carried_to a (set a.replicas i w) n failed ms) c t p q (ComesBy c t i (get_or p.members.items i no_member).message)
   by_ask i e was w failed here asked same m ask may x = by (fault_or was w ask m.told failed m.fault x)
     where
+      answered : Answers i (due_of c.cut e) m.told p q
+      answered = subst (λ k. Answers i (due_of k e) m.told p q) (sym h.cut) m.answers
+
       by : ((m.told ≡ DiskFault) × Stops was ask w × (failed ≡ true)) ⊎ (Tells was ask m.told w × (failed ≡ false)) → GoesOn a (carried_to a (set a.replicas i w) n failed ms) c t p q (ComesBy c t i (get_or p.members.items i no_member).message)
       by (inl x) =
           let wanted : ((server c i).up && writes (server c i) ask) ≡ true = ap (λ (s : Server). s.up && writes s ask) same ∙ x.1.wanted in
-          let answers : Answers i e DiskFault p q = subst (λ z. Answers i e z p q) x.0 m.answers in
-          by_server i e m.told was w (record (server c i) { up = false; torn = Some ask }) (c.faults ++ i ∷ []) failed here asked m.answers (stops_as c t i p q e ask law part waiting here asked may wanted answers).0 (inr (stops_as c t i p q e ask law part waiting here asked may wanted answers).1)
+          let answers : Answers i (due_of c.cut e) DiskFault p q = subst (λ z. Answers i (due_of c.cut e) z p q) x.0 answered in
+          by_server i e m.told was w (record (server c i) { up = false; torn = Some ask }) (c.faults ++ i ∷ []) failed here asked answered (stops_as c t i p q e ask law part waiting here asked may wanted answers).0 (inr (stops_as c t i p q e ask law part waiting here asked may wanted answers).1)
           (ap (λ (s : Server). record s { up = false; torn = Some ask }) same ∙ sym x.1.server) (one_more c.faults i a.marks.faults h.faults ∙ ap (λ b. faults_after b a.marks.faults) (sym x.2))
       by (inr x) =
-          let answers : Answers i e (table (server c i) ask) p q = subst (λ z. Answers i e z p q) (x.0.told ∙ sym (ap (λ (s : Server). table s ask) same)) m.answers in
-          by_server i e m.told was w (if (server c i).up then written (server c i) ask else server c i) c.faults failed here asked m.answers (comes_as c t i p q e ask law part waiting here asked may answers).0 (inl (comes_as c t i p q e ask law part waiting here asked may answers).1)
+          let answers : Answers i (due_of c.cut e) (table (server c i) ask) p q = subst (λ z. Answers i (due_of c.cut e) z p q) (x.0.told ∙ sym (ap (λ (s : Server). table s ask) same)) answered in
+          by_server i e m.told was w (if (server c i).up then written (server c i) ask else server c i) c.faults failed here asked answered (comes_as c t i p q e ask law part waiting here asked may answers).0 (inl (comes_as c t i p q e ask law part waiting here asked may answers).1)
           (ap (λ (s : Server). after_ask s ask) same ∙ sym x.0.server) (h.faults ∙ ap (λ b. faults_after b a.marks.faults) (sym x.1))
 
   -- what is asked is the same in the cell
-  asked_same : (e : Errand) (ask : Ask) → asked_by c.entries c.cut e ≡ Some ask → asked_by a.entries a.marks.cut e ≡ Some ask
-  asked_same e ask known = ap {B = Option Ask} (λ (es : List Entry). asked_by es a.marks.cut e) (sym h.entries) ∙ ap {B = Option Ask} (λ k. asked_by c.entries k e) (sym h.cut) ∙ known
+  asked_same : (e : Errand) (ask : Ask) → asked_by (drop c.cut c.entries) c.cut (due_of c.cut e) ≡ Some ask → asked_by a.entries a.marks.cut (due_of a.marks.cut e) ≡ Some ask
+  asked_same e ask known = ap {B = Option Ask} (λ (es : List Entry). asked_by es a.marks.cut (due_of a.marks.cut e)) (sym h.entries) ∙ ap {B = Option Ask} (λ k. asked_by (drop c.cut c.entries) k (due_of k e)) (sym h.cut) ∙ known
 
   by_request : (i : ℕ) (ws : List View) (failed : Bool) → i < length c.servers → MovesByRequest a.entries a.marks.cut i p q a.replicas ws failed → GoesOn a (carried_to a ws n failed ms) c t p q (ComesBy c t i (get_or p.members.items i no_member).message)
   by_request i ws failed here m =
-      let y : IsAllowed c t m.errand = allowed c t i p m.errand part waiting here m.asked in
+      let y : IsAllowed c t (due_of c.cut m.errand) = allowed c t i p m.errand part waiting here m.asked in
       let same : server c i ≡ m.was.server = ap (λ (ss : List Server). get_or ss i no_server) h.servers ∙ server_there a.replicas i m.was m.there in
       subst (λ (xs : List View). GoesOn a (carried_to a xs n failed ms) c t p q (ComesBy c t i (get_or p.members.items i no_member).message)) (sym m.servers) (by_ask i m.errand m.was m.is failed here m.asked same m.answers y.ask y.allowed (m.answers.tells y.ask (asked_same m.errand y.ask y.is)))
 

@@ -1,7 +1,7 @@
 -- What the parts of the code come to, over plain values.
 use Rattle.std.proofs.Common.{◌≡◌, ℕ, zero, suc, ◌+◌, ◌-◌, ◌<◌, ◌≤◌, Bool, true, false, cond, refl, sym, ◌∙◌, ap, subst, arith, List, [], ◌∷◌, ◌++◌, length, get_or, set, take, Option, Some, None, inl, inr}
 use Rattle.std.specs.Prelude.{◌⊎◌, ◌==◌, nat_lt, is_some, slice_get, count_by, option_map, if◌then◌else◌, Result, Ok, Err, IfOk, OnErr}
-use Rattle.std.proofs.lemmas.Bool.{false≢true, cases_eq, eq-eqb, ne_eqb}
+use Rattle.std.proofs.lemmas.Bool.{false≢true, cases_eq, eq-eqb, ne_eqb, ltb-false}
 use Rattle.std.proofs.lemmas.Option.{none-some, same_Some}
 use Rattle.std.proofs.lemmas.List.Sums.{sum_by-cons}
 use Rattle.delos_types.specs.declared.entry.Entry.{Entry}
@@ -20,9 +20,9 @@ use Rattle.native_plan.specs.declared.message.Errand.TheVariants.{Store, Repair}
 use Rattle.native_plan.specs.declared.message.Message.{Message}
 use Rattle.native_plan.specs.declared.message.Message.TheVariants.{Asked, Told as Answered}
 use Rattle.native_plan.specs.declared.message.Turn.TheVariants.{Asks, Tells, Rests}
-use Rattle.native_plan.specs.Members.{no_member, new_member, is_out, turn_of, nth_out}
+use Rattle.native_plan.specs.Members.{no_member, new_member, is_out, turn_of, nth_out, due_of}
 use Rattle.native_plan.specs.Pendings.{Hears, Loses}
-use Rattle.native_ties.specs.Parts.{asked_by}
+use Rattle.native_ties.specs.Parts.{entry_at, asked_by}
 use Rattle.native_ties.proofs.Losers.{within}
 use Rattle.loglet_api.specs.declared.call.Answer.{Answer}
 use Rattle.loglet_api.specs.declared.call.Answer.TheVariants.{CutAt}
@@ -64,6 +64,10 @@ pub rests_of : (z : Option Message) → turn_of z ≡ Rests → is_some z ≡ tr
 rests_of None h out = false≢true out
 rests_of (Some (Asked f)) h out = cc
 rests_of (Some (Answered f told)) h out = cc
+
+-- by a fate that is the word's
+pub lost_as : (f g : Fate) (lost : Bool) → f ≡ g → LosesAs f lost → LosesAs g lost
+lost_as f g lost e h = subst (λ (x : Fate). LosesAs x lost) e h
 
 ---- what moved
 
@@ -109,7 +113,7 @@ there_is (v ∷ vs) zero d h = refl
 there_is (v ∷ vs) (suc i) d h = there_is vs i d (omega (arith, h))
 
 pub moved_by_request : (entries : List Entry) (cut word i : ℕ) (f : Fate) (lost : Bool) (errand : Errand) (p q : Pending) (vs : List View) (was is : View) (failed : Bool) → i ≡ picked_by word p → f ≡ fate_of word → LosesAs f lost → lost ≡ false → i < length p.members.items → i < length vs → turn_of (get_or p.members.items i no_member).message ≡ Asks errand
-    → was ≡ get_or vs i was → AnswersFor entries cut i errand p q was is failed → Moves entries cut word p q vs (set vs i is) failed
+    → was ≡ get_or vs i was → AnswersFor entries cut i (due_of cut errand) p q was is failed → Moves entries cut word p q vs (set vs i is) failed
 moved_by_request entries cut word i f lost errand p q vs was is failed picked fate loses kept here within turn there a = record {
   server = i;
   picked = picked;
@@ -120,19 +124,27 @@ moved_by_request entries cut word i f lost errand p q vs was is failed picked fa
 
 ---- what a server is asked
 
-pub stored_entry : (entries : List Entry) (cut place : ℕ) (ask : Ask) → asked_by entries cut (Store place) ≡ Some ask → (e : Entry) × (slice_get entries place ≡ Some e) × (ask ≡ asks.Store place e)
-stored_entry entries cut place ask h = by (slice_get entries place) refl h
+-- an entry that is kept stands at a position from the cut on
+entry_of : (entries : List Entry) (cut place : ℕ) (e : Entry) → entry_at cut entries place ≡ Some e → (cut ≤ place) × (slice_get entries (place - cut) ≡ Some e)
+entry_of entries cut place e h = by (nat_lt place cut) refl h
   where
-    by : (z : Option Entry) → slice_get entries place ≡ z → option_map (λ e. asks.Store place e) z ≡ Some ask → (e : Entry) × (slice_get entries place ≡ Some e) × (ask ≡ asks.Store place e)
-    by None is e = absurd (none-some ask e)
-    by (Some x) is e = (x, is, sym (same_Some _ _ e))
+    by : (b : Bool) → nat_lt place cut ≡ b → (if b then None else slice_get entries (place - cut)) ≡ Some e → (cut ≤ place) × (slice_get entries (place - cut) ≡ Some e)
+    by true is x = absurd (none-some e x)
+    by false is x = (ltb-false _ _ is, x)
 
-pub repaired_entry : (entries : List Entry) (cut place : ℕ) (ask : Ask) → asked_by entries cut (Repair place) ≡ Some ask → (e : Entry) × (slice_get entries place ≡ Some e) × (ask ≡ asks.Repair place e)
-repaired_entry entries cut place ask h = by (slice_get entries place) refl h
+pub stored_entry : (entries : List Entry) (cut place : ℕ) (ask : Ask) → asked_by entries cut (Store place) ≡ Some ask → (e : Entry) × ((cut ≤ place) × (slice_get entries (place - cut) ≡ Some e)) × (ask ≡ asks.Store place e)
+stored_entry entries cut place ask h = by (entry_at cut entries place) refl h
   where
-    by : (z : Option Entry) → slice_get entries place ≡ z → option_map (λ e. asks.Repair place e) z ≡ Some ask → (e : Entry) × (slice_get entries place ≡ Some e) × (ask ≡ asks.Repair place e)
+    by : (z : Option Entry) → entry_at cut entries place ≡ z → option_map (λ e. asks.Store place e) z ≡ Some ask → (e : Entry) × ((cut ≤ place) × (slice_get entries (place - cut) ≡ Some e)) × (ask ≡ asks.Store place e)
     by None is e = absurd (none-some ask e)
-    by (Some x) is e = (x, is, sym (same_Some _ _ e))
+    by (Some x) is e = (x, entry_of entries cut place x is, sym (same_Some _ _ e))
+
+pub repaired_entry : (entries : List Entry) (cut place : ℕ) (ask : Ask) → asked_by entries cut (Repair place) ≡ Some ask → (e : Entry) × ((cut ≤ place) × (slice_get entries (place - cut) ≡ Some e)) × (ask ≡ asks.Repair place e)
+repaired_entry entries cut place ask h = by (entry_at cut entries place) refl h
+  where
+    by : (z : Option Entry) → entry_at cut entries place ≡ z → option_map (λ e. asks.Repair place e) z ≡ Some ask → (e : Entry) × ((cut ≤ place) × (slice_get entries (place - cut) ≡ Some e)) × (ask ≡ asks.Repair place e)
+    by None is e = absurd (none-some ask e)
+    by (Some x) is e = (x, entry_of entries cut place x is, sym (same_Some _ _ e))
 
 -- what writes nothing tells and leaves all as it was
 pub tail_answers : (v : View) → ServerAnswers v asks.Tail (table v.server asks.Tail) v
@@ -280,29 +292,29 @@ entry_is [] i d h = absurd (omega (arith, h))
 entry_is (e ∷ es) zero d h = refl
 entry_is (e ∷ es) (suc i) d h = entry_is es i d (omega (arith, h))
 
-pub stored_within : (entries : List Entry) (cut place : ℕ) (errand : Errand) → errand ≡ Store place → (ask : Ask) × (asked_by entries cut errand ≡ Some ask) → place < length entries
-stored_within entries cut place errand is there = within entries place _ (stored_entry entries cut place there.0 (subst (λ (x : Errand). asked_by entries cut x ≡ Some there.0) is there.1)).1
+pub stored_within : (entries : List Entry) (cut place : ℕ) (errand : Errand) → errand ≡ Store place → (ask : Ask) × (asked_by entries cut errand ≡ Some ask) → (cut ≤ place) × (place - cut < length entries)
+stored_within entries cut place errand is there = (let x = (stored_entry entries cut place there.0 (subst (λ (x : Errand). asked_by entries cut x ≡ Some there.0) is there.1)).1 in (x.0, within entries (place - cut) _ x.1))
 
-pub repaired_within : (entries : List Entry) (cut place : ℕ) (errand : Errand) → errand ≡ Repair place → (ask : Ask) × (asked_by entries cut errand ≡ Some ask) → place < length entries
-repaired_within entries cut place errand is there = within entries place _ (repaired_entry entries cut place there.0 (subst (λ (x : Errand). asked_by entries cut x ≡ Some there.0) is there.1)).1
+pub repaired_within : (entries : List Entry) (cut place : ℕ) (errand : Errand) → errand ≡ Repair place → (ask : Ask) × (asked_by entries cut errand ≡ Some ask) → (cut ≤ place) × (place - cut < length entries)
+repaired_within entries cut place errand is there = (let x = (repaired_entry entries cut place there.0 (subst (λ (x : Errand). asked_by entries cut x ≡ Some there.0) is there.1)).1 in (x.0, within entries (place - cut) _ x.1))
 
 pub indexed : (entries : List Entry) (place : ℕ) (e : Entry) → place < length entries → e ≡ get_or entries place e → slice_get entries place ≡ Some e
 indexed entries place e here is = entry_is entries place e here ∙ ap (λ x. Some x) (sym is)
 
-pub stored_answers : {E : Type 0} (entries : List Entry) (cut place : ℕ) (errand : Errand) (r : Result Told E) (old new : View) (e : Entry) → errand ≡ Store place → slice_get entries place ≡ Some e → IfOk r (λ told. ServerAnswers old (asks.Store place e) told new)
+pub stored_answers : {E : Type 0} (entries : List Entry) (cut place : ℕ) (errand : Errand) (r : Result Told E) (old new : View) (e : Entry) → errand ≡ Store place → slice_get entries (place - cut) ≡ Some e → IfOk r (λ told. ServerAnswers old (asks.Store place e) told new)
     → IfOk r (λ told. (ask : Ask) → asked_by entries cut errand ≡ Some ask → ServerAnswers old ask told new)
 stored_answers entries cut place errand (Err x) old new e is there h = tt
 stored_answers entries cut place errand (Ok told) old new e is there h = λ ask known.
     let s = stored_entry entries cut place ask (subst (λ (x : Errand). asked_by entries cut x ≡ Some ask) is known) in
-    let same : e ≡ s.0 = same_Some _ _ (sym there ∙ s.1) in
+    let same : e ≡ s.0 = same_Some _ _ (sym there ∙ s.1.1) in
     subst (λ (k : Ask). ServerAnswers old k told new) (sym (s.2 ∙ ap (asks.Store place) (sym same))) h
 
-pub repaired_answers : {E : Type 0} (entries : List Entry) (cut place : ℕ) (errand : Errand) (r : Result Told E) (old new : View) (e : Entry) → errand ≡ Repair place → slice_get entries place ≡ Some e → IfOk r (λ told. ServerAnswers old (asks.Repair place e) told new)
+pub repaired_answers : {E : Type 0} (entries : List Entry) (cut place : ℕ) (errand : Errand) (r : Result Told E) (old new : View) (e : Entry) → errand ≡ Repair place → slice_get entries (place - cut) ≡ Some e → IfOk r (λ told. ServerAnswers old (asks.Repair place e) told new)
     → IfOk r (λ told. (ask : Ask) → asked_by entries cut errand ≡ Some ask → ServerAnswers old ask told new)
 repaired_answers entries cut place errand (Err x) old new e is there h = tt
 repaired_answers entries cut place errand (Ok told) old new e is there h = λ ask known.
     let s = repaired_entry entries cut place ask (subst (λ (x : Errand). asked_by entries cut x ≡ Some ask) is known) in
-    let same : e ≡ s.0 = same_Some _ _ (sym there ∙ s.1) in
+    let same : e ≡ s.0 = same_Some _ _ (sym there ∙ s.1.1) in
     subst (λ (k : Ask). ServerAnswers old k told new) (sym (s.2 ∙ ap (asks.Repair place) (sym same))) h
 
 -- an ask that is the same whatever the entries are

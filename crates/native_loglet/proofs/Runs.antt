@@ -28,6 +28,7 @@ use Rattle.quorum_cell.specs.Tallies.{entry_heard}
 use Rattle.quorum_cell.specs.Steps.{run_cell, begin, given_outcome}
 use Rattle.quorum_cell.specs.Law.{QuorumLaw, ServerHolds, Later}
 use Rattle.quorum_cell.specs.Outcomes.{IsTrimmed, RestsOnCauses}
+use Rattle.quorum_cell.proofs.Lists.{slice_get_drop}
 use Rattle.quorum_cell.proofs.Conclusions.{outcome_holds, reach_stays}
 use Rattle.quorum_cell.proofs.Grounds.{outcome_rests}
 use Rattle.quorum_cell.proofs.Runs.{run_later}
@@ -105,7 +106,7 @@ sealed_in (call ∷ calls) a b c t n (suc k) h r l e = sealed_in calls r.0 b (ru
 -- what was reached stands in the cell
 stands_in : (a : Native) (c : Cell) (p : ℕ) (e : Entry) → IsCellOf a c → p < c.reach → slice_get c.entries p ≡ Some e → Stands a p e
 stands_in a c p e h below is = record {
-  entry = ap (λ (es : List Entry). slice_get es p) (sym h.entries) ∙ is;
+  entry = λ kept. (let place : c.cut + (p - a.marks.cut) ≡ p = omega (arith, kept, h.cut) in ap (λ (es : List Entry). slice_get es (p - a.marks.cut)) (sym h.entries) ∙ slice_get_drop c.cut c.entries (p - a.marks.cut) ∙ ap (slice_get c.entries) place ∙ is);
   majority = subst (λ n. is_majority n (λ i. nat_lt p (length_of (server_at a.replicas i))) ≡ true) (length-map a.replicas server_in) (subst (λ (ss : List Server). is_majority (length ss) (λ i. nat_lt p (length_of (get_or ss i no_server))) ≡ true) h.servers long);
   copies = λ i base within. subst (λ (s : Server). s.base ≤ p → p < length_of s → slice_get s.entries (p - s.base) ≡ Some e) (ap (λ (ss : List Server). get_or ss i no_server) h.servers) (copied i) base within;
 }

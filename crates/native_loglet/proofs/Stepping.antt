@@ -1,10 +1,11 @@
 -- The calls of a native loglet as steps of a loglet.
-use Rattle.std.proofs.Common.{◌≡◌, ℕ, zero, suc, ◌^◌, ◌<◌, ◌≤◌, true, false, nat_eq, refl, sym, ◌∙◌, ap, subst, arith, List, [], ◌∷◌, map, length, Option, Some, None, inl, inr}
+use Rattle.std.proofs.Common.{◌≡◌, ℕ, zero, suc, ◌^◌, ◌<◌, ◌≤◌, true, false, nat_eq, refl, sym, ◌∙◌, ap, subst, arith, List, [], ◌∷◌, map, length, drop, Option, Some, None, inl, inr}
 use Rattle.std.specs.Prelude.{◌⊎◌, slice_get, is_some}
 use Rattle.native_loglet.specs.Natives.{UpdatesAt}
 use Rattle.std.proofs.lemmas.Bool.{false≢true, cases_eq, ne_eqb}
 use Rattle.std.proofs.lemmas.Option.{none-some}
 use Rattle.std.proofs.lemmas.List.{length-set}
+use Rattle.delos_types.specs.declared.entry.Entry.{Entry}
 use Rattle.loglet_api.specs.declared.call.LogletCall.{LogletCall}
 use Rattle.loglet_api.specs.declared.call.LogletCall.TheVariants.{Forget as CallForget, Carry as CallCarry}
 use Rattle.loglet_api.specs.declared.call.LogletAnswer.{LogletAnswer}
@@ -150,7 +151,7 @@ forget_tied a b c t h is_open k marks u = record {
   few = omega (arith, h.few, ap (λ (x : Cell). length x.servers) is);
   room = ap (λ (x : Cell). x.room) is ∙ h.room ∙ sym k.room;
   limit = ap (λ (x : Cell). x.limit) is ∙ h.limit;
-  entries = ap (λ (x : Cell). x.entries) is ∙ h.entries ∙ sym k.entries;
+  entries = ap (λ (x : Cell). drop x.cut x.entries) is ∙ h.entries ∙ sym k.entries;
   servers = ap (λ (x : Cell). x.servers) is ∙ h.servers ∙ sym (ap (map server_in) k.replicas);
   cut = ap (λ (x : Cell). x.cut) is ∙ h.cut ∙ sym k.cut;
   reach = ap (λ (x : Cell). x.reach) is ∙ h.reach ∙ sym (ap (λ (m : Marks). m.reach) marks);
@@ -201,7 +202,7 @@ stirred_tied a b c steps h strays servers faults room entries marks operations m
   few = omega (arith, h.few, s.servers);
   room = s.room ∙ h.room ∙ sym room;
   limit = s.limit ∙ h.limit;
-  entries = s.entries ∙ h.entries ∙ sym entries;
+  entries = ap (λ k. drop k (run_cell steps c).entries) s.cut ∙ ap (λ (es : List Entry). drop c.cut es) s.entries ∙ h.entries ∙ sym entries;
   servers = servers;
   cut = s.cut ∙ h.cut ∙ sym (ap (λ (m : Marks). m.cut) marks);
   reach = s.reach ∙ h.reach ∙ sym (ap (λ (m : Marks). m.reach) marks);

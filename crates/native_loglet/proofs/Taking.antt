@@ -1,5 +1,5 @@
 -- An answer is taken: it is what the client of the cell's operation is told.
-use Rattle.std.proofs.Common.{◌≡◌, ℕ, ◌+◌, ◌^◌, ◌<◌, ◌≤◌, Bool, true, false, cond, refl, sym, ◌∙◌, ap, subst, arith, [], ◌∷◌, length, set, Option, Some, None, max}
+use Rattle.std.proofs.Common.{◌≡◌, ℕ, ◌+◌, ◌^◌, ◌<◌, ◌≤◌, Bool, true, false, cond, refl, sym, ◌∙◌, ap, subst, arith, [], ◌∷◌, length, drop, set, Option, Some, None, max}
 use Rattle.std.specs.Prelude.{is_some, IsSome, nat_lt, slice_get, count_by, option_map, if◌then◌else◌}
 use Rattle.native_loglet.specs.Natives.{UpdatesAt}
 use Rattle.std.proofs.lemmas.Bool.{false≢true, true≢false}
@@ -169,7 +169,7 @@ module _ (a : Native) (n : PendingList) (c : Cell) (t : ℕ) (p : Pending) (x : 
     few = omega (arith, h.few, ap (λ (d : Cell). length d.servers) is);
     room = ap (λ (d : Cell). d.room) is ∙ h.room;
     limit = ap (λ (d : Cell). d.limit) is ∙ h.limit;
-    entries = ap (λ (d : Cell). d.entries) is ∙ h.entries;
+    entries = ap (λ (d : Cell). drop d.cut d.entries) is ∙ h.entries;
     servers = ap (λ (d : Cell). d.servers) is ∙ h.servers;
     cut = ap (λ (d : Cell). d.cut) is ∙ h.cut;
     reach = ap (λ (d : Cell). d.reach) is ∙ ap (λ k. max k (reached (operation c t) x)) h.reach ∙ ap (max a.marks.reach) reach_is;

@@ -1,13 +1,15 @@
 -- What a native loglet shows is what clients see of its cell.
-use Rattle.std.proofs.Common.{◌≡◌, ℕ, suc, ◌+◌, ◌*◌, ◌^◌, ◌<◌, ◌≤◌, Bool, true, false, cond, refl, sym, ◌∙◌, ap, subst, arith, List, [], ◌∷◌, map, drop, length, get_or, Option, Some, None}
+use Rattle.std.proofs.Common.{◌≡◌, ℕ, suc, ◌+◌, ◌*◌, ◌^◌, ◌<◌, ◌≤◌, Bool, true, false, cond, refl, sym, ◌∙◌, ap, subst, arith, List, [], ◌∷◌, map, length, get_or, Option, Some, None}
 use Rattle.std.specs.Prelude.{not, count_by, if◌then◌else◌}
-use Rattle.std.proofs.lemmas.List.{length-map}
+use Rattle.std.proofs.lemmas.List.{length-drop, length-map}
 use Rattle.std.proofs.lemmas.List.Sums.{sum_by-cons}
+use Rattle.delos_types.specs.declared.entry.Entry.{Entry}
 use Rattle.quorum_cell.specs.declared.operation.Outcome.{Outcome}
 use Rattle.majority_rule.specs.Majority.{majority, is_majority, votes_below}
 use Rattle.quorum_cell.specs.Servers.{Server, is_sealed}
 use Rattle.quorum_cell.specs.Cells.{Cell, Operation, operation, no_operation, no_server}
 use Rattle.majority_rule.proofs.Majorities.{votes_first}
+use Rattle.quorum_cell.proofs.Steps.{cut_within}
 use Rattle.cell_views.specs.Views.{Manner, IsManner, cell_view, operation_view, open_from, left_of}
 use Rattle.log_server.specs.View.{View}
 use Rattle.native_plan.specs.declared.pending.Pending.{Pending}
@@ -68,6 +70,10 @@ operations_are a c left fits h = ap (shown_from (look_in a.pending) 0) (sym h.be
 pub servers_many : (a : Native) (c : Cell) → IsCellOf a c → length a.replicas ≡ length c.servers
 servers_many a c h = sym (length-map a.replicas server_in) ∙ sym (ap (λ (ss : List Server). length ss) h.servers)
 
+-- the entries that are kept are those of the cell from its cut on
+pub size_is : (a : Native) (c : Cell) → IsCellOf a c → length c.entries ≡ a.marks.cut + length a.entries
+size_is a c h = (let within : c.cut ≤ length c.entries = cut_within c h.lawful.law.quorum in omega (arith, within, length-drop c.cut c.entries, ap (λ (es : List Entry). length es) h.entries, h.cut))
+
 pub down_is : (a : Native) (c : Cell) → IsCellOf a c → down_in a.replicas ≡ votes_below (length c.servers) (λ i. not (get_or c.servers i no_server).up)
 down_is a c h = count_servers (λ s. not s.up) a.replicas ∙ ap (λ (ss : List Server). votes_below (length ss) (λ i. not (get_or ss i no_server).up)) (sym h.servers)
 
@@ -94,7 +100,7 @@ view_is a c left fits h =
       rounds = 7;
       limit = sym h.limit i;
       cut = sym h.cut i;
-      log = drop (sym h.cut i) (sym h.entries i);
+      log = sym h.entries i;
       reach = sym h.reach i;
       cap = sym h.cap i;
       firm = sym h.firm i;

@@ -1,5 +1,5 @@
 -- Each call of a native loglet, by its fields.
-use Rattle.std.proofs.Common.{◌≡◌, ℕ, ◌+◌, ◌-◌, ◌^◌, ◌<◌, Bool, true, false, sym, subst, List, ◌++◌, length, get_or, set, Some, min, max}
+use Rattle.std.proofs.Common.{◌≡◌, ℕ, ◌+◌, ◌-◌, ◌^◌, ◌<◌, Bool, true, false, sym, subst, List, length, get_or, set, Some, min, max}
 use Rattle.std.specs.Prelude.{not}
 use Rattle.native_loglet.specs.Natives.{UpdatesAt}
 use Rattle.delos_types.specs.declared.entry.Entry.{Entry}
@@ -11,7 +11,7 @@ use Rattle.loglet_api.specs.declared.call.LogletCall.TheVariants.{Begin as CallB
 use Rattle.loglet_api.specs.declared.call.LogletAnswer.{LogletAnswer}
 use Rattle.loglet_api.specs.declared.call.LogletAnswer.TheVariants.{Begun, Carried, Refusal, Taken, Restarted}
 use Rattle.loglet_api.specs.View.{LogletView}
-use Rattle.loglet_api.specs.Step.{LogletStep, CanCall, entries_of, cut_by, seals_of, wanted_by, told_reach, told_firm, told_cap, told_lacks}
+use Rattle.loglet_api.specs.Step.{LogletStep, CanCall, cut_by, seals_of, wanted_by, told_reach, told_firm, told_cap, told_lacks}
 use Rattle.quorum_cell.specs.Servers.{restarted}
 use Rattle.log_server.specs.View.{View}
 use Rattle.native_plan.specs.declared.pending.Pending.{Pending}
@@ -27,7 +27,7 @@ use Rattle.native_loglet.proofs.Alike.{IsOwned}
 use Rattle.native_loglet.proofs.Restarting.{restarts_owned}
 use Rattle.native_loglet.proofs.Messages.{carries_owned}
 use Rattle.native_loglet.proofs.Taking.{takes_owned}
-use Rattle.native_loglet.proofs.Beginning.{IsFullFor, start_of, refuses_owned, begins_owned}
+use Rattle.native_loglet.proofs.Beginning.{IsFullFor, start_of, refuses_owned, begins_owned, begun_entries}
 
 -- a loglet is owned, and a call led to it
 abbrev pub LedTo : LogletView → LogletCall → LogletAnswer → Native → Type 0
@@ -51,8 +51,8 @@ pub refuses_whole : (a : Native) (marks : Marks) (v : LogletView) (op : Op) → 
 refuses_whole a marks v op e h can full is = subst (λ (x : Marks). LedTo v (CallBegin op) (Refusal Full) (record a { marks = x })) (sym is) (refuses_owned a v op e h can full)
 
 pub begins_whole : (a : Native) (es : List Entry) (marks : Marks) (v : LogletView) (op : Op) (p : Pending) (n : PendingList) → loglet_of a ≡ v → IsOwned a → CanCall v (CallBegin op) → (IsFullFor a op → ⊥) → BeginsOn a.replicas op (start_of a op) (cut_by op a.marks.cut a.marks.reach) p
-    → UpdatesAt a.pending n a.marks.begun (Some p) → es ≡ a.entries ++ entries_of op → marks ≡ record a.marks { cut = cut_by op a.marks.cut a.marks.reach; begun = a.marks.begun + 1; seals = a.marks.seals + seals_of op }
+    → UpdatesAt a.pending n a.marks.begun (Some p) → es ≡ begun_entries a op → marks ≡ record a.marks { cut = cut_by op a.marks.cut a.marks.reach; begun = a.marks.begun + 1; seals = a.marks.seals + seals_of op }
     → LedTo v (CallBegin op) (Begun a.marks.begun) (record a { entries = es; pending = n; marks = marks })
 begins_whole a es marks v op p n e h can space b u entries is =
     subst (λ (xs : List Entry). LedTo v (CallBegin op) (Begun a.marks.begun) (record a { entries = xs; pending = n; marks = marks })) (sym entries)
-    (subst (λ (x : Marks). LedTo v (CallBegin op) (Begun a.marks.begun) (record a { entries = a.entries ++ entries_of op; pending = n; marks = x })) (sym is) (begins_owned a v op p n e h can space b u))
+    (subst (λ (x : Marks). LedTo v (CallBegin op) (Begun a.marks.begun) (record a { entries = begun_entries a op; pending = n; marks = x })) (sym is) (begins_owned a v op p n e h can space b u))

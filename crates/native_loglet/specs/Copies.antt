@@ -18,7 +18,7 @@ use Rattle.native_plan.specs.declared.message.Message.{Message}
 use Rattle.native_plan.specs.declared.message.Message.TheVariants.{Asked, Told as Answered}
 use Rattle.native_plan.specs.declared.message.Phase.{Phase}
 use Rattle.native_plan.specs.declared.message.Phase.TheVariants.{Reading}
-use Rattle.native_plan.specs.Members.{no_member}
+use Rattle.native_plan.specs.Members.{no_member, due_of}
 use Rattle.native_plan.specs.Strays.{errand_in, is_asked, HearsAgain}
 use Rattle.native_ties.specs.Parts.{asked_by}
 use Rattle.native_loglet.specs.declared.mail.Mail.{Mail}
@@ -28,10 +28,10 @@ use Rattle.native_loglet.specs.Moving.{FailsAs, picked_by}
 
 ---- which is kept
 
--- a copy of the message that operation t has on its way to or from server i: a request with what it asks now
+-- a copy of the message that operation t has on its way to or from server i: a request with what its server is asked as it comes
 abbrev pub mail_of : List Entry → ℕ → ℕ → ℕ → Option Message → Option Mail
 mail_of entries cut t i None = None
-mail_of entries cut t i (Some (Asked e)) = option_map (λ a. mail.Asked t i a) (asked_by entries cut e)
+mail_of entries cut t i (Some (Asked e)) = option_map (λ a. mail.Asked t i a) (asked_by entries cut (due_of cut e))
 mail_of entries cut t i (Some (Answered e told)) = Some (mail.Told t i e told)
 
 abbrev pub is_kept : Fate → Bool

@@ -18,7 +18,7 @@ use Rattle.native_plan.specs.declared.pending.Start.{Start}
 use Rattle.native_plan.specs.declared.message.Errand.{Errand}
 use Rattle.native_plan.specs.declared.message.Message.TheVariants.{Asked, Told as Answered}
 use Rattle.native_plan.specs.declared.message.Phase.TheVariants.{Reading}
-use Rattle.native_plan.specs.Members.{no_member, new_member, is_out, nth_out}
+use Rattle.native_plan.specs.Members.{no_member, new_member, is_out, nth_out, due_of}
 use Rattle.native_plan.specs.Pendings.{Answers, Hears, Loses, Begins}
 use Rattle.native_ties.specs.Parts.{asked_by}
 use Rattle.native_loglet.specs.Natives.{server_in, PendingList, look_in}
@@ -44,13 +44,13 @@ pub record BeginsOn (vs : List View) (op : Op) (start : Start) (cut : ℕ) (p : 
 
 ---- it goes on
 
--- some message is on its way, and each may be asked
+-- some message is on its way, and each may be asked, where these entries are kept from the cut on
 pub record CanMove (entries : List Entry) (cut n : ℕ) (p : Pending) : Type 0 where
   pub members : length p.members.items ≡ n
   pub few : n ≤ 7
   pub some : 0 < count_by is_out p.members.items
   pub losses : (i : ℕ) → is_out (get_or p.members.items i no_member) ≡ true → (get_or p.members.items i no_member).losses < 8
-  pub asks : (i : ℕ) (e : Errand) → (get_or p.members.items i no_member).message ≡ Some (Asked e) → (ask : Ask) × (asked_by entries cut e ≡ Some ask)
+  pub asks : (i : ℕ) (e : Errand) → (get_or p.members.items i no_member).message ≡ Some (Asked e) → (ask : Ask) × (asked_by entries cut (due_of cut e) ≡ Some ask)
   pub turns : (j : ℕ) → p.phase ≡ Reading j → j < 2 ^ 32
 
 -- a message is lost by this fate and no other
@@ -77,14 +77,14 @@ pub record AnswersFor (entries : List Entry) (cut i : ℕ) (errand : Errand) (ol
   pub tells : (ask : Ask) → asked_by entries cut errand ≡ Some ask → ServerAnswers before ask told after
   pub fault : FailsAs told failed
 
--- a request came to server i
+-- a request came to server i; in place of an entry below the cut it lets go
 pub record MovesByRequest (entries : List Entry) (cut i : ℕ) (old new : Pending) (before after : List View) (failed : Bool) : Type 0 where
   pub errand : Errand
   pub was : View
   pub is : View
   pub asked : (get_or old.members.items i no_member).message ≡ Some (Asked errand)
   pub there : slice_get before i ≡ Some was
-  pub answers : AnswersFor entries cut i errand old new was is failed
+  pub answers : AnswersFor entries cut i (due_of cut errand) old new was is failed
   pub servers : after ≡ set before i is
 
 -- an answer of server i came

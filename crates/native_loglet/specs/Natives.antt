@@ -31,6 +31,7 @@ PendingList = List (ℕ × Pending)
 -- the parts of a native loglet, as plain values
 pub record Native : Type 0 where
   pub room : ℕ
+  -- the entries from the cut on, and no others
   pub entries : List Entry
   pub replicas : List View
   pub marks : Marks
@@ -83,7 +84,7 @@ loglet_of a = record {
   rounds = 7;
   limit = 2 ^ 62;
   cut = a.marks.cut;
-  log = drop a.marks.cut a.entries;
+  log = a.entries;
   reach = a.marks.reach;
   cap = a.marks.cap;
   firm = a.marks.firm;
@@ -152,7 +153,7 @@ pub record IsCellOf (a : Native) (c : Cell) : Type 0 where
   pub few : length c.servers ≤ 7
   pub room : c.room ≡ a.room
   pub limit : c.limit ≡ 2 ^ 62
-  pub entries : c.entries ≡ a.entries
+  pub entries : drop c.cut c.entries ≡ a.entries
   pub servers : c.servers ≡ map server_in a.replicas
   pub cut : c.cut ≡ a.marks.cut
   pub reach : c.reach ≡ a.marks.reach

@@ -6,8 +6,8 @@ use Rattle.quorum_cell.specs.Servers.{length_of}
 use Rattle.native_loglet.specs.Natives.{Native}
 use Rattle.native_loglet.specs.Moving.{server_at}
 
--- the entry stands at the position: more than half of the servers have the position, and each that still keeps it has this entry there
+-- the entry stands at the position: the loglet keeps it there, unless it was trimmed; more than half of the servers have the position, and each that still keeps it has this entry there
 pub record Stands (a : Native) (p : ℕ) (e : Entry) : Type 0 where
-  pub entry : slice_get a.entries p ≡ Some e
+  pub entry : a.marks.cut ≤ p → slice_get a.entries (p - a.marks.cut) ≡ Some e
   pub majority : is_majority (length a.replicas) (λ i. nat_lt p (length_of (server_at a.replicas i))) ≡ true
   pub copies : (i : ℕ) → (server_at a.replicas i).base ≤ p → p < length_of (server_at a.replicas i) → slice_get (server_at a.replicas i).entries (p - (server_at a.replicas i).base) ≡ Some e

@@ -23,7 +23,7 @@ use Rattle.native_plan.specs.declared.member.Member.{Member}
 use Rattle.native_plan.specs.declared.pending.Pending.{Pending}
 use Rattle.native_plan.specs.declared.message.Message.{Message}
 use Rattle.native_plan.specs.declared.message.Message.TheVariants.{Asked, Told as Answered}
-use Rattle.native_plan.specs.Members.{no_member}
+use Rattle.native_plan.specs.Members.{no_member, due_of}
 use Rattle.native_ties.specs.Steps.{IsLoss, IsRequest, IsStop, IsAnswer}
 use Rattle.native_loglet.specs.Natives.{Native, PendingList, look_in, loglet_of, IsCellOf}
 use Rattle.native_ties.specs.Strays.{IsRequest as IsRequestOf, IsReply, HearsBy}
@@ -34,10 +34,10 @@ use Rattle.native_loglet.specs.Copies.{hears_of}
 
 ---- a carry
 
--- the message of operation t to server i comes: its request to the server, which answers or stops inside the write, or the server's answer to the operation
+-- the message of operation t to server i comes: its request to the server, in place of an entry below the cut that it lets go, and the server answers or stops inside the write; or the server's answer to the operation
 abbrev pub ComesBy : Cell → ℕ → ℕ → Option Message → List CellStep → Type 0
 ComesBy c t i None steps = ⊥
-ComesBy c t i (Some (Asked e)) steps = IsRequest c t i e steps ⊎ IsStop c t i e steps
+ComesBy c t i (Some (Asked e)) steps = IsRequest c t i (due_of c.cut e) steps ⊎ IsStop c t i (due_of c.cut e) steps
 ComesBy c t i (Some (Answered e told)) steps = IsAnswer c t i e told steps
 
 -- by this fate it is lost, and by each other it comes

@@ -5,22 +5,23 @@ ghost use Rattle.native_bag.specs.Bags.{most_strays};
 ghost use Rattle.native_plan.specs.declared.message.Errand as errands;
 ghost use Rattle.native_plan.specs.declared.message.Message.TheVariants.{Asked};
 ghost use Rattle.native_plan.specs.declared.pending.Pending as pendings;
-ghost use Rattle.native_plan.specs.Members.{no_member};
+ghost use Rattle.native_plan.specs.Members.{no_member, due_of};
 ghost use Rattle.native_ties.specs.Parts.{asked_by};
 ghost use Rattle.native_loglet.specs.Natives.{look_in};
 ghost use Rattle.native_loglet.specs.Moving.{CanMove, picked_by};
 ghost use Rattle.native_loglet.specs.Copies.{is_kept as is_kept_by, mail_of, copy_of, kept_after};
 
+use crate::carrying::picked;
 use crate::mail::Mail;
 use delos_types::entry::Entry;
 use fate_words::fates::Fate;
-use fate_words::words::{fate, pick};
+use fate_words::words::fate;
 use native_bag::bag::{Bag, MOST_STRAYS};
 use native_plan::message::{Errand, Message};
 use native_plan::pending::Pending;
 use quorum_cell::message::Ask;
 use std::alloc::AllocError;
-use std::collections::HashMap;
+use std::collections::{HashMap, VecDeque};
 
 /// Whether a copy stays behind, where there is room.
 fn is_kept(fate: Fate) -> bool
@@ -33,14 +34,14 @@ fn is_kept(fate: Fate) -> bool
 /// memory where none does.
 pub fn copy_at(
     pending: &HashMap<u64, Pending>,
-    entries: &[Entry],
+    entries: &VecDeque<Entry>,
     cut: u64,
     number: u64,
     word: u64,
     kept: usize,
 ) -> Result<Option<Mail>, AllocError>
-    requires can { (p : pendings.Pending) → look_in pending.now.entries number ≡ Some p → (n : ℕ) × CanMove entries.now cut n p }
-    ensures { IfOk result (λ copy. copy ≡ copy_of entries.now cut number word kept (look_in pending.now.entries number)) }
+    requires can { (p : pendings.Pending) → look_in pending.now.entries number ≡ Some p → (n : ℕ) × CanMove entries.now.items cut n p }
+    ensures { IfOk result (λ copy. copy ≡ copy_of entries.now.items cut number word kept (look_in pending.now.entries number)) }
 {
     if !is_kept(fate(word)) {
         return Ok(None);
@@ -57,15 +58,15 @@ pub fn copy_at(
 /// A copy of the message of the operation that the word picks.
 fn copy_moved(
     p: &Pending,
-    entries: &[Entry],
+    entries: &VecDeque<Entry>,
     cut: u64,
     number: u64,
     word: u64,
 ) -> Result<Option<Mail>, AllocError>
-    requires can { (n : ℕ) × CanMove entries.now cut n p.now }
-    ensures { IfOk result (λ copy. copy ≡ mail_of entries.now cut number (picked_by word p.now) (get_or p.now.members.items (picked_by word p.now) no_member).message) }
+    requires can { (n : ℕ) × CanMove entries.now.items cut n p.now }
+    ensures { IfOk result (λ copy. copy ≡ mail_of entries.now.items cut number (picked_by word p.now) (get_or p.now.members.items (picked_by word p.now) no_member).message) }
 {
-    let server = p.pick(pick(word, p.outstanding() as u64));
+    let server = picked(p, word);
     match &p.members[server].message {
         Some(message) => copy_message(message, entries, cut, number, server as u32),
         None => Ok(None),
@@ -75,17 +76,17 @@ fn copy_moved(
 /// A copy of this message.
 fn copy_message(
     message: &Message,
-    entries: &[Entry],
+    entries: &VecDeque<Entry>,
     cut: u64,
     number: u64,
     server: u32,
 ) -> Result<Option<Mail>, AllocError>
-    requires there { (e : errands.Errand) → message.now ≡ Asked e → (ask : asks.Ask) × (asked_by entries.now cut e ≡ Some ask) }
-    ensures { IfOk result (λ copy. copy ≡ mail_of entries.now cut number server (Some message.now)) }
+    requires there { (e : errands.Errand) → message.now ≡ Asked e → (ask : asks.Ask) × (asked_by entries.now.items cut (due_of cut e) ≡ Some ask) }
+    ensures { IfOk result (λ copy. copy ≡ mail_of entries.now.items cut number server (Some message.now)) }
 {
     match message {
         Message::Asked(errand) => {
-            let ask = ask_of(*errand, entries, cut)?;
+            let ask = ask_of(errand.due(cut), entries, cut)?;
             Ok(Some(Mail::Asked {
                 ticket: number,
                 server,
@@ -105,19 +106,19 @@ fn copy_message(
 }
 
 /// What a server is asked for an errand.
-fn ask_of(errand: Errand, entries: &[Entry], cut: u64) -> Result<Ask, AllocError>
-    requires there { (ask : asks.Ask) × (asked_by entries.now cut errand ≡ Some ask) }
-    ensures { IfOk result (λ ask. asked_by entries.now cut errand ≡ Some ask) }
+fn ask_of(errand: Errand, entries: &VecDeque<Entry>, cut: u64) -> Result<Ask, AllocError>
+    requires there { (ask : asks.Ask) × (asked_by entries.now.items cut errand ≡ Some ask) }
+    ensures { IfOk result (λ ask. asked_by entries.now.items cut errand ≡ Some ask) }
 {
     match errand {
         Errand::Store(place) => {
-            let entry = entries[place as usize].clone()?;
+            let entry = entries[(place - cut) as usize].clone()?;
             Ok(Ask::Store(place, entry))
         }
         Errand::Seal => Ok(Ask::Seal),
         Errand::Tail => Ok(Ask::Tail),
         Errand::Repair(place) => {
-            let entry = entries[place as usize].clone()?;
+            let entry = entries[(place - cut) as usize].clone()?;
             Ok(Ask::Repair(place, entry))
         }
         Errand::Read(place) => Ok(Ask::Read(place)),

@@ -1,5 +1,5 @@
 //! A loglet of several servers.
-ghost use Rattle.std.specs.Prelude.{◌≡◌, ◌≢◌, ℕ, ◌<◌, ◌≤◌, ◌^◌, ◌⊎◌, ◌↔◌, IsTrue, true, nat_lt, [], All, Some, length, slice_get, nat_eq, map, not, IfOk, OnOk, OnErr};
+ghost use Rattle.std.specs.Prelude.{◌≡◌, ◌≢◌, ℕ, ◌+◌, ◌<◌, ◌≤◌, ◌^◌, ◌⊎◌, ◌↔◌, IsTrue, true, nat_lt, [], All, Some, length, slice_get, nat_eq, map, not, IfOk, OnOk, OnErr};
 ghost use Rattle.std.specs.HashMap.{IsUnchanged};
 ghost use Rattle.delos_types.specs.Spelling.{IsSpellable};
 ghost use Rattle.delos_types.specs.declared.entry.Entry as entries_of;
@@ -22,7 +22,7 @@ use crate::closing::{answer, take_decided};
 use crate::copying::{copy_at, keep, take_back};
 use crate::mail::Mail;
 use crate::marks::Marks;
-use crate::opening::{add, begin_on, down};
+use crate::opening::{add, begin_on, down, let_go};
 use crate::replica::Replica;
 use crate::straying::stray_at;
 use delos_types::entry::Entry;
@@ -33,7 +33,7 @@ use loglet_api::loglet::Loglet;
 use native_bag::bag::Bag;
 use native_plan::pending::Pending;
 use std::alloc::{AllocError, Global};
-use std::collections::HashMap;
+use std::collections::{HashMap, VecDeque};
 use std::marker::Model;
 
 /// How many operations may be begun: 2^62.
@@ -49,14 +49,14 @@ const ROUNDS: u32 = 7;
 /// times, a server that is down and one whose disk failed leave that server out for the operation.
 /// Faults are lost messages, failures of a server's disk, and `Full` answers.
 ///
-/// Memory: the entries from position 0 on, trimmed ones too, beside what the servers keep; for each
-/// open operation some 100 bytes for each server.
+/// Memory: the entries from the cut on, beside what the servers keep; for each open operation some
+/// 100 bytes for each server.
 #[derive(Drop)]
 pub struct NativeLoglet<D: Disk> {
     alloc: Global,
     room: u64,
-    /// All entries from position 0 on.
-    entries: Vec<Entry>,
+    /// The entries from the cut on.
+    entries: VecDeque<Entry>,
     replicas: Vec<Replica<D>>,
     marks: Marks,
     /// The open operations, by ticket.
@@ -105,7 +105,7 @@ impl<D: Disk> NativeLoglet<D> {
         NativeLoglet {
             alloc,
             room,
-            entries: Vec::new(alloc),
+            entries: VecDeque::new(alloc),
             replicas,
             marks: Marks::new(),
             pending: HashMap::new(alloc),
@@ -158,7 +158,8 @@ impl<D: Disk> Loglet for NativeLoglet<D> {
         // The operation begins in its cell, or is refused there as full.
         ensures goes { NativeStep self.old.parts (LogletCall.Begin op) (begin_answer result) self.new.parts }
     {
-        let size = self.entries.len() as u64;
+        let kept = self.entries.len() as u64;
+        let size = self.marks.cut + kept;
         if is_full(&op, size, self.room, self.marks.begun) {
             self.marks = self.marks.after(true);
             return Err(Refused::Full);
@@ -171,6 +172,7 @@ impl<D: Disk> Loglet for NativeLoglet<D> {
         let Ok(()) = add(&mut self.entries, &mut self.pending, op, number, p) else {
             return Err(Refused::Memory);
         };
+        let_go(&mut self.entries, marks.cut - self.marks.cut);
         self.marks = marks;
         Ok(Ticket::new(number))
     }
@@ -331,23 +333,22 @@ fn carry_keeping<D: Disk>(
     strays: &mut Bag<Mail>,
     pending: &mut HashMap<u64, Pending>,
     replicas: &mut [Replica<D>],
-    entries: &[Entry],
+    entries: &VecDeque<Entry>,
     cut: u64,
     number: u64,
     word: u64,
 ) -> Result<bool, AllocError>
-    requires can { (p : pendings.Pending) → look_in pending.old.entries number ≡ Some p → CanMove entries.now cut (length replicas.old) p }
-    requires spelled { (i : ℕ) (e : entries_of.Entry) → slice_get entries.now i ≡ Some e → IsSpellable e }
-    requires small { length entries.now ≤ 2 ^ 32 }
-    requires cut { cut ≤ 2 ^ 32 }
-    ensures carries { (p : pendings.Pending) → look_in pending.old.entries number ≡ Some p → IfOk result (CarriesAt entries.now cut number word p pending.old.entries pending.new.entries replicas.old replicas.new) }
+    requires can { (p : pendings.Pending) → look_in pending.old.entries number ≡ Some p → CanMove entries.now.items cut (length replicas.old) p }
+    requires spelled { (i : ℕ) (e : entries_of.Entry) → slice_get entries.now.items i ≡ Some e → IsSpellable e }
+    requires small { cut + length entries.now.items ≤ 2 ^ 32 }
+    ensures carries { (p : pendings.Pending) → look_in pending.old.entries number ≡ Some p → IfOk result (CarriesAt entries.now.items cut number word p pending.old.entries pending.new.entries replicas.old replicas.new) }
     ensures pending { OnErr result ((t : ℕ) → look_in pending.new.entries t ≡ look_in pending.old.entries t) }
     ensures memory { OnErr result (map server_in replicas.new ≡ map server_in replicas.old) }
     ensures wear { IfOk result (λ _. Wear (states_in replicas.old) (states_in replicas.new)) }
     ensures spared { OnErr result (states_in replicas.new ≡ states_in replicas.old) }
     ensures disks { KeepDisks replicas.old replicas.new }
     ensures failed { (p : pendings.Pending) → look_in pending.old.entries number ≡ Some p → IfOk result (λ failed. failed ≡ is_failed word (down_in replicas.old) (down_in replicas.new)) }
-    ensures keeps { IfOk result (λ _. strays.new.strays ≡ kept_after (copy_of entries.now cut number word (length strays.old.strays) (look_in pending.old.entries number)) strays.old.strays) }
+    ensures keeps { IfOk result (λ _. strays.new.strays ≡ kept_after (copy_of entries.now.items cut number word (length strays.old.strays) (look_in pending.old.entries number)) strays.old.strays) }
     ensures strays_stay { OnErr result (strays.new.strays ≡ strays.old.strays) }
 {
     let copy = copy_at(pending, entries, cut, number, word, strays.copies())?;
@@ -365,16 +366,15 @@ fn carry_keeping<D: Disk>(
 fn carry_at<D: Disk>(
     pending: &mut HashMap<u64, Pending>,
     replicas: &mut [Replica<D>],
-    entries: &[Entry],
+    entries: &VecDeque<Entry>,
     cut: u64,
     number: u64,
     word: u64,
 ) -> Result<bool, AllocError>
-    requires can { (p : pendings.Pending) → look_in pending.old.entries number ≡ Some p → CanMove entries.now cut (length replicas.old) p }
-    requires spelled { (i : ℕ) (e : entries_of.Entry) → slice_get entries.now i ≡ Some e → IsSpellable e }
-    requires small { length entries.now ≤ 2 ^ 32 }
-    requires cut { cut ≤ 2 ^ 32 }
-    ensures carries { (p : pendings.Pending) → look_in pending.old.entries number ≡ Some p → IfOk result (CarriesAt entries.now cut number word p pending.old.entries pending.new.entries replicas.old replicas.new) }
+    requires can { (p : pendings.Pending) → look_in pending.old.entries number ≡ Some p → CanMove entries.now.items cut (length replicas.old) p }
+    requires spelled { (i : ℕ) (e : entries_of.Entry) → slice_get entries.now.items i ≡ Some e → IsSpellable e }
+    requires small { cut + length entries.now.items ≤ 2 ^ 32 }
+    ensures carries { (p : pendings.Pending) → look_in pending.old.entries number ≡ Some p → IfOk result (CarriesAt entries.now.items cut number word p pending.old.entries pending.new.entries replicas.old replicas.new) }
     ensures pending { OnErr result ((t : ℕ) → look_in pending.new.entries t ≡ look_in pending.old.entries t) }
     ensures memory { OnErr result (map server_in replicas.new ≡ map server_in replicas.old) }
     ensures wear { IfOk result (λ _. Wear (states_in replicas.old) (states_in replicas.new)) }

@@ -1,5 +1,5 @@
 //! How an operation begins.
-ghost use Rattle.std.specs.Prelude.{◌≡◌, ◌+◌, ◌≤◌, ◌<◌, ◌^◌, ◌++◌, ◌⊎◌, ◌↔◌, length, get_or, nat_eq, OnOk, OnErr, IfOk, IsTrue, not};
+ghost use Rattle.std.specs.Prelude.{◌≡◌, ◌+◌, drop, ◌≤◌, ◌<◌, ◌^◌, ◌++◌, ◌⊎◌, ◌↔◌, length, get_or, nat_eq, OnOk, OnErr, IfOk, IsTrue, not};
 ghost use Rattle.std.specs.HashMap.{Updates, IsUnchanged};
 ghost use Rattle.std.specs.Prelude.{max, min, Some, count_by};
 ghost use Rattle.quorum_cell.specs.Servers.{is_sealed};
@@ -17,7 +17,7 @@ use majority_rule::majority::majority;
 use native_plan::member::Member;
 use native_plan::pending::{Pending, Start};
 use std::alloc::{AllocError, Global};
-use std::collections::HashMap;
+use std::collections::{HashMap, VecDeque};
 
 /// How many servers are down.
 pub fn down<D: Disk>(replicas: &[Replica<D>]) -> u32
@@ -100,7 +100,7 @@ pub fn begin_on<D: Disk>(
 
 /// Adds an operation, and the entry of an Append, or neither.
 pub fn add(
-    entries: &mut Vec<Entry>,
+    entries: &mut VecDeque<Entry>,
     pending: &mut HashMap<u64, Pending>,
     op: Op,
     number: u64,
@@ -114,11 +114,20 @@ pub fn add(
         Op::Append(entry) => {
             entries.reserve(1)?;
             pending.insert(number, p)?;
-            entries.push(entry).unwrap();
+            entries.push_back(entry).unwrap();
         }
         _ => {
             pending.insert(number, p)?;
         }
     }
     Ok(())
+}
+
+/// Lets go of so many entries, the first ones.
+pub fn let_go(entries: &mut VecDeque<Entry>, count: u64)
+    ensures { entries.new.items ≡ drop count entries.old.items }
+{
+    for _index in 0..count {
+        let _ = entries.pop_front();
+    }
 }

@@ -1,5 +1,5 @@
 //! A server of a native loglet.
-ghost use Rattle.std.specs.Prelude.{◌≡◌, ℕ, ◌^◌, ◌≤◌, ◌<◌, true, false, Bool, if◌then◌else◌, Some, Ok, IfOk, OnErr, List, length, slice_get};
+ghost use Rattle.std.specs.Prelude.{◌≡◌, ℕ, ◌+◌, ◌^◌, ◌≤◌, ◌<◌, true, false, Bool, if◌then◌else◌, Some, Ok, IfOk, OnErr, List, length, slice_get};
 ghost use Rattle.delos_types.specs.Spelling.{IsSpellable};
 ghost use Rattle.delos_types.specs.declared.entry.Entry as entries_of;
 ghost use Rattle.quorum_cell.specs.declared.message.Ask as asks;
@@ -18,6 +18,7 @@ use log_server::LogServer;
 use native_plan::message::Errand;
 use quorum_cell::message::{Ask, Told};
 use std::alloc::AllocError;
+use std::collections::VecDeque;
 use std::marker::Model;
 
 /// A log server of which it is known whether it is sealed, also while it is down. Contracts see the
@@ -69,15 +70,19 @@ impl<D: Disk> Replica<D> {
         length_told(&self.server.tail())
     }
 
-    /// It is asked what the errand says, in a loglet that has these entries and this cut.
+    /// It is asked what the errand says, in a loglet that keeps these entries from this cut on.
     ///
     /// Cost: that of the call of its server.
-    pub fn ask(&mut self, errand: Errand, entries: &[Entry], cut: u64) -> Result<Told, AllocError>
-        requires there { (ask : asks.Ask) × (asked_by entries.now cut errand ≡ Some ask) }
-        requires spelled { (i : ℕ) (e : entries_of.Entry) → slice_get entries.now i ≡ Some e → IsSpellable e }
-        requires small { length entries.now ≤ 2 ^ 32 }
-        requires cut { cut ≤ 2 ^ 32 }
-        ensures answers { IfOk result (λ told. (ask : asks.Ask) → asked_by entries.now cut errand ≡ Some ask → Answers self.old ask told self.new) }
+    pub fn ask(
+        &mut self,
+        errand: Errand,
+        entries: &VecDeque<Entry>,
+        cut: u64,
+    ) -> Result<Told, AllocError>
+        requires there { (ask : asks.Ask) × (asked_by entries.now.items cut errand ≡ Some ask) }
+        requires spelled { (i : ℕ) (e : entries_of.Entry) → slice_get entries.now.items i ≡ Some e → IsSpellable e }
+        requires small { cut + length entries.now.items ≤ 2 ^ 32 }
+        ensures answers { IfOk result (λ told. (ask : asks.Ask) → asked_by entries.now.items cut errand ≡ Some ask → Answers self.old ask told self.new) }
         ensures memory { OnErr result (self.new.server ≡ self.old.server) }
         ensures spared { OnErr result (state_in self.new ≡ state_in self.old) }
         ensures survives { Survives self.new }
@@ -160,27 +165,26 @@ fn length_told(told: &Told) -> u64
     }
 }
 
-/// Asks a server what the errand says.
+/// Asks a server what the errand says: an entry that it names is one of those from the cut on.
 fn send<D: Disk>(
     server: &mut LogServer<D>,
     errand: Errand,
-    entries: &[Entry],
+    entries: &VecDeque<Entry>,
     cut: u64,
 ) -> Result<Told, AllocError>
-    requires there { (ask : asks.Ask) × (asked_by entries.now cut errand ≡ Some ask) }
-    requires spelled { (i : ℕ) (e : entries_of.Entry) → slice_get entries.now i ≡ Some e → IsSpellable e }
-    requires small { length entries.now ≤ 2 ^ 32 }
-    requires cut { cut ≤ 2 ^ 32 }
-    ensures answers { IfOk result (λ told. (ask : asks.Ask) → asked_by entries.now cut errand ≡ Some ask → Answers server.old ask told server.new) }
+    requires there { (ask : asks.Ask) × (asked_by entries.now.items cut errand ≡ Some ask) }
+    requires spelled { (i : ℕ) (e : entries_of.Entry) → slice_get entries.now.items i ≡ Some e → IsSpellable e }
+    requires small { cut + length entries.now.items ≤ 2 ^ 32 }
+    ensures answers { IfOk result (λ told. (ask : asks.Ask) → asked_by entries.now.items cut errand ≡ Some ask → Answers server.old ask told server.new) }
     ensures memory { OnErr result (server.new.server ≡ server.old.server) }
     ensures spared { OnErr result (Spares server.old.disk server.new.disk) }
     ensures survives { Survives server.new }
 {
     match errand {
-        Errand::Store(place) => server.store(place, &entries[place as usize]),
+        Errand::Store(place) => server.store(place, &entries[(place - cut) as usize]),
         Errand::Seal => server.seal(),
         Errand::Tail => Ok(server.tail()),
-        Errand::Repair(place) => server.repair(place, &entries[place as usize]),
+        Errand::Repair(place) => server.repair(place, &entries[(place - cut) as usize]),
         Errand::Read(place) => server.read(place),
         Errand::Trim => server.trim(cut),
     }

@@ -1,6 +1,6 @@
 -- What is left to do falls with each message.
 use Rattle.std.proofs.Common.{◌≡◌, ℕ, zero, suc, ◌+◌, ◌-◌, ◌*◌, ◌<◌, ◌≤◌, Bool, true, false, refl, sym, ◌∙◌, subst, arith, List, [], ◌∷◌, length, get_or, Some, inl, inr, max}
-use Rattle.std.specs.Prelude.{◌⊎◌, ◌||◌, nat_le, nat_lt, if◌then◌else◌, is_some, sum_by}
+use Rattle.std.specs.Prelude.{◌⊎◌, ◌||◌, nat_le, nat_lt, if◌then◌else◌, sum_by}
 use Rattle.std.proofs.lemmas.Bool.{false≢true, le-leb, or_right}
 use Rattle.std.proofs.lemmas.List.Sums.{sum_by-cons}
 use Rattle.quorum_cell.specs.declared.message.Told.{Told}
@@ -12,13 +12,13 @@ use Rattle.native_plan.specs.declared.message.Errand.TheVariants.{Store, Seal, T
 use Rattle.native_plan.specs.declared.message.Message.TheVariants.{Told as Answered}
 use Rattle.native_plan.specs.declared.message.Phase.{Phase}
 use Rattle.native_plan.specs.declared.message.Phase.TheVariants.{Filling, Asking, Opening, Shutting, Sealing, Mending, Reading, Trimming}
-use Rattle.native_plan.specs.Members.{no_member, heard_by, left_to, more_after, is_opened_to, is_found_sealed}
+use Rattle.native_plan.specs.Members.{no_member, heard_by, left_to, more_after, due_of, is_opened_to, is_found_sealed}
 use Rattle.native_plan.specs.Plans.{is_done, end_of, errand_of, fill_of, sent_on}
 use Rattle.native_plan.specs.Course.{IsPlanned, FillsTo, MendsTo, ToldWell, LetsGo, EndsRead}
 
--- Once an answer came nothing more is wanted of the server, or it was brought nearer or is sealed now, and no seal follows, or a Read has its end.
+-- Once an answer came nothing more is wanted of the server, or it was brought nearer, or is sealed now and no seal follows, or a Read has its end.
 abbrev Steps : Phase → ℕ → ℕ → ℕ → Member → Errand → Told → Member → Type 0
-Steps ph want place i m e told now = (is_done ph want i now ≡ true) ⊎ (((((m.at < now.at) × (m.at < end_of ph want)) ⊎ (more_after e ≡ 20)) × ((cut : ℕ) → more_after (errand_of ph cut want place now) ≡ 0)) ⊎ EndsRead e told)
+Steps ph want place i m e told now = (is_done ph want i now ≡ true) ⊎ ((((m.at < now.at) × (m.at < end_of ph want)) ⊎ ((more_after e ≡ 20) × ((cut : ℕ) → more_after (errand_of ph cut want place now) ≡ 0))) ⊎ EndsRead e told)
 
 pub plain_fill : (goal cut at : ℕ) → more_after (fill_of goal cut at) ≡ 0
 plain_fill goal cut at = by (nat_le goal at) (nat_lt at cut)
@@ -27,6 +27,21 @@ plain_fill goal cut at = by (nat_le goal at) (nat_lt at cut)
     by true b = refl
     by false true = refl
     by false false = refl
+
+pub plain_mend : (cut at : ℕ) → more_after (due_of cut (Repair at)) ≡ 0
+plain_mend cut at = by (nat_lt at cut)
+  where
+    by : (b : Bool) → more_after (if b then Trim else Repair at) ≡ 0
+    by true = refl
+    by false = refl
+
+pub more_small : (e : Errand) → more_after e ≤ 20
+more_small Seal = omega arith
+more_small Tail = omega arith
+more_small Trim = omega arith
+more_small (Store p) = omega arith
+more_small (Repair p) = omega arith
+more_small (Read p) = omega arith
 
 module _ (before : Server) (cut want place i : ℕ) (m : Member) where
   nearer : (a n : ℕ) → a < n → a < max a n
@@ -62,19 +77,16 @@ module _ (before : Server) (cut want place i : ℕ) (m : Member) where
   sealed (Sealed n) ph h = or_right _ _ refl
   sealed told ph h = absurd h
 
-  -- a sealed server is repaired
-  repairs : (ph : ℕ → ℕ) (now : Member) (t : ℕ) → is_some now.sealed ≡ true → (c : ℕ) → more_after (errand_of (Mending t) c want place now) ≡ 0
-  repairs ph now t h c = rw h refl
-
-  mended : (t : ℕ) (e : Errand) (told : Told) → MendsTo t m e → ToldWell before cut (Mending t) want m e told → Steps (Mending t) want place i m e told (heard_by want e told m)
+  mended : (t : ℕ) (e : Errand) (told : Told) → MendsTo t cut m e → ToldWell before cut (Mending t) want m e told → Steps (Mending t) want place i m e told (heard_by want e told m)
   mended t e Down q h = inl refl
   mended t e DiskFault q h = inl refl
-  mended t Seal (Sealed n) q h = inr (inl (inr refl, λ c. refl))
-  mended t (Repair p) (Ack n) q h = inr (inl (inl (nearer m.at n h, omega (arith, q.1)), repairs (λ x. x) (heard_by want (Repair p) (Ack n) m) t q.2))
+  mended t Seal (Sealed n) q h = inr (inl (inr (refl, λ c. plain_mend c (max m.at n))))
+  mended t (Repair p) (Ack n) q h = inr (inl (inl (nearer m.at n h, omega (arith, q.1))))
+  mended t Trim (Trimmed n) q h = inr (inl (inl (nearer m.at n h, omega (arith, q.0))))
   mended t (Store p) told q h = absurd q
   mended t Tail told q h = absurd q
   mended t (Read p) told q h = absurd q
-  mended t Trim told q h = absurd q
+  mended t Trim told q h = absurd h
   mended t Seal told q h = absurd h
   mended t (Repair p) told q h = absurd h
 
@@ -97,12 +109,12 @@ module _ (before : Server) (cut want place i : ℕ) (m : Member) where
     where
       by : (((heard_by want e told m).unreached || (is_found_sealed (heard_by want e told m) || is_opened_to want (heard_by want e told m))) ≡ true) ⊎ ((m.at < (heard_by want e told m).at) × (m.at < want)) → Steps Filling want place i m e told (heard_by want e told m)
       by (inl d) = inl d
-      by (inr g) = inr (inl (inl (g.0, omega (arith, g.1)), λ c. plain_fill want c (heard_by want e told m).at))
+      by (inr g) = inr (inl (inl (g.0, omega (arith, g.1))))
   steps (Opening t) e told p h = by (filled t e told (Opening t) p h (λ n l. l))
     where
       by : (((heard_by want e told m).unreached || (is_found_sealed (heard_by want e told m) || is_opened_to t (heard_by want e told m))) ≡ true) ⊎ ((m.at < (heard_by want e told m).at) × (m.at < t)) → Steps (Opening t) want place i m e told (heard_by want e told m)
       by (inl d) = inl d
-      by (inr g) = inr (inl (inl (g.0, omega (arith, g.1)), λ c. plain_fill t c (heard_by want e told m).at))
+      by (inr g) = inr (inl (inl (g.0, omega (arith, g.1))))
   steps Asking e told p h = subst (λ (x : Errand). ToldWell before cut Asking want m x told → Steps Asking want place i m x told (heard_by want x told m)) (sym p) (λ g. inl (asked told g)) h
   steps Shutting e told p h = subst (λ (x : Errand). ToldWell before cut Shutting want m x told → Steps Shutting want place i m x told (heard_by want x told m)) (sym p) (λ g. inl (sealed told Shutting g)) h
   steps Sealing e told p h = subst (λ (x : Errand). ToldWell before cut Sealing want m x told → Steps Sealing want place i m x told (heard_by want x told m)) (sym p) (λ g. inl (sealed told Sealing g)) h
@@ -138,12 +150,12 @@ module _ (before : Server) (cut want place i : ℕ) (m : Member) where
       now = heard_by want e told m
 
       by : (b : Bool) → is_done ph want i (heard_by want e told m) ≡ b → Steps ph want place i m e told (heard_by want e told m) →
-          left_to (end_of ph want) (sent_on b (errand_of ph later want place (heard_by want e told m)) (heard_by want e told m)) < 20 * (end_of ph want - m.at) + more_after e + 10 - m.losses
+          left_to (end_of ph want) (sent_on b (errand_of ph later want place (heard_by want e told m)) (heard_by want e told m)) < 40 * (end_of ph want - m.at) + more_after e + 10 - m.losses
       by true d s = omega (arith, few)
       by false d (inl s) = absurd (false≢true (sym d ∙ s))
       by false d (inr (inr s)) = absurd (no_end s)
-      by false d (inr (inl (inl near, plain))) = let none = plain later in omega (arith, near.0, near.1, none, few)
-      by false d (inr (inl (inr seal, plain))) = let none = plain later in omega (arith, seal, none, few, still e told)
+      by false d (inr (inl (inl near))) = let small = more_small (errand_of ph later want place (heard_by want e told m)) in omega (arith, near.0, near.1, small, few)
+      by false d (inr (inl (inr seal))) = let none = seal.1 later in omega (arith, seal.0, none, few, still e told)
 
 -- where less is left of one server and no more of any other, less is left of all
 pub less_of_all : (f : Member → ℕ) (old new : List Member) (i : ℕ) → length new ≡ length old → ((j : ℕ) → j < length old → f (get_or new j no_member) ≤ f (get_or old j no_member)) → i < length old → f (get_or new i no_member) < f (get_or old i no_member) → sum_by f new < sum_by f old

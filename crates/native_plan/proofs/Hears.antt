@@ -137,16 +137,16 @@ module _ (s : Server) (o : Operation) (i : ℕ) (m : Member) (r : Reply) (k : Kn
   }
 
   -- it was asked to let go
-  knows_let_go : (n want : ℕ) → fails r.told ≡ false → m.sealed ≡ None → r.server ≡ i → r.told ≡ Trimmed n → o.want ≡ want → ((p : ℕ) → o.aim ≡ AimRead p → ⊥) → n ≤ length_of s → Knows s (with_reply o r) i (record m { passed = nat_le want n; at = max m.at n; message = None })
-  knows_let_go n want ok unsealed e t wanted no_read long = record {
+  knows_let_go : (n want : ℕ) → fails r.told ≡ false → r.server ≡ i → r.told ≡ Trimmed n → o.want ≡ want → ((p : ℕ) → o.aim ≡ AimRead p → ⊥) → n ≤ length_of s → Knows s (with_reply o r) i (record m { passed = nat_le want n; at = max m.at n; sealed = None; message = None })
+  knows_let_go n want ok e t wanted no_read long = record {
     opened = λ l g. more (open_at l) (k.opened l g);
-    sealed = λ l g. more (sealed_at l) (k.sealed l g);
-    mended = λ l g. absurd (none-some l (sym unsealed ∙ g));
+    sealed = λ l g. absurd (none-some l g);
+    mended = λ l g. absurd (none-some l g);
     opened_within = λ l g. (let w = k.opened_within l g in omega (arith, w));
-    sealed_within = λ l g. (let w = k.sealed_within l g in omega (arith, w));
+    sealed_within = λ l g. absurd (none-some l g);
     trimmed = λ z a g. heard_new (trimmed_to o.want) o r i e (ap (told_trim o.want) t ∙ (rw wanted g));
     missed = λ p a g. absurd (no_read p a);
-    untrimmed = k.untrimmed;
+    untrimmed = λ z a. refl;
     unreached_is = reached_still ok;
     long = longer m.at n (length_of s) k.long long;
   }
@@ -208,5 +208,5 @@ module _ (s : Server) (o : Operation) (i : ℕ) (m : Member) (r : Reply) (k : Kn
   knows_heard cut want ph (Read p) (Got x) w c h = knows_same (ap fails c.told_is)
   knows_heard cut want ph (Read p) (Short n) w c h = knows_missed p (ap fails c.told_is) (c.is_read p refl) h
   knows_heard cut want ph (Read p) (Cut b) w c h = knows_same (ap fails c.told_is)
-  knows_heard cut want ph Trim (Trimmed n) w c h = knows_let_go n want (ap fails c.told_is) (c.unsealed tt) c.server c.told_is w (λ p a. (let t = c.reads p a in cc)) (c.let_go n refl)
+  knows_heard cut want ph Trim (Trimmed n) w c h = knows_let_go n want (ap fails c.told_is) c.server c.told_is w (λ p a. (let t = c.reads p a in cc)) (c.let_go n refl)
   knows_heard cut want ph e told w c h = absurd h

@@ -129,10 +129,11 @@ FillsTo goal cut m Trim = (m.at < goal) × (m.at < cut)
 FillsTo goal cut m (Store p) = (p ≡ m.at) × (m.at < goal)
 FillsTo goal cut m e = ⊥
 
-abbrev pub MendsTo : ℕ → Member → Errand → Type 0
-MendsTo t m Seal = is_some m.sealed ≡ false
-MendsTo t m (Repair p) = (p ≡ m.at) × (m.at < t) × (is_some m.sealed ≡ true)
-MendsTo t m e = ⊥
+abbrev pub MendsTo : ℕ → ℕ → Member → Errand → Type 0
+MendsTo t cut m Seal = is_some m.sealed ≡ false
+MendsTo t cut m Trim = (m.at < t) × (m.at < cut) × (is_some m.sealed ≡ true)
+MendsTo t cut m (Repair p) = (p ≡ m.at) × (m.at < t) × (is_some m.sealed ≡ true)
+MendsTo t cut m e = ⊥
 
 -- an operation in this phase sends this
 abbrev pub IsPlanned : Phase → ℕ → ℕ → ℕ → Member → Errand → Type 0
@@ -141,7 +142,7 @@ IsPlanned Asking cut want place m e = e ≡ Tail
 IsPlanned (Opening t) cut want place m e = FillsTo t cut m e
 IsPlanned Shutting cut want place m e = e ≡ Seal
 IsPlanned Sealing cut want place m e = e ≡ Seal
-IsPlanned (Mending t) cut want place m e = MendsTo t m e
+IsPlanned (Mending t) cut want place m e = MendsTo t cut m e
 IsPlanned (Reading j) cut want place m e = e ≡ Read place
 IsPlanned Trimming cut want place m e = (e ≡ Trim) × (want ≤ cut)
 
@@ -159,7 +160,6 @@ IsAskOf e a = ⊥
 abbrev pub IsOpenAsk : Errand → Type 0
 IsOpenAsk (Store p) = ⊤
 IsOpenAsk Tail = ⊤
-IsOpenAsk Trim = ⊤
 IsOpenAsk e = ⊥
 
 -- An answer of server i to this errand came.

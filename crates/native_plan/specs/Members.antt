@@ -1,10 +1,10 @@
 -- What an operation knows of one server.
-use Rattle.std.specs.Prelude.{ℕ, ◌+◌, ◌-◌, ◌*◌, max, Bool, true, false, ◌&&◌, ◌==◌, nat_le, if◌then◌else◌, List, [], ◌∷◌, Option, Some, None, is_some, unwrap_or}
+use Rattle.std.specs.Prelude.{ℕ, ◌+◌, ◌-◌, ◌*◌, max, Bool, true, false, ◌&&◌, ◌==◌, nat_le, nat_lt, if◌then◌else◌, List, [], ◌∷◌, Option, Some, None, is_some, unwrap_or}
 use Rattle.quorum_cell.specs.declared.message.Told.{Told}
 use Rattle.quorum_cell.specs.declared.message.Told.TheVariants.{Down, Sealed, Unsealed, Ack, Short, Trimmed, Got, DiskFault}
 use Rattle.native_plan.specs.declared.member.Member.{Member}
 use Rattle.native_plan.specs.declared.message.Errand.{Errand}
-use Rattle.native_plan.specs.declared.message.Errand.TheVariants.{Store, Seal}
+use Rattle.native_plan.specs.declared.message.Errand.TheVariants.{Store, Seal, Repair, Trim}
 use Rattle.delos_types.specs.declared.entry.Entry.{Entry}
 use Rattle.native_plan.specs.declared.message.Turn.{Turn}
 use Rattle.native_plan.specs.declared.message.Turn.TheVariants.{Asks, Tells, Rests}
@@ -49,7 +49,7 @@ opened_of m = unwrap_or m.opened 0
 abbrev pub sealed_of : Member → ℕ
 sealed_of m = unwrap_or m.sealed 0
 
--- an answer comes, to an operation that wants this length
+-- an answer comes, to an operation that wants this length; a server that let go is to say anew whether it is sealed, since nothing that it told while it was speaks of the length that it has now
 abbrev pub acknowledged : Errand → ℕ → Member → Member
 acknowledged (Store p) n m = record m { opened = Some n; at = max m.at n }
 acknowledged e n m = record m { at = max m.at n }
@@ -60,26 +60,32 @@ noted want e DiskFault m = record m { unreached = true }
 noted want e (Sealed n) m = record m { sealed = Some n; at = max m.at n }
 noted want e (Unsealed n) m = record m { opened = Some n; at = max m.at n }
 noted want e (Ack n) m = acknowledged e n m
-noted want e (Trimmed n) m = record m { passed = nat_le want n; at = max m.at n }
+noted want e (Trimmed n) m = record m { passed = nat_le want n; at = max m.at n; sealed = None }
 noted want e (Short n) m = record m { passed = true }
 noted want e _ m = m
 
 abbrev pub heard_by : ℕ → Errand → Told → Member → Member
 heard_by want e told m = noted want e told (record m { message = None })
 
+-- a position below the cut: a server that is to take an entry there lets go first, in its place
+abbrev pub due_of : ℕ → Errand → Errand
+due_of cut (Store p) = if nat_lt p cut then Trim else Store p
+due_of cut (Repair p) = if nat_lt p cut then Trim else Repair p
+due_of cut e = e
+
 -- a sealed server may then be repaired
 abbrev pub more_after : Errand → ℕ
 more_after Seal = 20
 more_after e = 0
 
--- what a message may still bring about: it moves twice, and each loss counts
+-- what a message may still bring about: it moves twice, and each loss counts; so do the two messages by which a server comes nearer
 abbrev pub left_with : ℕ → ℕ → Option Message → ℕ
 left_with way losses None = 0
 left_with way losses (Some (Asked e)) = way + more_after e + 20 - losses
 left_with way losses (Some (Answered e told)) = way + more_after e + 10 - losses
 
 abbrev pub left_to : ℕ → Member → ℕ
-left_to end m = left_with (20 * (end - m.at)) m.losses m.message
+left_to end m = left_with (40 * (end - m.at)) m.losses m.message
 
 -- a message was lost once more
 abbrev pub tried : Member → Member

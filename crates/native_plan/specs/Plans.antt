@@ -15,7 +15,7 @@ use Rattle.native_plan.specs.declared.message.Phase.TheVariants.{Filling, Asking
 use Rattle.native_plan.specs.declared.message.Message.TheVariants.{Asked}
 use Rattle.native_plan.specs.declared.judge.Verdict.{Verdict}
 use Rattle.native_plan.specs.declared.judge.Verdict.TheVariants.{Done, Go}
-use Rattle.native_plan.specs.Members.{no_member, is_out, is_opened, is_opened_to, is_found_sealed, is_mended_to, is_passed, is_unreached, opened_of, sealed_of}
+use Rattle.native_plan.specs.Members.{no_member, is_out, is_opened, is_opened_to, is_found_sealed, is_mended_to, is_passed, is_unreached, opened_of, sealed_of, due_of}
 
 abbrev pub place_of : Task → ℕ
 place_of (ReadingTask p) = p
@@ -73,7 +73,7 @@ is_done phase want i m = m.unreached || is_met phase want i m
 
 -- to bring a server to this length
 abbrev pub fill_of : ℕ → ℕ → ℕ → Errand
-fill_of goal cut at = if nat_le goal at then Tail else (if nat_lt at cut then Trim else Store at)
+fill_of goal cut at = if nat_le goal at then Tail else due_of cut (Store at)
 
 abbrev pub errand_of : Phase → ℕ → ℕ → ℕ → Member → Errand
 errand_of Filling cut want place m = fill_of want cut m.at
@@ -81,7 +81,7 @@ errand_of Asking cut want place m = Tail
 errand_of (Opening t) cut want place m = fill_of t cut m.at
 errand_of Shutting cut want place m = Seal
 errand_of Sealing cut want place m = Seal
-errand_of (Mending t) cut want place m = if is_found_sealed m then Repair m.at else Seal
+errand_of (Mending t) cut want place m = if is_found_sealed m then due_of cut (Repair m.at) else Seal
 errand_of (Reading j) cut want place m = Read place
 errand_of Trimming cut want place m = Trim
 

@@ -8,6 +8,9 @@ use crate::message::{Errand, Message, Turn};
 use delos_types::entry::Entry;
 use quorum_cell::message::Told;
 
+/// How much is left to do for each position: two messages and what follows them.
+const STEP: u64 = 40;
+
 /// What an operation knows of one server, and the one message that it has on its way to or from it.
 #[derive(Drop)]
 pub struct Member {
@@ -131,8 +134,10 @@ impl Member {
                 None
             }
             Told::Trimmed(base) => {
+                // It is to say anew whether it is sealed: it has a length of which it hasn't told.
                 self.passed = want <= base;
                 self.at = self.at.max(base);
+                self.sealed = None;
                 None
             }
             Told::Short(_) => {
@@ -171,7 +176,7 @@ impl Member {
         ensures value { result ≡ left_to end self.now }
         ensures small { result < 2 ^ 53 }
     {
-        let way = 20 * end.saturating_sub(self.at);
+        let way = STEP * end.saturating_sub(self.at);
         match &self.message {
             None => 0,
             Some(Message::Asked(errand)) => (way + after(*errand) + 20).saturating_sub(self.losses),

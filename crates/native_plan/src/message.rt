@@ -1,4 +1,6 @@
 //! What operations send to servers.
+ghost use Rattle.std.specs.Prelude.{◌≡◌};
+ghost use Rattle.native_plan.specs.Members.{due_of};
 
 use quorum_cell::message::Told;
 
@@ -17,6 +19,20 @@ pub enum Errand {
     Read(u64),
     /// To let go of what is below the loglet's cut.
     Trim,
+}
+
+impl Errand {
+    /// What a server is asked under this cut of the loglet: below it there are no entries any more, and a
+    /// server that is to take one lets go first.
+    pub fn due(self, cut: u64) -> Errand
+        ensures { result ≡ due_of cut self }
+    {
+        match self {
+            Errand::Store(place) => { if place < cut { Errand::Trim } else { self } }
+            Errand::Repair(place) => { if place < cut { Errand::Trim } else { self } }
+            errand => errand,
+        }
+    }
 }
 
 /// A message on its way: the request, or the server's answer to it.

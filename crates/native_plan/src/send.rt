@@ -30,10 +30,8 @@ fn fill(goal: u64, cut: u64, at: u64) -> Errand
 {
     if goal <= at {
         Errand::Tail
-    } else if at < cut {
-        Errand::Trim
     } else {
-        Errand::Store(at)
+        Errand::Store(at).due(cut)
     }
 }
 
@@ -49,7 +47,7 @@ fn errand(aims: Aims, member: &Member) -> Errand
         Phase::Sealing => Errand::Seal,
         Phase::Mending(_) => {
             if member.is_found_sealed() {
-                Errand::Repair(member.at)
+                Errand::Repair(member.at).due(aims.cut)
             } else {
                 Errand::Seal
             }

@@ -30,14 +30,14 @@ use Rattle.native_plan.specs.declared.message.Message.{Message}
 use Rattle.native_plan.specs.declared.message.Message.TheVariants.{Asked, Told as Answered}
 use Rattle.native_plan.specs.declared.message.Phase.{Phase}
 use Rattle.native_plan.specs.declared.message.Phase.TheVariants.{Filling, Asking, Opening, Shutting, Sealing, Mending, Reading, Trimming}
-use Rattle.native_plan.specs.Members.{no_member}
+use Rattle.native_plan.specs.Members.{no_member, due_of}
 use Rattle.native_plan.specs.Plans.{is_done, place_of}
 use Rattle.native_plan.specs.Pendings.{aims_of, Answers}
 use Rattle.native_plan.specs.Course.{Knows, IsOnCourse, IsAskOf, ToldWell}
 use Rattle.native_ties.specs.Parts.{IsCarried, OnItsWay, ToldSo, HasReply, Goes, IsPartOf, Extends, wish_of, AnswersBy}
 use Rattle.native_ties.specs.Steps.{IsRequest, IsStop, AnswersAs}
 use Rattle.native_ties.proofs.Parts.{part_later}
-use Rattle.native_ties.proofs.Resending.{planned_as}
+use Rattle.native_ties.proofs.Resending.{planned_as, due_way}
 use Rattle.native_ties.proofs.Hearing.{read_reads}
 use Rattle.native_ties.proofs.Sending.{sent_is, asks_well, course_message}
 
@@ -70,10 +70,10 @@ told_as before cut ph want m x e z h = told_of e z h
     told_of Errands.Trim (Trimmed n) h = h
     told_of f y h = absurd h
 
-told_goes : (d : Cell) (t i : ℕ) (p new : Pending) (e : Errand) (z : Told) → Goes d t p → i < length d.servers → (get_or p.members.items i no_member).message ≡ Some (Asked e) → HasReply d t i e z → ToldWell (server_before (operation d t) i) d.cut p.phase p.want (get_or p.members.items i no_member) e z → Answers i e z p new →
+told_goes : (d : Cell) (t i : ℕ) (p new : Pending) (w : Errand) (z : Told) → Goes d t p → i < length d.servers → (get_or p.members.items i no_member).message ≡ Some (Asked w) → HasReply d t i (due_of d.cut w) z → ToldWell (server_before (operation d t) i) d.cut p.phase p.want (get_or p.members.items i no_member) (due_of d.cut w) z → Answers i (due_of d.cut w) z p new →
     Goes d t (record p { members = new.members })
-told_goes d t i p new e z g here message reply well a = record {
-  course = subst (λ (ms : List Member). IsOnCourse d (operation d t) (aims_of d.cut p) ms) (sym a.members) (course_message d (operation d t) (aims_of d.cut p) p.members.items i (Some (Answered e z)) among g.course);
+told_goes d t i p new w z g here message reply well a = record {
+  course = subst (λ (ms : List Member). IsOnCourse d (operation d t) (aims_of d.cut p) ms) (sym a.members) (course_message d (operation d t) (aims_of d.cut p) p.members.items i (Some (Answered (due_of d.cut w) z)) among g.course);
   carried = λ j l. subst (λ (ms : List Member). IsCarried d (operation d t) t j (aims_of d.cut p) (get_or ms j no_member) (get_or ms j no_member).message) (sym a.members) (carried j l (cases_eq j i));
   losses = g.losses;
   ungot = g.ungot;
@@ -85,43 +85,43 @@ told_goes d t i p new e z g here message reply well a = record {
     m = get_or p.members.items i no_member
 
     now : Member
-    now = record (get_or p.members.items i no_member) { message = Some (Answered e z) }
+    now = record (get_or p.members.items i no_member) { message = Some (Answered (due_of d.cut w) z) }
 
     among : i < length p.members.items
     among = omega (arith, here, g.course.all)
 
-    way : OnItsWay d (operation d t) t i (aims_of d.cut p) (get_or p.members.items i no_member) e
-    way = subst (IsCarried d (operation d t) t i (aims_of d.cut p) (get_or p.members.items i no_member)) message (g.carried i here)
+    way : OnItsWay d (operation d t) t i (aims_of d.cut p) (get_or p.members.items i no_member) (due_of d.cut w)
+    way = due_way d (operation d t) t i (aims_of d.cut p) (get_or p.members.items i no_member) w (subst (IsCarried d (operation d t) t i (aims_of d.cut p) (get_or p.members.items i no_member)) message (g.carried i here))
 
-    told_now : ToldSo d (operation d t) t i (aims_of d.cut p) (record (get_or p.members.items i no_member) { message = Some (Answered e z) }) e z
+    told_now : ToldSo d (operation d t) t i (aims_of d.cut p) (record (get_or p.members.items i no_member) { message = Some (Answered (due_of d.cut w) z) }) (due_of d.cut w) z
     told_now = record {
       way = record {
-        planned = planned_as p.phase d.cut p.want (place_of p.task) (get_or p.members.items i no_member).losses (Some (Answered e z)) (get_or p.members.items i no_member) e way.planned;
-        unmet = done_message p.phase p.want i (get_or p.members.items i no_member) (Some (Answered e z)) ∙ way.unmet;
+        planned = planned_as p.phase d.cut p.want (place_of p.task) (get_or p.members.items i no_member).losses (Some (Answered (due_of d.cut w) z)) (get_or p.members.items i no_member) (due_of d.cut w) way.planned;
+        unmet = done_message p.phase p.want i (get_or p.members.items i no_member) (Some (Answered (due_of d.cut w) z)) ∙ way.unmet;
         few = way.few;
         pooled = way.pooled;
       };
       reply = reply;
-      well = told_as (server_before (operation d t) i) d.cut p.phase p.want (get_or p.members.items i no_member) (Some (Answered e z)) e z well;
+      well = told_as (server_before (operation d t) i) d.cut p.phase p.want (get_or p.members.items i no_member) (Some (Answered (due_of d.cut w) z)) (due_of d.cut w) z well;
     }
 
-    carried : (j : ℕ) → j < length d.servers → (j ≡ i) ⊎ (j ≡ i → ⊥) → IsCarried d (operation d t) t j (aims_of d.cut p) (get_or (set p.members.items i (record (get_or p.members.items i no_member) { message = Some (Answered e z) })) j no_member) (get_or (set p.members.items i (record (get_or p.members.items i no_member) { message = Some (Answered e z) })) j no_member).message
+    carried : (j : ℕ) → j < length d.servers → (j ≡ i) ⊎ (j ≡ i → ⊥) → IsCarried d (operation d t) t j (aims_of d.cut p) (get_or (set p.members.items i (record (get_or p.members.items i no_member) { message = Some (Answered (due_of d.cut w) z) })) j no_member) (get_or (set p.members.items i (record (get_or p.members.items i no_member) { message = Some (Answered (due_of d.cut w) z) })) j no_member).message
     carried j l (inl same) = rw (same, get_or-set_same p.members.items i now no_member among) told_now
     carried j l (inr other) = rw (get_or-set_other p.members.items i j now no_member other) (g.carried j l)
 
     done : (j : ℕ) → is_done p.phase p.want j (get_or new.members.items j no_member) ≡ is_done p.phase p.want j (get_or p.members.items j no_member)
     done j = ap (λ (ms : List Member). is_done p.phase p.want j (get_or ms j no_member)) a.members ∙ by (cases_eq j i)
       where
-        by : (j ≡ i) ⊎ (j ≡ i → ⊥) → is_done p.phase p.want j (get_or (set p.members.items i (record (get_or p.members.items i no_member) { message = Some (Answered e z) })) j no_member) ≡ is_done p.phase p.want j (get_or p.members.items j no_member)
-        by (inl same) = rw (same, get_or-set_same p.members.items i now no_member among) (done_message p.phase p.want i (get_or p.members.items i no_member) (Some (Answered e z)))
+        by : (j ≡ i) ⊎ (j ≡ i → ⊥) → is_done p.phase p.want j (get_or (set p.members.items i (record (get_or p.members.items i no_member) { message = Some (Answered (due_of d.cut w) z) })) j no_member) ≡ is_done p.phase p.want j (get_or p.members.items j no_member)
+        by (inl same) = rw (same, get_or-set_same p.members.items i now no_member among) (done_message p.phase p.want i (get_or p.members.items i no_member) (Some (Answered (due_of d.cut w) z)))
         by (inr other) = rw (get_or-set_other p.members.items i j now no_member other) refl
 
-told_part : (d : Cell) (t i : ℕ) (p new : Pending) (e : Errand) (z : Told) → IsPartOf d t p → p.outcome ≡ None → i < length d.servers → (get_or p.members.items i no_member).message ≡ Some (Asked e) → HasReply d t i e z → ToldWell (server_before (operation d t) i) d.cut p.phase p.want (get_or p.members.items i no_member) e z → Answers i e z p new → IsPartOf d t new
-told_part d t i p new e z part waiting here message reply well a = subst (IsPartOf d t) (sym a.rest) (record {
+told_part : (d : Cell) (t i : ℕ) (p new : Pending) (w : Errand) (z : Told) → IsPartOf d t p → p.outcome ≡ None → i < length d.servers → (get_or p.members.items i no_member).message ≡ Some (Asked w) → HasReply d t i (due_of d.cut w) z → ToldWell (server_before (operation d t) i) d.cut p.phase p.want (get_or p.members.items i no_member) (due_of d.cut w) z → Answers i (due_of d.cut w) z p new → IsPartOf d t new
+told_part d t i p new w z part waiting here message reply well a = subst (IsPartOf d t) (sym a.rest) (record {
   shows = record { is_open = part.shows.is_open; task = part.shows.task; size = part.shows.size; reach = part.shows.reach; firm = part.shows.firm; shut = part.shows.shut; faults = part.shows.faults; down = part.shows.down };
   outcome = part.outcome;
-  goes = λ w. told_goes d t i p new e z (part.goes waiting) here message reply well a;
-  found = λ w. absurd (none-some Found (sym waiting ∙ w));
+  goes = λ _. told_goes d t i p new w z (part.goes waiting) here message reply well a;
+  found = λ f. absurd (none-some Found (sym waiting ∙ f));
 })
 
 ---- how far a server let go is no more than its length
@@ -194,10 +194,13 @@ heard_sealed c t i m law k h = by m.sealed refl h
         some_told None h = absurd (false≢true h)
         some_told (Some l) h = (l, refl)
 
-module _ (c : Cell) (t i : ℕ) (p new : Pending) (e : Errand) (a : Ask) (law : QuorumLaw c) (part : IsPartOf c t p) (waiting : p.outcome ≡ None) (here : i < length c.servers)
-    (message : (get_or p.members.items i no_member).message ≡ Some (Asked e)) (asks : ask_for c (operation c t) (wish_of e) ≡ Some a) where
+module _ (c : Cell) (t i : ℕ) (p new : Pending) (w : Errand) (a : Ask) (law : QuorumLaw c) (part : IsPartOf c t p) (waiting : p.outcome ≡ None) (here : i < length c.servers)
+    (message : (get_or p.members.items i no_member).message ≡ Some (Asked w)) (asks : ask_for c (operation c t) (wish_of (due_of c.cut w)) ≡ Some a) where
+  abbrev e : Errand
+  e = due_of c.cut w
+
   way_now : OnItsWay c (operation c t) t i (aims_of c.cut p) (get_or p.members.items i no_member) e
-  way_now = subst (IsCarried c (operation c t) t i (aims_of c.cut p) (get_or p.members.items i no_member)) message ((part.goes waiting).carried i here)
+  way_now = due_way c (operation c t) t i (aims_of c.cut p) (get_or p.members.items i no_member) w (subst (IsCarried c (operation c t) t i (aims_of c.cut p) (get_or p.members.items i no_member)) message ((part.goes waiting).carried i here))
 
   known : Knows (server c i) (operation c t) i (get_or p.members.items i no_member)
   known = (part.goes waiting).course.knows i here
@@ -247,7 +250,7 @@ module _ (c : Cell) (t i : ℕ) (p new : Pending) (e : Errand) (a : Ask) (law : 
       record {
         steps = Send t i (wish_of e) ∷ step ∷ [];
         strays = (tt, (stray step which, tt));
-        part = subst (λ (x : Cell). IsPartOf x t new) (sym is) (told_part d t i p new e z stays waiting (omega (arith, here, length-set c.servers i s)) message (has_reply faults s z let_go) well answers);
+        part = subst (λ (x : Cell). IsPartOf x t new) (sym is) (told_part d t i p new w z stays waiting (omega (arith, here, length-set c.servers i s)) message (has_reply faults s z let_go) well answers);
         others = λ q. ap (λ (x : Cell). operation x q) is;
         servers = ap (λ (x : Cell). x.servers) is;
         faults_are = ap (λ (x : Cell). x.faults) is;

@@ -1,8 +1,8 @@
 -- What an operation wants of a server, the cell lets it ask.
-use Rattle.std.proofs.Common.{◌≡◌, ℕ, zero, suc, ◌<◌, true, refl, ap, subst, arith, List, [], ◌∷◌, length, get_or, Option, Some, None, inl, inr}
-use Rattle.std.specs.Prelude.{◌⊎◌, ◌||◌, slice_get, is_some, if◌then◌else◌, option_map}
+use Rattle.std.proofs.Common.{◌≡◌, ℕ, zero, suc, ◌+◌, ◌-◌, ◌<◌, ◌≤◌, Bool, true, false, refl, ◌∙◌, ap, subst, arith, List, [], ◌∷◌, length, drop, get_or, Option, Some, None, inl, inr}
+use Rattle.std.specs.Prelude.{◌⊎◌, ◌||◌, ⊤, nat_lt, slice_get, is_some, if◌then◌else◌, option_map}
 use Rattle.std.specs.List.{list_any}
-use Rattle.std.proofs.lemmas.Bool.{false≢true, or_left, or_right, or_cases}
+use Rattle.std.proofs.lemmas.Bool.{false≢true, or_left, or_right, or_cases, ltb-true, ltb-false}
 use Rattle.delos_types.specs.declared.entry.Entry.{Entry}
 use Rattle.quorum_cell.specs.declared.message.Ask.{Ask}
 use Rattle.quorum_cell.specs.declared.message.Ask.TheVariants as ask
@@ -11,18 +11,20 @@ use Rattle.quorum_cell.specs.declared.operation.Aim.TheVariants.{Read as AimRead
 use Rattle.quorum_cell.specs.Cells.{Cell, Operation, operation, is_seal}
 use Rattle.quorum_cell.specs.Tallies.{says_sealed, sealed_at, sealed_told, exactly}
 use Rattle.quorum_cell.specs.Steps.{ask_for, ask_read}
+use Rattle.quorum_cell.proofs.Lists.{slice_get_drop}
 use Rattle.native_plan.specs.declared.member.Member.{Member}
 use Rattle.native_plan.specs.declared.aims.Aims.{Aims}
 use Rattle.native_plan.specs.declared.pending.Pending.{Pending}
 use Rattle.native_plan.specs.declared.message.Message.TheVariants.{Asked}
-use Rattle.native_plan.specs.Members.{no_member}
+use Rattle.native_plan.specs.Members.{no_member, due_of}
 use Rattle.native_plan.specs.Pendings.{aims_of}
 use Rattle.native_plan.specs.declared.message.Errand.{Errand}
 use Rattle.native_plan.specs.declared.message.Errand.TheVariants.{Store, Seal, Tail, Repair, Read, Trim}
 use Rattle.native_plan.specs.declared.message.Phase.{Phase}
 use Rattle.native_plan.specs.declared.message.Phase.TheVariants.{Filling, Asking, Opening, Shutting, Sealing, Mending, Reading, Trimming}
 use Rattle.native_plan.specs.Course.{AimsAt, PhaseFits, IsOnCourse, IsPlanned}
-use Rattle.native_ties.specs.Parts.{IsCarried, OnItsWay, IsPartOf, IsAllowed, wish_of, asked_by}
+use Rattle.native_ties.specs.Parts.{IsCarried, OnItsWay, IsPartOf, IsAllowed, wish_of, entry_at, asked_by}
+use Rattle.native_ties.proofs.Resending.{due_way}
 
 entry_there : (xs : List Entry) (k : ℕ) → k < length xs → (x : Entry) × (slice_get xs k ≡ Some x)
 entry_there [] k h = absurd (omega (arith, h))
@@ -77,21 +79,52 @@ may_seal c o aims ms m Trimming h plan = (let x = plan.0 in absurd (cc))
 read_is : (o : Operation) (place p cut want : ℕ) (m : Member) (ph : Phase) → AimsAt place o.aim ph → IsPlanned ph cut want place m (Read p) → o.aim ≡ AimRead p
 read_is o place p cut want m ph a plan = Rattle.native_ties.proofs.Hearing.read_reads ph cut want place o.aim m (Read p) a plan p refl
 
--- the operation asks just this: an entry at its place, a trim to the cut
-pub can_ask : (c : Cell) (o : Operation) (aims : Aims) (ms : List Member) (m : Member) (e : Errand) → IsOnCourse c o aims ms → IsPlanned aims.phase c.cut aims.want aims.place m e → (a : Ask) × (asked_by c.entries c.cut e ≡ Some a) × (ask_for c o (wish_of e) ≡ Some a)
+-- an entry that a server is to take isn't below the cut
+abbrev pub IsDue : ℕ → Errand → Type 0
+IsDue cut (Store p) = cut ≤ p
+IsDue cut (Repair p) = cut ≤ p
+IsDue cut e = ⊤
+
+due_is : (cut : ℕ) (e : Errand) → IsDue cut (due_of cut e)
+due_is cut (Store p) = by (nat_lt p cut) refl
+  where
+    by : (b : Bool) → nat_lt p cut ≡ b → IsDue cut (if b then Trim else Store p)
+    by true e = tt
+    by false e = ltb-false _ _ e
+due_is cut (Repair p) = by (nat_lt p cut) refl
+  where
+    by : (b : Bool) → nat_lt p cut ≡ b → IsDue cut (if b then Trim else Repair p)
+    by true e = tt
+    by false e = ltb-false _ _ e
+due_is cut Seal = tt
+due_is cut Tail = tt
+due_is cut (Read p) = tt
+due_is cut Trim = tt
+
+-- such an entry is kept
+entry_kept : (cut : ℕ) (xs : List Entry) (p : ℕ) → cut ≤ p → entry_at cut (drop cut xs) p ≡ slice_get xs p
+entry_kept cut xs p l = by (nat_lt p cut) refl
+  where
+    by : (b : Bool) → nat_lt p cut ≡ b → (if b then None else slice_get (drop cut xs) (p - cut)) ≡ slice_get xs p
+    by true e = absurd (let under : p < cut = ltb-true _ _ e in omega (arith, under, l))
+    by false e = (let same : cut + (p - cut) ≡ p = omega (arith, l) in slice_get_drop cut xs (p - cut) ∙ ap (slice_get xs) same)
+
+-- the operation asks just this: an entry at its place, which is kept where it is due, a trim to the cut
+pub can_ask : (c : Cell) (o : Operation) (aims : Aims) (ms : List Member) (m : Member) (e : Errand) → IsOnCourse c o aims ms → IsPlanned aims.phase c.cut aims.want aims.place m e → (a : Ask) × (IsDue c.cut e → asked_by (drop c.cut c.entries) c.cut e ≡ Some a) × (ask_for c o (wish_of e) ≡ Some a)
 can_ask c o aims ms m (Store p) f plan =
     let x : (x : Entry) × (slice_get c.entries p ≡ Some x) = entry_there c.entries p (store_there c o aims ms m p aims.phase refl f f.phase plan) in
-    (ask.Store p x.0, ap (option_map (λ y. ask.Store p y)) x.1, ap (option_map (λ y. ask.Store p y)) x.1)
+    (ask.Store p x.0, λ due. ap (option_map (λ y. ask.Store p y)) (entry_kept c.cut c.entries p due ∙ x.1), ap (option_map (λ y. ask.Store p y)) x.1)
 can_ask c o aims ms m (Repair p) f plan =
     let x : (x : Entry) × (slice_get c.entries p ≡ Some x) = entry_there c.entries p (repair_there c o aims ms m p aims.phase f.phase plan) in
-    (ask.Repair p x.0, ap (option_map (λ y. ask.Repair p y)) x.1, ap (option_map (λ y. ask.Repair p y)) x.1)
-can_ask c o aims ms m Seal f plan = (ask.Seal, refl, ap (λ b. if b then Some ask.Seal else None) (may_seal c o aims ms m aims.phase f.phase plan))
-can_ask c o aims ms m Tail f plan = (ask.Tail, refl, refl)
-can_ask c o aims ms m (Read p) f plan = (ask.Read p, refl, ap ask_read (read_is o aims.place p c.cut aims.want m aims.phase f.aims_at plan))
-can_ask c o aims ms m Trim f plan = (ask.Trim c.cut, refl, refl)
+    (ask.Repair p x.0, λ due. ap (option_map (λ y. ask.Repair p y)) (entry_kept c.cut c.entries p due ∙ x.1), ap (option_map (λ y. ask.Repair p y)) x.1)
+can_ask c o aims ms m Seal f plan = (ask.Seal, λ _. refl, ap (λ b. if b then Some ask.Seal else None) (may_seal c o aims ms m aims.phase f.phase plan))
+can_ask c o aims ms m Tail f plan = (ask.Tail, λ _. refl, refl)
+can_ask c o aims ms m (Read p) f plan = (ask.Read p, λ _. refl, ap ask_read (read_is o aims.place p c.cut aims.want m aims.phase f.aims_at plan))
+can_ask c o aims ms m Trim f plan = (ask.Trim c.cut, λ _. refl, refl)
 
-pub allowed : (c : Cell) (t i : ℕ) (p : Pending) (e : Errand) → IsPartOf c t p → p.outcome ≡ None → i < length c.servers → (get_or p.members.items i no_member).message ≡ Some (Asked e) → IsAllowed c t e
+pub allowed : (c : Cell) (t i : ℕ) (p : Pending) (e : Errand) → IsPartOf c t p → p.outcome ≡ None → i < length c.servers → (get_or p.members.items i no_member).message ≡ Some (Asked e) → IsAllowed c t (due_of c.cut e)
 allowed c t i p e part waiting here message =
     let way : OnItsWay c (operation c t) t i (aims_of c.cut p) (get_or p.members.items i no_member) e = subst (IsCarried c (operation c t) t i (aims_of c.cut p) (get_or p.members.items i no_member)) message ((part.goes waiting).carried i here) in
-    let a : (a : Ask) × (asked_by c.entries c.cut e ≡ Some a) × (ask_for c (operation c t) (wish_of e) ≡ Some a) = can_ask c (operation c t) (aims_of c.cut p) p.members.items (get_or p.members.items i no_member) e (part.goes waiting).course way.planned in
-    record { ask = a.0; is = a.1; allowed = a.2 }
+    let due : OnItsWay c (operation c t) t i (aims_of c.cut p) (get_or p.members.items i no_member) (due_of c.cut e) = due_way c (operation c t) t i (aims_of c.cut p) (get_or p.members.items i no_member) e way in
+    let a : (a : Ask) × (IsDue c.cut (due_of c.cut e) → asked_by (drop c.cut c.entries) c.cut (due_of c.cut e) ≡ Some a) × (ask_for c (operation c t) (wish_of (due_of c.cut e)) ≡ Some a) = can_ask c (operation c t) (aims_of c.cut p) p.members.items (get_or p.members.items i no_member) (due_of c.cut e) (part.goes waiting).course due.planned in
+    record { ask = a.0; is = a.1 (due_is c.cut e); allowed = a.2 }

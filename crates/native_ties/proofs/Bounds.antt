@@ -6,15 +6,14 @@ use Rattle.std.proofs.lemmas.List.Sums.{sum_by-le}
 use Rattle.quorum_cell.specs.Cells.{Cell, operation}
 use Rattle.native_plan.specs.declared.member.Member.{Member}
 use Rattle.native_plan.specs.declared.pending.Pending.{Pending}
-use Rattle.native_plan.specs.declared.message.Errand.{Errand}
-use Rattle.native_plan.specs.declared.message.Errand.TheVariants.{Store, Seal, Tail, Repair, Read, Trim}
 use Rattle.native_plan.specs.declared.message.Message.{Message}
 use Rattle.native_plan.specs.declared.message.Message.TheVariants.{Asked, Told as Answered}
 use Rattle.native_plan.specs.declared.message.Phase.{Phase}
 use Rattle.native_plan.specs.declared.message.Phase.TheVariants.{Filling, Asking, Opening, Shutting, Sealing, Mending, Reading, Trimming}
-use Rattle.native_plan.specs.Members.{no_member, is_out, left_with, left_to, more_after}
+use Rattle.native_plan.specs.Members.{no_member, is_out, left_with, left_to}
 use Rattle.native_plan.specs.Plans.{is_done, goal_of, end_of, rank_of}
 use Rattle.native_plan.specs.Course.{PhaseFits}
+use Rattle.native_plan.proofs.Falls.{more_small}
 use Rattle.native_ties.specs.Parts.{Goes, IsPartOf, IsBounded}
 use Rattle.native_ties.proofs.Losers.{way_of}
 use Rattle.native_ties.proofs.Lessening.{out_left, in_sum, idle_done}
@@ -42,18 +41,10 @@ end_small Sealing want h = omega arith
 end_small (Reading j) want h = omega arith
 end_small Trimming want h = omega arith
 
-more_small : (e : Errand) → more_after e ≤ 20
-more_small Seal = omega arith
-more_small Tail = omega arith
-more_small Trim = omega arith
-more_small (Store p) = omega arith
-more_small (Repair p) = omega arith
-more_small (Read p) = omega arith
-
 left_small : (end : ℕ) (m : Member) → end ≤ 2 ^ 33 → left_to end m ≤ 2 ^ 40
-left_small end m h = by (20 * (end - m.at)) m.losses m.message (omega (arith, h))
+left_small end m h = by (40 * (end - m.at)) m.losses m.message (omega (arith, h))
   where
-    by : (w l : ℕ) (z : Option Message) → w ≤ 20 * 2 ^ 33 → left_with w l z ≤ 2 ^ 40
+    by : (w l : ℕ) (z : Option Message) → w ≤ 40 * 2 ^ 33 → left_with w l z ≤ 2 ^ 40
     by w l None f = omega arith
     by w l (Some (Asked e)) f = (let few = more_small e in omega (arith, few, f))
     by w l (Some (Answered e told)) f = (let few = more_small e in omega (arith, few, f))
@@ -78,7 +69,7 @@ some_left c t p g = by (cases_lt 0 (sum_by (left_to (end_of p.phase p.want)) p.m
         at false e = idle_done c t p g j l e
         at true e =
             let way = way_of c (operation c t) t j _ (get_or p.members.items j no_member) (get_or p.members.items j no_member).message refl e (g.carried j (omega (arith, l, g.course.all))) in
-            let some = out_left (20 * (end_of p.phase p.want - (get_or p.members.items j no_member).at)) (get_or p.members.items j no_member).losses (get_or p.members.items j no_member).message way.1.few e in
+            let some = out_left (40 * (end_of p.phase p.want - (get_or p.members.items j no_member).at)) (get_or p.members.items j no_member).losses (get_or p.members.items j no_member).message way.1.few e in
             let most = in_sum (left_to (end_of p.phase p.want)) p.members.items j l in
             absurd (omega (arith, some, most, none))
 

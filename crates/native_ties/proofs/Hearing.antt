@@ -62,8 +62,8 @@ not_shut_trim aim n h e = subst Shuts e h
 fill_not_read : (goal cut : ℕ) (m : Member) (e : Errand) (p : ℕ) → FillsTo goal cut m e → e ≡ Read p → ⊥
 fill_not_read goal cut m e p h q = subst (FillsTo goal cut m) q h
 
-mend_not_read : (t : ℕ) (m : Member) (e : Errand) (p : ℕ) → MendsTo t m e → e ≡ Read p → ⊥
-mend_not_read t m e p h q = subst (MendsTo t m) q h
+mend_not_read : (t cut : ℕ) (m : Member) (e : Errand) (p : ℕ) → MendsTo t cut m e → e ≡ Read p → ⊥
+mend_not_read t cut m e p h q = subst (MendsTo t cut m) q h
 
 -- a Read sends reads, a Trim trims
 pub reads_read : (ph : Phase) (cut want place : ℕ) (aim : Aim) (m : Member) (e : Errand) → AimsAt place aim ph → IsPlanned ph cut want place m e → (p : ℕ) → aim ≡ AimRead p → e ≡ Read p
@@ -92,7 +92,7 @@ read_reads Asking cut want place aim m e a h p r = (let x : Tail ≡ Read p = sy
 read_reads (Opening t) cut want place aim m e a h p r = absurd (fill_not_read t cut m e p h r)
 read_reads Shutting cut want place aim m e a h p r = (let x : Seal ≡ Read p = sym h ∙ r in absurd (cc))
 read_reads Sealing cut want place aim m e a h p r = (let x : Seal ≡ Read p = sym h ∙ r in absurd (cc))
-read_reads (Mending t) cut want place aim m e a h p r = absurd (mend_not_read t m e p h r)
+read_reads (Mending t) cut want place aim m e a h p r = absurd (mend_not_read t cut m e p h r)
 read_reads (Reading j) cut want place aim m e a h p r = (let x : Read place ≡ Read p = sym h ∙ r in let same : place ≡ p = cc in a ∙ ap AimRead same)
 read_reads Trimming cut want place aim m e a h p r = (let x : Trim ≡ Read p = sym h.0 ∙ r in absurd (cc))
 
@@ -112,7 +112,7 @@ open_asked (Mending t) cut want place i o s m (Repair p) a h d k z = absurd z
 open_asked (Mending t) cut want place i o s m (Store p) a h d k z = absurd h
 open_asked (Mending t) cut want place i o s m Tail a h d k z = absurd h
 open_asked (Mending t) cut want place i o s m (Read p) a h d k z = absurd h
-open_asked (Mending t) cut want place i o s m Trim a h d k z = absurd h
+open_asked (Mending t) cut want place i o s m Trim a h d k z = absurd z
 open_asked (Reading j) cut want place i o s m e a h d k z = absurd (subst IsOpenAsk h z)
 open_asked Trimming cut want place i o s m e a h d k z = k.untrimmed a.0 a.1
 

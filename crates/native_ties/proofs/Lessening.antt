@@ -22,11 +22,11 @@ use Rattle.native_plan.specs.declared.message.Phase.{Phase}
 use Rattle.native_plan.specs.declared.message.Phase.TheVariants.{Filling, Asking, Opening, Shutting, Sealing, Mending, Reading, Trimming}
 use Rattle.native_plan.specs.declared.judge.Verdict.{Verdict}
 use Rattle.native_plan.specs.declared.judge.Verdict.TheVariants.{Done, Go}
-use Rattle.native_plan.specs.Members.{no_member, is_out, heard_by, tried, left_with, left_to, more_after, got_of}
+use Rattle.native_plan.specs.Members.{no_member, is_out, heard_by, tried, left_with, left_to, more_after, due_of, got_of}
 use Rattle.native_plan.specs.Plans.{is_done, place_of, end_of, rank_of, errand_of, sent_on, resent, Resends, judged, judged_reading}
 use Rattle.native_plan.specs.Pendings.{aims_of, plan_left, left_now, verdict_of, newer_of, Settles, Answers, Hears, Loses}
 use Rattle.native_plan.specs.Course.{Fills, Shuts, AimsAt, ToldWell, EndsRead, IsAllowed}
-use Rattle.native_plan.proofs.Falls.{falls, less_of_all}
+use Rattle.native_plan.proofs.Falls.{plain_mend, falls, less_of_all}
 use Rattle.native_plan.proofs.Verdicts.{verdict_allowed}
 use Rattle.native_ties.specs.Parts.{IsCarried, OnItsWay, ToldSo, Goes, IsPartOf}
 use Rattle.native_ties.proofs.Settling.{Noted}
@@ -112,16 +112,29 @@ settle_less d t i p b new law h s waiting phase want as_many here others idle so
 
 ---- a request comes to its server
 
-pub answered_less : (c : Cell) (t i : ℕ) (p new : Pending) (e : Errand) (told : Told) → IsPartOf c t p → p.outcome ≡ None → i < length c.servers → (get_or p.members.items i no_member).message ≡ Some (Asked e) → Answers i e told p new → IsBelow (left_now new) (left_now p)
+-- no seal follows in its place
+due_more : (cut : ℕ) (e : Errand) → more_after (due_of cut e) ≡ more_after e
+due_more cut (Store p) = by (nat_lt p cut)
+  where
+    by : (b : Bool) → more_after (if b then Trim else Store p) ≡ 0
+    by true = refl
+    by false = refl
+due_more cut (Repair p) = plain_mend cut p
+due_more cut Seal = refl
+due_more cut Tail = refl
+due_more cut (Read p) = refl
+due_more cut Trim = refl
+
+pub answered_less : (c : Cell) (t i : ℕ) (p new : Pending) (e : Errand) (told : Told) → IsPartOf c t p → p.outcome ≡ None → i < length c.servers → (get_or p.members.items i no_member).message ≡ Some (Asked e) → Answers i (due_of c.cut e) told p new → IsBelow (left_now new) (left_now p)
 answered_less c t i p new e told part waiting here message a =
     let goes : Goes c t p = part.goes waiting in
     let way : OnItsWay c (operation c t) t i (aims_of c.cut p) (get_or p.members.items i no_member) e = subst (IsCarried c (operation c t) t i (aims_of c.cut p) (get_or p.members.items i no_member)) message (goes.carried i here) in
     let few : (get_or p.members.items i no_member).losses < 8 = way.few in
     let among : i < length p.members.items = omega (arith, here, goes.course.all) in
-    let now : Member = record (get_or p.members.items i no_member) { message = Some (Answered e told) } in
-    let less : left_to (end_of p.phase p.want) (record (get_or p.members.items i no_member) { message = Some (Answered e told) }) < left_to (end_of p.phase p.want) (get_or p.members.items i no_member) = rw message (moved (20 * (end_of p.phase p.want - (get_or p.members.items i no_member).at) + more_after e) (get_or p.members.items i no_member).losses few) in
-    let all_less : sum_by (left_to (end_of p.phase p.want)) (set p.members.items i (record (get_or p.members.items i no_member) { message = Some (Answered e told) })) < sum_by (left_to (end_of p.phase p.want)) p.members.items =
-    less_of_all (left_to (end_of p.phase p.want)) p.members.items (set p.members.items i (record (get_or p.members.items i no_member) { message = Some (Answered e told) })) i (length-set p.members.items i _) (each (record (get_or p.members.items i no_member) { message = Some (Answered e told) }) among less) among (rw (get_or-set_same p.members.items i now no_member among) less) in
+    let now : Member = record (get_or p.members.items i no_member) { message = Some (Answered (due_of c.cut e) told) } in
+    let less : left_to (end_of p.phase p.want) (record (get_or p.members.items i no_member) { message = Some (Answered (due_of c.cut e) told) }) < left_to (end_of p.phase p.want) (get_or p.members.items i no_member) = rw (message, due_more c.cut e) (moved (40 * (end_of p.phase p.want - (get_or p.members.items i no_member).at) + more_after e) (get_or p.members.items i no_member).losses few) in
+    let all_less : sum_by (left_to (end_of p.phase p.want)) (set p.members.items i (record (get_or p.members.items i no_member) { message = Some (Answered (due_of c.cut e) told) })) < sum_by (left_to (end_of p.phase p.want)) p.members.items =
+    less_of_all (left_to (end_of p.phase p.want)) p.members.items (set p.members.items i (record (get_or p.members.items i no_member) { message = Some (Answered (due_of c.cut e) told) })) i (length-set p.members.items i _) (each (record (get_or p.members.items i no_member) { message = Some (Answered (due_of c.cut e) told) }) among less) among (rw (get_or-set_same p.members.items i now no_member among) less) in
     rw (a.rest, waiting) (inr (refl, rw a.members all_less))
   where
     moved : (k l : ℕ) → l < 8 → k + 10 - l < k + 20 - l
@@ -200,7 +213,7 @@ heard_less c t i p new e told law part waiting here message h =
     (ap (λ (ms : List Member). length ms) h.notes.members ∙ length-set p.members.items i _) among
     (λ j other. ap (λ (ms : List Member). get_or ms j no_member) h.notes.members ∙ get_or-set_other p.members.items i j _ no_member other)
     (idle_done c t p goes)
-    (rw message (pos_told (20 * (end_of p.phase p.want - (get_or p.members.items i no_member).at) + more_after e) (get_or p.members.items i no_member).losses so.way.few))
+    (rw message (pos_told (40 * (end_of p.phase p.want - (get_or p.members.items i no_member).at) + more_after e) (get_or p.members.items i no_member).losses so.way.few))
     (λ v. rw (now_is, silent p.want e told (get_or p.members.items i no_member), ap (λ (x : Pending). place_of x.task) h.notes.rest) (falls (server_before (operation c t) i) c.cut p.want (place_of p.task) i (get_or p.members.items i no_member) p.phase n.0.cut e told message so.way.few so.way.planned so.well
     (no_end c t i p h.between e told p.phase goes so.way so.well phase want (ap (λ (x : Pending). x.firm) h.notes.rest) (ap (λ (x : Pending). x.task) h.notes.rest) (ap (λ (x : Pending). x.got) h.notes.rest) (subst (λ k. verdict_of k h.between ≡ Go p.phase) n.3 v))))
 
@@ -210,7 +223,7 @@ tried_less : (ph : Phase) (cut want place i end : ℕ) (m : Member) → m.losses
 tried_less ph cut want place i end m few out = by (m.losses + 1 == 8) refl
   where
     some : 0 < left_to end m
-    some = out_left (20 * (end - m.at)) m.losses m.message few out
+    some = out_left (40 * (end - m.at)) m.losses m.message few out
 
     less : (w l : ℕ) (z : Option Message) → is_some z ≡ true → l + 1 < 8 → left_with w (l + 1) z < left_with w l z
     less w l None o f = absurd (false≢true o)
@@ -227,7 +240,7 @@ tried_less ph cut want place i end m few out = by (m.losses + 1 == 8) refl
     by true e = some
     by false e =
         let fewer : m.losses + 1 < 8 = (let no : m.losses + 1 ≡ 8 → ⊥ = (λ x. false≢true (sym e ∙ eq-eqb (m.losses + 1) 8 x)) in omega (arith, few, no)) in
-        rw out (less (20 * (end - m.at)) m.losses m.message out fewer)
+        rw out (less (40 * (end - m.at)) m.losses m.message out fewer)
 
 pub lost_less : (c : Cell) (t i : ℕ) (p new : Pending) → QuorumLaw c → IsPartOf c t p → p.outcome ≡ None → i < length c.servers → is_out (get_or p.members.items i no_member) ≡ true → Loses c.cut i p new → IsBelow (left_now new) (left_now p)
 lost_less c t i p new law part waiting here out h =
@@ -242,5 +255,5 @@ lost_less c t i p new law part waiting here out h =
     (ap (λ (ms : List Member). length ms) h.notes.members ∙ length-set p.members.items i _) among
     (λ j other. ap (λ (ms : List Member). get_or ms j no_member) h.notes.members ∙ get_or-set_other p.members.items i j _ no_member other)
     (idle_done c t p goes)
-    (out_left (20 * (end_of p.phase p.want - (get_or p.members.items i no_member).at)) (get_or p.members.items i no_member).losses (get_or p.members.items i no_member).message way.1.few out)
+    (out_left (40 * (end_of p.phase p.want - (get_or p.members.items i no_member).at)) (get_or p.members.items i no_member).losses (get_or p.members.items i no_member).message way.1.few out)
     (λ v. rw now_is (tried_less p.phase n.0.cut p.want (place_of h.between.task) i (end_of p.phase p.want) (get_or p.members.items i no_member) way.1.few out))

@@ -1,5 +1,5 @@
 -- A try of a message of an operation is lost, and then the operation comes to what it comes to.
-use Rattle.std.proofs.Common.{◌≡◌, ℕ, zero, suc, ◌+◌, ◌<◌, ◌≤◌, Bool, true, false, refl, sym, ◌∙◌, ap, subst, arith, List, [], ◌∷◌, ◌++◌, length, get_or, set, Option, Some, None, inl, inr}
+use Rattle.std.proofs.Common.{◌≡◌, ℕ, zero, suc, ◌+◌, ◌<◌, ◌≤◌, Bool, true, false, refl, sym, ◌∙◌, ap, subst, arith, List, [], ◌∷◌, ◌++◌, length, drop, get_or, set, Option, Some, None, inl, inr}
 use Rattle.std.specs.Prelude.{◌⊎◌, ◌&&◌, ◌||◌, ◌==◌, nat_le, is_some, slice_get, if◌then◌else◌, All, count_by}
 use Rattle.std.specs.List.{list_any}
 use Rattle.std.proofs.lemmas.Bool.{false≢true, cases_eq, eq-eqb, ne_eqb, eqb-true, leb-true, le-leb, or_left, or_right, or_from, or_parts, and_parts, and_from, false_from_ne_true}
@@ -42,7 +42,7 @@ use Rattle.native_ties.proofs.Resending.{planned_as}
 use Rattle.native_ties.proofs.Hearing.{put_there, put_other, turned_heard}
 use Rattle.native_ties.proofs.Sending.{sent_is}
 use Rattle.native_ties.proofs.Losing.{with_loss, one_more, no_more, few_all, none_yet}
-use Rattle.native_ties.proofs.Asking.{can_ask}
+use Rattle.native_ties.proofs.Asking.{IsDue, can_ask}
 use Rattle.native_ties.proofs.Settling.{Noted, settles_as}
 
 pub within : {X : Type 0} (xs : List X) (k : ℕ) (x : X) → slice_get xs k ≡ Some x → k < length xs
@@ -337,7 +337,7 @@ lost_known c t i p new law part waiting here l e way h =
 lost_first : (c : Cell) (t i : ℕ) (p new : Pending) → QuorumLaw c → IsPartOf c t p → p.outcome ≡ None → i < length c.servers → (get_or p.members.items i no_member).losses ≡ 0 → (e : Errand) → OnItsWay c (operation c t) t i (aims_of c.cut p) (get_or p.members.items i no_member) e → errand_of (get_or p.members.items i no_member).message ≡ Some e → Loses c.cut i p new → GoesAs c t (c.faults ++ i ∷ []) new (IsLoss c t i (get_or p.members.items i no_member))
 lost_first c t i p new law part waiting here none e way errand h =
     let goes : Goes c t p = part.goes waiting in
-    let a : (a : Ask) × (asked_by c.entries c.cut e ≡ Some a) × (ask_for c (operation c t) (wish_of e) ≡ Some a) = can_ask c (operation c t) (aims_of c.cut p) p.members.items (get_or p.members.items i no_member) e goes.course way.planned in
+    let a : (a : Ask) × (IsDue c.cut e → asked_by (drop c.cut c.entries) c.cut e ≡ Some a) × (ask_for c (operation c t) (wish_of e) ≡ Some a) = can_ask c (operation c t) (aims_of c.cut p) p.members.items (get_or p.members.items i no_member) e goes.course way.planned in
     let d : Cell = record c { requests = c.requests ++ record { ticket = t; server = i; ask = a.0 } ∷ [] } in
     let is : cell_step c (Send t i (wish_of e)) ≡ record c { requests = c.requests ++ record { ticket = t; server = i; ask = a.0 } ∷ [] } = sent_is c t i (wish_of e) a.0 part.shows.is_open here a.2 in
     let later : Later c (record c { requests = c.requests ++ record { ticket = t; server = i; ask = a.0 } ∷ [] }) = subst (Later c) is (step_later c (Send t i (wish_of e))) in
@@ -397,7 +397,7 @@ loses_noted c t i p b law part waiting here out notes = by way.1.pooled
     by (inr l) = known_noted c t i p b law part waiting here l way.0 way.1 notes
     by (inl none) =
         let goes : Goes c t p = part.goes waiting in
-        let a : (a : Ask) × (asked_by c.entries c.cut way.0 ≡ Some a) × (ask_for c (operation c t) (wish_of way.0) ≡ Some a) = can_ask c (operation c t) (aims_of c.cut p) p.members.items (get_or p.members.items i no_member) way.0 goes.course way.1.planned in
+        let a : (a : Ask) × (IsDue c.cut way.0 → asked_by (drop c.cut c.entries) c.cut way.0 ≡ Some a) × (ask_for c (operation c t) (wish_of way.0) ≡ Some a) = can_ask c (operation c t) (aims_of c.cut p) p.members.items (get_or p.members.items i no_member) way.0 goes.course way.1.planned in
         let is : cell_step c (Send t i (wish_of way.0)) ≡ record c { requests = c.requests ++ record { ticket = t; server = i; ask = a.0 } ∷ [] } = sent_is c t i (wish_of way.0) a.0 part.shows.is_open here a.2 in
         let later : Later c (record c { requests = c.requests ++ record { ticket = t; server = i; ask = a.0 } ∷ [] }) = subst (Later c) is (step_later c (Send t i (wish_of way.0))) in
         let kept : QuorumLaw (record c { requests = c.requests ++ record { ticket = t; server = i; ask = a.0 } ∷ [] }) = subst QuorumLaw is (step_keeps c (Send t i (wish_of way.0)) law) in

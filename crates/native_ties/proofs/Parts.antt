@@ -19,7 +19,7 @@ use Rattle.native_plan.specs.declared.message.Phase.{Phase}
 use Rattle.native_plan.specs.declared.message.Phase.TheVariants.{Filling, Asking, Opening, Shutting, Sealing, Mending, Reading, Trimming}
 use Rattle.native_plan.specs.Members.{no_member}
 use Rattle.native_plan.specs.Pendings.{aims_of}
-use Rattle.native_plan.specs.Course.{Knows, PhaseFits, IsOnCourse, IsPlanned, FillsTo, ToldWell}
+use Rattle.native_plan.specs.Course.{Knows, PhaseFits, IsOnCourse, IsPlanned, FillsTo, MendsTo, ToldWell}
 use Rattle.native_ties.specs.Parts.{IsPooled, HasReply, OnItsWay, IsCarried, NamesRequest, Goes, Shows, IsPartOf, Extends}
 
 fills_later : (goal cut next : ℕ) (m : Member) (e : Errand) → cut ≤ next → FillsTo goal cut m e → FillsTo goal next m e
@@ -30,13 +30,21 @@ fills_later goal cut next m Seal l h = h
 fills_later goal cut next m (Repair p) l h = h
 fills_later goal cut next m (Read p) l h = h
 
+mends_later : (t cut next : ℕ) (m : Member) (e : Errand) → cut ≤ next → MendsTo t cut m e → MendsTo t next m e
+mends_later t cut next m Seal l h = h
+mends_later t cut next m Trim l h = (h.0, omega (arith, h.1, l), h.2)
+mends_later t cut next m (Repair p) l h = h
+mends_later t cut next m (Store p) l h = h
+mends_later t cut next m Tail l h = h
+mends_later t cut next m (Read p) l h = h
+
 planned_later : (ph : Phase) (cut next want place : ℕ) (m : Member) (e : Errand) → cut ≤ next → IsPlanned ph cut want place m e → IsPlanned ph next want place m e
 planned_later Filling cut next want place m e l h = fills_later want cut next m e l h
 planned_later Asking cut next want place m e l h = h
 planned_later (Opening t) cut next want place m e l h = fills_later t cut next m e l h
 planned_later Shutting cut next want place m e l h = h
 planned_later Sealing cut next want place m e l h = h
-planned_later (Mending t) cut next want place m e l h = h
+planned_later (Mending t) cut next want place m e l h = mends_later t cut next m e l h
 planned_later (Reading j) cut next want place m e l h = h
 planned_later Trimming cut next want place m e l h = (h.0, omega (arith, h.1, l))
 

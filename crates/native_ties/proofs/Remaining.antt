@@ -25,7 +25,7 @@ use Rattle.native_plan.specs.Plans.{is_done, place_of, end_of, rank_of, errand_o
 use Rattle.native_plan.specs.Pendings.{aims_of, plan_left, left_now, verdict_of, Settles}
 use Rattle.native_plan.specs.Course.{Knows, IsPlanned, MendsTo, IsAllowed}
 use Rattle.native_plan.specs.Strays.{news_of, bears, learned_in, is_due, heard_anew, is_asked, HearsNews, HearsAgain, HearsIf}
-use Rattle.native_plan.proofs.Falls.{plain_fill}
+use Rattle.native_plan.proofs.Falls.{plain_fill, plain_mend}
 use Rattle.native_plan.proofs.Verdicts.{verdict_allowed}
 use Rattle.native_ties.specs.Parts.{IsCarried, Goes, IsPartOf}
 use Rattle.native_ties.specs.Strays.{IsReply}
@@ -175,8 +175,8 @@ module _ (want i : ℕ) (m : Member) where
       short = leb-false t n (or_parts m.unreached _ d).1
 
       by : (z : Bool) → is_some m.sealed ≡ z → IsNearer (Mending t) want m (record m { sealed = Some n; at = n })
-      by true z = inl (apart m.at n l (λ e. true≢false (sym (kept_due (Mending t) want i m (record m { sealed = Some n; at = n }) e (sym z) d) ∙ due)), omega (arith, short), λ cut place. refl)
-      by false z = inr (z, l, (t, refl), λ cut place. refl)
+      by true z = inl (apart m.at n l (λ e. true≢false (sym (kept_due (Mending t) want i m (record m { sealed = Some n; at = n }) e (sym z) d) ∙ due)), omega (arith, short), λ cut place. plain_mend cut n)
+      by false z = inr (z, l, (t, refl), λ cut place. plain_mend cut n)
   sealed_near (Reading j) n b l due d = absurd (false≢true b)
   sealed_near Trimming n b l due d = absurd (false≢true b)
 
@@ -197,7 +197,7 @@ module _ (want i : ℕ) (m : Member) where
   mended_near : (ph : Phase) (n : ℕ) → bears ph (news.Mended n) ≡ true → is_some m.sealed ≡ true → m.at ≤ n → is_due ph want i m (record m { at = n }) ≡ false → is_done ph want i (record m { at = n }) ≡ false → IsNearer ph want m (record m { at = n })
   mended_near (Mending t) n b z l due d =
       let short : n < t = leb-false t n (subst (λ (y : Bool). (y && nat_le t n) ≡ false) z (or_parts m.unreached _ d).1) in
-      inl (apart m.at n l (λ e. true≢false (sym (kept_due (Mending t) want i m (record m { at = n }) e refl d) ∙ due)), omega (arith, short), λ cut place. rw z refl)
+      inl (apart m.at n l (λ e. true≢false (sym (kept_due (Mending t) want i m (record m { at = n }) e refl d) ∙ due)), omega (arith, short), λ cut place. rw z (plain_mend cut n))
   mended_near Filling n b z l due d = absurd (false≢true b)
   mended_near Asking n b z l due d = absurd (false≢true b)
   mended_near (Opening t) n b z l due d = absurd (false≢true b)
@@ -227,19 +227,19 @@ errand_silent (Mending t) cut want place m = refl
 errand_silent (Reading j) cut want place m = refl
 errand_silent Trimming cut want place m = refl
 
-mends_seal : (t : ℕ) (m : Member) (e : Errand) → MendsTo t m e → is_some m.sealed ≡ false → more_after e ≡ 20
-mends_seal t m Seal h z = refl
-mends_seal t m (Repair p) h z = absurd (true≢false (sym h.2 ∙ z))
-mends_seal t m (Store p) h z = absurd h
-mends_seal t m Tail h z = absurd h
-mends_seal t m (Read p) h z = absurd h
-mends_seal t m Trim h z = absurd h
+mends_seal : (t cut : ℕ) (m : Member) (e : Errand) → MendsTo t cut m e → is_some m.sealed ≡ false → more_after e ≡ 20
+mends_seal t cut m Seal h z = refl
+mends_seal t cut m (Repair p) h z = absurd (true≢false (sym h.2 ∙ z))
+mends_seal t cut m (Store p) h z = absurd h
+mends_seal t cut m Tail h z = absurd h
+mends_seal t cut m (Read p) h z = absurd h
+mends_seal t cut m Trim h z = absurd (true≢false (sym h.2 ∙ z))
 
 kept_left : (end : ℕ) (m now : Member) → now.at ≡ m.at → now.losses ≡ m.losses → now.message ≡ m.message → left_to end now ≤ left_to end m
 kept_left end m now a l z = rw (a, l, z) (omega arith)
 
 -- a message that is sent anew leaves no more to do than the one that was on its way
-sent_less : (ph : Phase) (want end more after losses : ℕ) (m now : Member) → end_of ph want ≡ end → losses < 8 → (((m.at < now.at) × (now.at < end)) × (more ≡ 0)) ⊎ ((m.at ≤ now.at) × (more ≡ 0) × (after ≡ 20)) → 20 * (end - now.at) + more + 20 - 0 ≤ 20 * (end - m.at) + after + 10 - losses
+sent_less : (ph : Phase) (want end more after losses : ℕ) (m now : Member) → end_of ph want ≡ end → losses < 8 → (((m.at < now.at) × (now.at < end)) × (more ≡ 0)) ⊎ ((m.at ≤ now.at) × (more ≡ 0) × (after ≡ 20)) → 40 * (end - now.at) + more + 20 - 0 ≤ 40 * (end - m.at) + after + 10 - losses
 sent_less ph want end more after losses m now e few (inl h) = omega (arith, few, h.0.0, h.0.1, h.1)
 sent_less ph want end more after losses m now e few (inr h) = omega (arith, few, h.0, h.1, h.2)
 
@@ -260,10 +260,10 @@ module _ (c : Cell) (t i cut place : ℕ) (aims : Rattle.native_plan.specs.decla
   -- which other message is wanted now
   resends : (e : Errand) → IsPlanned aims.phase c.cut aims.want aims.place m e → IsNearer aims.phase aims.want m now → (((m.at < now.at) × (now.at < end)) × (more_after (errand_of aims.phase cut aims.want place now) ≡ 0)) ⊎ ((m.at ≤ now.at) × (more_after (errand_of aims.phase cut aims.want place now) ≡ 0) × (more_after e ≡ 20))
   resends e planned (inl h) = inl ((h.0, h.1), h.2 cut place)
-  resends e planned (inr h) = inr (h.1, h.3 cut place, mends_seal h.2.0 m e (subst (λ (ph : Phase). IsPlanned ph c.cut aims.want aims.place m e) h.2.1 planned) h.0)
+  resends e planned (inr h) = inr (h.1, h.3 cut place, mends_seal h.2.0 c.cut m e (subst (λ (ph : Phase). IsPlanned ph c.cut aims.want aims.place m e) h.2.1 planned) h.0)
 
   sent_anew : (z : Option Message) → m.message ≡ z → IsCarried c (operation c t) t i aims m z → is_due aims.phase aims.want i m now ≡ false → is_done aims.phase aims.want i now ≡ false →
-      20 * (end - now.at) + more_after (errand_of aims.phase cut aims.want place now) + 20 - 0 ≤ left_with (20 * (end - m.at)) m.losses z
+      40 * (end - now.at) + more_after (errand_of aims.phase cut aims.want place now) + 20 - 0 ≤ left_with (40 * (end - m.at)) m.losses z
   sent_anew None is h due d = absurd (true≢false (sym (done_more aims.want i m aims.phase x within h) ∙ d))
   sent_anew (Some (Asked e)) is h due d = (let less = sent_less aims.phase aims.want end (more_after (errand_of aims.phase cut aims.want place now)) (more_after e) m.losses m now refl h.few (resends e h.planned (nearer aims.want i m aims.phase x due d)) in omega (arith, less))
   sent_anew (Some (Answered e told)) is h due d = sent_less aims.phase aims.want end (more_after (errand_of aims.phase cut aims.want place now)) (more_after e) m.losses m now refl h.way.few (resends e h.way.planned (nearer aims.want i m aims.phase x due d))

@@ -12,10 +12,10 @@ use Rattle.native_plan.specs.declared.message.Message.{Message}
 use Rattle.native_plan.specs.declared.message.Message.TheVariants.{Asked}
 use Rattle.native_plan.specs.declared.message.Phase.{Phase}
 use Rattle.native_plan.specs.declared.message.Phase.TheVariants.{Filling, Asking, Opening, Shutting, Sealing, Mending, Reading, Trimming}
-use Rattle.native_plan.specs.Members.{no_member, is_out, is_found_sealed, is_mended_to}
+use Rattle.native_plan.specs.Members.{no_member, is_out, is_found_sealed, is_mended_to, due_of}
 use Rattle.native_plan.specs.Plans.{is_done, fill_of, errand_of, sent_on, resent, Resends}
 use Rattle.native_plan.specs.Course.{Knows, PhaseFits, HaveTurned, IsOnCourse, GoesOn, IsPlanned, FillsTo, MendsTo}
-use Rattle.native_ties.specs.Parts.{IsCarried}
+use Rattle.native_ties.specs.Parts.{OnItsWay, IsCarried}
 
 -- what is sent is planned
 
@@ -34,12 +34,13 @@ short_of t m sealed h = by (nat_le t m.at) refl
     by true e = absurd (true≢false (sym (rw (sealed, e) refl) ∙ h))
     by false e = leb-false _ _ e
 
-mend_planned : (t : ℕ) (m : Member) → is_mended_to t m ≡ false → MendsTo t m (if is_found_sealed m then Repair m.at else Seal)
-mend_planned t m h = by (is_some m.sealed) refl
+mend_planned : (t cut : ℕ) (m : Member) → is_mended_to t m ≡ false → MendsTo t cut m (if is_found_sealed m then due_of cut (Repair m.at) else Seal)
+mend_planned t cut m h = by (is_some m.sealed) refl (nat_lt m.at cut) refl
   where
-    by : (b : Bool) → is_some m.sealed ≡ b → MendsTo t m (if b then Repair m.at else Seal)
-    by true e = (refl, short_of t m e h, e)
-    by false e = e
+    by : (b : Bool) → is_some m.sealed ≡ b → (d : Bool) → nat_lt m.at cut ≡ d → MendsTo t cut m (if b then (if d then Trim else Repair m.at) else Seal)
+    by true e true f = (short_of t m e h, ltb-true _ _ f, e)
+    by true e false f = (refl, short_of t m e h, e)
+    by false e d f = e
 
 pub planned_of : (ph : Phase) (cut want place i : ℕ) (m : Member) → (ph ≡ Trimming → want ≤ cut) → is_done ph want i m ≡ false → IsPlanned ph cut want place m (errand_of ph cut want place m)
 planned_of Filling cut want place i m t h = fill_planned want cut m
@@ -47,7 +48,7 @@ planned_of Asking cut want place i m t h = refl
 planned_of (Opening g) cut want place i m t h = fill_planned g cut m
 planned_of Shutting cut want place i m t h = refl
 planned_of Sealing cut want place i m t h = refl
-planned_of (Mending g) cut want place i m t h = mend_planned g m (or_parts m.unreached (is_mended_to g m) h).1
+planned_of (Mending g) cut want place i m t h = mend_planned g cut m (or_parts m.unreached (is_mended_to g m) h).1
 planned_of (Reading j) cut want place i m t h = refl
 planned_of Trimming cut want place i m t h = (refl, t refl)
 
@@ -59,13 +60,13 @@ fills_as goal cut losses z m Seal h = h
 fills_as goal cut losses z m (Repair p) h = h
 fills_as goal cut losses z m (Read p) h = h
 
-mends_as : (t losses : ℕ) (z : Option Message) (m : Member) (e : Errand) → MendsTo t m e → MendsTo t (record m { losses = losses; message = z }) e
-mends_as t losses z m Tail h = h
-mends_as t losses z m Trim h = h
-mends_as t losses z m (Store p) h = h
-mends_as t losses z m Seal h = h
-mends_as t losses z m (Repair p) h = h
-mends_as t losses z m (Read p) h = h
+mends_as : (t cut losses : ℕ) (z : Option Message) (m : Member) (e : Errand) → MendsTo t cut m e → MendsTo t cut (record m { losses = losses; message = z }) e
+mends_as t cut losses z m Tail h = h
+mends_as t cut losses z m Trim h = h
+mends_as t cut losses z m (Store p) h = h
+mends_as t cut losses z m Seal h = h
+mends_as t cut losses z m (Repair p) h = h
+mends_as t cut losses z m (Read p) h = h
 
 pub planned_as : (ph : Phase) (cut want place losses : ℕ) (z : Option Message) (m : Member) (e : Errand) → IsPlanned ph cut want place m e → IsPlanned ph cut want place (record m { losses = losses; message = z }) e
 planned_as Filling cut want place losses z m e h = fills_as want cut losses z m e h
@@ -73,9 +74,50 @@ planned_as Asking cut want place losses z m e h = h
 planned_as (Opening t) cut want place losses z m e h = fills_as t cut losses z m e h
 planned_as Shutting cut want place losses z m e h = h
 planned_as Sealing cut want place losses z m e h = h
-planned_as (Mending t) cut want place losses z m e h = mends_as t losses z m e h
+planned_as (Mending t) cut want place losses z m e h = mends_as t cut losses z m e h
 planned_as (Reading j) cut want place losses z m e h = h
 planned_as Trimming cut want place losses z m e h = h
+
+-- and so is, below the cut, that a server lets go first
+
+store_trim : (ph : Phase) (cut want place : ℕ) (m : Member) (p : ℕ) → p < cut → IsPlanned ph cut want place m (Store p) → IsPlanned ph cut want place m Trim
+store_trim Filling cut want place m p l h = (h.1, omega (arith, h.0, l))
+store_trim (Opening t) cut want place m p l h = (h.1, omega (arith, h.0, l))
+store_trim Asking cut want place m p l h = absurd (cc)
+store_trim Shutting cut want place m p l h = absurd (cc)
+store_trim Sealing cut want place m p l h = absurd (cc)
+store_trim (Mending t) cut want place m p l h = absurd h
+store_trim (Reading j) cut want place m p l h = absurd (cc)
+store_trim Trimming cut want place m p l h = (let x = h.0 in absurd (cc))
+
+repair_trim : (ph : Phase) (cut want place : ℕ) (m : Member) (p : ℕ) → p < cut → IsPlanned ph cut want place m (Repair p) → IsPlanned ph cut want place m Trim
+repair_trim (Mending t) cut want place m p l h = (h.1, omega (arith, h.0, l), h.2)
+repair_trim Filling cut want place m p l h = absurd h
+repair_trim (Opening t) cut want place m p l h = absurd h
+repair_trim Asking cut want place m p l h = absurd (cc)
+repair_trim Shutting cut want place m p l h = absurd (cc)
+repair_trim Sealing cut want place m p l h = absurd (cc)
+repair_trim (Reading j) cut want place m p l h = absurd (cc)
+repair_trim Trimming cut want place m p l h = (let x = h.0 in absurd (cc))
+
+due_planned : (ph : Phase) (cut want place : ℕ) (m : Member) (e : Errand) → IsPlanned ph cut want place m e → IsPlanned ph cut want place m (due_of cut e)
+due_planned ph cut want place m (Store p) h = by (nat_lt p cut) refl
+  where
+    by : (b : Bool) → nat_lt p cut ≡ b → IsPlanned ph cut want place m (if b then Trim else Store p)
+    by true e = store_trim ph cut want place m p (ltb-true _ _ e) h
+    by false e = h
+due_planned ph cut want place m (Repair p) h = by (nat_lt p cut) refl
+  where
+    by : (b : Bool) → nat_lt p cut ≡ b → IsPlanned ph cut want place m (if b then Trim else Repair p)
+    by true e = repair_trim ph cut want place m p (ltb-true _ _ e) h
+    by false e = h
+due_planned ph cut want place m Seal h = h
+due_planned ph cut want place m Tail h = h
+due_planned ph cut want place m (Read p) h = h
+due_planned ph cut want place m Trim h = h
+
+pub due_way : (c : Cell) (o : Operation) (t i : ℕ) (aims : Aims) (m : Member) (e : Errand) → OnItsWay c o t i aims m e → OnItsWay c o t i aims m (due_of c.cut e)
+due_way c o t i aims m e h = record { planned = due_planned aims.phase c.cut aims.want aims.place m e h.planned; unmet = h.unmet; few = h.few; pooled = h.pooled }
 
 -- a message that is sent or kept leaves alone what is known
 

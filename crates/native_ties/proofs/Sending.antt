@@ -145,7 +145,7 @@ plan_trim Trimming cut want place m h = (λ e. h.1, λ n. absurd (n refl))
 plan_trim Asking cut want place m h = absurd (cc)
 plan_trim Shutting cut want place m h = absurd (cc)
 plan_trim Sealing cut want place m h = absurd (cc)
-plan_trim (Mending t) cut want place m h = absurd h
+plan_trim (Mending t) cut want place m h = (λ e. absurd (cc), λ n. h.1)
 plan_trim (Reading j) cut want place m h = absurd (cc)
 
 ---- the answer of a server to an operation that asks for this

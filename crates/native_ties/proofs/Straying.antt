@@ -57,13 +57,13 @@ fills_like goal cut m now Seal s h = h
 fills_like goal cut m now (Repair p) s h = h
 fills_like goal cut m now (Read p) s h = h
 
-mends_like : (t : ℕ) (m now : Member) (e : Errand) → now.at ≡ m.at → is_some now.sealed ≡ is_some m.sealed → MendsTo t m e → MendsTo t now e
-mends_like t m now Seal s z h = z ∙ h
-mends_like t m now (Repair p) s z h = (h.0 ∙ sym s, omega (arith, s, h.1), z ∙ h.2)
-mends_like t m now (Store p) s z h = h
-mends_like t m now Tail s z h = h
-mends_like t m now (Read p) s z h = h
-mends_like t m now Trim s z h = h
+mends_like : (t cut : ℕ) (m now : Member) (e : Errand) → now.at ≡ m.at → is_some now.sealed ≡ is_some m.sealed → MendsTo t cut m e → MendsTo t cut now e
+mends_like t cut m now Seal s z h = z ∙ h
+mends_like t cut m now (Repair p) s z h = (h.0 ∙ sym s, omega (arith, s, h.1), z ∙ h.2)
+mends_like t cut m now (Store p) s z h = h
+mends_like t cut m now Tail s z h = h
+mends_like t cut m now (Read p) s z h = h
+mends_like t cut m now Trim s z h = (omega (arith, s, h.0), omega (arith, s, h.1), z ∙ h.2)
 
 planned_like : (ph : Phase) (cut want place : ℕ) (m now : Member) (e : Errand) → now.at ≡ m.at → is_some now.sealed ≡ is_some m.sealed → IsPlanned ph cut want place m e → IsPlanned ph cut want place now e
 planned_like Filling cut want place m now e s z h = fills_like want cut m now e s h
@@ -71,7 +71,7 @@ planned_like Asking cut want place m now e s z h = h
 planned_like (Opening t) cut want place m now e s z h = fills_like t cut m now e s h
 planned_like Shutting cut want place m now e s z h = h
 planned_like Sealing cut want place m now e s z h = h
-planned_like (Mending t) cut want place m now e s z h = mends_like t m now e s z h
+planned_like (Mending t) cut want place m now e s z h = mends_like t cut m now e s z h
 planned_like (Reading j) cut want place m now e s z h = h
 planned_like Trimming cut want place m now e s z h = h
 

@@ -1,5 +1,5 @@
 -- An open operation as a part of its quorum cell.
-use Rattle.std.specs.Prelude.{◌≡◌, ℕ, ◌<◌, ◌≤◌, ◌*◌, ◌^◌, ◌⊎◌, true, false, not, List, length, get_or, set, slice_get, Option, Some, None, All, [], ◌∷◌, ⊤, option_map}
+use Rattle.std.specs.Prelude.{◌≡◌, ℕ, ◌-◌, ◌<◌, ◌≤◌, ◌*◌, ◌^◌, ◌⊎◌, true, false, not, List, length, get_or, set, drop, slice_get, nat_lt, if◌then◌else◌, Option, Some, None, All, [], ◌∷◌, ⊤, option_map}
 use Rattle.delos_types.specs.declared.entry.Entry.{Entry}
 use Rattle.loglet_api.specs.Step.{task_of}
 use Rattle.quorum_cell.specs.declared.message.Ask.{Ask}
@@ -144,19 +144,23 @@ wish_of (Repair p) = wish.Repair p
 wish_of (Read p) = wish.Read
 wish_of Trim = wish.Trim
 
--- what a server is asked for an errand, in a cell that has these entries and this cut
-abbrev pub asked_by : List Entry → ℕ → Errand → Option Ask
-asked_by entries cut (Store p) = option_map (λ e. ask.Store p e) (slice_get entries p)
-asked_by entries cut Seal = Some ask.Seal
-asked_by entries cut Tail = Some ask.Tail
-asked_by entries cut (Repair p) = option_map (λ e. ask.Repair p e) (slice_get entries p)
-asked_by entries cut (Read p) = Some (ask.Read p)
-asked_by entries cut Trim = Some (ask.Trim cut)
+-- the entry at a position, where these are kept from the cut on
+abbrev pub entry_at : ℕ → List Entry → ℕ → Option Entry
+entry_at cut kept p = if nat_lt p cut then None else slice_get kept (p - cut)
 
--- the operation may send what its errand says
+-- what a server is asked for an errand, where these entries are kept from the cut on
+abbrev pub asked_by : List Entry → ℕ → Errand → Option Ask
+asked_by kept cut (Store p) = option_map (λ e. ask.Store p e) (entry_at cut kept p)
+asked_by kept cut Seal = Some ask.Seal
+asked_by kept cut Tail = Some ask.Tail
+asked_by kept cut (Repair p) = option_map (λ e. ask.Repair p e) (entry_at cut kept p)
+asked_by kept cut (Read p) = Some (ask.Read p)
+asked_by kept cut Trim = Some (ask.Trim cut)
+
+-- the operation may send what its errand says, with an entry that isn't below the cut
 pub record IsAllowed (c : Cell) (t : ℕ) (e : Errand) : Type 0 where
   pub ask : Ask
-  pub is : asked_by c.entries c.cut e ≡ Some ask
+  pub is : asked_by (drop c.cut c.entries) c.cut e ≡ Some ask
   pub allowed : ask_for c (operation c t) (wish_of e) ≡ Some ask
 
 -- something is left to do of an operation on n servers that goes on, and not too much

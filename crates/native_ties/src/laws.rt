@@ -15,7 +15,7 @@ ghost use Rattle.native_plan.specs.declared.pending.Pending as pending;
 ghost use Rattle.native_plan.specs.declared.pending.Start as starts;
 ghost use Rattle.native_plan.specs.declared.message.Errand as errands;
 ghost use Rattle.native_plan.specs.declared.message.Message.TheVariants.{Asked, Told as Answered};
-ghost use Rattle.native_plan.specs.Members.{no_member, is_out};
+ghost use Rattle.native_plan.specs.Members.{no_member, is_out, due_of};
 ghost use Rattle.native_plan.specs.Pendings.{left_now, Begins, Answers, Hears, Loses};
 ghost use Rattle.native_ties.specs.Parts.{StartsIn, AreKnown, Extends, IsPartOf, IsAllowed, IsBounded, wish_of};
 ghost use Rattle.native_ties.specs.Steps.{GoesAs, AnswersAs, IsAnswer, IsRequest, IsStop, IsLoss};
@@ -43,24 +43,25 @@ pub fn answers_come()
 {}
 
 /// A request of an operation that comes to its server takes two steps of the cell: it is sent, and comes.
-/// What is asked is the errand as the cell has it: its own entry, or a trim to its cut. The server
+/// What is asked is the errand as the cell has it: its own entry, or, where that is below its cut, a trim to its cut. The server
 /// answers by its table, or its disk fails in the write that the table wants, and it is down; and
 /// the answer is on its way.
 pub fn requests_come()
     ensures answered { (cell : Cell) (t i : ℕ) (p new : pending.Pending) (errand : errands.Errand) (ask : Ask) → QuorumLaw cell → IsPartOf cell t p → p.outcome ≡ None → i < length cell.servers
-        → (get_or p.members.items i no_member).message ≡ Some (Asked errand) → ask_for cell (operation cell t) (wish_of errand) ≡ Some ask
-        → Answers i errand (told (server cell i) ask) p new
-        → AnswersAs cell t i (if (server cell i).up then written (server cell i) ask else server cell i) cell.faults new (IsRequest cell t i errand) }
+        → (get_or p.members.items i no_member).message ≡ Some (Asked errand) → ask_for cell (operation cell t) (wish_of (due_of cell.cut errand)) ≡ Some ask
+        → Answers i (due_of cell.cut errand) (told (server cell i) ask) p new
+        → AnswersAs cell t i (if (server cell i).up then written (server cell i) ask else server cell i) cell.faults new (IsRequest cell t i (due_of cell.cut errand)) }
     ensures failed { (cell : Cell) (t i : ℕ) (p new : pending.Pending) (errand : errands.Errand) (ask : Ask) → QuorumLaw cell → IsPartOf cell t p → p.outcome ≡ None → i < length cell.servers
-        → (get_or p.members.items i no_member).message ≡ Some (Asked errand) → ask_for cell (operation cell t) (wish_of errand) ≡ Some ask
-        → ((server cell i).up && writes (server cell i) ask) ≡ true → Answers i errand DiskFault p new
-        → AnswersAs cell t i (record (server cell i) { up = false; torn = Some ask }) (cell.faults ++ i ∷ []) new (IsStop cell t i errand) }
+        → (get_or p.members.items i no_member).message ≡ Some (Asked errand) → ask_for cell (operation cell t) (wish_of (due_of cell.cut errand)) ≡ Some ask
+        → ((server cell i).up && writes (server cell i) ask) ≡ true → Answers i (due_of cell.cut errand) DiskFault p new
+        → AnswersAs cell t i (record (server cell i) { up = false; torn = Some ask }) (cell.faults ++ i ∷ []) new (IsStop cell t i (due_of cell.cut errand)) }
 {}
 
-/// A request of an operation may be sent: its cell lets the operation ask just what the errand says.
+/// A request of an operation may be sent: its cell lets the operation ask just what the errand says, and a trim
+/// in place of an entry below the cut.
 pub fn requests_are_allowed()
     ensures { (cell : Cell) (t i : ℕ) (p : pending.Pending) (errand : errands.Errand) → IsPartOf cell t p → p.outcome ≡ None → i < length cell.servers
-        → (get_or p.members.items i no_member).message ≡ Some (Asked errand) → IsAllowed cell t errand }
+        → (get_or p.members.items i no_member).message ≡ Some (Asked errand) → IsAllowed cell t (due_of cell.cut errand) }
 {}
 
 /// A message of an operation that is lost takes these steps of the cell: it is sent, where it wasn't yet,
@@ -75,7 +76,7 @@ pub fn messages_are_lost()
 /// While it is undecided something is left, within the bounds of every loglet.
 pub fn less_is_left()
     ensures answered { (cell : Cell) (t i : ℕ) (p new : pending.Pending) (errand : errands.Errand) (told : Told) → IsPartOf cell t p → p.outcome ≡ None → i < length cell.servers
-        → (get_or p.members.items i no_member).message ≡ Some (Asked errand) → Answers i errand told p new → IsBelow (left_now new) (left_now p) }
+        → (get_or p.members.items i no_member).message ≡ Some (Asked errand) → Answers i (due_of cell.cut errand) told p new → IsBelow (left_now new) (left_now p) }
     ensures heard { (cell : Cell) (t i : ℕ) (p new : pending.Pending) (errand : errands.Errand) (told : Told) → QuorumLaw cell → IsPartOf cell t p → p.outcome ≡ None → i < length cell.servers
         → (get_or p.members.items i no_member).message ≡ Some (Answered errand told) → Hears cell.cut i errand told p new → IsBelow (left_now new) (left_now p) }
     ensures lost { (cell : Cell) (t i : ℕ) (p new : pending.Pending) → QuorumLaw cell → IsPartOf cell t p → p.outcome ≡ None → i < length cell.servers

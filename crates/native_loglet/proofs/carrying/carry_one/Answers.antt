@@ -1,24 +1,21 @@
-use Rattle.std.proofs.Common.{◌≡◌, ◌<◌, ◌∙◌, ap, sym, arith, length, get_or}
+use Rattle.std.proofs.Common.{◌≡◌, ◌<◌, ◌∙◌, refl, ap, sym, arith, length, get_or}
 use Rattle.log_server.specs.View.{View}
 use Rattle.native_plan.specs.declared.member.Member.{Member}
-use Rattle.native_plan.specs.Members.{no_member, turn_of, nth_out}
-use Rattle.fate_words.specs.Words.{pick_of}
+use Rattle.native_plan.specs.Members.{no_member, turn_of}
+use Rattle.fate_words.specs.Words.{fate_of}
 use Rattle.native_plan.proofs.Counts.{same_default}
-use Rattle.native_loglet.proofs.Rules.{there_is, nth_is_out, asks_of, rests_of, moved_by_loss, moved_by_answer, moved_by_request, if_ok, on_err}
+use Rattle.native_loglet.proofs.Rules.{there_is, asks_of, rests_of, moved_by_loss, moved_by_answer, moved_by_request, if_ok, on_err}
 use Rattle.native_loglet.proofs.Alike.{set_same}
 use Rattle.native_loglet.proofs.Serving.{wear_same, moves_wear, states_same, lost_failed, none_failed, asked_failed, is_lost_by, is_kept_by}
 use Rattle.native_loglet.specs.Natives.{states_in, down_in}
 use Rattle.native_loglet.proofs.Disks.{same_disks, put_disks}
 use Rattle.native_loglet.proofs.carrying.carry_one.Goals as goal
 
-pub pick-requires : goal.pick-requires
-pick-requires g c = omega (arith, c.requires.can.some, c.outstanding.ensures)
-
-pub pick-server-requires : goal.pick-server-requires
-pick-server-requires g c = omega (arith, c.pick.ensures.one, c.outstanding.ensures)
+pub picked-server-requires : goal.picked-server-requires
+picked-server-requires g c = c.requires.can.some
 
 pub lose-requires-clause-losses : goal.lose-requires-clause-losses
-lose-requires-clause-losses g c = c.requires.can.losses c.pick-server.result (rw c.pick-server.ensures.value (nth_is_out c.pick.result c.args.p.now.members.items (omega (arith, c.pick.ensures.one, c.outstanding.ensures))))
+lose-requires-clause-losses g c = c.requires.can.losses c.picked-server.result c.picked-server.ensures.out
 
 pub lose-requires-clause-members : goal.lose-requires-clause-members
 lose-requires-clause-members g c = omega (arith, c.requires.can.members, c.requires.can.few)
@@ -33,49 +30,49 @@ pub hear-requires-clause-server : goal.hear-requires-clause-server
 hear-requires-clause-server g c = c.requires.can.turns
 
 pub bounds-replicas-server : goal.bounds-replicas-server
-bounds-replicas-server g c = omega (arith, c.pick-server.ensures.here, c.requires.can.members)
+bounds-replicas-server g c = omega (arith, c.picked-server.ensures.here, c.requires.can.members)
 
-pub returns-then-is_lost-clause-moves : goal.returns-then-is_lost-clause-moves
-returns-then-is_lost-clause-moves g c = moved_by_loss _ _ c.args.word c.pick-server.result c.fate.result c.is_lost.result _ _ _ (c.pick-server.ensures.value ∙ ap (λ k. nth_out k c.args.p.now.members.items) (c.pick.ensures.value ∙ ap (pick_of c.args.word) c.outstanding.ensures)) c.fate.ensures c.is_lost.ensures c.if-is_lost.true c.pick-server.ensures.here (rw c.pick-server.ensures.value (nth_is_out c.pick.result c.args.p.now.members.items (omega (arith, c.pick.ensures.one, c.outstanding.ensures)))) c.lose.ensures
+pub returns-then-loses-clause-moves : goal.returns-then-loses-clause-moves
+returns-then-loses-clause-moves g c = moved_by_loss _ _ c.args.word c.picked-server.result (fate_of c.args.word) c.loses.result _ _ _ c.picked-server.ensures.value refl c.loses.ensures c.if-loses.true c.picked-server.ensures.here c.picked-server.ensures.out c.lose.ensures
 
 pub ask-requires-clause-there : goal.ask-requires-clause-there
 ask-requires-clause-there g c =
-    let member : c.index.result.now ≡ get_or c.args.p.now.members.items c.pick-server.result no_member = c.index.ensures ∙ same_default _ _ _ _ c.pick-server.ensures.here in
-    c.requires.can.asks c.pick-server.result c.in-Asks.errand (asks_of _ c.in-Asks.errand (ap (λ (m : Member). turn_of m.message) (sym member) ∙ sym c.turn.ensures ∙ c.in-Asks.is))
+    let member : c.index.result.now ≡ get_or c.args.p.now.members.items c.picked-server.result no_member = c.index.ensures ∙ same_default _ _ _ _ c.picked-server.ensures.here in
+    rw c.due-errand.ensures (c.requires.can.asks c.picked-server.result c.in-Asks.errand (asks_of _ c.in-Asks.errand (ap (λ (m : Member). turn_of m.message) (sym member) ∙ sym c.turn.ensures ∙ c.in-Asks.is)))
 
 pub returns-in-Asks-clause-moves : goal.returns-in-Asks-clause-moves
 returns-in-Asks-clause-moves g c =
-    let member : c.index.result.now ≡ get_or c.args.p.now.members.items c.pick-server.result no_member = c.index.ensures ∙ same_default _ _ _ _ c.pick-server.ensures.here in
-    let here : c.pick-server.result < length c.args.replicas.now = omega (arith, c.pick-server.ensures.here, c.requires.can.members) in
+    let member : c.index.result.now ≡ get_or c.args.p.now.members.items c.picked-server.result no_member = c.index.ensures ∙ same_default _ _ _ _ c.picked-server.ensures.here in
+    let here : c.picked-server.result < length c.args.replicas.now = omega (arith, c.picked-server.ensures.here, c.requires.can.members) in
     if_ok c.ask.result _ _
-    (λ failed a. moved_by_request _ _ c.args.word c.pick-server.result c.fate.result c.is_lost.result c.in-Asks.errand _ _ _ (get_or c.args.replicas.now c.pick-server.result c.index-replicas-server.result) c.ask.new.replica failed (c.pick-server.ensures.value ∙ ap (λ k. nth_out k c.args.p.now.members.items) (c.pick.ensures.value ∙ ap (pick_of c.args.word) c.outstanding.ensures)) c.fate.ensures c.is_lost.ensures c.if-is_lost.false c.pick-server.ensures.here here (ap (λ (m : Member). turn_of m.message) (sym member) ∙ sym c.turn.ensures ∙ c.in-Asks.is) (ap (λ (v : View). get_or c.args.replicas.now c.pick-server.result v) c.index-replicas-server.is) a)
-    c.ask.ensures.answers
+    (λ failed a. moved_by_request _ _ c.args.word c.picked-server.result (fate_of c.args.word) c.loses.result c.in-Asks.errand _ _ _ (get_or c.args.replicas.now c.picked-server.result c.index-replicas-server.result) c.ask.new.replica failed c.picked-server.ensures.value refl c.loses.ensures c.if-loses.false c.picked-server.ensures.here here (ap (λ (m : Member). turn_of m.message) (sym member) ∙ sym c.turn.ensures ∙ c.in-Asks.is) (ap (λ (v : View). get_or c.args.replicas.now c.picked-server.result v) c.index-replicas-server.is) a)
+    (rw c.due-errand.ensures at c.ask.ensures.answers)
 
 pub returns-in-Asks-clause-memory : goal.returns-in-Asks-clause-memory
 returns-in-Asks-clause-memory g c =
-    let here : c.pick-server.result < length c.args.replicas.now = omega (arith, c.pick-server.ensures.here, c.requires.can.members) in
-    on_err c.ask.result _ _ (λ same. set_same c.args.replicas.now c.pick-server.result c.index-replicas-server.result c.ask.new.replica here same) c.ask.ensures.memory
+    let here : c.picked-server.result < length c.args.replicas.now = omega (arith, c.picked-server.ensures.here, c.requires.can.members) in
+    on_err c.ask.result _ _ (λ same. set_same c.args.replicas.now c.picked-server.result c.index-replicas-server.result c.ask.new.replica here same) c.ask.ensures.memory
 
 pub returns-in-Tells-clause-moves : goal.returns-in-Tells-clause-moves
 returns-in-Tells-clause-moves g c =
-    let member : c.index.result.now ≡ get_or c.args.p.now.members.items c.pick-server.result no_member = c.index.ensures ∙ same_default _ _ _ _ c.pick-server.ensures.here in
-    moved_by_answer _ _ c.args.word c.pick-server.result c.fate.result c.is_lost.result _ _ _ (c.pick-server.ensures.value ∙ ap (λ k. nth_out k c.args.p.now.members.items) (c.pick.ensures.value ∙ ap (pick_of c.args.word) c.outstanding.ensures)) c.fate.ensures c.is_lost.ensures c.if-is_lost.false c.pick-server.ensures.here (ap (λ (m : Member). turn_of m.message) (sym member) ∙ sym c.turn.ensures ∙ c.in-Tells.is) c.hear.ensures
+    let member : c.index.result.now ≡ get_or c.args.p.now.members.items c.picked-server.result no_member = c.index.ensures ∙ same_default _ _ _ _ c.picked-server.ensures.here in
+    moved_by_answer _ _ c.args.word c.picked-server.result (fate_of c.args.word) c.loses.result _ _ _ c.picked-server.ensures.value refl c.loses.ensures c.if-loses.false c.picked-server.ensures.here (ap (λ (m : Member). turn_of m.message) (sym member) ∙ sym c.turn.ensures ∙ c.in-Tells.is) c.hear.ensures
 
 pub returns-in-Rests-clause-moves : goal.returns-in-Rests-clause-moves
 returns-in-Rests-clause-moves g c =
-    let member : c.index.result.now ≡ get_or c.args.p.now.members.items c.pick-server.result no_member = c.index.ensures ∙ same_default _ _ _ _ c.pick-server.ensures.here in
-    absurd (rests_of _ (ap (λ (m : Member). turn_of m.message) (sym member) ∙ sym c.turn.ensures ∙ c.in-Rests.is) (rw c.pick-server.ensures.value (nth_is_out c.pick.result c.args.p.now.members.items (omega (arith, c.pick.ensures.one, c.outstanding.ensures)))))
+    let member : c.index.result.now ≡ get_or c.args.p.now.members.items c.picked-server.result no_member = c.index.ensures ∙ same_default _ _ _ _ c.picked-server.ensures.here in
+    absurd (rests_of _ (ap (λ (m : Member). turn_of m.message) (sym member) ∙ sym c.turn.ensures ∙ c.in-Rests.is) c.picked-server.ensures.out)
 
-pub returns-then-is_lost-clause-wear : goal.returns-then-is_lost-clause-wear
-returns-then-is_lost-clause-wear g c = wear_same (states_in c.args.replicas.now)
+pub returns-then-loses-clause-wear : goal.returns-then-loses-clause-wear
+returns-then-loses-clause-wear g c = wear_same (states_in c.args.replicas.now)
 
 pub returns-in-Asks-clause-wear : goal.returns-in-Asks-clause-wear
 returns-in-Asks-clause-wear g c = if_ok c.ask.result _ _ (λ failed m. moves_wear _ _ _ _ _ _ _ _ failed c.requires.can m) (returns-in-Asks-clause-moves g c)
 
 pub returns-in-Asks-clause-spared : goal.returns-in-Asks-clause-spared
 returns-in-Asks-clause-spared g c =
-    let here : c.pick-server.result < length c.args.replicas.now = omega (arith, c.pick-server.ensures.here, c.requires.can.members) in
-    on_err c.ask.result _ _ (λ same. states_same c.args.replicas.now c.pick-server.result (get_or c.args.replicas.now c.pick-server.result c.index-replicas-server.result) c.ask.new.replica here (ap (λ (v : View). get_or c.args.replicas.now c.pick-server.result v) c.index-replicas-server.is) same) c.ask.ensures.spared
+    let here : c.picked-server.result < length c.args.replicas.now = omega (arith, c.picked-server.ensures.here, c.requires.can.members) in
+    on_err c.ask.result _ _ (λ same. states_same c.args.replicas.now c.picked-server.result (get_or c.args.replicas.now c.picked-server.result c.index-replicas-server.result) c.ask.new.replica here (ap (λ (v : View). get_or c.args.replicas.now c.picked-server.result v) c.index-replicas-server.is) same) c.ask.ensures.spared
 
 pub returns-in-Tells-clause-wear : goal.returns-in-Tells-clause-wear
 returns-in-Tells-clause-wear g c = wear_same (states_in c.args.replicas.now)
@@ -83,30 +80,30 @@ returns-in-Tells-clause-wear g c = wear_same (states_in c.args.replicas.now)
 pub returns-in-Rests-clause-wear : goal.returns-in-Rests-clause-wear
 returns-in-Rests-clause-wear g c = wear_same (states_in c.args.replicas.now)
 
-pub returns-then-is_lost-clause-failed : goal.returns-then-is_lost-clause-failed
-returns-then-is_lost-clause-failed g c = lost_failed c.args.word (down_in c.args.replicas.now) (down_in c.args.replicas.now) (is_lost_by c.fate.result c.is_lost.result c.args.word c.fate.ensures c.is_lost.ensures c.if-is_lost.true)
+pub returns-then-loses-clause-failed : goal.returns-then-loses-clause-failed
+returns-then-loses-clause-failed g c = lost_failed c.args.word (down_in c.args.replicas.now) (down_in c.args.replicas.now) (is_lost_by (fate_of c.args.word) c.loses.result c.args.word refl c.loses.ensures c.if-loses.true)
 
 pub returns-in-Asks-clause-failed : goal.returns-in-Asks-clause-failed
 returns-in-Asks-clause-failed g c =
-    let member : c.index.result.now ≡ get_or c.args.p.now.members.items c.pick-server.result no_member = c.index.ensures ∙ same_default _ _ _ _ c.pick-server.ensures.here in
-    let here : c.pick-server.result < length c.args.replicas.now = omega (arith, c.pick-server.ensures.here, c.requires.can.members) in
-    let was : View = get_or c.args.replicas.now c.pick-server.result c.index-replicas-server.result in
-    let ask = c.requires.can.asks c.pick-server.result c.in-Asks.errand (asks_of _ c.in-Asks.errand (ap (λ (m : Member). turn_of m.message) (sym member) ∙ sym c.turn.ensures ∙ c.in-Asks.is)) in
+    let member : c.index.result.now ≡ get_or c.args.p.now.members.items c.picked-server.result no_member = c.index.ensures ∙ same_default _ _ _ _ c.picked-server.ensures.here in
+    let here : c.picked-server.result < length c.args.replicas.now = omega (arith, c.picked-server.ensures.here, c.requires.can.members) in
+    let was : View = get_or c.args.replicas.now c.picked-server.result c.index-replicas-server.result in
+    let ask = c.requires.can.asks c.picked-server.result c.in-Asks.errand (asks_of _ c.in-Asks.errand (ap (λ (m : Member). turn_of m.message) (sym member) ∙ sym c.turn.ensures ∙ c.in-Asks.is)) in
     if_ok c.ask.result _ _
-    (λ failed a. asked_failed c.args.word c.args.replicas.now c.pick-server.result was c.ask.new.replica ask.0 a.told failed (is_kept_by c.fate.result c.is_lost.result c.args.word c.fate.ensures c.is_lost.ensures c.if-is_lost.false) (there_is c.args.replicas.now c.pick-server.result _ here) (a.tells ask.0 ask.1) a.fault)
-    c.ask.ensures.answers
+    (λ failed a. asked_failed c.args.word c.args.replicas.now c.picked-server.result was c.ask.new.replica ask.0 a.told failed (is_kept_by (fate_of c.args.word) c.loses.result c.args.word refl c.loses.ensures c.if-loses.false) (there_is c.args.replicas.now c.picked-server.result _ here) (a.tells ask.0 ask.1) a.fault)
+    (rw c.due-errand.ensures at c.ask.ensures.answers)
 
 pub returns-in-Tells-clause-failed : goal.returns-in-Tells-clause-failed
-returns-in-Tells-clause-failed g c = none_failed c.args.word (down_in c.args.replicas.now) (is_kept_by c.fate.result c.is_lost.result c.args.word c.fate.ensures c.is_lost.ensures c.if-is_lost.false)
+returns-in-Tells-clause-failed g c = none_failed c.args.word (down_in c.args.replicas.now) (is_kept_by (fate_of c.args.word) c.loses.result c.args.word refl c.loses.ensures c.if-loses.false)
 
 pub returns-in-Rests-clause-failed : goal.returns-in-Rests-clause-failed
-returns-in-Rests-clause-failed g c = none_failed c.args.word (down_in c.args.replicas.now) (is_kept_by c.fate.result c.is_lost.result c.args.word c.fate.ensures c.is_lost.ensures c.if-is_lost.false)
+returns-in-Rests-clause-failed g c = none_failed c.args.word (down_in c.args.replicas.now) (is_kept_by (fate_of c.args.word) c.loses.result c.args.word refl c.loses.ensures c.if-loses.false)
 
-pub returns-then-is_lost-clause-disks : goal.returns-then-is_lost-clause-disks
-returns-then-is_lost-clause-disks g c = same_disks c.args.replicas.now
+pub returns-then-loses-clause-disks : goal.returns-then-loses-clause-disks
+returns-then-loses-clause-disks g c = same_disks c.args.replicas.now
 
 pub returns-in-Asks-clause-disks : goal.returns-in-Asks-clause-disks
-returns-in-Asks-clause-disks g c = put_disks c.args.replicas.now c.pick-server.result c.ask.new.replica c.ask.ensures.survives
+returns-in-Asks-clause-disks g c = put_disks c.args.replicas.now c.picked-server.result c.ask.new.replica c.ask.ensures.survives
 
 pub returns-in-Tells-clause-disks : goal.returns-in-Tells-clause-disks
 returns-in-Tells-clause-disks g c = same_disks c.args.replicas.now

@@ -36,7 +36,7 @@ put_back t p q old new (Err e) was u same = λ n. by n (cases_eq n t)
 
 pub returns-in-Some-clause-carries : goal.returns-in-Some-clause-carries
 returns-in-Some-clause-carries g c =
-    carried_at c.args.entries.now c.args.cut c.args.number c.args.word c.in-Some.p.now c.carry_one.new.p c.args.pending.now.entries (c.get_mut.follows.lender c.carry_one.new.p).entries c.args.replicas.now c.carry_one.new.replicas c.carry_one.result
+    carried_at c.args.entries.now.items c.args.cut c.args.number c.args.word c.in-Some.p.now c.carry_one.new.p c.args.pending.now.entries (c.get_mut.follows.lender c.carry_one.new.p).entries c.args.replicas.now c.carry_one.new.replicas c.carry_one.result
     (sym c.in-Some.ensures.value) ((c.get_mut.follows.holds c.carry_one.new.p).3 (ap is_some (sym c.in-Some.ensures.value))) c.carry_one.ensures.moves
 
 pub returns-in-Some-clause-pending : goal.returns-in-Some-clause-pending

@@ -5,7 +5,7 @@ use Rattle.loglet_api.specs.declared.call.LogletAnswer.TheVariants.{Carried, Ref
 use Rattle.loglet_api.specs.Step.{LogletStep}
 use Rattle.log_server.specs.View.{View}
 use Rattle.native_loglet.specs.Natives.{Native, native_of, server_in, loglet_of}
-use Rattle.native_loglet.proofs.Alike.{IsOwned, Alike, shows, alike_owned, step_alike, entries_spelled, entries_small, cut_small}
+use Rattle.native_loglet.proofs.Alike.{IsOwned, Alike, shows, alike_owned, step_alike, entries_spelled, entries_small}
 use Rattle.native_loglet.proofs.Messages.{can_carry}
 use Rattle.native_loglet.proofs.Disks.{lent_back}
 use Rattle.native_loglet.specs.Copies.{copy_in, kept_after}
@@ -25,25 +25,19 @@ pub carry_keeping-requires-clause-can : goal.carry_keeping-requires-clause-can
 carry_keeping-requires-clause-can g c =
     let i = c.self.inside in
     let a : Native = native_of i.room i.entries.items i.replicas.items i.marks i.pending.entries i.strays.strays in
-    rw (c.number.ensures, c.deref.ensures.value, c.deref_mut.ensures.value) (can_carry a _ c.args.ticket c.args.word (shows a _ c.self.view_is) c.self.invariant c.requires)
+    rw (c.number.ensures, c.deref_mut.ensures.value) (can_carry a _ c.args.ticket c.args.word (shows a _ c.self.view_is) c.self.invariant c.requires)
 
 pub carry_keeping-requires-clause-spelled : goal.carry_keeping-requires-clause-spelled
 carry_keeping-requires-clause-spelled g c =
     let i = c.self.inside in
     let a : Native = native_of i.room i.entries.items i.replicas.items i.marks i.pending.entries i.strays.strays in
-    rw c.deref.ensures.value (entries_spelled a c.self.invariant)
+    entries_spelled a c.self.invariant
 
 pub carry_keeping-requires-clause-small : goal.carry_keeping-requires-clause-small
 carry_keeping-requires-clause-small g c =
     let i = c.self.inside in
     let a : Native = native_of i.room i.entries.items i.replicas.items i.marks i.pending.entries i.strays.strays in
-    rw c.deref.ensures.value (entries_small a c.self.invariant)
-
-pub carry_keeping-requires-clause-cut : goal.carry_keeping-requires-clause-cut
-carry_keeping-requires-clause-cut g c =
-    let i = c.self.inside in
-    let a : Native = native_of i.room i.entries.items i.replicas.items i.marks i.pending.entries i.strays.strays in
-    cut_small a c.self.invariant
+    entries_small a c.self.invariant
 
 pub invariant_of-self : goal.invariant_of-self
 invariant_of-self g c =
@@ -70,7 +64,7 @@ invariant_of-self-2 g c =
     let a : Native = native_of i.room i.entries.items i.replicas.items i.marks i.pending.entries i.strays.strays in
     let back = lent_back i.replicas.len i.replicas.items c.carry_keeping.new.replicas i.replicas.ok.0 (c.carry_keeping.auto.replicas ∙ ap (λ (vs : List View). length vs) c.deref_mut.ensures.value) in
     subst (λ (vs : List View). IsOwned (native_of i.room i.entries.items vs c.after-self-inside.result c.carry_keeping.new.pending.entries c.carry_keeping.new.strays.strays)) (sym back)
-    (carries_whole a c.carry_keeping.new.replicas c.carry_keeping.new.pending.entries c.carry_keeping.new.strays.strays c.after-self-inside.result _ c.args.ticket c.args.word c.in-Ok.failed (shows a _ c.self.view_is) c.self.invariant c.requires (rw (c.number.ensures, c.deref.ensures.value, c.deref_mut.ensures.value) at c.in-Ok.ensures.carries) (rw (c.number.ensures, c.deref.ensures.value) at c.in-Ok.ensures.keeps) c.after-self-inside.ensures).0
+    (carries_whole a c.carry_keeping.new.replicas c.carry_keeping.new.pending.entries c.carry_keeping.new.strays.strays c.after-self-inside.result _ c.args.ticket c.args.word c.in-Ok.failed (shows a _ c.self.view_is) c.self.invariant c.requires (rw (c.number.ensures, c.deref_mut.ensures.value) at c.in-Ok.ensures.carries) (rw c.number.ensures at c.in-Ok.ensures.keeps) c.after-self-inside.ensures).0
 
 pub returns-clause-step : goal.returns-clause-step
 returns-clause-step g c =
@@ -78,7 +72,7 @@ returns-clause-step g c =
     let a : Native = native_of i.room i.entries.items i.replicas.items i.marks i.pending.entries i.strays.strays in
     let back = lent_back i.replicas.len i.replicas.items c.carry_keeping.new.replicas i.replicas.ok.0 (c.carry_keeping.auto.replicas ∙ ap (λ (vs : List View). length vs) c.deref_mut.ensures.value) in
     subst (λ (vs : List View). LogletStep c.args.self.now.loglet (Carry c.args.ticket c.args.word) Carried (loglet_of (native_of i.room i.entries.items vs c.after-self-inside.result c.carry_keeping.new.pending.entries c.carry_keeping.new.strays.strays))) (sym back)
-    (carries_whole a c.carry_keeping.new.replicas c.carry_keeping.new.pending.entries c.carry_keeping.new.strays.strays c.after-self-inside.result _ c.args.ticket c.args.word c.in-Ok.failed (shows a _ c.self.view_is) c.self.invariant c.requires (rw (c.number.ensures, c.deref.ensures.value, c.deref_mut.ensures.value) at c.in-Ok.ensures.carries) (rw (c.number.ensures, c.deref.ensures.value) at c.in-Ok.ensures.keeps) c.after-self-inside.ensures).1
+    (carries_whole a c.carry_keeping.new.replicas c.carry_keeping.new.pending.entries c.carry_keeping.new.strays.strays c.after-self-inside.result _ c.args.ticket c.args.word c.in-Ok.failed (shows a _ c.self.view_is) c.self.invariant c.requires (rw (c.number.ensures, c.deref_mut.ensures.value) at c.in-Ok.ensures.carries) (rw c.number.ensures at c.in-Ok.ensures.keeps) c.after-self-inside.ensures).1
 
 pub returns-in_default-clause-serves : goal.returns-in_default-clause-serves
 returns-in_default-clause-serves g c =
@@ -120,7 +114,7 @@ returns-clause-goes g c =
     let a : Native = native_of i.room i.entries.items i.replicas.items i.marks i.pending.entries i.strays.strays in
     let back = lent_back i.replicas.len i.replicas.items c.carry_keeping.new.replicas i.replicas.ok.0 (c.carry_keeping.auto.replicas ∙ ap (λ (vs : List View). length vs) c.deref_mut.ensures.value) in
     subst (λ (vs : List View). NativeStep c.args.self.now.parts (Carry c.args.ticket c.args.word) Carried (native_of i.room i.entries.items vs c.after-self-inside.result c.carry_keeping.new.pending.entries c.carry_keeping.new.strays.strays)) (sym back)
-    (goes_from a _ _ _ _ c.self.view_is c.requires (λ can. carries_goes a c.carry_keeping.new.replicas c.carry_keeping.new.pending.entries c.carry_keeping.new.strays.strays c.after-self-inside.result c.args.ticket c.args.word c.in-Ok.failed c.self.invariant can (rw (c.number.ensures, c.deref.ensures.value, c.deref_mut.ensures.value) at c.in-Ok.ensures.carries) (rw (c.number.ensures, c.deref.ensures.value) at c.in-Ok.ensures.keeps) c.after-self-inside.ensures))
+    (goes_from a _ _ _ _ c.self.view_is c.requires (λ can. carries_goes a c.carry_keeping.new.replicas c.carry_keeping.new.pending.entries c.carry_keeping.new.strays.strays c.after-self-inside.result c.args.ticket c.args.word c.in-Ok.failed c.self.invariant can (rw (c.number.ensures, c.deref_mut.ensures.value) at c.in-Ok.ensures.carries) (rw c.number.ensures at c.in-Ok.ensures.keeps) c.after-self-inside.ensures))
 
 pub returns-in_default-clause-disks : goal.returns-in_default-clause-disks
 returns-in_default-clause-disks g c =
@@ -140,7 +134,7 @@ pub returns-clause-keeps : goal.returns-clause-keeps
 returns-clause-keeps g c =
     let i = c.self.inside in
     let a : Native = native_of i.room i.entries.items i.replicas.items i.marks i.pending.entries i.strays.strays in
-    subst (λ (x : NativeView). c.carry_keeping.new.strays.strays ≡ kept_after (copy_in x.parts c.args.ticket c.args.word) x.parts.strays) c.self.view_is (rw (c.number.ensures, c.deref.ensures.value) at c.in-Ok.ensures.keeps)
+    subst (λ (x : NativeView). c.carry_keeping.new.strays.strays ≡ kept_after (copy_in x.parts c.args.ticket c.args.word) x.parts.strays) c.self.view_is (rw c.number.ensures at c.in-Ok.ensures.keeps)
 
 pub returns-in_default-clause-spares : goal.returns-in_default-clause-spares
 returns-in_default-clause-spares g c = c.in_default.ensures.strays_stay ∙ ap (λ (x : NativeView). x.parts.strays) c.self.view_is
