@@ -2,11 +2,12 @@
 //!
 //! - `topic`: what the cases of a file are about.
 //! - `disks`: a disk. `records`: records in bytes.
-//! - `workbench`: something that keeps its records on a disk, as `journals`, `registers`, `servers` and `stores`.
+//! - `workbench`: something that keeps its records on a disk, as `journals`, `pairs`, `registers`, `servers` and `stores`.
 #![tactic(auto)]
 
 mod disks;
 mod journals;
+mod pairs;
 mod records;
 mod registers;
 mod servers;
@@ -18,9 +19,10 @@ use anyhow::Result;
 use topic::Kept;
 use worked_cases::cases::print_file;
 
-const TOPICS: [Kept; 6] = [
+const TOPICS: [Kept; 7] = [
     Kept::Disks,
     Kept::Journals,
+    Kept::Pairs,
     Kept::Records,
     Kept::Registers,
     Kept::Servers,

@@ -6,6 +6,7 @@ use crate::workbench::Workbench;
 use anyhow::Result;
 use disk_model::FailDisk;
 use journal_core::Journal;
+use journal_pair::JournalPair;
 use log_server::LogServer;
 use meta_register::MetaRegister;
 use std::alloc::Global;
@@ -16,6 +17,7 @@ use worked_cases::cases::{Line, Topic, play_on};
 pub enum Kept {
     Disks,
     Journals,
+    Pairs,
     Records,
     Registers,
     Servers,
@@ -27,6 +29,7 @@ impl Topic for Kept {
         match self {
             Kept::Disks => "disks",
             Kept::Journals => "journals",
+            Kept::Pairs => "pairs",
             Kept::Records => "records",
             Kept::Registers => "registers",
             Kept::Servers => "servers",
@@ -40,6 +43,10 @@ impl Topic for Kept {
             Kept::Records => play_on(alloc, &mut RecordBench::new(alloc), with, calls),
             Kept::Journals => {
                 let mut bench = Workbench::<Journal<FailDisk>>::new(alloc);
+                play_on(alloc, &mut bench, with, calls)
+            }
+            Kept::Pairs => {
+                let mut bench = Workbench::<JournalPair<FailDisk>>::new(alloc);
                 play_on(alloc, &mut bench, with, calls)
             }
             Kept::Registers => {

@@ -1,0 +1,5 @@
+pub mod Records
+pub mod Layout
+pub mod Cut
+pub mod Journal
+pub mod Kept

@@ -1,0 +1,143 @@
+//! Records in the place of others.
+ghost use Rattle.std.specs.Prelude.{◌≡◌, ◌≢◌, ◌⊎◌, ◌+◌, ◌-◌, ◌^◌, ◌<◌, ◌≤◌, ℕ, true, false, not, [], length, nat_lt, IfOk, OnOk, IsErrOf};
+ghost use Rattle.disk_model.specs.Disk.{reads, IsSynced, Rose};
+ghost use Rattle.disk_model.specs.Crash.{AnyCrash};
+ghost use Rattle.journal_core.specs.Kept.{payloads};
+ghost use Rattle.journal_pair.specs.Records.{records_of};
+ghost use Rattle.journal_pair.specs.Layout.{Stands, BothLie, IsFree, spelled};
+
+use crate::area::{Area, HEADER};
+use crate::cut::cut_synced;
+use crate::header::{SELECTOR, selector, write_slot};
+use crate::layout::{CLOSED, OPEN};
+use disk_model::{Disk, WriteFault, write_synced};
+use journal_core::Fault;
+use std::alloc::{AllocError, Global};
+
+// Lays these records into an area of their own, and then selects it: so a crash leaves the area of before whole, or the
+// new one. At most four writes.
+pub(crate) fn replace<D: Disk>(
+    alloc: Global,
+    disk: &mut D,
+    area: Area,
+    records: &[Vec<u8>],
+) -> Result<Area, Fault>
+    requires fits { area.base + area.len + 1 < 2 ^ 64 }
+    requires stands { Stands (records_of (reads (D.view disk.old))) area (reads (D.view disk.old)) }
+    requires synced { IsSynced (D.view disk.old) }
+    ensures ok { IfOk result (λ next. Stands (payloads records.now) next (reads (D.view disk.new))) }
+    ensures fits { IfOk result (λ next. next.base + next.len + 1 < 2 ^ 64) }
+    ensures any_crash { AnyCrash (D.view disk.old).timeline (D.view disk.new).timeline (λ bytes. (records_of bytes ≡ records_of (reads (D.view disk.old))) ⊎ (records_of bytes ≡ payloads records.now)) }
+    ensures memory { IsErrOf result Fault.Memory → Stands (records_of (reads (D.view disk.old))) area (reads (D.view disk.new)) }
+    ensures synced { OnOk result (IsSynced (D.view disk.new)) }
+    ensures memory_synced { IsErrOf result Fault.Memory → IsSynced (D.view disk.new) }
+    ensures failed { IsErrOf result Fault.Disk → Rose (D.view disk.old).faults (D.view disk.new).faults }
+    ensures faults { (D.view disk.old).faults ≤ (D.view disk.new).faults }
+    ensures no_fault { OnOk result ((D.view disk.new).faults ≡ (D.view disk.old).faults) }
+    ensures no_fault_memory { IsErrOf result Fault.Memory → (D.view disk.new).faults ≡ (D.view disk.old).faults }
+    ensures armed { (D.view disk.new).armed ≤ (D.view disk.old).armed }
+    ensures within { (D.view disk.old).armed ≤ (D.view disk.new).armed + 4 }
+    ensures ok_armed { OnOk result (nat_lt 0 (D.view disk.new).armed ≡ nat_lt 0 (D.view disk.old).armed) }
+    ensures memory_armed { IsErrOf result Fault.Memory → nat_lt 0 (D.view disk.new).armed ≡ nat_lt 0 (D.view disk.old).armed }
+    ensures running { OnOk result ((D.view disk.new).stopped ≡ false) }
+    ensures memory_running { (D.view disk.old).stopped ≡ false → IsErrOf result Fault.Memory → (D.view disk.new).stopped ≡ false }
+{
+    let next = lay(alloc, disk, area, records)?;
+    write_synced(disk, SELECTOR, &[selector(next.second)])?;
+    cut_behind(disk, next)?;
+    Ok(next)
+}
+
+// Lays these records into the area that isn't selected.
+fn lay<D: Disk>(alloc: Global, disk: &mut D, area: Area, records: &[Vec<u8>]) -> Result<Area, Fault>
+    requires fits { area.base + area.len + 1 < 2 ^ 64 }
+    requires stands { Stands (records_of (reads (D.view disk.old))) area (reads (D.view disk.old)) }
+    requires synced { IsSynced (D.view disk.old) }
+    ensures ok { IfOk result (λ next. BothLie (records_of (reads (D.view disk.old))) area (payloads records.now) next (reads (D.view disk.new))) }
+    ensures still { OnOk result (Stands (records_of (reads (D.view disk.old))) area (reads (D.view disk.new))) }
+    ensures fits { IfOk result (λ next. next.base + next.len + 1 < 2 ^ 64) }
+    ensures any_crash { AnyCrash (D.view disk.old).timeline (D.view disk.new).timeline (λ bytes. records_of bytes ≡ records_of (reads (D.view disk.old))) }
+    ensures memory { IsErrOf result Fault.Memory → Stands (records_of (reads (D.view disk.old))) area (reads (D.view disk.new)) }
+    ensures synced { OnOk result (IsSynced (D.view disk.new)) }
+    ensures memory_synced { IsErrOf result Fault.Memory → IsSynced (D.view disk.new) }
+    ensures failed { IsErrOf result Fault.Disk → Rose (D.view disk.old).faults (D.view disk.new).faults }
+    ensures faults { (D.view disk.old).faults ≤ (D.view disk.new).faults }
+    ensures no_fault { OnOk result ((D.view disk.new).faults ≡ (D.view disk.old).faults) }
+    ensures no_fault_memory { IsErrOf result Fault.Memory → (D.view disk.new).faults ≡ (D.view disk.old).faults }
+    ensures armed { (D.view disk.new).armed ≤ (D.view disk.old).armed }
+    ensures within { (D.view disk.old).armed ≤ (D.view disk.new).armed + 2 }
+    ensures ok_armed { OnOk result (nat_lt 0 (D.view disk.new).armed ≡ nat_lt 0 (D.view disk.old).armed) }
+    ensures memory_armed { IsErrOf result Fault.Memory → nat_lt 0 (D.view disk.new).armed ≡ nat_lt 0 (D.view disk.old).armed }
+    ensures running { OnOk result ((D.view disk.new).stopped ≡ false) }
+    ensures memory_running { (D.view disk.old).stopped ≡ false → IsErrOf result Fault.Memory → (D.view disk.new).stopped ≡ false }
+{
+    let bytes = spell(alloc, records)?;
+    let next = beside(area, bytes.len() as u64);
+    write_synced(disk, next.base, &bytes)?;
+    write_slot(disk, next)?;
+    Ok(next)
+}
+
+// An area of n bytes that leaves the bytes of the other one alone: before it where there is room, else right behind it.
+fn beside(area: Area, n: u64) -> Area
+    requires fits { area.base + area.len + 1 < 2 ^ 64 }
+    requires gate { 1 ≤ n }
+    requires short { n < 2 ^ 63 }
+    ensures slots { result.second ≡ not area.second }
+    ensures free { IsFree area result.base n }
+    ensures length { result.len + 1 ≡ n }
+{
+    let base = if HEADER + n <= area.base {
+        HEADER
+    } else {
+        area.base + area.len + 1
+    };
+    Area {
+        second: !area.second,
+        base,
+        len: n - 1,
+    }
+}
+
+// The bytes of an area with these records.
+fn spell(alloc: Global, records: &[Vec<u8>]) -> Result<Vec<u8>, AllocError>
+    ensures { IfOk result (λ v. v.items ≡ spelled (payloads records.now)) }
+{
+    let mut bytes = Vec::new(alloc);
+    for record in records {
+        bytes.push(OPEN)?;
+        bytes.extend_from_slice(&(record.len() as u64).to_be_bytes())?;
+        bytes.extend_from_slice(record)?;
+    }
+    bytes.push(CLOSED)?;
+    Ok(bytes)
+}
+
+// Cuts what lies behind the selected area. Where that is refused for want of memory it stays.
+fn cut_behind<D: Disk>(disk: &mut D, area: Area) -> Result<(), Fault>
+    requires fits { area.base + area.len + 1 < 2 ^ 64 }
+    requires stands { Stands (records_of (reads (D.view disk.old))) area (reads (D.view disk.old)) }
+    requires synced { IsSynced (D.view disk.old) }
+    requires running { (D.view disk.old).stopped ≡ false }
+    ensures ok { OnOk result (Stands (records_of (reads (D.view disk.old))) area (reads (D.view disk.new))) }
+    ensures any_crash { AnyCrash (D.view disk.old).timeline (D.view disk.new).timeline (λ bytes. records_of bytes ≡ records_of (reads (D.view disk.old))) }
+    ensures memory { IsErrOf result Fault.Memory → ⊥ }
+    ensures synced { OnOk result (IsSynced (D.view disk.new)) }
+    ensures failed { IsErrOf result Fault.Disk → Rose (D.view disk.old).faults (D.view disk.new).faults }
+    ensures faults { (D.view disk.old).faults ≤ (D.view disk.new).faults }
+    ensures no_fault { OnOk result ((D.view disk.new).faults ≡ (D.view disk.old).faults) }
+    ensures armed { (D.view disk.new).armed ≤ (D.view disk.old).armed }
+    ensures within { (D.view disk.old).armed ≤ (D.view disk.new).armed + 1 }
+    ensures ok_armed { OnOk result (nat_lt 0 (D.view disk.new).armed ≡ nat_lt 0 (D.view disk.old).armed) }
+    ensures running { OnOk result ((D.view disk.new).stopped ≡ false) }
+{
+    let end = area.base + area.len + 1;
+    if disk.len() <= end {
+        return Ok(());
+    }
+    match cut_synced(disk, end) {
+        Ok(()) => Ok(()),
+        Err(WriteFault::Memory) => Ok(()),
+        Err(WriteFault::Failed) => Err(Fault::Disk),
+    }
+}

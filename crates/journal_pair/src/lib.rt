@@ -1,0 +1,19 @@
+//! Journals over two areas of a disk, of which one is selected: records that may be replaced by others at once, each of
+//! them there for good before it is acknowledged.
+//!
+//! - [`JournalPair`]: the records, and what a crash leaves of them.
+//! - [`Fault`], [`AppendFault`], [`Refused`]: how its calls fail, as those of a journal.
+#![tactic(auto)]
+
+mod area;
+mod compact;
+mod cut;
+mod header;
+mod layout;
+mod open;
+mod pair;
+mod scan;
+mod torn;
+
+pub use journal_core::{AppendFault, Fault, Refused};
+pub use pair::JournalPair;
