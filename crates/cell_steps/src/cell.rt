@@ -1,15 +1,17 @@
 //! A cell: its servers, every message ever sent, and its operations.
 ghost use Rattle.std.specs.Prelude.{◌≡◌, ℕ, ◌+◌, ◌<◌, ◌≤◌, length, OnOk, IfOk, Some, not, IsTrue, slice_get, option_map};
-ghost use Rattle.quorum_cell.specs.Servers.{told as told_by, length_of as length_by};
-ghost use Rattle.quorum_cell.specs.Cells.{start, operation, server as server_of};
+ghost use Rattle.quorum_cell.specs.Servers.{told as told_by, length_of as length_by, is_sealed as is_sealed_by};
+ghost use Rattle.quorum_cell.specs.Cells.{start, operation, server as server_of, down as down_of, is_shut as is_shut_by};
 ghost use Rattle.quorum_cell.specs.Steps.{is_full as is_full_by, wanted as wanted_by, cut_after as cut_by, entries_after, begun as begun_by, admit as admitted, with_fault as faulted, begin as begun, ask_for as asked, send as after_send, request_comes as after_request, request_stops as after_stop, waits as waits_of, reply_comes as after_reply, lose as after_loss, restart as restarted, restart_fails as after_failed_restart, decide as after_decide, cap_after as cap_by, give as after_give, take_outcome as after_take, forget as after_forget, cell_step};
 ghost use Rattle.quorum_cell.specs.Law.{IsLawful};
+ghost use Rattle.cell_views.specs.Views.{counted};
 ghost use Rattle.cell_steps.specs.Serving.{AskFits, served, replied};
 
 use crate::server::ServerState;
 use crate::tally::OperationState;
 use delos_types::entry::Entry;
 use delos_types::numbers::Ticket;
+use majority_rule::majority::majority;
 use quorum_cell::message::{Ask, Reply, Request, Told};
 use quorum_cell::operation::{Aim, CellStep, Loss, Outcome, Wish};
 use std::alloc::{AllocError, Global};
@@ -110,6 +112,81 @@ impl CellState {
         self.servers
             .get(server as usize)
             .map(|server| server.length())
+    }
+
+    /// How many servers it has.
+    pub fn servers(&self) -> u32
+        requires { length self.now.servers ≤ 64 }
+        ensures { result ≡ length self.now.servers }
+    {
+        self.servers.len() as u32
+    }
+
+    /// The greatest number of entries.
+    pub fn room(&self) -> u64
+        ensures { result ≡ self.now.room }
+    {
+        self.room
+    }
+
+    /// The greatest number of operations.
+    pub fn limit(&self) -> u64
+        ensures { result ≡ self.now.limit }
+    {
+        self.limit
+    }
+
+    /// How many faults came, in a word that stands still at its end.
+    pub fn faults(&self) -> u64
+        ensures { result ≡ counted (length self.now.faults) }
+    {
+        self.faults.len() as u64
+    }
+
+    /// How many servers are down.
+    #[tactic(auto, using(majority_rule::proofs::Majorities::votes_within))]
+    pub fn down(&self) -> u32
+        requires { length self.now.servers ≤ 64 }
+        ensures { result ≡ down_of self.now }
+    {
+        let mut down = 0;
+        for server in 0..self.servers() {
+            if !self.is_up(server) {
+                down += 1;
+            }
+        }
+        down
+    }
+
+    /// Whether more than half of the servers are sealed.
+    #[tactic(auto, using(majority_rule::proofs::Majorities::votes_within))]
+    pub fn is_shut(&self) -> bool
+        requires { length self.now.servers ≤ 64 }
+        ensures { result ≡ is_shut_by self.now }
+    {
+        let mut sealed = 0;
+        for server in 0..self.servers() {
+            if self.is_sealed(server) {
+                sealed += 1;
+            }
+        }
+        majority(self.servers()) <= sealed
+    }
+
+    fn is_sealed(&self, server: u32) -> bool
+        ensures { result ≡ is_sealed_by (server_of self.now server) }
+    {
+        match self.servers.get(server as usize) {
+            Some(server) => server.is_sealed(),
+            None => false,
+        }
+    }
+
+    /// How many entries were begun.
+    pub fn size(&self) -> u64
+        ensures { result ≡ length self.now.entries }
+    {
+        self.entries.len() as u64
     }
 
     /// How many operations were begun.

@@ -2,7 +2,7 @@
 ghost use Rattle.std.specs.Prelude.{◌≡◌, ℕ, ◌+◌, ◌-◌, ◌^◌, ◌<◌, ◌≤◌, [], length, drop, true, false, OnOk, IfOk, None, Some};
 ghost use Rattle.std.specs.Option.{ForSome};
 ghost use Rattle.quorum_cell.specs.declared.message.Ask.TheVariants.{Read};
-ghost use Rattle.quorum_cell.specs.Servers.{told_up, told as told_by, writes as writes_of, written, restarted as restarted_by, length_of, told_place as told_place_of};
+ghost use Rattle.quorum_cell.specs.Servers.{told_up, told as told_by, writes as writes_of, written, restarted as restarted_by, length_of, is_sealed as is_sealed_by, told_place as told_place_of};
 ghost use Rattle.cell_steps.specs.Serving.{AskFits};
 
 use delos_types::entry::Entry;
@@ -73,6 +73,12 @@ impl ServerState {
         ensures { result ≡ self.now.up }
     {
         self.up
+    }
+
+    pub fn is_sealed(&self) -> bool
+        ensures { result ≡ is_sealed_by self.now }
+    {
+        self.sealed_at.is_some()
     }
 
     /// Its answer to what it is asked.

@@ -85,6 +85,7 @@ fresh_law may floor shapes nodes shelf =
       cells = shaped_told shapes shelf.each;
       owners = λ i t who h. absurd (false≢true h);
       ends = λ i n h. absurd (false≢true h);
+      placed = λ i p h. absurd (false≢true h);
       register = record {
         count = refl;
         given = given_first;

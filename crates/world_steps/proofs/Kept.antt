@@ -17,7 +17,7 @@ use Rattle.legal_journal.proofs.Sound.{StateOk}
 use Rattle.legal_journal.proofs.Legal.{sound, goes_on}
 use Rattle.fabric_core.proofs.Kept.{legal_more, state_more}
 use Rattle.world_steps.specs.Parts.{Register, Node, World, no_cell, no_node, cell_at, node_at, shelf_of}
-use Rattle.world_steps.specs.Events.{is_begin_of, is_owner, ends, was_sealed_at}
+use Rattle.world_steps.specs.Events.{is_begin_of, is_owner, ends, was_sealed_at, places, was_placed_at}
 use Rattle.world_steps.specs.Laws.{IsCellTold, IsRegisterTold, IsFront, WorldLaw}
 
 -- a change at i of a list, and of what is told at i
@@ -84,8 +84,9 @@ module _ (may : ℕ → Entry → Type 0) (floor : List Entry → ℕ → Type 0
   pub event_kept : (cells : List Cell) (r : Register) (e : Event) → MayHappen (state_of w.events) may floor (shelf_of w) e → map (λ (c : Cell). length c.servers) cells ≡ shelf_of w → ((k : ℕ) → IsCellTold ((after (state_of w.events) e.who (move e)).cells k) (cell_at cells k)) → IsRegisterTold (after (state_of w.events) e.who (move e)).register r
       → ((k t who : ℕ) → is_begin_of who k t e ≡ true → (t < ((after (state_of w.events) e.who (move e)).cells k).told.begun) × (((after (state_of w.events) e.who (move e)).cells k).owner t ≡ who))
       → ((k n : ℕ) → ends k n e.call e.answer ≡ true → Contains ((after (state_of w.events) e.who (move e)).cells k).ends n)
+      → ((k p : ℕ) → places k p e.call e.answer ≡ true → p < ((after (state_of w.events) e.who (move e)).cells k).told.reach)
       → Goes may floor w (record w { cells = cells; register = r; events = w.events ++ e ∷ [] })
-  event_kept cells r e happens shelf told register owner ended =
+  event_kept cells r e happens shelf told register owner ended placing =
       let es = w.events ++ e ∷ [] in
       let legal = legal_more may floor (shelf_of w) w.events e law.legal happens in
       let next : state_of es ≡ after (state_of w.events) e.who (move e) = state_more may floor (shelf_of w) w.events e in
@@ -107,6 +108,12 @@ module _ (may : ℕ → Entry → Type 0) (floor : List Entry → ℕ → Type 0
               (λ (old : was_sealed_at w.events k n ≡ true). (goes.cell k).ends n (law.ends k n old))
               (λ (new : ends k n e.call e.answer ≡ true). subst (λ (s : State). Contains (s.cells k).ends n) (sym next) (ended k n new))
               (any_push (λ (x : Event). ends k n x.call x.answer) w.events e h);
+          placed = λ k p h. ⊎_elim
+              (λ (old : was_placed_at w.events k p ≡ true).
+              let was = law.placed k p old in
+              let on = goes.cell k in omega (arith, was, on.reach))
+              (λ (new : places k p e.call e.answer ≡ true). subst (λ (s : State). p < (s.cells k).told.reach) (sym next) (placing k p new))
+              (any_push (λ (x : Event). places k p x.call x.answer) w.events e h);
           register = subst (λ (s : State). IsRegisterTold s.register r) (sym next) register;
           nodes = λ k. front_later (state_of w.events).shown (state_of es).shown goes.shown (node_at w.nodes k) (law.nodes k);
         };
@@ -124,6 +131,7 @@ module _ (may : ℕ → Entry → Type 0) (floor : List Entry → ℕ → Type 0
           cells = at_set (λ k x. IsCellTold ((state_of w.events).cells k) x) w.cells no_cell i c told law.cells;
           owners = law.owners;
           ends = law.ends;
+          placed = law.placed;
           register = law.register;
           nodes = law.nodes;
         };
@@ -138,6 +146,7 @@ module _ (may : ℕ → Entry → Type 0) (floor : List Entry → ℕ → Type 0
       cells = law.cells;
       owners = law.owners;
       ends = law.ends;
+      placed = law.placed;
       register = law.register;
       nodes = at_set (λ (j : ℕ) (x : Node). IsFront (state_of w.events).shown x) w.nodes no_node k n (λ _. front) law.nodes;
     };

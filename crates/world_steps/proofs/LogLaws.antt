@@ -1,11 +1,12 @@
 -- What follows for the log, the chains and the nodes of two worlds, one later than the other.
-use Rattle.std.proofs.Common.{◌≡◌, inl, inr, ℕ, ◌+◌, ◌<◌, ◌≤◌, sym, ◌∙◌, ap, subst, arith, List, ◌++◌, length, Option, Some, IsSome}
+use Rattle.std.proofs.Common.{◌≡◌, inl, inr, ℕ, zero, suc, ◌+◌, ◌<◌, ◌≤◌, true, [], ◌∷◌, refl, sym, ◌∙◌, ap, subst, arith, List, ◌++◌, length, Option, Some, IsSome}
 use Rattle.std.specs.Prelude.{slice_get}
 use Rattle.std.proofs.lemmas.Option.{slice_get_within}
 use Rattle.delos_types.specs.declared.entry.Entry.{Entry}
 use Rattle.delos_types.specs.declared.chain.Segment.{Segment}
 use Rattle.delos_types.specs.declared.chain.Chain.{Chain}
 use Rattle.chain_map.specs.Chain.{IsChain}
+use Rattle.cell_views.proofs.Sounds.{size_is}
 use Rattle.legal_journal.specs.declared.events.Event.{Event}
 use Rattle.legal_journal.specs.Journal.{State, IsLegal}
 use Rattle.legal_journal.specs.Journal as journal
@@ -17,9 +18,15 @@ use Rattle.legal_journal.proofs.Legal.{goes_on, agrees, whole, reached_stands}
 use Rattle.legal_journal.proofs.Chains.{chain_ok, closed_at, is_in_at}
 use Rattle.world_steps.specs.Parts.{World, cell_at, node_at, given_under, shelf_of}
 use Rattle.world_steps.specs.Logs.{log_at, trim_of, tail_of, Stands}
-use Rattle.world_steps.specs.Laws.{WorldLaw, IsFrontOf}
+use Rattle.world_steps.specs.Laws.{WorldLaw, IsFrontOf, plain}
+use Rattle.world_steps.specs.Events.{was_placed_at}
 use Rattle.world_steps.proofs.Kept.{Goes, state_ok}
 use Rattle.world_steps.proofs.Seen.{reach_same, entries_same, log_same, trim_same, tail_same}
+
+some_at : {A : Type 0} (xs : List A) (i : ℕ) → i < length xs → (x : A) × (slice_get xs i ≡ Some x)
+some_at [] i l = absurd (omega arith)
+some_at (x ∷ xs) zero l = (x, refl)
+some_at (x ∷ xs) (suc i) l = some_at xs i (omega arith)
 
 module _ (may : ℕ → Entry → Type 0) (floor : List Entry → ℕ → Type 0) (w : World) (law : WorldLaw may floor w) where
   ok : StateOk (length (shelf_of w)) (journal.state_of w.events)
@@ -85,6 +92,18 @@ module _ (may : ℕ → Entry → Type 0) (floor : List Entry → ℕ → Type 0
         stands_new : (pos : ℕ) (e : Entry) → laws.Stands (journal.state_of new.events) pos e → Stands new pos e
         stands_new pos e (inl x) = inl (omega (arith, trim_same may floor new goes.law))
         stands_new pos e (inr x) = inr (log_same may floor new goes.law pos ∙ x)
+
+    -- what a client was told stands
+    pub placed_stands : (v k p : ℕ) (c : Chain) (s : Segment) → given_under new.register v ≡ Some c → slice_get c.segments k ≡ Some s → was_placed_at w.events s.id p ≡ true
+        → (e : Entry) × (slice_get (cell_at w.cells s.id).entries p ≡ Some e) × Stands new (s.start + p) e
+    placed_stands v k p c s given at told =
+        let here = law.cells s.id in
+        let low = law.placed s.id p told in
+        let size = size_is plain (cell_at w.cells s.id) here.lawful in
+        let reach = reach_same may floor w law s.id in
+        let sound = here.view.sound in
+        let entry = some_at (cell_at w.cells s.id).entries p (omega (arith, low, reach, size, sound.reach, sound.firm)) in
+        (entry.0, entry.1, answered_stands v k p c s entry.0 given at (omega (arith, low, reach)) entry.1)
 
     pub nodes_same : (one other pos : ℕ) (e f : Entry) → slice_get (node_at w.nodes one).applied pos ≡ Some e → slice_get (node_at new.nodes other).applied pos ≡ Some f → e ≡ f
     nodes_same one other pos e f h k =

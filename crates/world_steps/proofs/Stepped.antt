@@ -13,7 +13,7 @@ use Rattle.chain_map.specs.Chain.{last_id}
 use Rattle.loglet_api.specs.declared.call.Op.{Op}
 use Rattle.loglet_api.specs.declared.call.Op.TheVariants.{Append, Settle, Tail, Seal, Read, Trim}
 use Rattle.loglet_api.specs.declared.call.Answer.{Answer}
-use Rattle.loglet_api.specs.declared.call.Answer.TheVariants.{SealedTail}
+use Rattle.loglet_api.specs.declared.call.Answer.TheVariants.{Placed, SealedTail}
 use Rattle.quorum_cell.specs.declared.operation.CellStep.{CellStep}
 use Rattle.quorum_cell.specs.declared.operation.CellStep.TheVariants as cell
 use Rattle.quorum_cell.specs.Cells.{Cell, operation}
@@ -22,9 +22,9 @@ use Rattle.quorum_cell.proofs.Runs.{step_later}
 use Rattle.legal_journal.specs.declared.events.FabricCall.TheVariants.{Begin as AskBegin, Carry as AskCarry, Forget as AskForget, ReadChain as AskRead, WriteChain as AskWrite, MendMeta as AskMend}
 use Rattle.legal_journal.specs.declared.events.FabricAnswer.TheVariants.{Begun, Full, Done, Gone, At, Down, Written, Conflict, MetaFault, Set}
 use Rattle.legal_journal.specs.declared.events.Event.{Event}
-use Rattle.legal_journal.specs.Told.{put}
+use Rattle.legal_journal.specs.Told.{put, Running}
 use Rattle.legal_journal.specs.Moves.{CellMove, Begins, Answers, Drops}
-use Rattle.legal_journal.specs.Journal.{CellState, State, state_of, cell_after, ends_told, MayBegin, MayFollow, Extends, Raises, IsFree, Exists}
+use Rattle.legal_journal.specs.Journal.{CellState, State, state_of, answered_by, cell_after, ends_told, MayBegin, MayFollow, Extends, Raises, IsFree, Exists}
 use Rattle.legal_journal.specs.Journal as journal
 use Rattle.legal_journal.proofs.Cells.{put_same}
 use Rattle.legal_journal.proofs.Log.{HasStart}
@@ -34,7 +34,7 @@ use Rattle.world_steps.specs.declared.step.ChainChange.TheVariants.{Extend, Rais
 use Rattle.world_steps.specs.declared.step.WorldStep.{WorldStep}
 use Rattle.world_steps.specs.declared.step.WorldStep.TheVariants as step
 use Rattle.world_steps.specs.Parts.{Node, World, no_cell, cell_at, node_at, given_under, last_given, shelf_of}
-use Rattle.world_steps.specs.Events.{is_begin_of, is_owner, is_tail}
+use Rattle.world_steps.specs.Events.{is_begin_of, is_owner, is_tail, is_place}
 use Rattle.world_steps.specs.Guards.{is_inner, aim_of, is_below, is_trimmed, may_begin, changed, may_follow}
 use Rattle.world_steps.specs.Steps.{event, answer_of, told, moves_inside, begins_op, takes_answer, forgets_op, done, gave, replaced, torn_by, mended, on_register, reads, asked, writes, stops_writing, mends, stays_down, with_entry, next_entry, applies, stops_node, restarts_node, put_node, world_step, run_world}
 use Rattle.world_steps.specs.Laws.{IsCellTold, WorldLaw, IsLet, KeepsTo, AllKeepTo}
@@ -147,7 +147,7 @@ module _ (may : ℕ → Entry → Type 0) (floor : List Entry → ℕ → Type 0
           (same_servers i (cell.Begin (aim_of op)))
           (at_set (λ k x. IsCellTold ((state_of w.events).cells k) x) w.cells no_cell i (begin (cell_at w.cells i) (aim_of op)) (λ _. refused_told ((state_of w.events).cells i) (cell_at w.cells i) op (law.cells i) (spells who i op keeps) full) law.cells)
           law.register
-          (λ k t by h. absurd (false≢true h)) (λ k n h. absurd (false≢true h))
+          (λ k t by h. absurd (false≢true h)) (λ k n h. absurd (false≢true h)) (λ k p h. absurd (false≢true h))
       by true e false room =
           let parts = and_parts _ _ e in
           let here : i < length w.cells = ltb-true _ _ parts.0 in
@@ -157,7 +157,7 @@ module _ (may : ℕ → Entry → Type 0) (floor : List Entry → ℕ → Type 0
           (same_servers i (cell.Begin (aim_of op)))
           (cells_placed who i (Begins op (length (cell_at w.cells i).operations)) (cell.Begin (aim_of op)) here b.now)
           law.register
-          (begin_owner who i (length (cell_at w.cells i).operations) op b.ticket) (λ k n h. absurd (false≢true h))
+          (begin_owner who i (length (cell_at w.cells i).operations) op b.ticket) (λ k n h. absurd (false≢true h)) (λ k p h. absurd (false≢true h))
       by false e f full = idle may floor w law
 
   -- an operation is answered
@@ -174,6 +174,19 @@ module _ (may : ℕ → Entry → Type 0) (floor : List Entry → ℕ → Type 0
       by_answer (SealedTail m) g = contains_push ((state_of w.events).cells i).ends m n (eqb-true _ _ g)
       by_answer x g = absurd (false≢true g)
 
+  told_place : (who i t : ℕ) (r : Running) (a : Answer) (k p : ℕ) → ((state_of w.events).cells i).told.ops t ≡ Some r → ((i == k) && is_place p a) ≡ true → p < (put (state_of w.events).cells i (cell_after who ((state_of w.events).cells i) (Answers t a)) k).told.reach
+  told_place who i t r a k p running h =
+      let parts = and_parts _ _ h in
+      let here : k ≡ i = sym (eqb-true _ _ parts.0) in
+      let c = (state_of w.events).cells i in
+      let is : put (state_of w.events).cells i (cell_after who c (Answers t a)) k ≡ cell_after who c (Answers t a) = ap (put (state_of w.events).cells i (cell_after who c (Answers t a))) here ∙ put_same (state_of w.events).cells i (cell_after who c (Answers t a)) in
+      let told : (answered_by c.told t a (c.told.ops t)).reach ≡ (answered_by c.told t a (Some r)).reach = ap (λ (o : Option Running). (answered_by c.told t a o).reach) running in
+      subst (λ (x : CellState). p < x.told.reach) (sym is) (omega (arith, told, by_answer a parts.1))
+    where
+      by_answer : (x : Answer) → is_place p x ≡ true → p < (answered_by ((state_of w.events).cells i).told t x (Some r)).reach
+      by_answer (Placed q) g = (let e : q ≡ p = eqb-true _ _ g in omega (arith, e))
+      by_answer x g = absurd (false≢true g)
+
   takes_kept : (who i t : ℕ) → Goes may floor w (done w (takes_answer w who i t))
   takes_kept who i t = by (nat_lt i (length w.cells) && is_owner w.events who i t) refl
     where
@@ -186,7 +199,7 @@ module _ (may : ℕ → Entry → Type 0) (floor : List Entry → ℕ → Type 0
           (same_servers i (cell.Take t))
           (cells_placed who i (Answers t a) (cell.Take t) here k.now)
           law.register
-          (λ j u by h. absurd (false≢true h)) (λ j n h. told_end who i t a j n h)
+          (λ j u by h. absurd (false≢true h)) (λ j n h. told_end who i t a j n h) (λ j p h. told_place who i t k.running a j p k.is_open h)
 
       by : (b : Bool) → (nat_lt i (length w.cells) && is_owner w.events who i t) ≡ b → Goes may floor w (done w (if b then told who i t (answer_of (cell_at w.cells i) t) else None))
       by true e = let parts = and_parts _ _ e in given (ltb-true _ _ parts.0) parts.1 (answer_of (cell_at w.cells i) t) refl
@@ -206,7 +219,7 @@ module _ (may : ℕ → Entry → Type 0) (floor : List Entry → ℕ → Type 0
           (same_servers i (cell.Forget t))
           (cells_placed who i (Drops t) (cell.Forget t) here k.now)
           law.register
-          (λ j u by h. absurd (false≢true h)) (λ j n h. absurd (false≢true h))
+          (λ j u by h. absurd (false≢true h)) (λ j n h. absurd (false≢true h)) (λ j p h. absurd (false≢true h))
       by false e = idle may floor w law
 
   ---- the register
@@ -216,6 +229,9 @@ module _ (may : ℕ → Entry → Type 0) (floor : List Entry → ℕ → Type 0
 
   no_end : (k n : ℕ) → false ≡ true → Contains ((state_of w.events).cells k).ends n
   no_end k n h = absurd (false≢true h)
+
+  no_place : (k p : ℕ) → false ≡ true → p < ((state_of w.events).cells k).told.reach
+  no_place k p h = absurd (false≢true h)
 
   up_is : w.register.up ≡ true → (state_of w.events).register.down ≡ false
   up_is e = law.register.down ∙ ap not e
@@ -228,9 +244,9 @@ module _ (may : ℕ → Entry → Type 0) (floor : List Entry → ℕ → Type 0
     where
       by : (b : Bool) → w.register.up ≡ b → Goes may floor w (if b then on_register w (gave w.register) who AskRead (At w.register.version w.register.chain) else on_register w w.register who AskRead Down)
       by true e = event_kept may floor w law w.cells (gave w.register) (record { who = who; call = AskRead; answer = At w.register.version w.register.chain })
-          (record { there = tt; allowed = (up_is e, law.register.current) }) refl law.cells (gave_told _ (state_of w.events) ok w.register law.register e) (no_begin who) no_end
+          (record { there = tt; allowed = (up_is e, law.register.current) }) refl law.cells (gave_told _ (state_of w.events) ok w.register law.register e) (no_begin who) no_end no_place
       by false e = event_kept may floor w law w.cells w.register (record { who = who; call = AskRead; answer = Down })
-          (record { there = tt; allowed = down_is e }) refl law.cells law.register (no_begin who) no_end
+          (record { there = tt; allowed = down_is e }) refl law.cells law.register (no_begin who) no_end no_place
 
   -- a change of the known chain may follow it
   follows : (old : Chain) (change : ChainChange) → IsLet floor w change → may_follow w old change ≡ true → MayFollow (state_of w.events) floor (length (shelf_of w)) old (changed old change)
@@ -253,19 +269,19 @@ module _ (may : ℕ → Entry → Type 0) (floor : List Entry → ℕ → Type 0
               let k = expected _ (state_of w.events) ok w.register law.register x old e at in
               event_kept may floor w law w.cells (replaced w.register (changed old change)) (record { who = who; call = AskWrite x (changed old change); answer = Written (w.register.version + 1) })
               (record { there = tt; allowed = (up_is up, at ∙ k.version, subst (λ (o : Chain). MayFollow (state_of w.events) floor (length (shelf_of w)) o (changed old change)) k.old_is (follows old change let_ f), ap (λ n. n + 1) (sym at)) })
-              refl law.cells (replaced_told _ (state_of w.events) ok w.register law.register (changed old change) up k.version) (no_begin who) no_end
+              refl law.cells (replaced_told _ (state_of w.events) ok w.register law.register (changed old change) up k.version) (no_begin who) no_end no_place
 
           by_version : may_follow w old change ≡ true → w.register.up ≡ true → (b : Bool) → (x == w.register.version) ≡ b → Goes may floor w (if not b then on_register w (gave w.register) who (AskWrite x (changed old change)) (Conflict w.register.version w.register.chain) else on_register w (replaced w.register (changed old change)) who (AskWrite x (changed old change)) (Written (w.register.version + 1)))
           by_version f up true t = written f (eqb-true _ _ t) up
           by_version f up false t =
               let apart : x ≢ w.register.version = grind (arith, nat_tests) in
               event_kept may floor w law w.cells (gave w.register) (record { who = who; call = AskWrite x (changed old change); answer = Conflict w.register.version w.register.chain })
-              (record { there = tt; allowed = (up_is up, law.register.current, apart) }) refl law.cells (gave_told _ (state_of w.events) ok w.register law.register up) (no_begin who) no_end
+              (record { there = tt; allowed = (up_is up, law.register.current, apart) }) refl law.cells (gave_told _ (state_of w.events) ok w.register law.register up) (no_begin who) no_end no_place
 
           by_up : may_follow w old change ≡ true → (b : Bool) → w.register.up ≡ b → Goes may floor w (if not b then on_register w w.register who (AskWrite x (changed old change)) Down else if not (x == w.register.version) then on_register w (gave w.register) who (AskWrite x (changed old change)) (Conflict w.register.version w.register.chain) else on_register w (replaced w.register (changed old change)) who (AskWrite x (changed old change)) (Written (w.register.version + 1)))
           by_up f true up = by_version f up (x == w.register.version) refl
           by_up f false up = event_kept may floor w law w.cells w.register (record { who = who; call = AskWrite x (changed old change); answer = Down })
-              (record { there = tt; allowed = down_is up }) refl law.cells law.register (no_begin who) no_end
+              (record { there = tt; allowed = down_is up }) refl law.cells law.register (no_begin who) no_end no_place
 
           by_follow : (b : Bool) → may_follow w old change ≡ b → Goes may floor w (if b then asked w who x (changed old change) else w)
           by_follow true f = by_up f w.register.up refl
@@ -287,7 +303,7 @@ module _ (may : ℕ → Entry → Type 0) (floor : List Entry → ℕ → Type 0
               let k = expected _ (state_of w.events) ok w.register law.register x old e at in
               event_kept may floor w law w.cells (torn_by w.register (changed old change)) (record { who = who; call = AskWrite x (changed old change); answer = MetaFault })
               (record { there = tt; allowed = (up_is front.0, at ∙ k.version, subst (λ (o : Chain). MayFollow (state_of w.events) floor (length (shelf_of w)) o (changed old change)) k.old_is (follows old change let_ parts.1)) })
-              refl law.cells (torn_told _ (state_of w.events) ok w.register law.register x (changed old change) k.version k.chain) (no_begin who) no_end
+              refl law.cells (torn_told _ (state_of w.events) ok w.register law.register x (changed old change) k.version k.chain) (no_begin who) no_end no_place
 
   mends_kept : (who : ℕ) (kept : Bool) → Goes may floor w (mends w who kept)
   mends_kept who kept = by w.register.up
@@ -295,7 +311,7 @@ module _ (may : ℕ → Entry → Type 0) (floor : List Entry → ℕ → Type 0
       by : (b : Bool) → Goes may floor w (if b then w else on_register w (mended w.register kept w.register.torn) who (AskMend 0) (Set true))
       by true = idle may floor w law
       by false = event_kept may floor w law w.cells (mended w.register kept w.register.torn) (record { who = who; call = AskMend 0; answer = Set true })
-          (record { there = tt; allowed = tt }) refl law.cells (mended_told _ (state_of w.events) ok w.register law.register kept) (no_begin who) no_end
+          (record { there = tt; allowed = tt }) refl law.cells (mended_told _ (state_of w.events) ok w.register law.register kept) (no_begin who) no_end no_place
 
   down_kept : (who : ℕ) → Goes may floor w (stays_down w who)
   down_kept who = by w.register.up
@@ -303,7 +319,7 @@ module _ (may : ℕ → Entry → Type 0) (floor : List Entry → ℕ → Type 0
       by : (b : Bool) → Goes may floor w (if b then w else on_register w w.register who (AskMend 0) (Set false))
       by true = idle may floor w law
       by false = event_kept may floor w law w.cells w.register (record { who = who; call = AskMend 0; answer = Set false })
-          (record { there = tt; allowed = tt }) refl law.cells (missed_told _ (state_of w.events) ok w.register law.register) (no_begin who) no_end
+          (record { there = tt; allowed = tt }) refl law.cells (missed_told _ (state_of w.events) ok w.register law.register) (no_begin who) no_end no_place
 
   ---- nodes
 

@@ -2,7 +2,7 @@
 use Rattle.std.specs.Prelude.{ℕ, Bool, false, ◌&&◌, ◌==◌, List}
 use Rattle.std.specs.List.{list_any}
 use Rattle.loglet_api.specs.declared.call.Answer.{Answer}
-use Rattle.loglet_api.specs.declared.call.Answer.TheVariants.{SealedTail}
+use Rattle.loglet_api.specs.declared.call.Answer.TheVariants.{Placed, SealedTail}
 use Rattle.legal_journal.specs.declared.events.FabricCall.{FabricCall}
 use Rattle.legal_journal.specs.declared.events.FabricCall.TheVariants.{Begin, Carry}
 use Rattle.legal_journal.specs.declared.events.FabricAnswer.{FabricAnswer}
@@ -33,3 +33,15 @@ ends i n call answer = false
 
 abbrev pub was_sealed_at : List Event → ℕ → ℕ → Bool
 was_sealed_at events i n = list_any (λ (e : Event). ends i n e.call e.answer) events
+
+abbrev pub is_place : ℕ → Answer → Bool
+is_place p (Placed q) = q == p
+is_place p answer = false
+
+-- a client of cell i was told that its entry is placed here
+abbrev pub places : ℕ → ℕ → FabricCall → FabricAnswer → Bool
+places i p (Carry j t word) (Done answer) = (j == i) && is_place p answer
+places i p call answer = false
+
+abbrev pub was_placed_at : List Event → ℕ → ℕ → Bool
+was_placed_at events i p = list_any (λ (e : Event). places i p e.call e.answer) events

@@ -16,7 +16,7 @@ use Rattle.world_steps.specs.declared.step.ChainChange.TheVariants.{Extend, Rais
 use Rattle.world_steps.specs.declared.step.WorldStep.{WorldStep}
 use Rattle.world_steps.specs.declared.step.WorldStep.TheVariants.{Begin, WriteChain, WriteStops}
 use Rattle.world_steps.specs.Parts.{Register, Node, World, cell_at, node_at, given_under, last_given, shelf_of}
-use Rattle.world_steps.specs.Events.{is_owner, was_sealed_at}
+use Rattle.world_steps.specs.Events.{is_owner, was_sealed_at, was_placed_at}
 use Rattle.world_steps.specs.Logs.{Stands}
 use Rattle.world_steps.specs.Steps.{world_step}
 
@@ -99,5 +99,6 @@ pub record WorldLaw (may : ℕ → Entry → Type 0) (floor : List Entry → ℕ
   pub cells : (i : ℕ) → IsCellTold ((state_of w.events).cells i) (cell_at w.cells i)
   pub owners : (i t who : ℕ) → is_owner w.events who i t ≡ true → (t < ((state_of w.events).cells i).told.begun) × (((state_of w.events).cells i).owner t ≡ who)
   pub ends : (i n : ℕ) → was_sealed_at w.events i n ≡ true → Contains ((state_of w.events).cells i).ends n
+  pub placed : (i p : ℕ) → was_placed_at w.events i p ≡ true → p < ((state_of w.events).cells i).told.reach
   pub register : IsRegisterTold (state_of w.events).register w.register
   pub nodes : (k : ℕ) → IsFront (state_of w.events).shown (node_at w.nodes k)

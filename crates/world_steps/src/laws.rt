@@ -1,6 +1,6 @@
 //! What holds of every world that a list of steps leads to from a fresh one, with any number of
 //! clients that seal, repair and extend. Each function does nothing: its contract is the law.
-ghost use Rattle.std.specs.Prelude.{◌≡◌, ℕ, ◌+◌, ◌<◌, ◌≤◌, List, map, slice_get, Some, IsSome, All};
+ghost use Rattle.std.specs.Prelude.{◌≡◌, ℕ, ◌+◌, ◌<◌, ◌≤◌, true, List, map, slice_get, Some, IsSome, All};
 ghost use Rattle.delos_types.specs.declared.entry.Entry.{Entry};
 ghost use Rattle.delos_types.specs.declared.chain.Segment.{Segment};
 ghost use Rattle.delos_types.specs.declared.chain.Chain.{Chain};
@@ -13,6 +13,7 @@ ghost use Rattle.legal_journal.specs.Journal.{IsLegal};
 ghost use Rattle.world_steps.specs.declared.shape.Shape.{Shape};
 ghost use Rattle.world_steps.specs.declared.step.WorldStep.{WorldStep};
 ghost use Rattle.world_steps.specs.Parts.{World, fresh, cell_at, node_at, given_under};
+ghost use Rattle.world_steps.specs.Events.{was_placed_at};
 ghost use Rattle.world_steps.specs.Logs.{log_at, trim_of, tail_of, Stands, state_of, acts_in};
 ghost use Rattle.world_steps.specs.Steps.{run_world};
 ghost use Rattle.world_steps.specs.Moves.{steps_in};
@@ -57,13 +58,19 @@ pub fn logs_agree()
 {}
 
 /// Each position of a cell that an answer reached stands at its place of the log in every later
-/// chain that has the cell, or it was trimmed there.
+/// chain that has the cell, or it was trimmed there: each position, among them, at which a client
+/// was told that its entry is placed.
 pub fn acknowledged_entries_stand()
-    ensures { (shapes : List Shape) (nodes : ℕ) (early late : List WorldStep) → IsShelf shapes → All BringsSpelled early → All BringsSpelled late
+    ensures reached { (shapes : List Shape) (nodes : ℕ) (early late : List WorldStep) → IsShelf shapes → All BringsSpelled early → All BringsSpelled late
         → let world = run_world early (fresh shapes nodes) in let later = run_world late world in
         (version number place : ℕ) (chain : Chain) (segment : Segment) (e : Entry) → given_under later.register version ≡ Some chain
         → slice_get chain.segments number ≡ Some segment → place < (cell_at world.cells segment.id).reach
         → slice_get (cell_at world.cells segment.id).entries place ≡ Some e → Stands later (segment.start + place) e }
+    ensures told { (shapes : List Shape) (nodes : ℕ) (early late : List WorldStep) → IsShelf shapes → All BringsSpelled early → All BringsSpelled late
+        → let world = run_world early (fresh shapes nodes) in let later = run_world late world in
+        (version number place : ℕ) (chain : Chain) (segment : Segment) → given_under later.register version ≡ Some chain
+        → slice_get chain.segments number ≡ Some segment → was_placed_at world.events segment.id place ≡ true
+        → (e : Entry) × (slice_get (cell_at world.cells segment.id).entries place ≡ Some e) × Stands later (segment.start + place) e }
 {}
 
 /// Each chain that the register gives under a version is the only one, its segments join, and no

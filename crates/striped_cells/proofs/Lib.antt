@@ -1,0 +1,9 @@
+pub mod Weaving
+pub mod Retelling
+pub mod Quorate
+pub mod Notes
+pub mod Striping
+pub mod Starting
+pub mod Taken
+pub mod Calling
+pub mod Coming

@@ -1,0 +1,5 @@
+pub mod Motions
+pub mod Ways
+pub mod Quorums
+pub mod Pursuits
+pub mod Striped
