@@ -7,7 +7,7 @@ use Rattle.engine_api.specs.declared.content.Placed.{Placed}
 use Rattle.engine_api.specs.Acted.{unpack_all}
 use Rattle.engine_api.specs.Members.{least, has_left, is_member, position_of, least_position}
 use Rattle.engine_api.specs.Order.{numbers}
-use Rattle.engine_laws.specs.State.{IsStateOf, Views}
+use Rattle.log_laws.specs.State.{IsStateOf, Views}
 use Rattle.engine_steps.specs.Layout.{reported_of, trim_of}
 use Rattle.base_engine.specs.Trimming.{is_member_in, least_of, IsFloor}
 use Rattle.worked_nodes.specs.Resting.{least_of_two}

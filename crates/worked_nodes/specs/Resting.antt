@@ -4,7 +4,7 @@ use Rattle.std.specs.FinMap as map
 use Rattle.delos_types.specs.declared.entry.Entry.{Entry}
 use Rattle.engine_api.specs.Acted.{unpack_all}
 use Rattle.engine_api.specs.Members.{least_position}
-use Rattle.engine_laws.specs.State.{IsStateOf}
+use Rattle.log_laws.specs.State.{IsStateOf}
 use Rattle.legal_journal.specs.declared.events.Event.{Event}
 use Rattle.legal_journal.specs.Journal.{state_of}
 use Rattle.virtual_log.specs.Holding.{Holds}

@@ -6,7 +6,7 @@ ghost use Rattle.std.specs.Prelude.{◌≡◌, ℕ, List, IfOk, OnOk};
 ghost use Rattle.virtual_log.specs.Underway.{IsGoing, AreApart};
 ghost use Rattle.virtual_log.specs.declared.underway.Going.{Going};
 
-use anyhow::{Result, bail};
+use crate::stuck::Stuck;
 use delos_types::entry::Entry;
 use fate_words::chooser::Calm;
 use legal_journal::rules::Rules;
@@ -22,20 +22,20 @@ pub(crate) fn append_both<T: Turns>(
     log: &mut VirtualLog<T, Calm>,
     entry: &Entry,
     out: &mut String,
-) -> Result<()>
+) -> Result<(), Stuck>
     requires may { (who : ℕ) (e : Entry) → T.Law.may who e }
     requires spelled { IsSpellable entry.now }
 {
     let mut first = begin(log, entry)?;
     let mut second = begin(log, entry)?;
     let position = carry(log, &mut second)?;
-    writeln!(out, "both: the second at {position}")?;
+    writeln!(out, "the second at {position}")?;
     let position = carry(log, &mut first)?;
     writeln!(out, "both: the first at {position}")?;
     Ok(())
 }
 
-fn begin<T: Turns>(log: &mut VirtualLog<T, Calm>, entry: &Entry) -> Result<Going>
+fn begin<T: Turns>(log: &mut VirtualLog<T, Calm>, entry: &Entry) -> Result<Going, Stuck>
     requires may { (who : ℕ) (e : Entry) → T.Law.may who e }
     requires spelled { IsSpellable entry.now }
     ensures who { log.new.who ≡ log.old.who }
@@ -45,12 +45,12 @@ fn begin<T: Turns>(log: &mut VirtualLog<T, Calm>, entry: &Entry) -> Result<Going
 {
     match log.start_append(entry) {
         Ok(going) => Ok(going),
-        Err(fault) => bail!("{fault}"),
+        Err(_) => Err(Stuck::Failed),
     }
 }
 
 /// Goes on with an append until it has its position.
-fn carry<T: Turns>(log: &mut VirtualLog<T, Calm>, going: &mut Going) -> Result<u64>
+fn carry<T: Turns>(log: &mut VirtualLog<T, Calm>, going: &mut Going) -> Result<u64, Stuck>
     requires going { (early : List Event) × IsGoing T.Law.may log.old.who early log.old.seen log.old.chain going.old }
     ensures who { log.new.who ≡ log.old.who }
     ensures others { (early : List Event) (other : Going) → IsGoing T.Law.may log.old.who early log.old.seen log.old.chain other
@@ -60,8 +60,8 @@ fn carry<T: Turns>(log: &mut VirtualLog<T, Calm>, going: &mut Going) -> Result<u
         match log.go_on(going) {
             Ok(Some(position)) => return Ok(position),
             Ok(None) => {}
-            Err(fault) => bail!("{fault}"),
+            Err(_) => return Err(Stuck::Failed),
         }
     }
-    bail!("an append that stays undecided")
+    Err(Stuck::Failed)
 }

@@ -2,7 +2,6 @@
 //!
 //! A case is its input and a line `----`. Lines that begin with `#` narrate, and empty lines do nothing.
 use crate::with_engines::play;
-use crate::words::Line;
 use anyhow::{Context, ensure};
 use std::fs;
 
@@ -19,39 +18,28 @@ pub(crate) enum Topic {
     Logs,
 }
 
-impl Topic {
-    /// The file that has the cases.
-    pub(crate) fn file(self) -> &'static str {
-        match self {
-            Topic::Engines => "engines.txt",
-            Topic::Replicas => "replicas.txt",
-            Topic::Nodes => "nodes.txt",
-            Topic::Logs => "logs.txt",
-        }
-    }
-}
-
 /// Prints each case of a file with what comes of it, and tells how many there are.
-pub(crate) fn play_file(rt: &HostRuntime, topic: Topic) -> anyhow::Result<u64> {
+pub(crate) fn play_file(rt: &HostRuntime, file: &str, topic: Topic) -> anyhow::Result<u64> {
     let alloc = rt.alloc();
-    let file = topic.file();
     let text = fs::read_to_string(rt, file)?;
     println!(rt; "==== {file}")?;
     let mut count = 0u64;
     let mut number = 0u64;
     let mut input = Vec::new(alloc);
-    for text in text.lines() {
+    let mut came = String::new(alloc);
+    for line in text.lines() {
         number = number.saturating_add(1);
-        println!(rt; "{text}")?;
-        if text == "----" {
-            let came = play(alloc, topic, input.as_slice()).context(format_args!(
+        println!(rt; "{line}")?;
+        if line == "----" {
+            play(alloc, topic, input.as_slice(), &mut came).context(format_args!(
                 "{file}, the case that ends in line {number}"
             ))?;
             print!(rt; "{came}")?;
-            input = Vec::new(alloc);
+            input.clear();
+            came.clear();
             count = count.saturating_add(1);
-        } else if !text.is_empty() && !text.starts_with("#") {
-            input.push(Line { number, text })?;
+        } else if !line.is_empty() && !line.starts_with("#") {
+            input.push(line)?;
         }
     }
     ensure!(input.is_empty(), "{file}: its last case has no end");

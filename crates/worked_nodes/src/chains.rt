@@ -2,8 +2,8 @@
 ghost use Rattle.std.specs.Prelude.{◌<◌, ◌≤◌, ◌^◌};
 
 use crate::shelf::{Cell, Free, Register, fabric_on_three};
-use crate::words::{Line, Words, failing};
-use anyhow::{Context, Result, bail, ensure};
+use crate::stuck::Stuck;
+use crate::words::{Words, failing};
 use chain_map::change::{drop_below, first_chain};
 use fabric_core::own::Own;
 use last_chain::last::{Last, read_last};
@@ -19,40 +19,46 @@ type Turn = Own<Cell, Register, Free>;
 
 /// What comes of the lines of a case, of which the first may say which calls of the register's disk fail, and the last that
 /// the chain is read a last time.
-pub(crate) fn play(alloc: Global, out: &mut String, lines: &[Line<'_>]) -> Result<()> {
+pub(crate) fn play(alloc: Global, lines: &[&str], out: &mut String) -> Result<(), Stuck> {
     let (failing, lines) = failing(alloc, lines)?;
-    let fabric = fabric_on_three(alloc, failing).context("no memory")?;
+    let Some(fabric) = fabric_on_three(alloc, failing) else {
+        return Err(Stuck::Failed);
+    };
     let mut turns = Own { who: 1, fabric };
     for line in lines {
-        if line.text == "last" {
-            return push_last(alloc, out, turns);
+        if *line == "last" {
+            return Ok(push_last(alloc, out, turns)?);
         }
-        raise(alloc, &mut turns, out, line.text).context(format_args!("line {}", line.number))?;
+        raise(alloc, &mut turns, &mut Words::of(line), out)?;
     }
     Ok(())
 }
 
 /// `raise TRIM`.
-fn raise(alloc: Global, turns: &mut Turn, out: &mut String, text: &str) -> Result<()> {
-    let mut words = Words::of(text);
-    ensure!(words.word()? == "raise", "{text}: no such line");
-    let n = words.number()?;
+fn raise(
+    alloc: Global,
+    turns: &mut Turn,
+    words: &mut Words<'_>,
+    out: &mut String,
+) -> Result<(), Stuck> {
+    let (name, n) = (words.word(), words.number());
     words.end()?;
-    if n == 0 || n > MOST {
-        bail!("{n}: no such trim");
+    if name != "raise" || n == 0 || n > MOST {
+        return Err(Stuck::Line);
     }
-    match raise_first(alloc, turns, n)? {
-        FabricAnswer::Written(version) => writeln!(out, "raise {n}: written, version {version}")?,
+    write!(out, "raise {n}: ")?;
+    Ok(push_answer(out, raise_first(alloc, turns, n)?)?)
+}
+
+fn push_answer(out: &mut String, answer: FabricAnswer) -> Result<(), AllocError> {
+    match answer {
+        FabricAnswer::Written(version) => writeln!(out, "written, version {version}"),
         FabricAnswer::Conflict(version, chain) => {
-            writeln!(
-                out,
-                "raise {n}: refused, version {version} with trim {}",
-                chain.trim
-            )?
+            let trim = chain.trim;
+            writeln!(out, "refused, version {version} with trim {trim}")
         }
-        _ => writeln!(out, "raise {n}: failed")?,
+        _ => writeln!(out, "failed"),
     }
-    Ok(())
 }
 
 /// Writes the first chain with its trim raised to `n`, as one that knows of no other chain.
@@ -65,16 +71,14 @@ fn raise_first(alloc: Global, turns: &mut Turn, n: u64) -> Result<FabricAnswer, 
 }
 
 /// The version and the trim of the chain that is read a last time, and whether its register is down.
-fn push_last(alloc: Global, out: &mut String, turns: Turn) -> Result<()> {
+fn push_last(alloc: Global, out: &mut String, turns: Turn) -> Result<(), AllocError> {
     let Own { who, fabric } = turns;
     let Last { fabric: _, answer } = read_last(alloc, who, fabric);
     let last = answer?;
     let state = if last.down { "down" } else { "up" };
-    let trim = last.chain.trim;
+    let (version, trim) = (last.version, last.chain.trim);
     writeln!(
         out,
-        "last: version {}, trim {trim}, the register is {state}",
-        last.version
-    )?;
-    Ok(())
+        "last: version {version}, trim {trim}, the register is {state}"
+    )
 }

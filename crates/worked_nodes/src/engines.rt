@@ -2,19 +2,19 @@
 ghost use Rattle.std.specs.Prelude.{◌≡◌, [], ◌∷◌};
 ghost use Rattle.engine_api.specs.Packing.{IsProposable};
 
-use crate::items::{put_item, rank_of, session_of};
-use crate::laid::{Laid, push_entry, ranks_of};
-use crate::words::{Line, Words, push_hex};
-use anyhow::{Context, Result, anyhow, bail};
+use crate::items::put_item;
+use crate::laid::{Laid, push_entry};
+use crate::stuck::Stuck;
+use crate::words::{Words, push_hex, text_of};
 use delos_types::entry::Entry;
 use delos_types::item::Item;
 use delos_types::numbers::NodeId;
 use delos_types::space::Space;
 use disk_model::MemDisk;
-use engine_laws::rising::Acted;
 use engine_steps::layout::{TABLE, clean_position, value};
 use local_replica::layers::Layers;
 use local_store::{Store, Txn};
+use log_laws::rising::Acted;
 use std::alloc::{AllocError, Global};
 use std::mem;
 
@@ -30,14 +30,13 @@ struct Stack<E: Layers> {
 
 impl<E: Layers> Stack<E> {
     /// Over an empty space.
-    fn new(alloc: Global, engines: E) -> Result<Self>
+    fn new(alloc: Global, engines: E) -> Result<Self, Stuck>
         requires { E.kinds engines ≡ 1 ∷ 2 ∷ 3 ∷ 4 ∷ 5 ∷ [] }
     {
-        let origin = NodeId::new(1).context("node")?;
-        let store = match Store::open_on(alloc, MemDisk::new(alloc)) {
-            Ok(store) => store,
-            Err(refused) => return Err(anyhow!("{}", refused.fault)),
+        let Ok(store) = Store::open_on(alloc, MemDisk::new(alloc)) else {
+            return Err(Stuck::Failed);
         };
+        let origin = NodeId::new(1).unwrap();
         let space = store.begin()?;
         let mut engines = engines;
         engines.load(alloc, origin, &space)?;
@@ -78,7 +77,12 @@ struct History<E: Layers> {
 }
 
 /// What comes of the lines of a case.
-pub(crate) fn play<E: Layers>(alloc: Global, engines: E, lines: &[Line<'_>]) -> Result<String>
+pub(crate) fn play<E: Layers>(
+    alloc: Global,
+    engines: E,
+    lines: &[&str],
+    out: &mut String,
+) -> Result<(), Stuck>
     requires { E.kinds engines ≡ 1 ∷ 2 ∷ 3 ∷ 4 ∷ 5 ∷ [] }
 {
     let mut history = History {
@@ -87,44 +91,42 @@ pub(crate) fn play<E: Layers>(alloc: Global, engines: E, lines: &[Line<'_>]) -> 
         laid: Laid::new(alloc),
         packed: Vec::new(alloc),
     };
-    let mut out = String::new(alloc);
     for line in lines {
-        history
-            .take(&mut out, line.text)
-            .context(format_args!("line {}", line.number))?;
+        history.take(out, line)?;
     }
-    Ok(out)
+    Ok(())
 }
 
 impl<E: Layers> History<E> {
-    fn take(&mut self, out: &mut String, text: &str) -> Result<()> {
-        let mut words = Words::of(text);
-        match words.word()? {
+    fn take(&mut self, out: &mut String, line: &str) -> Result<(), Stuck> {
+        let mut words = Words::of(line);
+        match words.word() {
             "entry" => self.laid = Laid::new(self.alloc),
             "item" => self.laid.add_items(self.alloc, &mut words)?,
-            "at" => self.bring_up(out, &mut words)?,
+            "at" => self.bring_up(out, words.number())?,
             "send" => self.send(out, &mut words)?,
             "flush" => self.flush(out)?,
             "play" => self.play_packed(out)?,
-            word => self.look(out, word, &mut words)?,
+            "clean" => self.clean(out, words.number())?,
+            word => self.look(out, word, words.word())?,
         }
         words.end()
     }
 
     /// `at POSITION`: the entry that is laid out comes up there.
-    fn bring_up(&mut self, out: &mut String, words: &mut Words<'_>) -> Result<()> {
-        let pos = words.number()?;
+    fn bring_up(&mut self, out: &mut String, pos: u64) -> Result<(), AllocError> {
         let entry = self.laid.entry(self.alloc)?;
         self.come_up(out, pos, &entry)
     }
 
-    fn come_up(&mut self, out: &mut String, pos: u64, entry: &Entry) -> Result<()> {
+    fn come_up(&mut self, out: &mut String, pos: u64, entry: &Entry) -> Result<(), AllocError> {
         let acted = self.stack.come_up(pos, entry)?;
-        if acted.is_empty() {
-            writeln!(out, "at {pos}: nothing acts")?;
-            return Ok(());
-        }
-        writeln!(out, "at {pos}:")?;
+        let none = if acted.is_empty() {
+            " nothing acts"
+        } else {
+            ""
+        };
+        writeln!(out, "at {pos}:{none}")?;
         for act in acted.as_slice() {
             push_act(out, act)?;
         }
@@ -132,12 +134,12 @@ impl<E: Layers> History<E> {
     }
 
     /// `send SESSION FIRST..LAST KEY VALUE`: an item for each rank goes down, which puts the value at the key.
-    fn send(&mut self, out: &mut String, words: &mut Words<'_>) -> Result<()> {
-        let session = session_of(words.number()?)?;
-        let (first, last) = ranks_of(words.word()?)?;
-        let (key, value) = (words.byte()?, words.byte()?);
+    fn send(&mut self, out: &mut String, words: &mut Words<'_>) -> Result<(), Stuck> {
+        let session = words.small();
+        let (first, last) = words.range();
+        let (key, value) = (words.byte(), words.byte());
         for rank in first..=last {
-            let item = put_item(self.alloc, session, rank_of(rank)?, key, value)?;
+            let item = put_item(self.alloc, session, rank, key, value)?;
             if let Some(entry) = self.stack.send(item)? {
                 self.keep(out, entry)?;
             }
@@ -146,23 +148,22 @@ impl<E: Layers> History<E> {
     }
 
     /// What waits is packed.
-    fn flush(&mut self, out: &mut String) -> Result<()> {
+    fn flush(&mut self, out: &mut String) -> Result<(), Stuck> {
         match self.stack.flush()? {
-            Some(entry) => self.keep(out, entry),
-            None => bail!("nothing waits"),
+            Some(entry) => Ok(self.keep(out, entry)?),
+            None => Err(Stuck::Line),
         }
     }
 
     /// An entry was packed.
-    fn keep(&mut self, out: &mut String, entry: Entry) -> Result<()> {
-        writeln!(out, "packed:")?;
+    fn keep(&mut self, out: &mut String, entry: Entry) -> Result<(), AllocError> {
         push_entry(out, &entry)?;
         self.packed.push(entry)?;
         Ok(())
     }
 
     /// The packed entries come up, from position 0 on.
-    fn play_packed(&mut self, out: &mut String) -> Result<()> {
+    fn play_packed(&mut self, out: &mut String) -> Result<(), AllocError> {
         let packed = mem::replace(&mut self.packed, Vec::new(self.alloc));
         let mut pos = 0u64;
         for entry in packed.as_slice() {
@@ -172,72 +173,56 @@ impl<E: Layers> History<E> {
         Ok(())
     }
 
-    /// What the space has.
-    fn look(&self, out: &mut String, word: &str, words: &mut Words<'_>) -> Result<()> {
-        match word {
-            "clean" => self.clean(out, words),
-            "value" => self.value(out, words),
-            "from" => self.next_key(out, word, words, b""),
-            "after" => self.next_key(out, word, words, b"\0"),
-            _ => bail!("{word}: no word of a line"),
-        }
-    }
-
     /// `clean COUNT`: how many first entries are clean, of so many.
-    fn clean(&self, out: &mut String, words: &mut Words<'_>) -> Result<()> {
-        let count = words.number()?;
+    fn clean(&self, out: &mut String, count: u64) -> Result<(), AllocError> {
         let clean = clean_position(&self.stack.space, count)?;
-        writeln!(out, "clean {count}: {clean}")?;
-        Ok(())
+        writeln!(out, "clean {count}: {clean}")
     }
 
-    /// `value KEY`: the value at a key of the table.
-    fn value(&self, out: &mut String, words: &mut Words<'_>) -> Result<()> {
-        let key = words.word()?;
-        match value(&self.stack.space, key.as_bytes())? {
-            Some(value) => writeln!(out, "value {key}: {}", str::from_utf8(value.as_slice())?)?,
-            None => writeln!(out, "value {key}: none")?,
+    /// `value KEY`: the value at a key of the table. `from KEY` or `after KEY`: the least key that is at or above, or above
+    /// this one, and its value.
+    fn look(&self, out: &mut String, word: &str, key: &str) -> Result<(), Stuck> {
+        write!(out, "{word} {key}: ")?;
+        match word {
+            "value" => self.push_value(out, key.as_bytes()),
+            "from" => self.push_next(out, key.as_bytes()),
+            "after" => {
+                let mut start = Vec::from_slice(self.alloc, key.as_bytes())?;
+                start.push(0)?;
+                self.push_next(out, start.as_slice())
+            }
+            _ => Err(Stuck::Line),
+        }
+    }
+
+    fn push_value(&self, out: &mut String, key: &[u8]) -> Result<(), Stuck> {
+        match value(&self.stack.space, key)? {
+            Some(value) => writeln!(out, "{}", text_of(value.as_slice())?)?,
+            None => out.push_str("none\n")?,
         }
         Ok(())
     }
 
-    /// `from KEY` or `after KEY`: the least key of the table that is at or above, or above this one, and its value.
-    fn next_key(
-        &self,
-        out: &mut String,
-        word: &str,
-        words: &mut Words<'_>,
-        more: &[u8],
-    ) -> Result<()> {
-        let key = words.word()?;
-        let mut start = Vec::from_slice(self.alloc, key.as_bytes())?;
-        start.extend_from_slice(more)?;
-        let Some(found) = self.stack.space.seek(TABLE, start.as_slice())? else {
-            writeln!(out, "{word} {key}: none")?;
+    fn push_next(&self, out: &mut String, start: &[u8]) -> Result<(), Stuck> {
+        let Some(found) = self.stack.space.seek(TABLE, start)? else {
+            out.push_str("none\n")?;
             return Ok(());
         };
-        let value = value(&self.stack.space, found.as_slice())?.context("a key without a value")?;
-        let found = str::from_utf8(found.as_slice())?;
-        let value = str::from_utf8(value.as_slice())?;
-        writeln!(out, "{word} {key}: {found} = {value}")?;
-        Ok(())
+        write!(out, "{} = ", text_of(found.as_slice())?)?;
+        self.push_value(out, found.as_slice())
     }
 }
 
 /// The place, the session, the rank and the reply of what acted.
-fn push_act(out: &mut String, act: &Acted) -> Result<()> {
+fn push_act(out: &mut String, act: &Acted) -> Result<(), AllocError> {
     let place = act.place;
     let session = act.session.number();
     let rank = act.rank.number();
+    let none = if act.reply.is_empty() { "no bytes" } else { "" };
     write!(
         out,
-        "  {}.{} session {session} rank {rank}: ",
+        "  {}.{} session {session} rank {rank}: {none}",
         place.pos, place.sub
     )?;
-    if act.reply.is_empty() {
-        out.push_str("no bytes")?;
-    }
-    push_hex(out, act.reply.as_slice())?;
-    out.push_str("\n")?;
-    Ok(())
+    push_hex(out, act.reply.as_slice())
 }

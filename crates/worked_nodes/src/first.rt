@@ -13,7 +13,7 @@ use legal_journal::turns::Turns;
 pub(crate) struct First {
     pub second: Second,
     pub act: Option<Act>,
-    pub before: u32,
+    pub before: u64,
 }
 
 impl First {

@@ -6,17 +6,15 @@ ghost use Rattle.register_api.specs.View as register;
 ghost use Rattle.legal_journal.specs.Journal.{IsLegal};
 ghost use Rattle.loglet_api.specs.declared.call.Kind.TheVariants.{File};
 ghost use Rattle.loglet_api.specs.View.{IsFresh};
-ghost use Rattle.worked_nodes.specs.Resting.{anything, least_of_two, one_loglet, Rests, AreTwo, IsNew};
+ghost use Rattle.worked_nodes.specs.Resting.{anything, least_of_two, one_loglet, Rests, IsNew};
 
 use crate::rules::TwoNodes;
 use base_engine::fault::Fault;
 use base_engine::node::Node;
 use base_engine::over_virtual_log::what_is_held_is_shown;
-use delos_types::bytes::Bytes;
 use delos_types::item::Item;
 use delos_types::numbers::{NodeId, Rank, SessionId};
 use disk_model::{Disk, MemDisk};
-use engine_laws::laws::starts_empty;
 use engine_steps::layout::Kept;
 use fabric_core::fabric::Fabric;
 use fabric_core::own::Own;
@@ -28,9 +26,11 @@ use legal_journal::turns::Turns;
 use local_replica::layers::Layers;
 use local_replica::replica::LocalReplica;
 use local_store::Store;
+use log_laws::state::starts_empty;
 use loglet_api::loglet::Loglet;
 use meta_register::MetaRegister;
 use std::alloc::{AllocError, Global};
+use std::marker::Model;
 use table_core::command::{Found, Query};
 use virtual_log::log::VirtualLog;
 
@@ -176,12 +176,23 @@ fn take_up<E: Layers, D: Disk>(
     node.wake(log)
 }
 
-/// Two nodes over one fabric, of which one has it.
+/// Two nodes over one fabric, of which one has it. A clause sees the number of that one.
 #[derive(Drop)]
 pub struct Two<E: Layers, D: Disk> {
-    pub(crate) number: NodeId,
-    pub(crate) node: Node<Log, LocalReplica<E, D>>,
-    pub(crate) other: Resting<E, D>,
+    number: NodeId,
+    node: Node<Log, LocalReplica<E, D>>,
+    other: Resting<E, D>,
+}
+
+impl<E: Layers, D: Disk> Model for Two<E, D> {
+    ghost use Rattle.std.specs.Prelude.{ℕ};
+    ghost use Rattle.worked_nodes.specs.Resting.{AreTwo};
+
+    ghost Value = { ℕ };
+
+    ghost view = { λ t. t.number };
+
+    ghost invariant = { λ t. AreTwo t.number t.node t.other.number t.other.node t.other.log };
 }
 
 impl<E: Layers, D: Disk> Two<E, D> {
@@ -199,14 +210,13 @@ impl<E: Layers, D: Disk> Two<E, D> {
         requires other_kinds { E.kinds other_engines ≡ 1 ∷ 2 ∷ 3 ∷ 4 ∷ 5 ∷ [] }
         requires other_waiting { E.waiting other_engines ≡ [] }
         requires other_store { IsNew other_store }
-        ensures { IfSome result (λ two. AreTwo two.number two.node two.other.number two.other.node two.other.log) }
     {
         let fabric = fresh_fabric(alloc)?;
-        let other = NodeId::new(2)?;
+        let other = NodeId::new(2).unwrap();
         let log = fresh_log(alloc, Own { who: 2, fabric })?;
         let node = fresh_node(alloc, other, other_engines, other_store, log);
         let (other, fabric) = lay_down(other, node);
-        let number = NodeId::new(1)?;
+        let number = NodeId::new(1).unwrap();
         let log = fresh_log(alloc, Own { who: 1, fabric })?;
         let node = fresh_node(alloc, number, engines, store, log);
         Some(Two {
@@ -222,10 +232,7 @@ impl<E: Layers, D: Disk> Two<E, D> {
     }
 
     /// The log goes to the other node.
-    pub fn turned(self) -> Self
-        requires { AreTwo self.number self.node self.other.number self.other.node self.other.log }
-        ensures { AreTwo result.number result.node result.other.number result.other.node result.other.log }
-    {
+    pub fn turned(self) -> Self {
         let Two {
             number,
             node,
@@ -243,45 +250,28 @@ impl<E: Layers, D: Disk> Two<E, D> {
 
     pub fn propose(&mut self, item: Item) -> Result<(), Fault>
         requires item { IsProposable item }
-        requires two { AreTwo self.old.number self.old.node self.old.other.number self.old.other.node self.old.other.log }
-        ensures { AreTwo self.new.number self.new.node self.new.other.number self.new.other.node self.new.other.log }
     {
         self.node.propose(item)
     }
 
-    pub fn flush(&mut self) -> Result<(), AllocError>
-        requires { AreTwo self.old.number self.old.node self.old.other.number self.old.other.node self.old.other.log }
-        ensures { AreTwo self.new.number self.new.node self.new.other.number self.new.other.node self.new.other.log }
-    {
+    pub fn flush(&mut self) -> Result<(), AllocError> {
         self.node.flush()
     }
 
-    pub fn settle_all(&mut self) -> Result<(), Fault>
-        requires { AreTwo self.old.number self.old.node self.old.other.number self.old.other.node self.old.other.log }
-        ensures { AreTwo self.new.number self.new.node self.new.other.number self.new.other.node self.new.other.log }
-    {
+    pub fn settle_all(&mut self) -> Result<(), Fault> {
         self.node.settle_all()
     }
 
     /// The write number `after` from now on of the disk of the node that has the log stops inside itself; 0 takes that back.
-    pub fn stop(&mut self, after: u64)
-        requires { AreTwo self.old.number self.old.node self.old.other.number self.old.other.node self.old.other.log }
-        ensures { AreTwo self.new.number self.new.node self.new.other.number self.new.other.node self.new.other.log }
-    {
+    pub fn stop(&mut self, after: u64) {
         self.node.stop(after);
     }
 
-    pub fn sync(&mut self) -> Result<u64, Fault>
-        requires { AreTwo self.old.number self.old.node self.old.other.number self.old.other.node self.old.other.log }
-        ensures { AreTwo self.new.number self.new.node self.new.other.number self.new.other.node self.new.other.log }
-    {
+    pub fn sync(&mut self) -> Result<u64, Fault> {
         self.node.sync()
     }
 
-    pub fn trim_now(&mut self) -> Result<u64, Fault>
-        requires { AreTwo self.old.number self.old.node self.old.other.number self.old.other.node self.old.other.log }
-        ensures { AreTwo self.new.number self.new.node self.new.other.number self.new.other.node self.new.other.log }
-    {
+    pub fn trim_now(&mut self) -> Result<u64, Fault> {
         what_is_held_is_shown::<TwoNodes>();
         self.node.trim_now()
     }
@@ -301,10 +291,6 @@ impl<E: Layers, D: Disk> Two<E, D> {
 
     pub fn reply_of(&self, session: SessionId, rank: Rank) -> Result<Option<Kept>, AllocError> {
         self.node.reply_of(session, rank)
-    }
-
-    pub fn value(&self, key: &[u8]) -> Result<Option<Bytes>, AllocError> {
-        self.node.value(key)
     }
 
     pub fn read(&self, query: &Query) -> Result<Found, AllocError> {

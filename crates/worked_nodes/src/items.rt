@@ -10,36 +10,28 @@ use engine_api::pack::session_item;
 use std::alloc::Global;
 use table_core::command::Command;
 
-pub(crate) fn session_of(number: u64) -> Result<SessionId, Stuck> {
-    if number > 1000 {
-        return Err(Stuck::Word);
-    }
-    match SessionId::new(number as u16) {
-        Some(session) => Ok(session),
-        None => Err(Stuck::Word),
-    }
-}
-
-pub(crate) fn rank_of(number: u64) -> Result<Rank, Stuck> {
-    match Rank::new(number) {
-        Some(rank) => Ok(rank),
-        None => Err(Stuck::Word),
+/// A session, and one of its ranks.
+pub(crate) fn rank_of(session: u8, rank: u64) -> Result<(SessionId, Rank), Stuck> {
+    match (SessionId::new(u16::from(session)), Rank::new(rank)) {
+        (Some(session), Some(rank)) => Ok((session, rank)),
+        _ => Err(Stuck::Line),
     }
 }
 
 /// The item by which a session puts a value at a key, each of one byte.
 pub(crate) fn put_item(
     alloc: Global,
-    session: SessionId,
-    rank: Rank,
+    session: u8,
+    rank: u64,
     key: u8,
     value: u8,
 ) -> Result<Item, Stuck>
     ensures { IfOk result IsProposable }
 {
     if key < 33 || key > 126 {
-        return Err(Stuck::Word);
+        return Err(Stuck::Line);
     }
+    let (session, rank) = rank_of(session, rank)?;
     let key = Bytes::from_slice(alloc, &[key])?;
     let value = Bytes::from_slice(alloc, &[value])?;
     let item = session_item(alloc, session, rank, &Command::Put { key, value })?;

@@ -1,17 +1,16 @@
 //! What comes of a script for two nodes.
-ghost use Rattle.std.specs.Prelude.{◌≡◌, [], ◌∷◌, IfOk, OnOk};
+ghost use Rattle.std.specs.Prelude.{◌≡◌, [], ◌∷◌, IfOk};
 ghost use Rattle.engine_api.specs.Packing.{IsProposable};
-ghost use Rattle.worked_nodes.specs.Resting.{AreTwo, IsNew};
+ghost use Rattle.worked_nodes.specs.Resting.{IsNew};
 
 use crate::house::{Two, fresh_store};
-use crate::items::{put_item, rank_of, session_of};
+use crate::items::{put_item, rank_of};
 use crate::script::{Asked, Put, Step, script_of};
 use crate::stuck::Stuck;
-use crate::words::{Line, failing};
+use crate::words::{failing, text_of};
 use delos_types::bytes::Bytes;
 use delos_types::chain::Chain;
 use delos_types::item::Item;
-use delos_types::numbers::SessionId;
 use disk_model::{Disk, FailDisk, MemDisk};
 use engine_api::pack::{alive_item, leave_item};
 use engine_steps::layout::Kept;
@@ -23,37 +22,22 @@ use row_text::row::{Outcome, Row, Rows, Who};
 use std::alloc::{AllocError, Global};
 use table_core::command::{Query, Reply};
 
-/// What came of a script.
-#[derive(Drop)]
-struct Ran {
-    text: Bytes,
-    /// How often the disk of the last line's node failed.
-    faults: u64,
+/// The number of the session of a letter.
+fn session_of(letter: u8) -> u8 {
+    letter.saturating_sub(b'a')
 }
 
-/// The session of a letter.
-fn named(letter: u8) -> Result<SessionId, Stuck> {
-    session_of(u64::from(letter.saturating_sub(b'a')))
-}
-
-/// Commands go down.
-fn send<E: Layers, D: Disk>(alloc: Global, two: &mut Two<E, D>, puts: &[Put]) -> Result<(), Stuck>
-    requires { AreTwo two.old.number two.old.node two.old.other.number two.old.other.node two.old.other.log }
-    ensures { OnOk result (AreTwo two.new.number two.new.node two.new.other.number two.new.other.node two.new.other.log) }
-{
+/// Commands go down, and are played.
+fn send<E: Layers, D: Disk>(alloc: Global, two: &mut Two<E, D>, puts: &[Put]) -> Result<(), Stuck> {
     for put in puts {
-        let session = named(put.session)?;
-        let item = put_item(alloc, session, rank_of(put.rank)?, put.key, put.value)?;
+        let item = put_item(alloc, session_of(put.session), put.rank, put.key, put.value)?;
         two.propose(item)?;
     }
-    Ok(())
+    settle(two)
 }
 
 /// What waits and what is outstanding is carried to its end, and played.
-fn settle<E: Layers, D: Disk>(two: &mut Two<E, D>) -> Result<(), Stuck>
-    requires { AreTwo two.old.number two.old.node two.old.other.number two.old.other.node two.old.other.log }
-    ensures { OnOk result (AreTwo two.new.number two.new.node two.new.other.number two.new.other.node two.new.other.log) }
-{
+fn settle<E: Layers, D: Disk>(two: &mut Two<E, D>) -> Result<(), Stuck> {
     two.flush()?;
     two.settle_all()?;
     two.sync()?;
@@ -62,37 +46,32 @@ fn settle<E: Layers, D: Disk>(two: &mut Two<E, D>) -> Result<(), Stuck>
 
 /// An item goes down alone, and is played.
 fn pass<E: Layers, D: Disk>(two: &mut Two<E, D>, item: Item) -> Result<(), Stuck>
-    requires item { IsProposable item }
-    requires two { AreTwo two.old.number two.old.node two.old.other.number two.old.other.node two.old.other.log }
-    ensures { OnOk result (AreTwo two.new.number two.new.node two.new.other.number two.new.other.node two.new.other.log) }
+    requires { IsProposable item }
 {
     two.propose(item)?;
     settle(two)
 }
 
-fn name_of(alloc: Global, letter: u8) -> Result<Who, Stuck> {
+fn name_of(alloc: Global, letter: u8) -> Result<Who, AllocError> {
     let name = Bytes::from_slice(alloc, &[letter])?;
     Ok(Who::Session(name))
 }
 
-/// The row of a command; none where its rank hasn't acted.
-fn put_row<E: Layers, D: Disk>(
+/// The rows of the commands that acted.
+fn put_rows<E: Layers, D: Disk>(
     alloc: Global,
     two: &Two<E, D>,
-    put: &Put,
-) -> Result<Option<Row>, Stuck> {
-    let session = named(put.session)?;
-    let rank = rank_of(put.rank)?;
-    let Some(kept) = two.reply_of(session, rank)? else {
-        return Ok(None);
-    };
-    let who = name_of(alloc, put.session)?;
-    let outcome = placed(kept);
-    Ok(Some(Row {
-        number: put.line,
-        who,
-        outcome,
-    }))
+    puts: &[Put],
+    rows: &mut Vec<Row>,
+) -> Result<(), Stuck> {
+    for put in puts {
+        let (session, rank) = rank_of(session_of(put.session), put.rank)?;
+        if let Some(kept) = two.reply_of(session, rank)? {
+            let who = name_of(alloc, put.session)?;
+            add(rows, put.line, who, placed(kept))?;
+        }
+    }
+    Ok(())
 }
 
 /// Where a command acted. No other reply than `ok` comes in these scripts.
@@ -109,35 +88,15 @@ fn placed(kept: Kept) -> Outcome {
     }
 }
 
-fn put_rows<E: Layers, D: Disk>(
-    alloc: Global,
-    two: &Two<E, D>,
-    puts: &[Put],
-    rows: &mut Vec<Row>,
-) -> Result<(), Stuck> {
-    for put in puts {
-        if let Some(row) = put_row(alloc, two, put)? {
-            push_row(rows, row)?;
-        }
-    }
-    Ok(())
-}
-
 /// What a read finds, up to a tail.
-fn found<E: Layers, D: Disk>(two: &mut Two<E, D>, query: Query) -> Result<Outcome, Stuck>
-    requires { AreTwo two.old.number two.old.node two.old.other.number two.old.other.node two.old.other.log }
-    ensures { OnOk result (AreTwo two.new.number two.new.node two.new.other.number two.new.other.node two.new.other.log) }
-{
+fn found<E: Layers, D: Disk>(two: &mut Two<E, D>, query: Query) -> Result<Outcome, Stuck> {
     let after = two.sync()?;
     let found = two.read(&query)?;
     Ok(Outcome::Read { after, found })
 }
 
 /// The node tells how far it is clean.
-fn alive<E: Layers, D: Disk>(alloc: Global, two: &mut Two<E, D>) -> Result<Outcome, Stuck>
-    requires { AreTwo two.old.number two.old.node two.old.other.number two.old.other.node two.old.other.log }
-    ensures { OnOk result (AreTwo two.new.number two.new.node two.new.other.number two.new.other.node two.new.other.log) }
-{
+fn alive<E: Layers, D: Disk>(alloc: Global, two: &mut Two<E, D>) -> Result<Outcome, Stuck> {
     two.sync()?;
     let clean = two.clean()?;
     let item = alive_item(alloc, two.number(), clean)?;
@@ -145,28 +104,17 @@ fn alive<E: Layers, D: Disk>(alloc: Global, two: &mut Two<E, D>) -> Result<Outco
     Ok(Outcome::Alive { clean })
 }
 
-fn retire<E: Layers, D: Disk>(alloc: Global, two: &mut Two<E, D>) -> Result<Outcome, Stuck>
-    requires { AreTwo two.old.number two.old.node two.old.other.number two.old.other.node two.old.other.log }
-    ensures { OnOk result (AreTwo two.new.number two.new.node two.new.other.number two.new.other.node two.new.other.log) }
-{
+fn retire<E: Layers, D: Disk>(alloc: Global, two: &mut Two<E, D>) -> Result<Outcome, Stuck> {
     let item = leave_item(alloc, two.number())?;
     pass(two, item)?;
     if two.has_left()? {
         Ok(Outcome::Retired)
     } else {
-        Err(Stuck::Stays)
+        Err(Stuck::Failed)
     }
 }
 
-fn trim<E: Layers, D: Disk>(two: &mut Two<E, D>) -> Result<Outcome, Stuck>
-    requires { AreTwo two.old.number two.old.node two.old.other.number two.old.other.node two.old.other.log }
-    ensures { OnOk result (AreTwo two.new.number two.new.node two.new.other.number two.new.other.node two.new.other.log) }
-{
-    let trim = two.trim_now()?;
-    Ok(Outcome::Trimmed { trim })
-}
-
-fn query_of(alloc: Global, step: &Step) -> Result<Option<(u8, Query)>, Stuck> {
+fn query_of(alloc: Global, step: &Step) -> Result<Option<(u8, Query)>, AllocError> {
     match step {
         Step::Get { session, key } => {
             let key = Bytes::from_slice(alloc, &[*key])?;
@@ -187,45 +135,33 @@ fn take<E: Layers, D: Disk>(
     two: &mut Two<E, D>,
     line: &Asked,
     rows: &mut Vec<Row>,
-) -> Result<(), Stuck>
-    requires { AreTwo two.old.number two.old.node two.old.other.number two.old.other.node two.old.other.log }
-    ensures { OnOk result (AreTwo two.new.number two.new.node two.new.other.number two.new.other.node two.new.other.log) }
-{
+) -> Result<(), Stuck> {
     if let Some((session, query)) = query_of(alloc, &line.step)? {
         let outcome = found(two, query)?;
         let who = name_of(alloc, session)?;
-        return add(rows, line.number, who, outcome);
+        return Ok(add(rows, line.number, who, outcome)?);
     }
-    let node = Who::Node(two.number());
-    match &line.step {
+    let outcome = match &line.step {
         Step::Puts(puts) => {
             send(alloc, two, puts.as_slice())?;
-            settle(two)?;
-            put_rows(alloc, two, puts.as_slice(), rows)
+            return put_rows(alloc, two, puts.as_slice(), rows);
         }
-        Step::Stop(after) => {
-            two.stop(*after);
-            Ok(())
-        }
-        Step::Alive => add(rows, line.number, node, alive(alloc, two)?),
-        Step::Trim => add(rows, line.number, node, trim(two)?),
-        Step::Retire => add(rows, line.number, node, retire(alloc, two)?),
-        _ => Ok(()),
-    }
+        Step::Stop(after) => return Ok(two.stop(*after)),
+        Step::Alive => alive(alloc, two)?,
+        Step::Retire => retire(alloc, two)?,
+        _ => Outcome::Trimmed {
+            trim: two.trim_now()?,
+        },
+    };
+    Ok(add(rows, line.number, Who::Node(two.number()), outcome)?)
 }
 
-fn add(rows: &mut Vec<Row>, number: u64, who: Who, outcome: Outcome) -> Result<(), Stuck> {
-    let row = Row {
+fn add(rows: &mut Vec<Row>, number: u64, who: Who, outcome: Outcome) -> Result<(), AllocError> {
+    rows.push(Row {
         number,
         who,
         outcome,
-    };
-    push_row(rows, row)?;
-    Ok(())
-}
-
-fn push_row(rows: &mut Vec<Row>, row: Row) -> Result<(), AllocError> {
-    rows.push(row)?;
+    })?;
     Ok(())
 }
 
@@ -234,101 +170,65 @@ pub(crate) fn play<E: Layers>(
     alloc: Global,
     engines: E,
     other_engines: E,
-    input: &[Line<'_>],
-) -> anyhow::Result<String>
+    lines: &[&str],
+    out: &mut String,
+) -> Result<(), Stuck>
     requires kinds { E.kinds engines ≡ 1 ∷ 2 ∷ 3 ∷ 4 ∷ 5 ∷ [] }
     requires waiting { E.waiting engines ≡ [] }
     requires other_kinds { E.kinds other_engines ≡ 1 ∷ 2 ∷ 3 ∷ 4 ∷ 5 ∷ [] }
     requires other_waiting { E.waiting other_engines ≡ [] }
 {
-    let (failing, input) = failing(alloc, input)?;
-    let lines = script_of(alloc, input)?;
-    let ran = run_with(
-        alloc,
-        engines,
-        other_engines,
-        failing.as_slice(),
-        lines.as_slice(),
-    )?;
-    let mut out = String::from_str(alloc, str::from_utf8(ran.text.as_slice())?)?;
-    writeln!(out, "faults {}", ran.faults)?;
-    Ok(out)
-}
-
-/// Takes a script with two nodes of these engines, and answers its text. Those calls of the first node's disk fail.
-fn run_with<E: Layers>(
-    alloc: Global,
-    engines: E,
-    other_engines: E,
-    failing: &[u64],
-    lines: &[Asked],
-) -> Result<Ran, Stuck>
-    requires kinds { E.kinds engines ≡ 1 ∷ 2 ∷ 3 ∷ 4 ∷ 5 ∷ [] }
-    requires waiting { E.waiting engines ≡ [] }
-    requires other_kinds { E.kinds other_engines ≡ 1 ∷ 2 ∷ 3 ∷ 4 ∷ 5 ∷ [] }
-    requires other_waiting { E.waiting other_engines ≡ [] }
-{
+    let (failing, lines) = failing(alloc, lines)?;
+    let lines = script_of(alloc, lines)?;
     let store = store_of(alloc, failing)?;
-    let other_store = store_of(alloc, &[])?;
+    let other_store = store_of(alloc, Vec::new(alloc))?;
     let Some(two) = Two::new(alloc, engines, store, other_engines, other_store) else {
-        return Err(Stuck::Memory);
+        return Err(Stuck::Failed);
     };
-    run_lines(alloc, two, lines)
+    run_lines(alloc, two, lines.as_slice(), out)
 }
 
 /// An empty store, on a disk of which those calls fail.
-fn store_of(alloc: Global, failing: &[u64]) -> Result<Store<FailDisk>, Stuck>
+fn store_of(alloc: Global, failing: Vec<u64>) -> Result<Store<FailDisk>, Stuck>
     ensures { IfOk result IsNew }
 {
-    let failing = Vec::from_slice(alloc, failing)?;
     let disk = FailDisk::new(MemDisk::new(alloc), failing);
     match fresh_store(alloc, disk) {
         Some(store) => Ok(store),
-        None => Err(Stuck::Memory),
+        None => Err(Stuck::Failed),
     }
 }
 
 /// The node of this number has the log.
-fn at_node<E: Layers, D: Disk>(two: Two<E, D>, node: u8) -> Two<E, D>
-    requires { AreTwo two.number two.node two.other.number two.other.node two.other.log }
-    ensures { AreTwo result.number result.node result.other.number result.other.node result.other.log }
-{
+fn at_node<E: Layers, D: Disk>(two: Two<E, D>, node: u8) -> Two<E, D> {
     if two.number().number() == node {
         return two;
     }
     two.turned()
 }
 
-/// Takes a script, and answers its text.
+/// Takes a script, and adds its text.
 fn run_lines<E: Layers, D: Disk>(
     alloc: Global,
     two: Two<E, D>,
     lines: &[Asked],
-) -> Result<Ran, Stuck>
-    requires { AreTwo two.number two.node two.other.number two.other.node two.other.log }
-{
+    out: &mut String,
+) -> Result<(), Stuck> {
     let mut two = two;
     let mut rows = Vec::new(alloc);
     for line in lines {
         two = at_node(two, line.node);
         take(alloc, &mut two, line, &mut rows)?;
     }
-    text_of(alloc, two, rows)
-}
-
-/// The text of these rows, with the end and the chain behind them.
-fn text_of<E: Layers, D: Disk>(
-    alloc: Global,
-    two: Two<E, D>,
-    rows: Vec<Row>,
-) -> Result<Ran, Stuck> {
     let end = two.cursor();
     let (answer, faults) = two.end();
     let FabricAnswer::At(version, chain) = answer else {
-        return Err(Stuck::Meta);
+        return Err(Stuck::Failed);
     };
     let text = text_with(alloc, Rows::from_vec(rows), end, version, &chain)?;
-    Ok(Ran { text, faults })
+    out.push_str(text_of(text.as_slice())?)?;
+    writeln!(out, "faults {faults}")?;
+    Ok(())
 }
 
 /// The text where the chain has the one loglet.
@@ -340,10 +240,10 @@ fn text_with(
     chain: &Chain,
 ) -> Result<Bytes, Stuck> {
     let [segment] = chain.segments.as_slice() else {
-        return Err(Stuck::Word);
+        return Err(Stuck::Failed);
     };
     if segment.id != 0 {
-        return Err(Stuck::Word);
+        return Err(Stuck::Failed);
     }
     let text = render(alloc, &rows, end, version, chain, false, &["file"])?;
     Ok(text)

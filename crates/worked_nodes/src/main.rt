@@ -24,16 +24,20 @@ mod words;
 
 use cases::{Topic, play_file};
 
-/// What the cases are of, file by file.
-const TOPICS: [Topic; 4] = [Topic::Engines, Topic::Replicas, Topic::Nodes, Topic::Logs];
+/// The files of cases, and what they are of.
+const FILES: [(&str, Topic); 4] = [
+    ("engines.txt", Topic::Engines),
+    ("replicas.txt", Topic::Replicas),
+    ("nodes.txt", Topic::Nodes),
+    ("logs.txt", Topic::Logs),
+];
 
 fn main(rt: HostRuntime) -> anyhow::Result<()> {
-    let mut counts = Vec::new(rt.alloc());
-    for topic in TOPICS {
-        counts.push((topic.file(), play_file(&rt, topic)?))?;
+    let mut counts = String::new(rt.alloc());
+    for (file, topic) in FILES {
+        let count = play_file(&rt, file, topic)?;
+        writeln!(counts, "{file}: {count} cases")?;
     }
-    for (file, count) in counts.as_slice() {
-        println!(&rt; "{file}: {count} cases")?;
-    }
+    print!(&rt; "{counts}")?;
     Ok(())
 }

@@ -1,18 +1,18 @@
 //! Histories of a replica whose disk stops or fails.
 ghost use Rattle.std.specs.Prelude.{◌≡◌, [], ◌∷◌};
 
-use crate::items::{put_item, rank_of, session_of};
+use crate::items::{put_item, rank_of};
 use crate::laid::{Laid, push_entry};
-use crate::words::{Line, Words, failing, push_hex};
-use anyhow::{Context, Result, anyhow, bail, ensure};
+use crate::stuck::Stuck;
+use crate::words::{Words, failing, push_hex, text_of};
 use delos_types::entry::Entry;
-use delos_types::numbers::NodeId;
+use delos_types::numbers::{NodeId, SessionId};
 use disk_model::{FailDisk, MemDisk};
 use local_replica::layers::Layers;
 use local_replica::replica::LocalReplica;
 use local_store::Store;
 use replica_api::replica::{Applied, Reopened, Replica};
-use std::alloc::Global;
+use std::alloc::{AllocError, Global};
 
 /// A log has at most so many entries here.
 const MOST: u64 = 1000;
@@ -26,90 +26,103 @@ struct History<R: Replica + Drop> {
 }
 
 /// What comes of the lines of a case.
-pub(crate) fn play<E: Layers>(alloc: Global, engines: E, lines: &[Line<'_>]) -> Result<String>
+pub(crate) fn play<E: Layers>(
+    alloc: Global,
+    engines: E,
+    lines: &[&str],
+    out: &mut String,
+) -> Result<(), Stuck>
     requires { E.kinds engines ≡ 1 ∷ 2 ∷ 3 ∷ 4 ∷ 5 ∷ [] }
 {
     let (failing, lines) = failing(alloc, lines)?;
     let disk = FailDisk::new(MemDisk::new(alloc), failing);
-    let store = match Store::open_on(alloc, disk) {
-        Ok(store) => store,
-        Err(refused) => return Err(anyhow!("{}", refused.fault)),
+    let Ok(store) = Store::open_on(alloc, disk) else {
+        return Err(Stuck::Failed);
     };
-    let origin = NodeId::new(1).context("node")?;
+    let origin = NodeId::new(1).unwrap();
     let history = History {
         alloc,
         replica: LocalReplica::new(alloc, origin, engines, store),
         log: Vec::new(alloc),
     };
-    history.play(lines)
+    history.play(lines, out)
 }
 
 impl<R: Replica + Drop> History<R> {
-    fn play(self, lines: &[Line<'_>]) -> Result<String> {
+    fn play(self, lines: &[&str], out: &mut String) -> Result<(), Stuck> {
         let mut history = self;
-        let mut out = String::new(history.alloc);
         for line in lines {
-            history
-                .take_all(&mut out, line.text)
-                .context(format_args!("line {}", line.number))?;
-        }
-        Ok(out)
-    }
-
-    /// A line, or `repeat COUNT LINE; LINE ..`.
-    fn take_all(&mut self, out: &mut String, text: &str) -> Result<()> {
-        let mut words = Words::of(text);
-        if words.word()? != "repeat" {
-            return self.take(out, text);
-        }
-        let count = words.number()?;
-        let text = words.rest();
-        for _ in 0..count {
-            for text in text.split("; ") {
-                self.take(out, text)?;
-            }
+            history.take_all(out, line)?;
         }
         Ok(())
     }
 
-    fn take(&mut self, out: &mut String, text: &str) -> Result<()> {
-        let mut words = Words::of(text);
-        match words.word()? {
+    /// A line, or `repeat COUNT LINE; LINE ..`.
+    fn take_all(&mut self, out: &mut String, line: &str) -> Result<(), Stuck> {
+        let mut words = Words::of(line);
+        if words.word() != "repeat" {
+            return self.take(out, line);
+        }
+        let count = words.number();
+        let lines = words.rest();
+        for _ in 0..count {
+            for line in lines.split("; ") {
+                self.take(out, line)?;
+            }
+        }
+        words.end()
+    }
+
+    fn take(&mut self, out: &mut String, line: &str) -> Result<(), Stuck> {
+        let mut words = Words::of(line);
+        match words.word() {
             "item" => self.lay(&mut words)?,
-            "apply" => {
-                let came = self.apply()?;
-                self.show(out, text, came)?;
-            }
-            "stop" => {
-                self.replica.stop(words.number()?);
-                self.show(out, text, "done")?;
-            }
-            "reopen" => {
-                let came = self.reopen(words.number()?);
-                self.show(out, text, came)?;
-            }
             "send" => self.send(out, &mut words)?,
             "flush" => self.flush(out)?,
-            "reply" => self.reply(out, text, &mut words)?,
-            "node" => self.node(out, text, &mut words)?,
-            word => bail!("{word}: no word of a line"),
+            "reply" => self.reply(out, line, &mut words)?,
+            "node" => self.node(out, line, words.small())?,
+            name => {
+                let came = self.act(name, &mut words)?;
+                self.show(out, line, came)?;
+            }
         }
         words.end()
     }
 
     /// `item SESSION RANK COMMAND`: an entry of one item comes next in the log.
-    fn lay(&mut self, words: &mut Words<'_>) -> Result<()> {
+    fn lay(&mut self, words: &mut Words<'_>) -> Result<(), Stuck> {
         let mut laid = Laid::new(self.alloc);
         laid.add_items(self.alloc, words)?;
         self.log.push(laid.entry(self.alloc)?)?;
         Ok(())
     }
 
+    /// `apply`, `stop WRITE` or `reopen WORD`: what is answered.
+    fn act(&mut self, name: &str, words: &mut Words<'_>) -> Result<&'static str, Stuck> {
+        match name {
+            "apply" => self.apply(),
+            "stop" => {
+                self.replica.stop(words.number());
+                Ok("done")
+            }
+            "reopen" => match self.replica.reopen(words.number()) {
+                Reopened::Done => Ok("done"),
+                Reopened::DiskFault => Ok("disk fault"),
+                Reopened::Memory => Ok("out of memory"),
+            },
+            _ => Err(Stuck::Line),
+        }
+    }
+
     /// The entry at the cursor comes up.
-    fn apply(&mut self) -> Result<&'static str> {
+    fn apply(&mut self) -> Result<&'static str, Stuck> {
         let cursor = self.replica.cursor();
-        ensure!(cursor <= MOST, "a long log");
-        let entry = self.log.get(cursor as usize).context("no entry")?;
+        if cursor > MOST {
+            return Err(Stuck::Line);
+        }
+        let Some(entry) = self.log.get(cursor as usize) else {
+            return Err(Stuck::Line);
+        };
         Ok(match self.replica.apply(entry) {
             Applied::Done => "done",
             Applied::DiskFault => "disk fault",
@@ -118,79 +131,67 @@ impl<R: Replica + Drop> History<R> {
         })
     }
 
-    /// The disk is opened again, with this word.
-    fn reopen(&mut self, word: u64) -> &'static str {
-        match self.replica.reopen(word) {
-            Reopened::Done => "done",
-            Reopened::DiskFault => "disk fault",
-            Reopened::Memory => "out of memory",
-        }
-    }
-
     /// What was answered, and what the replica shows then.
-    fn show(&self, out: &mut String, text: &str, came: &str) -> Result<()> {
+    fn show(&self, out: &mut String, line: &str, came: &str) -> Result<(), Stuck> {
         let replica = &self.replica;
         let state = if replica.is_down() { "down" } else { "up" };
         let cursor = replica.cursor();
-        let last = replica.last_rank(session_of(0)?)?;
+        let last = replica.last_rank(SessionId::new(0).unwrap())?;
         let clean = replica.clean()?;
         write!(
             out,
-            "{text}: {came}; {state}, cursor {cursor}, last rank {last}, clean {clean}, "
+            "{line}: {came}; {state}, cursor {cursor}, last rank {last}, clean {clean}, "
         )?;
         match replica.value(b"c")? {
-            Some(value) => writeln!(out, "c = {}", str::from_utf8(value.as_slice())?)?,
-            None => writeln!(out, "no c")?,
+            Some(value) => writeln!(out, "c = {}", text_of(value.as_slice())?)?,
+            None => out.push_str("no c\n")?,
         }
         Ok(())
     }
 
     /// `send SESSION RANK KEY VALUE`: an item goes down, which puts the value at the key.
-    fn send(&mut self, out: &mut String, words: &mut Words<'_>) -> Result<()> {
-        let session = session_of(words.number()?)?;
-        let rank = rank_of(words.number()?)?;
-        let (key, value) = (words.byte()?, words.byte()?);
+    fn send(&mut self, out: &mut String, words: &mut Words<'_>) -> Result<(), Stuck> {
+        let (session, rank) = (words.small(), words.number());
+        let (key, value) = (words.byte(), words.byte());
         let item = put_item(self.alloc, session, rank, key, value)?;
         match self.replica.send(item)? {
-            Some(entry) => self.keep(out, entry),
-            None => {
-                out.push_str("send: waits\n")?;
-                Ok(())
-            }
+            Some(entry) => self.keep(out, entry)?,
+            None => out.push_str("send: waits\n")?,
         }
+        Ok(())
     }
 
     /// What waits is packed.
-    fn flush(&mut self, out: &mut String) -> Result<()> {
+    fn flush(&mut self, out: &mut String) -> Result<(), Stuck> {
         match self.replica.flush()? {
-            Some(entry) => self.keep(out, entry),
-            None => bail!("nothing waits"),
+            Some(entry) => Ok(self.keep(out, entry)?),
+            None => Err(Stuck::Line),
         }
     }
 
     /// A packed entry comes next in the log.
-    fn keep(&mut self, out: &mut String, entry: Entry) -> Result<()> {
-        out.push_str("packed:\n")?;
+    fn keep(&mut self, out: &mut String, entry: Entry) -> Result<(), AllocError> {
         push_entry(out, &entry)?;
         self.log.push(entry)?;
         Ok(())
     }
 
     /// `reply SESSION RANK`: where a rank acted, and its reply.
-    fn reply(&self, out: &mut String, text: &str, words: &mut Words<'_>) -> Result<()> {
-        let session = session_of(words.number()?)?;
-        let rank = rank_of(words.number()?)?;
-        let kept = self.replica.reply_of(session, rank)?.context("no reply")?;
-        write!(out, "{text}: {}.{} ", kept.place.pos, kept.place.sub)?;
+    fn reply(&self, out: &mut String, line: &str, words: &mut Words<'_>) -> Result<(), Stuck> {
+        let (session, rank) = rank_of(words.small(), words.number())?;
+        let Some(kept) = self.replica.reply_of(session, rank)? else {
+            return Err(Stuck::Line);
+        };
+        write!(out, "{line}: {}.{} ", kept.place.pos, kept.place.sub)?;
         push_hex(out, kept.reply.as_slice())?;
-        out.push_str("\n")?;
         Ok(())
     }
 
     /// `node NUMBER`: what is kept of a node, and the trim that was asked for.
-    fn node(&self, out: &mut String, text: &str, words: &mut Words<'_>) -> Result<()> {
-        let number = u8::try_from(words.number()?)?;
-        let node = NodeId::new(number).context("no node")?;
+    fn node(&self, out: &mut String, line: &str, number: u8) -> Result<(), Stuck> {
+        let Some(node) = NodeId::new(number) else {
+            return Err(Stuck::Line);
+        };
         let left = if self.replica.has_left(node)? {
             "left"
         } else {
@@ -198,7 +199,7 @@ impl<R: Replica + Drop> History<R> {
         };
         let reported = self.replica.reported(node)?;
         let trim = self.replica.trim_point()?;
-        writeln!(out, "{text}: {left}, reported {reported}, trim {trim}")?;
+        writeln!(out, "{line}: {left}, reported {reported}, trim {trim}")?;
         Ok(())
     }
 }

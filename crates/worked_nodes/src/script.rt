@@ -1,7 +1,7 @@
 //! Scripts for two nodes.
-use crate::words::{Line, Words};
-use anyhow::{Context, Result, bail};
-use std::alloc::Global;
+use crate::stuck::Stuck;
+use crate::words::Words;
+use std::alloc::{AllocError, Global};
 use std::mem;
 
 /// `on NODE SESSION put KEY VALUE`: the number of the line, the session's letter, the command's rank there, and a key and a
@@ -51,7 +51,7 @@ struct Script {
 }
 
 /// What the lines ask for. Commands of one node, line by line, go down together.
-pub(crate) fn script_of(alloc: Global, lines: &[Line<'_>]) -> Result<Vec<Asked>> {
+pub(crate) fn script_of(alloc: Global, lines: &[&str]) -> Result<Vec<Asked>, Stuck> {
     let mut script = Script {
         alloc,
         asked: Vec::new(alloc),
@@ -62,71 +62,82 @@ pub(crate) fn script_of(alloc: Global, lines: &[Line<'_>]) -> Result<Vec<Asked>>
     let mut number = 0u64;
     for line in lines {
         number = number.saturating_add(1);
-        script
-            .read(number, line.text)
-            .context(format_args!("line {}", line.number))?;
+        script.read(number, &mut Words::of(line))?;
     }
     script.close()?;
     Ok(script.asked)
 }
 
 impl Script {
-    fn read(&mut self, number: u64, text: &str) -> Result<()> {
-        let mut words = Words::of(text);
-        match words.word()? {
+    fn read(&mut self, number: u64, words: &mut Words<'_>) -> Result<(), Stuck> {
+        match words.word() {
             "barrier" => self.close()?,
-            "on" => self.read_on(number, &mut words)?,
-            word => bail!("{word}: no word of a line"),
+            "on" => self.read_on(number, words)?,
+            _ => return Err(Stuck::Line),
         }
         words.end()
     }
 
-    fn read_on(&mut self, number: u64, words: &mut Words<'_>) -> Result<()> {
-        let node = match words.word()? {
+    fn read_on(&mut self, number: u64, words: &mut Words<'_>) -> Result<(), Stuck> {
+        let node = match words.word() {
             "n1" => 1,
             "n2" => 2,
-            word => bail!("{word}: no node"),
+            _ => return Err(Stuck::Line),
         };
-        match words.word()? {
-            "stop" => {
-                for after in words.numbers(self.alloc)? {
-                    self.ask(number, node, Step::Stop(after))?;
-                }
-                Ok(())
-            }
-            "alive" => self.ask(number, node, Step::Alive),
-            "trim" => self.ask(number, node, Step::Trim),
-            "retire" => self.ask(number, node, Step::Retire),
-            session => self.read_session(number, node, session, words),
+        let step = match words.word() {
+            "stop" => return self.read_stops(number, node, words),
+            "alive" => Step::Alive,
+            "trim" => Step::Trim,
+            "retire" => Step::Retire,
+            session => return self.read_session(number, node, session.as_bytes(), words),
+        };
+        Ok(self.ask(number, node, step)?)
+    }
+
+    /// `stop NUMBERS`: a step for each number.
+    fn read_stops(&mut self, number: u64, node: u8, words: &mut Words<'_>) -> Result<(), Stuck> {
+        for after in words.numbers(self.alloc)? {
+            self.ask(number, node, Step::Stop(after))?;
         }
+        Ok(())
     }
 
     fn read_session(
         &mut self,
         number: u64,
         node: u8,
-        session: &str,
+        session: &[u8],
         words: &mut Words<'_>,
-    ) -> Result<()> {
-        let [session] = session.as_bytes() else {
-            bail!("{session}: no session");
+    ) -> Result<(), Stuck> {
+        let [session] = session else {
+            return Err(Stuck::Line);
         };
         let session = *session;
-        match words.word()? {
-            "put" => self.put(number, node, session, words),
-            "get" => {
-                let key = words.byte()?;
-                self.ask(number, node, Step::Get { session, key })
+        let (command, key) = (words.word(), words.byte());
+        let step = match command {
+            "put" => {
+                let value = words.byte();
+                return Ok(self.put(number, node, session, key, value)?);
             }
-            "scan" => {
-                let (low, high) = (words.byte()?, words.byte()?);
-                self.ask(number, node, Step::Scan { session, low, high })
-            }
-            word => bail!("{word}: no command"),
-        }
+            "get" => Step::Get { session, key },
+            "scan" => Step::Scan {
+                session,
+                low: key,
+                high: words.byte(),
+            },
+            _ => return Err(Stuck::Line),
+        };
+        Ok(self.ask(number, node, step)?)
     }
 
-    fn put(&mut self, number: u64, node: u8, session: u8, words: &mut Words<'_>) -> Result<()> {
+    fn put(
+        &mut self,
+        line: u64,
+        node: u8,
+        session: u8,
+        key: u8,
+        value: u8,
+    ) -> Result<(), AllocError> {
         if node != self.node {
             self.close()?;
             self.node = node;
@@ -139,17 +150,17 @@ impl Script {
             }
         }
         self.puts.push(Put {
-            line: number,
+            line,
             session,
             rank,
-            key: words.byte()?,
-            value: words.byte()?,
+            key,
+            value,
         })?;
         Ok(())
     }
 
     /// No further command goes down with these.
-    fn close(&mut self) -> Result<()> {
+    fn close(&mut self) -> Result<(), AllocError> {
         let puts = mem::replace(&mut self.puts, Vec::new(self.alloc));
         if let Some(first) = puts.first() {
             self.asked.push(Asked {
@@ -161,7 +172,7 @@ impl Script {
         Ok(())
     }
 
-    fn ask(&mut self, number: u64, node: u8, step: Step) -> Result<()> {
+    fn ask(&mut self, number: u64, node: u8, step: Step) -> Result<(), AllocError> {
         self.close()?;
         self.asked.push(Asked { number, node, step })?;
         Ok(())

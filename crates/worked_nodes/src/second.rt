@@ -20,7 +20,7 @@ use virtual_log::extend::extend_on;
 use virtual_log::truncate::truncate_on;
 
 /// What a second user does.
-#[derive(Clone, Copy, PartialEq, Eq, Debug)]
+#[derive(Clone, Copy)]
 pub(crate) enum Act {
     /// Replaces the last loglet.
     Extend,

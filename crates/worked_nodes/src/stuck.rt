@@ -1,22 +1,17 @@
 //! Why a case has no outcome.
 use base_engine::fault::Fault;
-use delos_types::cause::Cause;
-use std::alloc::AllocError;
+use std::alloc::{AllocError, AllocFailed};
 use thiserror::Error;
 
 /// Why a case has no outcome.
-#[derive(Clone, Copy, PartialEq, Eq, Debug, Error)]
+#[derive(Clone, Copy, Debug, Error)]
 pub(crate) enum Stuck {
     #[error("out of memory")]
     Memory,
-    #[error("a word that no case has")]
-    Word,
-    #[error("the register of the chain failed")]
-    Meta,
-    #[error("a node that was asked to leave hasn't left")]
-    Stays,
-    #[error("a line was left open")]
-    Open(Cause),
+    #[error("a line that no case has, or not there")]
+    Line,
+    #[error("a disk, a register or a log failed")]
+    Failed,
 }
 
 impl From<AllocError> for Stuck {
@@ -25,10 +20,16 @@ impl From<AllocError> for Stuck {
     }
 }
 
+impl<T: Drop> From<AllocFailed<T>> for Stuck {
+    fn from(_: AllocFailed<T>) -> Self {
+        Stuck::Memory
+    }
+}
+
 impl From<Fault> for Stuck {
     fn from(fault: Fault) -> Self {
         match fault {
-            Fault::Because(cause) => Stuck::Open(cause),
+            Fault::Because(_) => Stuck::Failed,
             Fault::Memory => Stuck::Memory,
         }
     }

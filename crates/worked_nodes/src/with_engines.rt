@@ -2,9 +2,8 @@
 ghost use Rattle.std.specs.Prelude.{◌≡◌, [], ◌∷◌};
 
 use crate::cases::Topic;
-use crate::words::Line;
+use crate::stuck::Stuck;
 use crate::{engines, lines, logs, replicas};
-use anyhow::Result;
 use batch_engine::BatchEngine;
 use engine_steps::engine::Engine;
 use local_replica::layers::Layers;
@@ -28,10 +27,15 @@ macro_rules! engines {
 }
 
 /// What comes of the lines of a case. There are engines for two nodes, of which a case takes what it needs.
-pub(crate) fn play(alloc: Global, topic: Topic, input: &[Line<'_>]) -> Result<String> {
+pub(crate) fn play(
+    alloc: Global,
+    topic: Topic,
+    input: &[&str],
+    out: &mut String,
+) -> Result<(), Stuck> {
     let first = engines!(alloc);
     let second = engines!(alloc);
-    play_with(alloc, first, second, topic, input)
+    play_with(alloc, first, second, topic, input, out)
 }
 
 fn play_with<E: Layers>(
@@ -39,17 +43,18 @@ fn play_with<E: Layers>(
     first: E,
     second: E,
     topic: Topic,
-    input: &[Line<'_>],
-) -> Result<String>
+    input: &[&str],
+    out: &mut String,
+) -> Result<(), Stuck>
     requires kinds { E.kinds first ≡ 1 ∷ 2 ∷ 3 ∷ 4 ∷ 5 ∷ [] }
     requires waiting { E.waiting first ≡ [] }
     requires other_kinds { E.kinds second ≡ 1 ∷ 2 ∷ 3 ∷ 4 ∷ 5 ∷ [] }
     requires other_waiting { E.waiting second ≡ [] }
 {
     match topic {
-        Topic::Engines => engines::play(alloc, first, input),
-        Topic::Replicas => replicas::play(alloc, first, input),
-        Topic::Nodes => lines::play(alloc, first, second, input),
-        Topic::Logs => logs::play(alloc, input),
+        Topic::Engines => engines::play(alloc, first, input, out),
+        Topic::Replicas => replicas::play(alloc, first, input, out),
+        Topic::Nodes => lines::play(alloc, first, second, input, out),
+        Topic::Logs => logs::play(alloc, input, out),
     }
 }

@@ -1,5 +1,5 @@
 use Rattle.std.proofs.Common.{[], sym, ap, subst, ◌∙◌}
-use Rattle.engine_laws.specs.State.{IsStateOf}
+use Rattle.log_laws.specs.State.{IsStateOf}
 use Rattle.local_store.specs.View as store
 use Rattle.worked_nodes.proofs.Resting.{none_asked_so, survives_so}
 use Rattle.worked_nodes.proofs.house.fresh_node.Goals as goal
