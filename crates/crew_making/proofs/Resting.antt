@@ -8,8 +8,8 @@ use Rattle.delos_types.specs.declared.entry.Entry.{Entry}
 use Rattle.delos_types.specs.declared.cause.Cause.{Cause}
 use Rattle.legal_journal.specs.declared.events.Event.{Event}
 use Rattle.legal_journal.specs.Journal.{IsLegal, state_of, tail_of}
-use Rattle.unsealed_chain.specs.Unsealed.{IsUnsealed}
-use Rattle.unsealed_chain.proofs.Staying.{begins_unsealed}
+use Rattle.journal_laws.specs.Unsealed.{IsUnsealed}
+use Rattle.journal_laws.proofs.Staying.{begins_unsealed}
 use Rattle.engine_api.specs.Acted.{asked_in}
 use Rattle.engine_api.specs.Order.{gap_from}
 use Rattle.engine_steps.specs.declared.layout.Kept.{Kept}
@@ -18,9 +18,9 @@ use Rattle.replica_api.specs.Replica.{Saved}
 use Rattle.script_text.specs.declared.asks.NamedLine.{NamedLine}
 use Rattle.fabric_core.proofs.Shelf.{some_at}
 use Rattle.fitting_run.specs.Faults.{lacks_store}
-use Rattle.one_thread.specs.Seats.{SeatView, node_of}
-use Rattle.node_sessions.specs.declared.desk.Desk.{Desk}
-use Rattle.node_sessions.specs.UnderWay.{IsGiven, ranks_in}
+use Rattle.turn_scopes.specs.Seats.{SeatView, node_of}
+use Rattle.node_lines.specs.declared.desk.Desk.{Desk}
+use Rattle.node_lines.specs.UnderWay.{IsGiven, ranks_in}
 use Rattle.node_lines.specs.declared.lines.Looked.{Looked}
 use Rattle.node_lines.specs.declared.lines.Looked.TheVariants as looked
 use Rattle.node_lines.specs.Moving.{CanPack, IsQuiet, HasNoneOf}

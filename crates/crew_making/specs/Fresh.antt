@@ -6,8 +6,8 @@ use Rattle.chain_map.specs.Chain.{first_chain}
 use Rattle.virtual_log.specs.Log as log
 use Rattle.replica_api.specs.Replica.{Saved, ReplicaView}
 use Rattle.replica_api.specs.Fresh.{IsFreshReplica}
-use Rattle.one_thread.specs.Seats.{SeatView, SeatOk}
-use Rattle.node_sessions.specs.declared.desk.Desk.{Desk}
+use Rattle.turn_scopes.specs.Seats.{SeatView, SeatOk}
+use Rattle.node_lines.specs.declared.desk.Desk.{Desk}
 
 -- a log that knows nothing but the first chain, over so many loglets
 pub record IsFreshLog (cells : ℕ) (l : log.RestedView) : Type 0 where

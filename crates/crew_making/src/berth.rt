@@ -8,11 +8,11 @@ ghost use Rattle.crew_making.specs.Fresh.{AreFreshDesks, IsFreshLog};
 use crate::early::Early;
 use delos_types::numbers::SessionId;
 use fate_words::chooser::Chooser;
-use node_sessions::desk::Desk;
-use one_thread::terms::{By, Terms};
+use node_lines::desk::Desk;
 use replica_api::node::OpenNode;
 use replica_api::replica::Replica;
 use std::alloc::{AllocError, Global};
+use turn_scopes::terms::{By, Terms};
 use virtual_log::log::VirtualLog;
 use virtual_log::rest::Rested as RestedLog;
 

@@ -22,14 +22,14 @@ use loglet_api::loglet::Loglet;
 use node_crew::crew::Crew;
 use node_lines::lines::Looked;
 use node_workers::worker::Worker;
-use one_thread::seat::Seat;
-use one_thread::terms::{Scope, Terms, Within};
 use register_api::Register;
 use replica_api::node::OpenNode;
 use replica_api::replica::Replica;
 use script_text::asks::NamedLine;
 use std::alloc::{AllocError, Global};
 use std::marker::Brand;
+use turn_scopes::seat::Seat;
+use turn_scopes::terms::{By, Scope, Terms, Within};
 use virtual_log::rest::Rested as RestedLog;
 
 /// A node gets its seat before there is a fabric, within a scope. The counts of commands that were sent are handed in for the rules
@@ -49,7 +49,7 @@ fn seat_within<K: Terms, Q: Scope, S: Replica, C: Chooser>(
     ensures seat { IsNewSeat Q.sends Q.floor K.shelf S.state S.spells nodes who result }
     ensures replica { result.node.replica ≡ S.shows replica }
 {
-    let log = log.wake(Early::<Within<K, Q>>::new(who));
+    let log = log.wake(Early::<Within<By<K>, Q>>::new(who));
     let (node, log) = Node::new(alloc, nodes, log, replica).rest();
     let (log, _) = log.rest();
     Seat::new(who, log, node)

@@ -1,51 +1,54 @@
 //! The nodes of a run are taken apart.
-ghost use Rattle.std.specs.Prelude.{◌≡◌, ◌≤◌, ◌+◌, ℕ, List, [], map, length};
+ghost use Rattle.std.specs.Prelude.{◌≡◌, ◌≤◌, [], map, length};
 ghost use Rattle.std.specs.Vec.{vec_capacity};
-ghost use Rattle.delos_types.specs.declared.entry.Entry.{Entry};
-ghost use Rattle.one_thread.specs.Seats.{SeatOk};
+ghost use Rattle.turn_scopes.specs.Beside.{Narrows};
+ghost use Rattle.turn_scopes.specs.Seats.{SeatOk};
 ghost use Rattle.node_crew.specs.Crews.{CrewStands};
 ghost use Rattle.crew_making.specs.Apart.{AreAsTold};
 
-use fabric_core::fabric::{Fabric, Parts};
+use fabric_core::fabric::Parts;
 use fate_words::chooser::Chooser;
 use loglet_api::loglet::Loglet;
 use node_crew::crew::Crew;
 use node_workers::worker::Worker;
-use one_thread::seat::Seat;
-use one_thread::terms::{By, Scope, Terms};
 use register_api::Register;
 use replica_api::node::OpenNode;
 use replica_api::replica::Replica;
 use std::marker::Brand;
+use turn_scopes::access::Access;
+use turn_scopes::lone::Lone;
+use turn_scopes::seat::Seat;
+use turn_scopes::terms::{By, Scope, Terms};
 
-/// A node in its parts, and the fabric, which was lent to it for that.
-struct Apart<L: Loglet, R: Register, K: Terms, S: Replica, C: Chooser> {
+/// A node in its parts, and the access, which was lent to it for that.
+struct Apart<A: Access, S: Replica, C: Chooser> {
     node: OpenNode<S, C>,
-    fabric: Fabric<L, R, By<K>>,
+    access: A,
 }
 
 /// Takes a node apart, within a scope. What it has sent down and not settled is dropped, as if its messages were lost.
-fn part_within<L: Loglet, R: Register, K: Terms, Q: Scope, S: Replica, C: Chooser>(
-    fabric: Fabric<L, R, By<K>>,
+fn part_within<A: Access, Q: Scope, S: Replica, C: Chooser>(
+    access: A,
     seat: Seat<S, C>,
-) -> Apart<L, R, K, S, C>
-    requires seat { SeatOk Q.sends Q.floor K.shelf S.state S.spells fabric.journal seat }
-    requires narrower { (who : ℕ) (e : Entry) → Q.sends who e → K.may who e }
-    requires lower { (log : List Entry) (n : ℕ) → Q.floor log n → K.floor log n }
-    requires since { Q.since ≡ fabric.journal }
+) -> Apart<A, S, C>
+    requires who { seat.who ≡ A.who access }
+    requires narrows { Narrows A.Law.may Q.sends A.Law.floor Q.floor A.Law.shelf (A.beside (A.who access)) }
+    requires seat { SeatOk Q.sends Q.floor A.Law.shelf S.state S.spells (A.seen access) seat }
+    requires whose { Q.who ≡ A.who access }
+    requires since { Q.since ≡ A.seen access }
     ensures replica { S.shows result.node.replica ≡ seat.node.replica }
-    ensures journal { result.fabric.journal ≡ fabric.journal }
+    ensures seen { A.seen result.access ≡ A.seen access }
 {
-    let node = seat.wake::<L, R, K, Q>(fabric);
+    let node = seat.wake::<A, Q>(access);
     let (log, replica) = node.into_parts();
     let parts = log.into_parts();
-    let fabric = parts.turns.into_fabric();
+    let access = parts.turns.into_access();
     Apart {
         node: OpenNode {
             replica,
             chooser: parts.chooser,
         },
-        fabric,
+        access,
     }
 }
 
@@ -70,8 +73,12 @@ pub fn part_crew<L: Loglet, R: Register, K: Terms, S: Replica, C: Chooser>(
     let (mut fabric, mut workers) = (fabric, workers);
     while !workers.is_empty() {
         let Worker { seat, desks: _ } = workers.remove(0);
-        let Apart { node, fabric: rest } = part_within::<L, R, K, Brand, S, C>(fabric, seat);
-        fabric = rest;
+        let lone = Lone {
+            who: seat.who(),
+            fabric,
+        };
+        let Apart { node, access } = part_within::<Lone<L, R, By<K>>, Brand, S, C>(lone, seat);
+        fabric = access.fabric;
         nodes.push_reserved(node);
     }
     workers.destroy_empty();

@@ -6,8 +6,8 @@ use Rattle.fabric_core.proofs.Marks.{at_end, not_at_end}
 use Rattle.script_text.specs.declared.asks.NamedLine.{NamedLine}
 use Rattle.row_text.specs.declared.row.Row.{Row}
 use Rattle.node_lines.specs.declared.lines.Looked.{Looked}
-use Rattle.course_ends.specs.Closing.{WorkerEnd}
-use Rattle.course_ends.specs.Rows.{AreRows, CanTell, IsRowOf, TellsIt, desk_for}
+use Rattle.run_ends.specs.Closing.{WorkerEnd}
+use Rattle.run_ends.specs.Rows.{AreRows, CanTell, IsRowOf, TellsIt, desk_for}
 
 pub ok_then : {T E : Type 0} (r : Result T E) {P Q : T → Type 0} → IfOk r P → ((x : T) → P x → Q x) → IfOk r Q
 ok_then (Ok x) p f = f x p

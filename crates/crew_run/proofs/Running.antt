@@ -34,10 +34,10 @@ use Rattle.run_course.specs.Script.{AreLines, logs_at, asked_by}
 use Rattle.run_course.specs.Workers.{CanSend}
 use Rattle.run_course.proofs.Lines.{at_get, rank_is}
 use Rattle.node_crew.specs.Turns.{MaySendAll}
-use Rattle.line_rules.specs.Rules.{may_of}
-use Rattle.one_thread.specs.Seats.{SeatView}
-use Rattle.node_sessions.specs.declared.desk.Desk.{Desk}
-use Rattle.course_ends.specs.Closing.{WorkerEnd, IsGivenBack}
+use Rattle.run_ends.specs.Rules.{may_of}
+use Rattle.turn_scopes.specs.Seats.{SeatView}
+use Rattle.node_lines.specs.declared.desk.Desk.{Desk}
+use Rattle.run_ends.specs.Closing.{WorkerEnd, IsGivenBack}
 use Rattle.crew_making.specs.Apart.{AreAsTold}
 use Rattle.crew_run.specs.Telling.{FitsGivenBack}
 use Rattle.crew_run.specs.Running.{RunTold}

@@ -22,18 +22,18 @@ use Rattle.legal_journal.proofs.Legal.{IsLegalFrom-split, after_all-append, lega
 use Rattle.fabric_core.specs.Log.{virtual_tail}
 use Rattle.virtual_log.specs.Holding.{Holds}
 use Rattle.base_engine.specs.Reading.{IsFront}
-use Rattle.journal_faults.specs.Faults.{fault_of, faults_in, is_full_of, is_meta}
+use Rattle.journal_laws.specs.Faults.{fault_of, faults_in, is_full_of, is_meta}
 use Rattle.fitting_run.specs.Yard.{Shown}
 use Rattle.fitting_run.specs.Calm.{IsCalm}
 use Rattle.fitting_run.specs.Faults.{faults_of}
 use Rattle.run_laws.proofs.Members.{Among, contains-among}
 use Rattle.run_course.proofs.Lines.{count-cons}
-use Rattle.course_ends.specs.Closing.{WorkerEnd, IsGivenBack}
-use Rattle.course_ends.specs.Reads.{AreReads}
-use Rattle.course_ends.proofs.Counting.{AreCounted}
-use Rattle.course_ends.proofs.Reading.{reads_keep}
-use Rattle.crew_closing.specs.Finishing.{SeesAll}
-use Rattle.crew_closing.proofs.Opening.{same_tail}
+use Rattle.run_ends.specs.Closing.{WorkerEnd, IsGivenBack}
+use Rattle.run_ends.specs.Reads.{AreReads}
+use Rattle.run_ends.proofs.Counting.{AreCounted}
+use Rattle.run_ends.proofs.Reading.{reads_keep}
+use Rattle.run_closing.specs.Finishing.{SeesAll}
+use Rattle.run_closing.proofs.Opening.{same_tail}
 
 -- The fault of an event, and those of the events after it
 

@@ -7,16 +7,16 @@ use Rattle.legal_journal.specs.declared.events.FabricCall.{FabricCall}
 use Rattle.legal_journal.specs.declared.events.FabricCall.TheVariants.{ReadChain, MendMeta}
 use Rattle.legal_journal.specs.Journal.{IsLegal}
 use Rattle.replica_api.specs.Replica.{Saved}
-use Rattle.one_thread.specs.Alone.{Since, AreOwn}
-use Rattle.one_thread.specs.Seats.{SeatView, SeatOk}
-use Rattle.worker_laws.proofs.Staying.{seat_later}
+use Rattle.turn_scopes.specs.Alone.{OwnSince, AreOwn}
+use Rattle.turn_scopes.specs.Seats.{SeatView, SeatOk}
+use Rattle.node_lines.proofs.Staying.{seat_later}
 use Rattle.node_crew.specs.Crews.{CrewStands}
-use Rattle.course_ends.specs.Reads.{AreReads}
+use Rattle.run_ends.specs.Reads.{AreReads}
 use Rattle.last_chain.specs.Last.{AsksOnce, AskedOnce, calls_of}
 
 -- each node can take the fabric still
 pub stands_on : {A : Type 0} (may : ℕ → Entry → Type 0) (floor : List Entry → ℕ → Type 0) (shelf : List ℕ) (state : List Entry → SpaceMap → Type 0) (spells : List ℕ → Saved → Type 0) (who : ℕ) (early new : List Event) (seat : A → SeatView) (workers : List A)
-    → Since who early new → IsLegal may floor shelf new → CrewStands may floor shelf state spells early seat workers → CrewStands may floor shelf state spells new seat workers
+    → OwnSince who early new → IsLegal may floor shelf new → CrewStands may floor shelf state spells early seat workers → CrewStands may floor shelf state spells new seat workers
 stands_on may floor shelf state spells who early new seat workers since legal h = λ j w at.
     subst (λ l. SeatOk may floor shelf state spells l (seat w)) (sym since.seen)
     (seat_later may floor shelf early since.more (subst (IsLegal may floor shelf) since.seen legal) state spells (seat w) (h j w at))
@@ -28,7 +28,7 @@ cancel : (xs ys zs : List Event) → xs ++ ys ≡ xs ++ zs → ys ≡ zs
 cancel [] ys zs h = h
 cancel (x ∷ xs) ys zs h = cancel xs ys zs (tail_same x (xs ++ ys) (xs ++ zs) h)
 
-pub own_more : (who : ℕ) (early new : List Event) → Since who early new → (a : AsksOnce early new) → AreOwn who a.more
+pub own_more : (who : ℕ) (early new : List Event) → OwnSince who early new → (a : AsksOnce early new) → AreOwn who a.more
 own_more who early new since a = subst (AreOwn who) (cancel early since.more a.more (sym since.seen ∙ a.seen)) since.own
 
 one-read : (es : List Event) → calls_of es ≡ ReadChain ∷ [] → AreReads es

@@ -13,7 +13,7 @@ use Rattle.fitting_run.specs.Fits.{Fits}
 use Rattle.fitting_run.specs.Replacements.{version_made, version_found}
 use Rattle.fitting_run.specs.Calm.{IsCalm, all_answered}
 use Rattle.fitting_run.specs.Calm.{GoesTo}
-use Rattle.course_ends.specs.Closing.{WorkerEnd, IsGivenBack}
+use Rattle.run_ends.specs.Closing.{WorkerEnd, IsGivenBack}
 
 -- It tells the chain that the journal knows; it fits the lines and that yard. Where no fault was counted there, each line has
 -- its own answer, the run has seen the whole log, and the chain goes to a loglet as far behind the first as rows tell that the last

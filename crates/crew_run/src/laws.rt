@@ -5,7 +5,7 @@ ghost use Rattle.delos_types.specs.declared.chain.Chain.{Chain};
 ghost use Rattle.register_api.specs.View.{RegisterView};
 ghost use Rattle.legal_journal.specs.declared.events.Event.{Event};
 ghost use Rattle.legal_journal.specs.Journal.{IsLegal, state_of};
-ghost use Rattle.journal_faults.specs.Faults.{faults_in};
+ghost use Rattle.journal_laws.specs.Faults.{faults_in};
 ghost use Rattle.fabric_core.specs.Fabric.{FabricView, IsRegisterAsTold};
 ghost use Rattle.fabric_core.specs.Runs.{HasRegisterRun};
 ghost use Rattle.fabric_core.specs.Log.{virtual_tail};
@@ -15,18 +15,18 @@ ghost use Rattle.fitting_run.specs.declared.told.Told.{Told};
 ghost use Rattle.fitting_run.specs.Fits.{ChainIsRegistered};
 ghost use Rattle.fitting_run.specs.Yard.{Shown};
 ghost use Rattle.fitting_run.specs.Calm.{IsCalm};
-ghost use Rattle.course_ends.specs.Closing.{WorkerEnd, IsGivenBack};
-ghost use Rattle.course_ends.specs.Reads.{AreReads};
-ghost use Rattle.crew_closing.specs.Finishing.{SeesAll};
+ghost use Rattle.run_ends.specs.Closing.{WorkerEnd, IsGivenBack};
+ghost use Rattle.run_ends.specs.Reads.{AreReads};
+ghost use Rattle.run_closing.specs.Finishing.{SeesAll};
 ghost use Rattle.last_chain.specs.declared.last.LastChain.{LastChain};
 ghost use Rattle.last_chain.specs.Last.{IsLast, AsksOnce};
 
-use journal_faults::laws::{
+use journal_laws::faults::{
     a_fault_names_a_cell, a_lack_has_a_fault, lacks_are_counted, refusals_are_counted,
     register_faults_are_counted,
 };
 use legal_journal::rules::Rules;
-use shown_log::laws::a_front_is_below_the_tail;
+use run_ends::shown::a_front_is_below_the_tail;
 
 /// The chain that was read last is what any register gave that is as the journal tells.
 pub fn the_chain_is_registered<P: Rules>()

@@ -6,11 +6,11 @@ ghost use Rattle.delos_types.specs.declared.entry.Entry.{Entry};
 ghost use Rattle.loglet_api.specs.View.{IsFresh};
 ghost use Rattle.loglet_api.specs.Sound.{IsSound};
 ghost use Rattle.register_api.specs.View as view;
-ghost use Rattle.engine_laws.specs.State.{IsStateOf};
+ghost use Rattle.log_laws.specs.State.{IsStateOf};
 ghost use Rattle.base_engine.specs.Trimming.{FloorIs};
 ghost use Rattle.fitting_run.specs.Lines.{CanLog};
 ghost use Rattle.node_lines.specs.Workers.{MayRun};
-ghost use Rattle.line_rules.specs.Rules.{may_of};
+ghost use Rattle.run_ends.specs.Rules.{may_of};
 ghost use Rattle.run_course.specs.Script.{AreLines};
 ghost use Rattle.node_crew.specs.Turns.{MaySendAll};
 ghost use Rattle.replica_api.specs.Fresh.{IsFreshReplica};
@@ -22,17 +22,17 @@ use crew_making::part::part_crew;
 use fabric_core::fabric::Parts;
 use fate_words::chooser::Chooser;
 use fitting_run::told::Told;
-use line_rules::laws::{
-    leaves_are_sent, lines_are_sent, lines_may_run, reports_are_sent, the_floor_is, trims_are_sent,
-};
 use loglet_api::loglet::Loglet;
-use one_thread::terms::Terms;
 use register_api::Register;
 use replica_api::node::OpenNode;
 use replica_api::replica::Replica;
+use run_ends::line_rules::{
+    leaves_are_sent, lines_are_sent, lines_may_run, reports_are_sent, the_floor_is, trims_are_sent,
+};
 use script_text::asks::NamedLine;
 use std::alloc::{AllocError, Global};
 use std::marker::Brand;
+use turn_scopes::terms::Terms;
 
 /// What a run worked on, and what it told, if memory sufficed.
 pub struct Ran<L: Loglet, R: Register, S: Replica, C: Chooser> {

@@ -2,35 +2,35 @@
 ghost use Rattle.std.specs.Prelude.{◌≡◌, ◌≤◌, ℕ, List, length, map, IfOk};
 ghost use Rattle.delos_types.specs.Spaces.{SpaceMap};
 ghost use Rattle.delos_types.specs.declared.entry.Entry.{Entry};
-ghost use Rattle.engine_laws.specs.State.{IsStateOf};
+ghost use Rattle.log_laws.specs.State.{IsStateOf};
 ghost use Rattle.base_engine.specs.Trimming.{FloorIs};
 ghost use Rattle.node_lines.specs.Workers.{MayRun};
-ghost use Rattle.line_rules.specs.Rules.{may_of};
+ghost use Rattle.run_ends.specs.Rules.{may_of};
 ghost use Rattle.node_crew.specs.Turns.{MaySendAll};
 ghost use Rattle.node_crew.specs.Crews.{CrewRests, CrewStands};
-ghost use Rattle.course_ends.specs.Closing.{WorkerEnd, HasClosed};
-ghost use Rattle.crew_closing.specs.Finishing.{SeesAll};
+ghost use Rattle.run_ends.specs.Closing.{WorkerEnd, HasClosed};
+ghost use Rattle.run_closing.specs.Finishing.{SeesAll};
 ghost use Rattle.crew_run.specs.Telling.{FitsGivenBack};
 
 use crate::laws::{
     a_calm_journal_tells_no_fault, a_calm_run_has_seen_all, the_chain_is_registered,
 };
-use course_ends::laws::{
-    each_segment_is_told, reads_change_nothing, what_closed_can_be_told, what_closed_has_ended,
-};
-use crew_closing::close::{Closed, close};
 use crew_rows::rows::rows_of;
 use fate_words::chooser::Chooser;
 use fitting_run::told::Told;
 use last_chain::last::{Last, read_last};
 use loglet_api::loglet::Loglet;
 use node_crew::crew::{Crew, Played, play_phases};
-use one_thread::terms::{By, Terms};
 use register_api::Register;
 use replica_api::replica::Replica;
+use run_closing::close::{Closed, close};
+use run_ends::ends::{
+    each_segment_is_told, reads_change_nothing, what_closed_can_be_told, what_closed_has_ended,
+};
 use run_laws::laws::{a_calm_run_answers_all, what_ended_fits};
 use script_text::asks::NamedLine;
 use std::alloc::{AllocError, Global};
+use turn_scopes::terms::{By, Terms};
 
 /// The user that reads the chain as a run closes, which is no node.
 const NOBODY: u32 = 0;

@@ -11,13 +11,13 @@ use Rattle.engine_steps.specs.Words.{under}
 use Rattle.engine_steps.specs.declared.engine.Up.{Up}
 use Rattle.delos_types.specs.declared.entry.Entry.{Entry}
 use Rattle.engine_steps.specs.Words.{opened_items}
-use Rattle.engine_laws.specs.State.{IsStateOf, Grows}
-use Rattle.engine_laws.proofs.Whole.{grows}
+use Rattle.log_laws.specs.State.{IsStateOf, Grows}
+use Rattle.log_laws.proofs.Whole.{grows}
 use Rattle.std.proofs.Common.{◌^◌}
-use Rattle.engine_laws.specs.Rises.{Level, Rises, Hears, Sinks, Applies, passed, answered, placed_items, at_place, acted_in, acted_word}
-use Rattle.engine_laws.specs.declared.rising.Rising.{Rising}
-use Rattle.engine_laws.specs.declared.rising.Told.{Told}
-use Rattle.engine_laws.specs.declared.rising.Acted.{Acted}
+use Rattle.log_laws.specs.Rises.{Level, Rises, Hears, Sinks, Applies, passed, answered, placed_items, at_place, acted_in, acted_word}
+use Rattle.log_laws.specs.declared.rising.Rising.{Rising}
+use Rattle.log_laws.specs.declared.rising.Told.{Told}
+use Rattle.log_laws.specs.declared.rising.Acted.{Acted}
 
 -- an engine of kind k took all of `xs` but `left`, and gave `outs` and `more`
 abbrev pub PassedSoFar : ℕ → SpaceMap → List Rising → List Rising → List Rising → List Told → SpaceMap → Type 0

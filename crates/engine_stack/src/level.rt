@@ -2,14 +2,14 @@
 ghost use Rattle.std.specs.Prelude.{◌≡◌, ℕ, List, ◌++◌, map, IfOk, OnOk};
 ghost use Rattle.engine_steps.specs.Steps.{UpStep, BackStep};
 ghost use Rattle.engine_steps.specs.declared.engine.Up.{Up};
-ghost use Rattle.engine_laws.specs.Rises.{Level, Hears, passed, answered, at_place};
-ghost use Rattle.engine_laws.specs.declared.rising.Told.{Told};
+ghost use Rattle.log_laws.specs.Rises.{Level, Hears, passed, answered, at_place};
+ghost use Rattle.log_laws.specs.declared.rising.Told.{Told};
 
 use delos_types::item::{Item, ItemList};
 use delos_types::place::Place;
 use delos_types::space::Space;
-use engine_laws::rising::{Rising, Told};
 use engine_steps::engine::{Engine, Up};
+use log_laws::rising::{Rising, Told};
 use std::alloc::{AllocError, Global};
 use std::collections::VecDeque;
 

@@ -4,8 +4,8 @@ ghost use Rattle.engine_api.specs.Packing.{IsProposable};
 ghost use Rattle.engine_steps.specs.Steps.{BatchFlush};
 ghost use Rattle.engine_steps.specs.Words.{opened_items};
 ghost use Rattle.delos_types.specs.declared.entry.Entry.{Entry};
-ghost use Rattle.engine_laws.specs.State.{IsStateOf, Grows};
-ghost use Rattle.engine_laws.specs.Rises.{Rises, Sinks, Applies, Proposes, placed_items, acted_in, lowest};
+ghost use Rattle.log_laws.specs.State.{IsStateOf, Grows};
+ghost use Rattle.log_laws.specs.Rises.{Rises, Sinks, Applies, Proposes, placed_items, acted_in, lowest};
 
 use crate::level::{hear, level};
 use delos_types::entry::Entry;
@@ -13,9 +13,9 @@ use delos_types::item::{Item, ItemList};
 use delos_types::numbers::NodeId;
 use delos_types::place::Place;
 use delos_types::space::Space;
-use engine_laws::rising::{Acted, Rising, Told};
 use engine_steps::engine::{Down, Engine};
 use engine_steps::words::session_word;
+use log_laws::rising::{Acted, Rising, Told};
 use std::alloc::{AllocError, Global};
 use std::collections::VecDeque;
 

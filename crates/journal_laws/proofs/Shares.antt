@@ -6,7 +6,7 @@ use Rattle.std.proofs.lemmas.List.Elements.{All-head, All-tail, filter_map-appen
 use Rattle.std.proofs.lemmas.List.Sums.{sum_by-cons, sum_by-append}
 use Rattle.delos_types.specs.declared.cause.Cause.{Cause}
 use Rattle.legal_journal.specs.declared.events.Event.{Event}
-use Rattle.journal_faults.specs.Faults.{fault_of, faults_in}
+use Rattle.journal_laws.specs.Faults.{fault_of, faults_in}
 use Rattle.journal_laws.specs.Own.{own, faults_of}
 
 -- how an event counts that is of the user, and how another

@@ -1,3 +1,6 @@
 pub mod Own
 pub mod Seals
 pub mod Versions
+pub mod Faults
+pub mod Changes
+pub mod Unsealed

@@ -2,7 +2,7 @@
 use Rattle.std.specs.Prelude.{ℕ, ◌==◌, List, filter}
 use Rattle.delos_types.specs.declared.cause.Cause.{Cause}
 use Rattle.legal_journal.specs.declared.events.Event.{Event}
-use Rattle.journal_faults.specs.Faults.{faults_in}
+use Rattle.journal_laws.specs.Faults.{faults_in}
 
 -- who's events, in order
 abbrev pub own : ℕ → List Event → List Event

@@ -1,10 +1,16 @@
-//! Laws of a journal that several users share.
+//! Laws of the journal of a fabric: what its events say of faults, of entries and trims, and of the chain.
 //!
-//! - `versions`: of two chains that were written the later has the higher version.
+//! - `appending`: what is appended, raised and trimmed, and by whose rules.
+//! - `chain`: how far the chain goes on, by its Seals.
+//! - `faults`: each fault that it tells was counted by the loglet or the register that it names.
+//! - `own`: the faults of several users are among all that came.
 //! - `seals`: how far the chain goes, by the Seals that were begun.
-//! - `faults`: the faults of several users are among all that came.
+//! - `versions`: of two chains that were written the later has the higher version.
 #![tactic(auto)]
 
+pub mod appending;
+pub mod chain;
 pub mod faults;
+pub mod own;
 pub mod seals;
 pub mod versions;

@@ -16,7 +16,7 @@ use Rattle.legal_journal.proofs.Chains.{chain_ok}
 use Rattle.legal_journal.proofs.Legal.{after_all-append, IsLegalFrom-split, sound}
 use Rattle.fabric_core.specs.Fabric.{FabricView, Adds, IsRegisterAsTold}
 use Rattle.fabric_core.specs.Runs.{HasRegisterRun}
-use Rattle.one_thread.specs.Alone.{AreOwn}
+use Rattle.turn_scopes.specs.Alone.{AreOwn}
 use Rattle.last_chain.specs.Gifts.{is_miss, misses_in, given_last}
 use Rattle.last_chain.specs.Last.{IsLast, Watches, Makes, AsksOnce, StaysDown, Opened}
 use Rattle.last_chain.proofs.Gifts.{knows_last}

@@ -7,7 +7,7 @@ use Rattle.legal_journal.specs.declared.events.FabricAnswer.{FabricAnswer}
 use Rattle.legal_journal.specs.declared.events.Event.{Event}
 use Rattle.legal_journal.specs.Journal.{state_of}
 use Rattle.fabric_core.specs.Fabric.{FabricView}
-use Rattle.one_thread.specs.Alone.{Since}
+use Rattle.turn_scopes.specs.Alone.{OwnSince}
 use Rattle.last_chain.specs.declared.last.LastChain.{LastChain}
 use Rattle.last_chain.specs.Gifts.{misses_in}
 
@@ -24,7 +24,7 @@ pub record IsLast (l : LastChain) (f : FabricView) : Type 0 where
 
 -- Only who's events came, and all that the journal tells of the loglets stays.
 pub record Watches (who : ℕ) (old new : List Event) : Type 0 where
-  pub since : Since who old new
+  pub since : OwnSince who old new
   pub cells : (state_of new).cells ≡ (state_of old).cells
 
 -- one event came, of this call

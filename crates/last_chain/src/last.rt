@@ -1,7 +1,7 @@
 //! The chain is read a last time.
 ghost use Rattle.std.specs.Prelude.{◌≡◌, ◌≤◌, true, IfOk, OnOk};
 ghost use Rattle.legal_journal.specs.Journal.{IsLegal, state_of};
-ghost use Rattle.one_thread.specs.Alone.{Since};
+ghost use Rattle.turn_scopes.specs.Alone.{OwnSince};
 ghost use Rattle.last_chain.specs.Gifts.{read_gift, write_gift, gift_of, given_last};
 ghost use Rattle.last_chain.specs.Last.{IsLast, Watches, Makes, AsksOnce, Asked, Opened, OpensOnce};
 
@@ -187,7 +187,7 @@ pub fn read_last<L: Loglet, R: Register, P: Rules>(
     fabric: Fabric<L, R, P>,
 ) -> Last<L, R, P>
     ensures legal { IsLegal P.may P.floor P.shelf result.fabric.journal }
-    ensures since { Since who fabric.journal result.fabric.journal }
+    ensures since { OwnSince who fabric.journal result.fabric.journal }
 
     // What the journal tells of the loglets stays.
     ensures cells { (state_of result.fabric.journal).cells ≡ (state_of fabric.journal).cells }

@@ -4,9 +4,9 @@ use Rattle.std.specs.Prelude.{IfOk}
 use Rattle.delos_types.specs.declared.entry.Entry.{Entry}
 use Rattle.delos_types.specs.declared.item.Item.{Item}
 use Rattle.delos_types.specs.Spaces.{SpaceMap}
-use Rattle.engine_laws.specs.declared.rising.Acted.{Acted}
-use Rattle.engine_laws.specs.State.{IsStateOf, Grows}
-use Rattle.engine_laws.specs.Rises.{Proposes}
+use Rattle.log_laws.specs.declared.rising.Acted.{Acted}
+use Rattle.log_laws.specs.State.{IsStateOf, Grows}
+use Rattle.log_laws.specs.Rises.{Proposes}
 use Rattle.engine_steps.specs.Steps.{BatchFlush}
 use Rattle.replica_api.specs.Replica.{Queues, Flushes}
 

@@ -14,7 +14,7 @@ use Rattle.store_records.specs.declared.change.Commit.{Commit}
 use Rattle.store_records.specs.Changing.{applied}
 use Rattle.store_records.specs.Spelled.{committed, saved_of}
 use Rattle.store_records.specs.Spelled as spelled
-use Rattle.engine_laws.specs.State.{IsStateOf}
+use Rattle.log_laws.specs.State.{IsStateOf}
 use Rattle.local_store.specs.View as store
 use Rattle.local_store.specs.View.{TxnView, contents_of, txn_commit, up_with}
 use Rattle.replica_api.specs.Replica.{SpellsOne, Survives, Advances, Advanced, Failed, MayFind, MayFindDuring, Recovered, StaysDown, armed_by}

@@ -3,7 +3,7 @@ ghost use Rattle.std.specs.Prelude.{◌≡◌, ℕ, List, ◌+◌, ◌<◌, ◌^
 ghost use Rattle.delos_types.specs.declared.entry.Entry.{Entry};
 ghost use Rattle.delos_types.specs.declared.item.Item.{Item};
 ghost use Rattle.disk_model.specs.Crash.{AnyCrash};
-ghost use Rattle.engine_laws.specs.State.{IsStateOf};
+ghost use Rattle.log_laws.specs.State.{IsStateOf};
 ghost use Rattle.store_records.specs.Changing.{applied};
 ghost use Rattle.replica_api.specs.Replica.{SpellsOne, Survives, Advances, Takes, MayFind, MayFindDuring, Reopens, armed_by};
 ghost use Rattle.local_replica.specs.Shown.{shown, Spells};
@@ -12,9 +12,9 @@ use crate::layers::Layers;
 use delos_types::entry::Entry;
 use delos_types::numbers::NodeId;
 use disk_model::Disk;
-use engine_laws::rising::Acted;
 use journal_core::Fault;
 use local_store::{CommitFault, Store, Txn};
+use log_laws::rising::Acted;
 use replica_api::replica::{Applied, Reopened};
 use std::alloc::{AllocError, Global};
 

@@ -3,9 +3,9 @@ ghost use Rattle.std.specs.Prelude.{◌≡◌, ℕ, List, [], ◌∷◌, length,
 ghost use Rattle.delos_types.specs.declared.entry.Entry.{Entry};
 ghost use Rattle.delos_types.specs.declared.item.Item.{Item};
 ghost use Rattle.engine_api.specs.Packing.{IsProposable};
-ghost use Rattle.engine_laws.specs.Rises.{Proposes, lowest};
+ghost use Rattle.log_laws.specs.Rises.{Proposes, lowest};
 ghost use Rattle.engine_steps.specs.Steps.{BatchFlush};
-ghost use Rattle.engine_laws.specs.State.{IsStateOf, Grows};
+ghost use Rattle.log_laws.specs.State.{IsStateOf, Grows};
 ghost use Rattle.local_store.specs.View.{contents_of};
 ghost use Rattle.replica_api.specs.Replica.{Queues, Flushes};
 
@@ -14,10 +14,10 @@ use delos_types::item::Item;
 use delos_types::numbers::NodeId;
 use delos_types::place::Place;
 use delos_types::space::Space;
-use engine_laws::rising::Acted;
 use engine_stack::stack::Stack;
 use engine_steps::engine::Engine;
 use local_store::Txn;
+use log_laws::rising::Acted;
 use std::alloc::{AllocError, Global};
 use std::mem;
 

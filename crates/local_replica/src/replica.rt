@@ -1,6 +1,6 @@
 //! A store and the engines over it, as one replica.
 ghost use Rattle.std.specs.Prelude.{◌≡◌, ◌+◌, ◌<◌, ◌^◌, [], ◌∷◌};
-ghost use Rattle.engine_laws.specs.State.{IsStateOf};
+ghost use Rattle.log_laws.specs.State.{IsStateOf};
 ghost use Rattle.replica_api.specs.Replica.{Survives};
 ghost use Rattle.local_replica.specs.Shown.{shown, Spells};
 

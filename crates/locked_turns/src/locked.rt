@@ -80,6 +80,8 @@ impl<'a, L: Loglet, R: Register, P: Rules, B: Room, W: Wait> Access for Locked<'
 
     ghost beside = { λ who user. user ≢ who };
 
+    ghost apart = { λ who user h. h };
+
     ghost who = { λ l. l.who };
 
     ghost seen = { λ l. l.seen };

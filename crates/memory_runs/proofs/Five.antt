@@ -1,7 +1,7 @@
 -- What is read off a list of five boxes.
 use Rattle.std.proofs.Common.{◌≡◌, ℕ, List, [], ◌∷◌, ◌++◌, map, ap, sym, subst, ◌∙◌}
 use Rattle.delos_types.specs.declared.item.Item.{Item}
-use Rattle.engine_laws.specs.Rises.{lowest}
+use Rattle.log_laws.specs.Rises.{lowest}
 
 -- five pushes, one after another
 pub five : {A : Type 0} (a b c d e : A) (l0 l1 l2 l3 l4 l5 : List A) → l0 ≡ [] → l1 ≡ l0 ++ a ∷ [] → l2 ≡ l1 ++ b ∷ [] → l3 ≡ l2 ++ c ∷ [] → l4 ≡ l3 ++ d ∷ [] → l5 ≡ l4 ++ e ∷ [] → l5 ≡ a ∷ b ∷ c ∷ d ∷ e ∷ []

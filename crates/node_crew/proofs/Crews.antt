@@ -10,15 +10,15 @@ use Rattle.delos_types.specs.Spaces.{SpaceMap}
 use Rattle.delos_types.specs.declared.entry.Entry.{Entry}
 use Rattle.legal_journal.specs.declared.events.Event.{Event}
 use Rattle.legal_journal.specs.Journal.{IsLegal}
-use Rattle.journal_changes.specs.Changes.{TrimsUpTo}
+use Rattle.journal_laws.specs.Changes.{TrimsUpTo}
 use Rattle.replica_api.specs.Replica.{Saved}
 use Rattle.base_engine.specs.Trimming.{FloorIs}
 use Rattle.script_text.specs.declared.asks.NamedLine.{NamedLine}
-use Rattle.one_thread.specs.Seats.{SeatView, SeatOk}
-use Rattle.node_sessions.specs.declared.desk.Desk.{Desk}
+use Rattle.turn_scopes.specs.Seats.{SeatView, SeatOk}
+use Rattle.node_lines.specs.declared.desk.Desk.{Desk}
 use Rattle.node_lines.specs.declared.lines.Looked.{Looked}
 use Rattle.node_lines.specs.Workers.{MayRun, Grows, sent_of}
-use Rattle.worker_laws.proofs.Staying.{seat_later}
+use Rattle.node_lines.proofs.Staying.{seat_later}
 use Rattle.run_course.specs.Script.{AreLines, BeginsAt, asked_before}
 use Rattle.run_course.specs.Course.{CourseOk}
 use Rattle.run_course.specs.Workers.{WorkerAt, Rests, IsUnderWay}

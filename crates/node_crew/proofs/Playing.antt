@@ -6,10 +6,16 @@ use Rattle.delos_types.specs.declared.entry.Entry.{Entry}
 use Rattle.legal_journal.specs.declared.events.Event.{Event}
 use Rattle.replica_api.specs.Replica.{Saved}
 use Rattle.script_text.specs.declared.asks.NamedLine.{NamedLine}
-use Rattle.one_thread.specs.Seats.{SeatView, SeatOk}
-use Rattle.node_sessions.specs.declared.desk.Desk.{Desk}
+use Rattle.legal_journal.specs.Sealing.{Unsealed}
+use Rattle.turn_scopes.specs.Alone.{OwnSince}
+use Rattle.turn_scopes.specs.Seats.{SeatView, SeatOk}
+use Rattle.turn_scopes.proofs.Alone.{own_since, unsealed_own}
+use Rattle.turn_scopes.proofs.Seals.{seals_none}
+use Rattle.node_lines.specs.declared.desk.Desk.{Desk}
 use Rattle.node_lines.specs.declared.lines.Looked.{Looked}
 use Rattle.node_lines.specs.Workers.{Grows, WorkerOk}
+use Rattle.node_lines.specs.Steps.{IsLeft}
+use Rattle.node_lines.proofs.Widening.{grows-since}
 use Rattle.node_lines.proofs.Scoping.{seat_allowed}
 use Rattle.run_course.specs.Script.{BeginsAt}
 use Rattle.run_course.specs.Course.{Course}
@@ -88,3 +94,16 @@ nil (x ∷ xs) = ap (λ l. x ∷ l) (nil xs)
 
 pub grows-none : (journal : List Event) → Grows journal journal
 grows-none journal = ([], sym (nil journal))
+
+-- What a turn left, where nobody is beside.
+
+module _ {may : ℕ → Entry → Type 0} {floor : List Entry → ℕ → Type 0} {shelf : List ℕ} {state : List Entry → SpaceMap → Type 0} {spells : List ℕ → Saved → Type 0} {right : Type 0} {old new : List Event} {a b : SeatView} where
+  pub left_own : IsLeft may floor shelf state spells (λ _ _. ⊥) right old a new b → OwnSince a.who old new
+  left_own h = own_since a.who (λ _. ⊥) old new (record { nobody = λ user k. k }) h.since
+
+  pub left_grows : IsLeft may floor shelf state spells (λ _ _. ⊥) right old a new b → Grows old new
+  left_grows h = grows-since a.who (λ _. ⊥) old new h.since
+
+pub left_unsealed : {may : ℕ → Entry → Type 0} {floor : List Entry → ℕ → Type 0} {shelf : List ℕ} {state : List Entry → SpaceMap → Type 0} {spells : List ℕ → Saved → Type 0} {old new : List Event} {a b : SeatView}
+    → IsLeft may floor shelf state spells (λ _ _. ⊥) ⊥ old a new b → Unsealed old new
+left_unsealed {old} {new} {a} h = unsealed_own a.who old new (left_own h) (seals_none a.who old new h.seals)

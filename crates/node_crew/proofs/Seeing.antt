@@ -6,15 +6,16 @@ use Rattle.delos_types.specs.declared.cause.Cause.{Cause}
 use Rattle.delos_types.specs.declared.cause.Cause.TheVariants as cause
 use Rattle.legal_journal.specs.declared.events.Event.{Event}
 use Rattle.legal_journal.specs.Journal.{IsLegal, state_of, trim_of, tail_of}
-use Rattle.journal_changes.specs.Changes.{TrimsUpTo, raised}
-use Rattle.journal_changes.proofs.Changes.{trim_raised}
-use Rattle.journal_faults.specs.Faults.{fault_of, faults_in}
+use Rattle.journal_laws.specs.Changes.{TrimsUpTo, raised}
+use Rattle.journal_laws.proofs.Changes.{trim_raised}
+use Rattle.journal_laws.specs.Faults.{fault_of, faults_in}
 use Rattle.virtual_log.specs.Turning as turning
 use Rattle.virtual_log.specs.Turning.{OnlyOwn}
 use Rattle.base_engine.specs.Node.{NodeView}
-use Rattle.one_thread.specs.Alone.{AreOwn, Since}
-use Rattle.one_thread.specs.Seats.{SeatView, node_of}
-use Rattle.node_sessions.specs.declared.desk.Desk.{Desk}
+use Rattle.turn_scopes.specs.Alone.{AreOwn, OwnSince}
+use Rattle.turn_scopes.specs.Seats.{SeatView, node_of}
+use Rattle.node_lines.specs.declared.desk.Desk.{Desk}
+use Rattle.node_lines.proofs.Spending.{all-events}
 use Rattle.node_lines.specs.Moving.{is_store, Spends}
 use Rattle.node_lines.specs.Turns.{EndsTurn}
 use Rattle.run_course.proofs.Lines.{count-cons}
@@ -23,7 +24,7 @@ are_own : (who : ℕ) (es : List Event) → AreOwn who es → turning.AreOwn who
 are_own who [] h = tt
 are_own who (e ∷ es) h = (h.0, are_own who es h.1)
 
-pub only_own : (who : ℕ) (old new : List Event) → Since who old new → OnlyOwn who old new
+pub only_own : (who : ℕ) (old new : List Event) → OwnSince who old new → OnlyOwn who old new
 only_own who old new s = record { more = s.more; seen = s.seen; own = are_own who s.more s.own }
 
 -- no fault was told before where none is told later
@@ -35,9 +36,9 @@ none_before old new more seen none = parts (faults_in old) (faults_in more) (sym
     parts (x ∷ xs) ys e = absurd (cc)
 
 -- no cause came of its own where no fault is told, nor counted by the disk
-pub no_causes : (old new : List Event) (before after : ℕ) (causes : List Cause) → Spends old new before after causes → faults_in new ≡ [] → after ≡ 0 → causes ≡ []
-no_causes old new before after [] s none calm = refl
-no_causes old new before after (c ∷ cs) s none calm = absurd (by c s)
+pub no_causes : (who : ℕ) (old new : List Event) (before after : ℕ) (causes : List Cause) → Spends who old new before after causes → faults_in new ≡ [] → after ≡ 0 → causes ≡ []
+no_causes who old new before after [] s none calm = refl
+no_causes who old new before after (c ∷ cs) s none calm = absurd (by c s)
   where
     one : (P : Cause → Bool) (k : Cause) → P k ≡ true → 1 ≤ count_by P (k ∷ cs)
     one P k is =
@@ -45,14 +46,14 @@ no_causes old new before after (c ∷ cs) s none calm = absurd (by c s)
         let first : cond (P k) 1 0 ≡ 1 = ap {B = ℕ} (λ b. cond b 1 0) is in
         omega (arith, parts, first)
 
-    told : (P : Cause → Bool) (k : Cause) → Spends old new before after (k ∷ cs) → P cause.Store ≡ false → P k ≡ true → ⊥
+    told : (P : Cause → Bool) (k : Cause) → Spends who old new before after (k ∷ cs) → P cause.Store ≡ false → P k ≡ true → ⊥
     told P k s store is =
-        let less = s.events P store in
+        let less = all-events s P store in
         let zero : count_by P (faults_in s.more) ≡ 0 = ap (count_by P) (none_before old new s.more s.seen none).1 in
         let some = one P k is in
         omega (arith, less, zero, some)
 
-    by : (k : Cause) → Spends old new before after (k ∷ cs) → ⊥
+    by : (k : Cause) → Spends who old new before after (k ∷ cs) → ⊥
     by (cause.NoQuorum id unreached) s = told (λ k. not (is_store k)) (cause.NoQuorum id unreached) s refl refl
     by (cause.Full id) s = told (λ k. not (is_store k)) (cause.Full id) s refl refl
     by cause.Meta s = told (λ k. not (is_store k)) cause.Meta s refl refl
@@ -72,7 +73,7 @@ not_none [] c e = cc
 not_none (x ∷ xs) c e = cc
 
 -- the phase ended at a node, above which nothing is trimmed
-pub ended_sees : (may sends : ℕ → Entry → Type 0) (floor : List Entry → ℕ → Type 0) (shelf : List ℕ) (seat seat' : SeatView) (desks desks' : List Desk) (mid new : List Event) (failed : Option Cause) → IsLegal may floor shelf new → TrimsUpTo seat.node.replica.cursor new → Since seat.who mid new
+pub ended_sees : (may sends : ℕ → Entry → Type 0) (floor : List Entry → ℕ → Type 0) (shelf : List ℕ) (seat seat' : SeatView) (desks desks' : List Desk) (mid new : List Event) (failed : Option Cause) → IsLegal may floor shelf new → TrimsUpTo seat.node.replica.cursor new → OwnSince seat.who mid new
     → EndsTurn sends floor shelf (node_of seat mid) (node_of seat' new) desks desks' failed → faults_in new ≡ [] → seat'.node.replica.faults ≡ 0 → tail_of (state_of new) ≤ seat'.node.replica.cursor
 ended_sees may sends floor shelf seat seat' desks desks' mid new failed legal low since t none calm = by failed t
   where
@@ -90,4 +91,4 @@ ended_sees may sends floor shelf seat seat' desks desks' mid new failed legal lo
         let faults : seat'.node.replica.faults ≡ t.mid.replica.faults = ap (λ (n : NodeView). n.replica.faults) t.forgets in
         let goes = t.ends.moves.goes in
         absurd (not_none (map (λ g. g.cause) goes.given) c
-        (no_causes mid t.mid.seen seat.node.replica.faults t.mid.replica.faults (map (λ g. g.cause) goes.given ++ c ∷ []) goes.spends (subst (λ l. faults_in l ≡ []) seen none) (omega (arith, faults, calm))))
+        (no_causes seat.who mid t.mid.seen seat.node.replica.faults t.mid.replica.faults (map (λ g. g.cause) goes.given ++ c ∷ []) goes.spends (subst (λ l. faults_in l ≡ []) seen none) (omega (arith, faults, calm))))

@@ -4,11 +4,11 @@ use Rattle.delos_types.specs.Spaces.{SpaceMap}
 use Rattle.delos_types.specs.declared.entry.Entry.{Entry}
 use Rattle.legal_journal.specs.declared.events.Event.{Event}
 use Rattle.legal_journal.specs.Journal.{state_of, tail_of}
-use Rattle.journal_faults.specs.Faults.{faults_in}
+use Rattle.journal_laws.specs.Faults.{faults_in}
 use Rattle.replica_api.specs.Replica.{Saved}
 use Rattle.script_text.specs.declared.asks.NamedLine.{NamedLine}
-use Rattle.one_thread.specs.Seats.{SeatView, SeatOk}
-use Rattle.node_sessions.specs.declared.desk.Desk.{Desk}
+use Rattle.turn_scopes.specs.Seats.{SeatView, SeatOk}
+use Rattle.node_lines.specs.declared.desk.Desk.{Desk}
 use Rattle.node_lines.specs.declared.lines.Looked.{Looked}
 use Rattle.run_course.specs.Script.{AreLines, BeginsAt}
 use Rattle.run_course.specs.Course.{Course, CourseOk}

@@ -3,7 +3,7 @@ ghost use Rattle.std.specs.Prelude.{◌≡◌, ◌<◌, ◌≤◌, ◌+◌, ◌=
 ghost use Rattle.delos_types.specs.Spaces.{SpaceMap};
 ghost use Rattle.delos_types.specs.declared.entry.Entry.{Entry};
 ghost use Rattle.script_text.specs.declared.asks.NamedLine.{NamedLine};
-ghost use Rattle.engine_laws.specs.State.{IsStateOf};
+ghost use Rattle.log_laws.specs.State.{IsStateOf};
 ghost use Rattle.base_engine.specs.Trimming.{FloorIs};
 ghost use Rattle.node_lines.specs.Workers.{MayRun};
 ghost use Rattle.node_crew.specs.Turns.{MaySendAll};
@@ -15,13 +15,14 @@ use fabric_core::fabric::Fabric;
 use fate_words::chooser::Chooser;
 use loglet_api::loglet::Loglet;
 use node_lines::lines::Looked;
-use node_workers::turns::Returned;
+use node_workers::back::Back;
 use node_workers::worker::Worker;
-use one_thread::terms::{By, Terms};
 use register_api::Register;
 use replica_api::replica::Replica;
 use script_text::asks::NamedLine;
 use std::alloc::{AllocError, Global};
+use turn_scopes::lone::Lone;
+use turn_scopes::terms::{By, Terms};
 
 /// The nodes of a run, numbered from 1 in their order, and the fabric that they share; how many commands of each session
 /// were sent; and what each line's own look came to, if it was played.
@@ -90,13 +91,17 @@ fn play_node<L: Loglet, R: Register, K: Terms, S: Replica, C: Chooser>(
     } = crew;
     let (mut workers, mut counts, mut looks) = (workers, counts, looks);
     let worker = workers.remove(k);
-    let Returned {
-        worker,
+    let lone = Lone {
+        who: worker.seat.who(),
         fabric,
+    };
+    let Back {
+        part: worker,
+        access,
         answer,
     } = play_turn(
         alloc,
-        fabric,
+        lone,
         worker,
         &mut counts,
         &mut looks,
@@ -111,7 +116,7 @@ fn play_node<L: Loglet, R: Register, K: Terms, S: Replica, C: Chooser>(
     }
     Played {
         crew: Crew {
-            fabric,
+            fabric: access.fabric,
             workers,
             counts,
             looks,

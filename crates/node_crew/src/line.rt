@@ -2,9 +2,9 @@
 ghost use Rattle.std.specs.Prelude.{◌≡◌, ◌<◌, ◌≤◌, ◌+◌, ℕ, List, length, Some, Ok, IfOk, OnOk, slice_get, slice_set};
 ghost use Rattle.delos_types.specs.Spaces.{SpaceMap};
 ghost use Rattle.delos_types.specs.declared.entry.Entry.{Entry};
-ghost use Rattle.engine_laws.specs.State.{IsStateOf};
+ghost use Rattle.log_laws.specs.State.{IsStateOf};
 ghost use Rattle.base_engine.specs.Trimming.{FloorIs};
-ghost use Rattle.one_thread.specs.Seats.{SeatOk};
+ghost use Rattle.turn_scopes.specs.Seats.{SeatOk};
 ghost use Rattle.script_text.specs.declared.asks.NamedLine.{NamedLine};
 ghost use Rattle.script_text.specs.declared.asks.Asks.TheVariants as asks;
 ghost use Rattle.node_lines.specs.declared.lines.Looked.{Looked};
@@ -12,100 +12,94 @@ ghost use Rattle.node_lines.specs.Workers.{WorkerOk, MayRun, Grows};
 ghost use Rattle.run_course.specs.Course.{Course};
 ghost use Rattle.run_course.specs.Workers.{IsUnderWay, CanPlay, CanSend, IsNext, LineWent};
 
-use fabric_core::fabric::Fabric;
 use fate_words::chooser::Chooser;
 use loglet_api::loglet::Loglet;
 use node_lines::lines::Looked;
 use node_workers::admin::{extend_line, leave_line, report_line, trim_line};
-use node_workers::turns::{Returned, log_line, look_line};
+use node_workers::back::Back;
+use node_workers::or_back;
+use node_workers::turns::{log_line, look_line};
 use node_workers::worker::Worker;
-use one_thread::terms::{By, Terms};
 use register_api::Register;
 use replica_api::replica::Replica;
 use script_text::asks::{Asks, NamedLine};
 use script_text::line::Admin;
 use std::alloc::Global;
+use turn_scopes::access::Access;
+use turn_scopes::lone::Lone;
+use turn_scopes::terms::{By, Terms};
 
 /// What the look of line `i` came to stands in `looks` then.
-fn keep_look<L: Loglet, R: Register, K: Terms, S: Replica, C: Chooser>(
-    looked: Returned<L, R, K, S, C, Looked>,
+fn keep_look<A: Access, P>(
+    looked: Back<A, P, Looked>,
     looks: &mut Vec<Option<Looked>>,
     i: usize,
-) -> Returned<L, R, K, S, C, ()>
+) -> Back<A, P, ()>
     requires there { i < length looks.old.items }
-    ensures worker { result.worker ≡ looked.worker }
-    ensures fabric { result.fabric ≡ looked.fabric }
+    ensures part { result.part ≡ looked.part }
+    ensures access { result.access ≡ looked.access }
     ensures looks { OnOk result.answer ((look : Looked) × (looked.answer ≡ Ok look) × (looks.new.items ≡ slice_set looks.old.items i (Some look))) }
 {
-    let Returned {
-        worker,
-        fabric,
+    let Back {
+        part,
+        access,
         answer,
     } = looked;
-    match answer {
-        Ok(look) => {
-            looks[i] = Some(look);
-            return Returned {
-                worker,
-                fabric,
-                answer: Ok(()),
-            };
-        }
-        Err(fault) => {
-            return Returned {
-                worker,
-                fabric,
-                answer: Err(fault),
-            };
-        }
+    looks[i] = Some(or_back!(part, access, answer));
+    Back {
+        part,
+        access,
+        answer: Ok(()),
     }
 }
 
 /// Plays line `i`, which asks this of the worker's node itself: what it came to stands in `looks` then.
 fn play_admin<L: Loglet, R: Register, K: Terms, S: Replica, C: Chooser>(
     alloc: Global,
-    fabric: Fabric<L, R, By<K>>,
+    lone: Lone<L, R, By<K>>,
     worker: Worker<S, C>,
     counts: &[u64; 64],
     looks: &mut Vec<Option<Looked>>,
     i: usize,
     line: &NamedLine,
     admin: Admin,
-) -> Returned<L, R, K, S, C, ()>
+) -> Back<Lone<L, R, By<K>>, Worker<S, C>, ()>
     requires run { MayRun K.may K.floor K.shelf }
     requires state { (log : List Entry) (m : SpaceMap) → S.state log m → IsStateOf log m }
-    requires worker { WorkerOk K.may K.floor K.shelf S.state S.spells worker.seat.who counts.now fabric.journal worker.seat worker.desks.items }
+    requires who { lone.who ≡ worker.seat.who }
+    requires worker { WorkerOk K.may K.floor K.shelf S.state S.spells worker.seat.who counts.now lone.fabric.journal worker.seat worker.desks.items }
     requires node { line.now.node ≡ worker.seat.who }
     requires asked { line.now.asks ≡ asks.Admin admin }
     requires sends { CanSend K.may worker.seat.who (asks.Admin admin) }
-    requires can { CanPlay worker.seat.who fabric.journal worker.seat }
+    requires can { CanPlay worker.seat.who lone.fabric.journal worker.seat }
     requires few { worker.seat.who ≤ worker.seat.node.nodes }
     requires floor { FloorIs K.floor worker.seat.node.nodes }
     requires there { i < length looks.old.items }
 
     // The run goes on.
     ensures goes { (lines : List NamedLine) (home : ℕ → ℕ) (nodes : ℕ) (c : Course) (from : ℕ) → slice_get lines i ≡ Some line.now → line.now.node ≡ worker.seat.who → line.now.phase ≡ c.phase
-        → IsUnderWay K.may K.floor K.shelf S.state S.spells lines home nodes c counts.now looks.old.items worker.seat.who from i fabric.journal worker.seat worker.desks.items
-        → OnOk result.answer (LineWent K.may K.floor K.shelf S.state S.spells lines home nodes c counts.now counts.now looks.old.items looks.new.items worker.seat.who from (i + 1) result.fabric.journal result.worker.seat result.worker.desks.items) }
-    ensures stands { SeatOk K.may K.floor K.shelf S.state S.spells result.fabric.journal result.worker.seat }
-    ensures grows { Grows fabric.journal result.fabric.journal }
-    ensures who { OnOk result.answer (result.worker.seat.who ≡ worker.seat.who) }
+        → IsUnderWay K.may K.floor K.shelf S.state S.spells lines home nodes c counts.now looks.old.items worker.seat.who from i lone.fabric.journal worker.seat worker.desks.items
+        → OnOk result.answer (LineWent K.may K.floor K.shelf S.state S.spells lines home nodes c counts.now counts.now looks.old.items looks.new.items worker.seat.who from (i + 1) result.access.fabric.journal result.part.seat result.part.desks.items) }
+    ensures stands { SeatOk K.may K.floor K.shelf S.state S.spells result.access.fabric.journal result.part.seat }
+    ensures grows { Grows lone.fabric.journal result.access.fabric.journal }
+    ensures who { result.part.seat.who ≡ worker.seat.who }
+    ensures whose { result.access.who ≡ lone.who }
 {
     match admin {
         Admin::Extend => {
-            let looked = extend_line(fabric, worker, counts);
+            let looked = extend_line(lone, worker, counts);
             return keep_look(looked, looks, i);
         }
         Admin::Alive => {
-            let looked = report_line(alloc, fabric, worker, counts, line.node);
+            let looked = report_line(alloc, lone, worker, counts, line.node);
             return keep_look(looked, looks, i);
         }
         Admin::Retire => {
-            let looked = leave_line(alloc, fabric, worker, counts, line.node);
+            let looked = leave_line(alloc, lone, worker, counts, line.node);
             return keep_look(looked, looks, i);
         }
         Admin::Trim => {
-            let looked = trim_line(alloc, fabric, worker, counts, line.node);
+            let looked = trim_line(alloc, lone, worker, counts, line.node);
             return keep_look(looked, looks, i);
         }
     }
@@ -115,31 +109,33 @@ fn play_admin<L: Loglet, R: Register, K: Terms, S: Replica, C: Chooser>(
 /// itself, stands in `looks` then.
 pub fn play_line<L: Loglet, R: Register, K: Terms, S: Replica, C: Chooser>(
     alloc: Global,
-    fabric: Fabric<L, R, By<K>>,
+    lone: Lone<L, R, By<K>>,
     worker: Worker<S, C>,
     counts: &mut [u64; 64],
     looks: &mut Vec<Option<Looked>>,
     i: usize,
     line: &NamedLine,
-) -> Returned<L, R, K, S, C, ()>
+) -> Back<Lone<L, R, By<K>>, Worker<S, C>, ()>
     requires run { MayRun K.may K.floor K.shelf }
     requires state { (log : List Entry) (m : SpaceMap) → S.state log m → IsStateOf log m }
-    requires worker { WorkerOk K.may K.floor K.shelf S.state S.spells worker.seat.who counts.old fabric.journal worker.seat worker.desks.items }
+    requires who { lone.who ≡ worker.seat.who }
+    requires worker { WorkerOk K.may K.floor K.shelf S.state S.spells worker.seat.who counts.old lone.fabric.journal worker.seat worker.desks.items }
     requires node { line.now.node ≡ worker.seat.who }
     requires next { IsNext counts.old worker.desks.items line.now.asks }
     requires sends { CanSend K.may worker.seat.who line.now.asks }
-    requires can { CanPlay worker.seat.who fabric.journal worker.seat }
+    requires can { CanPlay worker.seat.who lone.fabric.journal worker.seat }
     requires few { worker.seat.who ≤ worker.seat.node.nodes }
     requires floor { FloorIs K.floor worker.seat.node.nodes }
     requires there { i < length looks.old.items }
 
     // The run goes on.
     ensures goes { (lines : List NamedLine) (home : ℕ → ℕ) (nodes : ℕ) (c : Course) (from : ℕ) → slice_get lines i ≡ Some line.now → line.now.node ≡ worker.seat.who → line.now.phase ≡ c.phase
-        → IsUnderWay K.may K.floor K.shelf S.state S.spells lines home nodes c counts.old looks.old.items worker.seat.who from i fabric.journal worker.seat worker.desks.items
-        → OnOk result.answer (LineWent K.may K.floor K.shelf S.state S.spells lines home nodes c counts.old counts.new looks.old.items looks.new.items worker.seat.who from (i + 1) result.fabric.journal result.worker.seat result.worker.desks.items) }
-    ensures stands { SeatOk K.may K.floor K.shelf S.state S.spells result.fabric.journal result.worker.seat }
-    ensures grows { Grows fabric.journal result.fabric.journal }
-    ensures who { OnOk result.answer (result.worker.seat.who ≡ worker.seat.who) }
+        → IsUnderWay K.may K.floor K.shelf S.state S.spells lines home nodes c counts.old looks.old.items worker.seat.who from i lone.fabric.journal worker.seat worker.desks.items
+        → OnOk result.answer (LineWent K.may K.floor K.shelf S.state S.spells lines home nodes c counts.old counts.new looks.old.items looks.new.items worker.seat.who from (i + 1) result.access.fabric.journal result.part.seat result.part.desks.items) }
+    ensures stands { SeatOk K.may K.floor K.shelf S.state S.spells result.access.fabric.journal result.part.seat }
+    ensures grows { Grows lone.fabric.journal result.access.fabric.journal }
+    ensures who { result.part.seat.who ≡ worker.seat.who }
+    ensures whose { result.access.who ≡ lone.who }
 {
     match &line.asks {
         Asks::Logged {
@@ -147,16 +143,16 @@ pub fn play_line<L: Loglet, R: Register, K: Terms, S: Replica, C: Chooser>(
             rank: _,
             command,
         } => {
-            return log_line(alloc, fabric, worker, counts, session.id, command);
+            return log_line(alloc, lone, worker, counts, session.id, command);
         }
         Asks::Look { session, query } => {
             // There is a desk for each session: its number is at most 63.
             let _number = session.id.number();
-            let looked = look_line(fabric, worker, counts, session.id, query);
+            let looked = look_line(lone, worker, counts, session.id, query);
             return keep_look(looked, looks, i);
         }
         Asks::Admin(admin) => {
-            return play_admin(alloc, fabric, worker, counts, looks, i, line, *admin);
+            return play_admin(alloc, lone, worker, counts, looks, i, line, *admin);
         }
     }
 }

@@ -16,8 +16,8 @@ use Rattle.engine_api.specs.Acted.{unpack_all}
 use Rattle.engine_api.specs.Items.{content_of, placed_from, unpack}
 use Rattle.engine_api.specs.Members.{has_left, least_position, trim_point, clean_position}
 use Rattle.engine_api.specs.Packing.{packed, alive_item, leave_item, trim_item, IsProposable}
-use Rattle.engine_laws.specs.State.{IsStateOf}
-use Rattle.member_laws.proofs.Membership.{says_point, says_unpack, longer_least}
+use Rattle.log_laws.specs.State.{IsStateOf}
+use Rattle.log_laws.proofs.Membership.{says_point, says_unpack, longer_least}
 use Rattle.replica_api.specs.Replica.{ReplicaView, saved_in}
 use Rattle.base_engine.specs.Reading.{IsFront}
 use Rattle.base_engine.specs.Following.{IsStateAt}

@@ -7,8 +7,8 @@ use Rattle.std.proofs.lemmas.List.Elements.{All-from_recursion, Contains-push_ca
 use Rattle.delos_types.specs.declared.entry.Entry.{Entry}
 use Rattle.legal_journal.specs.declared.events.Event.{Event}
 use Rattle.legal_journal.specs.Journal.{IsLegal, state_of, tail_of}
-use Rattle.journal_changes.specs.Changes.{appended, Adds}
-use Rattle.journal_changes.proofs.Changes.{held_appended}
+use Rattle.journal_laws.specs.Changes.{appended, Adds}
+use Rattle.journal_laws.proofs.Changes.{held_appended}
 use Rattle.virtual_log.specs.Holding.{Holds}
 use Rattle.virtual_log.proofs.Agreeing.{holds_agree}
 use Rattle.virtual_log.proofs.Holding.{holds_stands}
@@ -19,10 +19,10 @@ use Rattle.engine_api.specs.Acted.{unpack_all, asked_in}
 use Rattle.engine_api.specs.Items.{placed_from, unpack}
 use Rattle.engine_api.specs.Members.{greatest, position_of, least_position, trim_point, clean_at, clean_position}
 use Rattle.engine_api.specs.Order.{numbers, is_clean}
-use Rattle.member_laws.proofs.Membership.{least_some, point_says, position_says, unpack_says}
+use Rattle.log_laws.proofs.Membership.{least_some, point_says, position_says, unpack_says}
 use Rattle.base_engine.specs.Reading.{IsFront}
-use Rattle.one_thread.proofs.Bounds.{stands_below}
-use Rattle.node_sessions.proofs.Settling.{Extends}
+use Rattle.turn_scopes.proofs.Bounds.{stands_below}
+use Rattle.node_lines.proofs.Settling.{Extends}
 use Rattle.node_lines.specs.Measuring.{IsCleanPoint, IsCleanContent, AreClean}
 use Rattle.node_lines.proofs.Desks.{front_later}
 use Rattle.node_lines.proofs.Fronts.{splits}

@@ -5,7 +5,7 @@ use Rattle.std.proofs.lemmas.Bool.Decides.{nat_tests}
 use Rattle.delos_types.specs.declared.cause.Cause.{Cause}
 use Rattle.fabric_core.proofs.Marks.{set_other, set_same}
 use Rattle.base_engine.specs.Node.{NodeView}
-use Rattle.node_sessions.specs.declared.desk.Desk.{Desk}
+use Rattle.node_lines.specs.declared.desk.Desk.{Desk}
 use Rattle.node_lines.specs.Desks.{DeskOk, DesksOk}
 use Rattle.node_lines.specs.Turns.{ClosesIt, ClosesOne}
 use Rattle.node_lines.proofs.Turning.{same_at}

@@ -9,8 +9,8 @@ use Rattle.base_engine.specs.Holding.{held_stays}
 use Rattle.base_engine.specs.Reading.{IsFront}
 use Rattle.base_engine.specs.Node.{NodeView}
 use Rattle.engine_steps.specs.declared.layout.Kept.{Kept}
-use Rattle.node_sessions.specs.declared.desk.Desk.{Desk}
-use Rattle.node_sessions.proofs.Settling.{Extends}
+use Rattle.node_lines.specs.declared.desk.Desk.{Desk}
+use Rattle.node_lines.proofs.Settling.{Extends}
 use Rattle.node_lines.specs.Moving.{Goes, StaysGiven, Moves}
 use Rattle.node_lines.specs.Desks.{HasAnswers, DeskOk}
 use Rattle.node_lines.proofs.Moving.{none-before}

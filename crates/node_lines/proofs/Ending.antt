@@ -14,21 +14,21 @@ use Rattle.virtual_log.specs.Turning.{IsAbove, OnlyOwn}
 use Rattle.virtual_log.proofs.Owning.{own_split}
 use Rattle.engine_api.specs.Acted.{asked_in}
 use Rattle.engine_api.specs.Order.{gap_from, numbers}
-use Rattle.engine_laws.specs.State.{IsStateOf}
+use Rattle.log_laws.specs.State.{IsStateOf}
 use Rattle.replica_api.specs.Replica.{saved_in}
 use Rattle.base_engine.specs.Following.{IsAt, IsStateAt, EndsBy}
 use Rattle.base_engine.specs.Querying.{found_in}
 use Rattle.base_engine.specs.Reading.{IsFront}
 use Rattle.base_engine.specs.Settling.{cause_in}
 use Rattle.base_engine.specs.Node.{NodeView}
-use Rattle.node_sessions.specs.declared.desk.Desk.{Desk}
+use Rattle.node_lines.specs.declared.desk.Desk.{Desk}
 use Rattle.engine_steps.specs.declared.layout.Kept.{Kept}
 use Rattle.engine_api.specs.Items.{content_of}
-use Rattle.node_sessions.specs.Desks.{InFront, AreAllAnswers}
-use Rattle.node_sessions.specs.UnderWay.{IsGiven, HasLanded, ranks_in, rank_under}
-use Rattle.node_sessions.proofs.Proposed.{found_acted, above_tail}
-use Rattle.node_sessions.proofs.Catching.{acted_sent}
-use Rattle.node_sessions.proofs.Reading.{state_table}
+use Rattle.node_lines.specs.Answered.{InFront, AreAllAnswers}
+use Rattle.node_lines.specs.UnderWay.{IsGiven, HasLanded, ranks_in, rank_under}
+use Rattle.node_lines.proofs.Proposed.{found_acted, above_tail}
+use Rattle.node_lines.proofs.Catching.{acted_sent}
+use Rattle.node_lines.proofs.Reading.{state_table}
 use Rattle.node_lines.specs.declared.lines.Looked.TheVariants as looked
 use Rattle.node_lines.specs.declared.steps.Synced.{Synced}
 use Rattle.node_lines.specs.declared.steps.Synced.TheVariants as synced'

@@ -7,7 +7,7 @@ use Rattle.engine_api.specs.Acted.{unpack_all}
 use Rattle.engine_api.specs.Members.{least, has_left, is_member, position_of, least_position, trim_point}
 use Rattle.engine_api.specs.Order.{numbers}
 use Rattle.engine_steps.specs.Layout.{reported_of, trim_of}
-use Rattle.engine_laws.specs.State.{IsStateOf}
+use Rattle.log_laws.specs.State.{IsStateOf}
 use Rattle.base_engine.specs.Trimming.{is_member_in, least_of}
 
 same-map : (f g : ℕ → ℕ) (p q : ℕ → Bool) (ns : List ℕ) → ((n : ℕ) → p n ≡ q n) → ((n : ℕ) → q n ≡ true → f n ≡ g n) → map f (filter p ns) ≡ map g (filter q ns)

@@ -14,10 +14,10 @@ use Rattle.engine_api.specs.Acted.{asked_in, replied, table_after}
 use Rattle.engine_api.specs.Order.{gap_from, top_rank, acted_after}
 use Rattle.engine_api.proofs.Appends.{acted_log-append}
 use Rattle.engine_api.proofs.Gaps.{gap-low}
-use Rattle.engine_laws.specs.State.{acts_in}
-use Rattle.engine_laws.proofs.Replies.{InTurn, log_turn}
+use Rattle.log_laws.specs.State.{acts_in}
+use Rattle.log_laws.proofs.Replies.{InTurn, log_turn}
 use Rattle.engine_steps.specs.declared.layout.Kept.{Kept}
-use Rattle.node_sessions.specs.Desks.{ActedSo, AreAnswers, InFront}
+use Rattle.node_lines.specs.Answered.{ActedSo, AreAnswers, InFront}
 use Rattle.node_lines.specs.Desks.{HasAnswers}
 
 abbrev of_rank : ℕ → ℕ → Act → Bool

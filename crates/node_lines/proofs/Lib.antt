@@ -17,3 +17,16 @@ pub mod Closing
 pub mod Widening
 pub mod Scoping
 pub mod Cleaning
+pub mod Catching
+pub mod Collecting
+pub mod Looking
+pub mod Proposed
+pub mod Queueing
+pub mod Ranks
+pub mod Reading
+pub mod Settling
+pub mod Staying
+pub mod Bounding
+pub mod Chains
+pub mod Lone
+pub mod Sealing

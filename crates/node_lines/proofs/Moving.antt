@@ -18,9 +18,9 @@ use Rattle.base_engine.specs.declared.outbox.Given.{Given}
 use Rattle.base_engine.specs.Settling.{OutboxView, Settled, cause_in}
 use Rattle.base_engine.specs.Proposing.{Sent, with_entry}
 use Rattle.base_engine.specs.Node.{NodeView, Keeps}
-use Rattle.node_sessions.specs.UnderWay.{IsGiven, rank_under, ranks_in}
-use Rattle.node_sessions.proofs.Settling.{Extends, settled_given, none-front}
-use Rattle.node_sessions.proofs.Queueing.{flushed_given, sent_given, sent_other}
+use Rattle.node_lines.specs.UnderWay.{IsGiven, rank_under, ranks_in}
+use Rattle.node_lines.proofs.Settling.{Extends, settled_given, none-front}
+use Rattle.node_lines.proofs.Queueing.{flushed_given, sent_given, sent_other}
 use Rattle.node_lines.specs.Moving.{Spends, CanPack, causes_of, Goes, StaysGiven, HasNoneOf, IsQuiet, Moves, HandsIn}
 use Rattle.node_lines.proofs.Quiet.{IsStill, settled_still, flushed_still, sent_still}
 use Rattle.node_lines.proofs.Spending.{spends-none, spends-both, spends-settled, spends-permuted, shuffled}
@@ -71,9 +71,9 @@ module _ (may : ℕ → Entry → Type 0) (floor : List Entry → ℕ → Type 0
     keeps = k;
     given = h.given;
     gained = same ∙ h.gained;
-    spends = spends-both old.seen new.seen new.seen old.replica.faults old.replica.faults new.replica.faults (map (λ g. g.cause) h.given) []
+    spends = spends-both old.who old.seen new.seen new.seen old.replica.faults old.replica.faults new.replica.faults (map (λ g. g.cause) h.given) []
         (spends-settled old.who old.seen new.seen old.outbox mid old.replica.faults h)
-        (spends-none new.seen new.seen old.replica.faults new.replica.faults ([], sym (append-nil new.seen)) k.counts);
+        (spends-none old.who new.seen new.seen old.replica.faults new.replica.faults ([], sym (append-nil new.seen)) k.counts);
     packs = packs;
   }
 
@@ -109,7 +109,7 @@ module _ (may : ℕ → Entry → Type 0) (floor : List Entry → ℕ → Type 0
   }
 
   pub moves-sync : (old new : NodeView) (others : List Cause) → Keeps may floor shelf old new → new.outbox ≡ old.outbox → new.replica.kept ≡ old.replica.kept
-      → Spends old.seen new.seen old.replica.faults new.replica.faults others → Moves may floor shelf old new others
+      → Spends old.who old.seen new.seen old.replica.faults new.replica.faults others → Moves may floor shelf old new others
   moves-sync old new others k same kept spends = record {
     goes = record {
       keeps = k;
@@ -172,12 +172,13 @@ module _ (may : ℕ → Entry → Type 0) (floor : List Entry → ℕ → Type 0
     keeps = keeps-both old mid new h.keeps k.keeps;
     given = h.given ++ k.given;
     gained = k.gained ∙ ap (λ l. l ++ k.given) h.gained ∙ append_assoc old.outbox.given h.given k.given;
-    spends = subst (λ cs. Spends old.seen new.seen old.replica.faults new.replica.faults (cs ++ (others ++ more))) (sym (map-append (λ (g : Given). g.cause) h.given k.given))
-        (spends-permuted old.seen new.seen old.replica.faults new.replica.faults
+    spends = subst (λ cs. Spends old.who old.seen new.seen old.replica.faults new.replica.faults (cs ++ (others ++ more))) (sym (map-append (λ (g : Given). g.cause) h.given k.given))
+        (spends-permuted old.who old.seen new.seen old.replica.faults new.replica.faults
         (causes_of h.given others ++ causes_of k.given more)
         ((map (λ g. g.cause) h.given ++ map (λ g. g.cause) k.given) ++ (others ++ more))
         (λ P. sym (shuffled P (map (λ g. g.cause) h.given) (map (λ g. g.cause) k.given) others more))
-        (spends-both old.seen mid.seen new.seen old.replica.faults mid.replica.faults new.replica.faults (causes_of h.given others) (causes_of k.given more) h.spends k.spends));
+        (spends-both old.who old.seen mid.seen new.seen old.replica.faults mid.replica.faults new.replica.faults (causes_of h.given others) (causes_of k.given more) h.spends
+        (subst (λ w. Spends w mid.seen new.seen mid.replica.faults new.replica.faults (causes_of k.given more)) h.keeps.who k.spends)));
     packs = λ c. k.packs (h.packs c);
   }
 
@@ -198,4 +199,4 @@ module _ (may : ℕ → Entry → Type 0) (floor : List Entry → ℕ → Type 0
   -- nothing was done
   pub moves-none : (n : NodeView) → IsLegal may floor shelf n.seen → Moves may floor shelf n n []
   moves-none n legal = moves-sync n n [] (record { who = refl; nodes = refl; origin = refl; later = record { more = []; seen = sym (append-nil n.seen); legal = legal }; forward = omega arith; counts = omega arith }) refl refl
-      (spends-none n.seen n.seen n.replica.faults n.replica.faults ([], sym (append-nil n.seen)) (omega arith))
+      (spends-none n.who n.seen n.seen n.replica.faults n.replica.faults ([], sym (append-nil n.seen)) (omega arith))

@@ -17,8 +17,8 @@ use Rattle.replica_api.specs.Replica.{Queues, Flushes}
 use Rattle.base_engine.specs.declared.outbox.Given.{Given}
 use Rattle.base_engine.specs.Settling.{OutboxView, Fate, Landed, Lost, Settles, Settled, gives, given_to, first_of, sessions_among, sessions_in, has_session, cause_in}
 use Rattle.base_engine.specs.Proposing.{Sent, with_entry}
-use Rattle.node_sessions.specs.UnderWay.{rank_under, ranks_in}
-use Rattle.node_sessions.proofs.Ranks.{ranks-append, ranks-other}
+use Rattle.node_lines.specs.UnderWay.{rank_under, ranks_in}
+use Rattle.node_lines.proofs.Ranks.{ranks-append, ranks-other}
 use Rattle.node_lines.specs.Moving.{HasNoneOf}
 
 -- Entries that are settled

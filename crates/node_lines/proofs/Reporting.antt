@@ -22,8 +22,8 @@ use Rattle.base_engine.specs.Causes.{HasEventOf}
 use Rattle.base_engine.specs.Settling.{OutboxView, Fate, Landed, Lost, Meets, Settles, Settled, Lands, Answers, gives, given_to, first_of, session_of, sessions_among, sessions_in}
 use Rattle.base_engine.specs.Proposing.{Sent, with_entry, IsNear, IsNearAt}
 use Rattle.base_engine.specs.Node.{NodeView, Keeps}
-use Rattle.node_sessions.specs.UnderWay.{rank_under}
-use Rattle.node_sessions.proofs.Settling.{Extends}
+use Rattle.node_lines.specs.UnderWay.{rank_under}
+use Rattle.node_lines.proofs.Settling.{Extends}
 use Rattle.node_lines.specs.Moving.{CanPack, Goes, Moves}
 use Rattle.node_lines.specs.Reporting.{IsPlain, LaysDown, IsAppendedWithin, Tells}
 use Rattle.node_lines.proofs.Moving.{moves-both, moves-settle}
@@ -183,9 +183,9 @@ module _ (may : ℕ → Entry → Type 0) (floor : List Entry → ℕ → Type 0
         keeps = k;
         given = [];
         gained = gained ∙ ap (λ l. old.outbox.given ++ l) (ap (λ ss. given_to ss x) silent);
-        spends = spends-both old.seen m.mid new.seen old.replica.faults old.replica.faults new.replica.faults (cause ∷ []) []
+        spends = spends-both old.who old.seen m.mid new.seen old.replica.faults old.replica.faults new.replica.faults (cause ∷ []) []
             (spends-event old.who old.seen m.mid cause old.replica.faults old.replica.faults (omega arith) (subst (λ c. HasEventOf old.who old.seen c m.mid) (same_cause cause x says) met))
-            (spends-none m.mid new.seen old.replica.faults new.replica.faults m.on k.counts);
+            (spends-none old.who m.mid new.seen old.replica.faults new.replica.faults m.on k.counts);
         packs = plain.goes.packs;
       }
 

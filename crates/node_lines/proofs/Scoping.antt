@@ -7,19 +7,19 @@ use Rattle.delos_types.specs.declared.entry.Entry.{Entry}
 use Rattle.delos_types.specs.declared.cause.Cause.{Cause}
 use Rattle.legal_journal.specs.declared.events.Event.{Event}
 use Rattle.legal_journal.specs.Journal.{IsLegal}
-use Rattle.journal_changes.specs.Changes.{appended, TrimsUpTo, Adds}
-use Rattle.journal_changes.proofs.Changes.{appended_stays, appended_may, legal_by, upto_low, upto_more, below_low}
+use Rattle.journal_laws.specs.Changes.{appended, TrimsUpTo, Adds}
+use Rattle.journal_laws.proofs.Changes.{appended_stays, appended_may, legal_by, upto_low, upto_more, below_low}
 use Rattle.replica_api.specs.Replica.{Saved}
 use Rattle.virtual_log.specs.Holding.{IsTrimmed}
 use Rattle.base_engine.specs.Settling.{MaySend}
 use Rattle.base_engine.specs.Node.{NodeView}
-use Rattle.one_thread.specs.Alone.{Since}
-use Rattle.one_thread.specs.Seats.{SeatView, SeatOk}
+use Rattle.turn_scopes.specs.Beside.{Since, SealsByRight}
+use Rattle.turn_scopes.specs.Seats.{SeatView, SeatOk}
 use Rattle.node_lines.specs.Desks.{KeepsFrom}
 use Rattle.node_lines.specs.Leaving.{PlaysKnown}
 use Rattle.node_lines.specs.Workers.{Sends, SendsToo, IsOfSessions, UpTo, Grows, sent_of}
 use Rattle.node_lines.specs.Steps.{IsLeft, IsDone}
-use Rattle.node_lines.proofs.Widening.{within-more, seat_wider, grows-since}
+use Rattle.node_lines.proofs.Widening.{within-more, seat_wider}
 
 module _ (may : ℕ → Entry → Type 0) (counts : List ℕ) where
   -- what may be sent may be sent still once the journal grew
@@ -101,33 +101,35 @@ module _ (may : ℕ → Entry → Type 0) (floor : List Entry → ℕ → Type 0
     pub seat_allowed : (journal : List Event) (s : SeatView) → SeatOk (Sends may counts journal) floor shelf state spells journal s → SeatOk may floor shelf state spells journal s
     seat_allowed journal s h = seat_wider (Sends may counts journal) may floor floor shelf (λ who e k. k.0.0) (λ log n k. k) state spells journal s h
 
-    pub left_by : (m who : ℕ) (old new : List Event) (s : SeatView) → Since who old new → SeatOk (Sends may counts old) (UpTo floor m) shelf state spells new s → IsLeft may floor shelf state spells old new s
-    left_by m who old new s since h = record {
-      stands = seat_wider (Sends may counts old) may (UpTo floor m) floor shelf (λ who e k. k.0.0) (λ log n k. k.0) state spells new s h;
-      grows = grows-since who old new since;
-    }
-
-    pub left_told : (m who : ℕ) (old new : List Event) (told : Entry) (s : SeatView) → Since who old new → SeatOk (SendsToo may counts old told) (UpTo floor m) shelf state spells new s → IsLeft may floor shelf state spells old new s
-    left_told m who old new told s since h = record {
-      stands = seat_wider (SendsToo may counts old told) may (UpTo floor m) floor shelf (λ who e k. k.0.0) (λ log n k. k.0) state spells new s h;
-      grows = grows-since who old new since;
-    }
-
-    -- a step that kept who it is and went no further back
-    pub done_by : (m : ℕ) (old new : List Event) (a b : SeatView) → b.who ≡ a.who → m ≤ b.node.replica.cursor → Since b.who old new → SeatOk (Sends may counts old) (UpTo floor m) shelf state spells new b → IsDone may floor shelf state spells counts old a new b
-    done_by m old new a b who up since h = record {
+    pub left_by : (beside : ℕ → ℕ → Type 0) (right : ℕ → Type 0) (m : ℕ) (old new : List Event) (a b : SeatView) → b.who ≡ a.who → Since b.who (beside b.who) old new → SealsByRight (right b.who) b.who old new
+        → SeatOk (Sends may counts old) (UpTo floor m) shelf state spells new b → IsLeft may floor shelf state spells beside (right a.who) old a new b
+    left_by beside right m old new a b who since seals h = record {
+      stands = seat_wider (Sends may counts old) may (UpTo floor m) floor shelf (λ user e k. k.0.0) (λ log n k. k.0) state spells new b h;
       who = who;
-      ok = seat_ends m old new b (grows-since b.who old new since) h;
-      since = subst (λ w. Since w old new) who since;
+      since = subst (λ w. Since w (beside w) old new) who since;
+      seals = subst (λ w. SealsByRight (right w) w old new) who seals;
+    }
+
+    pub left_told : (beside : ℕ → ℕ → Type 0) (right : ℕ → Type 0) (m : ℕ) (old new : List Event) (told : Entry) (a b : SeatView) → b.who ≡ a.who → Since b.who (beside b.who) old new → SealsByRight (right b.who) b.who old new
+        → SeatOk (SendsToo may counts old told) (UpTo floor m) shelf state spells new b → IsLeft may floor shelf state spells beside (right a.who) old a new b
+    left_told beside right m old new told a b who since seals h = record {
+      stands = seat_wider (SendsToo may counts old told) may (UpTo floor m) floor shelf (λ user e k. k.0.0) (λ log n k. k.0) state spells new b h;
+      who = who;
+      since = subst (λ w. Since w (beside w) old new) who since;
+      seals = subst (λ w. SealsByRight (right w) w old new) who seals;
+    }
+
+    -- a step that went no further back
+    pub done_by : (m : ℕ) (old new : List Event) (b : SeatView) → m ≤ b.node.replica.cursor → Grows old new → SeatOk (Sends may counts old) (UpTo floor m) shelf state spells new b → IsDone may floor shelf state spells counts new b
+    done_by m old new b up grows h = record {
+      ok = seat_ends m old new b grows h;
       high = high_low (Sends may counts old) floor shelf m b.node.replica.cursor new up h.node.legal;
     }
 
-    pub done_told : (m : ℕ) (old new : List Event) (told : Entry) (a b : SeatView) → b.who ≡ a.who → m ≤ b.node.replica.cursor → Since b.who old new → b.node.outbox.entries ≡ [] → b.node.replica.kept ≡ []
-        → SeatOk (SendsToo may counts old told) (UpTo floor m) shelf state spells new b → IsDone may floor shelf state spells counts old a new b
-    done_told m old new told a b who up since none kept h = record {
-      who = who;
+    pub done_told : (m : ℕ) (old new : List Event) (told : Entry) (b : SeatView) → m ≤ b.node.replica.cursor → b.node.outbox.entries ≡ [] → b.node.replica.kept ≡ []
+        → SeatOk (SendsToo may counts old told) (UpTo floor m) shelf state spells new b → IsDone may floor shelf state spells counts new b
+    done_told m old new told b up none kept h = record {
       ok = seat_told m old new told b none kept h;
-      since = subst (λ w. Since w old new) who since;
       high = high_low (SendsToo may counts old told) floor shelf m b.node.replica.cursor new up h.node.legal;
     }
 

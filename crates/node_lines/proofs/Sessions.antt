@@ -17,15 +17,15 @@ use Rattle.engine_api.specs.Order.{gap_from}
 use Rattle.engine_steps.specs.declared.layout.Kept.{Kept}
 use Rattle.engine_steps.specs.Layout.{last_of}
 use Rattle.engine_steps.specs.Words.{under}
-use Rattle.engine_laws.specs.State.{IsStateOf}
+use Rattle.log_laws.specs.State.{IsStateOf}
 use Rattle.replica_api.specs.Replica.{saved_in}
 use Rattle.base_engine.specs.Following.{IsStateAt}
 use Rattle.base_engine.specs.Proposing.{IsNear, IsNearAt}
 use Rattle.base_engine.specs.Settling.{cause_in}
 use Rattle.base_engine.specs.Node.{NodeView}
-use Rattle.node_sessions.specs.declared.desk.Desk.{Desk}
-use Rattle.node_sessions.specs.Desks.{AreAnswers, AreAllAnswers, InFront}
-use Rattle.node_sessions.specs.UnderWay.{IsGiven, rank_under}
+use Rattle.node_lines.specs.declared.desk.Desk.{Desk}
+use Rattle.node_lines.specs.Answered.{AreAnswers, AreAllAnswers, InFront}
+use Rattle.node_lines.specs.UnderWay.{IsGiven, rank_under}
 use Rattle.node_lines.specs.Moving.{HandsIn}
 use Rattle.node_lines.specs.Desks.{HasAnswers, DeskOk}
 use Rattle.node_lines.specs.Lines.{IsFree, HasActedTo, stopped_unanswered, Closes}

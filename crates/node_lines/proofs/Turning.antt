@@ -10,15 +10,15 @@ use Rattle.legal_journal.specs.declared.events.Event.{Event}
 use Rattle.legal_journal.specs.Journal.{IsLegal}
 use Rattle.virtual_log.specs.Holding.{Holds}
 use Rattle.virtual_log.proofs.Holding.{holds_stands}
-use Rattle.one_thread.proofs.Bounds.{stands_below}
+use Rattle.turn_scopes.proofs.Bounds.{stands_below}
 use Rattle.engine_api.specs.Acted.{asked_in}
 use Rattle.engine_api.specs.Order.{gap_from, top_rank}
 use Rattle.engine_api.proofs.Gaps.{gap-run}
 use Rattle.base_engine.specs.Reading.{IsFront}
 use Rattle.base_engine.specs.Node.{NodeView}
-use Rattle.node_sessions.specs.declared.desk.Desk.{Desk}
-use Rattle.node_sessions.specs.UnderWay.{HasLanded, IsGiven, ranks_in}
-use Rattle.node_sessions.proofs.Catching.{appears_in, acted_sent}
+use Rattle.node_lines.specs.declared.desk.Desk.{Desk}
+use Rattle.node_lines.specs.UnderWay.{HasLanded, IsGiven, ranks_in}
+use Rattle.node_lines.proofs.Catching.{appears_in, acted_sent}
 use Rattle.node_lines.specs.Moving.{HasNoneOf, IsQuiet}
 use Rattle.node_lines.specs.Desks.{DeskOk, IsBound}
 use Rattle.node_lines.specs.Lines.{Stopped}

@@ -9,13 +9,13 @@ use Rattle.delos_types.specs.declared.cause.Cause.{Cause}
 use Rattle.table_core.specs.declared.command.Query.{Query}
 use Rattle.legal_journal.specs.declared.events.Event.{Event}
 use Rattle.legal_journal.specs.Journal.{IsLegal}
-use Rattle.journal_changes.proofs.Changes.{legal_by}
+use Rattle.journal_laws.proofs.Changes.{legal_by}
 use Rattle.replica_api.specs.Replica.{Saved}
 use Rattle.base_engine.specs.Settling.{MaySend}
 use Rattle.base_engine.specs.Node.{NodeView}
-use Rattle.node_sessions.specs.declared.desk.Desk.{Desk}
-use Rattle.one_thread.specs.Alone.{Since}
-use Rattle.one_thread.specs.Seats.{SeatView, SeatOk}
+use Rattle.node_lines.specs.declared.desk.Desk.{Desk}
+use Rattle.turn_scopes.specs.Beside.{Since}
+use Rattle.turn_scopes.specs.Seats.{SeatView, SeatOk}
 use Rattle.node_lines.specs.declared.lines.Looked.{Looked}
 use Rattle.node_lines.specs.declared.measure.Measured.{Measured}
 use Rattle.node_lines.specs.Moving.{Goes, Moves, HandsIn}
@@ -106,8 +106,8 @@ module _ (a b : ℕ → Entry → Type 0) (low high : List Entry → ℕ → Typ
 
 -- A journal that grows.
 
-pub grows-since : (who : ℕ) (old new : List Event) → Since who old new → Grows old new
-grows-since who old new h = (h.more, h.seen)
+pub grows-since : (who : ℕ) (beside : ℕ → Type 0) (old new : List Event) → Since who beside old new → Grows old new
+grows-since who beside old new h = (h.more, h.seen)
 
 pub grows-both : (old mid new : List Event) → Grows old mid → Grows mid new → Grows old new
 grows-both old mid new g h = (g.0 ++ h.0, h.1 ∙ (ap (λ l. l ++ h.0) g.1 ∙ append_assoc old g.0 h.0))

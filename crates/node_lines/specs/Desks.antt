@@ -10,9 +10,9 @@ use Rattle.engine_steps.specs.declared.layout.Kept.{Kept}
 use Rattle.base_engine.specs.Reading.{IsFront}
 use Rattle.base_engine.specs.Settling.{cause_in}
 use Rattle.base_engine.specs.Node.{NodeView}
-use Rattle.node_sessions.specs.declared.desk.Desk.{Desk}
-use Rattle.node_sessions.specs.Desks.{AreAnswers}
-use Rattle.node_sessions.specs.UnderWay.{HasRank, IsGiven}
+use Rattle.node_lines.specs.declared.desk.Desk.{Desk}
+use Rattle.node_lines.specs.Answered.{AreAnswers}
+use Rattle.node_lines.specs.UnderWay.{HasRank, IsGiven}
 
 -- the answers are those of the session's first commands in a front of the log, no longer than so
 pub record HasAnswers (seen : List Event) (cursor s : ℕ) (answers : List Kept) : Type 0 where

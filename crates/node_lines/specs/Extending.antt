@@ -2,8 +2,7 @@
 use Rattle.std.specs.Prelude.{◌≡◌, ℕ, false, List, [], ◌∷◌, length}
 use Rattle.delos_types.specs.declared.entry.Entry.{Entry}
 use Rattle.delos_types.specs.declared.cause.Cause.{Cause}
-use Rattle.legal_journal.specs.Sealing.{Unsealed}
-use Rattle.virtual_log.specs.Sealing.{SealsLast}
+use Rattle.virtual_log.specs.Sealing.{SealsNone, SealsLast}
 use Rattle.base_engine.specs.Reading.{IsExtendedBy}
 use Rattle.base_engine.specs.Node.{NodeView}
 use Rattle.node_lines.specs.declared.lines.Looked.{Looked}
@@ -37,7 +36,7 @@ pub record Replaces (may : ℕ → Entry → Type 0) (floor : List Entry → ℕ
   pub extends : ExtendsSo (length shelf) old new others answer
   pub seals : SealsLast old.who old.seen new.seen
 
--- One after the other. No Seal was begun before the last loglet was replaced.
+-- One after the other. The node began no Seal before the last loglet was replaced.
 pub record Extends (may : ℕ → Entry → Type 0) (floor : List Entry → ℕ → Type 0) (shelf : List ℕ) (old new : NodeView) (answer : Looked) : Type 0 where
   pub others : List Cause
   pub moves : Moves may floor shelf old new others
@@ -45,7 +44,7 @@ pub record Extends (may : ℕ → Entry → Type 0) (floor : List Entry → ℕ 
   pub settles : Moves may floor shelf old settled []
   pub none : settled.outbox.entries ≡ []
   pub kept : settled.replica.kept ≡ []
-  pub unsealed : Unsealed old.seen settled.seen
+  pub unsealed : SealsNone old.who old.seen settled.seen
   pub replica : new.replica ≡ settled.replica
   pub outbox : new.outbox ≡ settled.outbox
   pub extends : ExtendsSo (length shelf) settled new others answer

@@ -9,3 +9,6 @@ pub mod Measuring
 pub mod Trimming
 pub mod Workers
 pub mod Steps
+pub mod Answered
+pub mod UnderWay
+pub mod Chains

@@ -12,16 +12,16 @@ use Rattle.legal_journal.specs.Journal.{state_of, tail_of}
 use Rattle.virtual_log.specs.Holding.{Holds}
 use Rattle.engine_api.specs.Acted.{asked_in, table_after}
 use Rattle.engine_api.specs.Order.{gap_from}
-use Rattle.engine_laws.specs.State.{acts_in}
+use Rattle.log_laws.specs.State.{acts_in}
 use Rattle.base_engine.specs.Following.{EndsBy}
 use Rattle.base_engine.specs.Reading.{IsFront}
 use Rattle.base_engine.specs.Settling.{cause_in}
 use Rattle.base_engine.specs.Node.{NodeView}
-use Rattle.node_sessions.specs.declared.desk.Desk.{Desk}
+use Rattle.node_lines.specs.declared.desk.Desk.{Desk}
 use Rattle.node_lines.specs.declared.lines.Looked.{Looked}
 use Rattle.node_lines.specs.declared.lines.Looked.TheVariants as looked
-use Rattle.node_sessions.specs.Desks.{AreAllAnswers, InFront}
-use Rattle.node_sessions.specs.UnderWay.{IsGiven}
+use Rattle.node_lines.specs.Answered.{AreAllAnswers, InFront}
+use Rattle.node_lines.specs.UnderWay.{IsGiven}
 use Rattle.node_lines.specs.declared.steps.Synced.{Synced}
 use Rattle.node_lines.specs.declared.steps.Synced.TheVariants as synced
 use Rattle.node_lines.specs.Moving.{Moves, failure_of}

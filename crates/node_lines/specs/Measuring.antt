@@ -5,13 +5,13 @@ use Rattle.delos_types.specs.declared.cause.Cause.{Cause}
 use Rattle.legal_journal.specs.declared.events.Event.{Event}
 use Rattle.legal_journal.specs.Journal.{state_of, tail_of}
 use Rattle.virtual_log.specs.Holding.{Holds}
-use Rattle.journal_changes.specs.Changes.{appended}
+use Rattle.journal_laws.specs.Changes.{appended}
 use Rattle.engine_api.specs.declared.content.Content.{Content}
 use Rattle.engine_api.specs.declared.content.Content.TheVariants.{Session, Alive, Leave, Trim}
 use Rattle.engine_api.specs.declared.content.Placed.{Placed}
 use Rattle.engine_api.specs.Items.{unpack}
 use Rattle.engine_api.specs.Members.{clean_at}
-use Rattle.engine_laws.specs.State.{IsStateOf}
+use Rattle.log_laws.specs.State.{IsStateOf}
 use Rattle.base_engine.specs.Reading.{IsFront}
 use Rattle.base_engine.specs.Node.{NodeView}
 use Rattle.node_lines.specs.declared.measure.Measured.{Measured}

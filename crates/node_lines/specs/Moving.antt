@@ -5,12 +5,12 @@ use Rattle.delos_types.specs.declared.item.Item.{Item}
 use Rattle.delos_types.specs.declared.cause.Cause.{Cause}
 use Rattle.delos_types.specs.declared.cause.Cause.TheVariants as cause
 use Rattle.legal_journal.specs.declared.events.Event.{Event}
-use Rattle.journal_faults.specs.Faults.{faults_in}
+use Rattle.journal_laws.specs.Own.{faults_of}
 use Rattle.engine_api.specs.Packing.{IsProposable}
 use Rattle.base_engine.specs.declared.outbox.Given.{Given}
 use Rattle.base_engine.specs.Settling.{sessions_in, has_session, cause_in}
 use Rattle.base_engine.specs.Node.{NodeView, Keeps}
-use Rattle.node_sessions.specs.UnderWay.{IsGiven, ranks_in}
+use Rattle.node_lines.specs.UnderWay.{IsGiven, ranks_in}
 use Rattle.node_lines.specs.declared.steps.Synced.{Synced}
 use Rattle.node_lines.specs.declared.steps.Synced.TheVariants as synced
 
@@ -24,11 +24,11 @@ is_store other = false
 abbrev pub Rises : ℕ → ℕ → ℕ → Type 0
 Rises n before after = min (before + n) (2 ^ 64 - 1) ≤ min after (2 ^ 64 - 1)
 
--- Each of these causes came of its own: those of the log by as many events since old, those of the disk by as many of its faults.
-pub record Spends (old new : List Event) (before after : ℕ) (causes : List Cause) : Type 0 where
+-- Each of these causes came of its own: those of the log by as many events of who since old, those of the disk by as many of its faults.
+pub record Spends (who : ℕ) (old new : List Event) (before after : ℕ) (causes : List Cause) : Type 0 where
   pub more : List Event
   pub seen : new ≡ old ++ more
-  pub events : (P : Cause → Bool) → P cause.Store ≡ false → count_by P causes ≤ count_by P (faults_in more)
+  pub events : (P : Cause → Bool) → P cause.Store ≡ false → count_by P causes ≤ count_by P (faults_of who more)
   pub disk : Rises (count_by is_store causes) before after
 
 -- A node's calls
@@ -52,7 +52,7 @@ pub record Goes (may : ℕ → Entry → Type 0) (floor : List Entry → ℕ →
   pub keeps : Keeps may floor shelf old new
   pub given : List Given
   pub gained : new.outbox.given ≡ old.outbox.given ++ given
-  pub spends : Spends old.seen new.seen old.replica.faults new.replica.faults (causes_of given others)
+  pub spends : Spends old.who old.seen new.seen old.replica.faults new.replica.faults (causes_of given others)
   pub packs : CanPack old.replica.kept → CanPack new.replica.kept
 
 -- the commands of session s that were given are so still, where it has no cause

@@ -6,26 +6,27 @@ use Rattle.delos_types.specs.declared.item.Item.{Item}
 use Rattle.delos_types.specs.declared.cause.Cause.{Cause}
 use Rattle.legal_journal.specs.declared.events.Event.{Event}
 use Rattle.base_engine.specs.Node.{NodeView}
-use Rattle.journal_changes.specs.Changes.{TrimsUpTo}
+use Rattle.journal_laws.specs.Changes.{TrimsUpTo}
 use Rattle.replica_api.specs.Replica.{Saved}
-use Rattle.one_thread.specs.Alone.{Since}
-use Rattle.one_thread.specs.Seats.{SeatView, SeatOk}
+use Rattle.turn_scopes.specs.Beside.{Since, SealsByRight}
+use Rattle.turn_scopes.specs.Seats.{SeatView, SeatOk}
 use Rattle.node_lines.specs.declared.lines.Looked.{Looked}
 use Rattle.node_lines.specs.declared.lines.Looked.TheVariants as looked
 use Rattle.node_lines.specs.Reporting.{Tells}
 use Rattle.node_lines.specs.Leaving.{PlaysKnown}
-use Rattle.node_lines.specs.Workers.{Sends, Grows}
+use Rattle.node_lines.specs.Workers.{Sends}
 
--- whatever it came to, the seat can take the fabric again, and the journal has all of before
-pub record IsLeft (may : ℕ → Entry → Type 0) (floor : List Entry → ℕ → Type 0) (shelf : List ℕ) (state : List Entry → SpaceMap → Type 0) (spells : List ℕ → Saved → Type 0) (old new : List Event) (b : SeatView) : Type 0 where
+-- Whatever it came to, the seat can take the access again; each event since is the node's or of one of those beside; and it began a Seal only where
+-- it has the right.
+pub record IsLeft (may : ℕ → Entry → Type 0) (floor : List Entry → ℕ → Type 0) (shelf : List ℕ) (state : List Entry → SpaceMap → Type 0) (spells : List ℕ → Saved → Type 0) (beside : ℕ → ℕ → Type 0) (right : Type 0) (old : List Event) (a : SeatView) (new : List Event) (b : SeatView) : Type 0 where
   pub stands : SeatOk may floor shelf state spells new b
-  pub grows : Grows old new
-
--- The step was done, by whom it was to be done, and no trim is above where the node is.
-pub record IsDone (may : ℕ → Entry → Type 0) (floor : List Entry → ℕ → Type 0) (shelf : List ℕ) (state : List Entry → SpaceMap → Type 0) (spells : List ℕ → Saved → Type 0) (counts : List ℕ) (old : List Event) (a : SeatView) (new : List Event) (b : SeatView) : Type 0 where
   pub who : b.who ≡ a.who
+  pub since : Since a.who (beside a.who) old new
+  pub seals : SealsByRight right a.who old new
+
+-- The step was done, and no trim is above where the node is.
+pub record IsDone (may : ℕ → Entry → Type 0) (floor : List Entry → ℕ → Type 0) (shelf : List ℕ) (state : List Entry → SpaceMap → Type 0) (spells : List ℕ → Saved → Type 0) (counts : List ℕ) (new : List Event) (b : SeatView) : Type 0 where
   pub ok : SeatOk (Sends may counts new) floor shelf state spells new b
-  pub since : Since a.who old new
   pub high : TrimsUpTo b.node.replica.cursor new
 
 -- the item's entry failed

@@ -3,7 +3,7 @@ use Rattle.std.specs.Prelude.{◌≡◌, ℕ, ◌<◌, List, [], length, Option,
 use Rattle.delos_types.specs.declared.entry.Entry.{Entry}
 use Rattle.delos_types.specs.declared.cause.Cause.{Cause}
 use Rattle.base_engine.specs.Node.{NodeView}
-use Rattle.node_sessions.specs.declared.desk.Desk.{Desk}
+use Rattle.node_lines.specs.declared.desk.Desk.{Desk}
 use Rattle.node_lines.specs.Desks.{DesksOk}
 use Rattle.node_lines.specs.Lines.{EndsPhase, Closes}
 

@@ -8,15 +8,15 @@ use Rattle.delos_types.specs.declared.item.Item.{Item}
 use Rattle.legal_journal.specs.declared.events.Event.{Event}
 use Rattle.replica_api.specs.Replica.{Saved}
 use Rattle.base_engine.specs.Node.{NodeView}
-use Rattle.node_sessions.specs.declared.desk.Desk.{Desk}
-use Rattle.node_sessions.specs.UnderWay.{HasRank}
-use Rattle.one_thread.specs.Seats.{SeatView, SeatOk, node_of}
+use Rattle.node_lines.specs.declared.desk.Desk.{Desk}
+use Rattle.node_lines.specs.UnderWay.{HasRank}
+use Rattle.turn_scopes.specs.Seats.{SeatView, SeatOk, node_of}
 use Rattle.node_lines.specs.Moving.{CanPack, Goes, StaysGiven, StaysQuiet}
 use Rattle.node_lines.specs.Desks.{DesksOk, MayJoin}
 use Rattle.node_lines.specs.Measuring.{IsCleanPoint}
 use Rattle.node_lines.specs.declared.lines.Looked.{Looked}
 use Rattle.node_lines.specs.declared.lines.Looked.TheVariants as looked
-use Rattle.journal_changes.specs.Changes.{appended, Adds}
+use Rattle.journal_laws.specs.Changes.{appended, Adds}
 use Rattle.engine_api.specs.declared.content.Content.{Content}
 use Rattle.engine_api.specs.declared.content.Content.TheVariants.{Session, Alive, Leave, Trim}
 use Rattle.engine_api.specs.declared.content.Placed.{Placed}

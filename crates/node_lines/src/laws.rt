@@ -5,7 +5,7 @@ ghost use Rattle.delos_types.specs.declared.entry.Entry.{Entry};
 ghost use Rattle.engine_api.specs.Acted.{unpack_all};
 ghost use Rattle.engine_api.specs.Members.{least_position, trim_point};
 ghost use Rattle.engine_steps.specs.Layout as layout;
-ghost use Rattle.engine_laws.specs.State.{IsStateOf};
+ghost use Rattle.log_laws.specs.State.{IsStateOf};
 ghost use Rattle.base_engine.specs.Trimming.{least_of};
 
 /// In a space that is the state of a log, the least position of a member and the trim point are the log's.

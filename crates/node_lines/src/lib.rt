@@ -1,17 +1,22 @@
-//! The lines of a session at its node: a command is handed in, and a read looks at the table; and a node's own lines: the last
-//! loglet is replaced; and the pieces of what a node does as it reports, leaves or trims the log.
+//! What a line asks of its node, and what holds of a node with its sessions between two of its turns.
 //!
-//! - `steps`: a node's calls, as far as the sessions' lines need them.
-//! - `lines`: what a line asks of its node.
+//! - `chain`: laws of the chain, as a worker sees it go on.
+//! - `desk`: `Desk`, what a node keeps of a session.
 //! - `extend`: the last loglet of the log is replaced.
-//! - `measure`: what a node reads off its state at a tail, before it reports, leaves or asks for a trim.
-//! - `report`: a node tells the log of itself: it appends an entry of an item of no session.
-//! - `leave`: a node plays the log as far as it knows it.
-//! - `trim`: a node trims the log.
-//! - `turn`: a phase ends.
-//! - `laws`: what a node's state has of its log.
+//! - `laws`: what a node reads off its state is what its log says.
+//! - `leave`: a node plays what it knows of the log, its leave too.
+//! - `lines`: a line of a session, and the end of a phase.
+//! - `measure`: a node finds a tail, and reads positions off its state there.
+//! - `report`: an entry of no session is appended.
+//! - `steps`: one command, one settling, one tail.
+//! - `trim`: the log is trimmed as far as the node's state says.
+//! - `turn`: a phase ends at a node.
+//! - `under_way`: laws of the way of a session's commands through its node.
+//! - `workers`: laws of a node between two of its turns, while others have the log.
 #![tactic(auto)]
 
+pub mod chain;
+pub mod desk;
 pub mod extend;
 pub mod laws;
 pub mod leave;
@@ -21,3 +26,5 @@ pub mod report;
 pub mod steps;
 pub mod trim;
 pub mod turn;
+pub mod under_way;
+pub mod workers;

@@ -5,7 +5,7 @@ ghost use Rattle.delos_types.specs.declared.entry.Entry.{Entry};
 ghost use Rattle.legal_journal.specs.Journal.{IsLegal};
 ghost use Rattle.engine_api.specs.Acted.{unpack_all};
 ghost use Rattle.engine_api.specs.Members.{clean_position, least_position};
-ghost use Rattle.engine_laws.specs.State.{IsStateOf};
+ghost use Rattle.log_laws.specs.State.{IsStateOf};
 ghost use Rattle.node_lines.specs.Moving.{CanPack};
 ghost use Rattle.node_lines.specs.Desks.{KeepsFrom};
 ghost use Rattle.node_lines.specs.Measuring.{Measures};

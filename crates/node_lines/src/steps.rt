@@ -10,7 +10,7 @@ ghost use Rattle.base_engine.specs.Following.{Follows, IsAt, EndsBy};
 ghost use Rattle.virtual_log.specs.Holding.{Holds};
 ghost use Rattle.replica_api.specs.Replica.{Flushes};
 ghost use Rattle.base_engine.specs.Proposing.{Sent, IsNear};
-ghost use Rattle.node_sessions.specs.UnderWay.{rank_under};
+ghost use Rattle.node_lines.specs.UnderWay.{rank_under};
 ghost use Rattle.node_lines.specs.Moving.{Moves, HandsIn, CanPack, failure_of};
 
 use base_engine::fault::Fault;

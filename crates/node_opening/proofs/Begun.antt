@@ -7,7 +7,7 @@ use Rattle.delos_types.specs.declared.item.Item.{Item}
 use Rattle.disk_model.specs.Disk.{Rose, DiskView}
 use Rattle.store_records.specs.declared.change.Commit.{Commit}
 use Rattle.store_records.specs.Spelled.{Saved, nothing_saved, committed}
-use Rattle.engine_laws.specs.State.{IsStateOf}
+use Rattle.log_laws.specs.State.{IsStateOf}
 use Rattle.local_store.specs.View as store
 use Rattle.local_replica.specs.Shown.{pair_of, shown, Spells}
 use Rattle.local_replica.proofs.Showing.{shown_survives}

@@ -1,7 +1,7 @@
 -- A node's state machine at first.
 use Rattle.std.specs.Prelude.{◌≡◌, ℕ, ◌+◌, ◌<◌, ◌&&◌, not, nat_lt, true, false, List, slice_get, Some}
 use Rattle.disk_model.specs.Disk.{DiskView}
-use Rattle.engine_laws.specs.State.{IsStateOf}
+use Rattle.log_laws.specs.State.{IsStateOf}
 use Rattle.replica_api.specs.Replica.{ReplicaView}
 use Rattle.local_replica.specs.Shown.{Spells}
 use Rattle.replica_api.specs.Fresh.{IsFreshReplica}

@@ -2,7 +2,7 @@
 ghost use Rattle.std.specs.Prelude.{◌≡◌, ◌≤◌, ◌+◌, [], ◌∷◌, length, map, IfOk, IfErr, OnOk, OnErr};
 ghost use Rattle.std.specs.List.{AllByRecursion};
 ghost use Rattle.std.specs.Vec.{vec_capacity};
-ghost use Rattle.engine_laws.specs.State.{IsStateOf};
+ghost use Rattle.log_laws.specs.State.{IsStateOf};
 ghost use Rattle.local_replica.specs.Shown.{shown, Spells};
 ghost use Rattle.replica_api.specs.Fresh.{IsFreshReplica};
 ghost use Rattle.fitting_run.specs.Fresh.{IsFreshNode};
@@ -12,11 +12,11 @@ use crate::closing::{close_before, put_first};
 use crate::parts::NodeParts;
 use delos_types::numbers::NodeId;
 use disk_model::Disk;
-use engine_laws::laws::starts_empty;
 use fate_words::chooser::Chooser;
 use local_replica::layers::Layers;
 use local_replica::replica::LocalReplica;
 use local_store::Store;
+use log_laws::state::starts_empty;
 use replica_api::node::OpenNode;
 use std::alloc::{AllocError, Global};
 

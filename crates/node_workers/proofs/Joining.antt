@@ -17,8 +17,8 @@ use Rattle.engine_api.specs.Acted.{Asked, appearances}
 use Rattle.engine_api.specs.Order.{first_of}
 use Rattle.engine_api.specs.Packing.{packed, session_item, IsBatch, IsProposable}
 use Rattle.engine_api.proofs.Packed.{content_of-session, unpack-packed}
-use Rattle.node_sessions.specs.UnderWay.{Among, HasRank, rank_under, ranks_in}
-use Rattle.node_sessions.proofs.Ranks.{rank-packed, ranks-append}
+use Rattle.node_lines.specs.UnderWay.{Among, HasRank, rank_under, ranks_in}
+use Rattle.node_lines.proofs.Ranks.{rank-packed, ranks-append}
 use Rattle.node_lines.specs.Moving.{CanPack}
 use Rattle.node_lines.specs.Desks.{MayJoin}
 use Rattle.node_lines.specs.Workers.{Within, Sends, IsCommand, IsOfSession, IsOfSessions, SaysAlone, sent_of}

@@ -1,5 +1,5 @@
 -- A command is asked at a session's desk.
-use Rattle.std.proofs.Common.{◌≡◌, ◌≢◌, refl, sym, ap, ◌∙◌, subst, ◌⊎◌, inl, inr, ℕ, ◌+◌, ◌<◌, ◌≤◌, Bool, true, false, List, [], ◌∷◌, ◌++◌, Some, None, length, arith, append_assoc}
+use Rattle.std.proofs.Common.{◌≡◌, ◌≢◌, refl, sym, ap, ◌∙◌, subst, ◌⊎◌, inl, inr, ℕ, ◌+◌, ◌<◌, ◌≤◌, Bool, true, false, List, [], ◌∷◌, ◌++◌, Some, None, length, arith}
 use Rattle.std.specs.Prelude.{All, slice_get, slice_set, ◌==◌, Contains}
 use Rattle.std.proofs.lemmas.Bool.Decides.{nat_tests}
 use Rattle.std.proofs.lemmas.List.{length-set}
@@ -12,9 +12,8 @@ use Rattle.replica_api.specs.Replica.{Saved}
 use Rattle.fabric_core.proofs.Marks.{set_other, set_same}
 use Rattle.base_engine.specs.Settling.{cause_in}
 use Rattle.base_engine.specs.Node.{NodeView}
-use Rattle.node_sessions.specs.declared.desk.Desk.{Desk}
-use Rattle.one_thread.specs.Alone.{AreOwn, Since}
-use Rattle.one_thread.specs.Seats.{SeatView, SeatOk, node_of}
+use Rattle.node_lines.specs.declared.desk.Desk.{Desk}
+use Rattle.turn_scopes.specs.Seats.{SeatView, SeatOk, node_of}
 use Rattle.node_lines.specs.Moving.{HandsIn}
 use Rattle.node_lines.specs.Desks.{DeskOk}
 use Rattle.node_lines.specs.Lines.{IsFree, Readies}
@@ -23,18 +22,6 @@ use Rattle.node_lines.proofs.Desks.{desk_goes}
 use Rattle.node_lines.proofs.Turning.{same_at}
 use Rattle.node_lines.specs.Workers.{Within, Sends, IsOfSession, WorkerOk, LogsIt, sent_of}
 use Rattle.node_lines.proofs.Widening.{within-more, goes_wider}
-
-own-append : (who : ℕ) (xs ys : List Event) → AreOwn who xs → AreOwn who ys → AreOwn who (xs ++ ys)
-own-append who [] ys h k = k
-own-append who (x ∷ xs) ys h k = (h.0, own-append who xs ys h.1 k)
-
--- one scope after another
-pub since-both : (who : ℕ) (a b c : List Event) → Since who a b → Since who b c → Since who a c
-since-both who a b c h k = record {
-  more = h.more ++ k.more;
-  seen = k.seen ∙ ap (λ l. l ++ k.more) h.seen ∙ append_assoc a h.more k.more;
-  own = own-append who h.more k.more h.own k.own;
-}
 
 -- counts that differ in one session alone
 pub record OneMore (counts counts' : List ℕ) (s : ℕ) : Type 0 where

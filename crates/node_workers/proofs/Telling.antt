@@ -4,9 +4,9 @@ use Rattle.delos_types.specs.declared.entry.Entry.{Entry}
 use Rattle.delos_types.specs.declared.item.Item.{Item}
 use Rattle.delos_types.specs.declared.cause.Cause.{Cause}
 use Rattle.legal_journal.specs.declared.events.Event.{Event}
-use Rattle.legal_journal.specs.Sealing.{Unsealed}
-use Rattle.journal_changes.specs.Changes.{Adds}
-use Rattle.journal_changes.proofs.Changes.{adds_trans, adds_wider}
+use Rattle.virtual_log.specs.Sealing.{SealsNone}
+use Rattle.journal_laws.specs.Changes.{Adds}
+use Rattle.journal_laws.proofs.Changes.{adds_trans, adds_wider}
 use Rattle.engine_api.specs.declared.content.Content.{Content}
 use Rattle.engine_api.specs.declared.content.Content.TheVariants as content
 use Rattle.engine_api.specs.Items.{content_of}
@@ -65,7 +65,7 @@ may_say may counts who who' origin item said same own is fine plain allowed =
 
 module _ (may : ℕ → Entry → Type 0) (floor : List Entry → ℕ → Type 0) (shelf : List ℕ) (low : (log : List Entry) (n : ℕ) → floor log n → n ≤ length log) where
   -- All was carried to its end, and then the last loglet was replaced.
-  pub extends_both : (old mid new : NodeView) (l : Looked) → CarriesAll may floor shelf old mid → Unsealed old.seen mid.seen → Replaces may floor shelf mid new l → Extends may floor shelf old new l
+  pub extends_both : (old mid new : NodeView) (l : Looked) → CarriesAll may floor shelf old mid → SealsNone old.who old.seen mid.seen → Replaces may floor shelf mid new l → Extends may floor shelf old new l
   extends_both old mid new l carries unsealed replaces = record {
     others = replaces.others;
     moves = moves-both may floor shelf low old mid new [] replaces.others carries.moves replaces.moves;

@@ -7,8 +7,8 @@ use Rattle.delos_types.specs.declared.item.Item.{Item}
 use Rattle.delos_types.specs.declared.cause.Cause.{Cause}
 use Rattle.legal_journal.specs.declared.events.Event.{Event}
 use Rattle.legal_journal.specs.Journal.{IsLegal}
-use Rattle.journal_changes.specs.Changes.{appended, Adds}
-use Rattle.journal_changes.proofs.Changes.{adds_wider}
+use Rattle.journal_laws.specs.Changes.{appended, Adds}
+use Rattle.journal_laws.proofs.Changes.{adds_wider}
 use Rattle.virtual_log.specs.Holding.{Holds}
 use Rattle.engine_api.specs.declared.content.Content.{Content}
 use Rattle.engine_api.specs.declared.content.Content.TheVariants.{Session, Alive, Leave, Trim}
@@ -17,8 +17,8 @@ use Rattle.engine_api.specs.Acted.{unpack_all}
 use Rattle.engine_api.specs.Items.{content_of, placed_from, unpack}
 use Rattle.engine_api.specs.Members.{has_left, least_position, trim_point}
 use Rattle.engine_api.specs.Packing.{IsProposable, trim_item}
-use Rattle.engine_laws.specs.State.{IsStateOf}
-use Rattle.member_laws.proofs.Membership.{left_says}
+use Rattle.log_laws.specs.State.{IsStateOf}
+use Rattle.log_laws.proofs.Membership.{left_says}
 use Rattle.replica_api.specs.Replica.{saved_in}
 use Rattle.base_engine.specs.Following.{IsStateAt}
 use Rattle.base_engine.specs.Reading.{IsFront}

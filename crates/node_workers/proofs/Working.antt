@@ -10,8 +10,8 @@ use Rattle.delos_types.specs.declared.entry.Entry.{Entry}
 use Rattle.delos_types.specs.declared.cause.Cause.{Cause}
 use Rattle.legal_journal.specs.declared.events.Event.{Event}
 use Rattle.replica_api.specs.Replica.{Saved}
-use Rattle.node_sessions.specs.declared.desk.Desk.{Desk}
-use Rattle.one_thread.specs.Seats.{SeatView, SeatOk, node_of}
+use Rattle.node_lines.specs.declared.desk.Desk.{Desk}
+use Rattle.turn_scopes.specs.Seats.{SeatView, SeatOk, node_of}
 use Rattle.node_lines.specs.Moving.{Moves, CanPack}
 use Rattle.node_lines.specs.Turns.{ClosesIt, EndsTurn}
 use Rattle.node_lines.proofs.Desks.{desk_moves}

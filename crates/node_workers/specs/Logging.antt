@@ -6,7 +6,7 @@ use Rattle.table_core.specs.Spelling.{IsSpellable, command_length}
 use Rattle.engine_api.specs.Packing.{packed, session_item}
 use Rattle.base_engine.specs.Node.{NodeView}
 use Rattle.base_engine.specs.Settling.{cause_in}
-use Rattle.node_sessions.specs.declared.desk.Desk.{Desk}
+use Rattle.node_lines.specs.declared.desk.Desk.{Desk}
 use Rattle.node_lines.specs.Moving.{CanPack, HandsIn}
 use Rattle.node_lines.specs.Desks.{DeskOk, IsBound}
 use Rattle.node_lines.proofs.Widening.{hands_wider}

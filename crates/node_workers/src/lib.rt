@@ -1,6 +1,7 @@
 //! A node that waits for its turn, with its sessions, and what it does in a turn.
 //!
 //! - `worker`: `Worker`, a seat and the desks of the sessions.
+//! - `back`: `Back`, what is given back of a turn.
 //! - `step`: `NodeStep`, what a node does once, and what is then so.
 //! - `within`: any step within a scope, and in a turn by the rules of a run.
 //! - `steps`: the steps.
@@ -11,6 +12,7 @@
 #![tactic(auto)]
 
 pub mod admin;
+pub mod back;
 pub mod line;
 pub mod step;
 pub mod steps;

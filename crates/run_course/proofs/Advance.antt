@@ -11,14 +11,14 @@ use Rattle.delos_types.specs.declared.cause.Cause.TheVariants as cause
 use Rattle.legal_journal.specs.declared.events.Event.{Event}
 use Rattle.legal_journal.specs.Journal.{IsLegal, state_of, tail_of}
 use Rattle.legal_journal.proofs.Legal.{goes_on}
-use Rattle.journal_faults.specs.Faults.{fault_of, faults_in}
-use Rattle.unsealed_chain.specs.Unsealed.{IsUnsealed}
+use Rattle.journal_laws.specs.Faults.{fault_of, faults_in}
+use Rattle.journal_laws.specs.Unsealed.{IsUnsealed}
 use Rattle.engine_api.specs.declared.content.Content.{Content}
 use Rattle.script_text.specs.declared.asks.NamedLine.{NamedLine}
 use Rattle.fitting_run.specs.Faults.{lacks_store}
-use Rattle.one_thread.specs.Alone.{Since}
-use Rattle.one_thread.proofs.Widening.{legal_wider}
-use Rattle.log_acts.proofs.Pairs.{all-append}
+use Rattle.turn_scopes.specs.Alone.{OwnSince}
+use Rattle.turn_scopes.proofs.Widening.{legal_wider}
+use Rattle.log_laws.proofs.Pairs.{all-append}
 use Rattle.node_lines.specs.declared.lines.Looked.{Looked}
 use Rattle.node_lines.specs.declared.lines.Looked.TheVariants as looked
 use Rattle.node_lines.specs.Moving.{is_store, Rises}
@@ -166,7 +166,7 @@ module _ (may : ℕ → Entry → Type 0) (floor : List Entry → ℕ → Type 0
 
 -- It is a part of a turn of node n.
 pub turned : (lines : List NamedLine) (home : ℕ → ℕ) (n : ℕ) (c : Course) (came : List Cause) (journal : List Event) (when : ℕ → ℕ) (counts counts' : List ℕ) (looks looks' : List (Option Looked))
-    → Since n c.journal journal → ((s : ℕ) → (home s == n) ≡ false → when s ≡ c.when s)
+    → OwnSince n c.journal journal → ((s : ℕ) → (home s == n) ≡ false → when s ≡ c.when s)
     → ((s : ℕ) → (home s == n) ≡ false → sent_of counts' s ≡ sent_of counts s) → ((s : ℕ) → sent_of counts s ≤ sent_of counts' s)
     → length looks' ≡ length looks → ((i : ℕ) (l : NamedLine) → slice_get lines i ≡ Some l → (l.node == n) ≡ false → slice_get looks' i ≡ slice_get looks i)
     → ((m cursor : ℕ) → (m == n) ≡ false → ReportsUpTo m cursor c.journal → ReportsUpTo m cursor journal)

@@ -10,8 +10,8 @@ use Rattle.base_engine.specs.declared.outbox.Given.{Given}
 use Rattle.script_text.specs.declared.asks.NamedLine.{NamedLine}
 use Rattle.script_text.specs.declared.asks.Asks.{Asks}
 use Rattle.script_text.specs.declared.asks.Asks.TheVariants as asks
-use Rattle.one_thread.specs.Seats.{SeatView}
-use Rattle.node_sessions.specs.declared.desk.Desk.{Desk}
+use Rattle.turn_scopes.specs.Seats.{SeatView}
+use Rattle.node_lines.specs.declared.desk.Desk.{Desk}
 use Rattle.node_lines.specs.declared.lines.Looked.{Looked}
 use Rattle.node_lines.specs.declared.lines.Looked.TheVariants as looked
 use Rattle.node_lines.specs.Workers.{sent_of}

@@ -6,7 +6,7 @@ use Rattle.delos_types.specs.declared.cause.Cause.{Cause}
 use Rattle.legal_journal.specs.declared.events.Event.{Event}
 use Rattle.base_engine.specs.declared.outbox.Given.{Given}
 use Rattle.base_engine.specs.Settling.{cause_in, has_session}
-use Rattle.log_acts.proofs.Pairs.{all-append}
+use Rattle.log_laws.proofs.Pairs.{all-append}
 use Rattle.node_lines.specs.Moving.{causes_of}
 use Rattle.run_laws.specs.Ended.{CameTo}
 use Rattle.run_laws.proofs.Members.{Among, all-of, among-left, among-map, among-right, contains-among}

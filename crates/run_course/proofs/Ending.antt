@@ -13,7 +13,7 @@ use Rattle.virtual_log.specs.Holding.{Holds}
 use Rattle.engine_api.specs.Acted.{asked_in}
 use Rattle.engine_api.specs.Order.{gap_from}
 use Rattle.legal_journal.specs.Sealing.{Unsealed}
-use Rattle.journal_changes.specs.Changes.{Adds}
+use Rattle.journal_laws.specs.Changes.{Adds}
 use Rattle.replica_api.specs.Replica.{Saved, saved_in}
 use Rattle.base_engine.specs.declared.outbox.Given.{Given}
 use Rattle.base_engine.specs.Following.{IsStateAt}
@@ -24,18 +24,19 @@ use Rattle.script_text.specs.declared.asks.NamedLine.{NamedLine}
 use Rattle.script_text.specs.declared.asks.Asks.{Asks}
 use Rattle.script_text.specs.declared.asks.Asks.TheVariants as asks
 use Rattle.fitting_run.specs.Lines.{is_of, logs_for}
-use Rattle.one_thread.specs.Alone.{Since}
-use Rattle.one_thread.specs.Seats.{SeatView, node_of}
-use Rattle.one_thread.proofs.Widening.{legal_wider}
-use Rattle.node_sessions.specs.declared.desk.Desk.{Desk}
-use Rattle.node_sessions.proofs.Catching.{acted_sent}
+use Rattle.turn_scopes.specs.Alone.{OwnSince}
+use Rattle.turn_scopes.specs.Seats.{SeatView, node_of}
+use Rattle.turn_scopes.proofs.Widening.{legal_wider}
+use Rattle.node_lines.specs.declared.desk.Desk.{Desk}
+use Rattle.node_lines.proofs.Catching.{acted_sent}
+use Rattle.node_lines.proofs.Spending.{all-events}
 use Rattle.node_lines.specs.declared.lines.Looked.{Looked}
 use Rattle.node_lines.specs.Moving.{causes_of}
 use Rattle.node_lines.specs.Lines.{Stopped, failure_in}
 use Rattle.node_lines.specs.Turns.{ClosesIt, EndsTurn}
 use Rattle.node_lines.proofs.Turning.{ends_quiet, same_at, was_at}
 use Rattle.node_lines.specs.Workers.{IsOfSessions, MayRun, Within, WorkerOk}
-use Rattle.worker_laws.proofs.Bounding.{acted_stays}
+use Rattle.node_lines.proofs.Bounding.{acted_stays}
 use Rattle.run_laws.specs.Ended.{CameTo, rank_in, session_in}
 use Rattle.run_laws.proofs.Members.{Among, among-right}
 use Rattle.run_course.specs.Script.{AreLines, BeginsAt}
@@ -113,7 +114,7 @@ became mid failed d d' h = ⊎_elim
 none_some : {A : Type 0} (a : A) → None ≡ Some a → ⊥
 none_some a e = cc
 
-module _ (may : ℕ → Entry → Type 0) (floor : List Entry → ℕ → Type 0) (shelf : List ℕ) (state : List Entry → SpaceMap → Type 0) (spells : List ℕ → Saved → Type 0) (run : MayRun may floor shelf) (lines : List NamedLine) (home : ℕ → ℕ) (nodes : ℕ) (c : Course) (counts : List ℕ) (looks : List (Option Looked)) (n from to : ℕ) (failed : Option Cause) (seat seat' : SeatView) (desks desks' : List Desk) (journal : List Event) (are : AreLines lines home nodes) (least : 1 ≤ n) (most : n ≤ nodes) (over : BeginsAt lines to (c.phase + 1)) (ok : CourseOk may floor shelf lines nodes c counts looks) (worker : WorkerAt may floor shelf state spells lines home nodes c counts looks n from to c.phase seat desks) (since : Since n c.journal journal) (still : Unsealed c.journal journal) (adds : Adds IsOfSessions c.journal journal) (does : EndsTurn (Within may counts) floor shelf (node_of seat c.journal) (node_of seat' journal) desks desks' failed) (now : WorkerOk may floor shelf state spells n counts journal seat' desks') where
+module _ (may : ℕ → Entry → Type 0) (floor : List Entry → ℕ → Type 0) (shelf : List ℕ) (state : List Entry → SpaceMap → Type 0) (spells : List ℕ → Saved → Type 0) (run : MayRun may floor shelf) (lines : List NamedLine) (home : ℕ → ℕ) (nodes : ℕ) (c : Course) (counts : List ℕ) (looks : List (Option Looked)) (n from to : ℕ) (failed : Option Cause) (seat seat' : SeatView) (desks desks' : List Desk) (journal : List Event) (are : AreLines lines home nodes) (least : 1 ≤ n) (most : n ≤ nodes) (over : BeginsAt lines to (c.phase + 1)) (ok : CourseOk may floor shelf lines nodes c counts looks) (worker : WorkerAt may floor shelf state spells lines home nodes c counts looks n from to c.phase seat desks) (since : OwnSince n c.journal journal) (still : Unsealed c.journal journal) (adds : Adds IsOfSessions c.journal journal) (does : EndsTurn (Within may counts) floor shelf (node_of seat c.journal) (node_of seat' journal) desks desks' failed) (now : WorkerOk may floor shelf state spells n counts journal seat' desks') where
   abbrev came : List Cause
   came = causes_of does.ends.moves.goes.given (failure_in failed)
 
@@ -156,7 +157,7 @@ module _ (may : ℕ → Entry → Type 0) (floor : List Entry → ℕ → Type 0
 
   course_ok : CourseOk may floor shelf lines nodes then' counts looks
   course_ok = advance_still may floor shelf lines nodes c counts looks ok n came journal does.ends.moves.goes.spends.more when' counts seen_more within least most
-      (λ P store. let e = does.ends.moves.goes.spends.events P store in omega (arith, e))
+      (λ P store. let e = all-events does.ends.moves.goes.spends P store in omega (arith, e))
       (still_unsealed may floor shelf counts c.journal journal (count_by has_replaced looks) within still ok.unsealed) tells.told
 
   -- the desk of before

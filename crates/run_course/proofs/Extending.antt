@@ -5,10 +5,10 @@ use Rattle.delos_types.specs.declared.entry.Entry.{Entry}
 use Rattle.delos_types.specs.declared.cause.Cause.{Cause}
 use Rattle.legal_journal.specs.declared.events.Event.{Event}
 use Rattle.legal_journal.specs.Journal.{IsLegal, state_of}
-use Rattle.journal_changes.specs.Changes.{Adds, TrimsUpTo}
-use Rattle.journal_faults.specs.Faults.{faults_in}
-use Rattle.unsealed_chain.specs.Unsealed.{IsUnsealed}
-use Rattle.unsealed_chain.proofs.Staying.{calm_parts}
+use Rattle.journal_laws.specs.Changes.{Adds, TrimsUpTo}
+use Rattle.journal_laws.specs.Faults.{faults_in}
+use Rattle.journal_laws.specs.Unsealed.{IsUnsealed}
+use Rattle.journal_laws.proofs.Staying.{calm_parts}
 use Rattle.virtual_log.specs.declared.extend.Extension.{Extension}
 use Rattle.virtual_log.specs.declared.extend.Extension.TheVariants.{Extended, Moved, NoSpare}
 use Rattle.replica_api.specs.Replica.{Saved}
@@ -17,17 +17,18 @@ use Rattle.script_text.specs.declared.asks.NamedLine.{NamedLine}
 use Rattle.script_text.specs.declared.asks.Asks.TheVariants as asks
 use Rattle.fitting_run.specs.Lines.{is_of, logs_for}
 use Rattle.fabric_core.proofs.Marks.{set_same}
-use Rattle.one_thread.specs.Alone.{Since}
-use Rattle.one_thread.specs.Seats.{SeatView, node_of}
-use Rattle.node_sessions.specs.declared.desk.Desk.{Desk}
+use Rattle.turn_scopes.specs.Alone.{OwnSince}
+use Rattle.turn_scopes.specs.Seats.{SeatView, node_of}
+use Rattle.node_lines.specs.declared.desk.Desk.{Desk}
+use Rattle.node_lines.proofs.Spending.{all-events}
 use Rattle.node_lines.specs.declared.lines.Looked.{Looked}
 use Rattle.node_lines.specs.declared.lines.Looked.TheVariants as looked
 use Rattle.node_lines.specs.Moving.{is_store}
 use Rattle.node_lines.specs.Extending.{Extends, ExtendsSo}
 use Rattle.node_lines.specs.Workers.{IsOfSessions, Within, WorkerOk}
-use Rattle.worker_laws.specs.Extending.{made}
-use Rattle.worker_laws.proofs.Lone.{lone_extension}
-use Rattle.worker_laws.proofs.Sealing.{lone_once}
+use Rattle.node_lines.specs.Chains.{made}
+use Rattle.node_lines.proofs.Lone.{lone_extension}
+use Rattle.node_lines.proofs.Sealing.{lone_once}
 use Rattle.run_course.specs.Script.{AreLines}
 use Rattle.run_course.specs.Course.{Course, CourseOk}
 use Rattle.run_course.specs.Desks.{IsOfNode, PlayedSo}
@@ -43,7 +44,7 @@ use Rattle.run_course.proofs.Advance.{advanced, count-append, failed_of}
 use Rattle.run_course.proofs.Replacing.{LooksOn, count_set}
 use Rattle.run_course.proofs.Playing.{line_went}
 
-module _ (may : ℕ → Entry → Type 0) (floor : List Entry → ℕ → Type 0) (shelf : List ℕ) (state : List Entry → SpaceMap → Type 0) (spells : List ℕ → Saved → Type 0) (lines : List NamedLine) (home : ℕ → ℕ) (nodes : ℕ) (c : Course) (counts : List ℕ) (looks : List (Option Looked)) (n from i : ℕ) (line : NamedLine) (look : Looked) (seat seat' : SeatView) (desks : List Desk) (journal : List Event) (are : AreLines lines home nodes) (least : 1 ≤ n) (most : n ≤ nodes) (at : slice_get lines i ≡ Some line) (node : line.node ≡ n) (phase : line.phase ≡ c.phase) (asks_is : line.asks ≡ asks.Admin Extend) (ok : CourseOk may floor shelf lines nodes c counts looks) (worker : WorkerAt may floor shelf state spells lines home nodes c counts looks n from i c.phase seat desks) (since : Since n c.journal journal) (adds : Adds IsOfSessions c.journal journal) (high : TrimsUpTo seat'.node.replica.cursor journal) (does : Extends (Within may counts) floor shelf (node_of seat c.journal) (node_of seat' journal) look) (now : WorkerOk may floor shelf state spells n counts journal seat' desks) where
+module _ (may : ℕ → Entry → Type 0) (floor : List Entry → ℕ → Type 0) (shelf : List ℕ) (state : List Entry → SpaceMap → Type 0) (spells : List ℕ → Saved → Type 0) (lines : List NamedLine) (home : ℕ → ℕ) (nodes : ℕ) (c : Course) (counts : List ℕ) (looks : List (Option Looked)) (n from i : ℕ) (line : NamedLine) (look : Looked) (seat seat' : SeatView) (desks : List Desk) (journal : List Event) (are : AreLines lines home nodes) (least : 1 ≤ n) (most : n ≤ nodes) (at : slice_get lines i ≡ Some line) (node : line.node ≡ n) (phase : line.phase ≡ c.phase) (asks_is : line.asks ≡ asks.Admin Extend) (ok : CourseOk may floor shelf lines nodes c counts looks) (worker : WorkerAt may floor shelf state spells lines home nodes c counts looks n from i c.phase seat desks) (since : OwnSince n c.journal journal) (adds : Adds IsOfSessions c.journal journal) (high : TrimsUpTo seat'.node.replica.cursor journal) (does : Extends (Within may counts) floor shelf (node_of seat c.journal) (node_of seat' journal) look) (now : WorkerOk may floor shelf state spells n counts journal seat' desks) where
   abbrev then' : Course
   then' = advanced c n (map (λ g. g.cause) does.moves.goes.given) journal c.when
 
@@ -105,7 +106,7 @@ module _ (may : ℕ → Entry → Type 0) (floor : List Entry → ℕ → Type 0
   on x is =
       lone_extension (Within may counts) floor shelf (node_of seat c.journal) (node_of seat' journal) x
       (subst (Extends (Within may counts) floor shelf (node_of seat c.journal) (node_of seat' journal)) is does)
-      (subst (λ w. Since w c.journal journal) (sym worker.ok.who_is) since)
+      (subst (λ w. OwnSince w c.journal journal) (sym worker.ok.who_is) since)
 
   own : (x : Extension) → look ≡ looked.Extended x → AsksNode line.asks
   own x is = subst AsksNode (sym asks_is) tt
@@ -125,7 +126,7 @@ module _ (may : ℕ → Entry → Type 0) (floor : List Entry → ℕ → Type 0
   no_failure : (k : Cause) → does.others ≡ k ∷ [] → is_store k ≡ false → faults_in journal ≡ [] → ⊥
   no_failure k is apart calm =
       let spends = does.moves.goes.spends in
-      let told = spends.events (λ x. not (is_store x)) refl in
+      let told = all-events spends (λ x. not (is_store x)) refl in
       let none = ap (count_by (λ x. not (is_store x))) (calm_parts c.journal journal spends.more spends.seen calm).1 in
       let all = count-append (λ x. not (is_store x)) (map (λ g. g.cause) does.moves.goes.given) does.others in
       let same = ap (count_by (λ x. not (is_store x))) is in
@@ -148,7 +149,7 @@ module _ (may : ℕ → Entry → Type 0) (floor : List Entry → ℕ → Type 0
       let was = ok.unsealed (calm_parts c.journal journal spends.more spends.seen calm).0 in
       subst (λ k. IsUnsealed (state_of journal) (count_by has_replaced looks + k)) (made_is x)
       (lone_once (Within may counts) floor shelf (node_of seat c.journal) (node_of seat' journal) x (count_by has_replaced looks)
-      (subst (Extends (Within may counts) floor shelf (node_of seat c.journal) (node_of seat' journal)) is does) (subst (λ w. Since w c.journal journal) (sym worker.ok.who_is) since) was calm)
+      (subst (Extends (Within may counts) floor shelf (node_of seat c.journal) (node_of seat' journal)) is does) (subst (λ w. OwnSince w c.journal journal) (sym worker.ok.who_is) since) was calm)
   by_look (looked.Reported position) is h calm = absurd h
   by_look looked.Left is h calm = absurd h
   by_look (looked.Trimmed trim) is h calm = absurd h

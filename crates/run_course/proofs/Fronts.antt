@@ -7,7 +7,7 @@ use Rattle.fabric_core.proofs.OneLoglet.{at}
 use Rattle.virtual_log.specs.Holding.{Holds}
 use Rattle.virtual_log.proofs.Holding.{holds_stands}
 use Rattle.base_engine.specs.Reading.{IsFront}
-use Rattle.one_thread.proofs.Bounds.{stands_below}
+use Rattle.turn_scopes.proofs.Bounds.{stands_below}
 
 -- where nothing is trimmed that wasn't shown
 pub front_low : (may : ℕ → Entry → Type 0) (floor : List Entry → ℕ → Type 0) (shelf : List ℕ) → ((log : List Entry) (n : ℕ) → floor log n → n ≤ length log) → (seen : List Event) (log : List Entry) → IsLegal may floor shelf seen → IsFront Holds seen log → length log ≤ tail_of (state_of seen)

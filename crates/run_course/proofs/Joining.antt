@@ -2,8 +2,8 @@
 use Rattle.std.proofs.Common.{◌≡◌, refl, sym, ap, ◌∙◌, ℕ, List, [], ◌∷◌, ◌++◌, Option, arith, append_assoc, append-nil}
 use Rattle.legal_journal.specs.declared.events.Event.{Event}
 use Rattle.script_text.specs.declared.asks.NamedLine.{NamedLine}
-use Rattle.one_thread.specs.Alone.{AreOwn}
-use Rattle.log_acts.proofs.Pairs.{all-append}
+use Rattle.turn_scopes.specs.Alone.{AreOwn}
+use Rattle.log_laws.proofs.Pairs.{all-append}
 use Rattle.node_lines.specs.declared.lines.Looked.{Looked}
 use Rattle.run_laws.specs.Ended.{Fault}
 use Rattle.run_course.specs.Course.{Course, TurnOf}

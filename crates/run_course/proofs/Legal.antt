@@ -5,9 +5,9 @@ use Rattle.delos_types.specs.declared.entry.Entry.{Entry}
 use Rattle.legal_journal.specs.declared.events.Event.{Event}
 use Rattle.legal_journal.specs.Journal.{IsLegal}
 use Rattle.replica_api.specs.Replica.{Saved}
-use Rattle.one_thread.specs.Seats.{SeatView}
-use Rattle.one_thread.proofs.Widening.{legal_wider}
-use Rattle.node_sessions.specs.declared.desk.Desk.{Desk}
+use Rattle.turn_scopes.specs.Seats.{SeatView}
+use Rattle.turn_scopes.proofs.Widening.{legal_wider}
+use Rattle.node_lines.specs.declared.desk.Desk.{Desk}
 use Rattle.node_lines.specs.Workers.{Sends, Within, WorkerOk}
 
 pub worker_legal : (may : ℕ → Entry → Type 0) (floor : List Entry → ℕ → Type 0) (shelf : List ℕ) (state : List Entry → SpaceMap → Type 0) (spells : List ℕ → Saved → Type 0) (who : ℕ) (counts : List ℕ) (journal : List Event) (seat : SeatView) (desks : List Desk)

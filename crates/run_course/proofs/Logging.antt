@@ -9,16 +9,17 @@ use Rattle.table_core.specs.declared.command.Command.{Command}
 use Rattle.legal_journal.specs.declared.events.Event.{Event}
 use Rattle.legal_journal.specs.Journal.{IsLegal}
 use Rattle.legal_journal.specs.Sealing.{Unsealed}
-use Rattle.journal_changes.specs.Changes.{Adds, TrimsUpTo}
+use Rattle.journal_laws.specs.Changes.{Adds, TrimsUpTo}
 use Rattle.replica_api.specs.Replica.{Saved}
 use Rattle.script_text.specs.declared.line.Session.{Session}
 use Rattle.script_text.specs.declared.asks.NamedLine.{NamedLine}
 use Rattle.script_text.specs.declared.asks.Asks.TheVariants as asks
 use Rattle.fitting_run.specs.Lines.{is_of}
 use Rattle.fabric_core.proofs.Marks.{set_other, set_same}
-use Rattle.one_thread.specs.Alone.{Since}
-use Rattle.one_thread.specs.Seats.{SeatView, node_of}
-use Rattle.node_sessions.specs.declared.desk.Desk.{Desk}
+use Rattle.turn_scopes.specs.Alone.{OwnSince}
+use Rattle.turn_scopes.specs.Seats.{SeatView, node_of}
+use Rattle.node_lines.specs.declared.desk.Desk.{Desk}
+use Rattle.node_lines.proofs.Spending.{all-events}
 use Rattle.node_lines.specs.declared.lines.Looked.{Looked}
 use Rattle.node_lines.specs.Moving.{IsQuiet, causes_of}
 use Rattle.node_lines.specs.Workers.{IsOfSessions, Logs, Within, WorkerOk, sent_of}
@@ -38,7 +39,7 @@ use Rattle.run_course.proofs.Unsealing.{still_unsealed}
 use Rattle.run_course.proofs.Growing.{DeskGrew, DeskOfOld, Grown, desk_same, ended_grows, grown_of, halted_grows, played_grows}
 use Rattle.run_course.proofs.Coming.{came_at, given_among, given_then}
 
-module _ (may : ℕ → Entry → Type 0) (floor : List Entry → ℕ → Type 0) (shelf : List ℕ) (state : List Entry → SpaceMap → Type 0) (spells : List ℕ → Saved → Type 0) (lines : List NamedLine) (home : ℕ → ℕ) (nodes : ℕ) (c : Course) (counts counts' : List ℕ) (looks : List (Option Looked)) (n from i : ℕ) (line : NamedLine) (session : Session) (rank : ℕ) (command : Command) (seat seat' : SeatView) (desks desks' : List Desk) (journal : List Event) (are : AreLines lines home nodes) (least : 1 ≤ n) (most : n ≤ nodes) (at : slice_get lines i ≡ Some line) (node : line.node ≡ n) (phase : line.phase ≡ c.phase) (asks_is : line.asks ≡ asks.Logged session rank command) (ok : CourseOk may floor shelf lines nodes c counts looks) (worker : WorkerAt may floor shelf state spells lines home nodes c counts looks n from i c.phase seat desks) (since : Since n c.journal journal) (still : Unsealed c.journal journal) (adds : Adds IsOfSessions c.journal journal) (high : TrimsUpTo seat'.node.replica.cursor journal) (logs : Logs may floor shelf counts counts' (node_of seat c.journal) (node_of seat' journal) session.id desks desks') (now : WorkerOk may floor shelf state spells n counts' journal seat' desks') where
+module _ (may : ℕ → Entry → Type 0) (floor : List Entry → ℕ → Type 0) (shelf : List ℕ) (state : List Entry → SpaceMap → Type 0) (spells : List ℕ → Saved → Type 0) (lines : List NamedLine) (home : ℕ → ℕ) (nodes : ℕ) (c : Course) (counts counts' : List ℕ) (looks : List (Option Looked)) (n from i : ℕ) (line : NamedLine) (session : Session) (rank : ℕ) (command : Command) (seat seat' : SeatView) (desks desks' : List Desk) (journal : List Event) (are : AreLines lines home nodes) (least : 1 ≤ n) (most : n ≤ nodes) (at : slice_get lines i ≡ Some line) (node : line.node ≡ n) (phase : line.phase ≡ c.phase) (asks_is : line.asks ≡ asks.Logged session rank command) (ok : CourseOk may floor shelf lines nodes c counts looks) (worker : WorkerAt may floor shelf state spells lines home nodes c counts looks n from i c.phase seat desks) (since : OwnSince n c.journal journal) (still : Unsealed c.journal journal) (adds : Adds IsOfSessions c.journal journal) (high : TrimsUpTo seat'.node.replica.cursor journal) (logs : Logs may floor shelf counts counts' (node_of seat c.journal) (node_of seat' journal) session.id desks desks') (now : WorkerOk may floor shelf state spells n counts' journal seat' desks') where
   here : (t : ℕ) → (session.id == t) ≡ true → session.id ≡ t
   here t e = grind (arith, nat_tests, e)
 
@@ -59,7 +60,7 @@ module _ (may : ℕ → Entry → Type 0) (floor : List Entry → ℕ → Type 0
 
   course_ok : CourseOk may floor shelf lines nodes then' counts' looks
   course_ok = advance_still may floor shelf lines nodes c counts looks ok n came journal logs.logs.goes.spends.more c.when counts' logs.logs.goes.spends.seen legal least most
-      (λ P store. let e = logs.logs.goes.spends.events P store in omega (arith, e))
+      (λ P store. let e = all-events logs.logs.goes.spends P store in omega (arith, e))
       (still_unsealed may floor shelf counts' c.journal journal (count_by has_replaced looks) legal still ok.unsealed) tells.told
 
   at_home : home session.id ≡ n

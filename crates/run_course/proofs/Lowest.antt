@@ -4,14 +4,14 @@ use Rattle.delos_types.specs.declared.entry.Entry.{Entry}
 use Rattle.legal_journal.specs.declared.events.Event.{Event}
 use Rattle.legal_journal.specs.Journal.{IsLegal, state_of, tail_of}
 use Rattle.virtual_log.specs.Holding.{Holds}
-use Rattle.journal_changes.specs.Changes.{appended}
-use Rattle.journal_changes.proofs.Changes.{held_appended}
+use Rattle.journal_laws.specs.Changes.{appended}
+use Rattle.journal_laws.proofs.Changes.{held_appended}
 use Rattle.engine_api.specs.declared.content.Content.TheVariants as content
 use Rattle.engine_api.specs.Acted.{unpack_all}
 use Rattle.engine_api.specs.Members.{has_left, least_position, position_of}
 use Rattle.base_engine.specs.Reading.{IsFront}
-use Rattle.member_laws.specs.Least.{IsLeast}
-use Rattle.member_laws.proofs.Membership.{least_at, says_left, says_position}
+use Rattle.log_laws.specs.Least.{IsLeast}
+use Rattle.log_laws.proofs.Membership.{least_at, says_left, says_position}
 use Rattle.script_text.specs.declared.asks.NamedLine.{NamedLine}
 use Rattle.node_lines.specs.declared.lines.Looked.{Looked}
 use Rattle.node_lines.specs.declared.lines.Looked.TheVariants as looked

@@ -8,8 +8,8 @@ use Rattle.replica_api.specs.Replica.{Saved}
 use Rattle.script_text.specs.declared.asks.NamedLine.{NamedLine}
 use Rattle.script_text.specs.declared.asks.Asks.{Asks}
 use Rattle.script_text.specs.declared.asks.Asks.TheVariants as asks
-use Rattle.one_thread.specs.Seats.{SeatView}
-use Rattle.node_sessions.specs.declared.desk.Desk.{Desk}
+use Rattle.turn_scopes.specs.Seats.{SeatView}
+use Rattle.node_lines.specs.declared.desk.Desk.{Desk}
 use Rattle.node_lines.specs.declared.lines.Looked.{Looked}
 use Rattle.run_course.specs.Script.{BeginsAt, asked_by}
 use Rattle.run_course.specs.Course.{Course}

@@ -9,10 +9,10 @@ use Rattle.delos_types.specs.declared.entry.Entry.{Entry}
 use Rattle.delos_types.specs.declared.cause.Cause.{Cause}
 use Rattle.legal_journal.specs.declared.events.Event.{Event}
 use Rattle.legal_journal.specs.Journal.{IsLegal, state_of}
-use Rattle.journal_changes.specs.Changes.{TrimsUpTo}
+use Rattle.journal_laws.specs.Changes.{TrimsUpTo}
 use Rattle.engine_api.specs.declared.content.Content.{Content}
-use Rattle.journal_faults.specs.Faults.{faults_in}
-use Rattle.unsealed_chain.specs.Unsealed.{IsUnsealed}
+use Rattle.journal_laws.specs.Faults.{faults_in}
+use Rattle.journal_laws.specs.Unsealed.{IsUnsealed}
 use Rattle.replica_api.specs.Replica.{Saved}
 use Rattle.base_engine.specs.declared.outbox.Given.{Given}
 use Rattle.virtual_log.specs.declared.extend.Extension.{Extension}
@@ -20,9 +20,10 @@ use Rattle.script_text.specs.declared.asks.NamedLine.{NamedLine}
 use Rattle.fitting_run.specs.Lines.{logs_for}
 use Rattle.fitting_run.specs.Faults.{lacks_store}
 use Rattle.fabric_core.proofs.Marks.{set_other, set_same}
-use Rattle.one_thread.specs.Alone.{Since}
-use Rattle.one_thread.specs.Seats.{SeatView, node_of}
-use Rattle.node_sessions.specs.declared.desk.Desk.{Desk}
+use Rattle.turn_scopes.specs.Alone.{OwnSince}
+use Rattle.turn_scopes.specs.Seats.{SeatView, node_of}
+use Rattle.node_lines.specs.declared.desk.Desk.{Desk}
+use Rattle.node_lines.proofs.Spending.{all-events}
 use Rattle.node_lines.specs.declared.lines.Looked.{Looked}
 use Rattle.node_lines.specs.declared.lines.Looked.TheVariants as looked
 use Rattle.node_lines.specs.Moving.{causes_of, Moves}
@@ -46,7 +47,7 @@ use Rattle.run_course.proofs.Replacing.{LooksOn, later, replaced_then}
 use Rattle.run_course.proofs.Growing.{Grown, desk_same, ended_grows, grown_of, halted_grows, played_grows}
 use Rattle.run_course.proofs.Coming.{given_then}
 
-module _ (may : ℕ → Entry → Type 0) (floor : List Entry → ℕ → Type 0) (shelf : List ℕ) (state : List Entry → SpaceMap → Type 0) (spells : List ℕ → Saved → Type 0) (lines : List NamedLine) (home : ℕ → ℕ) (nodes : ℕ) (c : Course) (counts : List ℕ) (looks : List (Option Looked)) (n from i : ℕ) (line : NamedLine) (look : Looked) (seat seat' : SeatView) (desks : List Desk) (journal : List Event) (are : AreLines lines home nodes) (least : 1 ≤ n) (most : n ≤ nodes) (at : slice_get lines i ≡ Some line) (node : line.node ≡ n) (phase : line.phase ≡ c.phase) (unlogged : (s : ℕ) → logs_for s line ≡ false) (ok : CourseOk may floor shelf lines nodes c counts looks) (worker : WorkerAt may floor shelf state spells lines home nodes c counts looks n from i c.phase seat desks) (since : Since n c.journal journal) (others : List Cause) (moves : Moves (Within may counts) floor shelf (node_of seat c.journal) (node_of seat' journal) others) (paid_is : others ≡ failed_of look) (on : LooksOn (length shelf) (state_of c.journal).register (state_of journal).register look) (own : (x : Extension) → look ≡ looked.Extended x → AsksNode line.asks) (unsealed : faults_in journal ≡ [] → IsUnsealed (state_of journal) (count_by has_replaced (slice_set looks i (Some look)))) (now : WorkerOk may floor shelf state spells n counts journal seat' desks) (tells : TellsOn lines (slice_set looks i (Some look)) n seat.node.replica.cursor seat'.node.replica.cursor c.journal journal) (stood : HasToldSo journal n look) (trimmed : (trim : ℕ) → look ≡ looked.Trimmed trim → IsTrim lines (slice_set looks i (Some look)) nodes journal i line trim) where
+module _ (may : ℕ → Entry → Type 0) (floor : List Entry → ℕ → Type 0) (shelf : List ℕ) (state : List Entry → SpaceMap → Type 0) (spells : List ℕ → Saved → Type 0) (lines : List NamedLine) (home : ℕ → ℕ) (nodes : ℕ) (c : Course) (counts : List ℕ) (looks : List (Option Looked)) (n from i : ℕ) (line : NamedLine) (look : Looked) (seat seat' : SeatView) (desks : List Desk) (journal : List Event) (are : AreLines lines home nodes) (least : 1 ≤ n) (most : n ≤ nodes) (at : slice_get lines i ≡ Some line) (node : line.node ≡ n) (phase : line.phase ≡ c.phase) (unlogged : (s : ℕ) → logs_for s line ≡ false) (ok : CourseOk may floor shelf lines nodes c counts looks) (worker : WorkerAt may floor shelf state spells lines home nodes c counts looks n from i c.phase seat desks) (since : OwnSince n c.journal journal) (others : List Cause) (moves : Moves (Within may counts) floor shelf (node_of seat c.journal) (node_of seat' journal) others) (paid_is : others ≡ failed_of look) (on : LooksOn (length shelf) (state_of c.journal).register (state_of journal).register look) (own : (x : Extension) → look ≡ looked.Extended x → AsksNode line.asks) (unsealed : faults_in journal ≡ [] → IsUnsealed (state_of journal) (count_by has_replaced (slice_set looks i (Some look)))) (now : WorkerOk may floor shelf state spells n counts journal seat' desks) (tells : TellsOn lines (slice_set looks i (Some look)) n seat.node.replica.cursor seat'.node.replica.cursor c.journal journal) (stood : HasToldSo journal n look) (trimmed : (trim : ℕ) → look ≡ looked.Trimmed trim → IsTrim lines (slice_set looks i (Some look)) nodes journal i line trim) where
   abbrev came : List Cause
   came = map (λ g. g.cause) moves.goes.given
 
@@ -130,7 +131,7 @@ module _ (may : ℕ → Entry → Type 0) (floor : List Entry → ℕ → Type 0
 
   course_ok : CourseOk may floor shelf lines nodes then' counts looks'
   course_ok = advance may floor shelf lines nodes c counts looks ok n came journal moves.goes.spends.more c.when counts looks' moves.goes.spends.seen legal least most size
-      (λ P store. let e = moves.goes.spends.events P store in let a = both P in let b = paid (λ m. P) in omega (arith, e, a, b)) replaced unsealed tells.told stand trims ahead
+      (λ P store. let e = all-events moves.goes.spends P store in let a = both P in let b = paid (λ m. P) in omega (arith, e, a, b)) replaced unsealed tells.told stand trims ahead
 
   turn : TurnOf lines home n c then' counts counts looks looks'
   turn = turned lines home n c came journal c.when counts counts looks looks' since (λ s other. refl) (λ s other. refl) (λ s. omega arith) size

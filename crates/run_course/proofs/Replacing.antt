@@ -10,8 +10,8 @@ use Rattle.legal_journal.proofs.Legal.{goes_on}
 use Rattle.virtual_log.specs.declared.extend.Extension.{Extension}
 use Rattle.virtual_log.specs.declared.extend.Extension.TheVariants.{Extended, Moved, NoSpare}
 use Rattle.fabric_core.proofs.Marks.{set_other, set_same}
-use Rattle.worker_laws.specs.Extending.{ExtendedSo, HasStarted}
-use Rattle.worker_laws.proofs.Chains.{last_within, started_stays}
+use Rattle.node_lines.specs.Chains.{ExtendedSo, HasStarted}
+use Rattle.node_lines.proofs.Chains.{last_within, started_stays}
 use Rattle.script_text.specs.declared.asks.NamedLine.{NamedLine}
 use Rattle.node_lines.specs.declared.lines.Looked.{Looked}
 use Rattle.node_lines.specs.declared.lines.Looked.TheVariants as looked

@@ -2,14 +2,14 @@
 use Rattle.std.proofs.Common.{◌≡◌, refl, ◌∙◌, ◌⊎◌, inl, inr, ⊎_elim, ℕ, ◌≤◌, Bool, true, false, List, Contains, arith}
 use Rattle.delos_types.specs.declared.entry.Entry.{Entry}
 use Rattle.legal_journal.specs.declared.events.Event.{Event}
-use Rattle.journal_changes.specs.Changes.{appended}
+use Rattle.journal_laws.specs.Changes.{appended}
 use Rattle.engine_api.specs.declared.content.Content.{Content}
 use Rattle.engine_api.specs.declared.content.Content.TheVariants as content
 use Rattle.engine_api.specs.declared.content.Placed.{Placed}
 use Rattle.engine_api.specs.Items.{unpack}
 use Rattle.engine_api.specs.Acted.{unpack_all}
 use Rattle.engine_api.specs.Members.{has_left, position_of}
-use Rattle.member_laws.proofs.Membership.{left_says, position_says, unpack_says}
+use Rattle.log_laws.proofs.Membership.{left_says, position_says, unpack_says}
 use Rattle.node_lines.specs.Workers.{HasNotLeft}
 use Rattle.run_course.specs.Telling.{ReportsUpTo}
 

@@ -14,8 +14,8 @@ use Rattle.engine_api.specs.Items.{unpack}
 use Rattle.engine_api.specs.Acted.{unpack_all}
 use Rattle.base_engine.specs.Holding.{held_stays}
 use Rattle.base_engine.specs.Reading.{IsFront}
-use Rattle.member_laws.proofs.Membership.{says_unpack}
-use Rattle.one_thread.proofs.Bounds.{stands_below}
+use Rattle.log_laws.proofs.Membership.{says_unpack}
+use Rattle.turn_scopes.proofs.Bounds.{stands_below}
 use Rattle.node_lines.specs.Measuring.{IsCleanPoint}
 use Rattle.run_laws.proofs.Members.{Among, among-get, contained-among, contains-among}
 use Rattle.run_course.specs.Reporting.{StandsThere}

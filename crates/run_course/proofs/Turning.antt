@@ -6,22 +6,22 @@ use Rattle.delos_types.specs.Spaces.{SpaceMap}
 use Rattle.delos_types.specs.declared.entry.Entry.{Entry}
 use Rattle.legal_journal.specs.declared.events.Event.{Event}
 use Rattle.legal_journal.specs.Journal.{state_of, trim_of}
-use Rattle.journal_changes.specs.Changes.{Frees, TrimsUpTo, raised}
-use Rattle.journal_changes.proofs.Changes.{raised_free, trim_raised}
+use Rattle.journal_laws.specs.Changes.{Frees, TrimsUpTo, raised}
+use Rattle.journal_laws.proofs.Changes.{raised_free, trim_raised}
 use Rattle.engine_api.specs.declared.content.Content.{Content}
 use Rattle.engine_api.specs.declared.content.Content.TheVariants as content
 use Rattle.engine_api.specs.Acted.{unpack_all}
 use Rattle.engine_api.specs.Members.{has_left, least_position, position_of}
 use Rattle.replica_api.specs.Replica.{Saved}
 use Rattle.base_engine.specs.Trimming.{FloorIs}
-use Rattle.member_laws.proofs.Membership.{least_some, least_upto}
+use Rattle.log_laws.proofs.Membership.{least_some, least_upto}
 use Rattle.script_text.specs.declared.line.Admin.TheVariants.{Alive, Retire}
 use Rattle.script_text.specs.declared.asks.NamedLine.{NamedLine}
 use Rattle.script_text.specs.declared.asks.Asks.TheVariants as asks
 use Rattle.fitting_run.specs.Lines.{asks_to_leave, names_another}
 use Rattle.fitting_run.specs.Tests.{◌⇒◌, each_pair}
-use Rattle.one_thread.specs.Seats.{SeatView}
-use Rattle.node_sessions.specs.declared.desk.Desk.{Desk}
+use Rattle.turn_scopes.specs.Seats.{SeatView}
+use Rattle.node_lines.specs.declared.desk.Desk.{Desk}
 use Rattle.node_lines.specs.declared.lines.Looked.{Looked}
 use Rattle.node_lines.specs.declared.lines.Looked.TheVariants as looked
 use Rattle.node_lines.specs.Measuring.{AreClean, IsCleanContent}

@@ -3,10 +3,10 @@ use Rattle.std.proofs.Common.{◌≡◌, ap, ℕ, List, [], Option, Some, None, 
 use Rattle.delos_types.specs.declared.entry.Entry.{Entry}
 use Rattle.legal_journal.specs.declared.events.Event.{Event}
 use Rattle.legal_journal.specs.Journal.{IsLegal, state_of}
-use Rattle.journal_faults.specs.Faults.{faults_in}
+use Rattle.journal_laws.specs.Faults.{faults_in}
 use Rattle.legal_journal.specs.Sealing.{Unsealed}
-use Rattle.unsealed_chain.specs.Unsealed.{IsUnsealed}
-use Rattle.unsealed_chain.proofs.Staying.{stays_unsealed}
+use Rattle.journal_laws.specs.Unsealed.{IsUnsealed}
+use Rattle.journal_laws.proofs.Staying.{stays_unsealed}
 use Rattle.node_lines.specs.declared.lines.Looked.{Looked}
 use Rattle.node_lines.specs.Workers.{Within}
 use Rattle.run_course.specs.Replacing.{has_replaced}

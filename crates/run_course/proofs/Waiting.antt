@@ -14,12 +14,12 @@ use Rattle.base_engine.specs.declared.outbox.Given.{Given}
 use Rattle.script_text.specs.declared.asks.NamedLine.{NamedLine}
 use Rattle.fitting_run.specs.Lines.{logs_for}
 use Rattle.fitting_run.specs.Faults.{lacks_store}
-use Rattle.one_thread.specs.Seats.{SeatView, node_of}
-use Rattle.node_sessions.specs.declared.desk.Desk.{Desk}
+use Rattle.turn_scopes.specs.Seats.{SeatView, node_of}
+use Rattle.node_lines.specs.declared.desk.Desk.{Desk}
 use Rattle.node_lines.specs.declared.lines.Looked.{Looked}
 use Rattle.node_lines.specs.Moving.{IsQuiet}
 use Rattle.node_lines.specs.Workers.{Within, WorkerOk}
-use Rattle.worker_laws.proofs.Staying.{worker_stays}
+use Rattle.node_lines.proofs.Staying.{worker_stays}
 use Rattle.run_laws.specs.Ended.{CameTo, Fault, IsAtHome, most_faults, session_in}
 use Rattle.run_course.specs.Script.{AreLines, BeginsAt, asked_by, failed_looks, logs_at}
 use Rattle.run_course.specs.Course.{Course, CourseOk, TurnOf}

@@ -6,12 +6,12 @@ use Rattle.delos_types.specs.declared.cause.Cause.{Cause}
 use Rattle.delos_types.specs.declared.cause.Cause.TheVariants as cause
 use Rattle.legal_journal.specs.declared.events.Event.{Event}
 use Rattle.legal_journal.specs.Journal.{IsLegal, state_of, tail_of}
-use Rattle.journal_faults.specs.Faults.{faults_in}
-use Rattle.unsealed_chain.specs.Unsealed.{IsUnsealed}
+use Rattle.journal_laws.specs.Faults.{faults_in}
+use Rattle.journal_laws.specs.Unsealed.{IsUnsealed}
 use Rattle.script_text.specs.declared.asks.NamedLine.{NamedLine}
 use Rattle.node_lines.specs.declared.lines.Looked.{Looked}
 use Rattle.node_lines.specs.declared.lines.Looked.TheVariants as looked
-use Rattle.one_thread.specs.Alone.{AreOwn}
+use Rattle.turn_scopes.specs.Alone.{AreOwn}
 use Rattle.node_lines.specs.Workers.{Within, sent_of}
 use Rattle.run_laws.specs.Ended.{Fault}
 use Rattle.run_course.specs.Script.{asked_before, failed_looks}

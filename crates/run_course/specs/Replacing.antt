@@ -4,7 +4,7 @@ use Rattle.chain_map.specs.Chain.{last_id}
 use Rattle.legal_journal.specs.Journal.{RegisterState}
 use Rattle.virtual_log.specs.declared.extend.Extension.{Extension}
 use Rattle.virtual_log.specs.declared.extend.Extension.TheVariants.{Extended, Moved, NoSpare}
-use Rattle.worker_laws.specs.Extending.{HasStarted}
+use Rattle.node_lines.specs.Chains.{HasStarted}
 use Rattle.script_text.specs.declared.asks.NamedLine.{NamedLine}
 use Rattle.script_text.specs.declared.asks.Asks.{Asks}
 use Rattle.script_text.specs.declared.asks.Asks.TheVariants as asks

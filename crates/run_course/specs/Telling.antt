@@ -3,7 +3,7 @@ use Rattle.std.specs.Prelude.{◌≡◌, ℕ, ◌<◌, ◌≤◌, ◌⊎◌, Lis
 use Rattle.delos_types.specs.declared.entry.Entry.{Entry}
 use Rattle.legal_journal.specs.declared.events.Event.{Event}
 use Rattle.legal_journal.specs.Journal.{state_of, trim_of}
-use Rattle.journal_changes.specs.Changes.{appended}
+use Rattle.journal_laws.specs.Changes.{appended}
 use Rattle.engine_api.specs.declared.content.Content.{Content}
 use Rattle.engine_api.specs.declared.content.Content.TheVariants as content
 use Rattle.engine_api.specs.declared.content.Placed.{Placed}

@@ -11,8 +11,8 @@ use Rattle.script_text.specs.declared.asks.NamedLine.{NamedLine}
 use Rattle.script_text.specs.declared.asks.Asks.{Asks}
 use Rattle.script_text.specs.declared.asks.Asks.TheVariants as asks
 use Rattle.fitting_run.specs.Faults.{lacks_store}
-use Rattle.one_thread.specs.Seats.{SeatView, node_of}
-use Rattle.node_sessions.specs.declared.desk.Desk.{Desk}
+use Rattle.turn_scopes.specs.Seats.{SeatView, node_of}
+use Rattle.node_lines.specs.declared.desk.Desk.{Desk}
 use Rattle.node_lines.specs.declared.lines.Looked.{Looked}
 use Rattle.node_lines.specs.Measuring.{AreClean}
 use Rattle.node_lines.specs.Moving.{IsQuiet}
@@ -20,7 +20,7 @@ use Rattle.node_lines.specs.Workers.{HasNotLeft, WorkerOk, sent_of}
 use Rattle.run_laws.specs.Ended.{CameTo, most_faults}
 use Rattle.run_course.specs.Script.{AreLines, BeginsAt, asked_by, failed_looks}
 use Rattle.legal_journal.specs.declared.events.Event.{Event}
-use Rattle.journal_changes.specs.Changes.{TrimsUpTo}
+use Rattle.journal_laws.specs.Changes.{TrimsUpTo}
 use Rattle.run_course.specs.Telling.{ReportsUpTo}
 use Rattle.run_course.specs.Course.{Course, CourseOk, TurnOf}
 use Rattle.run_course.specs.Desks.{DeskAt, PlayedSo}

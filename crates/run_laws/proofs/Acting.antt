@@ -12,16 +12,16 @@ use Rattle.engine_api.specs.declared.act.Act.{Act}
 use Rattle.engine_api.specs.Acted.{Asked, act_on, replied, table_after, asked_in, acted_log}
 use Rattle.engine_api.specs.Order.{acted_after, is_clean}
 use Rattle.engine_api.proofs.Appends.{acted_log-append}
-use Rattle.engine_laws.specs.State.{acts_in}
+use Rattle.log_laws.specs.State.{acts_in}
 use Rattle.fabric_core.specs.Log.{virtual_log}
 use Rattle.fitting_run.specs.declared.told.Told.{Told}
 use Rattle.fitting_run.specs.Yard.{Shown}
 use Rattle.fitting_run.specs.Tests.{◌⇒◌, each_pair}
 use Rattle.fitting_run.specs.Acts.{ActsOnce, acts_below, acts_from, asked, next_rank, placed_acts, stand_apart}
 use Rattle.fitting_run.specs.Fits.{told_of}
-use Rattle.log_acts.specs.Order.{EachPair, ActsBefore}
-use Rattle.log_acts.proofs.Pairs.{all-imply, filter-all, filter-none}
-use Rattle.log_acts.proofs.Acting.{in_order, front}
+use Rattle.log_laws.specs.Order.{EachPair, ActsBefore}
+use Rattle.log_laws.proofs.Pairs.{all-imply, filter-all, filter-none}
+use Rattle.log_laws.proofs.Acting.{in_order, front}
 use Rattle.run_laws.specs.Ended.{Played, RunEnded}
 use Rattle.run_laws.proofs.Fronts.{front-acts}
 use Rattle.run_laws.proofs.Ranks.{next-is_gap, first-ranks}

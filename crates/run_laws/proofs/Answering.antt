@@ -8,7 +8,7 @@ use Rattle.delos_types.specs.declared.place.Place.{Place}
 use Rattle.engine_api.specs.declared.act.Act.{Act}
 use Rattle.engine_api.specs.Acted.{asked_in}
 use Rattle.engine_api.specs.Order.{gap_from}
-use Rattle.engine_laws.specs.State.{acts_in}
+use Rattle.log_laws.specs.State.{acts_in}
 use Rattle.script_text.specs.declared.line.Admin.TheVariants.{Extend, Alive, Trim, Retire}
 use Rattle.script_text.specs.declared.asks.NamedLine.{NamedLine}
 use Rattle.script_text.specs.declared.asks.Asks.{Asks}

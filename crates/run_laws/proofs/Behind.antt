@@ -5,7 +5,7 @@ use Rattle.std.proofs.lemmas.Bool.{or_left, or_right, both_ways}
 use Rattle.std.proofs.lemmas.List.{map-append}
 use Rattle.std.proofs.lemmas.List.Sums.{sum_by-cons}
 use Rattle.fitting_run.specs.Faults.{picked}
-use Rattle.log_acts.specs.Order.{EachPair}
+use Rattle.log_laws.specs.Order.{EachPair}
 use Rattle.run_laws.specs.Ended.{AllAfter}
 use Rattle.run_laws.proofs.Members.{Among, among-right}
 

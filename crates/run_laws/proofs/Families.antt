@@ -9,7 +9,7 @@ use Rattle.loglet_api.specs.View.{LogletView}
 use Rattle.fitting_run.specs.Faults.{faults_of, finds_full, is_full, lacks_of, lacks_quorum, lacks_register, lacks_store, refusals_of, stands}
 use Rattle.fitting_run.specs.Tests.{some_is}
 use Rattle.fitting_run.specs.Yard.{Shown}
-use Rattle.log_acts.proofs.Pairs.{all-imply}
+use Rattle.log_laws.proofs.Pairs.{all-imply}
 use Rattle.run_laws.specs.Ended.{Fault, FaultsCame, Played, counted, most_faults}
 use Rattle.run_laws.proofs.Spread.{IsPlacedIn, count-none, one_if, spread}
 

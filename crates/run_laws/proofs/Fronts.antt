@@ -6,10 +6,10 @@ use Rattle.delos_types.specs.declared.entry.Entry.{Entry}
 use Rattle.engine_api.specs.declared.act.Act.{Act}
 use Rattle.engine_api.specs.Acted.{asked_in}
 use Rattle.engine_api.specs.Order.{gap_from}
-use Rattle.engine_laws.specs.State.{acts_in}
-use Rattle.engine_laws.proofs.Replies.{log_turn}
+use Rattle.log_laws.specs.State.{acts_in}
+use Rattle.log_laws.proofs.Replies.{log_turn}
 use Rattle.fitting_run.specs.Acts.{acts_below}
-use Rattle.log_acts.proofs.Acting.{front}
+use Rattle.log_laws.proofs.Acting.{front}
 use Rattle.run_laws.proofs.Members.{Among, among-filter, among-found, filter-among, found-among}
 use Rattle.run_laws.proofs.Placing.{act-found, is_rank, same_some}
 

@@ -6,7 +6,7 @@ use Rattle.std.proofs.lemmas.Cmp.{then_total, on_total, nat_cmp_total}
 use Rattle.std.proofs.lemmas.Bool.Decides.{nat_tests}
 use Rattle.engine_api.specs.declared.act.Act.{Act}
 use Rattle.fitting_run.specs.Acts.{act_order, in_order}
-use Rattle.log_acts.specs.Order.{EachPair, ActsBefore}
+use Rattle.log_laws.specs.Order.{EachPair, ActsBefore}
 use Rattle.run_laws.proofs.Members.{AllAmong}
 use Rattle.run_laws.proofs.Pairs.{pairs-imply}
 use Rattle.run_laws.proofs.Sorting.{twin, put-sorted}

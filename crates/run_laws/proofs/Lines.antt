@@ -9,8 +9,8 @@ use Rattle.script_text.specs.declared.asks.NamedLine.{NamedLine}
 use Rattle.script_text.specs.declared.asks.Asks.{Asks}
 use Rattle.script_text.specs.declared.asks.Asks.TheVariants as asks
 use Rattle.fitting_run.specs.Lines.{is_of, logs_for, has_rank, are_ranked}
-use Rattle.log_acts.specs.Order.{EachPair}
-use Rattle.log_acts.proofs.Pairs.{all-imply}
+use Rattle.log_laws.specs.Order.{EachPair}
+use Rattle.log_laws.proofs.Pairs.{all-imply}
 use Rattle.run_laws.proofs.Members.{Among}
 use Rattle.run_laws.proofs.Pairs.{pair-at}
 

@@ -6,7 +6,7 @@ use Rattle.delos_types.specs.declared.place.Place.{Place}
 use Rattle.engine_api.specs.declared.act.Act.{Act}
 use Rattle.engine_api.specs.Acted.{asked_in}
 use Rattle.engine_api.specs.Order.{gap_from}
-use Rattle.engine_laws.specs.State.{acts_in}
+use Rattle.log_laws.specs.State.{acts_in}
 use Rattle.script_text.specs.declared.asks.Asks.{Asks}
 use Rattle.script_text.specs.declared.asks.Asks.TheVariants as asks
 use Rattle.row_text.specs.declared.row.Outcome.{Outcome}

@@ -2,7 +2,7 @@
 use Rattle.std.proofs.Common.{◌≡◌, refl, sym, ap, ◌∙◌, subst, inl, inr, ◌⊎◌, ℕ, zero, suc, Bool, true, false, cond, List, [], ◌∷◌, ◌++◌, Some, map, find, flat_map, filter, length, slice_get, slice_index_or, ◌<◌, Contains, arith}
 use Rattle.std.specs.List.{AllByRecursion, list_all}
 use Rattle.std.proofs.lemmas.Bool.{and_from}
-use Rattle.log_acts.proofs.Pairs.{all-imply, all-append}
+use Rattle.log_laws.proofs.Pairs.{all-imply, all-append}
 
 -- x is one of these
 abbrev pub Among : {A : Type 0} → List A → A → Type 0

@@ -6,15 +6,15 @@ use Rattle.std.proofs.lemmas.List.{length-map}
 use Rattle.delos_types.specs.declared.entry.Entry.{Entry}
 use Rattle.delos_types.specs.declared.place.Place.{Place}
 use Rattle.engine_api.specs.declared.act.Act.{Act}
-use Rattle.engine_laws.specs.State.{acts_in}
+use Rattle.log_laws.specs.State.{acts_in}
 use Rattle.fitting_run.specs.declared.told.Told.{Told}
 use Rattle.fitting_run.specs.Answered.{before_barrier, is_logged, is_open, is_placed_on_time, looked_at, on_read, on_time, place_le, place_on_time, same_session, session_asking}
 use Rattle.fitting_run.specs.Faults.{is_broken}
 use Rattle.fitting_run.specs.Fits.{told_of}
 use Rattle.fitting_run.specs.Outcomes.{KeepsSessionOrder, OneRowEach, is_above, is_not_below, is_passed, is_row_of, is_stopped_by, keeps_barrier, keeps_barriers, rises}
 use Rattle.fitting_run.specs.Yard.{Shown}
-use Rattle.log_acts.specs.Order.{ActsBefore}
-use Rattle.log_acts.proofs.Acting.{in_order}
+use Rattle.log_laws.specs.Order.{ActsBefore}
+use Rattle.log_laws.proofs.Acting.{in_order}
 use Rattle.run_laws.specs.Ended.{AllAfter, Played, RunEnded, session_in}
 use Rattle.run_laws.proofs.Answering.{IsLook, IsOnTime, IsRanked, all_ranked, has-session, its-act, logged_by, logged-own, looked, not-on_time, on-time, one-session}
 use Rattle.run_laws.proofs.Behind.{after-both, after-each, pairs-behind}

@@ -1,7 +1,7 @@
 -- Each pair of a list.
 use Rattle.std.proofs.Common.{◌≡◌, refl, sym, ◌∙◌, subst, inl, inr, ◌⊎◌, List, [], ◌∷◌}
-use Rattle.log_acts.specs.Order.{EachPair}
-use Rattle.log_acts.proofs.Pairs.{all-imply}
+use Rattle.log_laws.specs.Order.{EachPair}
+use Rattle.log_laws.proofs.Pairs.{all-imply}
 use Rattle.run_laws.proofs.Members.{Among, all-at, all-both, all-of}
 
 pub pairs-imply : {A : Type 0} (R S : A → A → Type 0) (xs : List A) → ((x y : A) → R x y → S x y) → EachPair R xs → EachPair S xs

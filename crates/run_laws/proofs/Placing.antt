@@ -6,7 +6,7 @@ use Rattle.delos_types.specs.declared.entry.Entry.{Entry}
 use Rattle.table_core.specs.declared.command.Command.{Command}
 use Rattle.engine_api.specs.declared.act.Act.{Act}
 use Rattle.engine_api.specs.Acted.{Asked, asked_in}
-use Rattle.engine_laws.specs.State.{acts_in}
+use Rattle.log_laws.specs.State.{acts_in}
 use Rattle.script_text.specs.declared.line.Session.{Session}
 use Rattle.script_text.specs.declared.asks.Asks.{Asks}
 use Rattle.script_text.specs.declared.asks.Asks.TheVariants as asks
@@ -16,8 +16,8 @@ use Rattle.fitting_run.specs.declared.told.Told.{Told}
 use Rattle.fitting_run.specs.declared.answered.Answered.{Answered}
 use Rattle.fitting_run.specs.Yard.{Shown}
 use Rattle.fitting_run.specs.Acts.{act_of, placed_acts}
-use Rattle.log_acts.specs.Appearing.{HasAppeared}
-use Rattle.log_acts.proofs.Acting.{in_order, appeared}
+use Rattle.log_laws.specs.Appearing.{HasAppeared}
+use Rattle.log_laws.proofs.Acting.{in_order, appeared}
 use Rattle.run_laws.specs.Ended.{Played, Fault, SessionEnd, LineEnded, AllAfter, CameOf, LogsThis, RunEnded, act_of_rank}
 use Rattle.run_laws.proofs.Pairs.{pair-at}
 use Rattle.run_laws.proofs.Members.{Among, AllAmong, all-at, found-among, among-found, contains-among, among-get, among-map, among-flat_map, all-flat_map, all-of}

@@ -8,10 +8,10 @@ use Rattle.delos_types.specs.declared.entry.Entry.{Entry}
 use Rattle.engine_api.specs.declared.act.Act.{Act}
 use Rattle.engine_api.specs.Acted.{asked_in}
 use Rattle.engine_api.specs.Order.{gap_from, acted_after}
-use Rattle.engine_laws.specs.State.{acts_in}
-use Rattle.engine_laws.proofs.Replies.{NextTo, after, gaps, replied_next, acted_follow}
-use Rattle.log_acts.specs.Order.{EachPair}
-use Rattle.log_acts.proofs.Pairs.{all-imply}
+use Rattle.log_laws.specs.State.{acts_in}
+use Rattle.log_laws.proofs.Replies.{NextTo, after, gaps, replied_next, acted_follow}
+use Rattle.log_laws.specs.Order.{EachPair}
+use Rattle.log_laws.proofs.Pairs.{all-imply}
 use Rattle.fitting_run.specs.Acts.{number_of, next_rank, has_first_ranks}
 
 -- of a session the earlier act has the lower rank

@@ -15,8 +15,8 @@ use Rattle.fitting_run.specs.Fits.{told_of}
 use Rattle.fitting_run.specs.Replacements.{ReplacementsAgree, begins_at, has_ids, is_behind, is_overtaken, lacks_spare, makes_another, start_made, stays_spent, tells_higher, version_found, version_made, version_told, versions_at}
 use Rattle.fitting_run.specs.Tests.{◌⇒◌, where_some}
 use Rattle.fitting_run.specs.Yard.{Shown}
-use Rattle.log_acts.specs.Order.{EachPair}
-use Rattle.log_acts.proofs.Pairs.{all-imply}
+use Rattle.log_laws.specs.Order.{EachPair}
+use Rattle.log_laws.proofs.Pairs.{all-imply}
 use Rattle.run_laws.specs.Ended.{IsApart, IsReplaced, Played, Precedes, Replacements, RunEnded}
 use Rattle.run_laws.proofs.Members.{all-test}
 use Rattle.run_laws.proofs.Pairs.{pairs-imply}

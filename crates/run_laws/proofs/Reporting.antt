@@ -25,7 +25,7 @@ use Rattle.fitting_run.specs.Fits.{told_of}
 use Rattle.fitting_run.specs.Reports.{ReportsStand, has_leave, is_done, is_retired, is_within, lies_below, reported, reports_all, says_alive, stands_in_log}
 use Rattle.fitting_run.specs.Tests.{◌⇒◌}
 use Rattle.fitting_run.specs.Yard.{Shown}
-use Rattle.log_acts.proofs.Pairs.{all-imply}
+use Rattle.log_laws.proofs.Pairs.{all-imply}
 use Rattle.run_laws.specs.Ended.{CameOf, Fault, HasReported, IsOfEarlier, LogsThis, Played, RunEnded, SessionEnd, rank_in, session_in}
 use Rattle.run_laws.proofs.Answering.{its-act}
 use Rattle.run_laws.proofs.Behind.{after-each}

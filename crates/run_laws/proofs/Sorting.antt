@@ -6,8 +6,8 @@ use Rattle.std.specs.Ordering.{ordering_reverse}
 use Rattle.std.specs.FinMap as finmap
 use Rattle.std.specs.FinMap.Entries.{by_order}
 use Rattle.std.proofs.lemmas.Cmp.{tied_itself}
-use Rattle.log_acts.specs.Order.{EachPair}
-use Rattle.log_acts.proofs.Pairs.{all-imply}
+use Rattle.log_laws.specs.Order.{EachPair}
+use Rattle.log_laws.proofs.Pairs.{all-imply}
 use Rattle.run_laws.proofs.Members.{Among, AllAmong, all-at}
 use Rattle.run_laws.proofs.Pairs.{pair-at}
 

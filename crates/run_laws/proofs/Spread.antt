@@ -3,7 +3,7 @@ use Rattle.std.proofs.Common.{◌≡◌, refl, ap, subst, ℕ, zero, suc, ◌+�
 use Rattle.std.specs.List.{AllByRecursion}
 use Rattle.std.proofs.lemmas.Bool.{and_parts, both_ways, not-true, false_from_ne_true}
 use Rattle.std.proofs.lemmas.List.Sums.{sum_by-cons}
-use Rattle.log_acts.proofs.Pairs.{all-imply}
+use Rattle.log_laws.proofs.Pairs.{all-imply}
 
 abbrev pub one_if : Bool → ℕ
 one_if b = cond b 1 0

@@ -13,7 +13,7 @@ use Rattle.fitting_run.specs.Faults.{is_broken, stops}
 use Rattle.fitting_run.specs.Lines.{is_of, are_in_phase}
 use Rattle.fitting_run.specs.Tests.{some_is}
 use Rattle.fitting_run.specs.Yard.{Shown}
-use Rattle.log_acts.proofs.Pairs.{all-imply}
+use Rattle.log_laws.proofs.Pairs.{all-imply}
 use Rattle.run_laws.specs.Ended.{Played, Fault, SessionEnd, LineEnded, CameOf, IsStoppedBy, LogsRank, RunEnded, rank_in, session_in}
 use Rattle.run_laws.proofs.Behind.{Cut, after-each, any-at}
 use Rattle.run_laws.proofs.Members.{Among, all-at, among-get}

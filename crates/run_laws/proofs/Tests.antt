@@ -3,7 +3,7 @@ use Rattle.std.proofs.Common.{◌≡◌, refl, Bool, true, false, List, [], ◌�
 use Rattle.std.specs.List.{list_all}
 use Rattle.std.proofs.lemmas.Bool.{and_from}
 use Rattle.fitting_run.specs.Tests.{◌⇒◌, each_pair, where_some}
-use Rattle.log_acts.specs.Order.{EachPair}
+use Rattle.log_laws.specs.Order.{EachPair}
 use Rattle.run_laws.proofs.Members.{all-test}
 
 pub where_some-from : {A : Type 0} (o : Option A) (test : A → Bool) → ((x : A) → o ≡ Some x → test x ≡ true) → where_some o test ≡ true

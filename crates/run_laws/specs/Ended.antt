@@ -16,9 +16,9 @@ use Rattle.engine_api.specs.declared.content.Content.TheVariants as content
 use Rattle.engine_api.specs.Acted.{Asked, asked_in, table_after, unpack_all}
 use Rattle.engine_api.specs.Members.{clean_position}
 use Rattle.engine_api.specs.Order.{gap_from, is_clean}
-use Rattle.engine_laws.specs.State.{acts_in}
+use Rattle.log_laws.specs.State.{acts_in}
 use Rattle.chain_map.specs.Chain.{last_id}
-use Rattle.log_acts.specs.Order.{acts_below}
+use Rattle.log_laws.specs.Order.{acts_below}
 use Rattle.fabric_core.specs.Log.{virtual_tail, virtual_log, has_no_gap}
 use Rattle.script_text.specs.declared.line.Admin.TheVariants.{Extend, Alive, Trim, Retire}
 use Rattle.script_text.specs.declared.asks.NamedLine.{NamedLine}

@@ -93,3 +93,11 @@ since_more who beside call answer old seen others own new h b event is = record 
 
 pub since_none : (who : ℕ) (beside : ℕ → Type 0) (old new : List Event) → old ≡ new → Since who beside old new
 since_none who beside old new is = record { more = []; seen = sym is ∙ sym (append-nil old); among = tt }
+
+-- one scope after another
+pub since_both : (who : ℕ) (beside : ℕ → Type 0) (a b c : List Event) → Since who beside a b → Since who beside b c → Since who beside a c
+since_both who beside a b c h k = record {
+  more = h.more ++ k.more;
+  seen = k.seen ∙ (ap (λ (l : List Event). l ++ k.more) h.seen ∙ append_assoc a h.more k.more);
+  among = among-append who beside h.more k.more h.among k.among;
+}

@@ -1,4 +1,7 @@
 pub mod Alone
 pub mod Beside
+pub mod Bounds
+pub mod Moments
 pub mod Seals
 pub mod Trims
+pub mod Widening

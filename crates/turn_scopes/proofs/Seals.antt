@@ -11,13 +11,14 @@ use Rattle.legal_journal.specs.declared.events.Event.{Event}
 use Rattle.legal_journal.specs.Turns.{AreOthers, HasRight}
 use Rattle.legal_journal.specs.Sealing.{is_seal, begins_seal, own_seals}
 use Rattle.legal_journal.proofs.Sealing.{count-append}
+use Rattle.virtual_log.specs.Sealing.{SealsNone}
 use Rattle.turn_scopes.specs.Beside.{SealsByRight}
 
 -- how an event counts
-abbrev one_if : Bool → ℕ
+abbrev pub one_if : Bool → ℕ
 one_if b = cond b 1 0
 
-own_seals-cons : (who : ℕ) (e : Event) (es : List Event) → own_seals who (e ∷ es) ≡ one_if (begins_seal e && (e.who == who)) + own_seals who es
+pub own_seals-cons : (who : ℕ) (e : Event) (es : List Event) → own_seals who (e ∷ es) ≡ one_if (begins_seal e && (e.who == who)) + own_seals who es
 own_seals-cons who e es = sum_by-cons (λ (x : Event). cond (begins_seal x && (x.who == who)) 1 0) e es
 
 -- others began none of them
@@ -57,3 +58,26 @@ right_more seals who call answer old seen others own new h apart may event is = 
     by (suc n) e x l = h.right (omega (arith, e))
     by zero e (inl none) l = absurd (let same = ap (own_seals who) none in omega (arith, l, same))
     by zero e (inr one) l = by_call (is_seal call) (who == who) refl (let same = ap (own_seals who) one in omega (arith, l, same))
+
+-- where it may begin none, it began none
+pub seals_none : (who : ℕ) (old new : List Event) → SealsByRight ⊥ who old new → SealsNone who old new
+seals_none who old new h = record { more = h.more; seen = h.seen; none = by (own_seals who h.more) h.right }
+  where
+    by : (n : ℕ) → (0 < n → ⊥) → n ≡ 0
+    by zero f = refl
+    by (suc n) f = absurd (f (omega arith))
+
+pub right_any : (may : Type 0) (who : ℕ) (old new : List Event) → SealsByRight ⊥ who old new → SealsByRight may who old new
+right_any may who old new h = record { more = h.more; seen = h.seen; right = λ some. absurd (h.right some) }
+
+-- one after the other
+pub right_both : (may : Type 0) (who : ℕ) (a b c : List Event) → SealsByRight may who a b → SealsByRight may who b c → SealsByRight may who a c
+right_both may who a b c h k = record {
+  more = h.more ++ k.more;
+  seen = k.seen ∙ (ap (λ (l : List Event). l ++ k.more) h.seen ∙ append_assoc a h.more k.more);
+  right = λ some. by (own_seals who h.more) refl (omega (arith, some, count-append (λ (e : Event). begins_seal e && (e.who == who)) h.more k.more));
+}
+  where
+    by : (n : ℕ) → own_seals who h.more ≡ n → 0 < n + own_seals who k.more → may
+    by (suc n) e l = h.right (omega (arith, e))
+    by zero e l = k.right (omega (arith, l))

@@ -1,5 +1,5 @@
 -- Users of a fabric beside one another.
-use Rattle.std.specs.Prelude.{◌≡◌, ◌≢◌, ◌⊎◌, ◌<◌, ℕ, List, [], ◌∷◌, ◌++◌}
+use Rattle.std.specs.Prelude.{◌≡◌, ◌⊎◌, ◌<◌, ℕ, List, [], ◌∷◌, ◌++◌}
 use Rattle.delos_types.specs.declared.entry.Entry.{Entry}
 use Rattle.legal_journal.specs.declared.events.FabricCall.{FabricCall}
 use Rattle.legal_journal.specs.declared.events.FabricAnswer.{FabricAnswer}
@@ -53,19 +53,24 @@ OthersTrim beside floor sends low shelf =
     (user : ℕ) → beside user → (seen : List Event) (n : ℕ) → IsLegal sends low shelf seen
     → IsFree (state_of seen).shown floor n → IsFree (state_of seen).shown low n
 
+-- The scope is narrower than the rules: what it has they allow, and so with how far it trims. It binds nobody beside: what they may do by the rules
+-- they may by the scope.
+pub record Narrows (may sends : ℕ → Entry → Type 0) (floor low : List Entry → ℕ → Type 0) (shelf : List ℕ) (beside : ℕ → Type 0) : Type 0 where
+  pub narrower : (user : ℕ) (e : Entry) → sends user e → may user e
+  pub lower : (log : List Entry) (n : ℕ) → low log n → floor log n
+  pub others : OthersMay beside may sends
+  pub trims : OthersTrim beside floor sends low shelf
+
 -- by whom the events are, and the journal as far as it was seen
 pub record NarrowView : Type 0 where
   pub who : ℕ
   pub seen : List Event
 
--- The journal is legal by what the scope has and how far it trims, which the rules allow; those beside are others, and what they may do by the rules
--- they may by the scope; each event since the scope began is who's or of one of them; and who began a Seal since then only where the scope lets it.
-pub record IsNarrow (may sends : ℕ → Entry → Type 0) (floor low : List Entry → ℕ → Type 0) (shelf : List ℕ) (beside : ℕ → ℕ → Type 0) (seals : ℕ → Type 0) (since : List Event) (who : ℕ) (seen : List Event) : Type 0 where
+-- The scope is this user's, and narrower than the rules. The journal is legal by it; each event since it began is who's or of one of those beside;
+-- and who began a Seal since then only where the scope lets it.
+pub record IsNarrow (may sends : ℕ → Entry → Type 0) (floor low : List Entry → ℕ → Type 0) (shelf : List ℕ) (beside : ℕ → ℕ → Type 0) (seals : ℕ → Type 0) (whose : ℕ) (since : List Event) (who : ℕ) (seen : List Event) : Type 0 where
+  pub who_is : who ≡ whose
+  pub narrows : Narrows may sends floor low shelf (beside who)
   pub legal : IsLegal sends low shelf seen
-  pub narrower : (user : ℕ) (e : Entry) → sends user e → may user e
-  pub lower : (log : List Entry) (n : ℕ) → low log n → floor log n
-  pub apart : (user : ℕ) → beside who user → user ≢ who
-  pub others : OthersMay (beside who) may sends
-  pub trims : OthersTrim (beside who) floor sends low shelf
   pub since_is : Since who (beside who) since seen
   pub right : SealsByRight (seals who) who since seen

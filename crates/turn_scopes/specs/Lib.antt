@@ -1,2 +1,4 @@
+pub mod Alone
 pub mod Beside
+pub mod Seats
 pub mod Telling

@@ -1,5 +1,5 @@
 //! Whoever has access to a fabric, alone or beside others.
-ghost use Rattle.std.specs.Prelude.{◌≡◌, ℕ, List};
+ghost use Rattle.std.specs.Prelude.{◌≡◌, ◌≢◌, ℕ, List};
 ghost use Rattle.legal_journal.specs.declared.events.Event.{Event};
 ghost use Rattle.turn_scopes.specs.Beside.{MayTake, IsTaken};
 
@@ -13,6 +13,9 @@ pub trait Access {
 
     /// Who may take turns between those of this user.
     ghost beside: { ℕ → ℕ → Type 0 };
+
+    /// They are others.
+    ghost apart: { (who user : ℕ) → beside who user → user ≢ who };
 
     /// By whom its events are.
     ghost who: { Self → ℕ };

@@ -7,7 +7,7 @@ ghost use Rattle.turn_scopes.specs.Beside.{AreBeside, OthersMay, OthersTrim};
 ghost use Rattle.turn_scopes.specs.Telling.{UpTo, TellsUpTo};
 
 use crate::access::Access;
-use one_thread::terms::Scope;
+use crate::terms::Scope;
 
 /// A journal that is legal by a scope stays so, whatever those beside add to it by the rules.
 pub fn others_keep_to_a_scope<A: Access, Q: Scope>()

@@ -20,6 +20,8 @@ impl<L: Loglet, R: Register, P: Rules> Access for Lone<L, R, P> {
 
     ghost beside = { λ _ _. ⊥ };
 
+    ghost apart = { λ who user h. absurd h };
+
     ghost who = { λ o. o.who };
 
     ghost seen = { λ o. o.fabric.journal };

@@ -1,35 +1,14 @@
 //! A user who keeps to a scope for a while.
-ghost use Rattle.std.specs.Prelude.{◌≡◌, ◌≢◌, ℕ, List, [], ◌++◌};
-ghost use Rattle.delos_types.specs.declared.entry.Entry.{Entry};
-ghost use Rattle.legal_journal.specs.declared.events.Event.{Event};
+ghost use Rattle.std.specs.Prelude.{◌≡◌};
 ghost use Rattle.legal_journal.specs.Journal.{IsLegal};
-ghost use Rattle.turn_scopes.specs.Beside.{Since, SealsByRight, OthersMay, OthersTrim};
+ghost use Rattle.turn_scopes.specs.Beside.{Since, SealsByRight, Narrows};
 
 use crate::access::Access;
+use crate::terms::{Scope, Within};
 use legal_journal::events::{FabricAnswer, FabricCall};
 use legal_journal::rules::Rules;
 use legal_journal::turns::Turns;
-use one_thread::terms::Scope;
 use std::marker::{Model, PhantomData};
-
-/// The rules of an access within a scope.
-#[derive(Drop)]
-pub struct Within<A: Access, Q: Scope> {
-    access: PhantomData<A>,
-    scope: PhantomData<Q>,
-}
-
-impl<A: Access, Q: Scope> Rules for Within<A, Q> {
-    ghost may = { Q.sends };
-
-    ghost seals = { Q.seals };
-
-    ghost floor = { Q.floor };
-
-    ghost shelf = { A.Law.shelf };
-
-    ghost kinds = { A.Law.kinds };
-}
 
 /// An access whose user keeps to a scope. Since it began each event is its own or of one of those beside, each entry that
 /// was appended is one that the scope has, the log was trimmed only where the scope lets it, and the user began a Seal only
@@ -46,21 +25,16 @@ impl<A: Access, Q: Scope> Model for Narrowed<A, Q> {
 
     ghost view = { λ n. record { who = A.who n.access; seen = A.seen n.access } };
 
-    ghost invariant = { λ n. IsNarrow A.Law.may Q.sends A.Law.floor Q.floor A.Law.shelf A.beside Q.seals Q.since (A.who n.access) (A.seen n.access) };
+    ghost invariant = { λ n. IsNarrow A.Law.may Q.sends A.Law.floor Q.floor A.Law.shelf A.beside Q.seals Q.who Q.since (A.who n.access) (A.seen n.access) };
 }
 
 impl<A: Access, Q: Scope> Narrowed<A, Q> {
     /// Begins the scope. Makes no event, and takes no memory.
     pub fn new(access: A) -> Self
+        requires narrows { Narrows A.Law.may Q.sends A.Law.floor Q.floor A.Law.shelf (A.beside (A.who access)) }
         requires legal { IsLegal Q.sends Q.floor A.Law.shelf (A.seen access) }
-        requires narrower { (user : ℕ) (e : Entry) → Q.sends user e → A.Law.may user e }
-        requires lower { (log : List Entry) (n : ℕ) → Q.floor log n → A.Law.floor log n }
+        requires who { Q.who ≡ A.who access }
         requires since { Q.since ≡ A.seen access }
-
-        // Those beside are others, and whatever they may do by the rules they may do by the scope.
-        requires apart { (user : ℕ) → A.beside (A.who access) user → user ≢ A.who access }
-        requires others { OthersMay (A.beside (A.who access)) A.Law.may Q.sends }
-        requires trims { OthersTrim (A.beside (A.who access)) A.Law.floor Q.sends Q.floor A.Law.shelf }
         ensures { result ≡ record { who = A.who access; seen = A.seen access } }
     {
         Narrowed {
@@ -72,6 +46,7 @@ impl<A: Access, Q: Scope> Narrowed<A, Q> {
     /// Ends the scope. Makes no event, and takes no memory.
     pub fn into_access(self) -> A
         ensures who { A.who result ≡ self.who }
+        ensures whose { self.who ≡ Q.who }
         ensures seen { A.seen result ≡ self.seen }
         ensures legal { IsLegal Q.sends Q.floor A.Law.shelf self.seen }
 
@@ -87,7 +62,7 @@ impl<A: Access, Q: Scope> Narrowed<A, Q> {
 }
 
 impl<A: Access, Q: Scope> Turns for Narrowed<A, Q> {
-    type Law = Within<A, Q>;
+    type Law = Within<A::Law, Q>;
 
     ghost who = { λ n. n.who };
 

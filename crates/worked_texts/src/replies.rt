@@ -2,7 +2,7 @@
 use crate::tables::print_reply;
 use crate::text::{print_bytes, read_bytes};
 use engine_steps::reply::reply_text;
-use kept_replies::reply::read_reply;
+use log_laws::reply::read_reply;
 use std::io;
 
 /// Reads a reply in bytes, and spells what was read.

@@ -1,6 +1,6 @@
 use Rattle.std.proofs.Common.{◌++◌, ◌∷◌, [], length, map, subst, arith}
 use Rattle.std.specs.List.{AllByRecursion}
-use Rattle.log_acts.proofs.Pairs.{all-left}
+use Rattle.log_laws.proofs.Pairs.{all-left}
 use Rattle.crew_making.specs.Fresh.{IsFreshLog}
 use Rattle.node_opening.proofs.Lists.{goes_back}
 use Rattle.crew_making.proofs.berth.leave_all.Goals as goal

@@ -48,3 +48,12 @@ returns-clause-replicas g c =
     let l = c.loop-k in
     let over : length l.berths.items ≡ 0 = grind (arith, c.loop-k-test.false, l.invariant.left) in
     all_over (λ w. w.seat.node.replica) (λ b. r.shows b.replica) l.workers.items l.berths.items (map (λ b. r.shows b.replica) c.args.berths.items) (nil_from_length l.berths.items over) l.invariant.same
+
+pub seat_within-seat-requires-clause-log : goal.seat_within-seat-requires-clause-log
+seat_within-seat-requires-clause-log g c =
+    let p = g.K.Terms in
+    let l = c.loop-k in
+    let b = c.remove-replica.result in
+    let some : 0 < length l.berths.items = grind (arith, c.loop-k-test.true, l.invariant.left) in
+    let is = taken_first l.berths.items b some c.remove-replica.ensures.value ∙ ap (λ x. b ∷ x) (sym c.remove-replica.ensures.items) in
+    (subst (AllByRecursion (λ b. IsFreshLog (length p.shelf) b.log)) is l.invariant.logs).0

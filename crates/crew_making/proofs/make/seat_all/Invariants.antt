@@ -18,4 +18,4 @@ invariant-loop-k g l = record {
 }
 
 abbrev pub ghosts-seat_within : goal.ghosts-seat_within
-ghosts-seat_within g a = record { sends = Sends g.K.Terms.may a._counts.now []; seals = λ _. ⊥; floor = g.K.Terms.floor; since = [] }
+ghosts-seat_within g a = record { who = a.who; sends = Sends g.K.Terms.may a._counts.now []; seals = λ _. ⊥; floor = g.K.Terms.floor; since = [] }

@@ -1,7 +1,8 @@
 use Rattle.std.proofs.Common.{◌≡◌, ◌+◌, ◌++◌, ◌<◌, ◌∷◌, length, map, sym, ap, ◌∙◌, subst, arith}
 use Rattle.std.proofs.lemmas.List.{nil_from_length}
 use Rattle.std.specs.Prelude.{remove}
-use Rattle.one_thread.specs.Seats.{SeatOk}
+use Rattle.turn_scopes.specs.Seats.{SeatOk}
+use Rattle.turn_scopes.proofs.Alone.{narrows_alone}
 use Rattle.crew_making.specs.Apart.{AreAsTold}
 use Rattle.node_opening.proofs.Lists.{taken_first, first_is, next_is, goes_over, all_over}
 use Rattle.crew_making.proofs.part.part_crew.Goals as goal
@@ -25,10 +26,10 @@ loop-workers-preserved g c =
     let is = taken_first l.workers.items w some c.remove-seat.ensures.value ∙ ap (λ x. w ∷ x) (sym c.remove-seat.ensures.items) in
     record {
       room = grind (arith, l.invariant.room, c.remove-seat.ensures.len, c.push_reserved.ensures.len, c.push_reserved.ensures.capacity);
-      journal = q.ensures.journal ∙ l.invariant.journal;
+      journal = q.ensures.seen ∙ l.invariant.journal;
       same = ap (λ x. map (λ n. r.shows n.replica) x ++ map (λ w. w.seat.node.replica) c.remove-seat.new.self.items) c.push_reserved.ensures.items
           ∙ goes_over (λ n. r.shows n.replica) (λ w. w.seat.node.replica) l.nodes.items l.workers.items c.remove-seat.new.self.items q.result.node w (map (λ w. w.seat.node.replica) c.args.crew.workers.items) q.ensures.replica is l.invariant.same;
-      stands = λ j x at. subst (λ e. SeatOk p.may p.floor p.shelf r.state r.spells e x.seat) (sym q.ensures.journal)
+      stands = λ j x at. subst (λ e. SeatOk p.may p.floor p.shelf r.state r.spells e x.seat) (sym q.ensures.seen)
           (l.invariant.stands (j + 1) x (next_is l.workers.items c.remove-seat.new.self.items w x j is at));
     }
 
@@ -56,3 +57,8 @@ returns-clause-nodes g c =
     let l = c.loop-workers in
     let over : length l.workers.items ≡ 0 = grind (arith, c.loop-workers-test.false, c.is_empty.ensures) in
     all_over (λ n. r.shows n.replica) (λ w. w.seat.node.replica) l.nodes.items l.workers.items (map (λ w. w.seat.node.replica) c.args.crew.workers.items) (nil_from_length l.workers.items over) l.invariant.same
+
+pub part_within-node-requires-clause-narrows : goal.part_within-node-requires-clause-narrows
+part_within-node-requires-clause-narrows g c =
+    let p = g.K.Terms in
+    narrows_alone p.may p.may p.floor p.floor p.shelf (λ _. ⊥) (record { nobody = λ user b. b }) (λ user e h. h) (λ log n h. h)

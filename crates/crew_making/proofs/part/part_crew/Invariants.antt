@@ -15,4 +15,4 @@ abbrev pub decreases-loop-workers : goal.decreases-loop-workers
 decreases-loop-workers g l = length l.workers.items
 
 abbrev pub ghosts-part_within : goal.ghosts-part_within
-ghosts-part_within g a = record { sends = g.K.Terms.may; seals = λ _. ⊥; floor = g.K.Terms.floor; since = a.fabric.journal }
+ghosts-part_within g a = record { who = a.access.who; sends = g.K.Terms.may; seals = λ _. ⊥; floor = g.K.Terms.floor; since = a.access.fabric.journal }

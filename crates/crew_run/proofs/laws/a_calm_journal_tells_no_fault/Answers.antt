@@ -1,4 +1,4 @@
-use Rattle.course_ends.proofs.Counting.{AreCounted}
+use Rattle.run_ends.proofs.Counting.{AreCounted}
 use Rattle.crew_run.proofs.Seeing.{none_told}
 use Rattle.crew_run.proofs.laws.a_calm_journal_tells_no_fault.Goals as goal
 

@@ -1,4 +1,4 @@
-use Rattle.course_ends.proofs.Counting.{AreCounted}
+use Rattle.run_ends.proofs.Counting.{AreCounted}
 use Rattle.crew_run.proofs.Seeing.{seen_all}
 use Rattle.crew_run.proofs.laws.a_calm_run_has_seen_all.Goals as goal
 

@@ -1,6 +1,6 @@
 use Rattle.std.proofs.Common.{length, map}
 use Rattle.base_engine.specs.Trimming.{MayTrim}
-use Rattle.line_rules.specs.Rules.{may_of}
+use Rattle.run_ends.specs.Rules.{may_of}
 use Rattle.crew_run.proofs.run.run_lines.Given as goal
 
 abbrev pub ghosts-run_by : goal.ghosts-run_by

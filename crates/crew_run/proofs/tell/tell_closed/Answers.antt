@@ -11,12 +11,12 @@ use Rattle.fitting_run.specs.declared.told.Told.{Told}
 use Rattle.run_laws.specs.Ended.{RunEnded}
 use Rattle.fabric_core.specs.Fabric.{IsRegisterAsTold}
 use Rattle.legal_journal.specs.Journal as journal
-use Rattle.course_ends.specs.Closing.{WorkerEnd, HasClosed, IsGivenBack}
-use Rattle.course_ends.specs.Rows.{played_of}
-use Rattle.course_ends.specs.Rows.{AreRows, CanTell}
+use Rattle.run_ends.specs.Closing.{WorkerEnd, HasClosed, IsGivenBack}
+use Rattle.run_ends.specs.Rows.{played_of}
+use Rattle.run_ends.specs.Rows.{AreRows, CanTell}
 use Rattle.fitting_run.specs.Fits.{Fits}
 use Rattle.base_engine.specs.Trimming.{FloorIs}
-use Rattle.crew_closing.specs.Finishing.{SeesAll}
+use Rattle.run_closing.specs.Finishing.{SeesAll}
 use Rattle.crew_run.proofs.Lone.{all_lone}
 use Rattle.crew_run.proofs.Telling.{stands_on, own_more, reads_asked}
 use Rattle.node_workers.proofs.Ok.{in_ok, on_ok}

@@ -1,5 +1,5 @@
 use Rattle.std.proofs.Common.{◌++◌, ◌∙◌, arith}
-use Rattle.engine_laws.specs.Rises.{answered}
+use Rattle.log_laws.specs.Rises.{answered}
 use Rattle.engine_stack.proofs.SoFar.{passed_more, passed_all, told_more, no_items}
 use Rattle.engine_stack.proofs.level.level.Goals as goal
 

@@ -1,6 +1,6 @@
 use Rattle.std.proofs.Common.{◌≡◌, ◌++◌, List}
 use Rattle.std.specs.VecDeque.{deque_len}
-use Rattle.engine_laws.specs.declared.rising.Told.{Told}
+use Rattle.log_laws.specs.declared.rising.Told.{Told}
 use Rattle.engine_stack.proofs.SoFar.{PassedSoFar}
 use Rattle.engine_stack.proofs.level.level.Given as goal
 

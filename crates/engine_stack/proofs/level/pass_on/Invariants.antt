@@ -1,5 +1,5 @@
 use Rattle.std.proofs.Common.{◌≡◌, ◌++◌, map}
-use Rattle.engine_laws.specs.Rises.{at_place}
+use Rattle.log_laws.specs.Rises.{at_place}
 use Rattle.engine_stack.proofs.level.pass_on.Given as goal
 
 -- what went out is what was taken

@@ -1,5 +1,5 @@
 use Rattle.std.proofs.Common.{ap}
-use Rattle.engine_laws.specs.Rises.{acted_word}
+use Rattle.log_laws.specs.Rises.{acted_word}
 use Rattle.engine_stack.proofs.SoFar.{acted_none, acted_one}
 use Rattle.engine_stack.proofs.stack.acted.Goals as goal
 

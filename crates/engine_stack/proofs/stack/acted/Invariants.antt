@@ -1,5 +1,5 @@
 use Rattle.std.proofs.Common.{◌≡◌}
-use Rattle.engine_laws.specs.Rises.{acted_in}
+use Rattle.log_laws.specs.Rises.{acted_in}
 use Rattle.engine_stack.proofs.stack.acted.Given as goal
 
 abbrev pub invariant-loop-t : goal.invariant-loop-t

@@ -1,5 +1,5 @@
 use Rattle.std.proofs.Common.{◌≡◌, ◌≤◌, ◌++◌, length, vec_len}
-use Rattle.engine_laws.specs.Rises.{placed_items}
+use Rattle.log_laws.specs.Rises.{placed_items}
 use Rattle.engine_stack.proofs.stack.place_items.Given as goal
 
 abbrev pub invariant-loop-item : goal.invariant-loop-item

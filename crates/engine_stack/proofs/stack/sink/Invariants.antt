@@ -1,5 +1,5 @@
 use Rattle.std.proofs.Common.{◌≡◌, ◌≤◌, drop, map, length}
-use Rattle.engine_laws.specs.Rises.{Sinks}
+use Rattle.log_laws.specs.Rises.{Sinks}
 use Rattle.engine_stack.proofs.stack.sink.Given as goal
 
 abbrev pub invariant-loop-k : goal.invariant-loop-k

@@ -1,6 +1,6 @@
 use Rattle.std.proofs.Common.{List, [], sym, ap, subst, ◌∙◌}
 use Rattle.delos_types.specs.declared.item.Item.{Item}
-use Rattle.engine_laws.specs.State.{IsStateOf}
+use Rattle.log_laws.specs.State.{IsStateOf}
 use Rattle.replica_api.specs.Replica.{Takes}
 use Rattle.local_replica.specs.Shown.{shown}
 use Rattle.local_replica.proofs.Showing.{stays_so}

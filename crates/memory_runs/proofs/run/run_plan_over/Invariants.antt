@@ -1,6 +1,6 @@
 use Rattle.std.proofs.Common.{◌≡◌, ◌+◌, length, map}
 use Rattle.std.specs.List.{AllByRecursion}
-use Rattle.engine_laws.specs.Rises.{lowest}
+use Rattle.log_laws.specs.Rises.{lowest}
 use Rattle.script_runner.specs.Fresh.{AreFreshNodes}
 use Rattle.memory_runs.specs.Disks.{IsFreshDisk}
 use Rattle.memory_runs.proofs.run.run_plan_over.OwnLists.{own-1}

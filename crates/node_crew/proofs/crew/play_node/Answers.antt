@@ -30,6 +30,12 @@ play_turn-worker-requires-clause-node g c =
     let at = slice_get_read a.crew.workers.items (length a.crew.workers.items) a.k c.remove-worker.result refl c.requires.there c.remove-worker.ensures.value in
     (c.requires.now.waits a.k c.remove-worker.result (omega arith) at).worker.ok.who_is ∙ sym c.in-Some.ensures.value
 
+pub play_turn-worker-requires-clause-who : goal.play_turn-worker-requires-clause-who
+play_turn-worker-requires-clause-who g c =
+    let a = c.args in
+    let at = slice_get_read a.crew.workers.items (length a.crew.workers.items) a.k c.remove-worker.result refl c.requires.there c.remove-worker.ensures.value in
+    c.who.ensures ∙ ((c.requires.now.waits a.k c.remove-worker.result (omega arith) at).worker.ok.who_is ∙ sym c.in-Some.ensures.value)
+
 pub play_turn-worker-requires-clause-floor : goal.play_turn-worker-requires-clause-floor
 play_turn-worker-requires-clause-floor g c =
     let a = c.args in
@@ -66,12 +72,12 @@ returns-clause-goes g c =
     let one = subst (HasOne a.lines.now a.from) c.in-Some.ensures.value (c.has_line.ensures.one c.if-not-has_line.false) in
     let u = crew_plays p.may p.floor p.shelf r.state r.spells a.lines.now (λ w. w.seat) (λ w. w.desks.items) a.crew.workers.items a.from a.to a.k a.crew.fabric.journal a.crew.counts a.crew.looks.items w at c.requires.there c.requires.floor one h in
     let u' = subst (λ n. IsUnderWay p.may p.floor p.shelf r.state r.spells a.lines.now h.home (length a.crew.workers.items) h.course a.crew.counts a.crew.looks.items n a.from a.from a.crew.fabric.journal w.seat w.desks.items) (sym c.in-Some.ensures.value) u in
-    let items = (subst (λ x. c.insert.new.self.items ≡ (if is_ok x then insert c.remove-worker.new.self.items a.k q.result.worker else c.remove-worker.new.self.items)) c.in-Ok.is c.insert.ensures.items)
-    ∙ (ap (λ l. insert l a.k q.result.worker) c.remove-worker.ensures.items ∙ put_back a.crew.workers.items a.k q.result.worker c.requires.there) in
+    let items = (subst (λ x. c.insert.new.self.items ≡ (if is_ok x then insert c.remove-worker.new.self.items a.k q.result.part else c.remove-worker.new.self.items)) c.in-Ok.is c.insert.ensures.items)
+    ∙ (ap (λ l. insert l a.k q.result.part) c.remove-worker.ensures.items ∙ put_back a.crew.workers.items a.k q.result.part c.requires.there) in
     on_ok q.result.answer (q.ensures.goes h.home (length a.crew.workers.items) h.course u' h.ends) (λ t.
-    subst (λ l. CrewAt p.may p.floor p.shelf r.state r.spells a.lines.now a.from a.to (a.k + 1) q.result.fabric.journal q.new.counts q.new.looks.items (λ w. w.seat) (λ w. w.desks.items) l) (sym items)
-    (crew_turned p.may p.floor p.shelf r.state r.spells a.lines.now (λ w. w.seat) (λ w. w.desks.items) a.crew.workers.items c.requires.run a.from a.to a.k a.crew.fabric.journal q.result.fabric.journal a.crew.counts q.new.counts a.crew.looks.items q.new.looks.items w q.result.worker at q.array_long h
-    (subst (λ n. TurnWent p.may p.floor p.shelf r.state r.spells a.lines.now h.home (length a.crew.workers.items) h.course a.crew.counts q.new.counts a.crew.looks.items q.new.looks.items n a.to q.result.fabric.journal q.result.worker.seat q.result.worker.desks.items) c.in-Some.ensures.value t)))
+    subst (λ l. CrewAt p.may p.floor p.shelf r.state r.spells a.lines.now a.from a.to (a.k + 1) q.result.access.fabric.journal q.new.counts q.new.looks.items (λ w. w.seat) (λ w. w.desks.items) l) (sym items)
+    (crew_turned p.may p.floor p.shelf r.state r.spells a.lines.now (λ w. w.seat) (λ w. w.desks.items) a.crew.workers.items c.requires.run a.from a.to a.k a.crew.fabric.journal q.result.access.fabric.journal a.crew.counts q.new.counts a.crew.looks.items q.new.looks.items w q.result.part at q.array_long h
+    (subst (λ n. TurnWent p.may p.floor p.shelf r.state r.spells a.lines.now h.home (length a.crew.workers.items) h.course a.crew.counts q.new.counts a.crew.looks.items q.new.looks.items n a.to q.result.access.fabric.journal q.result.part.seat q.result.part.desks.items) c.in-Some.ensures.value t)))
 
 pub returns-clause-stands : goal.returns-clause-stands
 returns-clause-stands g c =
@@ -81,8 +87,8 @@ returns-clause-stands g c =
     let q = c.play_turn-worker in
     let w = c.remove-worker.result in
     let at = slice_get_read a.crew.workers.items (length a.crew.workers.items) a.k w refl c.requires.there c.remove-worker.ensures.value in
-    let items = (subst (λ x. c.insert.new.self.items ≡ (if is_ok x then insert c.remove-worker.new.self.items a.k q.result.worker else c.remove-worker.new.self.items)) c.in-Ok.is c.insert.ensures.items)
-    ∙ (ap (λ l. insert l a.k q.result.worker) c.remove-worker.ensures.items ∙ put_back a.crew.workers.items a.k q.result.worker c.requires.there) in
+    let items = (subst (λ x. c.insert.new.self.items ≡ (if is_ok x then insert c.remove-worker.new.self.items a.k q.result.part else c.remove-worker.new.self.items)) c.in-Ok.is c.insert.ensures.items)
+    ∙ (ap (λ l. insert l a.k q.result.part) c.remove-worker.ensures.items ∙ put_back a.crew.workers.items a.k q.result.part c.requires.there) in
     let before = crew_stands p.may p.floor p.shelf r.state r.spells a.lines.now (λ w. w.seat) (λ w. w.desks.items) a.crew.workers.items a.from a.to a.k a.crew.fabric.journal a.crew.counts a.crew.looks.items c.requires.now in
-    subst (λ l. CrewStands p.may p.floor p.shelf r.state r.spells q.result.fabric.journal (λ w. w.seat) l) (sym items)
-    (still_stands p.may p.floor p.shelf r.state r.spells a.lines.now (λ w. w.seat) (λ w. w.desks.items) a.crew.workers.items a.k a.crew.fabric.journal q.result.fabric.journal w q.result.worker at q.ensures.grows before q.ensures.stands)
+    subst (λ l. CrewStands p.may p.floor p.shelf r.state r.spells q.result.access.fabric.journal (λ w. w.seat) l) (sym items)
+    (still_stands p.may p.floor p.shelf r.state r.spells a.lines.now (λ w. w.seat) (λ w. w.desks.items) a.crew.workers.items a.k a.crew.fabric.journal q.result.access.fabric.journal w q.result.part at q.ensures.grows before q.ensures.stands)

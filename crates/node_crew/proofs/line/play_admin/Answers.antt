@@ -2,9 +2,9 @@ use Rattle.std.proofs.Common.{sym, ap, ◌∙◌, subst, ◌+◌, Some}
 use Rattle.std.specs.Prelude.{slice_set}
 use Rattle.script_text.specs.declared.asks.Asks.TheVariants as asks
 use Rattle.legal_journal.specs.Sealing.{Unsealed}
-use Rattle.journal_changes.specs.Changes.{Adds}
-use Rattle.one_thread.specs.Alone.{Since}
-use Rattle.one_thread.specs.Seats.{node_of}
+use Rattle.journal_laws.specs.Changes.{Adds}
+use Rattle.turn_scopes.specs.Alone.{OwnSince}
+use Rattle.turn_scopes.specs.Seats.{node_of}
 use Rattle.node_lines.specs.Extending.{Extends}
 use Rattle.node_lines.specs.Reporting.{Reports}
 use Rattle.node_lines.specs.Leaving.{Leaves}
@@ -15,6 +15,7 @@ use Rattle.run_course.proofs.Extending.{line_extended}
 use Rattle.run_course.proofs.Reporting.{line_reported}
 use Rattle.run_course.proofs.Leaving.{line_left}
 use Rattle.run_course.proofs.Trimming.{line_trimmed}
+use Rattle.node_crew.proofs.Playing.{left_own, left_unsealed}
 use Rattle.node_crew.proofs.Ok.{on_ok}
 use Rattle.node_workers.proofs.Ok.{in_ok}
 use Rattle.node_crew.proofs.line.play_admin.Goals as goal
@@ -28,13 +29,13 @@ returns-in-Extend-clause-goes g c = λ lines home nodes course from at node phas
     let looks = c.args.looks.now.items in
     let q = c.extend_line-looked in
     let k = c.keep_look in
-    let new = q.result.fabric.journal in
-    let seat = q.result.worker.seat in
+    let new = q.result.access.fabric.journal in
+    let seat = q.result.part.seat in
     let same = q.ensures.desks in
     on_ok k.result.answer k.ensures.looks (λ kept.
     let look = kept.0 in
-    let since : Since w.seat.who c.args.fabric.journal new = in_ok _ kept.1 q.ensures.since in
-    let now : WorkerOk p.may p.floor p.shelf r.state r.spells w.seat.who counts new seat q.result.worker.desks.items =
+    let since = left_own q.ensures.left in
+    let now : WorkerOk p.may p.floor p.shelf r.state r.spells w.seat.who counts new seat q.result.part.desks.items =
     in_ok _ kept.1 q.ensures.worker in
     let now' : WorkerOk p.may p.floor p.shelf r.state r.spells w.seat.who counts new seat w.desks.items = subst (λ ds. WorkerOk p.may p.floor p.shelf r.state r.spells w.seat.who counts new seat ds.items) same now in
     let high = in_ok _ kept.1 q.ensures.high in
@@ -42,21 +43,19 @@ returns-in-Extend-clause-goes g c = λ lines home nodes course from at node phas
     let extends = in_ok _ kept.1 q.ensures.extends in
     let went = line_extended p.may p.floor p.shelf r.state r.spells lines home nodes course counts looks w.seat.who from c.args.i c.args.line.now look w.seat seat w.desks.items new
     u.lines_are u.least u.most at node phase (c.requires.asked ∙ ap (λ a. asks.Admin a) c.in-Extend.is) u.ok u.worker
-    (subst (λ j. Since w.seat.who j new) (sym u.journal_is) since)
+    (subst (λ j. OwnSince w.seat.who j new) (sym u.journal_is) since)
     (subst (λ j. Adds IsOfSessions j new) (sym u.journal_is) adds) high
     (subst (λ j. Extends (Within p.may counts) p.floor p.shelf (node_of w.seat j) (node_of seat new) look) (sym u.journal_is) extends) now' in
-    subst (λ l. LineWent p.may p.floor p.shelf r.state r.spells lines home nodes course counts counts looks l w.seat.who from (c.args.i + 1) k.result.fabric.journal k.result.worker.seat k.result.worker.desks.items) (sym kept.2)
-    (subst (λ x. LineWent p.may p.floor p.shelf r.state r.spells lines home nodes course counts counts looks (slice_set looks c.args.i (Some look)) w.seat.who from (c.args.i + 1) k.result.fabric.journal x.seat x.desks.items) (sym k.ensures.worker)
-    (subst (λ f. LineWent p.may p.floor p.shelf r.state r.spells lines home nodes course counts counts looks (slice_set looks c.args.i (Some look)) w.seat.who from (c.args.i + 1) f.journal seat q.result.worker.desks.items) (sym k.ensures.fabric)
+    subst (λ l. LineWent p.may p.floor p.shelf r.state r.spells lines home nodes course counts counts looks l w.seat.who from (c.args.i + 1) k.result.access.fabric.journal k.result.part.seat k.result.part.desks.items) (sym kept.2)
+    (subst (λ x. LineWent p.may p.floor p.shelf r.state r.spells lines home nodes course counts counts looks (slice_set looks c.args.i (Some look)) w.seat.who from (c.args.i + 1) k.result.access.fabric.journal x.seat x.desks.items) (sym k.ensures.part)
+    (subst (λ f. LineWent p.may p.floor p.shelf r.state r.spells lines home nodes course counts counts looks (slice_set looks c.args.i (Some look)) w.seat.who from (c.args.i + 1) f.fabric.journal seat q.result.part.desks.items) (sym k.ensures.access)
     (subst (λ ds. LineWent p.may p.floor p.shelf r.state r.spells lines home nodes course counts counts looks (slice_set looks c.args.i (Some look)) w.seat.who from (c.args.i + 1) new seat ds.items) (sym same) went))))
 
 pub returns-in-Extend-clause-who : goal.returns-in-Extend-clause-who
-returns-in-Extend-clause-who g c =
-    let q = c.extend_line-looked in
-    let k = c.keep_look in
-    on_ok k.result.answer k.ensures.looks (λ kept.
-    let now = in_ok _ kept.1 q.ensures.worker in
-    ap (λ x. x.seat.who) k.ensures.worker ∙ now.who_is)
+returns-in-Extend-clause-who g c = ap (λ x. x.seat.who) c.keep_look.ensures.part ∙ c.extend_line-looked.ensures.left.who
+
+pub returns-in-Extend-clause-whose : goal.returns-in-Extend-clause-whose
+returns-in-Extend-clause-whose g c = ap (λ x. x.who) c.keep_look.ensures.access ∙ c.extend_line-looked.ensures.who
 
 pub report_line-looked-requires-clause-own : goal.report_line-looked-requires-clause-own
 report_line-looked-requires-clause-own g c = subst (λ a. CanSend g.K.Terms.may c.args.worker.seat.who (asks.Admin a)) c.in-Alive.is c.requires.sends
@@ -70,13 +69,13 @@ returns-in-Alive-clause-goes g c = λ lines home nodes course from at node phase
     let looks = c.args.looks.now.items in
     let q = c.report_line-looked in
     let k = c.keep_look-in-Alive in
-    let new = q.result.fabric.journal in
-    let seat = q.result.worker.seat in
+    let new = q.result.access.fabric.journal in
+    let seat = q.result.part.seat in
     let same = q.ensures.desks in
     on_ok k.result.answer k.ensures.looks (λ kept.
     let look = kept.0 in
-    let since : Since w.seat.who c.args.fabric.journal new = in_ok _ kept.1 q.ensures.since in
-    let now : WorkerOk p.may p.floor p.shelf r.state r.spells w.seat.who counts new seat q.result.worker.desks.items =
+    let since = left_own q.ensures.left in
+    let now : WorkerOk p.may p.floor p.shelf r.state r.spells w.seat.who counts new seat q.result.part.desks.items =
     in_ok _ kept.1 q.ensures.worker in
     let now' : WorkerOk p.may p.floor p.shelf r.state r.spells w.seat.who counts new seat w.desks.items = subst (λ ds. WorkerOk p.may p.floor p.shelf r.state r.spells w.seat.who counts new seat ds.items) same now in
     let high = in_ok _ kept.1 q.ensures.high in
@@ -84,22 +83,20 @@ returns-in-Alive-clause-goes g c = λ lines home nodes course from at node phase
     let reports = in_ok _ kept.1 q.ensures.reports in
     let went = line_reported p.may p.floor p.shelf r.state r.spells lines home nodes course counts looks w.seat.who from c.args.i c.args.line.now look w.seat seat w.desks.items new
     u.lines_are u.least u.most at node phase (c.requires.asked ∙ ap (λ a. asks.Admin a) c.in-Alive.is) u.ok u.worker
-    (subst (λ j. Since w.seat.who j new) (sym u.journal_is) since)
-    (subst (λ j. Unsealed j new) (sym u.journal_is) q.ensures.unsealed)
+    (subst (λ j. OwnSince w.seat.who j new) (sym u.journal_is) since)
+    (subst (λ j. Unsealed j new) (sym u.journal_is) (left_unsealed q.ensures.left))
     (subst (λ j. ReportAdds w.seat.who seat.node.replica.cursor j new look) (sym u.journal_is) adds) high
     (subst (λ j. Reports (Within p.may counts) p.floor p.shelf (node_of w.seat j) (node_of seat new) look) (sym u.journal_is) reports) now' in
-    subst (λ l. LineWent p.may p.floor p.shelf r.state r.spells lines home nodes course counts counts looks l w.seat.who from (c.args.i + 1) k.result.fabric.journal k.result.worker.seat k.result.worker.desks.items) (sym kept.2)
-    (subst (λ x. LineWent p.may p.floor p.shelf r.state r.spells lines home nodes course counts counts looks (slice_set looks c.args.i (Some look)) w.seat.who from (c.args.i + 1) k.result.fabric.journal x.seat x.desks.items) (sym k.ensures.worker)
-    (subst (λ f. LineWent p.may p.floor p.shelf r.state r.spells lines home nodes course counts counts looks (slice_set looks c.args.i (Some look)) w.seat.who from (c.args.i + 1) f.journal seat q.result.worker.desks.items) (sym k.ensures.fabric)
+    subst (λ l. LineWent p.may p.floor p.shelf r.state r.spells lines home nodes course counts counts looks l w.seat.who from (c.args.i + 1) k.result.access.fabric.journal k.result.part.seat k.result.part.desks.items) (sym kept.2)
+    (subst (λ x. LineWent p.may p.floor p.shelf r.state r.spells lines home nodes course counts counts looks (slice_set looks c.args.i (Some look)) w.seat.who from (c.args.i + 1) k.result.access.fabric.journal x.seat x.desks.items) (sym k.ensures.part)
+    (subst (λ f. LineWent p.may p.floor p.shelf r.state r.spells lines home nodes course counts counts looks (slice_set looks c.args.i (Some look)) w.seat.who from (c.args.i + 1) f.fabric.journal seat q.result.part.desks.items) (sym k.ensures.access)
     (subst (λ ds. LineWent p.may p.floor p.shelf r.state r.spells lines home nodes course counts counts looks (slice_set looks c.args.i (Some look)) w.seat.who from (c.args.i + 1) new seat ds.items) (sym same) went))))
 
 pub returns-in-Alive-clause-who : goal.returns-in-Alive-clause-who
-returns-in-Alive-clause-who g c =
-    let q = c.report_line-looked in
-    let k = c.keep_look-in-Alive in
-    on_ok k.result.answer k.ensures.looks (λ kept.
-    let now = in_ok _ kept.1 q.ensures.worker in
-    ap (λ x. x.seat.who) k.ensures.worker ∙ now.who_is)
+returns-in-Alive-clause-who g c = ap (λ x. x.seat.who) c.keep_look-in-Alive.ensures.part ∙ c.report_line-looked.ensures.left.who
+
+pub returns-in-Alive-clause-whose : goal.returns-in-Alive-clause-whose
+returns-in-Alive-clause-whose g c = ap (λ x. x.who) c.keep_look-in-Alive.ensures.access ∙ c.report_line-looked.ensures.who
 
 pub leave_line-looked-requires-clause-own : goal.leave_line-looked-requires-clause-own
 leave_line-looked-requires-clause-own g c = subst (λ a. CanSend g.K.Terms.may c.args.worker.seat.who (asks.Admin a)) c.in-Retire.is c.requires.sends
@@ -113,13 +110,13 @@ returns-in-Retire-clause-goes g c = λ lines home nodes course from at node phas
     let looks = c.args.looks.now.items in
     let q = c.leave_line-looked in
     let k = c.keep_look-in-Retire in
-    let new = q.result.fabric.journal in
-    let seat = q.result.worker.seat in
+    let new = q.result.access.fabric.journal in
+    let seat = q.result.part.seat in
     let same = q.ensures.desks in
     on_ok k.result.answer k.ensures.looks (λ kept.
     let look = kept.0 in
-    let since : Since w.seat.who c.args.fabric.journal new = in_ok _ kept.1 q.ensures.since in
-    let now : WorkerOk p.may p.floor p.shelf r.state r.spells w.seat.who counts new seat q.result.worker.desks.items =
+    let since = left_own q.ensures.left in
+    let now : WorkerOk p.may p.floor p.shelf r.state r.spells w.seat.who counts new seat q.result.part.desks.items =
     in_ok _ kept.1 q.ensures.worker in
     let now' : WorkerOk p.may p.floor p.shelf r.state r.spells w.seat.who counts new seat w.desks.items = subst (λ ds. WorkerOk p.may p.floor p.shelf r.state r.spells w.seat.who counts new seat ds.items) same now in
     let high = in_ok _ kept.1 q.ensures.high in
@@ -127,22 +124,20 @@ returns-in-Retire-clause-goes g c = λ lines home nodes course from at node phas
     let leaves = in_ok _ kept.1 q.ensures.leaves in
     let went = line_left p.may p.floor p.shelf r.state r.spells lines home nodes course counts looks w.seat.who from c.args.i c.args.line.now look w.seat seat w.desks.items new
     u.lines_are u.least u.most at node phase (c.requires.asked ∙ ap (λ a. asks.Admin a) c.in-Retire.is) u.ok u.worker
-    (subst (λ j. Since w.seat.who j new) (sym u.journal_is) since)
-    (subst (λ j. Unsealed j new) (sym u.journal_is) q.ensures.unsealed)
+    (subst (λ j. OwnSince w.seat.who j new) (sym u.journal_is) since)
+    (subst (λ j. Unsealed j new) (sym u.journal_is) (left_unsealed q.ensures.left))
     (subst (λ j. LeaveAdds w.seat.who j new) (sym u.journal_is) adds) high
     (subst (λ j. Leaves (Within p.may counts) p.floor p.shelf (node_of w.seat j) (node_of seat new) look) (sym u.journal_is) leaves) now' in
-    subst (λ l. LineWent p.may p.floor p.shelf r.state r.spells lines home nodes course counts counts looks l w.seat.who from (c.args.i + 1) k.result.fabric.journal k.result.worker.seat k.result.worker.desks.items) (sym kept.2)
-    (subst (λ x. LineWent p.may p.floor p.shelf r.state r.spells lines home nodes course counts counts looks (slice_set looks c.args.i (Some look)) w.seat.who from (c.args.i + 1) k.result.fabric.journal x.seat x.desks.items) (sym k.ensures.worker)
-    (subst (λ f. LineWent p.may p.floor p.shelf r.state r.spells lines home nodes course counts counts looks (slice_set looks c.args.i (Some look)) w.seat.who from (c.args.i + 1) f.journal seat q.result.worker.desks.items) (sym k.ensures.fabric)
+    subst (λ l. LineWent p.may p.floor p.shelf r.state r.spells lines home nodes course counts counts looks l w.seat.who from (c.args.i + 1) k.result.access.fabric.journal k.result.part.seat k.result.part.desks.items) (sym kept.2)
+    (subst (λ x. LineWent p.may p.floor p.shelf r.state r.spells lines home nodes course counts counts looks (slice_set looks c.args.i (Some look)) w.seat.who from (c.args.i + 1) k.result.access.fabric.journal x.seat x.desks.items) (sym k.ensures.part)
+    (subst (λ f. LineWent p.may p.floor p.shelf r.state r.spells lines home nodes course counts counts looks (slice_set looks c.args.i (Some look)) w.seat.who from (c.args.i + 1) f.fabric.journal seat q.result.part.desks.items) (sym k.ensures.access)
     (subst (λ ds. LineWent p.may p.floor p.shelf r.state r.spells lines home nodes course counts counts looks (slice_set looks c.args.i (Some look)) w.seat.who from (c.args.i + 1) new seat ds.items) (sym same) went))))
 
 pub returns-in-Retire-clause-who : goal.returns-in-Retire-clause-who
-returns-in-Retire-clause-who g c =
-    let q = c.leave_line-looked in
-    let k = c.keep_look-in-Retire in
-    on_ok k.result.answer k.ensures.looks (λ kept.
-    let now = in_ok _ kept.1 q.ensures.worker in
-    ap (λ x. x.seat.who) k.ensures.worker ∙ now.who_is)
+returns-in-Retire-clause-who g c = ap (λ x. x.seat.who) c.keep_look-in-Retire.ensures.part ∙ c.leave_line-looked.ensures.left.who
+
+pub returns-in-Retire-clause-whose : goal.returns-in-Retire-clause-whose
+returns-in-Retire-clause-whose g c = ap (λ x. x.who) c.keep_look-in-Retire.ensures.access ∙ c.leave_line-looked.ensures.who
 
 pub trim_line-looked-requires-clause-own : goal.trim_line-looked-requires-clause-own
 trim_line-looked-requires-clause-own g c = subst (λ a. CanSend g.K.Terms.may c.args.worker.seat.who (asks.Admin a)) c.in-Trim.is c.requires.sends
@@ -156,13 +151,13 @@ returns-in-Trim-clause-goes g c = λ lines home nodes course from at node phase 
     let looks = c.args.looks.now.items in
     let q = c.trim_line-looked in
     let k = c.keep_look-in-Trim in
-    let new = q.result.fabric.journal in
-    let seat = q.result.worker.seat in
+    let new = q.result.access.fabric.journal in
+    let seat = q.result.part.seat in
     let same = q.ensures.desks in
     on_ok k.result.answer k.ensures.looks (λ kept.
     let look = kept.0 in
-    let since : Since w.seat.who c.args.fabric.journal new = in_ok _ kept.1 q.ensures.since in
-    let now : WorkerOk p.may p.floor p.shelf r.state r.spells w.seat.who counts new seat q.result.worker.desks.items =
+    let since = left_own q.ensures.left in
+    let now : WorkerOk p.may p.floor p.shelf r.state r.spells w.seat.who counts new seat q.result.part.desks.items =
     in_ok _ kept.1 q.ensures.worker in
     let now' : WorkerOk p.may p.floor p.shelf r.state r.spells w.seat.who counts new seat w.desks.items = subst (λ ds. WorkerOk p.may p.floor p.shelf r.state r.spells w.seat.who counts new seat ds.items) same now in
     let high = in_ok _ kept.1 q.ensures.high in
@@ -170,19 +165,17 @@ returns-in-Trim-clause-goes g c = λ lines home nodes course from at node phase 
     let trims = in_ok _ kept.1 q.ensures.trims in
     let went = line_trimmed p.may p.floor p.shelf r.state r.spells c.requires.run lines home nodes course counts looks w.seat.who from c.args.i c.args.line.now look w.seat seat w.desks.items new
     u.lines_are u.least u.most at node phase (c.requires.asked ∙ ap (λ a. asks.Admin a) c.in-Trim.is) u.ok u.worker
-    (subst (λ j. Since w.seat.who j new) (sym u.journal_is) since)
-    (subst (λ j. Unsealed j new) (sym u.journal_is) q.ensures.unsealed)
+    (subst (λ j. OwnSince w.seat.who j new) (sym u.journal_is) since)
+    (subst (λ j. Unsealed j new) (sym u.journal_is) (left_unsealed q.ensures.left))
     (subst (λ j. TrimAdds j new) (sym u.journal_is) adds) high
     (subst (λ j. TrimsLog (Within p.may counts) p.floor p.shelf (node_of w.seat j) (node_of seat new) look) (sym u.journal_is) trims) now' in
-    subst (λ l. LineWent p.may p.floor p.shelf r.state r.spells lines home nodes course counts counts looks l w.seat.who from (c.args.i + 1) k.result.fabric.journal k.result.worker.seat k.result.worker.desks.items) (sym kept.2)
-    (subst (λ x. LineWent p.may p.floor p.shelf r.state r.spells lines home nodes course counts counts looks (slice_set looks c.args.i (Some look)) w.seat.who from (c.args.i + 1) k.result.fabric.journal x.seat x.desks.items) (sym k.ensures.worker)
-    (subst (λ f. LineWent p.may p.floor p.shelf r.state r.spells lines home nodes course counts counts looks (slice_set looks c.args.i (Some look)) w.seat.who from (c.args.i + 1) f.journal seat q.result.worker.desks.items) (sym k.ensures.fabric)
+    subst (λ l. LineWent p.may p.floor p.shelf r.state r.spells lines home nodes course counts counts looks l w.seat.who from (c.args.i + 1) k.result.access.fabric.journal k.result.part.seat k.result.part.desks.items) (sym kept.2)
+    (subst (λ x. LineWent p.may p.floor p.shelf r.state r.spells lines home nodes course counts counts looks (slice_set looks c.args.i (Some look)) w.seat.who from (c.args.i + 1) k.result.access.fabric.journal x.seat x.desks.items) (sym k.ensures.part)
+    (subst (λ f. LineWent p.may p.floor p.shelf r.state r.spells lines home nodes course counts counts looks (slice_set looks c.args.i (Some look)) w.seat.who from (c.args.i + 1) f.fabric.journal seat q.result.part.desks.items) (sym k.ensures.access)
     (subst (λ ds. LineWent p.may p.floor p.shelf r.state r.spells lines home nodes course counts counts looks (slice_set looks c.args.i (Some look)) w.seat.who from (c.args.i + 1) new seat ds.items) (sym same) went))))
 
 pub returns-in-Trim-clause-who : goal.returns-in-Trim-clause-who
-returns-in-Trim-clause-who g c =
-    let q = c.trim_line-looked in
-    let k = c.keep_look-in-Trim in
-    on_ok k.result.answer k.ensures.looks (λ kept.
-    let now = in_ok _ kept.1 q.ensures.worker in
-    ap (λ x. x.seat.who) k.ensures.worker ∙ now.who_is)
+returns-in-Trim-clause-who g c = ap (λ x. x.seat.who) c.keep_look-in-Trim.ensures.part ∙ c.trim_line-looked.ensures.left.who
+
+pub returns-in-Trim-clause-whose : goal.returns-in-Trim-clause-whose
+returns-in-Trim-clause-whose g c = ap (λ x. x.who) c.keep_look-in-Trim.ensures.access ∙ c.trim_line-looked.ensures.who

@@ -1,13 +1,15 @@
 use Rattle.std.proofs.Common.{sym, ◌∙◌, subst, ◌+◌}
 use Rattle.legal_journal.specs.Sealing.{Unsealed}
-use Rattle.journal_changes.specs.Changes.{Adds}
-use Rattle.one_thread.specs.Alone.{Since}
-use Rattle.one_thread.specs.Seats.{node_of}
+use Rattle.journal_laws.specs.Changes.{Adds}
+use Rattle.turn_scopes.specs.Alone.{OwnSince}
+use Rattle.turn_scopes.specs.Seats.{node_of}
 use Rattle.node_lines.specs.Turns.{EndsTurn}
 use Rattle.node_lines.specs.Workers.{WorkerOk, Within, IsOfSessions}
 use Rattle.run_course.specs.Script.{BeginsAt}
 use Rattle.run_course.proofs.Ending.{phase_ended}
 use Rattle.run_course.proofs.Joining.{turns_join}
+use Rattle.node_crew.proofs.Playing.{left_own, left_grows, left_unsealed}
+use Rattle.node_lines.proofs.Widening.{grows-both}
 use Rattle.node_crew.proofs.Seeing.{ended_sees}
 use Rattle.node_workers.proofs.Ok.{in_ok, on_ok}
 use Rattle.node_crew.proofs.turn.play_turn.Goals as goal
@@ -19,10 +21,10 @@ end_phase-worker-requires-clause-worker g c =
     let a = c.args in
     let q = c.play_lines-worker in
     let t = c.requires.playing in
-    let who = on_ok _ c.in-Ok.is q.ensures.who ∙ c.requires.node in
+    let who = q.ensures.who ∙ c.requires.node in
     let w = on_ok _ c.in-Ok.is (q.ensures.goes t.home t.nodes t.course t.now t.ends) in
-    subst (λ k. WorkerOk p.may p.floor p.shelf r.state r.spells k q.new.counts q.result.fabric.journal q.result.worker.seat q.result.worker.desks.items) (sym who)
-    (subst (λ j. WorkerOk p.may p.floor p.shelf r.state r.spells a.node q.new.counts j q.result.worker.seat q.result.worker.desks.items) w.journal_is w.worker.ok)
+    subst (λ k. WorkerOk p.may p.floor p.shelf r.state r.spells k q.new.counts q.result.access.fabric.journal q.result.part.seat q.result.part.desks.items) (sym who)
+    (subst (λ j. WorkerOk p.may p.floor p.shelf r.state r.spells a.node q.new.counts j q.result.part.seat q.result.part.desks.items) w.journal_is w.worker.ok)
 
 pub end_phase-worker-requires-clause-high : goal.end_phase-worker-requires-clause-high
 end_phase-worker-requires-clause-high g c =
@@ -39,18 +41,19 @@ returns-in-Ok-answer-clause-goes g c = λ home nodes course u ends.
     let e = c.end_phase-worker in
     let counts = q.new.counts in
     let looks = q.new.looks.items in
-    let seat = q.result.worker.seat in
-    let seat' = e.result.worker.seat in
-    let desks = q.result.worker.desks.items in
-    let desks' = e.result.worker.desks.items in
-    let mid = q.result.fabric.journal in
-    let new = e.result.fabric.journal in
-    let who = on_ok _ c.in-Ok.is q.ensures.who ∙ c.requires.node in
+    let seat = q.result.part.seat in
+    let seat' = e.result.part.seat in
+    let desks = q.result.part.desks.items in
+    let desks' = e.result.part.desks.items in
+    let mid = q.result.access.fabric.journal in
+    let new = e.result.access.fabric.journal in
+    let who = q.ensures.who ∙ c.requires.node in
     let w = on_ok _ c.in-Ok.is (q.ensures.goes home nodes course u ends) in
     let over = subst (λ n. BeginsAt a.lines.now a.to (n + 1)) (sym w.turn.phase) ends in
-    let since = in_ok _ c.in-Ok-answer.is e.ensures.since in
-    let since' = subst (λ j. Since a.node j new) (sym w.journal_is) (subst (λ k. Since k mid new) who since) in
-    let still = subst (λ j. Unsealed j new) (sym w.journal_is) e.ensures.unsealed in
+    let left = e.ensures.left in
+    let since = left_own left in
+    let since' = subst (λ j. OwnSince a.node j new) (sym w.journal_is) (subst (λ k. OwnSince k mid new) who since) in
+    let still = subst (λ j. Unsealed j new) (sym w.journal_is) (left_unsealed left) in
     let adds = in_ok _ c.in-Ok-answer.is e.ensures.adds in
     let adds' = subst (λ j. Adds IsOfSessions j new) (sym w.journal_is) adds in
     let does = in_ok _ c.in-Ok-answer.is e.ensures.ends in
@@ -64,5 +67,11 @@ returns-in-Ok-answer-clause-goes g c = λ home nodes course u ends.
       ok = t.ok;
       turn = turns_join a.lines.now home a.node course w.course t.course a.counts.now counts counts a.looks.now.items looks looks w.turn t.turn;
       rests = t.rests;
-      sees = ended_sees p.may (Within p.may counts) p.floor p.shelf seat seat' desks desks' mid new c.in-Ok-answer._failed e.ensures.stands.node.legal e.ensures.low since does;
+      sees = ended_sees p.may (Within p.may counts) p.floor p.shelf seat seat' desks desks' mid new c.in-Ok-answer._failed left.stands.node.legal e.ensures.low since does;
     }
+
+pub returns-in-Ok-answer-clause-grows : goal.returns-in-Ok-answer-clause-grows
+returns-in-Ok-answer-clause-grows g c = grows-both c.args.lone.fabric.journal c.play_lines-worker.result.access.fabric.journal c.end_phase-worker.result.access.fabric.journal c.play_lines-worker.ensures.grows (left_grows c.end_phase-worker.ensures.left)
+
+pub returns-in-Err-answer-clause-grows : goal.returns-in-Err-answer-clause-grows
+returns-in-Err-answer-clause-grows g c = grows-both c.args.lone.fabric.journal c.play_lines-worker.result.access.fabric.journal c.end_phase-worker.result.access.fabric.journal c.play_lines-worker.ensures.grows (left_grows c.end_phase-worker.ensures.left)

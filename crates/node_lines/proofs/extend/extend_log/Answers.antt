@@ -20,7 +20,7 @@ returns-in-Ok g c =
       replaces = record {
         others = [];
         moves = moves-sync p.may p.floor p.shelf c.requires.floor n m [] k c.in-Ok.ensures.outbox (ap (λ (r : ReplicaView). r.kept) c.in-Ok.ensures.replica)
-            (spends-none n.seen m.seen n.replica.faults m.replica.faults (k.later.more, k.later.seen) k.counts);
+            (spends-none n.who n.seen m.seen n.replica.faults m.replica.faults (k.later.more, k.later.seen) k.counts);
         replica = c.in-Ok.ensures.replica;
         outbox = c.in-Ok.ensures.outbox;
         extends = (refl, c.in-Ok.ensures.extension);

@@ -1,8 +1,8 @@
 use Rattle.std.proofs.Common.{◌≡◌, refl, sym, ap, ◌∙◌, subst, [], None, arith}
-use Rattle.node_sessions.specs.declared.desk.Desk.{Desk}
+use Rattle.node_lines.specs.declared.desk.Desk.{Desk}
 use Rattle.replica_api.specs.Replica.{ReplicaView}
 use Rattle.base_engine.specs.Settling.{cause_in}
-use Rattle.node_sessions.specs.Desks.{AreAnswers, AreAllAnswers, InFront}
+use Rattle.node_lines.specs.Answered.{AreAnswers, AreAllAnswers, InFront}
 use Rattle.node_lines.specs.Moving.{CanPack, failure_of}
 use Rattle.node_lines.specs.Lines.{stopped_by}
 use Rattle.node_lines.proofs.Moving.{moves-both, none-before}

@@ -5,9 +5,9 @@ use Rattle.delos_types.specs.declared.item.Item.{Item}
 use Rattle.engine_api.specs.Packing.{packed, session_item}
 use Rattle.engine_steps.specs.Words.{under}
 use Rattle.engine_api.specs.declared.content.Content.TheVariants as content
-use Rattle.engine_laws.proofs.Words.{under-ranked}
-use Rattle.node_sessions.specs.declared.desk.Desk.{Desk}
-use Rattle.node_sessions.specs.UnderWay.{rank_under}
+use Rattle.log_laws.proofs.Words.{under-ranked}
+use Rattle.node_lines.specs.declared.desk.Desk.{Desk}
+use Rattle.node_lines.specs.UnderWay.{rank_under}
 use Rattle.node_lines.proofs.Fronts.{answers_at}
 use Rattle.node_lines.proofs.Desks.{answers_later}
 use Rattle.node_lines.proofs.Sessions.{next_near, desk_logged, own_under}

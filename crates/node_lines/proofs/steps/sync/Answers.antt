@@ -13,7 +13,7 @@ returns-in-Ok-clause-moves g c =
     let n = c.args.node.now in
     let m = c.sync.new.self in
     moves-sync p.may p.floor p.shelf c.requires.floor n m [] k c.in-Ok.ensures.outbox c.in-Ok.ensures.kept
-    (spends-none n.seen m.seen n.replica.faults m.replica.faults (k.later.more, k.later.seen) k.counts)
+    (spends-none n.who n.seen m.seen n.replica.faults m.replica.faults (k.later.more, k.later.seen) k.counts)
 
 pub returns-in-Err-Because-clause-moves : goal.returns-in-Err-Because-clause-moves
 returns-in-Err-Because-clause-moves g c =

@@ -23,7 +23,7 @@ returns-in-Ok g c =
       cuts = record {
         others = [];
         moves = moves-sync p.may p.floor p.shelf c.requires.floor n m [] k e.outbox (ap (λ (r : ReplicaView). r.kept) e.replica)
-            (spends-none n.seen m.seen n.replica.faults m.replica.faults (k.later.more, k.later.seen) k.counts);
+            (spends-none n.who n.seen m.seen n.replica.faults m.replica.faults (k.later.more, k.later.seen) k.counts);
         replica = e.replica;
         outbox = e.outbox;
         cuts = (refl, e.trims);

@@ -2,8 +2,8 @@ use Rattle.std.proofs.Common.{◌≡◌, ◌+◌, ◌++◌, ◌<◌, ◌∷◌, 
 use Rattle.std.specs.Prelude.{slice_get}
 use Rattle.std.specs.List.{AllByRecursion}
 use Rattle.std.proofs.lemmas.List.{nil_from_length}
-use Rattle.log_acts.proofs.Pairs.{all-append, all-imply}
-use Rattle.engine_laws.specs.State.{IsStateOf}
+use Rattle.log_laws.proofs.Pairs.{all-append, all-imply}
+use Rattle.log_laws.specs.State.{IsStateOf}
 use Rattle.local_replica.specs.Shown.{shown, Spells}
 use Rattle.replica_api.specs.Fresh.{IsFreshReplica}
 use Rattle.node_opening.proofs.Lists.{taken_first, drop_first, goes_over, all_over, each_push, pairs_push, as_long}

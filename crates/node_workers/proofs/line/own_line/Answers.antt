@@ -1,23 +1,20 @@
-use Rattle.one_thread.specs.Seats.{node_of}
+use Rattle.turn_scopes.specs.Seats.{node_of}
 use Rattle.node_lines.specs.Workers.{Within}
 use Rattle.node_workers.proofs.Ok.{ok_then, ok_pair}
 use Rattle.node_workers.proofs.Working.{none-waits, worker_moves}
 use Rattle.node_workers.proofs.line.own_line.Goals as goal
-
-pub returns-clause-since : goal.returns-clause-since
-returns-clause-since g c = ok_then c.go-seat.result.answer c.go-seat.ensures.done (λ x h. h.since)
 
 pub returns-clause-high : goal.returns-clause-high
 returns-clause-high g c = ok_then c.go-seat.result.answer c.go-seat.ensures.done (λ x h. h.high)
 
 pub returns-clause-worker : goal.returns-clause-worker
 returns-clause-worker g c =
-    let p = g.K.Terms in
+    let p = g.A.Law.Rules in
     let r = g.S.Replica in
     let a = c.args.worker.seat in
-    let b = c.go-seat.result.seat in
-    let was = c.args.fabric.journal in
-    let now = c.go-seat.result.fabric.journal in
+    let b = c.go-seat.result.part in
+    let was = g.A.Access.seen c.args.access in
+    let now = g.A.Access.seen c.go-seat.result.access in
     ok_then c.go-seat.result.answer (ok_pair _ _ c.go-seat.result.answer c.go-seat.ensures.done c.go-seat.ensures.did)
     (λ x h.
     let came = g.Y.OwnLine.moves (Within p.may c.args.counts.now) p.floor p.shelf c.args.line (node_of a was) (node_of b now) x h.1 in

@@ -1,12 +1,12 @@
 use Rattle.std.proofs.Common.{◌≡◌, ◌⊎◌, refl, subst, inl, inr, [], ◌∷◌}
 use Rattle.delos_types.specs.declared.entry.Entry.{Entry}
-use Rattle.journal_changes.proofs.Changes.{adds_trans, adds_wider}
+use Rattle.journal_laws.proofs.Changes.{adds_trans, adds_wider}
 use Rattle.engine_api.specs.Packing.{packed}
-use Rattle.one_thread.specs.Seats.{node_of}
+use Rattle.turn_scopes.specs.Seats.{node_of}
 use Rattle.node_lines.specs.Reporting.{Tells}
 use Rattle.node_lines.specs.Workers.{Within, IsOfSessions}
+use Rattle.node_workers.proofs.Stepping.{left_both}
 use Rattle.node_workers.proofs.Ok.{in_ok, on_ok, ok_then}
-use Rattle.node_workers.proofs.Stepping.{done_both, left_both, unsealed_last}
 use Rattle.node_workers.proofs.told.tell_and_play.Goals as goal
 
 pub in_turn-requires-clause-seat : goal.in_turn-requires-clause-seat
@@ -23,30 +23,24 @@ returns-in-Some-clause-adds g c = on_ok _ c.in-Ok.is c.tell-seat.ensures.adds
 
 pub returns-in-Some-clause-did : goal.returns-in-Some-clause-did
 returns-in-Some-clause-did g c =
-    let p = g.K.Terms in
+    let p = g.A.Law.Rules in
     let told = in_ok _ c.in-Ok.is c.tell-seat.ensures.did in
-    inl (record { cause = c.in-Some.cause; is = refl; tells = subst (λ f. Tells (Within p.may c.args.counts.now) p.floor p.shelf (node_of c.args.seat c.args.fabric.journal) (node_of c.tell-seat.result.seat c.tell-seat.result.fabric.journal) c.args.item f) c.in-Some.is told })
-
-pub returns-clause-left : goal.returns-clause-left
-returns-clause-left g c = left_both (on_ok _ c.in-Ok.is c.tell-seat.ensures.done) c.in_turn.ensures.left
-
-pub returns-clause-unsealed : goal.returns-clause-unsealed
-returns-clause-unsealed g c = unsealed_last c.tell-seat.ensures.unsealed c.in_turn.ensures.right
-
-pub returns-clause-done : goal.returns-clause-done
-returns-clause-done g c = ok_then c.in_turn.result.answer c.in_turn.ensures.done (λ x h. done_both (on_ok _ c.in-Ok.is c.tell-seat.ensures.done) h)
+    inl (record { cause = c.in-Some.cause; is = refl; tells = subst (λ f. Tells (Within p.may c.args.counts.now) p.floor p.shelf (node_of c.args.seat (g.A.Access.seen c.args.access)) (node_of c.tell-seat.result.part (g.A.Access.seen c.tell-seat.result.access)) c.args.item f) c.in-Some.is told })
 
 pub returns-clause-adds : goal.returns-clause-adds
 returns-clause-adds g c =
     let P : Entry → Type 0 = λ e. IsOfSessions e ⊎ (e ≡ packed c.args.seat.node.replica.origin (c.args.item ∷ [])) in
-    let mid = c.tell-seat.result.fabric.journal in
-    let now = c.in_turn.result.fabric.journal in
-    ok_then c.in_turn.result.answer c.in_turn.ensures.adds (λ x h. adds_trans P c.args.fabric.journal mid now (on_ok _ c.in-Ok.is c.tell-seat.ensures.adds) (adds_wider IsOfSessions P mid now (λ e k. inl k) h))
+    let mid = g.A.Access.seen c.tell-seat.result.access in
+    let now = g.A.Access.seen c.in_turn.result.access in
+    ok_then c.in_turn.result.answer c.in_turn.ensures.adds (λ x h. adds_trans P (g.A.Access.seen c.args.access) mid now (on_ok _ c.in-Ok.is c.tell-seat.ensures.adds) (adds_wider IsOfSessions P mid now (λ e k. inl k) h))
 
 pub returns-clause-did : goal.returns-clause-did
 returns-clause-did g c =
-    let p = g.K.Terms in
-    let mid = node_of c.tell-seat.result.seat c.tell-seat.result.fabric.journal in
+    let p = g.A.Law.Rules in
+    let mid = node_of c.tell-seat.result.part (g.A.Access.seen c.tell-seat.result.access) in
     let told = in_ok _ c.in-Ok.is c.tell-seat.ensures.did in
     ok_then c.in_turn.result.answer c.in_turn.ensures.did
-    (λ x h. inr (record { told = mid; tells = subst (λ f. Tells (Within p.may c.args.counts.now) p.floor p.shelf (node_of c.args.seat c.args.fabric.journal) mid c.args.item f) c.in_default.is told; plays = h.0; reached = h.1 }))
+    (λ x h. inr (record { told = mid; tells = subst (λ f. Tells (Within p.may c.args.counts.now) p.floor p.shelf (node_of c.args.seat (g.A.Access.seen c.args.access)) mid c.args.item f) c.in_default.is told; plays = h.0; reached = h.1 }))
+
+pub returns-clause-left : goal.returns-clause-left
+returns-clause-left g c = left_both c.tell-seat.ensures.left c.in_turn.ensures.left

@@ -1,5 +1,4 @@
 use Rattle.std.proofs.Common.{arith}
-use Rattle.legal_journal.proofs.Sealing.{unsealed_by}
 use Rattle.node_workers.proofs.Ok.{ok_then, ok_pair}
 use Rattle.node_workers.proofs.Working.{worker_ends}
 use Rattle.node_workers.proofs.turns.end_phase.Goals as goal
@@ -9,17 +8,11 @@ in_turn-seat-requires-clause-can g c = (c.requires.worker.packs, c.requires.work
 
 pub returns-clause-worker : goal.returns-clause-worker
 returns-clause-worker g c =
-    let p = g.K.Terms in
+    let p = g.A.Law.Rules in
     let r = g.S.Replica in
     let back = c.in_turn-seat.result in
     ok_then back.answer (ok_pair _ _ back.answer c.in_turn-seat.ensures.done c.in_turn-seat.ensures.did)
-    (λ failed h. worker_ends p.may p.floor p.shelf c.requires.run r.state r.spells c.args.worker.seat.who c.args.counts.now c.args.fabric.journal back.fabric.journal c.args.worker.seat back.seat c.args.worker.desks.items c.in_turn-seat.new.on.items failed c.requires.worker h.0.ok h.1)
-
-pub returns-clause-since : goal.returns-clause-since
-returns-clause-since g c = ok_then c.in_turn-seat.result.answer c.in_turn-seat.ensures.done (λ x h. h.since)
+    (λ failed h. worker_ends p.may p.floor p.shelf c.requires.run r.state r.spells c.args.worker.seat.who c.args.counts.now (g.A.Access.seen c.args.access) (g.A.Access.seen back.access) c.args.worker.seat back.part c.args.worker.desks.items c.in_turn-seat.new.on.items failed c.requires.worker h.0.ok h.1)
 
 pub returns-clause-high : goal.returns-clause-high
 returns-clause-high g c = ok_then c.in_turn-seat.result.answer c.in_turn-seat.ensures.done (λ x h. h.high)
-
-pub returns-clause-unsealed : goal.returns-clause-unsealed
-returns-clause-unsealed g c = unsealed_by c.args.fabric.journal c.in_turn-seat.result.fabric.journal c.in_turn-seat.ensures.right

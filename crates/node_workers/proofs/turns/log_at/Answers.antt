@@ -1,15 +1,14 @@
 use Rattle.std.proofs.Common.{◌≡◌, sym, ap, ◌∙◌, subst, ⊎_elim, ◌+◌, ◌^◌, ◌<◌, ◌≤◌, [], ◌∷◌, ◌++◌, Some, None, arith}
 use Rattle.std.specs.Prelude.{All}
 use Rattle.std.proofs.lemmas.List.Elements.{All-push}
-use Rattle.legal_journal.proofs.Sealing.{unsealed_by}
-use Rattle.journal_changes.proofs.Changes.{adds_trans}
+use Rattle.journal_laws.proofs.Changes.{adds_trans}
 use Rattle.engine_api.specs.Items.{content_of}
 use Rattle.engine_api.specs.Packing.{packed, session_item}
 use Rattle.engine_api.proofs.Packed.{content_of-session, proposable-session}
 use Rattle.base_engine.specs.Settling.{cause_in}
-use Rattle.node_sessions.specs.declared.desk.Desk.{Desk}
-use Rattle.node_sessions.specs.UnderWay.{rank_under}
-use Rattle.one_thread.specs.Seats.{node_of}
+use Rattle.node_lines.specs.declared.desk.Desk.{Desk}
+use Rattle.node_lines.specs.UnderWay.{rank_under}
+use Rattle.turn_scopes.specs.Seats.{node_of}
 use Rattle.node_lines.specs.Moving.{HandsIn}
 use Rattle.node_lines.specs.Desks.{DeskOk}
 use Rattle.node_lines.specs.Lines.{Readies}
@@ -19,7 +18,7 @@ use Rattle.node_lines.specs.Workers.{Within, Sends, IsOfSession, IsOfSessions, L
 use Rattle.node_workers.proofs.Joining.{sends-next, session-command, within-one}
 use Rattle.node_workers.proofs.Logging.{OneMore, counts-rise, kept_logs, handed_logs}
 use Rattle.node_workers.proofs.Ok.{in_ok, on_ok, ok_then}
-use Rattle.node_workers.proofs.Stepping.{done_both, left_both, unsealed_two, seat_counted}
+use Rattle.node_workers.proofs.Stepping.{seat_counted, left_both}
 use Rattle.node_workers.proofs.Working.{none-waits}
 use Rattle.node_workers.proofs.turns.log_at.Goals as goal
 
@@ -28,13 +27,7 @@ in_turn-seat-requires-clause-can g c =
     let d = c.args.desk.now in
     let ok = c.requires.desk in
     let sent = c.requires.sent ∙ ap (sent_of c.args.counts.now) (sym ok.session) in
-    (c.requires.kept, subst (λ k. DeskOk (node_of c.args.seat c.args.fabric.journal) k d) (sym ok.session) ok, λ who e k allowed has. omega (arith, allowed.0.1 d.session k has, sent), omega (arith, c.requires.few))
-
-pub returns-in-Err-clause-unsealed : goal.returns-in-Err-clause-unsealed
-returns-in-Err-clause-unsealed g c = unsealed_by c.args.fabric.journal c.in_turn-seat.result.fabric.journal c.in_turn-seat.ensures.right
-
-pub returns-then-not-is_ready-clause-unsealed : goal.returns-then-not-is_ready-clause-unsealed
-returns-then-not-is_ready-clause-unsealed g c = unsealed_by c.args.fabric.journal c.in_turn-seat.result.fabric.journal c.in_turn-seat.ensures.right
+    (c.requires.kept, subst (λ k. DeskOk (node_of c.args.seat (g.A.Access.seen c.args.access)) k d) (sym ok.session) ok, λ who e k allowed has. omega (arith, allowed.0.1 d.session k has, sent), omega (arith, c.requires.few))
 
 pub returns-then-not-is_ready-clause-done : goal.returns-then-not-is_ready-clause-done
 returns-then-not-is_ready-clause-done g c = on_ok _ c.in-Ok.is c.in_turn-seat.ensures.done
@@ -47,9 +40,9 @@ returns-then-not-is_ready-clause-waits g c = subst (All IsOfSession) (sym (in_ok
 
 pub returns-then-not-is_ready-clause-logs : goal.returns-then-not-is_ready-clause-logs
 returns-then-not-is_ready-clause-logs g c =
-    let p = g.K.Terms in
-    let old = node_of c.args.seat c.args.fabric.journal in
-    let mid = node_of c.in_turn-seat.result.seat c.in_turn-seat.result.fabric.journal in
+    let p = g.A.Law.Rules in
+    let old = node_of c.args.seat (g.A.Access.seen c.args.access) in
+    let mid = node_of c.in_turn-seat.result.part (g.A.Access.seen c.in_turn-seat.result.access) in
     let d = c.in_turn-seat.new.on in
     let s = c.args.session in
     let counts = c.args.counts.now in
@@ -59,22 +52,22 @@ returns-then-not-is_ready-clause-logs g c =
 
 pub in_turn-requires-clause-seat : goal.in_turn-requires-clause-seat
 in_turn-requires-clause-seat g c =
-    let p = g.K.Terms in
+    let p = g.A.Law.Rules in
     let r = g.S.Replica in
     let counts = c.args.counts.now in
     let counts' = c.count.new.counts in
     let one : OneMore counts counts' c.args.session = record { own = c.count.ensures.own; others = c.count.ensures.others } in
-    seat_counted p.may p.floor p.shelf r.state r.spells counts counts' c.in_turn-seat.result.fabric.journal c.in_turn-seat.result.seat (counts-rise counts counts' c.args.session one) (on_ok _ c.in-Ok.is c.in_turn-seat.ensures.done).ok
+    seat_counted p.may p.floor p.shelf r.state r.spells counts counts' (g.A.Access.seen c.in_turn-seat.result.access) c.in_turn-seat.result.part (counts-rise counts counts' c.args.session one) (on_ok _ c.in-Ok.is c.in_turn-seat.ensures.done).ok
 
 pub in_turn-requires-clause-high : goal.in_turn-requires-clause-high
 in_turn-requires-clause-high g c = (on_ok _ c.in-Ok.is c.in_turn-seat.ensures.done).high
 
 pub in_turn-requires-clause-can : goal.in_turn-requires-clause-can
 in_turn-requires-clause-can g c =
-    let p = g.K.Terms in
+    let p = g.A.Law.Rules in
     let was = c.args.desk.now in
-    let seat = c.in_turn-seat.result.seat in
-    let journal = c.in_turn-seat.result.fabric.journal in
+    let seat = c.in_turn-seat.result.part in
+    let journal = g.A.Access.seen c.in_turn-seat.result.access in
     let mid = node_of seat journal in
     let d = c.in_turn-seat.new.on in
     let cmd = c.args.command.now in
@@ -119,31 +112,22 @@ in_turn-requires-clause-can g c =
           fine (session-command d.session n cmd stands.known some small c.requires.spelled) own);
     }
 
-pub returns-clause-left : goal.returns-clause-left
-returns-clause-left g c = left_both (on_ok _ c.in-Ok.is c.in_turn-seat.ensures.done) c.in_turn.ensures.left
-
-pub returns-clause-unsealed : goal.returns-clause-unsealed
-returns-clause-unsealed g c = unsealed_two c.in_turn-seat.ensures.right c.in_turn.ensures.right
-
-pub returns-clause-done : goal.returns-clause-done
-returns-clause-done g c = ok_then c.in_turn.result.answer c.in_turn.ensures.done (λ x h. done_both (on_ok _ c.in-Ok.is c.in_turn-seat.ensures.done) h)
-
 pub returns-clause-adds : goal.returns-clause-adds
 returns-clause-adds g c =
-    ok_then c.in_turn.result.answer c.in_turn.ensures.adds (λ x h. adds_trans IsOfSessions c.args.fabric.journal c.in_turn-seat.result.fabric.journal c.in_turn.result.fabric.journal (on_ok _ c.in-Ok.is c.in_turn-seat.ensures.adds) h)
+    ok_then c.in_turn.result.answer c.in_turn.ensures.adds (λ x h. adds_trans IsOfSessions (g.A.Access.seen c.args.access) (g.A.Access.seen c.in_turn-seat.result.access) (g.A.Access.seen c.in_turn.result.access) (on_ok _ c.in-Ok.is c.in_turn-seat.ensures.adds) h)
 
 pub returns-clause-desk : goal.returns-clause-desk
 returns-clause-desk g c =
     let did = in_ok _ c.in-Ok.is c.in_turn-seat.ensures.did in
     let named = ap (λ (x : Desk). x.session) did.0.desk ∙ c.requires.desk.session in
-    ok_then c.in_turn.result.answer c.in_turn.ensures.did (λ x h. subst (λ k. DeskOk (node_of c.in_turn.result.seat c.in_turn.result.fabric.journal) k c.in_turn.new.on) named h.desk)
+    ok_then c.in_turn.result.answer c.in_turn.ensures.did (λ x h. subst (λ k. DeskOk (node_of c.in_turn.result.part (g.A.Access.seen c.in_turn.result.access)) k c.in_turn.new.on) named h.desk)
 
 pub returns-clause-waits : goal.returns-clause-waits
 returns-clause-waits g c =
     let d = c.in_turn-seat.new.on in
     let cmd = c.args.command.now in
-    let now = c.in_turn.result.seat in
-    let kept = c.in_turn-seat.result.seat.node.replica.kept in
+    let now = c.in_turn.result.part in
+    let kept = c.in_turn-seat.result.part.node.replica.kept in
     let did = in_ok _ c.in-Ok.is c.in_turn-seat.ensures.did in
     let asked : d.asked ≡ c.args.desk.now.asked = ap (λ (x : Desk). x.asked) did.0.desk in
     let item = session_item d.session (d.sent + 1) cmd in
@@ -156,10 +140,10 @@ returns-clause-waits g c =
 
 pub returns-clause-logs : goal.returns-clause-logs
 returns-clause-logs g c =
-    let p = g.K.Terms in
-    let old = node_of c.args.seat c.args.fabric.journal in
-    let mid = node_of c.in_turn-seat.result.seat c.in_turn-seat.result.fabric.journal in
-    let new = node_of c.in_turn.result.seat c.in_turn.result.fabric.journal in
+    let p = g.A.Law.Rules in
+    let old = node_of c.args.seat (g.A.Access.seen c.args.access) in
+    let mid = node_of c.in_turn-seat.result.part (g.A.Access.seen c.in_turn-seat.result.access) in
+    let new = node_of c.in_turn.result.part (g.A.Access.seen c.in_turn.result.access) in
     let was = c.args.desk.now in
     let d = c.in_turn-seat.new.on in
     let s = c.args.session in
@@ -170,3 +154,6 @@ returns-clause-logs g c =
     ok_then c.in_turn.result.answer c.in_turn.ensures.did
     (λ x h. handed_logs p.may p.floor p.shelf c.requires.run.low counts counts' old mid new s was d c.in_turn.new.on (record { own = c.count.ensures.own; others = c.count.ensures.others })
     (subst (λ b. Readies (Within p.may counts) p.floor p.shelf old mid was d b) c.if-not-is_ready.false r) (subst (λ q. HandsIn (Within p.may counts') p.floor p.shelf mid new q d.sent) named h.hands) c.requires.sent h.counts)
+
+pub returns-clause-left : goal.returns-clause-left
+returns-clause-left g c = left_both c.in_turn-seat.ensures.left c.in_turn.ensures.left

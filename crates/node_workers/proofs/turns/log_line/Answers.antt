@@ -28,7 +28,7 @@ log_at-seat-requires-clause-own g c =
 
 pub returns-clause-worker : goal.returns-clause-worker
 returns-clause-worker g c =
-    let p = g.K.Terms in
+    let p = g.A.Law.Rules in
     let r = g.S.Replica in
     let xs = c.args.worker.desks.items in
     let d = c.index_mut.result.now in
@@ -39,8 +39,8 @@ returns-clause-worker g c =
     let back = c.log_at-seat.result in
     let at = desk_there xs c.from-i.result c.number.result s d c.requires.worker.size c.number.ensures.range c.from-i.ensures c.number.ensures.value c.index_mut.ensures.value in
     ok_then back.answer (ok_pair _ _ back.answer (ok_pair _ _ back.answer c.log_at-seat.ensures.done c.log_at-seat.ensures.waits) (ok_pair _ _ back.answer c.log_at-seat.ensures.desk c.log_at-seat.ensures.logs))
-    (λ x h. subst (λ k. WorkerOk p.may p.floor p.shelf r.state r.spells a.who counts' back.fabric.journal back.seat (slice_set xs k new)) (sym (c.from-i.ensures ∙ c.number.ensures.value))
-    (worker_logs p.may p.floor p.shelf c.requires.run.low r.state r.spells a.who c.args.counts.now counts' c.args.fabric.journal back.fabric.journal a back.seat xs s d new c.requires.worker h.0.0.ok h.0.1 at h.1.0 h.1.1))
+    (λ x h. subst (λ k. WorkerOk p.may p.floor p.shelf r.state r.spells a.who counts' (g.A.Access.seen back.access) back.part (slice_set xs k new)) (sym (c.from-i.ensures ∙ c.number.ensures.value))
+    (worker_logs p.may p.floor p.shelf c.requires.run.low r.state r.spells a.who c.args.counts.now counts' (g.A.Access.seen c.args.access) (g.A.Access.seen back.access) a back.part xs s d new c.requires.worker h.0.0.ok h.0.1 at h.1.0 h.1.1))
 
 pub returns-clause-logs : goal.returns-clause-logs
 returns-clause-logs g c =
@@ -50,9 +50,6 @@ returns-clause-logs g c =
     let e = c.from-i.ensures ∙ c.number.ensures.value in
     let at = desk_there xs c.from-i.result c.number.result c.args.session d c.requires.worker.size c.number.ensures.range c.from-i.ensures c.number.ensures.value c.index_mut.ensures.value in
     ok_then c.log_at-seat.result.answer c.log_at-seat.ensures.logs (λ x h. record { before = d; was_at = at; after = new; is_at = ap (λ k. slice_set xs k new) e; logs = h })
-
-pub returns-clause-since : goal.returns-clause-since
-returns-clause-since g c = ok_then c.log_at-seat.result.answer c.log_at-seat.ensures.done (λ x h. h.since)
 
 pub returns-clause-high : goal.returns-clause-high
 returns-clause-high g c = ok_then c.log_at-seat.result.answer c.log_at-seat.ensures.done (λ x h. h.high)

@@ -2,4 +2,6 @@ use Rattle.node_lines.specs.Workers.{Sends, UpTo}
 use Rattle.node_workers.proofs.within.in_turn.Given as goal
 
 abbrev pub ghosts-within : goal.ghosts-within
-ghosts-within g a = record { sends = Sends g.K.Terms.may a._counts.now a.fabric.journal; seals = g.X.NodeStep.seals; floor = UpTo g.K.Terms.floor a.seat.node.replica.cursor; since = a.fabric.journal }
+ghosts-within g a =
+    let seen = g.A.Access.seen a.access in
+    record { who = g.A.Access.who a.access; sends = Sends g.A.Law.Rules.may a._counts.now seen; seals = g.X.NodeStep.seals; floor = UpTo g.A.Law.Rules.floor a.seat.node.replica.cursor; since = seen }

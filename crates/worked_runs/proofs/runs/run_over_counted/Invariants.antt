@@ -1,5 +1,5 @@
 use Rattle.std.proofs.Common.{◌≡◌, length, map}
-use Rattle.engine_laws.specs.Rises.{lowest}
+use Rattle.log_laws.specs.Rises.{lowest}
 use Rattle.script_runner.specs.Fresh.{AreFreshNodes}
 use Rattle.worked_runs.proofs.runs.run_over_counted.OwnLists.{own-1}
 use Rattle.worked_runs.proofs.runs.run_over_counted.Given as goal

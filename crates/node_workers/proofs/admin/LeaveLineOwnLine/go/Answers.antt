@@ -1,15 +1,15 @@
 use Rattle.std.proofs.Common.{refl, sym, ap, ◌∙◌, [], ◌∷◌, Some, length}
 use Rattle.engine_api.specs.declared.content.Content.TheVariants as content
 use Rattle.engine_api.specs.Packing.{packed, leave_item}
-use Rattle.one_thread.specs.Seats.{node_of}
+use Rattle.turn_scopes.specs.Seats.{node_of}
 use Rattle.node_lines.specs.Reporting.{IsPlain}
 use Rattle.node_lines.specs.Workers.{Within, LeaveAdds}
 use Rattle.node_lines.specs.Leaving.{Leaves}
 use Rattle.node_lines.specs.Steps.{IsDone}
 use Rattle.node_lines.proofs.Assembling.{leaves_unmeasured}
 use Rattle.node_workers.proofs.Joining.{says-one}
+use Rattle.node_workers.proofs.Stepping.{left_both}
 use Rattle.node_workers.proofs.Ok.{on_ok, in_ok_at, ok_comes}
-use Rattle.node_workers.proofs.Stepping.{done_both, left_both, unsealed_then}
 use Rattle.node_workers.proofs.Telling.{adds_saying, adds_nothing, may_say, leaves}
 use Rattle.node_workers.proofs.admin.LeaveLineOwnLine.go.Goals as goal
 
@@ -18,17 +18,14 @@ returns-in-Failed-clause-done g c = on_ok _ c.in-Ok.is c.in_turn-seat.ensures.do
 
 pub returns-in-Failed-clause-adds : goal.returns-in-Failed-clause-adds
 returns-in-Failed-clause-adds g c =
-    adds_nothing (content.Leave c.args.seat.who) c.args.fabric.journal c.in_turn-seat.result.fabric.journal (on_ok _ c.in-Ok.is c.in_turn-seat.ensures.adds)
+    adds_nothing (content.Leave c.args.seat.who) (g.A.Access.seen c.args.access) (g.A.Access.seen c.in_turn-seat.result.access) (on_ok _ c.in-Ok.is c.in_turn-seat.ensures.adds)
 
 pub returns-in-Failed-clause-did : goal.returns-in-Failed-clause-did
 returns-in-Failed-clause-did g c =
-    let p = g.K.Terms in
-    leaves_unmeasured (Within p.may c.args.counts.now) p.floor p.shelf c.requires.run.low length (node_of c.args.seat c.args.fabric.journal)
-    (node_of c.in_turn-seat.result.seat c.in_turn-seat.result.fabric.journal) c.in-Failed.cause
+    let p = g.A.Law.Rules in
+    leaves_unmeasured (Within p.may c.args.counts.now) p.floor p.shelf c.requires.run.low length (node_of c.args.seat (g.A.Access.seen c.args.access))
+    (node_of c.in_turn-seat.result.part (g.A.Access.seen c.in_turn-seat.result.access)) c.in-Failed.cause
     (in_ok_at _ c.in-Ok.is c.in-Failed.is c.in_turn-seat.ensures.did)
-
-pub returns-in-Err-leave_item-clause-left : goal.returns-in-Err-leave_item-clause-left
-returns-in-Err-leave_item-clause-left g c = c.in_turn-seat.ensures.left
 
 pub tell_and_play-seat-requires-clause-seat : goal.tell_and_play-seat-requires-clause-seat
 tell_and_play-seat-requires-clause-seat g c = (on_ok _ c.in-Ok.is c.in_turn-seat.ensures.done).ok
@@ -39,52 +36,49 @@ tell_and_play-seat-requires-clause-high g c = (on_ok _ c.in-Ok.is c.in_turn-seat
 pub tell_and_play-seat-requires-clause-can : goal.tell_and_play-seat-requires-clause-can
 tell_and_play-seat-requires-clause-can g c =
     let a = c.args.seat in
-    let b = c.in_turn-seat.result.seat in
+    let b = c.in_turn-seat.result.part in
     let m = in_ok_at _ c.in-Ok.is c.in-At.is c.in_turn-seat.ensures.did in
     let k = m.moves.goes.keeps in
     let made = c.in-Ok-leave_item.ensures in
-    let plain : IsPlain c.in-Ok-leave_item.item = record { content = content.Leave c.args.self.number; says = made.says; none = refl } in
+    let plain : IsPlain c.in-Ok-leave_item.value = record { content = content.Leave c.args.self.number; says = made.says; none = refl } in
     record {
       proposable = made.proposable;
       plain = plain;
       none = m.none;
       unsettled = m.unsettled;
       kept = m.kept;
-      own = may_say g.K.Terms.may c.args.counts.now a.who b.who b.node.replica.origin c.in-Ok-leave_item.item (leave_item a.who) k.who
+      own = may_say g.A.Law.Rules.may c.args.counts.now a.who b.who b.node.replica.origin c.in-Ok-leave_item.value (leave_item a.who) k.who
           (k.origin ∙ c.requires.origin) (made.item ∙ ap (leave_item) (sym c.requires.can.0)) made.proposable plain c.requires.can.1;
     }
 
-pub returns-clause-left : goal.returns-clause-left
-returns-clause-left g c = left_both (on_ok _ c.in-Ok.is c.in_turn-seat.ensures.done) c.tell_and_play-seat.ensures.left
-
-pub returns-clause-seals : goal.returns-clause-seals
-returns-clause-seals g c = unsealed_then c.in_turn-seat.ensures.right c.tell_and_play-seat.ensures.unsealed
-
-pub returns-clause-done : goal.returns-clause-done
-returns-clause-done g c =
-    let p = g.K.Terms in
-    let r = g.S.Replica in
-    let back = c.tell_and_play-seat.result in
-    ok_comes (λ _. IsDone p.may p.floor p.shelf r.state r.spells c.args.counts.now c.args.fabric.journal c.args.seat back.fabric.journal back.seat) back.answer c.came_to.ensures c.tell_and_play-seat.ensures.done
-    (λ x h. done_both (on_ok _ c.in-Ok.is c.in_turn-seat.ensures.done) h)
-
 pub returns-clause-did : goal.returns-clause-did
 returns-clause-did g c =
-    let p = g.K.Terms in
+    let p = g.A.Law.Rules in
     let made = c.in-Ok-leave_item.ensures in
-    ok_comes (Leaves (Within p.may c.args.counts.now) p.floor p.shelf (node_of c.args.seat c.args.fabric.journal) (node_of c.tell_and_play-seat.result.seat c.tell_and_play-seat.result.fabric.journal)) c.tell_and_play-seat.result.answer c.came_to.ensures c.tell_and_play-seat.ensures.did
-    (λ failed t. leaves (Within p.may c.args.counts.now) p.floor p.shelf c.requires.run.low (node_of c.args.seat c.args.fabric.journal)
-    (node_of c.in_turn-seat.result.seat c.in_turn-seat.result.fabric.journal)
-    (node_of c.tell_and_play-seat.result.seat c.tell_and_play-seat.result.fabric.journal) c.args.self.number c.in-At.field-0 c.in-Ok-leave_item.item failed
+    ok_comes (Leaves (Within p.may c.args.counts.now) p.floor p.shelf (node_of c.args.seat (g.A.Access.seen c.args.access)) (node_of c.tell_and_play-seat.result.part (g.A.Access.seen c.tell_and_play-seat.result.access))) c.tell_and_play-seat.result.answer c.came_to.ensures c.tell_and_play-seat.ensures.did
+    (λ failed t. leaves (Within p.may c.args.counts.now) p.floor p.shelf c.requires.run.low (node_of c.args.seat (g.A.Access.seen c.args.access))
+    (node_of c.in_turn-seat.result.part (g.A.Access.seen c.in_turn-seat.result.access))
+    (node_of c.tell_and_play-seat.result.part (g.A.Access.seen c.tell_and_play-seat.result.access)) c.args.self.number c.in-At.field-0 c.in-Ok-leave_item.value failed
     (in_ok_at _ c.in-Ok.is c.in-At.is c.in_turn-seat.ensures.did) made.item (sym c.requires.can.0 ∙ sym c.requires.origin) made.proposable made.says t)
 
 pub returns-clause-adds : goal.returns-clause-adds
 returns-clause-adds g c =
     let a = c.args.seat in
-    let b = c.in_turn-seat.result.seat in
-    let item = c.in-Ok-leave_item.item in
+    let b = c.in_turn-seat.result.part in
+    let item = c.in-Ok-leave_item.value in
     let made = c.in-Ok-leave_item.ensures in
-    ok_comes (λ _. LeaveAdds a.who c.args.fabric.journal c.tell_and_play-seat.result.fabric.journal) c.tell_and_play-seat.result.answer c.came_to.ensures c.tell_and_play-seat.ensures.adds
-    (λ failed h. adds_saying c.args.fabric.journal c.in_turn-seat.result.fabric.journal c.tell_and_play-seat.result.fabric.journal
+    ok_comes (λ _. LeaveAdds a.who (g.A.Access.seen c.args.access) (g.A.Access.seen c.tell_and_play-seat.result.access)) c.tell_and_play-seat.result.answer c.came_to.ensures c.tell_and_play-seat.ensures.adds
+    (λ failed h. adds_saying (g.A.Access.seen c.args.access) (g.A.Access.seen c.in_turn-seat.result.access) (g.A.Access.seen c.tell_and_play-seat.result.access)
     (packed b.node.replica.origin (item ∷ [])) (content.Leave a.who) (on_ok _ c.in-Ok.is c.in_turn-seat.ensures.adds) h
     (says-one b.node.replica.origin item (content.Leave a.who) made.proposable (made.says ∙ ap (λ n. Some (content.Leave n)) (sym c.requires.can.0))))
+
+pub returns-clause-done : goal.returns-clause-done
+returns-clause-done g c =
+    let p = g.A.Law.Rules in
+    let r = g.S.Replica in
+    let back = c.tell_and_play-seat.result in
+    ok_comes (λ _. IsDone p.may p.floor p.shelf r.state r.spells c.args.counts.now (g.A.Access.seen back.access) back.part) back.answer c.came_to.ensures c.tell_and_play-seat.ensures.done
+    (λ x h. h)
+
+pub returns-clause-left : goal.returns-clause-left
+returns-clause-left g c = left_both c.in_turn-seat.ensures.left c.tell_and_play-seat.ensures.left

@@ -2,15 +2,15 @@ use Rattle.std.proofs.Common.{refl, sym, ap, ◌∙◌, ◌<◌, ◌^◌, [], �
 use Rattle.engine_api.specs.declared.content.Content.TheVariants as content
 use Rattle.engine_api.specs.Members.{clean_position}
 use Rattle.engine_api.specs.Packing.{packed, alive_item}
-use Rattle.one_thread.specs.Seats.{node_of}
+use Rattle.turn_scopes.specs.Seats.{node_of}
 use Rattle.node_lines.specs.declared.lines.Looked.TheVariants as looked
 use Rattle.node_lines.specs.Reporting.{IsPlain, Reports}
 use Rattle.node_lines.specs.Workers.{Within, ReportAdds}
 use Rattle.node_lines.specs.Steps.{IsDone}
 use Rattle.node_lines.proofs.Assembling.{reports_unmeasured}
 use Rattle.node_workers.proofs.Joining.{says-one}
+use Rattle.node_workers.proofs.Stepping.{left_both}
 use Rattle.node_workers.proofs.Ok.{on_ok, in_ok_at, ok_pair, ok_comes}
-use Rattle.node_workers.proofs.Stepping.{done_both, left_both, unsealed_then}
 use Rattle.node_workers.proofs.Telling.{may_say, reports, report_adds, report_adds_none}
 use Rattle.node_workers.proofs.admin.ReportLineOwnLine.go.Goals as goal
 
@@ -19,18 +19,15 @@ returns-in-Failed-clause-done g c = on_ok _ c.in-Ok.is c.in_turn-seat.ensures.do
 
 pub returns-in-Failed-clause-adds : goal.returns-in-Failed-clause-adds
 returns-in-Failed-clause-adds g c =
-    report_adds_none c.args.seat.who c.in_turn-seat.result.seat.node.replica.cursor c.args.fabric.journal c.in_turn-seat.result.fabric.journal
+    report_adds_none c.args.seat.who c.in_turn-seat.result.part.node.replica.cursor (g.A.Access.seen c.args.access) (g.A.Access.seen c.in_turn-seat.result.access)
     (looked.Failed c.in-Failed.cause) (λ n h. absurd (cc)) (on_ok _ c.in-Ok.is c.in_turn-seat.ensures.adds)
 
 pub returns-in-Failed-clause-did : goal.returns-in-Failed-clause-did
 returns-in-Failed-clause-did g c =
-    let p = g.K.Terms in
-    reports_unmeasured (Within p.may c.args.counts.now) p.floor p.shelf c.requires.run.low clean_position (node_of c.args.seat c.args.fabric.journal)
-    (node_of c.in_turn-seat.result.seat c.in_turn-seat.result.fabric.journal) c.in-Failed.cause
+    let p = g.A.Law.Rules in
+    reports_unmeasured (Within p.may c.args.counts.now) p.floor p.shelf c.requires.run.low clean_position (node_of c.args.seat (g.A.Access.seen c.args.access))
+    (node_of c.in_turn-seat.result.part (g.A.Access.seen c.in_turn-seat.result.access)) c.in-Failed.cause
     (in_ok_at _ c.in-Ok.is c.in-Failed.is c.in_turn-seat.ensures.did)
-
-pub returns-in-Err-alive_item-clause-left : goal.returns-in-Err-alive_item-clause-left
-returns-in-Err-alive_item-clause-left g c = c.in_turn-seat.ensures.left
 
 pub tell-seat-requires-clause-seat : goal.tell-seat-requires-clause-seat
 tell-seat-requires-clause-seat g c = (on_ok _ c.in-Ok.is c.in_turn-seat.ensures.done).ok
@@ -41,57 +38,54 @@ tell-seat-requires-clause-high g c = (on_ok _ c.in-Ok.is c.in_turn-seat.ensures.
 pub tell-seat-requires-clause-can : goal.tell-seat-requires-clause-can
 tell-seat-requires-clause-can g c =
     let a = c.args.seat in
-    let b = c.in_turn-seat.result.seat in
+    let b = c.in_turn-seat.result.part in
     let m = in_ok_at _ c.in-Ok.is c.in-At.is c.in_turn-seat.ensures.did in
     let k = m.moves.goes.keeps in
     let made = c.in-Ok-alive_item.ensures in
-    let plain : IsPlain c.in-Ok-alive_item.item = record { content = content.Alive c.args.self.number c.in-At.position; says = made.says; none = refl } in
+    let plain : IsPlain c.in-Ok-alive_item.value = record { content = content.Alive c.args.self.number c.in-At.position; says = made.says; none = refl } in
     record {
       proposable = made.proposable;
       plain = plain;
       none = m.none;
       unsettled = m.unsettled;
       kept = m.kept;
-      own = may_say g.K.Terms.may c.args.counts.now a.who b.who b.node.replica.origin c.in-Ok-alive_item.item (alive_item a.who c.in-At.position) k.who
+      own = may_say g.A.Law.Rules.may c.args.counts.now a.who b.who b.node.replica.origin c.in-Ok-alive_item.value (alive_item a.who c.in-At.position) k.who
           (k.origin ∙ c.requires.origin) (made.item ∙ ap (λ n. alive_item n c.in-At.position) (sym c.requires.can.0)) made.proposable plain
           (c.requires.can.1 c.in-At.position (let small : c.in-At.position < 2 ^ 64 = omega arith in small));
     }
 
-pub returns-clause-left : goal.returns-clause-left
-returns-clause-left g c = left_both (on_ok _ c.in-Ok.is c.in_turn-seat.ensures.done) c.tell-seat.ensures.left
-
-pub returns-clause-seals : goal.returns-clause-seals
-returns-clause-seals g c = unsealed_then c.in_turn-seat.ensures.right c.tell-seat.ensures.unsealed
-
-pub returns-clause-done : goal.returns-clause-done
-returns-clause-done g c =
-    let p = g.K.Terms in
-    let r = g.S.Replica in
-    let back = c.tell-seat.result in
-    ok_comes (λ _. IsDone p.may p.floor p.shelf r.state r.spells c.args.counts.now c.args.fabric.journal c.args.seat back.fabric.journal back.seat) back.answer c.came_to.ensures c.tell-seat.ensures.done
-    (λ x h. done_both (on_ok _ c.in-Ok.is c.in_turn-seat.ensures.done) h)
-
 pub returns-clause-did : goal.returns-clause-did
 returns-clause-did g c =
-    let p = g.K.Terms in
+    let p = g.A.Law.Rules in
     let made = c.in-Ok-alive_item.ensures in
-    ok_comes (Reports (Within p.may c.args.counts.now) p.floor p.shelf (node_of c.args.seat c.args.fabric.journal) (node_of c.tell-seat.result.seat c.tell-seat.result.fabric.journal)) c.tell-seat.result.answer c.came_to.ensures c.tell-seat.ensures.did
-    (λ failed t. reports (Within p.may c.args.counts.now) p.floor p.shelf c.requires.run.low (node_of c.args.seat c.args.fabric.journal)
-    (node_of c.in_turn-seat.result.seat c.in_turn-seat.result.fabric.journal) (node_of c.tell-seat.result.seat c.tell-seat.result.fabric.journal)
-    c.args.self.number c.in-At.position c.in-Ok-alive_item.item failed (in_ok_at _ c.in-Ok.is c.in-At.is c.in_turn-seat.ensures.did) made.item
+    ok_comes (Reports (Within p.may c.args.counts.now) p.floor p.shelf (node_of c.args.seat (g.A.Access.seen c.args.access)) (node_of c.tell-seat.result.part (g.A.Access.seen c.tell-seat.result.access))) c.tell-seat.result.answer c.came_to.ensures c.tell-seat.ensures.did
+    (λ failed t. reports (Within p.may c.args.counts.now) p.floor p.shelf c.requires.run.low (node_of c.args.seat (g.A.Access.seen c.args.access))
+    (node_of c.in_turn-seat.result.part (g.A.Access.seen c.in_turn-seat.result.access)) (node_of c.tell-seat.result.part (g.A.Access.seen c.tell-seat.result.access))
+    c.args.self.number c.in-At.position c.in-Ok-alive_item.value failed (in_ok_at _ c.in-Ok.is c.in-At.is c.in_turn-seat.ensures.did) made.item
     (sym c.requires.can.0 ∙ sym c.requires.origin) made.proposable made.says t)
 
 pub returns-clause-adds : goal.returns-clause-adds
 returns-clause-adds g c =
-    let p = g.K.Terms in
+    let p = g.A.Law.Rules in
     let a = c.args.seat in
-    let b = c.in_turn-seat.result.seat in
-    let item = c.in-Ok-alive_item.item in
+    let b = c.in_turn-seat.result.part in
+    let item = c.in-Ok-alive_item.value in
     let made = c.in-Ok-alive_item.ensures in
-    ok_comes (ReportAdds a.who c.tell-seat.result.seat.node.replica.cursor c.args.fabric.journal c.tell-seat.result.fabric.journal) c.tell-seat.result.answer c.came_to.ensures (ok_pair _ _ c.tell-seat.result.answer c.tell-seat.ensures.did c.tell-seat.ensures.adds)
-    (λ failed h. report_adds (Within p.may c.args.counts.now) p.floor p.shelf c.requires.run.low (node_of a c.args.fabric.journal)
-    (node_of b c.in_turn-seat.result.fabric.journal) (node_of c.tell-seat.result.seat c.tell-seat.result.fabric.journal) a.who c.in-At.position
+    ok_comes (ReportAdds a.who c.tell-seat.result.part.node.replica.cursor (g.A.Access.seen c.args.access) (g.A.Access.seen c.tell-seat.result.access)) c.tell-seat.result.answer c.came_to.ensures (ok_pair _ _ c.tell-seat.result.answer c.tell-seat.ensures.did c.tell-seat.ensures.adds)
+    (λ failed h. report_adds (Within p.may c.args.counts.now) p.floor p.shelf c.requires.run.low (node_of a (g.A.Access.seen c.args.access))
+    (node_of b (g.A.Access.seen c.in_turn-seat.result.access)) (node_of c.tell-seat.result.part (g.A.Access.seen c.tell-seat.result.access)) a.who c.in-At.position
     (packed b.node.replica.origin (item ∷ [])) failed (in_ok_at _ c.in-Ok.is c.in-At.is c.in_turn-seat.ensures.did) h.0.moves
     (on_ok _ c.in-Ok.is c.in_turn-seat.ensures.adds) h.1
     (says-one b.node.replica.origin item (content.Alive a.who c.in-At.position) made.proposable
     (made.says ∙ ap (λ n. Some (content.Alive n c.in-At.position)) (sym c.requires.can.0))))
+
+pub returns-clause-done : goal.returns-clause-done
+returns-clause-done g c =
+    let p = g.A.Law.Rules in
+    let r = g.S.Replica in
+    let back = c.tell-seat.result in
+    ok_comes (λ _. IsDone p.may p.floor p.shelf r.state r.spells c.args.counts.now (g.A.Access.seen back.access) back.part) back.answer c.came_to.ensures c.tell-seat.ensures.done
+    (λ x h. h)
+
+pub returns-clause-left : goal.returns-clause-left
+returns-clause-left g c = left_both c.in_turn-seat.ensures.left c.tell-seat.ensures.left

@@ -1,11 +1,11 @@
 use Rattle.std.proofs.Common.{◌⊎◌, refl, ◌∙◌, subst, inl, ◌<◌, ◌≤◌, ◌^◌, [], ◌∷◌, None, arith}
 use Rattle.delos_types.specs.declared.entry.Entry.{Entry}
-use Rattle.journal_changes.proofs.Changes.{adds_trans, adds_wider}
+use Rattle.journal_laws.proofs.Changes.{adds_trans, adds_wider}
 use Rattle.engine_api.specs.declared.content.Content.TheVariants as content
 use Rattle.engine_api.specs.Acted.{unpack_all}
 use Rattle.engine_api.specs.Members.{least_position}
 use Rattle.engine_api.specs.Packing.{packed, trim_item}
-use Rattle.one_thread.specs.Seats.{node_of}
+use Rattle.turn_scopes.specs.Seats.{node_of}
 use Rattle.node_lines.specs.Reporting.{IsPlain}
 use Rattle.node_lines.specs.Workers.{Within, Sends, IsOfSessions, SaysAlone}
 use Rattle.node_lines.specs.Steps.{TellsAndPlays}
@@ -13,8 +13,8 @@ use Rattle.node_lines.proofs.Reporting.{says_alone}
 use Rattle.node_lines.proofs.Assembling.{trims_unmeasured}
 use Rattle.node_lines.proofs.Widening.{legal_wide}
 use Rattle.node_workers.proofs.Joining.{says-one}
+use Rattle.node_workers.proofs.Stepping.{left_both}
 use Rattle.node_workers.proofs.Ok.{in_ok, on_ok, in_ok_at, ok_then, ok_pair}
-use Rattle.node_workers.proofs.Stepping.{done_both, left_both, unsealed_then, unsealed_last}
 use Rattle.node_workers.proofs.Telling.{adds_saying, may_say, tells_moves}
 use Rattle.node_workers.proofs.Trimming.{trim_adds_none, trim_adds_told, asks_clean_later, may_trim, trims, trims_not}
 use Rattle.node_workers.proofs.admin.TrimLineOwnLine.go.Goals as goal
@@ -23,18 +23,15 @@ pub returns-in-Failed-clause-done : goal.returns-in-Failed-clause-done
 returns-in-Failed-clause-done g c = on_ok _ c.in-Ok.is c.in_turn-seat.ensures.done
 
 pub returns-in-Failed-clause-adds : goal.returns-in-Failed-clause-adds
-returns-in-Failed-clause-adds g c = trim_adds_none c.args.fabric.journal c.in_turn-seat.result.fabric.journal (on_ok _ c.in-Ok.is c.in_turn-seat.ensures.adds)
+returns-in-Failed-clause-adds g c = trim_adds_none (g.A.Access.seen c.args.access) (g.A.Access.seen c.in_turn-seat.result.access) (on_ok _ c.in-Ok.is c.in_turn-seat.ensures.adds)
 
 pub returns-in-Failed-clause-did : goal.returns-in-Failed-clause-did
 returns-in-Failed-clause-did g c =
-    let p = g.K.Terms in
+    let p = g.A.Law.Rules in
     let a = c.args.seat in
-    trims_unmeasured (Within p.may c.args.counts.now) p.floor p.shelf c.requires.run.low (λ log. least_position a.node.nodes (unpack_all 0 log)) (node_of a c.args.fabric.journal)
-    (node_of c.in_turn-seat.result.seat c.in_turn-seat.result.fabric.journal) c.in-Failed.cause
+    trims_unmeasured (Within p.may c.args.counts.now) p.floor p.shelf c.requires.run.low (λ log. least_position a.node.nodes (unpack_all 0 log)) (node_of a (g.A.Access.seen c.args.access))
+    (node_of c.in_turn-seat.result.part (g.A.Access.seen c.in_turn-seat.result.access)) c.in-Failed.cause
     (in_ok_at _ c.in-Ok.is c.in-Failed.is c.in_turn-seat.ensures.did)
-
-pub returns-in-Err-trim_item-clause-left : goal.returns-in-Err-trim_item-clause-left
-returns-in-Err-trim_item-clause-left g c = c.in_turn-seat.ensures.left
 
 pub tell_and_play-seat-requires-clause-seat : goal.tell_and_play-seat-requires-clause-seat
 tell_and_play-seat-requires-clause-seat g c = (on_ok _ c.in-Ok.is c.in_turn-seat.ensures.done).ok
@@ -45,61 +42,45 @@ tell_and_play-seat-requires-clause-high g c = (on_ok _ c.in-Ok.is c.in_turn-seat
 pub tell_and_play-seat-requires-clause-can : goal.tell_and_play-seat-requires-clause-can
 tell_and_play-seat-requires-clause-can g c =
     let a = c.args.seat in
-    let b = c.in_turn-seat.result.seat in
+    let b = c.in_turn-seat.result.part in
     let m = in_ok_at _ c.in-Ok.is c.in-At.is c.in_turn-seat.ensures.did in
     let k = m.moves.goes.keeps in
     let made = c.in-Ok-trim_item.ensures in
-    let plain : IsPlain c.in-Ok-trim_item.item = record { content = content.Trim c.in-At.position; says = made.says; none = refl } in
+    let plain : IsPlain c.in-Ok-trim_item.value = record { content = content.Trim c.in-At.position; says = made.says; none = refl } in
     record {
       proposable = made.proposable;
       plain = plain;
       none = m.none;
       unsettled = m.unsettled;
       kept = m.kept;
-      own = may_say g.K.Terms.may c.args.counts.now a.who b.who b.node.replica.origin c.in-Ok-trim_item.item (trim_item c.in-At.position) k.who
+      own = may_say g.A.Law.Rules.may c.args.counts.now a.who b.who b.node.replica.origin c.in-Ok-trim_item.value (trim_item c.in-At.position) k.who
           (k.origin ∙ c.requires.origin) made.item made.proposable plain
           (c.requires.can.own c.in-At.position (let small : c.in-At.position < 2 ^ 64 = omega arith in small));
     }
 
-pub returns-in-Err-answer-clause-left : goal.returns-in-Err-answer-clause-left
-returns-in-Err-answer-clause-left g c = left_both (on_ok _ c.in-Ok.is c.in_turn-seat.ensures.done) c.tell_and_play-seat.ensures.left
-
-pub returns-in-Err-answer-clause-seals : goal.returns-in-Err-answer-clause-seals
-returns-in-Err-answer-clause-seals g c = unsealed_then c.in_turn-seat.ensures.right c.tell_and_play-seat.ensures.unsealed
-
-pub returns-in-Some-clause-left : goal.returns-in-Some-clause-left
-returns-in-Some-clause-left g c = left_both (on_ok _ c.in-Ok.is c.in_turn-seat.ensures.done) c.tell_and_play-seat.ensures.left
-
-pub returns-in-Some-clause-seals : goal.returns-in-Some-clause-seals
-returns-in-Some-clause-seals g c = unsealed_then c.in_turn-seat.ensures.right c.tell_and_play-seat.ensures.unsealed
-
-pub returns-in-Some-clause-done : goal.returns-in-Some-clause-done
-returns-in-Some-clause-done g c =
-    done_both (on_ok _ c.in-Ok.is c.in_turn-seat.ensures.done) (on_ok _ c.in-Ok-answer.is c.tell_and_play-seat.ensures.done)
-
 pub returns-in-Some-clause-did : goal.returns-in-Some-clause-did
 returns-in-Some-clause-did g c =
-    let p = g.K.Terms in
+    let p = g.A.Law.Rules in
     let may = Within p.may c.args.counts.now in
-    let mid = node_of c.in_turn-seat.result.seat c.in_turn-seat.result.fabric.journal in
-    let played = node_of c.tell_and_play-seat.result.seat c.tell_and_play-seat.result.fabric.journal in
-    let item = c.in-Ok-trim_item.item in
-    trims_not may p.floor p.shelf c.requires.run.low (node_of c.args.seat c.args.fabric.journal) mid played c.in-At.position item c.in-Some.cause
+    let mid = node_of c.in_turn-seat.result.part (g.A.Access.seen c.in_turn-seat.result.access) in
+    let played = node_of c.tell_and_play-seat.result.part (g.A.Access.seen c.tell_and_play-seat.result.access) in
+    let item = c.in-Ok-trim_item.value in
+    trims_not may p.floor p.shelf c.requires.run.low (node_of c.args.seat (g.A.Access.seen c.args.access)) mid played c.in-At.position item c.in-Some.cause
     (in_ok_at _ c.in-Ok.is c.in-At.is c.in_turn-seat.ensures.did)
     (subst (λ f. TellsAndPlays may p.floor p.shelf mid played item f) c.in-Some.is (in_ok _ c.in-Ok-answer.is c.tell_and_play-seat.ensures.did))
 
 pub returns-in-Some-clause-adds : goal.returns-in-Some-clause-adds
 returns-in-Some-clause-adds g c =
-    let p = g.K.Terms in
-    let was = c.args.fabric.journal in
-    let b = c.in_turn-seat.result.seat in
-    let mid = c.in_turn-seat.result.fabric.journal in
-    let later = c.tell_and_play-seat.result.fabric.journal in
-    let item = c.in-Ok-trim_item.item in
+    let p = g.A.Law.Rules in
+    let was = g.A.Access.seen c.args.access in
+    let b = c.in_turn-seat.result.part in
+    let mid = g.A.Access.seen c.in_turn-seat.result.access in
+    let later = g.A.Access.seen c.tell_and_play-seat.result.access in
+    let item = c.in-Ok-trim_item.value in
     let first = on_ok _ c.in-Ok.is c.in_turn-seat.ensures.adds in
     trim_adds_told was later c.in-At.position
     (asks_clean_later (Within p.may c.args.counts.now) p.floor p.shelf c.requires.run.low (node_of c.args.seat was) (node_of b mid) c.in-At.position
-    (in_ok_at _ c.in-Ok.is c.in-At.is c.in_turn-seat.ensures.did) first c.requires.can.cleans (node_of c.tell_and_play-seat.result.seat later)
+    (in_ok_at _ c.in-Ok.is c.in-At.is c.in_turn-seat.ensures.did) first c.requires.can.cleans (node_of c.tell_and_play-seat.result.part later)
     (returns-in-Some-clause-did g c).moves.goes.keeps)
     (adds_saying was mid later (packed b.node.replica.origin (item ∷ [])) (content.Trim c.in-At.position) first (on_ok _ c.in-Ok-answer.is c.tell_and_play-seat.ensures.adds)
     (says-one b.node.replica.origin item (content.Trim c.in-At.position) c.in-Ok-trim_item.ensures.proposable c.in-Ok-trim_item.ensures.says))
@@ -112,14 +93,14 @@ in_turn-requires-clause-high g c = (on_ok _ c.in-Ok-answer.is c.tell_and_play-se
 
 pub in_turn-requires-clause-can : goal.in_turn-requires-clause-can
 in_turn-requires-clause-can g c = λ log there size.
-    let p = g.K.Terms in
+    let p = g.A.Law.Rules in
     let may = Within p.may c.args.counts.now in
-    let was = c.args.fabric.journal in
-    let b = c.in_turn-seat.result.seat in
-    let mid = c.in_turn-seat.result.fabric.journal in
-    let d = c.tell_and_play-seat.result.seat in
-    let later = c.tell_and_play-seat.result.fabric.journal in
-    let item = c.in-Ok-trim_item.item in
+    let was = g.A.Access.seen c.args.access in
+    let b = c.in_turn-seat.result.part in
+    let mid = g.A.Access.seen c.in_turn-seat.result.access in
+    let d = c.tell_and_play-seat.result.part in
+    let later = g.A.Access.seen c.tell_and_play-seat.result.access in
+    let item = c.in-Ok-trim_item.value in
     let done = on_ok _ c.in-Ok-answer.is c.tell_and_play-seat.ensures.done in
     let front = done.ok.node.follows.now in
     let free = may_trim may p.floor p.shelf c.requires.run.low (node_of c.args.seat was) (node_of b mid) c.in-At.position
@@ -135,34 +116,22 @@ in_turn-requires-clause-can g c = λ log there size.
     c.requires.can.goes_by log there size in
     (free, omega (arith))
 
-pub returns-clause-left : goal.returns-clause-left
-returns-clause-left g c =
-    left_both (done_both (on_ok _ c.in-Ok.is c.in_turn-seat.ensures.done) (on_ok _ c.in-Ok-answer.is c.tell_and_play-seat.ensures.done)) c.in_turn.ensures.left
-
-pub returns-clause-seals : goal.returns-clause-seals
-returns-clause-seals g c = unsealed_last (unsealed_then c.in_turn-seat.ensures.right c.tell_and_play-seat.ensures.unsealed) c.in_turn.ensures.right
-
-pub returns-clause-done : goal.returns-clause-done
-returns-clause-done g c =
-    ok_then c.in_turn.result.answer c.in_turn.ensures.done
-    (λ x h. done_both (done_both (on_ok _ c.in-Ok.is c.in_turn-seat.ensures.done) (on_ok _ c.in-Ok-answer.is c.tell_and_play-seat.ensures.done)) h)
-
 pub returns-clause-did : goal.returns-clause-did
 returns-clause-did g c =
-    let p = g.K.Terms in
+    let p = g.A.Law.Rules in
     let may = Within p.may c.args.counts.now in
-    let was = c.args.fabric.journal in
-    let b = c.in_turn-seat.result.seat in
-    let mid = c.in_turn-seat.result.fabric.journal in
-    let d = c.tell_and_play-seat.result.seat in
-    let later = c.tell_and_play-seat.result.fabric.journal in
-    let item = c.in-Ok-trim_item.item in
+    let was = g.A.Access.seen c.args.access in
+    let b = c.in_turn-seat.result.part in
+    let mid = g.A.Access.seen c.in_turn-seat.result.access in
+    let d = c.tell_and_play-seat.result.part in
+    let later = g.A.Access.seen c.tell_and_play-seat.result.access in
+    let item = c.in-Ok-trim_item.value in
     let made = c.in-Ok-trim_item.ensures in
     let front = (on_ok _ c.in-Ok-answer.is c.tell_and_play-seat.ensures.done).ok.node.follows.now in
     let some : 1 ≤ c.args.seat.who = omega (arith, c.number.ensures.range, c.number.ensures.value, c.requires.can.who) in
     ok_then c.in_turn.result.answer c.in_turn.ensures.did
     (λ l h. trims may p.floor p.shelf c.requires.run.low (node_of c.args.seat was) (node_of b mid) (node_of d later)
-    (node_of c.in_turn.result.seat c.in_turn.result.fabric.journal) c.in-At.position c.args.seat.who item l
+    (node_of c.in_turn.result.part (g.A.Access.seen c.in_turn.result.access)) c.in-At.position c.args.seat.who item l
     (in_ok_at _ c.in-Ok.is c.in-At.is c.in_turn-seat.ensures.did) (on_ok _ c.in-Ok.is c.in_turn-seat.ensures.adds) c.requires.can.cleans
     made.item made.proposable made.says
     (subst (λ f. TellsAndPlays may p.floor p.shelf (node_of b mid) (node_of d later) item f) c.in_default.is
@@ -175,20 +144,32 @@ returns-clause-did g c =
 
 pub returns-clause-adds : goal.returns-clause-adds
 returns-clause-adds g c =
-    let p = g.K.Terms in
-    let was = c.args.fabric.journal in
-    let b = c.in_turn-seat.result.seat in
-    let mid = c.in_turn-seat.result.fabric.journal in
-    let later = c.tell_and_play-seat.result.fabric.journal in
-    let now = c.in_turn.result.fabric.journal in
-    let item = c.in-Ok-trim_item.item in
+    let p = g.A.Law.Rules in
+    let was = g.A.Access.seen c.args.access in
+    let b = c.in_turn-seat.result.part in
+    let mid = g.A.Access.seen c.in_turn-seat.result.access in
+    let later = g.A.Access.seen c.tell_and_play-seat.result.access in
+    let now = g.A.Access.seen c.in_turn.result.access in
+    let item = c.in-Ok-trim_item.value in
     let first = on_ok _ c.in-Ok.is c.in_turn-seat.ensures.adds in
     let P : Entry → Type 0 = λ e. IsOfSessions e ⊎ SaysAlone (content.Trim c.in-At.position) e in
     ok_then c.in_turn.result.answer (ok_pair _ _ c.in_turn.result.answer (returns-clause-did g c) c.in_turn.ensures.adds)
     (λ l h. trim_adds_told was now c.in-At.position
     (asks_clean_later (Within p.may c.args.counts.now) p.floor p.shelf c.requires.run.low (node_of c.args.seat was) (node_of b mid) c.in-At.position
-    (in_ok_at _ c.in-Ok.is c.in-At.is c.in_turn-seat.ensures.did) first c.requires.can.cleans (node_of c.in_turn.result.seat now) h.0.moves.goes.keeps)
+    (in_ok_at _ c.in-Ok.is c.in-At.is c.in_turn-seat.ensures.did) first c.requires.can.cleans (node_of c.in_turn.result.part now) h.0.moves.goes.keeps)
     (adds_trans P was later now
     (adds_saying was mid later (packed b.node.replica.origin (item ∷ [])) (content.Trim c.in-At.position) first (on_ok _ c.in-Ok-answer.is c.tell_and_play-seat.ensures.adds)
     (says-one b.node.replica.origin item (content.Trim c.in-At.position) c.in-Ok-trim_item.ensures.proposable c.in-Ok-trim_item.ensures.says))
     (adds_wider IsOfSessions P later now (λ e k. inl k) h.1)))
+
+pub returns-in-Some-clause-done : goal.returns-in-Some-clause-done
+returns-in-Some-clause-done g c = on_ok _ c.in-Ok-answer.is c.tell_and_play-seat.ensures.done
+
+pub returns-in-Err-answer-clause-left : goal.returns-in-Err-answer-clause-left
+returns-in-Err-answer-clause-left g c = left_both c.in_turn-seat.ensures.left c.tell_and_play-seat.ensures.left
+
+pub returns-in-Some-clause-left : goal.returns-in-Some-clause-left
+returns-in-Some-clause-left g c = left_both c.in_turn-seat.ensures.left c.tell_and_play-seat.ensures.left
+
+pub returns-clause-left : goal.returns-clause-left
+returns-clause-left g c = left_both (left_both c.in_turn-seat.ensures.left c.tell_and_play-seat.ensures.left) c.in_turn.ensures.left

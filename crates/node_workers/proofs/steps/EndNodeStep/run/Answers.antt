@@ -1,6 +1,6 @@
 use Rattle.std.specs.Prelude.{List}
 use Rattle.std.proofs.Common.{sym, subst}
-use Rattle.node_sessions.specs.declared.desk.Desk.{Desk}
+use Rattle.node_lines.specs.declared.desk.Desk.{Desk}
 use Rattle.node_lines.specs.Desks.{DesksOk}
 use Rattle.node_workers.proofs.steps.EndNodeStep.run.Goals as goal
 

@@ -1,6 +1,0 @@
-use Rattle.course_ends.proofs.Lines.{lines_ended}
-use Rattle.course_ends.proofs.laws.each_line_has_ended.Goals as goal
-
-pub returns : goal.returns
-returns g c = let p = g.P.Rules in let replica = g.S.Replica in λ run lines rows journal counts looks log workers h are.
-    lines_ended p.may p.floor p.shelf replica.state replica.spells run lines journal counts looks log workers h c.what_acts_is_told.ensures rows are

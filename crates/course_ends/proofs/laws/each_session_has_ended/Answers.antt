@@ -1,6 +1,0 @@
-use Rattle.course_ends.proofs.Sessions.{session_ended}
-use Rattle.course_ends.proofs.laws.each_session_has_ended.Goals as goal
-
-pub returns : goal.returns
-returns g c = let p = g.P.Rules in let replica = g.S.Replica in λ run lines rows journal counts looks log workers s h are.
-    session_ended p.may p.floor p.shelf replica.state replica.spells lines journal counts looks log workers h rows are s

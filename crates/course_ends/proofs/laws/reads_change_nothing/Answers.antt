@@ -1,6 +1,0 @@
-use Rattle.course_ends.proofs.Reading.{closed_on}
-use Rattle.course_ends.proofs.laws.reads_change_nothing.Goals as goal
-
-pub returns : goal.returns
-returns g c = λ lines journal more counts looks log workers h own reads legal.
-    closed_on g.P.Rules.may g.P.Rules.floor g.P.Rules.shelf g.S.Replica.state g.S.Replica.spells lines journal more counts looks log workers h own reads legal

@@ -1,4 +1,0 @@
-pub mod Closing
-pub mod Rows
-pub mod Ends
-pub mod Reads

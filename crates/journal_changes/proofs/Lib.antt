@@ -1,5 +1,0 @@
-pub mod Changes
-mod Entries
-mod Others
-mod Places
-mod Trims

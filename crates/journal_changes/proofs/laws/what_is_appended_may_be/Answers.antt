@@ -1,5 +1,0 @@
-use Rattle.journal_changes.proofs.Changes.{appended_may}
-use Rattle.journal_changes.proofs.laws.what_is_appended_may_be.Goals as goal
-
-pub returns : goal.returns
-returns g c = let p = g.P.Rules in λ events e legal h. appended_may p.may p.floor p.shelf events e legal h

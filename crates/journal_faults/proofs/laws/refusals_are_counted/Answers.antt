@@ -1,8 +1,0 @@
-use Rattle.journal_faults.proofs.Refusals.{counted, full_still}
-use Rattle.journal_faults.proofs.laws.refusals_are_counted.Goals as goal
-
-pub returns-clause-counted : goal.returns-clause-counted
-returns-clause-counted c = counted
-
-pub returns-clause-full : goal.returns-clause-full
-returns-clause-full c = full_still

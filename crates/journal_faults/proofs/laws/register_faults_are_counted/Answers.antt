@@ -1,5 +1,0 @@
-use Rattle.journal_faults.proofs.Register.{all_counted}
-use Rattle.journal_faults.proofs.laws.register_faults_are_counted.Goals as goal
-
-pub returns : goal.returns
-returns g c = let p = g.P.Rules in λ events now legal h. all_counted p.may p.floor p.shelf events now legal h

@@ -1,3 +1,0 @@
-mod Readings
-mod Fitting
-mod Telling

@@ -1,3 +1,0 @@
-pub mod Acting
-pub mod Pairs
-pub mod Places

@@ -1,2 +1,0 @@
-pub mod Appearing
-pub mod Order

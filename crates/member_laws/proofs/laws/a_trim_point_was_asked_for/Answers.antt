@@ -1,8 +1,0 @@
-use Rattle.member_laws.proofs.Membership.{point_says, says_point}
-use Rattle.member_laws.proofs.laws.a_trim_point_was_asked_for.Goals as goal
-
-pub returns-clause-says : goal.returns-clause-says
-returns-clause-says c = point_says
-
-pub returns-clause-most : goal.returns-clause-most
-returns-clause-most c = says_point

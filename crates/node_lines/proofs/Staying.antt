@@ -1,0 +1,85 @@
+-- A worker once others have had the fabric.
+use Rattle.std.proofs.Common.{◌≡◌, refl, sym, ◌∙◌, inl, inr, ℕ, ◌<◌, ◌≤◌, List, ◌++◌, Some, arith}
+use Rattle.std.specs.Prelude.{slice_get}
+use Rattle.delos_types.specs.Spaces.{SpaceMap}
+use Rattle.delos_types.specs.declared.entry.Entry.{Entry}
+use Rattle.delos_types.specs.declared.item.Item.{Item}
+use Rattle.legal_journal.specs.declared.events.Event.{Event}
+use Rattle.legal_journal.specs.Journal.{IsLegal}
+use Rattle.legal_journal.proofs.Legal.{goes_on}
+use Rattle.journal_laws.proofs.Changes.{legal_by}
+use Rattle.virtual_log.specs.Holding.{Holds}
+use Rattle.virtual_log.specs.Turning.{Later}
+use Rattle.virtual_log.proofs.Going.{goes_later}
+use Rattle.replica_api.specs.Replica.{Saved}
+use Rattle.base_engine.specs.Holding.{held_stays}
+use Rattle.base_engine.specs.Reading.{IsFront}
+use Rattle.base_engine.proofs.Following.{follows_later}
+use Rattle.base_engine.proofs.Whole.{ok_same}
+use Rattle.node_lines.specs.declared.desk.Desk.{Desk}
+use Rattle.node_lines.specs.UnderWay.{HasLanded, IsUnderWay, IsGiven}
+use Rattle.turn_scopes.specs.Seats.{SeatView, SeatOk, node_of}
+use Rattle.node_lines.specs.Desks.{DeskOk}
+use Rattle.node_lines.specs.Workers.{Within, Sends, WorkerOk, sent_of}
+use Rattle.node_lines.proofs.Widening.{seat_wider}
+use Rattle.node_lines.proofs.Scoping.{sends_grow, sends_more}
+
+module _ (may : ℕ → Entry → Type 0) (floor : List Entry → ℕ → Type 0) (shelf : List ℕ) (early more : List Event) (legal : IsLegal may floor shelf (early ++ more)) where
+  front_later : (log : List Entry) → IsFront Holds early log → IsFront Holds (early ++ more) log
+  front_later log h = λ pos e at. held_stays may floor shelf early more pos e legal (h pos e at)
+
+  landed_later : (s r : ℕ) → HasLanded early s r → HasLanded (early ++ more) s r
+  landed_later s r h =
+      let goes = goes_on may floor shelf early more legal in
+      record {
+        entry = h.entry;
+        held = record { pos = h.held.pos; held = held_stays may floor shelf early more h.held.pos h.entry legal h.held.held; below = omega (arith, h.held.below, goes.tail) };
+        rank = h.rank;
+      }
+
+  given_later : (entries : List Entry) (kept : List Item) (s sent : ℕ) → IsGiven early entries kept s sent → IsGiven (early ++ more) entries kept s sent
+  given_later entries kept s sent g = record { queued = g.queued; few = g.few; waiting = g.waiting; under_way = λ r first last. still r (g.under_way r first last) }
+    where
+      still : (r : ℕ) → IsUnderWay early entries s r → IsUnderWay (early ++ more) entries s r
+      still r (inl h) = inl (landed_later s r h)
+      still r (inr h) = inr h
+
+  desk_later : (seat : SeatView) (s : ℕ) (d : Desk) → DeskOk (node_of seat early) s d → DeskOk (node_of seat (early ++ more)) s d
+  desk_later seat s d k = record {
+    session = k.session;
+    known = k.known;
+    few = k.few;
+    near = k.near;
+    acted = record { log = k.acted.log; front = front_later k.acted.log k.acted.front; upto = k.acted.upto; are = k.acted.are };
+    ended = k.ended;
+    given = λ free none. let g = k.given free none in (g.0, given_later seat.node.outbox.entries seat.node.replica.kept s d.sent g.1);
+  }
+
+  pub seat_later : (state : List Entry → SpaceMap → Type 0) (spells : List ℕ → Saved → Type 0) (s : SeatView) → SeatOk may floor shelf state spells early s → SeatOk may floor shelf state spells (early ++ more) s
+  seat_later state spells s h =
+      let on : Later may floor shelf early (early ++ more) = record { more = more; seen = refl; legal = legal } in
+      record {
+        shelf_is = h.shelf_is;
+        goes_by = goes_later may floor shelf early (early ++ more) s.log.version s.log.known s.log.chain on h.goes_by;
+        node = ok_same may floor shelf Holds state spells (node_of s early) (node_of s (early ++ more)) h.node legal refl
+            (follows_later may floor shelf Holds state spells (held_stays may floor shelf) early (early ++ more) s.node.replica on h.node.follows) h.node.bounded refl refl refl refl;
+      }
+
+-- What others sent is within the counts by then, and none of it is of a session of this worker.
+pub worker_stays : (may : ℕ → Entry → Type 0) (floor : List Entry → ℕ → Type 0) (shelf : List ℕ) (state : List Entry → SpaceMap → Type 0) (spells : List ℕ → Saved → Type 0) (who : ℕ) (counts counts' : List ℕ) (early more : List Event) (seat : SeatView) (desks : List Desk)
+    → WorkerOk may floor shelf state spells who counts early seat desks → IsLegal (Within may counts') floor shelf (early ++ more)
+    → ((s : ℕ) → sent_of counts s ≤ sent_of counts' s) → ((s : ℕ) (d : Desk) → slice_get desks s ≡ Some d → 0 < d.asked → sent_of counts' s ≡ sent_of counts s)
+    → WorkerOk may floor shelf state spells who counts' (early ++ more) seat desks
+worker_stays may floor shelf state spells who counts counts' early more seat desks h legal up same = record {
+  who_is = h.who_is;
+  origin = h.origin;
+  ok = seat_later (Sends may counts' (early ++ more)) floor shelf early more
+      (legal_by (Within may counts') (Sends may counts' (early ++ more)) floor floor shelf (early ++ more) legal (λ user e there k. (k, inl there)) (λ log n there k. k)) state spells seat
+      (seat_wider (Sends may counts early) (Sends may counts' (early ++ more)) floor floor shelf
+      (λ user e k. sends_grow may counts' early (early ++ more) (more, refl) user e (sends_more may counts counts' early up user e k)) (λ log n k. k) state spells early seat h.ok);
+  packs = h.packs;
+  waits = h.waits;
+  size = h.size;
+  each = λ s d at. desk_later (Within may counts') floor shelf early more legal seat s d (h.each s d at);
+  counted = λ s d at some. h.counted s d at some ∙ sym (same s d at some);
+}

@@ -1,0 +1,59 @@
+//! Laws of a worker between two of its turns. Each function does nothing: its contract is the law.
+ghost use Rattle.std.specs.Prelude.{◌≡◌, ◌<◌, ◌≤◌, ℕ, List, ◌++◌, Some, length, slice_get};
+ghost use Rattle.delos_types.specs.declared.entry.Entry.{Entry};
+ghost use Rattle.legal_journal.specs.declared.events.Event.{Event};
+ghost use Rattle.legal_journal.specs.Journal.{IsLegal, state_of, tail_of};
+ghost use Rattle.virtual_log.specs.Holding.{Holds};
+ghost use Rattle.engine_api.specs.Acted.{asked_in};
+ghost use Rattle.engine_api.specs.Order.{gap_from};
+ghost use Rattle.engine_steps.specs.declared.layout.Kept.{Kept};
+ghost use Rattle.base_engine.specs.Reading.{IsFront};
+ghost use Rattle.node_lines.specs.declared.desk.Desk.{Desk};
+ghost use Rattle.node_lines.specs.Answered.{AreAnswers};
+ghost use Rattle.node_lines.specs.UnderWay.{HasRank};
+ghost use Rattle.turn_scopes.specs.Seats.{SeatView};
+ghost use Rattle.node_lines.specs.Workers.{Within, WorkerOk, sent_of};
+
+use legal_journal::rules::Rules;
+use replica_api::replica::Replica;
+
+/// What holds of a worker holds still once others have had the fabric, whatever they did within the counts by then. Of no
+/// session that asked something at the worker they sent a command.
+pub fn what_a_worker_has_stays<P: Rules, S: Replica>()
+    ensures { (who : ℕ) (counts counts' : List ℕ) (early more : List Event) (seat : SeatView) (desks : List Desk)
+        → WorkerOk P.may P.floor P.shelf S.state S.spells who counts early seat desks → IsLegal (Within P.may counts') P.floor P.shelf (early ++ more)
+        → ((s : ℕ) → sent_of counts s ≤ sent_of counts' s) → ((s : ℕ) (d : Desk) → slice_get desks s ≡ Some d → 0 < d.asked → sent_of counts' s ≡ sent_of counts s)
+        → WorkerOk P.may P.floor P.shelf S.state S.spells who counts' (early ++ more) seat desks }
+{}
+
+/// A worker's journal is legal, also within the counts.
+pub fn a_worker_is_legal<P: Rules, S: Replica>()
+    ensures within { (who : ℕ) (counts : List ℕ) (journal : List Event) (seat : SeatView) (desks : List Desk)
+        → WorkerOk P.may P.floor P.shelf S.state S.spells who counts journal seat desks → IsLegal (Within P.may counts) P.floor P.shelf journal }
+    ensures legal { (who : ℕ) (counts : List ℕ) (journal : List Event) (seat : SeatView) (desks : List Desk)
+        → WorkerOk P.may P.floor P.shelf S.state S.spells who counts journal seat desks → IsLegal P.may P.floor P.shelf journal }
+{}
+
+/// What is held below an early tail was sent by then. So a rank above those that were sent by then is held at no position
+/// below that tail, whatever was sent later.
+pub fn a_tail_bounds_what_is_sent<P: Rules>()
+    ensures { ((log : List Entry) (n : ℕ) → P.floor log n → n ≤ length log) → (counts : List ℕ) (early late : List Event) (s r pos : ℕ) (e : Entry)
+        → IsLegal (Within P.may counts) P.floor P.shelf early → IsLegal P.may P.floor P.shelf (early ++ late) → Holds (early ++ late) pos e → HasRank s r e
+        → sent_of counts s < r → tail_of (state_of early) ≤ pos }
+{}
+
+/// A front of a log isn't longer than the log's tail says.
+pub fn a_cursor_is_below_the_tail<P: Rules>()
+    ensures { ((log : List Entry) (n : ℕ) → P.floor log n → n ≤ length log) → (seen : List Event) (log : List Entry) → IsLegal P.may P.floor P.shelf seen → IsFront Holds seen log
+        → length log ≤ tail_of (state_of seen) }
+{}
+
+/// What has acted in a front of the log has acted so in each front of a later moment that isn't shorter.
+pub fn what_has_acted_stays<P: Rules>()
+    ensures acted { (early late : List Event) (s n : ℕ) (front log : List Entry) → IsLegal P.may P.floor P.shelf (early ++ late)
+        → IsFront Holds early front → IsFront Holds (early ++ late) log → length front ≤ length log
+        → n < gap_from (asked_in 0 front) s 1 → n < gap_from (asked_in 0 log) s 1 }
+    ensures answers { (early late : List Event) (s : ℕ) (front log : List Entry) (answers : List Kept) → IsLegal P.may P.floor P.shelf (early ++ late)
+        → IsFront Holds early front → IsFront Holds (early ++ late) log → length front ≤ length log
+        → AreAnswers front s answers → AreAnswers log s answers }
+{}

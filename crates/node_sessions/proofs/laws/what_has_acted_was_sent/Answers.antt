@@ -1,5 +1,0 @@
-use Rattle.node_sessions.proofs.Catching.{acted_sent}
-use Rattle.node_sessions.proofs.laws.what_has_acted_was_sent.Goals as goal
-
-pub returns : goal.returns
-returns g c = let p = g.P.Rules in λ seen log s n legal front bound. acted_sent p.may p.floor p.shelf seen log s n legal front bound

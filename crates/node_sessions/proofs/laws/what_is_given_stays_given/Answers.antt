@@ -1,5 +1,0 @@
-use Rattle.node_sessions.proofs.Settling.{settled_given}
-use Rattle.node_sessions.proofs.laws.what_is_given_stays_given.Goals as goal
-
-pub returns : goal.returns
-returns g c = let p = g.P.Rules in λ low who s sent old new was is kept legal none h given. settled_given p.may p.floor p.shelf low who s sent old new was is kept legal none h given

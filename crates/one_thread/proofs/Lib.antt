@@ -1,3 +1,0 @@
-pub mod Bounds
-pub mod Moments
-pub mod Widening

@@ -1,5 +1,0 @@
-use Rattle.one_thread.proofs.Moments.{held_sent}
-use Rattle.one_thread.proofs.laws.what_is_held_was_sent.Goals as goal
-
-pub returns : goal.returns
-returns g c = let p = g.P.Rules in λ seen pos e legal h. held_sent p.may p.floor p.shelf seen pos e legal h

@@ -1,0 +1,9 @@
+pub mod Ending
+pub mod Collecting
+pub mod Ok
+pub mod Opening
+pub mod Putting
+pub mod Finishing
+pub mod Seeing
+pub mod Taking
+pub mod Closing

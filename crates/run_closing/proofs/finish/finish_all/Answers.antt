@@ -1,0 +1,82 @@
+use Rattle.std.proofs.Common.{◌≡◌, sym, ◌∙◌, subst, ◌+◌, ◌<◌, ◌≤◌, ⊎_elim, refl, length, arith}
+use Rattle.std.specs.Prelude.{slice_set}
+use Rattle.std.proofs.lemmas.Bool.{cases_lt}
+use Rattle.base_engine.specs.Trimming.{FloorIs}
+use Rattle.node_workers.proofs.Ok.{in_ok, on_ok}
+use Rattle.node_lines.proofs.Widening.{grows-both}
+use Rattle.node_crew.proofs.Playing.{grows-none}
+use Rattle.run_closing.specs.Finishing.{HasMost}
+use Rattle.run_closing.proofs.Seeing.{sees_most}
+use Rattle.run_closing.proofs.Finishing.{rests_stand, some_node, most_first, most_next, most_stays, none_passed, passes_next}
+use Rattle.run_closing.proofs.finish.finish_all.Goals as goal
+
+pub loop-k-init : goal.loop-k-init
+loop-k-init g c =
+    let p = g.K.Terms in
+    let r = g.S.Replica in
+    let a = c.args.crew in
+    record {
+      high = omega arith;
+      size = refl;
+      rests = c.requires.rests;
+      grows = grows-none a.fabric.journal;
+      passes = none_passed (λ w. w.seat) a.workers.items;
+      most = most_first (λ w. w.seat) a.workers.items
+          (some_node p.may p.floor p.shelf r.state r.spells c.args.lines.now (λ w. w.seat) (λ w. w.desks.items) a.workers.items (length c.args.lines.now) c.requires.rests.0 a.fabric.journal a.counts a.looks.items c.requires.rests.1);
+    }
+
+pub finish_node-now-requires-clause-floor : goal.finish_node-now-requires-clause-floor
+finish_node-now-requires-clause-floor g c = subst (FloorIs g.K.Terms.floor) (sym c.loop-k.invariant.size) c.requires.floor
+
+pub loop-k-preserved : goal.loop-k-preserved
+loop-k-preserved g c =
+    let l = c.loop-k in
+    let q = c.finish_node-now in
+    let m = l.most in
+    let done = in_ok _ c.in-Ok.is q.ensures.finishes in
+    let rests = on_ok _ c.in-Ok.is q.ensures.rests in
+    let most : HasMost (λ w. w.seat) q.result.crew.workers.items (l.k + 1) c.most_of-most.result.node c.most_of-most.result.cursor = subst (λ xs. HasMost (λ w. w.seat) xs (l.k + 1) c.most_of-most.result.node c.most_of-most.result.cursor) (sym done.is)
+    (⊎_elim
+    (λ (more : m.cursor < c.in-Ok.cursor).
+    let new = c.most_of-most.ensures.more more in
+    subst (λ n. HasMost (λ w. w.seat) (slice_set l.crew.workers.items l.k done.now) (l.k + 1) n c.most_of-most.result.cursor) (sym new.0)
+    (subst (λ n. HasMost (λ w. w.seat) (slice_set l.crew.workers.items l.k done.now) (l.k + 1) l.k n) (sym new.1)
+    (most_next (λ w. w.seat) l.crew.workers.items l.k m.node m.cursor c.in-Ok.cursor done.was done.now done.was_at done.at l.invariant.most more)))
+    (λ (few : c.in-Ok.cursor ≤ m.cursor).
+    let same = c.most_of-most.ensures.same few in
+    subst (λ x. HasMost (λ w. w.seat) (slice_set l.crew.workers.items l.k done.now) (l.k + 1) x.node x.cursor) (sym same)
+    (most_stays (λ w. w.seat) l.crew.workers.items l.k m.node m.cursor c.in-Ok.cursor done.was done.now done.was_at done.at l.invariant.most few))
+    (cases_lt m.cursor c.in-Ok.cursor)) in
+    record {
+      high = omega (arith, c.loop-k-test.true);
+      size = q.ensures.size ∙ l.invariant.size;
+      rests = rests;
+      grows = grows-both c.args.crew.fabric.journal l.crew.fabric.journal q.result.crew.fabric.journal l.invariant.grows q.ensures.grows;
+      passes = passes_next (λ w. w.seat) c.args.crew.workers.items l.crew.workers.items q.result.crew.workers.items l.k c.in-Ok.cursor l.crew.fabric.journal q.result.crew.fabric.journal done l.invariant.passes;
+      most = most;
+    }
+
+pub returns-clause-most : goal.returns-clause-most
+returns-clause-most g c =
+    let l = c.loop-k in
+    let over : l.k ≡ length l.crew.workers.items = omega (arith, l.invariant.high, l.invariant.size, c.loop-k-test.false) in
+    subst (λ k. HasMost (λ w. w.seat) l.crew.workers.items k l.most.node l.most.cursor) over l.invariant.most
+
+pub returns-clause-sees : goal.returns-clause-sees
+returns-clause-sees g c =
+    let l = c.loop-k in
+    let over : l.k ≡ length l.crew.workers.items = omega (arith, l.invariant.high, l.invariant.size, c.loop-k-test.false) in
+    sees_most l.crew.fabric.journal (λ w. w.seat) l.crew.workers.items l.most.node l.most.cursor (subst (λ k. HasMost (λ w. w.seat) l.crew.workers.items k l.most.node l.most.cursor) over l.invariant.most) l.invariant.rests.1.sees
+
+pub returns-clause-stands : goal.returns-clause-stands
+returns-clause-stands g c =
+    let p = g.K.Terms in
+    let r = g.S.Replica in
+    let l = c.loop-k in
+    rests_stand p.may p.floor p.shelf r.state r.spells c.args.lines.now (λ w. w.seat) (λ w. w.desks.items) l.crew.workers.items (length c.args.lines.now) l.invariant.rests.0 l.crew.fabric.journal l.crew.counts l.crew.looks.items l.invariant.rests.1
+
+pub returns-in-Err-clause-grows : goal.returns-in-Err-clause-grows
+returns-in-Err-clause-grows g c =
+    let l = c.loop-k in
+    let q = c.finish_node-now in
+    grows-both c.args.crew.fabric.journal l.crew.fabric.journal q.result.crew.fabric.journal l.invariant.grows q.ensures.grows

@@ -1,0 +1,5 @@
+pub mod Ending
+pub mod Collecting
+pub mod Finishing
+pub mod Opening
+pub mod Taking

@@ -1,0 +1,53 @@
+//! Answers of sessions, as far as a node's state tells them.
+ghost use Rattle.std.specs.Prelude.{List, OnOk};
+ghost use Rattle.delos_types.specs.Spaces.{SpaceMap};
+ghost use Rattle.delos_types.specs.declared.entry.Entry.{Entry};
+ghost use Rattle.legal_journal.specs.Journal.{IsLegal};
+ghost use Rattle.log_laws.specs.State.{IsStateOf};
+ghost use Rattle.run_closing.specs.Collecting.{CanTake, TakesIt, CanTakeAll, TakesAll};
+
+use base_engine::node::Node;
+use fate_words::chooser::Chooser;
+use legal_journal::rules::Rules;
+use legal_journal::turns::Turns;
+use node_lines::desk::{Desk, collect};
+use replica_api::replica::Replica;
+use std::alloc::AllocError;
+use virtual_log::log::VirtualLog;
+
+/// Takes the answers of a session that asked something, of whatever node it is.
+fn take_it<T: Turns, C: Chooser, R: Replica>(
+    node: &Node<VirtualLog<T, C>, R>,
+    desk: &mut Desk,
+) -> Result<(), AllocError>
+    requires state { (log : List Entry) (m : SpaceMap) → R.state log m → IsStateOf log m }
+    requires legal { IsLegal T.Law.may T.Law.floor T.Law.shelf node.now.seen }
+    requires desk { CanTake T.Law.may node.now desk.old.session desk.old }
+    ensures takes { OnOk result (TakesIt node.now desk.old desk.new) }
+{
+    if desk.asked == 0 {
+        return Ok(());
+    }
+    match collect(node, desk) {
+        Ok(()) => return Ok(()),
+        Err(fault) => return Err(fault),
+    }
+}
+
+/// Takes the answers of all these sessions, by their numbers.
+///
+/// Cost: a look at the store for each answer that is taken, and one more for each session that asked something.
+pub fn take_all<T: Turns, C: Chooser, R: Replica>(
+    node: &Node<VirtualLog<T, C>, R>,
+    desks: &mut [Desk],
+) -> Result<(), AllocError>
+    requires state { (log : List Entry) (m : SpaceMap) → R.state log m → IsStateOf log m }
+    requires legal { IsLegal T.Law.may T.Law.floor T.Law.shelf node.now.seen }
+    requires desks { CanTakeAll T.Law.may node.now desks.old }
+    ensures takes { OnOk result (TakesAll node.now desks.old desks.new) }
+{
+    for desk in desks.iter_mut() {
+        take_it(node, desk)?;
+    }
+    Ok(())
+}

@@ -1,0 +1,90 @@
+//! The nodes of a run close.
+ghost use Rattle.std.specs.Prelude.{◌≡◌, ℕ, List, length, map, IfOk, OnOk};
+ghost use Rattle.delos_types.specs.Spaces.{SpaceMap};
+ghost use Rattle.delos_types.specs.declared.entry.Entry.{Entry};
+ghost use Rattle.log_laws.specs.State.{IsStateOf};
+ghost use Rattle.base_engine.specs.Trimming.{FloorIs};
+ghost use Rattle.node_lines.specs.Workers.{MayRun};
+ghost use Rattle.node_crew.specs.Crews.{CrewRests, CrewStands};
+ghost use Rattle.run_ends.specs.Closing.{WorkerEnd, HasClosed};
+ghost use Rattle.run_closing.specs.Finishing.{SeesAll};
+ghost use Rattle.run_closing.specs.Opening.{OpensFirst};
+
+use crate::finish::{Finished, finish_all};
+use crate::open::open_register;
+use crate::take::take_all_nodes;
+use fate_words::chooser::Chooser;
+use loglet_api::loglet::Loglet;
+use node_crew::crew::Crew;
+use register_api::Register;
+use replica_api::replica::Replica;
+use script_text::asks::NamedLine;
+use std::alloc::AllocError;
+use turn_scopes::terms::Terms;
+
+/// The nodes once they have closed; how much of the log was played, if memory sufficed.
+pub struct Closed<L: Loglet, R: Register, K: Terms, S: Replica, C: Chooser> {
+    pub crew: Crew<L, R, K, S, C>,
+    pub answer: Result<u64, AllocError>,
+}
+
+/// Closes a run whose lines are all played: the register is opened again where it is down; each node in order, but for one that has
+/// left, opens its store again where it is down and plays the log to a tail; the answers of all sessions are then taken at the node
+/// that has played most of it.
+///
+/// Cost: at most two events of the register; for each node what it has still to play, and for each session that asked something a look
+/// at the store for each answer that is taken, and one more.
+pub fn close<L: Loglet, R: Register, K: Terms, S: Replica, C: Chooser>(
+    crew: Crew<L, R, K, S, C>,
+    lines: &[NamedLine],
+) -> Closed<L, R, K, S, C>
+    requires run { MayRun K.may K.floor K.shelf }
+    requires state { (log : List Entry) (m : SpaceMap) → S.state log m → IsStateOf log m }
+    requires floor { FloorIs K.floor (length crew.workers.items) }
+    requires rests { (phase : ℕ) × CrewRests K.may K.floor K.shelf S.state S.spells lines.now (length lines.now) phase crew.fabric.journal crew.counts crew.looks.items (λ w. w.seat) (λ w. w.desks.items) crew.workers.items }
+    ensures closed { IfOk result.answer (λ end. (log : List Entry) × (length log ≡ end) × HasClosed K.may K.floor K.shelf S.state S.spells lines.now result.crew.fabric.journal result.crew.counts result.crew.looks.items log (map (λ w. record { seat = w.seat; desks = w.desks.items }) result.crew.workers.items)) }
+
+    // The register was opened again first, where it was down.
+    ensures opens { OnOk result.answer (OpensFirst crew.fabric result.crew.fabric) }
+
+    // Where no fault came, the whole log was played.
+    ensures sees { IfOk result.answer (SeesAll result.crew.fabric.journal (λ (w : WorkerEnd). w.seat) (map (λ w. record { seat = w.seat; desks = w.desks.items }) result.crew.workers.items)) }
+    ensures stands { CrewStands K.may K.floor K.shelf S.state S.spells result.crew.fabric.journal (λ w. w.seat) result.crew.workers.items }
+    ensures size { length result.crew.workers.items ≡ length crew.workers.items }
+{
+    let Finished { crew, answer } = open_register(crew, lines);
+    match answer {
+        Ok(()) => {}
+        Err(fault) => {
+            return Closed {
+                crew,
+                answer: Err(fault),
+            };
+        }
+    }
+    let Finished { crew, answer } = finish_all(crew, lines);
+    let most = match answer {
+        Ok(most) => most,
+        Err(fault) => {
+            return Closed {
+                crew,
+                answer: Err(fault),
+            };
+        }
+    };
+    let Finished { crew, answer } = take_all_nodes(crew, most, lines);
+    match answer {
+        Ok(()) => {
+            return Closed {
+                crew,
+                answer: Ok(most.cursor),
+            };
+        }
+        Err(fault) => {
+            return Closed {
+                crew,
+                answer: Err(fault),
+            };
+        }
+    }
+}

@@ -1,0 +1,79 @@
+//! A node's last calls.
+ghost use Rattle.std.specs.Prelude.{◌≡◌, ◌≤◌, ℕ, List, [], length, IfOk, OnOk};
+ghost use Rattle.delos_types.specs.declared.entry.Entry.{Entry};
+ghost use Rattle.virtual_log.specs.Holding.{Holds};
+ghost use Rattle.base_engine.specs.Following.{Follows};
+ghost use Rattle.node_lines.specs.Moving.{Moves};
+ghost use Rattle.run_closing.specs.Ending.{Reopens, PlaysOut, Finishes};
+
+use base_engine::fault::Fault;
+use base_engine::node::Node;
+use delos_types::numbers::NodeId;
+use fate_words::chooser::Chooser;
+use legal_journal::rules::Rules;
+use legal_journal::turns::Turns;
+use replica_api::replica::Replica;
+use std::alloc::AllocError;
+use virtual_log::log::VirtualLog;
+
+/// Opens the store again, with word 0, where it is down. Where the disk fails it stays down.
+fn reopen<T: Turns, C: Chooser, R: Replica>(
+    node: &mut Node<VirtualLog<T, C>, R>,
+) -> Result<(), AllocError>
+    ensures { OnOk result (Reopens node.old node.new) }
+{
+    if !node.is_down() {
+        return Ok(());
+    }
+    match node.recover(0) {
+        Ok(()) => return Ok(()),
+        Err(Fault::Because(_)) => return Ok(()),
+        Err(Fault::Memory) => return Err(AllocError),
+    }
+}
+
+/// Opens the store again where it is down, finds a tail of the log, and plays up to it. Where the disk or the log fails, the
+/// node's state stays as far as it came. Answers how many entries of the log it has then.
+fn play_out<T: Turns, C: Chooser, R: Replica>(
+    node: &mut Node<VirtualLog<T, C>, R>,
+) -> Result<u64, AllocError>
+    requires floor { (log : List Entry) (n : ℕ) → T.Law.floor log n → n ≤ length log }
+    ensures moves { OnOk result (Moves T.Law.may T.Law.floor T.Law.shelf node.old node.new []) }
+    ensures plays { OnOk result (PlaysOut node.old node.new) }
+    ensures follows { OnOk result (Follows Holds R.state R.spells node.new.seen node.new.replica) }
+    ensures outbox { OnOk result (node.new.outbox ≡ node.old.outbox) }
+    ensures kept { OnOk result (node.new.replica.kept ≡ node.old.replica.kept) }
+    ensures cursor { IfOk result (λ n. n ≡ node.new.replica.cursor) }
+{
+    reopen(node)?;
+    match node.sync() {
+        Ok(_) => return Ok(node.cursor()),
+        Err(Fault::Because(_)) => return Ok(node.cursor()),
+        Err(Fault::Memory) => return Err(AllocError),
+    }
+}
+
+/// The node's last calls. One that has left, as its state tells, is passed by. Another opens its store again where it is down, finds a
+/// tail of the log, and plays up to it; where the disk or the log fails, its state stays as far as it came. Answers how many entries
+/// of the log the node's state has then.
+pub fn finish<T: Turns, C: Chooser, R: Replica>(
+    node: &mut Node<VirtualLog<T, C>, R>,
+    number: NodeId,
+) -> Result<u64, AllocError>
+    requires floor { (log : List Entry) (n : ℕ) → T.Law.floor log n → n ≤ length log }
+    ensures moves { OnOk result (Moves T.Law.may T.Law.floor T.Law.shelf node.old node.new []) }
+    ensures plays { OnOk result (Finishes number node.old node.new) }
+    ensures follows { OnOk result (Follows Holds R.state R.spells node.new.seen node.new.replica) }
+    ensures outbox { OnOk result (node.new.outbox ≡ node.old.outbox) }
+    ensures kept { OnOk result (node.new.replica.kept ≡ node.old.replica.kept) }
+    ensures cursor { IfOk result (λ n. n ≡ node.new.replica.cursor) }
+{
+    let left = node.has_left(number)?;
+    if left {
+        return Ok(node.cursor());
+    }
+    match play_out(node) {
+        Ok(cursor) => return Ok(cursor),
+        Err(fault) => return Err(fault),
+    }
+}

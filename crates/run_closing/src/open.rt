@@ -1,0 +1,51 @@
+//! The register of a run is opened again where it is down.
+ghost use Rattle.std.specs.Prelude.{◌≡◌, length, OnOk};
+ghost use Rattle.last_chain.specs.Last.{OpensOnce};
+ghost use Rattle.node_crew.specs.Crews.{CrewStands};
+ghost use Rattle.run_closing.specs.Finishing.{HasPlayed};
+
+use crate::finish::Finished;
+use fate_words::chooser::Chooser;
+use last_chain::last::open_if_down;
+use loglet_api::loglet::Loglet;
+use node_crew::crew::Crew;
+use register_api::Register;
+use replica_api::replica::Replica;
+use script_text::asks::NamedLine;
+use turn_scopes::terms::Terms;
+
+/// The user that opens the register again as a run closes, which is no node.
+const NOBODY: u32 = 0;
+
+/// Opens the register again where it is down, once, with word 0: so a fault of before doesn't keep the nodes from what they
+/// still have to play.
+///
+/// Cost: at most two events.
+pub fn open_register<L: Loglet, R: Register, K: Terms, S: Replica, C: Chooser>(
+    crew: Crew<L, R, K, S, C>,
+    _lines: &[NamedLine],
+) -> Finished<L, R, K, S, C, ()>
+    requires rests { HasPlayed K.may K.floor K.shelf S.state S.spells _lines.now crew.fabric.journal crew.counts crew.looks.items (λ w. w.seat) (λ w. w.desks.items) crew.workers.items }
+    ensures rests { OnOk result.answer (HasPlayed K.may K.floor K.shelf S.state S.spells _lines.now result.crew.fabric.journal result.crew.counts result.crew.looks.items (λ w. w.seat) (λ w. w.desks.items) result.crew.workers.items) }
+    ensures opens { OnOk result.answer (OpensOnce crew.fabric result.crew.fabric) }
+    ensures stands { CrewStands K.may K.floor K.shelf S.state S.spells result.crew.fabric.journal (λ w. w.seat) result.crew.workers.items }
+    ensures size { length result.crew.workers.items ≡ length crew.workers.items }
+{
+    let Crew {
+        fabric,
+        workers,
+        counts,
+        looks,
+    } = crew;
+    let mut fabric = fabric;
+    let answer = open_if_down(&mut fabric, NOBODY);
+    Finished {
+        crew: Crew {
+            fabric,
+            workers,
+            counts,
+            looks,
+        },
+        answer,
+    }
+}

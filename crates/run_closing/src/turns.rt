@@ -1,0 +1,145 @@
+//! A node's last turns, by the rules of a run.
+ghost use Rattle.std.specs.Prelude.{◌≡◌, ◌≤◌, ℕ, List, [], length, IfOk, OnOk};
+ghost use Rattle.delos_types.specs.Spaces.{SpaceMap};
+ghost use Rattle.delos_types.specs.declared.entry.Entry.{Entry};
+ghost use Rattle.journal_laws.specs.Changes.{Adds};
+ghost use Rattle.log_laws.specs.State.{IsStateOf};
+ghost use Rattle.turn_scopes.specs.Alone.{IsAlone};
+ghost use Rattle.turn_scopes.specs.Beside.{Since, SealsByRight, Narrows};
+ghost use Rattle.turn_scopes.specs.Seats.{SeatOk, node_of};
+ghost use Rattle.node_lines.specs.Moving.{Moves};
+ghost use Rattle.node_lines.specs.Workers.{WorkerOk, MayRun, Within, Sends, IsOfSessions};
+ghost use Rattle.node_lines.specs.Steps.{IsLeft};
+ghost use Rattle.run_closing.specs.Ending.{Finishes};
+ghost use Rattle.run_closing.specs.Collecting.{CanTakeAll, TakesAll};
+
+use crate::answers::take_all;
+use crate::last::finish;
+use delos_types::numbers::NodeId;
+use fate_words::chooser::Chooser;
+use node_lines::desk::Desk;
+use node_workers::back::Back;
+use node_workers::worker::Worker;
+use replica_api::replica::Replica;
+use std::marker::Brand;
+use turn_scopes::access::Access;
+use turn_scopes::seat::{Seat, rest};
+use turn_scopes::terms::Scope;
+
+/// The last calls of the node with that number, within a scope. Answers how many entries of the log its state has then.
+fn finish_within<A: Access, Q: Scope, S: Replica, C: Chooser>(
+    access: A,
+    seat: Seat<S, C>,
+    number: NodeId,
+    _counts: &[u64; 64],
+) -> Back<A, Seat<S, C>, u64>
+    requires floor { (log : List Entry) (n : ℕ) → Q.floor log n → n ≤ length log }
+    requires who { seat.who ≡ A.who access }
+    requires narrows { Narrows A.Law.may Q.sends A.Law.floor Q.floor A.Law.shelf (A.beside (A.who access)) }
+    requires seat { SeatOk Q.sends Q.floor A.Law.shelf S.state S.spells (A.seen access) seat }
+    requires whose { Q.who ≡ A.who access }
+    requires since { Q.since ≡ A.seen access }
+    ensures who { A.who result.access ≡ A.who access }
+    ensures sits { result.part.who ≡ A.who result.access }
+    ensures seat { SeatOk Q.sends Q.floor A.Law.shelf S.state S.spells (A.seen result.access) result.part }
+    ensures since { Since result.part.who (A.beside result.part.who) (A.seen access) (A.seen result.access) }
+    ensures right { SealsByRight (Q.seals result.part.who) result.part.who (A.seen access) (A.seen result.access) }
+    ensures moves { OnOk result.answer (Moves Q.sends Q.floor A.Law.shelf (node_of seat (A.seen access)) (node_of result.part (A.seen result.access)) []) }
+    ensures plays { OnOk result.answer (Finishes number (node_of seat (A.seen access)) (node_of result.part (A.seen result.access))) }
+    ensures outbox { OnOk result.answer (result.part.node.outbox ≡ seat.node.outbox) }
+    ensures kept { OnOk result.answer (result.part.node.replica.kept ≡ seat.node.replica.kept) }
+    ensures cursor { IfOk result.answer (λ n. n ≡ result.part.node.replica.cursor) }
+{
+    let mut node = seat.wake::<A, Q>(access);
+    let answer = finish(&mut node, number);
+    let (seat, access) = rest(node);
+    Back {
+        part: seat,
+        access,
+        answer,
+    }
+}
+
+/// The last calls of a worker's node, which has that number: one that has left, as its state tells, is passed by; another opens its
+/// store again where it is down, and plays the log to a tail. Its desks stay as they are. Answers how many entries of the log the
+/// node's state has then.
+pub fn finish_worker<A: Access, S: Replica, C: Chooser>(
+    access: A,
+    worker: Worker<S, C>,
+    number: NodeId,
+    counts: &[u64; 64],
+) -> Back<A, Worker<S, C>, u64>
+    requires run { MayRun A.Law.may A.Law.floor A.Law.shelf }
+    requires state { (log : List Entry) (m : SpaceMap) → S.state log m → IsStateOf log m }
+    requires who { worker.seat.who ≡ A.who access }
+    requires alone { IsAlone (A.beside (A.who access)) }
+    requires worker { WorkerOk A.Law.may A.Law.floor A.Law.shelf S.state S.spells worker.seat.who counts.now (A.seen access) worker.seat worker.desks.items }
+    ensures desks { result.part.desks ≡ worker.desks }
+    ensures who { A.who result.access ≡ A.who access }
+    ensures left { IsLeft A.Law.may A.Law.floor A.Law.shelf S.state S.spells A.beside ⊥ (A.seen access) worker.seat (A.seen result.access) result.part.seat }
+    ensures worker { OnOk result.answer (WorkerOk A.Law.may A.Law.floor A.Law.shelf S.state S.spells worker.seat.who counts.now (A.seen result.access) result.part.seat result.part.desks.items) }
+    ensures moves { OnOk result.answer (Moves (Within A.Law.may counts.now) A.Law.floor A.Law.shelf (node_of worker.seat (A.seen access)) (node_of result.part.seat (A.seen result.access)) []) }
+    ensures plays { OnOk result.answer (Finishes number (node_of worker.seat (A.seen access)) (node_of result.part.seat (A.seen result.access))) }
+    ensures outbox { OnOk result.answer (result.part.seat.node.outbox ≡ worker.seat.node.outbox) }
+    ensures cursor { IfOk result.answer (λ n. n ≡ result.part.seat.node.replica.cursor) }
+    ensures adds { Adds IsOfSessions (A.seen access) (A.seen result.access) }
+{
+    let Worker { seat, desks } = worker;
+    let Back {
+        part: seat,
+        access,
+        answer,
+    } = finish_within::<A, Brand, S, C>(access, seat, number, counts);
+    Back {
+        part: Worker { seat, desks },
+        access,
+        answer,
+    }
+}
+
+/// Takes the answers of all these sessions from a node's state, within a scope.
+fn take_within<A: Access, Q: Scope, S: Replica, C: Chooser>(
+    access: A,
+    seat: Seat<S, C>,
+    desks: &mut Vec<Desk>,
+    _counts: &[u64; 64],
+) -> Back<A, Seat<S, C>, ()>
+    requires state { (log : List Entry) (m : SpaceMap) → S.state log m → IsStateOf log m }
+    requires who { seat.who ≡ A.who access }
+    requires narrows { Narrows A.Law.may Q.sends A.Law.floor Q.floor A.Law.shelf (A.beside (A.who access)) }
+    requires seat { SeatOk Q.sends Q.floor A.Law.shelf S.state S.spells (A.seen access) seat }
+    requires whose { Q.who ≡ A.who access }
+    requires since { Q.since ≡ A.seen access }
+    requires desks { CanTakeAll Q.sends (node_of seat (A.seen access)) desks.old.items }
+    ensures node { node_of result.part (A.seen result.access) ≡ node_of seat (A.seen access) }
+    ensures seat { SeatOk Q.sends Q.floor A.Law.shelf S.state S.spells (A.seen result.access) result.part }
+    ensures takes { OnOk result.answer (TakesAll (node_of seat (A.seen access)) desks.old.items desks.new.items) }
+{
+    let node = seat.wake::<A, Q>(access);
+    let answer = take_all(&node, desks.as_mut_slice());
+    let (seat, access) = rest(node);
+    Back {
+        part: seat,
+        access,
+        answer,
+    }
+}
+
+/// Takes the answers of all these sessions from a node's state. No event is made.
+pub fn take_answers<A: Access, S: Replica, C: Chooser>(
+    access: A,
+    seat: Seat<S, C>,
+    desks: &mut Vec<Desk>,
+    counts: &[u64; 64],
+) -> Back<A, Seat<S, C>, ()>
+    requires state { (log : List Entry) (m : SpaceMap) → S.state log m → IsStateOf log m }
+    requires who { seat.who ≡ A.who access }
+    requires alone { IsAlone (A.beside (A.who access)) }
+    requires seat { SeatOk (Sends A.Law.may counts.now (A.seen access)) A.Law.floor A.Law.shelf S.state S.spells (A.seen access) seat }
+    requires desks { CanTakeAll (Within A.Law.may counts.now) (node_of seat (A.seen access)) desks.old.items }
+    ensures node { node_of result.part (A.seen result.access) ≡ node_of seat (A.seen access) }
+    ensures seat { SeatOk (Sends A.Law.may counts.now (A.seen access)) A.Law.floor A.Law.shelf S.state S.spells (A.seen result.access) result.part }
+    ensures takes { OnOk result.answer (TakesAll (node_of seat (A.seen access)) desks.old.items desks.new.items) }
+{
+    take_within::<A, Brand, S, C>(access, seat, desks, counts)
+}

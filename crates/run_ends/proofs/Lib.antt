@@ -1,0 +1,15 @@
+pub mod Counting
+pub mod Turns
+pub mod Sessions
+pub mod Placing
+pub mod Reports
+pub mod Lines
+pub mod Replacements
+pub mod Trims
+pub mod Ending
+pub mod Reading
+mod Standing
+mod Fronts
+pub mod Contents
+pub mod Rules
+pub mod Views

@@ -1,0 +1,286 @@
+-- How far nodes trimmed the log, once the run has ended.
+use Rattle.std.proofs.Common.{◌≡◌, ◌≢◌, refl, sym, ap, ◌∙◌, subst, inl, inr, ◌⊎◌, ⊎_elim, ℕ, zero, suc, ◌<◌, ◌≤◌, true, List, [], ◌∷◌, Option, Some, None, map, length, take, slice_get, Contains, arith}
+use Rattle.delos_types.specs.Spaces.{SpaceMap}
+use Rattle.delos_types.specs.declared.entry.Entry.{Entry}
+use Rattle.legal_journal.specs.declared.events.Event.{Event}
+use Rattle.legal_journal.specs.Journal.{state_of, trim_of}
+use Rattle.journal_laws.specs.Changes.{appended, raised, Frees}
+use Rattle.journal_laws.proofs.Changes.{appended_may, raised_free, trim_raised}
+use Rattle.engine_api.specs.declared.content.Content.TheVariants as content
+use Rattle.engine_api.specs.declared.content.Placed.{Placed}
+use Rattle.engine_api.specs.Acted.{asked_in, unpack_all}
+use Rattle.engine_api.specs.Items.{unpack}
+use Rattle.engine_api.specs.Members.{trim_point}
+use Rattle.engine_api.specs.Order.{is_clean}
+use Rattle.fabric_core.specs.Log.{virtual_log, virtual_tail}
+use Rattle.replica_api.specs.Replica.{Saved}
+use Rattle.base_engine.specs.Trimming.{FloorIs}
+use Rattle.base_engine.proofs.Showing.{shows_all}
+use Rattle.log_laws.proofs.Membership.{point_says, unpack_says}
+use Rattle.script_text.specs.declared.line.Admin.TheVariants.{Extend, Alive, Retire, Trim}
+use Rattle.script_text.specs.declared.asks.NamedLine.{NamedLine}
+use Rattle.script_text.specs.declared.asks.Asks.{Asks}
+use Rattle.script_text.specs.declared.asks.Asks.TheVariants as asks
+use Rattle.row_text.specs.declared.row.Outcome.{Outcome}
+use Rattle.row_text.specs.declared.row.Outcome.TheVariants as out
+use Rattle.fitting_run.specs.Answered.{is_open}
+use Rattle.fitting_run.specs.declared.told.Told.{Told}
+use Rattle.fitting_run.specs.Yard.{Shown}
+use Rattle.node_lines.specs.declared.desk.Desk.{Desk}
+use Rattle.node_lines.specs.declared.lines.Looked.{Looked}
+use Rattle.node_lines.specs.declared.lines.Looked.TheVariants as looked
+use Rattle.node_lines.specs.Workers.{MayRun}
+use Rattle.run_ends.specs.Rules.{HasAsked, IsLineOf, may_of}
+use Rattle.run_ends.proofs.Contents.{all-contained}
+use Rattle.run_laws.specs.Ended.{IsKnown, LineTrimmed, LetsGo, Played, ReportsAbove, SomeTurn, TellsUpto, TrimsEnded}
+use Rattle.run_course.specs.Telling.{AskedFor, GoesFirst, IsTrim, TellsAtLeast}
+use Rattle.run_ends.specs.Closing.{HasClosed, IsGivenBack, WorkerEnd}
+use Rattle.run_ends.specs.Rows.{AreRows, Tells, desk_for, played_of}
+use Rattle.run_ends.proofs.Turns.{lines_are, turn_is, turn_of}
+use Rattle.run_ends.proofs.Reports.{alive_is, retired_is}
+
+-- Rows
+
+-- a row that tells a trim answers a line that asked for one, and came to it
+pub trimmed_is : (d : Option Desk) (look : Option Looked) (a : Asks) (o : Outcome) (trim : ℕ) → Tells d look a o → o ≡ out.Trimmed trim → (a ≡ asks.Admin Trim) × (look ≡ Some (looked.Trimmed trim))
+trimmed_is (Some d) look (asks.Logged s r command) (out.Placed place reply late) trim t e = absurd (cc)
+trimmed_is (Some d) look (asks.Logged s r command) (out.Open cause) trim t e = absurd (cc)
+trimmed_is (Some d) look (asks.Look s query) (out.Read after answer) trim t e = absurd (cc)
+trimmed_is (Some d) look (asks.Look s query) (out.Open cause) trim t e = absurd (cc)
+trimmed_is None look (asks.Admin Extend) (out.Extended version start) trim t e = absurd (cc)
+trimmed_is None look (asks.Admin Extend) (out.Moved version) trim t e = absurd (cc)
+trimmed_is None look (asks.Admin Extend) out.NoSpare trim t e = absurd (cc)
+trimmed_is None look (asks.Admin Extend) (out.Open cause) trim t e = absurd (cc)
+trimmed_is None look (asks.Admin Alive) (out.Alive clean) trim t e = absurd (cc)
+trimmed_is None look (asks.Admin Alive) (out.Open cause) trim t e = absurd (cc)
+trimmed_is None look (asks.Admin Retire) out.Retired trim t e = absurd (cc)
+trimmed_is None look (asks.Admin Retire) (out.Open cause) trim t e = absurd (cc)
+trimmed_is None look (asks.Admin Trim) (out.Trimmed n) trim t e = let same : n ≡ trim = cc in (refl, t ∙ ap (λ m. Some (looked.Trimmed m)) same)
+trimmed_is None look (asks.Admin Trim) (out.Open cause) trim t e = absurd (cc)
+trimmed_is d look a o trim t e = absurd t
+
+-- a report that a line came to is what its row tells
+alive_told : (look : Option Looked) (o : Outcome) (n : ℕ) → Tells None look (asks.Admin Alive) o → look ≡ Some (looked.Reported n) → o ≡ out.Alive n
+alive_told look (out.Alive clean) n t is = let same : clean ≡ n = same_report clean n (sym t ∙ is) in ap out.Alive same
+  where
+    same_report : (a b : ℕ) → Some (looked.Reported a) ≡ Some (looked.Reported b) → a ≡ b
+    same_report a b e = cc
+alive_told look (out.Open cause) n t is = absurd (apart (sym t ∙ is))
+  where
+    apart : Some (looked.Failed cause) ≡ Some (looked.Reported n) → ⊥
+    apart e = cc
+alive_told look o n t is = absurd t
+
+-- where it failed the row is open
+open_told : (look : Option Looked) (o : Outcome) (c : _) → Tells None look (asks.Admin Alive) o → look ≡ Some (looked.Failed c) → is_open o ≡ true
+open_told look (out.Alive clean) c t is = absurd (apart (sym t ∙ is))
+  where
+    apart : Some (looked.Reported clean) ≡ Some (looked.Failed c) → ⊥
+    apart e = cc
+open_told look (out.Open cause) c t is = refl
+open_told look o c t is = absurd t
+
+tells_upto : (trim : ℕ) (o : Outcome) → ((n : ℕ) → o ≡ out.Alive n → n ≤ trim) → (o ≡ out.Retired → ⊥) → TellsUpto trim o
+tells_upto trim (out.Alive clean) low stays = low clean refl
+tells_upto trim out.Retired low stays = absurd (stays refl)
+tells_upto trim (out.Placed place reply late) low stays = tt
+tells_upto trim (out.Read after answer) low stays = tt
+tells_upto trim (out.Extended version start) low stays = tt
+tells_upto trim (out.Moved version) low stays = tt
+tells_upto trim out.NoSpare low stays = tt
+tells_upto trim (out.Trimmed n) low stays = tt
+tells_upto trim (out.Open cause) low stays = tt
+
+same_some : {A : Type 0} (x y : A) → Some x ≡ Some y → x ≡ y
+same_some x y e = cc
+
+-- Fronts
+
+take_same : (n : ℕ) (xs ys : List Entry) → n ≤ length xs → n ≤ length ys → ((i : ℕ) → i < n → slice_get xs i ≡ slice_get ys i) → take n xs ≡ take n ys
+take_same zero xs ys a b same = none xs ∙ sym (none ys)
+  where
+    none : (l : List Entry) → take 0 l ≡ []
+    none [] = refl
+    none (z ∷ zs) = refl
+take_same (suc n) [] ys a b same = absurd (omega (arith, a))
+take_same (suc n) (x ∷ xs) [] a b same = absurd (omega (arith, b))
+take_same (suc n) (x ∷ xs) (y ∷ ys) a b same =
+    let head : x ≡ y = same_some x y (same 0 (omega arith)) in
+    let rest = take_same n xs ys (omega (arith, a)) (omega (arith, b)) (λ i low. same (suc i) (omega (arith, low))) in
+    ap (λ z. z ∷ take n xs) head ∙ ap (λ l. y ∷ l) rest
+
+module _ (may : ℕ → Entry → Type 0) (floor : List Entry → ℕ → Type 0) (shelf : List ℕ) (state : List Entry → SpaceMap → Type 0) (spells : List ℕ → Saved → Type 0) (run : MayRun may floor shelf) (lines : List NamedLine) (journal : List Event) (counts : List ℕ) (looks : List (Option Looked)) (log : List Entry) (workers : List WorkerEnd) (o : Told) (yard : Shown) (mine : (who : ℕ) (e : Entry) → may who e → may_of lines who e) (floor_is : FloorIs floor (length workers)) (h : HasClosed may floor shelf state spells lines journal counts looks log workers) (are : AreRows lines workers looks o.rows) (back : IsGivenBack may floor shelf journal workers o.chain yard) where
+  abbrev played : List Played
+  played = played_of lines o.rows looks
+
+  -- The log's trim
+
+  trim_same : o.chain.trim ≡ trim_of (state_of journal)
+  trim_same = ap (λ (c : _). c.trim) back.chain_is
+
+  -- where something is trimmed the rules let it be
+  freed : (o.chain.trim ≡ 0) ⊎ Frees floor journal o.chain.trim
+  freed = ⊎_elim
+      (λ (none : trim_of (state_of journal) ≡ 0). inl (trim_same ∙ none))
+      (λ (some : Contains (raised journal) (trim_of (state_of journal))). subst (λ n. (n ≡ 0) ⊎ Frees floor journal n) (sym trim_same) (raised_free may floor shelf journal (trim_of (state_of journal)) back.legal some))
+      (trim_raised may floor shelf journal back.legal)
+
+  -- an entry that was appended is of lines
+  own_items : (e : Entry) (q : Placed) → Contains (appended journal) e → Contains (unpack 0 e) q → (who : ℕ) × IsLineOf lines who q.content
+  own_items e q has says =
+      let sent = appended_may may floor shelf journal e back.legal has in
+      (sent.0, all-contained (λ (p : Placed). IsLineOf lines sent.0 p.content) (unpack 0 e) q (mine sent.0 e sent.1).items says)
+
+  -- what was trimmed was clean
+  pub clean_below : o.chain.trim ≤ length log → is_clean (λ s. 1) (asked_in 0 (take o.chain.trim log)) ≡ true
+  clean_below short = ⊎_elim (λ (none : o.chain.trim ≡ 0). subst (λ n. is_clean (λ s. 1) (asked_in 0 (take n log)) ≡ true) (sym none) (none_clean log)) by freed
+    where
+      none_clean : (l : List Entry) → is_clean (λ s. 1) (asked_in 0 (take 0 l)) ≡ true
+      none_clean [] = refl
+      none_clean (e ∷ es) = refl
+
+      some_in : (l : List Entry) (i : ℕ) → i < length l → (e : Entry) × (slice_get l i ≡ Some e)
+      some_in [] i low = absurd (omega (arith, low))
+      some_in (x ∷ xs) zero low = (x, refl)
+      some_in (x ∷ xs) (suc i) low = some_in xs i (omega (arith, low))
+
+      by : Frees floor journal o.chain.trim → is_clean (λ s. 1) (asked_in 0 (take o.chain.trim log)) ≡ true
+      by f =
+          let m = floor_is.only f.log o.chain.trim f.free in
+          let within = m.within in
+          let same = take_same o.chain.trim f.log log within short (λ i low.
+          let e = some_in log i (omega (arith, low, short)) in
+          sym (f.shows i (omega (arith, low, within))) ∙ shows_all may floor shelf run.low journal i e.0 back.legal (h.front i e.0 e.1) ∙ sym e.1) in
+          subst (λ l. is_clean (λ s. 1) (asked_in 0 l) ≡ true) same m.clean
+
+  -- Lines and their rows
+
+  played_lines : map (λ t. t.line) played ≡ lines
+  played_lines = lines_are lines o.rows looks are.size h.ok.size
+
+  -- a line with its row
+  turn_at : (at : ℕ) (line : NamedLine) → slice_get lines at ≡ Some line → (t : Played) × (slice_get played at ≡ Some t) × (t.line ≡ line)
+  turn_at at line is = turn_of played at line (ap (λ ls. slice_get ls at) played_lines ∙ is)
+
+  -- what a line of a node itself came to is told by its row
+  tells_at : (at : ℕ) (t : Played) (a : _) (look : Looked) → slice_get played at ≡ Some t → t.line.asks ≡ asks.Admin a → slice_get looks at ≡ Some (Some look) → Tells None (Some look) (asks.Admin a) t.row.outcome
+  tells_at at t a look is asked came =
+      let k = turn_is lines o.rows looks at t is in
+      let row = are.each at k.line k.look k.row k.line_at k.look_at k.row_at in
+      let same_look : k.look ≡ Some look = same_some k.look (Some look) (sym k.look_at ∙ came) in
+      let same_asks : k.line.asks ≡ asks.Admin a = sym (ap (λ (y : Played). y.line.asks) k.is) ∙ asked in
+      let tells : Tells (desk_for workers k.line.node k.line.asks) k.look k.line.asks k.row.outcome = row.tells in
+      let there : Tells None k.look (asks.Admin a) k.row.outcome = subst (λ x. Tells (desk_for workers k.line.node x) k.look x k.row.outcome) same_asks tells in
+      subst (λ (x : Outcome). Tells None (Some look) (asks.Admin a) x) (sym (ap (λ (y : Played). y.row.outcome) k.is)) (subst (λ l. Tells None l (asks.Admin a) k.row.outcome) same_look there)
+
+  -- Each trim
+
+  module _ (j : ℕ) (t : Played) (trim : ℕ) (at : slice_get played j ≡ Some t) (is : t.row.outcome ≡ out.Trimmed trim) where
+    came : IsTrim lines looks (length workers) h.course.journal j t.line trim
+    came =
+        let k = turn_is lines o.rows looks j t at in
+        let row = are.each j k.line k.look k.row k.line_at k.look_at k.row_at in
+        let so = trimmed_is (desk_for workers k.line.node k.line.asks) k.look k.line.asks k.row.outcome trim row.tells (sym (ap (λ (y : Played). y.row.outcome) k.is) ∙ is) in
+        let there = h.ok.trims j k.line trim k.line_at (k.look_at ∙ ap Some so.1) in
+        subst (λ l. IsTrim lines looks (length workers) h.course.journal j l trim) (sym (ap (λ (y : Played). y.line) k.is)) there
+
+    below : (i : ℕ) (u : Played) → slice_get played i ≡ Some u → i < j → u.line.node ≡ came.lowest.node → (u.line.phase < t.line.phase) ⊎ (u.line.node ≡ t.line.node) → TellsUpto trim u.row.outcome
+    below i u here early node behind =
+        let k = turn_is lines o.rows looks i u here in
+        let row = are.each i k.line k.look k.row k.line_at k.look_at k.row_at in
+        let line_same : u.line ≡ k.line = ap (λ (y : Played). y.line) k.is in
+        let outcome_same : u.row.outcome ≡ k.row.outcome = ap (λ (y : Played). y.row.outcome) k.is in
+        let line_at : slice_get lines i ≡ Some u.line = k.line_at ∙ ap Some (sym line_same) in
+        let goes : GoesFirst i u.line j t.line = ⊎_elim (λ (p : u.line.phase < t.line.phase). inl p) (λ (n : u.line.node ≡ t.line.node). inr (n, early)) behind in
+        tells_upto trim u.row.outcome
+        (λ n told.
+        let so = alive_is (desk_for workers k.line.node k.line.asks) k.look k.line.asks k.row.outcome n row.tells (sym outcome_same ∙ told) in
+        came.lowest.each i u.line (looked.Reported n) line_at node (k.look_at ∙ ap Some so.1) goes)
+        (λ told.
+        let so = retired_is (desk_for workers k.line.node k.line.asks) k.look k.line.asks k.row.outcome row.tells (sym outcome_same ∙ told) in
+        came.lowest.each i u.line looked.Left line_at node (k.look_at ∙ ap Some so.1) goes)
+
+    pub trim_of_row : length yard.disks ≡ length workers → LineTrimmed played (length yard.disks) o.chain.trim j t trim
+    trim_of_row nodes = record {
+      upto = let up = came.upto in let same = trim_same ∙ ap (λ (es : List Event). trim_of (state_of es)) (sym h.journal_is) in omega (arith, up, same);
+      node = came.lowest.node;
+      least = came.lowest.least;
+      most = let most = came.lowest.most in omega (arith, most, nodes);
+      told = below;
+    }
+
+  -- The end
+
+  module _ (told : (k : ℕ) → 1 ≤ k → k ≤ length workers → (trim_of (state_of h.course.journal) ≡ 0) ⊎ (AskedFor lines looks k Retire (λ look. Unit {0}) ⊎ AskedFor lines looks k Alive (TellsAtLeast (trim_of (state_of h.course.journal))))) where
+    now_trim : trim_of (state_of h.course.journal) ≡ o.chain.trim
+    now_trim = ap (λ (es : List Event). trim_of (state_of es)) h.journal_is ∙ sym trim_same
+
+    -- a line asks for a trim, where something is trimmed
+    trim_line : o.chain.trim ≢ 0 → SomeTurn played (λ t. t.line.asks ≡ asks.Admin Trim)
+    trim_line some = ⊎_elim (λ (none : o.chain.trim ≡ 0). absurd (some none)) by freed
+      where
+        asked : (e : Entry) (q : Placed) (n : ℕ) → Contains (appended journal) e → Contains (unpack 0 e) q → q.content ≡ content.Trim n → SomeTurn played (λ t. t.line.asks ≡ asks.Admin Trim)
+        asked e q n has says is =
+            let own = own_items e q has says in
+            let k : HasAsked lines own.0 Trim = subst (IsLineOf lines own.0) is own.1 in
+            let t = turn_at k.at k.line k.is in
+            record { at = k.at; turn = t.0; is = t.1; so = ap (λ (l : NamedLine). l.asks) t.2 ∙ k.asks }
+
+        by : Frees floor journal o.chain.trim → SomeTurn played (λ t. t.line.asks ≡ asks.Admin Trim)
+        by f =
+            let m = floor_is.only f.log o.chain.trim f.free in
+            ⊎_elim
+            (λ (zero_is : trim_point (unpack_all 0 f.log) ≡ 0). let point = m.point in let none : o.chain.trim ≡ 0 = omega (arith, point, zero_is) in absurd (some none))
+            (λ (p : (p : Placed) × Contains (unpack_all 0 f.log) p × (p.content ≡ content.Trim (trim_point (unpack_all 0 f.log)))).
+            let e = unpack_says f.log p.0 p.1 in
+            asked e.0 e.2 (trim_point (unpack_all 0 f.log)) (f.each e.0 e.1) e.3 (e.4 ∙ p.2))
+            (point_says (unpack_all 0 f.log))
+
+    turn_for : (node : ℕ) (what : _) (P : Looked → Type 0) → AskedFor lines looks node what P → (at : ℕ) × (t : Played) × (slice_get played at ≡ Some t) × (t.line.node ≡ node) × (t.line.asks ≡ asks.Admin what)
+    turn_for node what P a =
+        let t = turn_at a.at a.line a.is in
+        (a.at, t.0, t.1, ap (λ (l : NamedLine). l.node) t.2 ∙ a.node_is, ap (λ (l : NamedLine). l.asks) t.2 ∙ a.asks)
+
+    lets_go : o.chain.trim ≢ 0 → (node : ℕ) → 1 ≤ node → node ≤ length workers → SomeTurn played (LetsGo node)
+    lets_go some node low high = ⊎_elim
+        (λ (none : trim_of (state_of h.course.journal) ≡ 0). absurd (some (sym now_trim ∙ none)))
+        (λ k. ⊎_elim
+        (λ (leaves : AskedFor lines looks node Retire (λ look. Unit {0})). let t = turn_for node Retire (λ look. Unit {0}) leaves in record { at = t.0; turn = t.1; is = t.2; so = record { node_is = t.3; kind = inr t.4 } })
+        (λ (reports : AskedFor lines looks node Alive (TellsAtLeast (trim_of (state_of h.course.journal)))).
+        let t = turn_for node Alive (TellsAtLeast (trim_of (state_of h.course.journal))) reports in
+        record { at = t.0; turn = t.1; is = t.2; so = record { node_is = t.3; kind = inl t.4 } })
+        k)
+        (told node low high)
+
+    reached : (node : ℕ) → 1 ≤ node → node ≤ length workers → IsKnown played node → (o.chain.trim ≡ 0) ⊎ SomeTurn played (ReportsAbove node o.chain.trim)
+    unfolding turn_for
+    reached node low high known = ⊎_elim (λ (none : trim_of (state_of h.course.journal) ≡ 0). inl (sym now_trim ∙ none)) (λ k. ⊎_elim left alive k) (told node low high)
+      where
+        left : AskedFor lines looks node Retire (λ look. Unit {0}) → (o.chain.trim ≡ 0) ⊎ SomeTurn played (ReportsAbove node o.chain.trim)
+        left a = let t = turn_for node Retire (λ look. Unit {0}) a in absurd (known.stays t.0 t.1 t.2 t.3 t.4)
+
+        alive : AskedFor lines looks node Alive (TellsAtLeast (trim_of (state_of h.course.journal))) → (o.chain.trim ≡ 0) ⊎ SomeTurn played (ReportsAbove node o.chain.trim)
+        alive a =
+            let t = turn_for node Alive (TellsAtLeast (trim_of (state_of h.course.journal))) a in
+            by t.0 t.1 t.2 t.3 t.4 a.look (tells_at t.0 t.1 Alive a.look t.2 t.4 a.looked) a.so
+          where
+            by : (at : ℕ) (t : Played) → slice_get played at ≡ Some t → t.line.node ≡ node → t.line.asks ≡ asks.Admin Alive → (look : Looked) → Tells None (Some look) (asks.Admin Alive) t.row.outcome → TellsAtLeast (trim_of (state_of h.course.journal)) look
+                → (o.chain.trim ≡ 0) ⊎ SomeTurn played (ReportsAbove node o.chain.trim)
+            by at t is node_is asked (looked.Reported n) tells up =
+                inr (record { at = at; turn = t; is = is; so = record { node_is = node_is; clean = n; is = alive_told (Some (looked.Reported n)) t.row.outcome n tells refl; above = let same = now_trim in omega (arith, up, same) } })
+            by at t is node_is asked (looked.Failed c) tells up =
+                let open_row = open_told (Some (looked.Failed c)) t.row.outcome c tells refl in
+                let closed = known.closed at t is node_is asked in
+                absurd (cc)
+            by at t is node_is asked look tells up = absurd up
+
+    pub trims_ended : length yard.disks ≡ length workers → o.chain.trim ≤ o.end
+        → ((j : ℕ) (t : Played) (trim : ℕ) → slice_get played j ≡ Some t → t.row.outcome ≡ out.Trimmed trim → o.chain.trim ≡ 0 → (position : ℕ) × Contains (map (λ (p : Placed). p.content) (unpack_all 0 (virtual_log o.chain yard.cells 0 (virtual_tail o.chain yard.cells)))) (content.Trim position))
+        → TrimsEnded played (length yard.disks) o.chain yard.cells o.end
+    trims_ended nodes short stands = record {
+      each = λ j t trim at is. trim_of_row j t trim at is nodes;
+      within = short;
+      asked = λ some. record { trims = trim_line some; each = λ node low high. lets_go some node low (omega (arith, high, nodes)) };
+      reached = λ node low high known. reached node low (omega (arith, high, nodes)) known;
+      stand = stands;
+    }

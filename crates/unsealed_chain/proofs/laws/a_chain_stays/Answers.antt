@@ -1,5 +1,0 @@
-use Rattle.unsealed_chain.proofs.Staying.{chain_stays}
-use Rattle.unsealed_chain.proofs.laws.a_chain_stays.Goals as goal
-
-pub returns : goal.returns
-returns g c = let p = g.P.Rules in λ early more n legal was none calm. chain_stays p.may p.floor p.shelf early more n legal was none calm

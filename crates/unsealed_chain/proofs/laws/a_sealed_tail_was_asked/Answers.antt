@@ -1,5 +1,0 @@
-use Rattle.unsealed_chain.proofs.Staying.{tail_asked}
-use Rattle.unsealed_chain.proofs.laws.a_sealed_tail_was_asked.Goals as goal
-
-pub returns : goal.returns
-returns g c = let p = g.P.Rules in λ events i tail legal h. tail_asked p.may p.floor p.shelf events i tail legal h

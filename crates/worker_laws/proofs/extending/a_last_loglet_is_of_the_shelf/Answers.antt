@@ -1,5 +1,0 @@
-use Rattle.worker_laws.proofs.Chains.{last_within}
-use Rattle.worker_laws.proofs.extending.a_last_loglet_is_of_the_shelf.Goals as goal
-
-pub returns : goal.returns
-returns g c = let p = g.P.Rules in λ seen legal. last_within p.may p.floor p.shelf seen legal

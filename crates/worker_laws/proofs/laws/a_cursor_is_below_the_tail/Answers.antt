@@ -1,5 +1,0 @@
-use Rattle.worker_laws.proofs.Bounding.{front_below}
-use Rattle.worker_laws.proofs.laws.a_cursor_is_below_the_tail.Goals as goal
-
-pub returns : goal.returns
-returns g c = let p = g.P.Rules in λ low seen log legal front. front_below p.may p.floor p.shelf low seen log legal front

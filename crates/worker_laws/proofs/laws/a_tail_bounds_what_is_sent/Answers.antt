@@ -1,6 +1,0 @@
-use Rattle.worker_laws.proofs.Bounding.{tail_bounds}
-use Rattle.worker_laws.proofs.laws.a_tail_bounds_what_is_sent.Goals as goal
-
-pub returns : goal.returns
-returns g c = let p = g.P.Rules in λ low counts early late s r pos e within legal held has above.
-    tail_bounds p.may p.floor p.shelf low counts early late s r pos e within legal held has above

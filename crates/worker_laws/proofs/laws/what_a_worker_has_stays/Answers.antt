@@ -1,6 +1,0 @@
-use Rattle.worker_laws.proofs.Staying.{worker_stays}
-use Rattle.worker_laws.proofs.laws.what_a_worker_has_stays.Goals as goal
-
-pub returns : goal.returns
-returns g c = let p = g.P.Rules in let r = g.S.Replica in λ who counts counts' early more seat desks h legal up same.
-    worker_stays p.may p.floor p.shelf r.state r.spells who counts counts' early more seat desks h legal up same
