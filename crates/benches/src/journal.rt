@@ -7,7 +7,7 @@ use std::alloc::Global;
 pub(crate) fn run(alloc: Global, records: u32, bytes: usize) -> Option<u64> {
     let mut payload = Vec::new(alloc);
     payload.resize(bytes, 7u8).ok()?;
-    let mut journal = Journal::open_on(alloc, MemDisk::new(alloc)).ok()?;
+    let mut journal = Journal::open_on(alloc, MemDisk::new(alloc)).ok()?.journal;
     for _ in 0..records {
         journal.append(&payload).ok()?;
     }

@@ -23,8 +23,7 @@ use std::marker::Model;
 /// It is down from a write in which the disk failed to a restart, which finds that write done or
 /// not.
 ///
-/// Memory: the journal keeps the bytes of every record, trimmed entries included. Beside them there
-/// are a few numbers.
+/// Memory: a few numbers. The records stand on the disk alone.
 #[derive(Drop)]
 pub struct FileServer<D: Disk> {
     alloc: Global,
@@ -57,7 +56,7 @@ impl<D: Disk> FileServer<D> {
         ensures failed { IfErr result (λ e. e.fault ≡ Fault.Disk → Rose (D.view disk).faults (D.view e.disk).faults) }
         ensures any_crash { IfErr result (λ e. AnyCrashLeaves (D.view disk) (D.view e.disk) (λ found. found ≡ [])) }
     {
-        let journal = Journal::open_on(alloc, disk)?;
+        let journal = Journal::open_on(alloc, disk)?.journal;
         let extent = Extent {
             base: 0,
             length: 0,

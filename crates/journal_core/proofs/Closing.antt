@@ -7,9 +7,8 @@ use Rattle.disk_model.specs.Disk.{Written, changed}
 use Rattle.disk_model.specs.Torn.{IsTorn}
 use Rattle.disk_model.proofs.Tear.{done_torn}
 use Rattle.disk_model.proofs.Images.{written_inside}
-use Rattle.journal_core.specs.Records.{number, size, first_record, records_of}
+use Rattle.journal_core.specs.Records.{number, size, first_record, records_of, payloads}
 use Rattle.journal_core.specs.Layout.{Whole, EndsAt}
-use Rattle.journal_core.specs.Kept.{payloads}
 use Rattle.journal_core.proofs.Walk.{to_first, none_short, some_open, whole_keeps, whole_all}
 
 pub payloads-push : (vs : List (Vec ℕ Global)) (v : Vec ℕ Global) → payloads (vs ++ v ∷ []) ≡ payloads vs ++ v.items ∷ []

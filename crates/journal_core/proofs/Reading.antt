@@ -1,5 +1,8 @@
 -- What three reads tell of a record.
 use Rattle.std.proofs.Common.{◌≡◌, ℕ, ◌+◌, ◌≤◌, true, false, Some, None, List, ◌++◌, length, get_or, take, drop, Result, Ok, Err, OnOk, OnErr, is_err, sym, ◌∙◌, ap, arith, length-take, length-drop}
+use Rattle.disk_model.specs.Disk.{Moment, content}
+use Rattle.disk_model.specs.Crash.{Leaves}
+use Rattle.disk_model.proofs.Images.{replayed_between}
 use Rattle.std.proofs.lemmas.List.{get_or-take, drop-drop, take_all, drop_all, append-nil}
 use Rattle.std.specs.Int.{w64, from_be_bytes}
 use Rattle.journal_core.specs.Records.{number, size, first_record}
@@ -12,6 +15,12 @@ ok_holds (Err e) P fine h = cc fine
 pub err_holds : {T E : Type 0} (r : Result T E) (P : Type 0) → is_err r ≡ true → OnErr r P → P
 err_holds (Ok x) P failed h = cc failed
 err_holds (Err e) P failed h = h
+
+-- what each image has, what a read gives has
+pub now_has : (m : Moment) (P : List ℕ → Type 0) → Leaves m P → P (content m)
+now_has m P left =
+    let between = replayed_between m.changes m.synced in
+    left (content m) (record { no_shorter = between.no_shorter; no_longer = between.no_longer; kept = between.kept })
 
 module _ (file : List ℕ) (at : ℕ) where
   pub gate_read : (buf : List ℕ) → buf ≡ take 1 (drop at file) → get_or (drop at file) 0 0 ≡ get_or buf 0 0

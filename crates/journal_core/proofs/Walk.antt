@@ -1,10 +1,10 @@
 -- Records, one behind the other.
-use Rattle.std.proofs.Common.{◌≡◌, ◌≢◌, inl, inr, ℕ, zero, suc, ◌+◌, ◌-◌, ◌<◌, ◌≤◌, Option, Some, None, List, [], ◌∷◌, ◌++◌, length, get_or, take, drop, refl, sym, ◌∙◌, ap, subst, arith, length-take, length-drop}
-use Rattle.std.proofs.lemmas.List.{get_or-take, get_or-drop, take-take, drop-take, drop-drop, append-nil}
+use Rattle.std.proofs.Common.{◌≡◌, ◌≢◌, inl, inr, ℕ, zero, suc, ◌+◌, ◌-◌, ◌<◌, ◌≤◌, Option, Some, None, List, [], ◌∷◌, ◌++◌, length, get_or, take, drop, refl, sym, ◌∙◌, ap, subst, arith, length-append, length-take, length-drop}
+use Rattle.std.proofs.lemmas.List.{get_or-take, get_or-drop, get_or_at, take-take, drop-take, drop-drop, append-nil}
 use Rattle.std.proofs.lemmas.Bool.{cases_eq, cases_lt}
 use Rattle.std.proofs.lemmas.Bool.Decides.{nat_tests}
 use Rattle.journal_core.specs.Records.{number, size, first_record, records_within, records_of}
-use Rattle.journal_core.specs.Layout.{Whole, EndsAt}
+use Rattle.journal_core.specs.Layout.{Whole, IsWalked, IsEnd, EndsAt}
 
 pub record IsFirst (bytes p : List ℕ) : Type 0 where
   pub opened : get_or bytes 0 0 ≡ 1
@@ -114,3 +114,45 @@ none_at e bytes shut = none_closed (drop e bytes) (λ is. shut (sym (get_or-drop
 
 pub ends_records : (ps : List (List ℕ)) (e : ℕ) (bytes : List ℕ) → EndsAt ps e bytes → records_of bytes ≡ ps
 ends_records ps e bytes ends = whole_all ps e bytes ends.whole (omega (arith, ends.inside)) (none_at e bytes ends.closed)
+
+-- ---- counting
+
+pub walked_none : (bytes : List ℕ) → IsWalked 0 0 bytes
+walked_none bytes = record { records = []; counted = refl; whole = refl }
+
+pub walked_few : (count e : ℕ) (bytes : List ℕ) → IsWalked count e bytes → count ≤ e
+walked_few count e bytes walked = omega (arith, walked.counted, whole_count walked.records e bytes walked.whole)
+
+-- one more
+pub walked_more : (count e n : ℕ) (bytes p : List ℕ) → IsWalked count e bytes → first_record (drop e bytes) ≡ Some p → length p ≡ n → IsWalked (count + 1) (e + (9 + n)) bytes
+walked_more count e n bytes p walked first long = record {
+  records = walked.records ++ p ∷ [];
+  counted = omega (arith, length-append walked.records (p ∷ []), walked.counted);
+  whole = subst (λ (k : ℕ). Whole (walked.records ++ p ∷ []) (e + (9 + k)) bytes) long (whole_push walked.records e bytes p walked.whole first);
+}
+
+-- no more
+pub walked_all : (count e : ℕ) (bytes : List ℕ) → IsWalked count e bytes → e ≤ length bytes → first_record (drop e bytes) ≡ None → count ≡ length (records_of bytes)
+walked_all count e bytes walked le none = sym walked.counted ∙ ap length (sym (whole_all walked.records e bytes walked.whole le none))
+
+pub whole_end : (ps : List (List ℕ)) (e : ℕ) (bytes : List ℕ) → Whole ps e bytes → e ≤ length bytes → first_record (drop e bytes) ≡ None → IsEnd e bytes
+whole_end ps e bytes whole le none = record {
+  whole = subst (λ (qs : List (List ℕ)). Whole qs e bytes) (sym (whole_all ps e bytes whole le none)) whole;
+  inside = le;
+  none = none;
+}
+
+pub walked_end : (count e : ℕ) (bytes : List ℕ) → IsWalked count e bytes → e ≤ length bytes → first_record (drop e bytes) ≡ None → IsEnd e bytes
+walked_end count e bytes walked = whole_end walked.records e bytes walked.whole
+
+-- the next is that record
+pub walked_at : (i e : ℕ) (bytes p : List ℕ) → IsWalked i e bytes → first_record (drop e bytes) ≡ Some p → get_or (records_of bytes) i [] ≡ p
+walked_at i e bytes p walked first =
+    let long : 0 < length (drop e bytes) = omega (arith, (to_first (drop e bytes) p first).fits) in
+    let n = length bytes - (length walked.records + 1) in
+    let counts : length bytes ≡ length walked.records + suc n = omega (arith, whole_count walked.records e bytes walked.whole, length-drop e bytes, long) in
+    let all : records_of bytes ≡ walked.records ++ records_within (suc n) (drop e bytes) = walk walked.records e bytes (suc n) (length bytes) counts walked.whole in
+    let one : records_within (suc n) (drop e bytes) ≡ p ∷ records_within n (drop (9 + length p) (drop e bytes)) =
+    ap (λ (o : Option (List ℕ)). elim o as (λ _. List (List ℕ)) [ None ↦ [] | Some payload ↦ payload ∷ records_within n (drop (9 + length payload) (drop e bytes)) ]) first in
+    ap (λ (l : List (List ℕ)). get_or l i []) (all ∙ ap (λ (l : List (List ℕ)). walked.records ++ l) one)
+    ∙ get_or_at walked.records p (records_within n (drop (9 + length p) (drop e bytes))) [] i walked.counted

@@ -1,5 +1,6 @@
 -- What the bytes of a journal stand for.
-use Rattle.std.specs.Prelude.{ℕ, zero, suc, ◌+◌, ◌&&◌, ◌==◌, nat_lt, if◌then◌else◌, Option, Some, None, List, [], ◌∷◌, length, take, drop, slice_index}
+use Rattle.std.specs.Prelude.{ℕ, zero, suc, ◌+◌, ◌&&◌, ◌==◌, nat_lt, if◌then◌else◌, Option, Some, None, List, [], ◌∷◌, length, take, drop, slice_index, Vec, map}
+use Rattle.std.specs.declared.alloc.Global.{Global}
 use Rattle.std.specs.Int.{w64, from_be_bytes}
 
 -- the number that eight bytes spell, the greatest first
@@ -23,3 +24,7 @@ records_within (suc n) bytes = elim (first_record bytes) [ None ↦ [] | Some pa
 -- The records: the payloads behind open gates, up to the first gate that counts as closed.
 abbrev pub records_of : List ℕ → List (List ℕ)
 records_of bytes = records_within (length bytes) bytes
+
+-- the bytes of each
+abbrev pub payloads : List (Vec ℕ Global) → List (List ℕ)
+payloads vs = map (λ (v : Vec ℕ Global). v.items) vs

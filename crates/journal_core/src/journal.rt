@@ -1,11 +1,12 @@
-// A journal: records on a disk, and in memory beside it.
+// A journal: records on a disk, and in memory beside it how many they are.
 ghost use Rattle.std.specs.Prelude.{◌≡◌, ◌≢◌, ◌⊎◌, ◌+◌, ◌-◌, ◌^◌, ◌<◌, ◌≤◌, ◌↔◌, ℕ, Some, None, [], ◌∷◌, ◌++◌, length, nat_lt, true, false, if◌then◌else◌, IfOk, IfErr, OnOk, OnErr, IsErrOf, slice_index_or};
 ghost use Rattle.disk_model.specs.Disk.{DiskView, reads, IsSynced, Rose};
-ghost use Rattle.journal_core.specs.Records.{records_of};
+ghost use Rattle.journal_core.specs.Records.{records_of, payloads};
 ghost use Rattle.journal_core.specs.Journal.{View, MayFind, LeavesRecords, AnyCrashLeaves, Survives};
 
-use crate::layout::{OVERHEAD, add};
-use crate::open::scan;
+use crate::gates::{OVERHEAD, read_records};
+use crate::layout::add;
+use crate::open::{close_end, record_at, scan};
 use crate::{AppendFault, Fault, Refused};
 use disk_model::Disk;
 use std::alloc::Global;
@@ -16,14 +17,13 @@ use std::marker::Model;
 /// Contracts see it as a `View`: its `records`; the `torn` one, of the append in which the disk failed; whether it is
 /// `shut`; and its `disk`.
 ///
-/// Memory: each record is kept in memory too, its bytes and some 24 more, so that the records show even where the disk
-/// fails.
+/// Memory: constant, but for the torn record. The records are kept on the disk alone.
 #[derive(Drop)]
 pub struct Journal<D: Disk> {
     alloc: Global,
     disk: D,
-    // The records on the disk.
-    found: Vec<Vec<u8>>,
+    // How many records there are, the first ones on the disk.
+    count: usize,
     // Where they end on the disk, at a closed gate.
     end: u64,
     torn: Option<Vec<u8>>,
@@ -33,32 +33,43 @@ pub struct Journal<D: Disk> {
 impl<D: Disk> Model for Journal<D> {
     ghost use Rattle.std.specs.Prelude.{option_map};
     ghost use Rattle.journal_core.specs.Journal.{View};
-    ghost use Rattle.journal_core.specs.Kept.{payloads, IsKept};
+    ghost use Rattle.disk_model.specs.Disk.{reads};
+    ghost use Rattle.journal_core.specs.Kept.{first_records, IsKept};
 
     ghost Value = { View };
 
-    ghost view = { λ j. record { records = payloads j.found.items; torn = option_map (λ v. v.items) j.torn; shut = j.shut; disk = D.view j.disk } };
+    ghost view = { λ j. record { records = first_records j.count (reads (D.view j.disk)); torn = option_map (λ v. v.items) j.torn; shut = j.shut; disk = D.view j.disk } };
 
-    ghost invariant = { λ j. IsKept (payloads j.found.items) (option_map (λ v. v.items) j.torn) j.end j.shut (D.view j.disk).stopped (D.view j.disk).timeline };
+    ghost invariant = { λ j. IsKept j.count (option_map (λ v. v.items) j.torn) j.end j.shut (D.view j.disk).stopped (D.view j.disk).timeline };
+}
+
+/// A journal just opened, and its records, which it doesn't keep.
+#[derive(Drop)]
+pub struct Opened<D: Disk> {
+    /// The journal.
+    pub journal: Journal<D>,
+    /// Its records, the first of them first.
+    pub records: Vec<Vec<u8>>,
 }
 
 impl<D: Disk> Journal<D> {
-    /// Opens a disk on which nothing is pending: its journal has the records behind open gates. A refusal hands the disk
-    /// back. A crash inside leaves the same records.
+    /// Opens a disk on which nothing is pending: its journal has the records behind open gates, which are handed out. A
+    /// refusal hands the disk back. A crash inside leaves the same records.
     ///
     /// Cost: three reads a record, and at most one write of a byte.
-    pub fn open_on(alloc: Global, mut disk: D) -> Result<Journal<D>, Refused<D>>
+    pub fn open_on(alloc: Global, mut disk: D) -> Result<Opened<D>, Refused<D>>
         requires { IsSynced (D.view disk) }
-        ensures records { IfOk result (λ j. j.records ≡ records_of (reads (D.view disk))) }
-        ensures opened { IfOk result (λ j. (j.torn ≡ None) × (j.shut ≡ false)) }
-        ensures survives { IfOk result Survives }
-        ensures any_crash { IfOk result (λ j. AnyCrashLeaves (D.view disk) j.disk (λ found. found ≡ records_of (reads (D.view disk)))) }
-        ensures no_fault { IfOk result (λ j. j.disk.faults ≡ (D.view disk).faults) }
-        ensures armed { IfOk result (λ j. j.disk.armed ≤ (D.view disk).armed) }
+        ensures records { IfOk result (λ o. o.journal.records ≡ records_of (reads (D.view disk))) }
+        ensures handed { IfOk result (λ o. payloads o.records.items ≡ o.journal.records) }
+        ensures opened { IfOk result (λ o. (o.journal.torn ≡ None) × (o.journal.shut ≡ false)) }
+        ensures survives { IfOk result (λ o. Survives o.journal) }
+        ensures any_crash { IfOk result (λ o. AnyCrashLeaves (D.view disk) o.journal.disk (λ found. found ≡ records_of (reads (D.view disk)))) }
+        ensures no_fault { IfOk result (λ o. o.journal.disk.faults ≡ (D.view disk).faults) }
+        ensures armed { IfOk result (λ o. o.journal.disk.armed ≤ (D.view disk).armed) }
 
         // At most one write was made: it is armed where it was, and one that fails may have reached the armed write.
-        ensures one_write { IfOk result (λ j. (j.disk.armed ≡ (D.view disk).armed) ⊎ (((D.view disk).armed ≢ 1) × (j.disk.armed ≡ (D.view disk).armed - 1))) }
-        ensures still_armed { IfOk result (λ j. nat_lt 0 j.disk.armed ≡ nat_lt 0 (D.view disk).armed) }
+        ensures one_write { IfOk result (λ o. (o.journal.disk.armed ≡ (D.view disk).armed) ⊎ (((D.view disk).armed ≢ 1) × (o.journal.disk.armed ≡ (D.view disk).armed - 1))) }
+        ensures still_armed { IfOk result (λ o. nat_lt 0 o.journal.disk.armed ≡ nat_lt 0 (D.view disk).armed) }
         ensures one_write_refused { IfErr result (λ e. ((D.view e.disk).armed ≡ (D.view disk).armed) ⊎ ((D.view e.disk).armed ≡ (D.view disk).armed - 1)) }
         ensures memory_state { IfErr result (λ e. e.fault ≡ Fault.Memory → ((D.view e.disk).stopped ≡ (D.view disk).stopped) × ((D.view e.disk).armed ≡ (D.view disk).armed)) }
 
@@ -69,17 +80,22 @@ impl<D: Disk> Journal<D> {
         ensures faults_refused { IfErr result (λ e. (D.view disk).faults ≤ (D.view e.disk).faults) }
         ensures armed_refused { IfErr result (λ e. (D.view e.disk).armed ≤ (D.view disk).armed) }
     {
-        match scan(alloc, &mut disk) {
-            Ok((found, end)) => Ok(Journal {
-                alloc,
-                disk,
-                found,
-                end,
-                torn: None,
-                shut: false,
-            }),
-            Err(fault) => Err(Refused { fault, disk }),
+        let (records, end) = match read_records(alloc, &mut disk, 0) {
+            Ok(found) => found,
+            Err(fault) => return Err(Refused { fault, disk }),
+        };
+        if let Err(fault) = close_end(&mut disk, end) {
+            return Err(Refused { fault, disk });
         }
+        let journal = Journal {
+            alloc,
+            disk,
+            count: records.len(),
+            end,
+            torn: None,
+            shut: false,
+        };
+        Ok(Opened { journal, records })
     }
 
     /// The journal of a disk without records that couldn't be opened: it has none, and is shut until a reopening succeeds.
@@ -92,7 +108,7 @@ impl<D: Disk> Journal<D> {
         Journal {
             alloc,
             disk,
-            found: Vec::new(alloc),
+            count: 0,
             end: 0,
             torn: None,
             shut: true,
@@ -105,7 +121,7 @@ impl<D: Disk> Journal<D> {
     /// without. After `Memory` nothing changed but that the disk may have been written to behind the records. `Shut`
     /// comes just where the journal is shut, and changes nothing.
     ///
-    /// Cost: O(payload), amortized: two writes and two syncs, and no read or copy of what is there.
+    /// Cost: O(payload): two writes and two syncs, and no read or copy of what is there.
     pub fn append(&mut self, payload: &[u8]) -> Result<(), AppendFault>
         ensures ok { OnOk result (self.new ≡ record { records = self.old.records ++ payload.now ∷ []; torn = None; shut = false; disk = self.new.disk }) }
         ensures durable { OnOk result (LeavesRecords self.new.disk (λ found. found ≡ self.new.records)) }
@@ -130,11 +146,10 @@ impl<D: Disk> Journal<D> {
             return Err(AppendFault::Shut);
         }
         let kept = payload.to_vec(self.alloc)?;
-        self.found.reserve(1)?;
         match add(self.alloc, &mut self.disk, self.end, payload) {
             Ok(()) => {
                 self.end += OVERHEAD + payload.len() as u64;
-                self.found.push_reserved(kept);
+                self.count += 1;
                 Ok(())
             }
             Err(Fault::Memory) => Err(AppendFault::Memory),
@@ -150,7 +165,7 @@ impl<D: Disk> Journal<D> {
     /// one or without.
     ///
     /// After `Disk` the journal is shut, and shows what it showed; after `Memory` it shows that and is shut or not as
-    /// before. Cost: as `open_on`.
+    /// before. Cost: two reads of nine bytes in all for each record, and at most one write of a byte.
     pub fn reopen(&mut self, word: u64) -> Result<(), Fault>
         ensures ok { OnOk result ((self.new ≡ record { records = self.new.records; torn = None; shut = false; disk = self.new.disk }) × MayFind self.old self.new.records) }
         ensures durable { OnOk result (LeavesRecords self.new.disk (λ found. found ≡ self.new.records)) }
@@ -174,9 +189,9 @@ impl<D: Disk> Journal<D> {
             self.shut = true;
             return Err(Fault::Disk);
         }
-        match scan(self.alloc, &mut self.disk) {
-            Ok((found, end)) => {
-                self.found = found;
+        match scan(&mut self.disk) {
+            Ok((count, end)) => {
+                self.count = count;
                 self.end = end;
                 self.torn = None;
                 self.shut = false;
@@ -195,15 +210,23 @@ impl<D: Disk> Journal<D> {
         ensures count { result ≡ length self.now.records }
         ensures survives { Survives self.now }
     {
-        self.found.len()
+        self.count
     }
 
-    /// The i-th record, from 0 on, in constant time.
-    pub fn get(&self, i: usize) -> &[u8]
-        requires { i < length self.now.records }
-        ensures { result.now ≡ slice_index_or self.now.records i [] }
+    /// The i-th record, from 0 on, read from the disk. It changes nothing but the count of the disk's faults, and doesn't
+    /// shut the journal. A disk that is stopped gives none until a reopening.
+    ///
+    /// Cost: two reads of nine bytes in all for each record before it, and three for it.
+    pub fn get(&mut self, i: usize) -> Result<Vec<u8>, Fault>
+        requires { i < length self.old.records }
+        ensures record { IfOk result (λ v. v.items ≡ slice_index_or self.old.records i []) }
+        ensures same { self.new ≡ record self.old { disk = record self.old.disk { faults = self.new.disk.faults } } }
+        ensures failed { IsErrOf result Fault.Disk → Rose self.old.disk.faults self.new.disk.faults }
+        ensures no_fault { OnOk result (self.new.disk.faults ≡ self.old.disk.faults) }
+        ensures no_fault_memory { IsErrOf result Fault.Memory → self.new.disk.faults ≡ self.old.disk.faults }
+        ensures survives { Survives self.new }
     {
-        &self.found[i]
+        record_at(self.alloc, &mut self.disk, i)
     }
 
     /// The disk failed in some call since the last reopening that succeeded: no record is added until one does.
@@ -237,7 +260,7 @@ impl<D: Disk> Journal<D> {
         let Journal {
             alloc: _,
             disk,
-            found: _,
+            count: _,
             end: _,
             torn: _,
             shut: _,

@@ -1,34 +1,14 @@
 // A record on its way to the disk.
-ghost use Rattle.std.specs.Prelude.{◌≡◌, ◌≢◌, ◌⊎◌, ◌+◌, ◌-◌, ◌^◌, ◌<◌, ◌≤◌, ℕ, false, [], ◌∷◌, ◌++◌, length, nat_lt, IfOk, OnOk, IsErrOf};
+ghost use Rattle.std.specs.Prelude.{◌≡◌, ◌≢◌, ◌⊎◌, ◌+◌, ◌-◌, ◌^◌, ◌<◌, ◌≤◌, ℕ, false, [], ◌∷◌, ◌++◌, length, nat_lt, OnOk, IsErrOf};
 ghost use Rattle.disk_model.specs.Disk.{reads, IsSynced, Rose};
 ghost use Rattle.disk_model.specs.Crash.{AnyCrash};
 ghost use Rattle.journal_core.specs.Records.{records_of};
-ghost use Rattle.journal_core.specs.Layout.{EndsAt, framed, BeforeOrWith};
+ghost use Rattle.journal_core.specs.Layout.{EndsAt, BeforeOrWith};
 
 use crate::Fault;
+use crate::gates::{OPEN, frame};
 use disk_model::{Disk, write_synced};
-use std::alloc::{AllocError, Global};
-
-// The bytes beside a payload: its gate and its length.
-pub(crate) const OVERHEAD: u64 = 9;
-
-// A gate that is open; any other byte is a closed one.
-pub(crate) const OPEN: u8 = 1;
-
-// A gate that is closed.
-pub(crate) const CLOSED: u8 = 0;
-
-// What stands behind a gate: length, payload, and the next gate, which is closed.
-fn frame(alloc: Global, payload: &[u8]) -> Result<Vec<u8>, AllocError>
-    ensures framed { IfOk result (λ v. v.items ≡ framed payload.now) }
-    ensures short { length payload.now < 2 ^ 64 }
-{
-    let mut bytes = Vec::new(alloc);
-    bytes.extend_from_slice(&(payload.len() as u64).to_be_bytes())?;
-    bytes.extend_from_slice(payload)?;
-    bytes.push(CLOSED)?;
-    Ok(bytes)
-}
+use std::alloc::Global;
 
 // Adds a record where the records end, in two writes: all but its gate, and then the gate. So a crash in between, or
 // inside either, leaves a gate that is closed or a record that is whole.
@@ -44,6 +24,7 @@ pub(crate) fn add<D: Disk>(
     ensures ok { OnOk result (EndsAt (records_of (reads (D.view disk.old)) ++ payload.now ∷ []) (end + (9 + length payload.now)) (reads (D.view disk.new))) }
     ensures fits { OnOk result (end + (9 + length payload.now) < 2 ^ 48) }
     ensures any_crash { AnyCrash (D.view disk.old).timeline (D.view disk.new).timeline (BeforeOrWith (records_of (reads (D.view disk.old))) payload.now) }
+    ensures held { BeforeOrWith (records_of (reads (D.view disk.old))) payload.now (reads (D.view disk.new)) }
     ensures memory { IsErrOf result Fault.Memory → EndsAt (records_of (reads (D.view disk.old))) end (reads (D.view disk.new)) }
     ensures ok_synced { OnOk result (IsSynced (D.view disk.new)) }
     ensures memory_synced { IsErrOf result Fault.Memory → IsSynced (D.view disk.new) }

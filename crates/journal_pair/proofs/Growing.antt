@@ -7,8 +7,7 @@ use Rattle.disk_model.specs.Crash.{AnyCrash}
 use Rattle.disk_model.specs.CrashLaws.{joined, weaker}
 use Rattle.disk_model.proofs.Tear.{done_torn}
 use Rattle.journal_core.specs.Records.{first_record}
-use Rattle.journal_core.specs.Layout.{Whole, EndsAt, framed}
-use Rattle.journal_core.proofs.Walk.{whole_all}
+use Rattle.journal_core.specs.Layout.{EndsAt, framed}
 use Rattle.journal_core.proofs.Adding.{FirstDone, first_done, second_done, gate_torn}
 use Rattle.journal_core.proofs.Closing.{close_torn, close_done}
 use Rattle.journal_pair.specs.declared.area.Area.{Area}
@@ -115,9 +114,3 @@ module _ (ps : List (List ℕ)) (a : Area) (old : List ℕ) (open_at : IsOpenAt 
           ends = subst (EndsAt ps a.len) (sym (changed_behind a.base a.len (0 ∷ []) old open_at.inside)) (close_done ps a.len (drop a.base old) within opened open_at.whole all);
         };
       }
-
--- the records that were read are all
-pub all_read : (ps : List (List ℕ)) (second : Bool) (base len : ℕ) (file : List ℕ) → Selects second base file → Whole ps len (drop base file) → base + len ≤ length file → first_record (drop (base + len) file) ≡ None → records_of file ≡ ps
-all_read ps second base len file sel whole inside none =
-    selects_records second base file sel
-    ∙ whole_all ps len (drop base file) whole (omega (arith, inside, length-drop base file)) (ap first_record (drop-drop len base file) ∙ none)

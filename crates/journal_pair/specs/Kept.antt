@@ -2,7 +2,7 @@
 use Rattle.std.specs.Prelude.{◌≡◌, ℕ, ◌+◌, ◌^◌, ◌<◌, Bool, false, Option, None, Some, List, [], ◌∷◌, ◌++◌}
 use Rattle.disk_model.specs.Disk.{Timeline, content}
 use Rattle.disk_model.specs.Crash.{Leaves}
-use Rattle.journal_core.specs.Kept.{payloads}
+use Rattle.journal_core.specs.Records.{payloads}
 use Rattle.journal_pair.specs.Records.{records_of}
 use Rattle.journal_pair.specs.Layout.{Stands}
 use Rattle.journal_pair.specs.Journal.{EitherOf}

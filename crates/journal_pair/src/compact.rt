@@ -2,16 +2,16 @@
 ghost use Rattle.std.specs.Prelude.{◌≡◌, ◌≢◌, ◌⊎◌, ◌+◌, ◌-◌, ◌^◌, ◌<◌, ◌≤◌, ℕ, true, false, not, [], length, nat_lt, IfOk, OnOk, IsErrOf};
 ghost use Rattle.disk_model.specs.Disk.{reads, IsSynced, Rose};
 ghost use Rattle.disk_model.specs.Crash.{AnyCrash};
-ghost use Rattle.journal_core.specs.Kept.{payloads};
+ghost use Rattle.journal_core.specs.Records.{payloads};
 ghost use Rattle.journal_pair.specs.Records.{records_of};
 ghost use Rattle.journal_pair.specs.Layout.{Stands, BothLie, IsFree, spelled};
 
 use crate::area::{Area, HEADER};
 use crate::cut::cut_synced;
 use crate::header::{SELECTOR, selector, write_slot};
-use crate::layout::{CLOSED, OPEN};
 use disk_model::{Disk, WriteFault, write_synced};
 use journal_core::Fault;
+use journal_core::gates::{CLOSED, OPEN};
 use std::alloc::{AllocError, Global};
 
 // Lays these records into an area of their own, and then selects it: so a crash leaves the area of before whole, or the

@@ -2,35 +2,14 @@
 ghost use Rattle.std.specs.Prelude.{◌≡◌, ◌≢◌, ◌⊎◌, ◌+◌, ◌-◌, ◌^◌, ◌<◌, ◌≤◌, ℕ, false, [], ◌∷◌, ◌++◌, length, nat_lt, IfOk, OnOk, IsErrOf};
 ghost use Rattle.disk_model.specs.Disk.{reads, IsSynced, Rose};
 ghost use Rattle.disk_model.specs.Crash.{AnyCrash};
-ghost use Rattle.journal_core.specs.Layout.{framed};
 ghost use Rattle.journal_pair.specs.Records.{records_of};
 ghost use Rattle.journal_pair.specs.Layout.{Stands, BeforeOrWith};
 
 use crate::area::Area;
 use disk_model::{Disk, write_synced};
 use journal_core::Fault;
-use std::alloc::{AllocError, Global};
-
-// The bytes beside a payload: its gate and its length.
-pub(crate) const OVERHEAD: u64 = 9;
-
-// A gate that is open; any other byte is a closed one.
-pub(crate) const OPEN: u8 = 1;
-
-// A gate that is closed.
-pub(crate) const CLOSED: u8 = 0;
-
-// What stands behind a gate: length, payload, and the next gate, which is closed.
-fn frame(alloc: Global, payload: &[u8]) -> Result<Vec<u8>, AllocError>
-    ensures framed { IfOk result (λ v. v.items ≡ framed payload.now) }
-    ensures short { length payload.now < 2 ^ 64 }
-{
-    let mut bytes = Vec::new(alloc);
-    bytes.extend_from_slice(&(payload.len() as u64).to_be_bytes())?;
-    bytes.extend_from_slice(payload)?;
-    bytes.push(CLOSED)?;
-    Ok(bytes)
-}
+use journal_core::gates::{OPEN, OVERHEAD, frame};
+use std::alloc::Global;
 
 // Adds a record to the selected area, in two writes: all but its gate, and then the gate. So a crash in between, or
 // inside either, leaves a gate that is closed or a record that is whole.

@@ -2,7 +2,7 @@
 ghost use Rattle.std.specs.Prelude.{◌≡◌, ◌≢◌, ◌⊎◌, ◌+◌, ◌-◌, ◌^◌, ◌<◌, ◌≤◌, ℕ, true, false, [], length, nat_lt, IfOk, OnOk, IsErrOf};
 ghost use Rattle.disk_model.specs.Disk.{reads, IsSynced, Rose};
 ghost use Rattle.disk_model.specs.Crash.{AnyCrash};
-ghost use Rattle.journal_core.specs.Kept.{payloads};
+ghost use Rattle.journal_core.specs.Records.{payloads};
 ghost use Rattle.journal_pair.specs.Records.{is_ready, records_of};
 ghost use Rattle.journal_pair.specs.Layout.{Stands};
 

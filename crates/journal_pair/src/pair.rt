@@ -1,7 +1,7 @@
 //! A journal over two areas: records on a disk, and in memory beside it.
 ghost use Rattle.std.specs.Prelude.{◌≡◌, ◌≢◌, ◌⊎◌, ◌+◌, ◌-◌, ◌^◌, ◌<◌, ◌≤◌, ◌↔◌, ℕ, Some, None, [], ◌∷◌, ◌++◌, length, nat_lt, true, false, if◌then◌else◌, IfOk, IfErr, OnOk, OnErr, IsErrOf, slice_index_or};
 ghost use Rattle.disk_model.specs.Disk.{DiskView, reads, IsSynced, Rose};
-ghost use Rattle.journal_core.specs.Kept.{payloads};
+ghost use Rattle.journal_core.specs.Records.{payloads};
 ghost use Rattle.journal_pair.specs.Records.{records_of};
 ghost use Rattle.journal_pair.specs.Journal.{View, MayFind, LeavesRecords, AnyCrashLeaves, Survives};
 
@@ -36,7 +36,7 @@ pub struct JournalPair<D: Disk> {
 }
 
 impl<D: Disk> Model for JournalPair<D> {
-    ghost use Rattle.journal_core.specs.Kept.{payloads};
+    ghost use Rattle.journal_core.specs.Records.{payloads};
     ghost use Rattle.journal_pair.specs.Journal.{View};
     ghost use Rattle.journal_pair.specs.Kept.{other_of, IsKept};
 

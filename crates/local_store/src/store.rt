@@ -1,7 +1,7 @@
 //! A store over its disk.
 ghost use Rattle.std.specs.Prelude.{◌≡◌, ◌≢◌, ◌⊎◌, ℕ, ◌-◌, ◌≤◌, ◌↔◌, nat_lt, Bool, true, false, Some, None, Ok, [], IfOk, IfErr, OnOk, IsErrOf, if◌then◌else◌};
 ghost use Rattle.disk_model.specs.Disk.{reads, IsSynced, Rose};
-ghost use Rattle.journal_core.specs.Records.{records_of};
+ghost use Rattle.journal_core.specs.Records.{records_of, payloads};
 ghost use Rattle.journal_core.specs.Journal.{LeavesRecords, AnyCrashLeaves};
 ghost use Rattle.journal_core.specs.Journal as journal;
 ghost use Rattle.store_records.specs.Spelled.{nothing_saved, committed, saved_of, IsFirstBad};
@@ -18,7 +18,7 @@ use crate::replay::replay;
 use crate::spell::spell;
 use crate::txn::Txn;
 use disk_model::Disk;
-use journal_core::{AppendFault, Fault, Journal};
+use journal_core::{AppendFault, Fault, Journal, Opened};
 use std::alloc::{AllocError, Global};
 use std::marker::Model;
 use std::sync::Arc;
@@ -35,7 +35,7 @@ pub(crate) struct Asked {
 /// Contracts see it as a `View`: the cursor and the space; the transaction in which the disk failed; whether it is down;
 /// and its disk. A crash leaves what a reopening may find, and while the store is up just what it shows.
 ///
-/// Memory: the space, and beside it the journal, which keeps the record of every transaction.
+/// Memory: the space. The records of the transactions stand on the disk alone.
 #[derive(Drop)]
 pub struct Store<D: Disk> {
     alloc: Global,
@@ -86,8 +86,8 @@ impl<D: Disk> Store<D> {
         ensures failed { IfErr result (λ e. e.fault ≡ OpenFault.Disk → Rose (D.view disk).faults (D.view e.disk).faults) }
         ensures any_crash_refused { IfErr result (λ e. AnyCrashLeaves (D.view disk) (D.view e.disk) (λ found. found ≡ records_of (reads (D.view disk)))) }
     {
-        let journal = match Journal::open_on(alloc, disk) {
-            Ok(journal) => journal,
+        let Opened { journal, records } = match Journal::open_on(alloc, disk) {
+            Ok(opened) => opened,
             Err(refused) => {
                 return Err(Refused {
                     fault: fault_of(refused.fault),
@@ -95,7 +95,7 @@ impl<D: Disk> Store<D> {
                 });
             }
         };
-        match shared(alloc, &journal) {
+        match shared(alloc, records) {
             Ok((base, cursor)) => Ok(Store {
                 alloc,
                 journal,
@@ -303,7 +303,7 @@ fn begin_journal<D: Disk>(alloc: Global, disk: D) -> Result<Journal<D>, D>
     ensures memory_state { IfErr result (λ d. ((D.view d).stopped ≡ (D.view disk).stopped) × ((D.view d).armed ≡ (D.view disk).armed)) }
 {
     match Journal::open_on(alloc, disk) {
-        Ok(journal) => Ok(journal),
+        Ok(opened) => Ok(opened.journal),
         Err(refused) => match refused.fault {
             Fault::Disk => Ok(Journal::shut_on(alloc, refused.disk)),
             Fault::Memory => Err(refused.disk),
@@ -312,13 +312,13 @@ fn begin_journal<D: Disk>(alloc: Global, disk: D) -> Result<Journal<D>, D>
 }
 
 /// What the records of a journal spell, to be shared with transactions.
-fn shared<D: Disk>(alloc: Global, journal: &Journal<D>) -> Result<(Arc<Base>, u64), OpenFault>
-    ensures spelled { IfOk result (λ kept. saved_of journal.now.records ≡ Some (saved_with (arc_value kept.0).slots.entries kept.1)) }
+fn shared(alloc: Global, records: Vec<Vec<u8>>) -> Result<(Arc<Base>, u64), OpenFault>
+    ensures spelled { IfOk result (λ kept. saved_of (payloads records.items) ≡ Some (saved_with (arc_value kept.0).slots.entries kept.1)) }
     ensures short { IfOk result (λ kept. AreShort (arc_value kept.0).slots.entries) }
-    ensures bad { (index : ℕ) → IfErr result (λ fault. fault ≡ OpenFault.BadRecord index → IsFirstBad journal.now.records index) }
+    ensures bad { (index : ℕ) → IfErr result (λ fault. fault ≡ OpenFault.BadRecord index → IsFirstBad (payloads records.items) index) }
     ensures disk { IfErr result (λ fault. fault ≢ OpenFault.Disk) }
 {
-    let (base, cursor) = replay(alloc, journal)?;
+    let (base, cursor) = replay(alloc, records)?;
     match Arc::new(alloc, base) {
         Ok(base) => Ok((base, cursor)),
         Err(_) => Err(OpenFault::Memory),

@@ -1,6 +1,6 @@
 -- What is held and what the records spell stay together, and what a crash leaves of them.
-use Rattle.std.proofs.Common.{◌≡◌, ℕ, ◌^◌, ◌<◌, ◌≤◌, ◌⊎◌, inl, inr, Bool, true, false, not, cond, List, [], ◌∷◌, ◌++◌, length, take, Option, Some, None, refl, sym, ap, subst, ◌∙◌, arith}
-use Rattle.std.proofs.lemmas.List.{length-append}
+use Rattle.std.proofs.Common.{◌≡◌, ℕ, ◌+◌, ◌^◌, ◌<◌, ◌≤◌, ◌⊎◌, inl, inr, Bool, true, false, not, cond, List, [], ◌∷◌, ◌++◌, length, take, Option, Some, None, refl, sym, ap, subst, ◌∙◌, arith}
+use Rattle.std.proofs.lemmas.List.{length-append, take_more}
 use Rattle.disk_model.specs.Disk.{DiskView}
 use Rattle.disk_model.specs.Crash.{AnyCrash}
 use Rattle.disk_model.specs.CrashLaws.{stays, weaker}
@@ -177,6 +177,12 @@ bad_next records n s bytes read change next first within is value some told refu
   good = first.spelled;
   bad = ap (holding_next s) (ap record_of (sym is) ∙ sym value ∙ some) ∙ ap (λ t. cond t (Some (holding s change)) None) (sym told ∙ refused);
 }
+
+-- the next record follows
+pub spelled_more : (records : List (List ℕ)) (n : ℕ) (s after : Server) (bytes : List ℕ) (read : Option Record) (change : Record) (next : Bool) → server_of (take n records) ≡ Some s → n < length records → bytes ≡ slice_index_or records n [] → read ≡ record_of bytes → read ≡ Some change → next ≡ follows s change → next ≡ true → after ≡ holding s change → server_of (take (n + 1) records) ≡ Some after
+spelled_more records n s after bytes read change next first within is value some told fine held =
+    ap server_of (take_more records n [] within ∙ ap (λ (b : List ℕ). take n records ++ b ∷ []) (sym is)) ∙ server_of-more (take n records) bytes
+    ∙ ap (λ (o : Option Server). server_after o bytes) first ∙ ap (holding_next s) (sym value ∙ some) ∙ ap (λ t. cond t (Some (holding s change)) None) (sym told ∙ fine) ∙ ap Some (sym held)
 
 -- ---- a restart
 

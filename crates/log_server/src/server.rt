@@ -17,7 +17,7 @@ use crate::replay::replay;
 use delos_types::bytes::Bytes;
 use delos_types::entry::Entry;
 use disk_model::Disk;
-use journal_core::{AppendFault, Fault, Journal};
+use journal_core::{AppendFault, Fault, Journal, Opened};
 use quorum_cell::message::{Ask, Told};
 use server_records::{sealed_record, stored_record, trimmed_record};
 use std::alloc::{AllocError, Global};
@@ -30,7 +30,7 @@ use std::marker::Model;
 /// [`Told::DiskFault`] it is down, and answers [`Told::Down`], until a [`LogServer::restart`] answers true. A refusal for
 /// want of memory changes nothing that it holds.
 ///
-/// Memory: each entry is kept twice, as a value and as the journal keeps its record.
+/// Memory: each entry once, as a value. Its record stands on the disk alone.
 #[derive(Drop)]
 pub struct LogServer<D: Disk> {
     alloc: Global,
@@ -67,8 +67,8 @@ impl<D: Disk> LogServer<D> {
         ensures failed { IfErr result (λ e. e.fault ≡ OpenFault.Disk → Rose (D.view disk).faults (D.view e.disk).faults) }
         ensures any_crash_refused { IfErr result (λ e. AnyCrashLeaves (D.view disk) (D.view e.disk) (λ found. found ≡ records_of (reads (D.view disk)))) }
     {
-        let journal = match Journal::open_on(alloc, disk) {
-            Ok(journal) => journal,
+        let Opened { journal, records } = match Journal::open_on(alloc, disk) {
+            Ok(opened) => opened,
             Err(refused) => {
                 return Err(Refused {
                     fault: fault_of(refused.fault),
@@ -76,7 +76,7 @@ impl<D: Disk> LogServer<D> {
                 });
             }
         };
-        match replay(alloc, &journal) {
+        match replay(alloc, records) {
             Ok(held) => Ok(LogServer {
                 alloc,
                 journal,

@@ -5,7 +5,7 @@ use Rattle.std.specs.Option.{ForSome}
 use Rattle.std.specs.Result.{result_ok}
 use Rattle.std.proofs.lemmas.Bool.{le-ltb, ltb-false, ltb-true}
 use Rattle.std.proofs.lemmas.Bool.Decides.{nat_tests}
-use Rattle.std.proofs.lemmas.List.{length-append}
+use Rattle.std.proofs.lemmas.List.{length-append, take_more}
 use Rattle.std.proofs.lemmas.List.Sums.{fold-append}
 use Rattle.std.proofs.Math.Seq.{take-append_seam, drop-append_seam}
 use Rattle.delos_types.specs.Numbers.{u64_bytes, u64_of}
@@ -275,6 +275,12 @@ bad_next records n s next bytes read is_next first within is value some told ref
   good = first.spelled;
   bad = ap (standing_next s) (ap standing_in (sym is) ∙ sym value ∙ some) ∙ ap (λ t. cond t (Some next) None) (sym told ∙ refused);
 }
+
+-- the next record follows
+pub spelled_more : (records : List (List ℕ)) (n : ℕ) (s next : Standing) (bytes : List ℕ) (read : Option Standing) (is_next : Bool) → standing_of (take n records) ≡ Some s → n < length records → bytes ≡ slice_index_or records n [] → read ≡ standing_in bytes → read ≡ Some next → is_next ≡ eqb next.version (s.version + 1) → is_next ≡ true → standing_of (take (n + 1) records) ≡ Some next
+spelled_more records n s next bytes read is_next first within is value some told fine =
+    ap standing_of (take_more records n [] within ∙ ap (λ (b : List ℕ). take n records ++ b ∷ []) (sym is)) ∙ fold-append standing_after (Some first_standing) (take n records) (bytes ∷ [])
+    ∙ ap (λ (o : Option Standing). standing_after o bytes) first ∙ ap (standing_next s) (sym value ∙ some) ∙ ap (λ t. cond t (Some next) None) (sym told ∙ fine)
 
 -- ---- what holds at every moment
 

@@ -16,7 +16,7 @@ use crate::replay::replay;
 use crate::standing::{Standing, settle};
 use delos_types::chain::Chain;
 use disk_model::Disk;
-use journal_core::{AppendFault, Fault, Journal};
+use journal_core::{AppendFault, Fault, Journal, Opened};
 use register_api::{ReadAnswer, Register, WriteAnswer};
 use std::alloc::{AllocError, Global};
 use std::marker::Model;
@@ -26,8 +26,8 @@ use std::marker::Model;
 /// Contracts see it as a `View`: what every register shows, and its disk. A crash leaves what a reopening may find; while
 /// it is up, just what stands.
 ///
-/// Cost: a read copies the chain, a write copies and spells it: at most 64 segments. A reopening reads the journal, which
-/// keeps the record of every write.
+/// Cost: a read copies the chain, a write copies and spells it: at most 64 segments. A reopening goes over the records of the
+/// journal, one for every write. Memory: two chains at most.
 #[derive(Drop)]
 pub struct MetaRegister<D: Disk> {
     alloc: Global,
@@ -80,8 +80,8 @@ impl<D: Disk> MetaRegister<D> {
         ensures failed { IfErr result (λ e. e.fault ≡ OpenFault.Disk → Rose (D.view disk).faults (D.view e.disk).faults) }
         ensures any_crash_refused { IfErr result (λ e. AnyCrashLeaves (D.view disk) (D.view e.disk) (λ found. found ≡ records_of (reads (D.view disk)))) }
     {
-        let journal = match Journal::open_on(alloc, disk) {
-            Ok(journal) => journal,
+        let Opened { journal, records } = match Journal::open_on(alloc, disk) {
+            Ok(opened) => opened,
             Err(refused) => {
                 return Err(Refused {
                     fault: fault_of(refused.fault),
@@ -89,7 +89,7 @@ impl<D: Disk> MetaRegister<D> {
                 });
             }
         };
-        match replay(alloc, &journal) {
+        match replay(alloc, records) {
             Ok(standing) => Ok(MetaRegister {
                 alloc,
                 journal,

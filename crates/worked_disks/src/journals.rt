@@ -24,7 +24,7 @@ fn raise<D: Disk>(tally: &mut Journal<D>) -> Result<usize, AppendFault>
 impl OnDisk for Journal<FailDisk> {
     fn open(alloc: Global, disk: FailDisk) -> Result<Result<Self, Refusal>> {
         match Journal::open_on(alloc, disk) {
-            Ok(journal) => Ok(Ok(journal)),
+            Ok(opened) => Ok(Ok(opened.journal)),
             Err(refused) => Ok(Err(Refusal {
                 disk: refused.disk,
                 why: format!(in alloc; "{}", refused.fault)?,
@@ -34,7 +34,7 @@ impl OnDisk for Journal<FailDisk> {
 
     fn begin(alloc: Global, disk: FailDisk) -> Result<Self> {
         match Journal::open_on(alloc, disk) {
-            Ok(journal) => Ok(journal),
+            Ok(opened) => Ok(opened.journal),
             Err(refused) => match refused.fault {
                 Fault::Disk => Ok(Journal::shut_on(alloc, refused.disk)),
                 Fault::Memory => bail!("out of memory"),
@@ -80,9 +80,12 @@ fn ask(alloc: Global, journal: &mut Journal<FailDisk>, name: &str) -> Result<Str
     }
 }
 
-fn record(alloc: Global, journal: &Journal<FailDisk>, i: usize) -> Result<String> {
+fn record(alloc: Global, journal: &mut Journal<FailDisk>, i: usize) -> Result<String> {
     if i >= journal.count() {
         bail!("a journal has no record {i}");
     }
-    Ok(shown_bytes(alloc, journal.get(i))?)
+    match journal.get(i) {
+        Ok(record) => Ok(shown_bytes(alloc, record.as_slice())?),
+        Err(fault) => Ok(format!(in alloc; "{fault}")?),
+    }
 }

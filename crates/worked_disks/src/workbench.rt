@@ -108,7 +108,7 @@ fn with_records<D: Disk>(alloc: Global, disk: D, records: &[Vec<u8>]) -> Result<
     ensures up { IfOk result (λ disk. (D.view disk).stopped ≡ false) }
 {
     let mut journal = match Journal::open_on(alloc, disk) {
-        Ok(journal) => journal,
+        Ok(opened) => opened.journal,
         Err(refused) => bail!("{}", refused.fault),
     };
     for record in records {

@@ -5,6 +5,7 @@ use Rattle.disk_model.specs.CrashLaws.{stays}
 use Rattle.disk_model.proofs.Tear.{synced_is}
 use Rattle.journal_core.specs.Records.{records_of}
 use Rattle.journal_core.specs.Layout.{EndsAt, BeforeOrWith}
+use Rattle.journal_core.proofs.Reading.{now_has}
 use Rattle.journal_core.proofs.Adding.{first_crash, mid_done, both_crash, both_done}
 use Rattle.journal_core.proofs.layout.add.Goals as goal
 
@@ -49,3 +50,14 @@ returns-clause-ok g c =
     let mid = (g.D.Disk.view c.write_synced.new.disk).timeline in
     let body_is = c.deref.ensures.value ∙ c.in_ok-behind.ensures.framed in
     both_done old mid c.args.payload.now c.in_ok-behind.ensures.short (records_of (content old.now)) c.args.end c.deref.result.now c.requires.ends body_is c.in_ok-write_synced.ensures.ok (g.D.Disk.view c.write_synced-2.new.disk).timeline c.in_ok-write_synced-2.ensures.ok
+
+pub returns-in_err-write_synced-clause-held : goal.returns-in_err-write_synced-clause-held
+returns-in_err-write_synced-clause-held g c =
+    now_has _ (BeforeOrWith (records_of (content (g.D.Disk.view c.args.disk.now).timeline.now)) c.args.payload.now) (returns-in_err-write_synced-clause-any_crash g c).last
+
+pub returns-in_err-write_synced-2-clause-held : goal.returns-in_err-write_synced-2-clause-held
+returns-in_err-write_synced-2-clause-held g c =
+    now_has _ (BeforeOrWith (records_of (content (g.D.Disk.view c.args.disk.now).timeline.now)) c.args.payload.now) (returns-in_err-write_synced-2-clause-any_crash g c).last
+
+pub returns-clause-held : goal.returns-clause-held
+returns-clause-held g c = now_has _ (BeforeOrWith (records_of (content (g.D.Disk.view c.args.disk.now).timeline.now)) c.args.payload.now) (returns-clause-any_crash g c).last

@@ -10,16 +10,16 @@ pub returns-clause-ends : goal.returns-clause-ends
 returns-clause-ends g c =
     let bytes = content (g.D.Disk.view c.args.disk.now).timeline.now in
     let r = c.requires in
-    subst (EndsAt (records_of bytes) c.args.end) (sym (ap content c.in_ok-write_synced.ensures.ok)) (close_done (records_of bytes) c.args.end bytes r.inside r.opened r.whole r.all)
+    subst (EndsAt (records_of bytes) c.args.end) (sym (ap content c.in_ok-write_synced.ensures.ok)) (close_done (records_of bytes) c.args.end bytes r.ends.inside r.opened r.ends.whole r.ends.none)
 
 pub returns-clause-any_crash : goal.returns-clause-any_crash
 returns-clause-any_crash g c =
     let bytes = content (g.D.Disk.view c.args.disk.now).timeline.now in
     let r = c.requires in
-    weaker _ _ _ (λ (b : List ℕ). records_of b ≡ records_of bytes) (close_torn (records_of bytes) c.args.end bytes r.inside r.opened r.whole r.all) c.write_synced.ensures.any_crash
+    weaker _ _ _ (λ (b : List ℕ). records_of b ≡ records_of bytes) (close_torn (records_of bytes) c.args.end bytes r.ends.inside r.opened r.ends.whole r.ends.none) c.write_synced.ensures.any_crash
 
 pub returns-in_err-write_synced-clause-any_crash : goal.returns-in_err-write_synced-clause-any_crash
 returns-in_err-write_synced-clause-any_crash g c =
     let bytes = content (g.D.Disk.view c.args.disk.now).timeline.now in
     let r = c.requires in
-    weaker _ _ _ (λ (b : List ℕ). records_of b ≡ records_of bytes) (close_torn (records_of bytes) c.args.end bytes r.inside r.opened r.whole r.all) c.write_synced.ensures.any_crash
+    weaker _ _ _ (λ (b : List ℕ). records_of b ≡ records_of bytes) (close_torn (records_of bytes) c.args.end bytes r.ends.inside r.opened r.ends.whole r.ends.none) c.write_synced.ensures.any_crash

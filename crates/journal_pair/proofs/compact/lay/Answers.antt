@@ -3,7 +3,7 @@ use Rattle.std.proofs.lemmas.Grind.{common_steps}
 use Rattle.disk_model.specs.Disk.{DiskView, content}
 use Rattle.disk_model.specs.CrashLaws.{stays}
 use Rattle.disk_model.proofs.Tear.{synced_is}
-use Rattle.journal_core.specs.Kept.{payloads}
+use Rattle.journal_core.specs.Records.{payloads}
 use Rattle.journal_pair.specs.Records.{records_of}
 use Rattle.journal_pair.specs.Layout.{Stands, IsFree, spelled}
 use Rattle.journal_pair.proofs.Moving.{spelled_some, free_inside, area_crash, mid_stands, header_long, slot_crash, still_stands, both_lie}

@@ -2,7 +2,7 @@ use Rattle.std.proofs.Common.{◌≡◌, ◌⊎◌, inl, inr, ℕ, List, ◌∙�
 use Rattle.std.proofs.lemmas.Grind.{common_steps}
 use Rattle.disk_model.specs.Disk.{DiskView, content}
 use Rattle.disk_model.specs.CrashLaws.{joined, weaker}
-use Rattle.journal_core.specs.Kept.{payloads}
+use Rattle.journal_core.specs.Records.{payloads}
 use Rattle.journal_pair.specs.Records.{records_of}
 use Rattle.journal_pair.specs.Layout.{Stands}
 use Rattle.journal_pair.proofs.Areas.{stands_records}

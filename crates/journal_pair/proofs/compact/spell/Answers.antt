@@ -2,7 +2,7 @@ use Rattle.std.proofs.Common.{◌≡◌, ℕ, ◌+◌, List, [], ◌∷◌, ◌+
 use Rattle.std.specs.declared.alloc.Global.{Global}
 use Rattle.std.specs.Int.{w64, to_be_bytes}
 use Rattle.std.proofs.lemmas.List.{drop_more, drop_all}
-use Rattle.journal_core.specs.Kept.{payloads}
+use Rattle.journal_core.specs.Records.{payloads}
 use Rattle.journal_pair.specs.Layout.{spelled}
 use Rattle.journal_pair.proofs.Moving.{spelled_more}
 use Rattle.journal_pair.proofs.compact.spell.Goals as goal

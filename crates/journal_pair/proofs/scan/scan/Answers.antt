@@ -1,14 +1,15 @@
-use Rattle.std.proofs.Common.{◌≡◌, ℕ, ◌+◌, List, length, get_or, ◌∙◌, sym, ap, subst, arith, length-drop}
-use Rattle.std.proofs.lemmas.List.{get_or-drop}
+use Rattle.std.proofs.Common.{◌≡◌, ℕ, ◌+◌, List, length, get_or, drop, ◌∙◌, sym, ap, subst, arith, length-drop}
+use Rattle.std.proofs.lemmas.List.{get_or-drop, drop-drop}
 use Rattle.disk_model.specs.Disk.{Timeline, content}
 use Rattle.disk_model.specs.Crash.{AnyCrash}
 use Rattle.disk_model.specs.CrashLaws.{stays}
 use Rattle.disk_model.proofs.Tear.{synced_is}
-use Rattle.journal_core.specs.Kept.{payloads}
+use Rattle.journal_core.specs.Records.{first_record, payloads}
+use Rattle.journal_core.specs.Layout.{Whole}
 use Rattle.journal_pair.specs.declared.area.Area.{Area}
 use Rattle.journal_pair.specs.Records.{records_of}
 use Rattle.journal_pair.specs.Layout.{Stands, IsOpenAt}
-use Rattle.journal_pair.proofs.Growing.{all_read}
+use Rattle.journal_pair.proofs.Areas.{selects_records}
 use Rattle.journal_pair.proofs.scan.scan.Goals as goal
 use Rattle.journal_pair.proofs.scan.scan.Goals.{then-branch+in_ok-close_gate, else-branch}
 
@@ -34,15 +35,16 @@ close_gate-requires-clause-opened g c =
     let ps = payloads c.in_ok-found.found.items in
     let a : Area = record { second = c.args.second; base = c.args.base; len = c.in_ok-found.len } in
     let read = c.in_ok-found.ensures in
-    let all_is : records_of file ≡ ps = all_read ps c.args.second c.args.base c.in_ok-found.len file c.requires.selects read.whole read.inside read.all in
+    let whole : Whole ps c.in_ok-found.len (drop c.args.base file) = subst (λ (qs : List (List ℕ)). Whole qs c.in_ok-found.len (drop c.args.base file)) (sym read.records) read.ends.whole in
+    let all_is : records_of file ≡ ps = selects_records c.args.second c.args.base file c.requires.selects ∙ sym read.records in
     let first : content (g.D.Disk.view c.read_records.new.disk).timeline.now ≡ file = ap (λ (l : Timeline). content l.now) c.read_records.ensures.same in
     let at = c.args.base + c.in_ok-found.len in
     let open_at : IsOpenAt ps a file = record {
       selects = c.requires.selects;
-      whole = read.whole;
-      inside = read.inside;
+      whole = whole;
+      inside = omega (arith, read.ends.inside, c.requires.selects.inside, length-drop c.args.base file);
       opened = λ lt. ap (λ (l : List ℕ). get_or l at 0) (sym first) ∙ c.in_ok-gate_is_open.ensures.opened c.if-branch.true (omega (arith, lt, ap length first));
-      all = read.all;
+      all = ap first_record (sym (drop-drop c.in_ok-found.len c.args.base file)) ∙ read.ends.none;
     } in
     subst (λ (l : Timeline). IsOpenAt (records_of (content l.now)) a (content l.now)) (sym same) (subst (λ (qs : List (List ℕ)). IsOpenAt qs a file) (sym all_is) open_at)
 
@@ -54,7 +56,7 @@ returns-clause-records g c =
     let ps = payloads c.in_ok-found.found.items in
     let a : Area = record { second = c.args.second; base = c.args.base; len = c.in_ok-found.len } in
     let read = c.in_ok-found.ensures in
-    let all_is : records_of file ≡ ps = all_read ps c.args.second c.args.base c.in_ok-found.len file c.requires.selects read.whole read.inside read.all in
+    let all_is : records_of file ≡ ps = selects_records c.args.second c.args.base file c.requires.selects ∙ sym read.records in
     sym all_is
 
 pub returns-clause-stands : goal.returns-clause-stands
@@ -65,7 +67,8 @@ returns-clause-stands g c =
     let ps = payloads c.in_ok-found.found.items in
     let a : Area = record { second = c.args.second; base = c.args.base; len = c.in_ok-found.len } in
     let read = c.in_ok-found.ensures in
-    let all_is : records_of file ≡ ps = all_read ps c.args.second c.args.base c.in_ok-found.len file c.requires.selects read.whole read.inside read.all in
+    let whole : Whole ps c.in_ok-found.len (drop c.args.base file) = subst (λ (qs : List (List ℕ)). Whole qs c.in_ok-found.len (drop c.args.base file)) (sym read.records) read.ends.whole in
+    let all_is : records_of file ≡ ps = selects_records c.args.second c.args.base file c.requires.selects ∙ sym read.records in
     let same_file : content (g.D.Disk.view c.gate_is_open.new.disk).timeline.now ≡ file = ap (λ (l : Timeline). content l.now) same in
     elim c.if-branch.branch [
       | then-branch+in_ok-close_gate w ↦
@@ -83,7 +86,7 @@ returns-clause-stands g c =
               base = c.requires.selects.base_is;
               behind = c.requires.selects.behind;
               ends = record {
-                whole = read.whole;
+                whole = whole;
                 inside = omega (arith, shut.0, ap length first, length-drop a.base file);
                 closed = λ is. shut.1 (ap (λ (l : List ℕ). get_or l (a.base + a.len) 0) first ∙ sym (get_or-drop a.base file a.len 0) ∙ is);
               };
@@ -105,3 +108,9 @@ returns-clause-any_crash g c =
           (subst (λ (l : Timeline). AnyCrash l (g.D.Disk.view w.close_gate.new.disk).timeline (λ f. records_of f ≡ records_of (content l.now))) same w.close_gate.ensures.any_crash)
       | else-branch w ↦ stays old _ P (ap (λ (d : g.row.D.Denot). (g.D.Disk.view d).timeline) w.disk-is ∙ same) (λ f image. ap records_of (synced_is old.now c.requires.synced f image))
     ]
+
+pub gate_is_open-requires : goal.gate_is_open-requires
+gate_is_open-requires g c =
+    let file = content (g.D.Disk.view c.args.disk.now).timeline.now in
+    let first : content (g.D.Disk.view c.read_records.new.disk).timeline.now ≡ file = ap (λ (l : Timeline). content l.now) c.read_records.ensures.same in
+    omega (arith, c.in_ok-found.ensures.ends.inside, c.requires.selects.inside, length-drop c.args.base file, ap length first)

@@ -2,7 +2,7 @@ use Rattle.std.proofs.Common.{◌≡◌, ◌⊎◌, ℕ, List, [], ◌∷◌, �
 use Rattle.std.specs.declared.alloc.Global.{Global}
 use Rattle.disk_model.specs.Disk.{content}
 use Rattle.disk_model.specs.Crash.{AnyCrash}
-use Rattle.journal_core.specs.Kept.{payloads}
+use Rattle.journal_core.specs.Records.{payloads}
 use Rattle.journal_core.proofs.Closing.{payloads-push}
 use Rattle.journal_pair.specs.Records.{records_of}
 use Rattle.journal_pair.specs.Layout.{Stands}

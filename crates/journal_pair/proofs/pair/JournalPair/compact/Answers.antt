@@ -2,7 +2,7 @@ use Rattle.std.proofs.Common.{◌≡◌, ℕ, List, Vec, Err, Some, true, refl, 
 use Rattle.std.specs.declared.alloc.Global.{Global}
 use Rattle.disk_model.specs.Disk.{content}
 use Rattle.disk_model.specs.Crash.{AnyCrash}
-use Rattle.journal_core.specs.Kept.{payloads}
+use Rattle.journal_core.specs.Records.{payloads}
 use Rattle.journal_pair.specs.Layout.{Stands}
 use Rattle.journal_pair.specs.Journal.{View}
 use Rattle.journal_pair.specs.declared.torn.Torn.TheVariants as torn

@@ -1,6 +1,6 @@
 use Rattle.std.proofs.Common.{Err, ◌∙◌, sym, ap}
 use Rattle.disk_model.specs.CrashLaws.{stays}
-use Rattle.journal_core.specs.Kept.{payloads}
+use Rattle.journal_core.specs.Records.{payloads}
 use Rattle.journal_core.proofs.Reading.{ok_holds, err_holds}
 use Rattle.journal_pair.specs.Records.{records_of}
 use Rattle.journal_pair.specs.Journal.{EitherOf}

@@ -1,13 +1,13 @@
 use Rattle.std.proofs.Common.{◌≡◌, ◌≤◌, ◌<◌, ◌+◌, ◌^◌, ◌-◌, length}
 use Rattle.disk_model.specs.Disk.{content}
-use Rattle.journal_core.specs.Layout.{Whole}
-use Rattle.journal_core.specs.Kept.{payloads}
-use Rattle.journal_core.proofs.open.read_records.Given as goal
+use Rattle.journal_core.specs.Layout.{IsWalked}
+use Rattle.journal_core.proofs.open.count_records.Given as goal
 
-abbrev pub invariant-loop-found : goal.invariant-loop-found
-invariant-loop-found g l = record {
+abbrev pub invariant-loop-size : goal.invariant-loop-size
+invariant-loop-size g l = record {
   same : (g.D.Disk.view l.disk).timeline ≡ (g.D.Disk.view l.fn.disk).timeline;
-  whole : Whole (payloads l.found.items) l.end (content (g.D.Disk.view l.fn.disk).timeline.now);
+  walked : IsWalked l.count l.end (content (g.D.Disk.view l.fn.disk).timeline.now);
+  few : l.count ≤ l.end;
   inside : l.end ≤ length (content (g.D.Disk.view l.fn.disk).timeline.now);
   fits : l.end + 1 < 2 ^ 64;
   armed : (g.D.Disk.view l.disk).armed ≡ (g.D.Disk.view l.fn.disk).armed;
@@ -15,5 +15,5 @@ invariant-loop-found g l = record {
   faults : (g.D.Disk.view l.disk).faults ≡ (g.D.Disk.view l.fn.disk).faults;
 }
 
-abbrev pub decreases-loop-found : goal.decreases-loop-found
-decreases-loop-found g l = length (content (g.D.Disk.view l.fn.disk).timeline.now) - l.end
+abbrev pub decreases-loop-size : goal.decreases-loop-size
+decreases-loop-size g l = length (content (g.D.Disk.view l.fn.disk).timeline.now) - l.end
