@@ -57,6 +57,13 @@ def pairs_in(path):
     return found
 
 
+def first_of(lines, number):
+    """The number of the first line of the function whose `fn` stands in this one: its attributes stand above, and the prover names goals by them."""
+    while number > 0 and lines[number - 1].lstrip().startswith("#["):
+        number -= 1
+    return number
+
+
 def function_at(file, text, old):
     """The function around this text, or None where it stands in none."""
     lines = text.split("\n")
@@ -68,10 +75,10 @@ def function_at(file, text, old):
         line = lines[number]
         found = METHOD.match(line)
         if found and not method:
-            method = found[1], number
+            method = found[1], first_of(lines, number)
         found = FREE.match(line)
         if found:
-            return Function(inside + found[1], file, number + 1, end_of(lines, number, "}"))
+            return Function(inside + found[1], file, first_of(lines, number) + 1, end_of(lines, number, "}"))
         if re.match(r"impl\b", line):
             return method and Function(method_of(line, method[0]), file, method[1] + 1, end_of(lines, method[1], "    }"))
         if ITEM.match(line) and not line.startswith("where"):

@@ -1,2 +1,2 @@
 pub mod Bags
-pub mod Places
+pub mod Keys

@@ -1,203 +1,135 @@
-//! A bag of messages: those on their way, and copies that may come again.
-ghost use Rattle.std.specs.Prelude.{◌≡◌, ℕ, ◌+◌, ◌-◌, take, ◌<◌, ◌≤◌, ◌%◌, true, nat_lt, ◌++◌, ◌∷◌, [], length, slice_get, is_some, option_copied, option_map, Some, None, IfOk, OnOk, OnErr, IsOk, vec_len, vec_capacity};
-ghost use Rattle.fate_words.specs.Words.{pick_of};
-ghost use Rattle.native_bag.specs.Bags.{most_tries, most_strays, count_below, first_of, is_out, others, without, put, message_of, lost_once, KeepsAs, kept_with, tries_of};
+//! A bag of copies of messages, each of which may come again.
+ghost use Rattle.std.specs.Prelude.{◌≡◌, ℕ, ◌-◌, ◌<◌, ◌≤◌, ◌%◌, List, [], ◌∷◌, ◌++◌, length, take, slice_get, option_copied, OnOk, OnErr, IsOk, None};
+ghost use Rattle.slab.specs.Slab.{Updates};
+ghost use Rattle.native_bag.specs.Bags.{most_strays, kept_with};
+ghost use Rattle.native_bag.specs.Keys.{kept_of, IsSound, Stands};
 
-use crate::moves::{close_in, drop_newest_in, keep_copy_in, keep_in, lose_in, send_in};
-use crate::places::{Kept, Place, count, is_there, message_in, nth, stray_at, take_out};
-use fate_words::words::pick;
 use slab::Slab;
 use std::alloc::{AllocError, Global};
 use std::marker::Model;
 
-/// How many tries of one message may be lost.
-pub const MOST_TRIES: u32 = 8;
-
 /// How many copies are kept.
 pub const MOST_STRAYS: usize = 64;
 
-/// The messages of one loglet that are on their way, at most one for each operation and server, each
-/// with how often it was lost; and copies of messages that may come again, at most 64.
+/// Copies of messages that may come again, at most 64, in the order in which they were kept. What a
+/// message says doesn't matter here.
+///
+/// Memory: that of its copies. But for the newest a copy stays as long as the bag.
 #[derive(Drop)]
 pub struct Bag<M> {
-    servers: u32,
-    messages: Slab<Kept<M>>,
-    places: Vec<Place>,
-    strays: Vec<usize>,
+    copies: Slab<M>,
+    /// The key of each copy.
+    keys: Vec<usize>,
 }
 
 impl<M> Model for Bag<M> {
-    ghost use Rattle.native_bag.specs.Bags.{BagView, bag_code};
+    ghost use Rattle.std.specs.Prelude.{List};
+    ghost use Rattle.std.specs.Coded.{coded_list};
 
-    ghost Value = { BagView M };
+    ghost Value = { List M };
 
-    ghost coded = { bag_code M.code };
+    ghost coded = { coded_list M.code };
 
-    ghost use Rattle.native_bag.specs.Places.{flown, kept_of, IsSound};
+    ghost use Rattle.native_bag.specs.Keys.{kept_of, IsSound};
 
-    ghost view = { λ b. record {
-      servers = b.servers;
-      outstanding = flown b.messages b.places.items;
-      strays = kept_of b.messages b.strays.items;
-    } };
+    ghost view = { λ b. kept_of b.copies b.keys.items };
 
-    ghost invariant = { λ b. IsSound b.servers b.messages b.places.items b.strays.items };
-}
-
-/// What a loss brings.
-#[derive(Clone, Copy, PartialEq, Eq, Debug)]
-pub enum Tries {
-    /// So many tries of the message were lost now; it is sent again.
-    Lost(u32),
-    /// Its eighth try was lost: it is taken out, and the server is given up.
-    Over,
-    /// No message was on its way there.
-    Idle,
+    ghost invariant = { λ b. IsSound b.copies b.keys.items };
 }
 
 impl<M: Drop> Bag<M> {
-    /// A bag for messages to and from so many servers, with none in it.
-    pub fn new(alloc: Global, servers: u32) -> Bag<M>
-        ensures servers { result.servers ≡ servers }
-        ensures outstanding { result.outstanding ≡ [] }
-        ensures strays { result.strays ≡ [] }
+    /// A bag with no copy in it.
+    pub fn new(alloc: Global) -> Bag<M>
+        ensures { result ≡ [] }
     {
         Bag {
-            servers,
-            messages: Slab::new(alloc),
-            places: Vec::new(alloc),
-            strays: Vec::new(alloc),
+            copies: Slab::new(alloc),
+            keys: Vec::new(alloc),
         }
-    }
-
-    /// Sends a message to a server: it is on its way, with no loss yet, in place of the one that was.
-    /// Want of memory changes nothing.
-    pub fn send(&mut self, ticket: u64, server: u32, message: M) -> Result<(), AllocError>
-        requires { server < self.old.servers }
-        ensures ok { OnOk result (self.new ≡ record self.old { outstanding = put ticket server 0 message self.old.outstanding }) }
-        ensures err { OnErr result (self.new ≡ self.old) }
-    {
-        send_in(
-            &mut self.messages,
-            &mut self.places,
-            ticket,
-            server,
-            message,
-        )
-    }
-
-    /// Whether a message of the operation is on its way to or from the server.
-    pub fn is_outstanding(&self, ticket: u64, server: u32) -> bool
-        ensures { result ≡ is_out ticket self.now.outstanding server }
-    {
-        is_there(&self.places, ticket, server)
-    }
-
-    /// How many messages of the operation are on their way.
-    pub fn outstanding(&self, ticket: u64) -> u32
-        ensures { result ≡ count_below (is_out ticket self.now.outstanding) self.now.servers }
-    {
-        count(&self.places, ticket, self.servers)
-    }
-
-    /// The server whose message this word moves: of those on their way, in order of server, the one
-    /// that the word picks by their number.
-    pub fn pick(&self, ticket: u64, word: u64) -> u32
-        requires { 0 < count_below (is_out ticket self.now.outstanding) self.now.servers }
-        ensures server { result < self.now.servers }
-        ensures out { is_out ticket self.now.outstanding result ≡ true }
-        ensures order { count_below (is_out ticket self.now.outstanding) result ≡ pick_of word (count_below (is_out ticket self.now.outstanding) self.now.servers) }
-    {
-        let skip = pick(word, self.outstanding(ticket) as u64);
-        nth(&self.places, ticket, self.servers, skip as u32)
-    }
-
-    /// Takes out the message of this operation and server, which comes.
-    pub fn deliver(&mut self, ticket: u64, server: u32) -> Option<M>
-        ensures message { result ≡ message_of (first_of ticket server self.old.outstanding) }
-        ensures rest { self.new ≡ record self.old { outstanding = others ticket server self.old.outstanding } }
-    {
-        message_in(take_out(&mut self.messages, &mut self.places, ticket, server))
-    }
-
-    /// One more try of the message of this operation and server is lost. The eighth takes it out.
-    pub fn lose(&mut self, ticket: u64, server: u32) -> Tries
-        ensures tries { result ≡ tries_of (first_of ticket server self.old.outstanding) }
-        ensures rest { self.new ≡ record self.old { outstanding = lost_once ticket server (first_of ticket server self.old.outstanding) self.old.outstanding } }
-    {
-        lose_in(&mut self.messages, &mut self.places, ticket, server)
-    }
-
-    /// Drops what is on its way of an operation. The copies stay.
-    pub fn close(&mut self, ticket: u64)
-        ensures { self.new ≡ record self.old { outstanding = without ticket self.old.outstanding } }
-    {
-        close_in(&mut self.messages, &mut self.places, ticket, self.servers);
     }
 
     /// How many copies are kept.
     pub fn copies(&self) -> usize
-        ensures count { result ≡ length self.now.strays }
+        ensures count { result ≡ length self.now }
         ensures few { result ≤ most_strays }
     {
-        self.strays.len()
+        self.keys.len()
     }
 
     /// The copy that this word picks: its number is the word modulo their number, in the order in
     /// which they were kept. It stays, and may come again.
     pub fn stray(&self, word: u64) -> Option<&M>
-        ensures { option_copied result ≡ slice_get self.now.strays (word % length self.now.strays) }
+        ensures { option_copied result ≡ slice_get self.now (word % length self.now) }
     {
-        let kept = self.strays.len();
+        let kept = self.keys.len();
         if kept == 0 {
             return None;
         }
-        stray_at(&self.messages, self.strays[(word % kept as u64) as usize])
+        self.copies.get(self.keys[chosen(word, kept)])
     }
-}
 
-impl<M: Drop> Bag<M> {
-    /// Keeps a copy that its caller made, where fewer than 64 are kept; else nothing changes. Want of
-    /// memory changes nothing.
+    /// Keeps a copy, where fewer than 64 are kept; else nothing changes. Want of memory changes
+    /// nothing.
+    ///
+    /// Cost: amortised constant.
     pub fn keep_copy(&mut self, copy: M) -> Result<(), AllocError>
-        ensures strays { OnOk result (self.new ≡ record self.old { strays = kept_with copy self.old.strays }) }
+        ensures strays { OnOk result (self.new ≡ kept_with copy self.old) }
         ensures err { OnErr result (self.new ≡ self.old) }
-        ensures full { most_strays ≤ length self.old.strays → IsOk result }
+        ensures full { most_strays ≤ length self.old → IsOk result }
     {
-        if self.strays.len() >= MOST_STRAYS {
+        if self.keys.len() >= MOST_STRAYS {
             return Ok(());
         }
-        keep_copy_in(&mut self.messages, &mut self.strays, copy)
+        keep_in(&mut self.copies, &mut self.keys, copy)
     }
 
     /// Drops the copy that was kept last, if there is one: it is to be as if it had never been kept.
     pub fn drop_newest(&mut self)
-        ensures { self.new ≡ record self.old { strays = take (length self.old.strays - 1) self.old.strays } }
+        ensures { self.new ≡ take (length self.old - 1) self.old }
     {
-        drop_newest_in(&mut self.messages, &mut self.strays);
+        drop_in(&mut self.copies, &mut self.keys);
     }
 }
 
-impl<M: Clone + Drop> Bag<M> {
-    /// Keeps a copy of the message of this operation and server, if there is one, and fewer than 64
-    /// copies are kept; room is made before the copy. Want of memory changes nothing.
-    pub fn keep(&mut self, ticket: u64, server: u32) -> Result<(), AllocError>
-        ensures strays { OnOk result (KeepsAs M.is_clone (first_of ticket server self.old.outstanding) (nat_lt (length self.old.strays) most_strays) self.old.strays self.new.strays) }
-        ensures rest { self.new ≡ record self.old { strays = self.new.strays } }
-        ensures err { OnErr result (self.new ≡ self.old) }
-        ensures full { most_strays ≤ length self.old.strays → IsOk result }
-    {
-        if self.strays.len() >= MOST_STRAYS {
-            return Ok(());
-        }
-        keep_in(
-            &mut self.messages,
-            &self.places,
-            &mut self.strays,
-            ticket,
-            server,
-        )
-    }
+/// Which of so many copies a word picks.
+fn chosen(word: u64, kept: usize) -> usize
+    requires { 0 < kept }
+    ensures value { result ≡ word % kept }
+    ensures here { result < kept }
+{
+    (word % kept as u64) as usize
+}
+
+/// Keeps one copy more. Room is made first.
+fn keep_in<M: Drop>(copies: &mut Slab<M>, keys: &mut Vec<usize>, copy: M) -> Result<(), AllocError>
+    requires { length keys.old.items < most_strays }
+    ensures ok { OnOk result (IsSound copies.old keys.old.items → Stands copies.new keys.new.items (kept_of copies.old keys.old.items ++ copy ∷ [])) }
+    ensures err { OnErr result (IsSound copies.old keys.old.items → Stands copies.new keys.new.items (kept_of copies.old keys.old.items)) }
+{
+    keys.reserve(1)?;
+    copies.reserve(1)?;
+    let key = copies.insert_reserved(copy);
+    let Ok(_) = keys.push(key) else {
+        unreachable!()
+    };
+    Ok(())
+}
+
+/// Drops the copy that was kept last, if there is one.
+fn drop_in<M: Drop>(copies: &mut Slab<M>, keys: &mut Vec<usize>)
+    ensures { IsSound copies.old keys.old.items → Stands copies.new keys.new.items (take (length (kept_of copies.old keys.old.items) - 1) (kept_of copies.old keys.old.items)) }
+{
+    let Some(key) = keys.pop() else {
+        return;
+    };
+    drop_at(copies, key);
+}
+
+/// Drops the copy under this key.
+fn drop_at<M: Drop>(copies: &mut Slab<M>, key: usize)
+    ensures { Updates copies.old copies.new key None }
+{
+    let _ = copies.try_remove(key);
 }
 
 #[cfg(test)]
@@ -205,20 +137,20 @@ mod tests {
     use super::*;
     use std::test::Fail;
 
-    /// A message is sent, kept, lost and delivered; its copy comes again.
+    /// Copies come by number; the newest is taken back, and another is kept in its place.
     #[test]
-    fn a_message_comes_twice(rt: HostRuntime) -> Result<(), Fail> {
-        let mut bag = Bag::new(rt.alloc(), 3);
-        bag.send(7, 2, 20u64)?;
-        bag.send(7, 0, 5u64)?;
-        assert_eq!(rt; bag.outstanding(7), 2);
-        assert_eq!(rt; bag.pick(7, 8), 2);
-        bag.keep(7, 2)?;
-        assert_eq!(rt; bag.lose(7, 2), Tries::Lost(1));
-        assert_eq!(rt; bag.deliver(7, 2), Some(20));
-        bag.close(7);
-        assert_eq!(rt; bag.outstanding(7), 0);
+    fn copies_come_again(rt: HostRuntime) -> Result<(), Fail> {
+        let mut bag = Bag::new(rt.alloc());
+        assert_eq!(rt; bag.stray(4).copied(), None::<u64>);
+        bag.keep_copy(20u64)?;
+        bag.keep_copy(5)?;
+        assert_eq!(rt; bag.stray(10).copied(), Some(20));
+        assert_eq!(rt; bag.stray(11).copied(), Some(5));
+        bag.drop_newest();
+        assert_eq!(rt; bag.copies(), 1);
         assert_eq!(rt; bag.stray(11).copied(), Some(20));
+        bag.keep_copy(7)?;
+        assert_eq!(rt; bag.stray(11).copied(), Some(7));
         Ok(())
     }
 }

@@ -1,10 +1,11 @@
 -- What the parts of the code come to, over plain values.
-use Rattle.std.proofs.Common.{◌≡◌, ℕ, zero, suc, ◌+◌, ◌-◌, ◌<◌, ◌≤◌, Bool, true, false, cond, refl, sym, ◌∙◌, ap, subst, arith, List, [], ◌∷◌, ◌++◌, length, get_or, set, take, Option, Some, None, inl, inr}
+use Rattle.std.proofs.Common.{◌≡◌, ℕ, zero, suc, ◌+◌, ◌-◌, ◌<◌, ◌≤◌, ◌^◌, Bool, true, false, cond, refl, sym, ◌∙◌, ap, subst, arith, List, [], ◌∷◌, ◌++◌, length, get_or, set, take, Option, Some, None, inl, inr}
 use Rattle.std.specs.Prelude.{◌⊎◌, ◌==◌, nat_lt, is_some, slice_get, count_by, option_map, if◌then◌else◌, Result, Ok, Err, IfOk, OnErr}
-use Rattle.std.proofs.lemmas.Bool.{false≢true, cases_eq, eq-eqb, ne_eqb, ltb-false}
+use Rattle.std.proofs.lemmas.Bool.{false≢true, cases_eq, eq-eqb, ne_eqb, ltb-true, ltb-false}
 use Rattle.std.proofs.lemmas.Option.{none-some, same_Some}
 use Rattle.std.proofs.lemmas.List.Sums.{sum_by-cons}
 use Rattle.delos_types.specs.declared.entry.Entry.{Entry}
+use Rattle.delos_types.specs.Spelling.{IsSpellable}
 use Rattle.quorum_cell.specs.declared.message.Ask.{Ask}
 use Rattle.quorum_cell.specs.declared.message.Ask.TheVariants as asks
 use Rattle.quorum_cell.specs.declared.message.Told.{Told}
@@ -19,9 +20,10 @@ use Rattle.native_plan.specs.declared.message.Errand.{Errand}
 use Rattle.native_plan.specs.declared.message.Errand.TheVariants.{Store, Repair}
 use Rattle.native_plan.specs.declared.message.Message.{Message}
 use Rattle.native_plan.specs.declared.message.Message.TheVariants.{Asked, Told as Answered}
+use Rattle.native_plan.specs.declared.message.Turn.{Turn}
 use Rattle.native_plan.specs.declared.message.Turn.TheVariants.{Asks, Tells, Rests}
 use Rattle.native_plan.specs.Members.{no_member, new_member, is_out, turn_of, nth_out, due_of}
-use Rattle.native_plan.specs.Pendings.{Hears, Loses}
+use Rattle.native_plan.specs.Pendings.{Answers, Hears, Loses}
 use Rattle.native_ties.specs.Parts.{entry_at, asked_by}
 use Rattle.native_ties.proofs.Losers.{within}
 use Rattle.loglet_api.specs.declared.call.Answer.{Answer}
@@ -29,7 +31,7 @@ use Rattle.loglet_api.specs.declared.call.Answer.TheVariants.{CutAt}
 use Rattle.native_loglet.specs.declared.closing.Decided.{Decided}
 use Rattle.native_loglet.specs.Closing.{is_cut, answer_by, answer_for}
 use Rattle.native_loglet.specs.Telling.{seal_told_by, length_told_by}
-use Rattle.native_loglet.specs.Moving.{Has, server_at, AreOf, LosesAs, AnswersFor, MovesByLoss, MovesByRequest, MovesByAnswer, MovesBy, Moves, picked_by}
+use Rattle.native_loglet.specs.Moving.{Has, server_at, AreOf, LosesAs, FailsAs, AnswersFor, MovesByLoss, MovesByRequest, MovesByAnswer, MovesBy, Moves, picked_by}
 use Rattle.fate_words.specs.declared.fates.Fate.{Fate}
 use Rattle.fate_words.specs.declared.fates.Fate.TheVariants.{Deliver, DeliverAndKeep, Lose}
 use Rattle.fate_words.specs.Words.{fate_of}
@@ -82,69 +84,90 @@ comes_by Lose lost entries cut i p q vs ws failed h e m = absurd (false≢true (
 comes_by Deliver lost entries cut i p q vs ws failed h e m = m
 comes_by DeliverAndKeep lost entries cut i p q vs ws failed h e m = m
 
+-- a server answered
+pub answered_for : (entries : List Entry) (cut i : ℕ) (errand : Errand) (told : Told) (p q : Pending) (was is : View) (failed : Bool) → Answers i errand told p q → ((ask : Ask) → asked_by entries cut errand ≡ Some ask → ServerAnswers was ask told is) → FailsAs told failed → AnswersFor entries cut i errand p q was is failed
+answered_for entries cut i errand told p q was is failed answers tells fails = record { told = told; answers = answers; tells = tells; fault = fails }
+
 -- it is lost, or it comes
 pub moves_so : (f : Fate) (entries : List Entry) (cut i : ℕ) (p q : Pending) (vs ws : List View) (failed : Bool) → MovesBy f entries cut i p q vs ws failed → MovesByLoss cut i p q vs ws failed ⊎ (MovesByRequest entries cut i p q vs ws failed ⊎ MovesByAnswer cut i p q vs ws failed)
 moves_so Lose entries cut i p q vs ws failed m = inl m
 moves_so Deliver entries cut i p q vs ws failed m = inr m
 moves_so DeliverAndKeep entries cut i p q vs ws failed m = inr m
 
-pub moved_by_loss : (entries : List Entry) (cut word i : ℕ) (f : Fate) (lost : Bool) (p q : Pending) (vs : List View) → i ≡ picked_by word p → f ≡ fate_of word → LosesAs f lost → lost ≡ true → i < length p.members.items → is_out (get_or p.members.items i no_member) ≡ true → Loses cut i p q → Moves entries cut word p q vs vs true
-moved_by_loss entries cut word i f lost p q vs picked fate loses is here out l = record {
+pub moved_by_loss : (entries : List Entry) (cut word i : ℕ) (lost : Bool) (p q : Pending) (vs : List View) → i ≡ picked_by word p → LosesAs (fate_of word) lost → lost ≡ true → i < length p.members.items → is_out (get_or p.members.items i no_member) ≡ true → Loses cut i p q → Moves entries cut word p q vs vs true
+moved_by_loss entries cut word i lost p q vs picked loses is here out l = record {
   server = i;
   picked = picked;
   here = here;
-  moves = subst (λ (x : Fate). MovesBy x entries cut i p q vs vs true) fate (lost_by f lost entries cut i p q vs vs true loses is (record { out = out; loses = l; servers = refl; fault = refl }));
+  moves = lost_by (fate_of word) lost entries cut i p q vs vs true loses is (record { out = out; loses = l; servers = refl; fault = refl });
 }
 
-pub moved_by_answer : (entries : List Entry) (cut word i : ℕ) (f : Fate) (lost : Bool) (p q : Pending) (vs : List View) → i ≡ picked_by word p → f ≡ fate_of word → LosesAs f lost → lost ≡ false → i < length p.members.items → turn_of (get_or p.members.items i no_member).message ≡ Tells
+pub moved_by_answer : (entries : List Entry) (cut word i : ℕ) (lost : Bool) (turn : Turn) (p q : Pending) (vs : List View) → i ≡ picked_by word p → LosesAs (fate_of word) lost → lost ≡ false → i < length p.members.items → turn ≡ turn_of (get_or p.members.items i no_member).message → turn ≡ Tells
     → ((e : Errand) (told : Told) → (get_or p.members.items i no_member).message ≡ Some (Answered e told) → Hears cut i e told p q) → Moves entries cut word p q vs vs false
-moved_by_answer entries cut word i f lost p q vs picked fate loses is here turn h =
-    let t : (e : Errand) × (told : Told) × ((get_or p.members.items i no_member).message ≡ Some (Answered e told)) = tells_of _ turn in
+moved_by_answer entries cut word i lost turn p q vs picked loses is here turns tells h =
+    let t : (e : Errand) × (told : Told) × ((get_or p.members.items i no_member).message ≡ Some (Answered e told)) = tells_of _ (sym turns ∙ tells) in
     record {
       server = i;
       picked = picked;
       here = here;
-      moves = subst (λ (x : Fate). MovesBy x entries cut i p q vs vs false) fate (comes_by f lost entries cut i p q vs vs false loses is (inr (record { errand = t.0; told = t.1; was_told = t.2; hears = h t.0 t.1 t.2; servers = refl; fault = refl })));
+      moves = comes_by (fate_of word) lost entries cut i p q vs vs false loses is (inr (record { errand = t.0; told = t.1; was_told = t.2; hears = h t.0 t.1 t.2; servers = refl; fault = refl }));
     }
 
-pub there_is : (vs : List View) (i : ℕ) (d : View) → i < length vs → slice_get vs i ≡ Some (get_or vs i d)
+pub there_is : {X : Type 0} (vs : List X) (i : ℕ) (d : X) → i < length vs → slice_get vs i ≡ Some (get_or vs i d)
 there_is [] i d h = absurd (omega (arith, h))
 there_is (v ∷ vs) zero d h = refl
 there_is (v ∷ vs) (suc i) d h = there_is vs i d (omega (arith, h))
 
-pub moved_by_request : (entries : List Entry) (cut word i : ℕ) (f : Fate) (lost : Bool) (errand : Errand) (p q : Pending) (vs : List View) (was is : View) (failed : Bool) → i ≡ picked_by word p → f ≡ fate_of word → LosesAs f lost → lost ≡ false → i < length p.members.items → i < length vs → turn_of (get_or p.members.items i no_member).message ≡ Asks errand
-    → was ≡ get_or vs i was → AnswersFor entries cut i (due_of cut errand) p q was is failed → Moves entries cut word p q vs (set vs i is) failed
-moved_by_request entries cut word i f lost errand p q vs was is failed picked fate loses kept here within turn there a = record {
+pub moved_by_request : {E : Type 0} (entries : List Entry) (cut word i : ℕ) (lost : Bool) (turn : Turn) (errand due : Errand) (p q : Pending) (vs : List View) (d is : View) (r : Result Bool E) → i ≡ picked_by word p → LosesAs (fate_of word) lost → lost ≡ false → i < length p.members.items → length p.members.items ≡ length vs
+    → turn ≡ turn_of (get_or p.members.items i no_member).message → turn ≡ Asks errand → due ≡ due_of cut errand → IfOk r (AnswersFor entries cut i due p q (get_or vs i d) is) → IfOk r (Moves entries cut word p q vs (set vs i is))
+moved_by_request entries cut word i lost turn errand due p q vs d is (Err e) picked loses kept here many turns asks same a = tt
+moved_by_request entries cut word i lost turn errand due p q vs d is (Ok failed) picked loses kept here many turns asks same a = record {
   server = i;
   picked = picked;
   here = here;
-  moves = subst (λ (x : Fate). MovesBy x entries cut i p q vs (set vs i is) failed) fate
-      (comes_by f lost entries cut i p q vs (set vs i is) failed loses kept (inl (record { errand = errand; was = was; is = is; asked = asks_of _ errand turn; there = there_is vs i was within ∙ ap (λ v. Some v) (sym there); answers = a; servers = refl })));
+  moves = comes_by (fate_of word) lost entries cut i p q vs (set vs i is) failed loses kept (inl (record { errand = errand; was = get_or vs i d; is = is; asked = asks_of _ errand (sym turns ∙ asks); there = there_is vs i d (omega (arith, here, many)); answers = subst (λ (e : Errand). AnswersFor entries cut i e p q (get_or vs i d) is failed) same a; servers = refl }));
 }
 
 ---- what a server is asked
 
 -- an entry that is kept stands at a position from the cut on
-entry_of : (entries : List Entry) (cut place : ℕ) (e : Entry) → entry_at cut entries place ≡ Some e → (cut ≤ place) × (slice_get entries (place - cut) ≡ Some e)
-entry_of entries cut place e h = by (nat_lt place cut) refl h
+pub kept_at : (entries : List Entry) (cut place : ℕ) (e : Entry) → entry_at cut entries place ≡ Some e → (cut ≤ place) × (slice_get entries (place - cut) ≡ Some e)
+kept_at entries cut place e h = by (nat_lt place cut) refl h
   where
     by : (b : Bool) → nat_lt place cut ≡ b → (if b then None else slice_get entries (place - cut)) ≡ Some e → (cut ≤ place) × (slice_get entries (place - cut) ≡ Some e)
     by true is x = absurd (none-some e x)
     by false is x = (ltb-false _ _ is, x)
 
-pub stored_entry : (entries : List Entry) (cut place : ℕ) (ask : Ask) → asked_by entries cut (Store place) ≡ Some ask → (e : Entry) × ((cut ≤ place) × (slice_get entries (place - cut) ≡ Some e)) × (ask ≡ asks.Store place e)
-stored_entry entries cut place ask h = by (entry_at cut entries place) refl h
-  where
-    by : (z : Option Entry) → entry_at cut entries place ≡ z → option_map (λ e. asks.Store place e) z ≡ Some ask → (e : Entry) × ((cut ≤ place) × (slice_get entries (place - cut) ≡ Some e)) × (ask ≡ asks.Store place e)
-    by None is e = absurd (none-some ask e)
-    by (Some x) is e = (x, entry_of entries cut place x is, sym (same_Some _ _ e))
+pub kept_within : (entries : List Entry) (cut place : ℕ) → (e : Entry) × (entry_at cut entries place ≡ Some e) → (cut ≤ place) × (place - cut < length entries)
+kept_within entries cut place h = (let x = kept_at entries cut place h.0 h.1 in (x.0, within entries (place - cut) h.0 x.1))
 
-pub repaired_entry : (entries : List Entry) (cut place : ℕ) (ask : Ask) → asked_by entries cut (Repair place) ≡ Some ask → (e : Entry) × ((cut ≤ place) × (slice_get entries (place - cut) ≡ Some e)) × (ask ≡ asks.Repair place e)
-repaired_entry entries cut place ask h = by (entry_at cut entries place) refl h
+pub found_at : (entries : List Entry) (cut place : ℕ) (e : Entry) → (cut ≤ place) × (place - cut < length entries) → e ≡ get_or entries (place - cut) e → entry_at cut entries place ≡ Some e
+found_at entries cut place e here is = by (nat_lt place cut) refl
   where
-    by : (z : Option Entry) → entry_at cut entries place ≡ z → option_map (λ e. asks.Repair place e) z ≡ Some ask → (e : Entry) × ((cut ≤ place) × (slice_get entries (place - cut) ≡ Some e)) × (ask ≡ asks.Repair place e)
-    by None is e = absurd (none-some ask e)
-    by (Some x) is e = (x, entry_of entries cut place x is, sym (same_Some _ _ e))
+    by : (b : Bool) → nat_lt place cut ≡ b → (if b then None else slice_get entries (place - cut)) ≡ Some e
+    by true h = absurd (let under : place < cut = ltb-true _ _ h in omega (arith, under, here.0))
+    by false h = there_is entries (place - cut) e here.1 ∙ ap (λ x. Some x) (sym is)
+
+pub kept_small : (entries : List Entry) (cut place : ℕ) (e : Entry) → entry_at cut entries place ≡ Some e → cut + length entries ≤ 2 ^ 32 → place < 2 ^ 32
+kept_small entries cut place e h small = (let here = kept_within entries cut place (e, h) in omega (arith, here.0, here.1, small))
+
+pub kept_spelled : (entries : List Entry) (cut place : ℕ) (e : Entry) → ((i : ℕ) (x : Entry) → slice_get entries i ≡ Some x → IsSpellable x) → entry_at cut entries place ≡ Some e → IsSpellable e
+kept_spelled entries cut place e spelled h = spelled (place - cut) e (kept_at entries cut place e h).1
+
+-- a server that is to take an entry is to take one that is kept
+pub store_there : (entries : List Entry) (cut place : ℕ) (errand : Errand) → errand ≡ Store place → (ask : Ask) × (asked_by entries cut errand ≡ Some ask) → (e : Entry) × (entry_at cut entries place ≡ Some e)
+store_there entries cut place errand is there = by (entry_at cut entries place) refl (subst (λ (x : Errand). asked_by entries cut x ≡ Some there.0) is there.1)
+  where
+    by : (z : Option Entry) → entry_at cut entries place ≡ z → option_map (λ e. asks.Store place e) z ≡ Some there.0 → (e : Entry) × (entry_at cut entries place ≡ Some e)
+    by None at h = absurd (none-some there.0 h)
+    by (Some e) at h = (e, at)
+
+pub repair_there : (entries : List Entry) (cut place : ℕ) (errand : Errand) → errand ≡ Repair place → (ask : Ask) × (asked_by entries cut errand ≡ Some ask) → (e : Entry) × (entry_at cut entries place ≡ Some e)
+repair_there entries cut place errand is there = by (entry_at cut entries place) refl (subst (λ (x : Errand). asked_by entries cut x ≡ Some there.0) is there.1)
+  where
+    by : (z : Option Entry) → entry_at cut entries place ≡ z → option_map (λ e. asks.Repair place e) z ≡ Some there.0 → (e : Entry) × (entry_at cut entries place ≡ Some e)
+    by None at h = absurd (none-some there.0 h)
+    by (Some e) at h = (e, at)
 
 -- what writes nothing tells and leaves all as it was
 pub tail_answers : (v : View) → ServerAnswers v asks.Tail (table v.server asks.Tail) v
@@ -287,35 +310,17 @@ pub restart_sealed : (s w : Server) (sealed up : Bool) → sealed ≡ is_sealed 
 restart_sealed s w sealed true h rose failed down = absurd (false≢true (sym down ∙ ap (λ (x : Server). x.up) (rose refl).1 ∙ restarted_up s (rose refl).0 s.torn))
 restart_sealed s w sealed false h rose failed down = h ∙ ap is_sealed (sym (failed refl))
 
-entry_is : (es : List Entry) (i : ℕ) (d : Entry) → i < length es → slice_get es i ≡ Some (get_or es i d)
-entry_is [] i d h = absurd (omega (arith, h))
-entry_is (e ∷ es) zero d h = refl
-entry_is (e ∷ es) (suc i) d h = entry_is es i d (omega (arith, h))
-
-pub stored_within : (entries : List Entry) (cut place : ℕ) (errand : Errand) → errand ≡ Store place → (ask : Ask) × (asked_by entries cut errand ≡ Some ask) → (cut ≤ place) × (place - cut < length entries)
-stored_within entries cut place errand is there = (let x = (stored_entry entries cut place there.0 (subst (λ (x : Errand). asked_by entries cut x ≡ Some there.0) is there.1)).1 in (x.0, within entries (place - cut) _ x.1))
-
-pub repaired_within : (entries : List Entry) (cut place : ℕ) (errand : Errand) → errand ≡ Repair place → (ask : Ask) × (asked_by entries cut errand ≡ Some ask) → (cut ≤ place) × (place - cut < length entries)
-repaired_within entries cut place errand is there = (let x = (repaired_entry entries cut place there.0 (subst (λ (x : Errand). asked_by entries cut x ≡ Some there.0) is there.1)).1 in (x.0, within entries (place - cut) _ x.1))
-
-pub indexed : (entries : List Entry) (place : ℕ) (e : Entry) → place < length entries → e ≡ get_or entries place e → slice_get entries place ≡ Some e
-indexed entries place e here is = entry_is entries place e here ∙ ap (λ x. Some x) (sym is)
-
-pub stored_answers : {E : Type 0} (entries : List Entry) (cut place : ℕ) (errand : Errand) (r : Result Told E) (old new : View) (e : Entry) → errand ≡ Store place → slice_get entries (place - cut) ≡ Some e → IfOk r (λ told. ServerAnswers old (asks.Store place e) told new)
+pub stored_answers : {E : Type 0} (entries : List Entry) (cut place : ℕ) (errand : Errand) (r : Result Told E) (old new : View) (e : Entry) → errand ≡ Store place → entry_at cut entries place ≡ Some e → IfOk r (λ told. ServerAnswers old (asks.Store place e) told new)
     → IfOk r (λ told. (ask : Ask) → asked_by entries cut errand ≡ Some ask → ServerAnswers old ask told new)
 stored_answers entries cut place errand (Err x) old new e is there h = tt
 stored_answers entries cut place errand (Ok told) old new e is there h = λ ask known.
-    let s = stored_entry entries cut place ask (subst (λ (x : Errand). asked_by entries cut x ≡ Some ask) is known) in
-    let same : e ≡ s.0 = same_Some _ _ (sym there ∙ s.1.1) in
-    subst (λ (k : Ask). ServerAnswers old k told new) (sym (s.2 ∙ ap (asks.Store place) (sym same))) h
+    subst (λ (k : Ask). ServerAnswers old k told new) (same_Some _ _ (sym (ap (option_map (λ e. asks.Store place e)) there) ∙ subst (λ (x : Errand). asked_by entries cut x ≡ Some ask) is known)) h
 
-pub repaired_answers : {E : Type 0} (entries : List Entry) (cut place : ℕ) (errand : Errand) (r : Result Told E) (old new : View) (e : Entry) → errand ≡ Repair place → slice_get entries (place - cut) ≡ Some e → IfOk r (λ told. ServerAnswers old (asks.Repair place e) told new)
+pub repaired_answers : {E : Type 0} (entries : List Entry) (cut place : ℕ) (errand : Errand) (r : Result Told E) (old new : View) (e : Entry) → errand ≡ Repair place → entry_at cut entries place ≡ Some e → IfOk r (λ told. ServerAnswers old (asks.Repair place e) told new)
     → IfOk r (λ told. (ask : Ask) → asked_by entries cut errand ≡ Some ask → ServerAnswers old ask told new)
 repaired_answers entries cut place errand (Err x) old new e is there h = tt
 repaired_answers entries cut place errand (Ok told) old new e is there h = λ ask known.
-    let s = repaired_entry entries cut place ask (subst (λ (x : Errand). asked_by entries cut x ≡ Some ask) is known) in
-    let same : e ≡ s.0 = same_Some _ _ (sym there ∙ s.1.1) in
-    subst (λ (k : Ask). ServerAnswers old k told new) (sym (s.2 ∙ ap (asks.Repair place) (sym same))) h
+    subst (λ (k : Ask). ServerAnswers old k told new) (same_Some _ _ (sym (ap (option_map (λ e. asks.Repair place e)) there) ∙ subst (λ (x : Errand). asked_by entries cut x ≡ Some ask) is known)) h
 
 -- an ask that is the same whatever the entries are
 pub plain_answers : {E : Type 0} (entries : List Entry) (cut : ℕ) (errand : Errand) (only : Ask) (r : Result Told E) (old new : View) → asked_by entries cut errand ≡ Some only → IfOk r (λ told. ServerAnswers old only told new)

@@ -8,7 +8,7 @@ ghost use Rattle.log_server.specs.Answers.{Answers as ServerAnswers};
 ghost use Rattle.log_server.specs.View.{Survives};
 ghost use Rattle.native_loglet.specs.Disks.{KeepDisks};
 ghost use Rattle.fate_words.specs.Words.{fate_of};
-ghost use Rattle.native_plan.specs.Members.{no_member, is_out};
+ghost use Rattle.native_plan.specs.Members.{no_member, is_out, turn_of};
 ghost use Rattle.native_plan.specs.Pendings.{Answers};
 ghost use Rattle.native_ties.specs.Parts.{asked_by};
 ghost use Rattle.loglet_api.specs.Servers.{Wear};
@@ -33,6 +33,7 @@ use std::collections::VecDeque;
 /// the server's disk failed. Want of memory changes nothing.
 ///
 /// Cost: that of one call of a log server, and O(servers).
+#[tactic(auto, using(crate::proofs::Rules::moved_by_loss, crate::proofs::Rules::moved_by_request))]
 pub fn carry_one<D: Disk>(
     p: &mut Pending,
     replicas: &mut [Replica<D>],
@@ -56,7 +57,7 @@ pub fn carry_one<D: Disk>(
         p.lose(server, cut);
         return Ok(true);
     }
-    match p.members[server].turn() {
+    match turn(p, server) {
         Turn::Asks(errand) => {
             let errand = errand.due(cut);
             ask(p, &mut replicas[server], server, errand, entries, cut)
@@ -80,6 +81,14 @@ pub fn picked(p: &Pending, word: u64) -> usize
     p.pick(skip)
 }
 
+/// What the message does next that is on its way to or from this server.
+fn turn(p: &Pending, server: usize) -> Turn
+    requires { server < length p.now.members.items }
+    ensures { result ≡ turn_of (get_or p.now.members.items server no_member).message }
+{
+    p.members[server].turn()
+}
+
 /// Whether the word loses the message that it moves.
 #[tactic(auto, using(crate::proofs::Rules::lost_as))]
 fn loses(word: u64) -> bool
@@ -96,6 +105,7 @@ fn is_lost(fate: Fate) -> bool
 }
 
 /// A request comes to its server, and the answer is on its way. True where the server's disk failed.
+#[tactic(auto, using(crate::proofs::Rules::answered_for))]
 fn ask<D: Disk>(
     p: &mut Pending,
     replica: &mut Replica<D>,

@@ -12,6 +12,7 @@ ghost use Rattle.native_loglet.specs.Moving.{CanMove, picked_by};
 ghost use Rattle.native_loglet.specs.Copies.{is_kept as is_kept_by, mail_of, copy_of, kept_after};
 
 use crate::carrying::picked;
+use crate::entries::entry_at;
 use crate::mail::Mail;
 use delos_types::entry::Entry;
 use fate_words::fates::Fate;
@@ -106,19 +107,20 @@ fn copy_message(
 }
 
 /// What a server is asked for an errand.
+#[tactic(auto, using(crate::proofs::Rules::store_there, crate::proofs::Rules::repair_there))]
 fn ask_of(errand: Errand, entries: &VecDeque<Entry>, cut: u64) -> Result<Ask, AllocError>
     requires there { (ask : asks.Ask) × (asked_by entries.now.items cut errand ≡ Some ask) }
     ensures { IfOk result (λ ask. asked_by entries.now.items cut errand ≡ Some ask) }
 {
     match errand {
         Errand::Store(place) => {
-            let entry = entries[(place - cut) as usize].clone()?;
+            let entry = entry_at(entries, cut, place).clone()?;
             Ok(Ask::Store(place, entry))
         }
         Errand::Seal => Ok(Ask::Seal),
         Errand::Tail => Ok(Ask::Tail),
         Errand::Repair(place) => {
-            let entry = entries[(place - cut) as usize].clone()?;
+            let entry = entry_at(entries, cut, place).clone()?;
             Ok(Ask::Repair(place, entry))
         }
         Errand::Read(place) => Ok(Ask::Read(place)),
@@ -128,9 +130,9 @@ fn ask_of(errand: Errand, entries: &VecDeque<Entry>, cut: u64) -> Result<Ask, Al
 
 /// Keeps a copy, if there is one, and says so.
 pub fn keep(strays: &mut Bag<Mail>, copy: Option<Mail>) -> Result<bool, AllocError>
-    requires room { IsSome copy → length strays.old.strays < most_strays }
+    requires room { IsSome copy → length strays.old < most_strays }
     ensures kept { IfOk result (λ kept. kept ≡ is_some copy) }
-    ensures strays { IfOk result (λ _. strays.new ≡ record strays.old { strays = kept_after copy strays.old.strays }) }
+    ensures strays { IfOk result (λ _. strays.new ≡ kept_after copy strays.old) }
     ensures err { OnErr result (strays.new ≡ strays.old) }
 {
     match copy {
@@ -144,7 +146,7 @@ pub fn keep(strays: &mut Bag<Mail>, copy: Option<Mail>) -> Result<bool, AllocErr
 
 /// Drops the copy again that was kept last, if one was.
 pub fn take_back(strays: &mut Bag<Mail>, kept: bool)
-    ensures { strays.new ≡ record strays.old { strays = if kept then take (length strays.old.strays - 1) strays.old.strays else strays.old.strays } }
+    ensures { strays.new ≡ (if kept then take (length strays.old - 1) strays.old else strays.old) }
 {
     if kept {
         strays.drop_newest();

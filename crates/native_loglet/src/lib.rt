@@ -3,6 +3,7 @@
 //! - `loglet`: the loglet: the sequencer and its servers.
 //! - `replica`: one of its servers.
 //! - `carrying`: how an open operation goes on by one message.
+//! - `entries`: the entries that it keeps.
 //! - `mail`: messages of which copies are kept.
 //! - `copying`: which copy stays behind of a message that moves.
 //! - `straying`: what a copy does that comes again.
@@ -16,6 +17,7 @@
 pub mod carrying;
 pub mod closing;
 pub mod copying;
+mod entries;
 pub mod laws;
 pub mod loglet;
 pub mod mail;

@@ -24,7 +24,7 @@ use crate::mail::Mail;
 use crate::marks::Marks;
 use crate::opening::{add, begin_on, down, let_go};
 use crate::replica::Replica;
-use crate::straying::stray_at;
+use crate::straying::count_stray;
 use delos_types::entry::Entry;
 use delos_types::numbers::Ticket;
 use disk_model::Disk;
@@ -72,9 +72,9 @@ impl<D: Disk> Model for NativeLoglet<D> {
 
     ghost Value = { NativeView };
 
-    ghost view = { λ a. native_view a.room a.entries.items a.replicas.items a.marks a.pending.entries a.strays.strays a.told };
+    ghost view = { λ a. native_view a.room a.entries.items a.replicas.items a.marks a.pending.entries a.strays a.told };
 
-    ghost invariant = { λ a. IsNative a.room a.entries.items a.replicas.items a.marks a.pending.entries a.strays.strays };
+    ghost invariant = { λ a. IsNative a.room a.entries.items a.replicas.items a.marks a.pending.entries a.strays };
 }
 
 impl<D: Disk> NativeLoglet<D> {
@@ -101,7 +101,6 @@ impl<D: Disk> NativeLoglet<D> {
         // It is the cell at its start: so many empty servers that are up.
         ensures cell { IsCellOf result.parts (start (length replicas.items) room (2 ^ 62)) }
     {
-        let strays = Bag::new(alloc, replicas.len() as u32);
         NativeLoglet {
             alloc,
             room,
@@ -109,7 +108,7 @@ impl<D: Disk> NativeLoglet<D> {
             replicas,
             marks: Marks::new(),
             pending: HashMap::new(alloc),
-            strays,
+            strays: Bag::new(alloc),
             told: 0,
         }
     }
@@ -262,16 +261,16 @@ impl<D: Disk> Loglet for NativeLoglet<D> {
         // A crash leaves of each disk that it touched what its server is.
         ensures disks { KeepDisks self.old.replicas self.new.replicas }
     {
-        let Ok(fault) = stray_at(
+        let Ok(marks) = count_stray(
             &self.strays,
             &mut self.pending,
             &mut self.replicas,
-            self.marks.cut,
+            self.marks,
             word,
         ) else {
             return Err(Refused::Memory);
         };
-        self.marks = self.marks.after(fault);
+        self.marks = marks;
         self.told = word;
         Ok(())
     }
@@ -348,8 +347,8 @@ fn carry_keeping<D: Disk>(
     ensures spared { OnErr result (states_in replicas.new ≡ states_in replicas.old) }
     ensures disks { KeepDisks replicas.old replicas.new }
     ensures failed { (p : pendings.Pending) → look_in pending.old.entries number ≡ Some p → IfOk result (λ failed. failed ≡ is_failed word (down_in replicas.old) (down_in replicas.new)) }
-    ensures keeps { IfOk result (λ _. strays.new.strays ≡ kept_after (copy_of entries.now.items cut number word (length strays.old.strays) (look_in pending.old.entries number)) strays.old.strays) }
-    ensures strays_stay { OnErr result (strays.new.strays ≡ strays.old.strays) }
+    ensures keeps { IfOk result (λ _. strays.new ≡ kept_after (copy_of entries.now.items cut number word (length strays.old) (look_in pending.old.entries number)) strays.old) }
+    ensures strays_stay { OnErr result (strays.new ≡ strays.old) }
 {
     let copy = copy_at(pending, entries, cut, number, word, strays.copies())?;
     let kept = keep(strays, copy)?;

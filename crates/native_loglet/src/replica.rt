@@ -12,6 +12,7 @@ ghost use Rattle.native_loglet.specs.Natives.{state_in};
 ghost use Rattle.native_loglet.specs.Copies.{CanAsk};
 ghost use Rattle.native_loglet.specs.Telling.{seal_told_by, length_told_by};
 
+use crate::entries::entry_at;
 use delos_types::entry::Entry;
 use disk_model::Disk;
 use log_server::LogServer;
@@ -166,6 +167,7 @@ fn length_told(told: &Told) -> u64
 }
 
 /// Asks a server what the errand says: an entry that it names is one of those from the cut on.
+#[tactic(auto, using(crate::proofs::Rules::store_there, crate::proofs::Rules::repair_there, crate::proofs::Rules::kept_small, crate::proofs::Rules::stored_answers, crate::proofs::Rules::repaired_answers))]
 fn send<D: Disk>(
     server: &mut LogServer<D>,
     errand: Errand,
@@ -181,10 +183,10 @@ fn send<D: Disk>(
     ensures survives { Survives server.new }
 {
     match errand {
-        Errand::Store(place) => server.store(place, &entries[(place - cut) as usize]),
+        Errand::Store(place) => server.store(place, entry_at(entries, cut, place)),
         Errand::Seal => server.seal(),
         Errand::Tail => Ok(server.tail()),
-        Errand::Repair(place) => server.repair(place, &entries[(place - cut) as usize]),
+        Errand::Repair(place) => server.repair(place, entry_at(entries, cut, place)),
         Errand::Read(place) => server.read(place),
         Errand::Trim => server.trim(cut),
     }

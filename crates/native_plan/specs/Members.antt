@@ -87,9 +87,13 @@ left_with way losses (Some (Answered e told)) = way + more_after e + 10 - losses
 abbrev pub left_to : ℕ → Member → ℕ
 left_to end m = left_with (40 * (end - m.at)) m.losses m.message
 
+-- so many tries of one message may be lost, and then its server is given up
+abbrev pub most_tries : ℕ
+most_tries = 8
+
 -- a message was lost once more
 abbrev pub tried : Member → Member
-tried m = if m.losses + 1 == 8 then record m { losses = m.losses + 1; unreached = true; message = None } else record m { losses = m.losses + 1 }
+tried m = if m.losses + 1 == most_tries then record m { losses = m.losses + 1; unreached = true; message = None } else record m { losses = m.losses + 1 }
 
 -- the entry that an answer gives
 abbrev pub got_of : Told → Option Entry

@@ -13,7 +13,7 @@ ghost use Rattle.native_plan.specs.declared.member.Member as members;
 ghost use Rattle.native_plan.specs.declared.message.Errand as errands;
 ghost use Rattle.native_plan.specs.declared.message.Message.TheVariants.{Told as Answered};
 ghost use Rattle.native_plan.specs.declared.message.Phase as phases;
-ghost use Rattle.native_plan.specs.Members.{no_member, heard_by, left_to};
+ghost use Rattle.native_plan.specs.Members.{no_member, heard_by, left_to, most_tries};
 ghost use Rattle.native_plan.specs.Plans.{is_done, errand_of, sent_on, end_of, judged};
 ghost use Rattle.native_plan.specs.Course.{Knows, Comes, ToldWell, IsPlanned, EndsRead, IsOnCourse, IsAllowed, with_reply};
 
@@ -40,7 +40,7 @@ pub fn answers_are_noted()
 /// less is left of all.
 pub fn work_falls()
     ensures heard { (before : Server) (cut want place i : ℕ) (m : members.Member) (phase : phases.Phase) (later : ℕ) (errand : errands.Errand) (told : Told)
-        → m.message ≡ Some (Answered errand told) → m.losses < 8 → IsPlanned phase cut want place m errand → ToldWell before cut phase want m errand told → (EndsRead errand told → ⊥)
+        → m.message ≡ Some (Answered errand told) → m.losses < most_tries → IsPlanned phase cut want place m errand → ToldWell before cut phase want m errand told → (EndsRead errand told → ⊥)
         → let now = heard_by want errand told m in
         left_to (end_of phase want) (sent_on (is_done phase want i now) (errand_of phase later want place now) now) < left_to (end_of phase want) m }
     ensures all { (f : members.Member → ℕ) (old new : List members.Member) (i : ℕ) → length new ≡ length old

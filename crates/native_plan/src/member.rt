@@ -1,6 +1,6 @@
 //! What an operation knows of one server.
 ghost use Rattle.std.specs.Prelude.{◌≡◌, ◌+◌, ◌^◌, ◌<◌, ◌≤◌, Some};
-ghost use Rattle.native_plan.specs.Members.{new_member, is_out, is_opened, is_opened_to, is_found_sealed, is_mended_to, is_passed, is_unreached, opened_of, sealed_of, heard_by, noted, acknowledged, got_of, turn_of, left_to, more_after, tried};
+ghost use Rattle.native_plan.specs.Members.{new_member, is_out, is_opened, is_opened_to, is_found_sealed, is_mended_to, is_passed, is_unreached, opened_of, sealed_of, heard_by, noted, acknowledged, got_of, turn_of, left_to, more_after, most_tries, tried};
 ghost use Rattle.quorum_cell.specs.declared.message.Told as told;
 ghost use Rattle.native_plan.specs.declared.message.Errand as errand;
 
@@ -10,6 +10,9 @@ use quorum_cell::message::Told;
 
 /// How much is left to do for each position: two messages and what follows them.
 const STEP: u64 = 40;
+
+/// How many tries of one message may be lost: with the last its server is given up.
+const MOST_TRIES: u64 = 8;
 
 /// What an operation knows of one server, and the one message that it has on its way to or from it.
 #[derive(Drop)]
@@ -186,13 +189,13 @@ impl Member {
         }
     }
 
-    /// Its message was lost once more: after 8 times the server is given up.
+    /// Its message was lost once more: after `MOST_TRIES` times the server is given up.
     pub fn lose(&mut self)
-        requires { self.old.losses < 8 }
+        requires { self.old.losses < most_tries }
         ensures { self.new ≡ tried self.old }
     {
         self.losses += 1;
-        if self.losses == 8 {
+        if self.losses == MOST_TRIES {
             self.unreached = true;
             self.message = None;
         }

@@ -1,7 +1,7 @@
 //! The open operations of a native loglet.
 ghost use Rattle.std.specs.Prelude.{◌≡◌, ℕ, ◌≤◌, ◌<◌, ◌^◌, sum_by, count_by, length, get_or, Some};
 ghost use Rattle.native_plan.specs.Plans.{place_of, goal_of, end_of, rank_of, first_phase};
-ghost use Rattle.native_plan.specs.Members.{no_member, is_out, nth_out, left_to};
+ghost use Rattle.native_plan.specs.Members.{no_member, is_out, most_tries, nth_out, left_to};
 ghost use Rattle.native_plan.specs.Pendings.{newer_of, aims_of, left_now, verdict_of, Settles, Answers, Notes, NotesLoss, Hears, Loses, Begins};
 ghost use Rattle.quorum_cell.specs.declared.message.Told as answers;
 ghost use Rattle.native_plan.specs.declared.message.Errand as errands;
@@ -244,7 +244,7 @@ impl Pending {
     /// The message that is on its way to or from server `index` is lost once more.
     pub fn lose(&mut self, index: usize, cut: u64)
         requires here { index < length self.old.members.items }
-        requires losses { (get_or self.old.members.items index no_member).losses < 8 }
+        requires losses { (get_or self.old.members.items index no_member).losses < most_tries }
         requires members { length self.old.members.items < 2 ^ 32 }
         requires server { (j : ℕ) → self.old.phase ≡ Phase.Reading j → j < 2 ^ 32 }
         ensures { Loses cut index self.old self.new }
@@ -255,7 +255,7 @@ impl Pending {
 
     fn note_loss(&mut self, index: usize)
         requires here { index < length self.old.members.items }
-        requires losses { (get_or self.old.members.items index no_member).losses < 8 }
+        requires losses { (get_or self.old.members.items index no_member).losses < most_tries }
         ensures { NotesLoss index self.old self.new }
     {
         self.members[index].lose();

@@ -31,7 +31,7 @@ use Rattle.native_plan.specs.declared.message.Message.{Message}
 use Rattle.native_plan.specs.declared.message.Message.TheVariants.{Asked, Told as Answered}
 use Rattle.native_plan.specs.declared.message.Phase.TheVariants.{Trimming}
 use Rattle.native_plan.specs.declared.aims.Aims.{Aims}
-use Rattle.native_plan.specs.Members.{no_member, new_member}
+use Rattle.native_plan.specs.Members.{no_member, new_member, most_tries}
 use Rattle.native_plan.specs.Plans.{is_done, goal_of}
 use Rattle.native_plan.specs.Pendings.{aims_of, plan_left}
 use Rattle.native_plan.specs.Course.{IsOnCourse, IsPlanned, IsAskOf, ToldWell}
@@ -64,7 +64,7 @@ pub record HasReply (c : Cell) (t i : ℕ) (e : Errand) (told : Told) : Type 0 w
 pub record OnItsWay (c : Cell) (o : Operation) (t i : ℕ) (aims : Aims) (m : Member) (e : Errand) : Type 0 where
   pub planned : IsPlanned aims.phase c.cut aims.want aims.place m e
   pub unmet : is_done aims.phase aims.want i m ≡ false
-  pub few : m.losses < 8
+  pub few : m.losses < most_tries
   pub pooled : IsPooled c o t i m.losses
 
 pub record ToldSo (c : Cell) (o : Operation) (t i : ℕ) (aims : Aims) (m : Member) (e : Errand) (told : Told) : Type 0 where

@@ -67,7 +67,7 @@ native_send = natives.the_send MemDisk.the_row disk.ghosts disks.the_send
 
 field_send : IsSend (ShelfLoglet.the_field).row
 field_send = enum_send (EnumDeclared.shape ShelfLoglet.the_type) (
-  (files.the_send _ _ disks.the_send, tt),
+  (files.the_send MemDisk.the_row disk.ghosts disks.the_send, tt),
   ((native_send, tt), ((striped_send _ _ native_send, tt), ((striped_send _ _ (striped_send _ _ native_send), tt), tt))),
 )
 

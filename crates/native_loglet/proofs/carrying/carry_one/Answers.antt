@@ -1,10 +1,7 @@
-use Rattle.std.proofs.Common.{◌≡◌, ◌<◌, ◌∙◌, refl, ap, sym, arith, length, get_or}
+use Rattle.std.proofs.Common.{◌<◌, ◌∙◌, refl, ap, sym, arith, length, get_or}
 use Rattle.log_server.specs.View.{View}
-use Rattle.native_plan.specs.declared.member.Member.{Member}
-use Rattle.native_plan.specs.Members.{no_member, turn_of}
 use Rattle.fate_words.specs.Words.{fate_of}
-use Rattle.native_plan.proofs.Counts.{same_default}
-use Rattle.native_loglet.proofs.Rules.{there_is, asks_of, rests_of, moved_by_loss, moved_by_answer, moved_by_request, if_ok, on_err}
+use Rattle.native_loglet.proofs.Rules.{there_is, asks_of, rests_of, moved_by_answer, moved_by_request, if_ok, on_err}
 use Rattle.native_loglet.proofs.Alike.{set_same}
 use Rattle.native_loglet.proofs.Serving.{wear_same, moves_wear, states_same, lost_failed, none_failed, asked_failed, is_lost_by, is_kept_by}
 use Rattle.native_loglet.specs.Natives.{states_in, down_in}
@@ -32,42 +29,24 @@ hear-requires-clause-server g c = c.requires.can.turns
 pub bounds-replicas-server : goal.bounds-replicas-server
 bounds-replicas-server g c = omega (arith, c.picked-server.ensures.here, c.requires.can.members)
 
-pub returns-then-loses-clause-moves : goal.returns-then-loses-clause-moves
-returns-then-loses-clause-moves g c = moved_by_loss _ _ c.args.word c.picked-server.result (fate_of c.args.word) c.loses.result _ _ _ c.picked-server.ensures.value refl c.loses.ensures c.if-loses.true c.picked-server.ensures.here c.picked-server.ensures.out c.lose.ensures
-
 pub ask-requires-clause-there : goal.ask-requires-clause-there
 ask-requires-clause-there g c =
-    let member : c.index.result.now ≡ get_or c.args.p.now.members.items c.picked-server.result no_member = c.index.ensures ∙ same_default _ _ _ _ c.picked-server.ensures.here in
-    rw c.due-errand.ensures (c.requires.can.asks c.picked-server.result c.in-Asks.errand (asks_of _ c.in-Asks.errand (ap (λ (m : Member). turn_of m.message) (sym member) ∙ sym c.turn.ensures ∙ c.in-Asks.is)))
-
-pub returns-in-Asks-clause-moves : goal.returns-in-Asks-clause-moves
-returns-in-Asks-clause-moves g c =
-    let member : c.index.result.now ≡ get_or c.args.p.now.members.items c.picked-server.result no_member = c.index.ensures ∙ same_default _ _ _ _ c.picked-server.ensures.here in
-    let here : c.picked-server.result < length c.args.replicas.now = omega (arith, c.picked-server.ensures.here, c.requires.can.members) in
-    if_ok c.ask.result _ _
-    (λ failed a. moved_by_request _ _ c.args.word c.picked-server.result (fate_of c.args.word) c.loses.result c.in-Asks.errand _ _ _ (get_or c.args.replicas.now c.picked-server.result c.index-replicas-server.result) c.ask.new.replica failed c.picked-server.ensures.value refl c.loses.ensures c.if-loses.false c.picked-server.ensures.here here (ap (λ (m : Member). turn_of m.message) (sym member) ∙ sym c.turn.ensures ∙ c.in-Asks.is) (ap (λ (v : View). get_or c.args.replicas.now c.picked-server.result v) c.index-replicas-server.is) a)
-    (rw c.due-errand.ensures at c.ask.ensures.answers)
+    rw c.due-errand.ensures (c.requires.can.asks c.picked-server.result c.in-Asks.errand (asks_of _ c.in-Asks.errand (sym c.turn.ensures ∙ c.in-Asks.is)))
 
 pub returns-in-Asks-clause-memory : goal.returns-in-Asks-clause-memory
 returns-in-Asks-clause-memory g c =
     let here : c.picked-server.result < length c.args.replicas.now = omega (arith, c.picked-server.ensures.here, c.requires.can.members) in
     on_err c.ask.result _ _ (λ same. set_same c.args.replicas.now c.picked-server.result c.index-replicas-server.result c.ask.new.replica here same) c.ask.ensures.memory
 
-pub returns-in-Tells-clause-moves : goal.returns-in-Tells-clause-moves
-returns-in-Tells-clause-moves g c =
-    let member : c.index.result.now ≡ get_or c.args.p.now.members.items c.picked-server.result no_member = c.index.ensures ∙ same_default _ _ _ _ c.picked-server.ensures.here in
-    moved_by_answer _ _ c.args.word c.picked-server.result (fate_of c.args.word) c.loses.result _ _ _ c.picked-server.ensures.value refl c.loses.ensures c.if-loses.false c.picked-server.ensures.here (ap (λ (m : Member). turn_of m.message) (sym member) ∙ sym c.turn.ensures ∙ c.in-Tells.is) c.hear.ensures
-
 pub returns-in-Rests-clause-moves : goal.returns-in-Rests-clause-moves
 returns-in-Rests-clause-moves g c =
-    let member : c.index.result.now ≡ get_or c.args.p.now.members.items c.picked-server.result no_member = c.index.ensures ∙ same_default _ _ _ _ c.picked-server.ensures.here in
-    absurd (rests_of _ (ap (λ (m : Member). turn_of m.message) (sym member) ∙ sym c.turn.ensures ∙ c.in-Rests.is) c.picked-server.ensures.out)
+    absurd (rests_of _ (sym c.turn.ensures ∙ c.in-Rests.is) c.picked-server.ensures.out)
 
 pub returns-then-loses-clause-wear : goal.returns-then-loses-clause-wear
 returns-then-loses-clause-wear g c = wear_same (states_in c.args.replicas.now)
 
 pub returns-in-Asks-clause-wear : goal.returns-in-Asks-clause-wear
-returns-in-Asks-clause-wear g c = if_ok c.ask.result _ _ (λ failed m. moves_wear _ _ _ _ _ _ _ _ failed c.requires.can m) (returns-in-Asks-clause-moves g c)
+returns-in-Asks-clause-wear g c = if_ok c.ask.result _ _ (λ failed m. moves_wear _ _ _ _ _ _ _ _ failed c.requires.can m) (moved_by_request _ _ c.args.word c.picked-server.result c.loses.result c.turn.result c.in-Asks.errand c.due-errand.result _ _ c.args.replicas.now c.index-replicas-server.result c.ask.new.replica c.ask.result c.picked-server.ensures.value c.loses.ensures c.if-loses.false c.picked-server.ensures.here c.requires.can.members c.turn.ensures c.in-Asks.is c.due-errand.ensures c.ask.ensures.answers)
 
 pub returns-in-Asks-clause-spared : goal.returns-in-Asks-clause-spared
 returns-in-Asks-clause-spared g c =
@@ -85,10 +64,9 @@ returns-then-loses-clause-failed g c = lost_failed c.args.word (down_in c.args.r
 
 pub returns-in-Asks-clause-failed : goal.returns-in-Asks-clause-failed
 returns-in-Asks-clause-failed g c =
-    let member : c.index.result.now ≡ get_or c.args.p.now.members.items c.picked-server.result no_member = c.index.ensures ∙ same_default _ _ _ _ c.picked-server.ensures.here in
     let here : c.picked-server.result < length c.args.replicas.now = omega (arith, c.picked-server.ensures.here, c.requires.can.members) in
     let was : View = get_or c.args.replicas.now c.picked-server.result c.index-replicas-server.result in
-    let ask = c.requires.can.asks c.picked-server.result c.in-Asks.errand (asks_of _ c.in-Asks.errand (ap (λ (m : Member). turn_of m.message) (sym member) ∙ sym c.turn.ensures ∙ c.in-Asks.is)) in
+    let ask = c.requires.can.asks c.picked-server.result c.in-Asks.errand (asks_of _ c.in-Asks.errand (sym c.turn.ensures ∙ c.in-Asks.is)) in
     if_ok c.ask.result _ _
     (λ failed a. asked_failed c.args.word c.args.replicas.now c.picked-server.result was c.ask.new.replica ask.0 a.told failed (is_kept_by (fate_of c.args.word) c.loses.result c.args.word refl c.loses.ensures c.if-loses.false) (there_is c.args.replicas.now c.picked-server.result _ here) (a.tells ask.0 ask.1) a.fault)
     (rw c.due-errand.ensures at c.ask.ensures.answers)
@@ -110,3 +88,6 @@ returns-in-Tells-clause-disks g c = same_disks c.args.replicas.now
 
 pub returns-in-Rests-clause-disks : goal.returns-in-Rests-clause-disks
 returns-in-Rests-clause-disks g c = same_disks c.args.replicas.now
+
+pub returns-in-Tells-clause-moves : goal.returns-in-Tells-clause-moves
+returns-in-Tells-clause-moves g c = moved_by_answer _ _ c.args.word c.picked-server.result c.loses.result c.turn.result _ _ _ c.picked-server.ensures.value c.loses.ensures c.if-loses.false c.picked-server.ensures.here c.turn.ensures c.in-Tells.is c.hear.ensures

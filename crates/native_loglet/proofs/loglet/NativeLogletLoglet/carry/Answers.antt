@@ -24,55 +24,55 @@ use Rattle.native_loglet.proofs.loglet.NativeLogletLoglet.carry.Goals as goal
 pub carry_keeping-requires-clause-can : goal.carry_keeping-requires-clause-can
 carry_keeping-requires-clause-can g c =
     let i = c.self.inside in
-    let a : Native = native_of i.room i.entries.items i.replicas.items i.marks i.pending.entries i.strays.strays in
+    let a : Native = native_of i.room i.entries.items i.replicas.items i.marks i.pending.entries i.strays in
     rw (c.number.ensures, c.deref_mut.ensures.value) (can_carry a _ c.args.ticket c.args.word (shows a _ c.self.view_is) c.self.invariant c.requires)
 
 pub carry_keeping-requires-clause-spelled : goal.carry_keeping-requires-clause-spelled
 carry_keeping-requires-clause-spelled g c =
     let i = c.self.inside in
-    let a : Native = native_of i.room i.entries.items i.replicas.items i.marks i.pending.entries i.strays.strays in
+    let a : Native = native_of i.room i.entries.items i.replicas.items i.marks i.pending.entries i.strays in
     entries_spelled a c.self.invariant
 
 pub carry_keeping-requires-clause-small : goal.carry_keeping-requires-clause-small
 carry_keeping-requires-clause-small g c =
     let i = c.self.inside in
-    let a : Native = native_of i.room i.entries.items i.replicas.items i.marks i.pending.entries i.strays.strays in
+    let a : Native = native_of i.room i.entries.items i.replicas.items i.marks i.pending.entries i.strays in
     entries_small a c.self.invariant
 
 pub invariant_of-self : goal.invariant_of-self
 invariant_of-self g c =
     let i = c.self.inside in
-    let a : Native = native_of i.room i.entries.items i.replicas.items i.marks i.pending.entries i.strays.strays in
-    let b : Native = native_of i.room i.entries.items c.carry_keeping.new.replicas i.marks c.carry_keeping.new.pending.entries c.carry_keeping.new.strays.strays in
+    let a : Native = native_of i.room i.entries.items i.replicas.items i.marks i.pending.entries i.strays in
+    let b : Native = native_of i.room i.entries.items c.carry_keeping.new.replicas i.marks c.carry_keeping.new.pending.entries c.carry_keeping.new.strays in
     let same : Alike a b = record { room = refl; entries = refl; servers = c.in_default.ensures.memory ∙ ap (map server_in) c.deref_mut.ensures.value; marks = refl; strays = c.in_default.ensures.strays_stay; pending = c.in_default.ensures.pending } in
     let back = lent_back i.replicas.len i.replicas.items c.carry_keeping.new.replicas i.replicas.ok.0 (c.carry_keeping.auto.replicas ∙ ap (λ (vs : List View). length vs) c.deref_mut.ensures.value) in
-    subst (λ (vs : List View). IsOwned (native_of i.room i.entries.items vs i.marks c.carry_keeping.new.pending.entries c.carry_keeping.new.strays.strays)) (sym back) (alike_owned a b same c.self.invariant)
+    subst (λ (vs : List View). IsOwned (native_of i.room i.entries.items vs i.marks c.carry_keeping.new.pending.entries c.carry_keeping.new.strays)) (sym back) (alike_owned a b same c.self.invariant)
 
 pub returns-in_default-clause-step : goal.returns-in_default-clause-step
 returns-in_default-clause-step g c =
     let i = c.self.inside in
-    let a : Native = native_of i.room i.entries.items i.replicas.items i.marks i.pending.entries i.strays.strays in
-    let b : Native = native_of i.room i.entries.items c.carry_keeping.new.replicas i.marks c.carry_keeping.new.pending.entries c.carry_keeping.new.strays.strays in
+    let a : Native = native_of i.room i.entries.items i.replicas.items i.marks i.pending.entries i.strays in
+    let b : Native = native_of i.room i.entries.items c.carry_keeping.new.replicas i.marks c.carry_keeping.new.pending.entries c.carry_keeping.new.strays in
     let same : Alike a b = record { room = refl; entries = refl; servers = c.in_default.ensures.memory ∙ ap (map server_in) c.deref_mut.ensures.value; marks = refl; strays = c.in_default.ensures.strays_stay; pending = c.in_default.ensures.pending } in
     let back = lent_back i.replicas.len i.replicas.items c.carry_keeping.new.replicas i.replicas.ok.0 (c.carry_keeping.auto.replicas ∙ ap (λ (vs : List View). length vs) c.deref_mut.ensures.value) in
-    subst (λ (vs : List View). LogletStep c.args.self.now.loglet (Carry c.args.ticket c.args.word) (Refusal Memory) (loglet_of (native_of i.room i.entries.items vs i.marks c.carry_keeping.new.pending.entries c.carry_keeping.new.strays.strays))) (sym back)
+    subst (λ (vs : List View). LogletStep c.args.self.now.loglet (Carry c.args.ticket c.args.word) (Refusal Memory) (loglet_of (native_of i.room i.entries.items vs i.marks c.carry_keeping.new.pending.entries c.carry_keeping.new.strays))) (sym back)
     (step_alike a b _ _ _ (shows a _ c.self.view_is) c.self.invariant same c.requires refl)
 
 pub invariant_of-self-2 : goal.invariant_of-self-2
 invariant_of-self-2 g c =
     let i = c.self.inside in
-    let a : Native = native_of i.room i.entries.items i.replicas.items i.marks i.pending.entries i.strays.strays in
+    let a : Native = native_of i.room i.entries.items i.replicas.items i.marks i.pending.entries i.strays in
     let back = lent_back i.replicas.len i.replicas.items c.carry_keeping.new.replicas i.replicas.ok.0 (c.carry_keeping.auto.replicas ∙ ap (λ (vs : List View). length vs) c.deref_mut.ensures.value) in
-    subst (λ (vs : List View). IsOwned (native_of i.room i.entries.items vs c.after-self-inside.result c.carry_keeping.new.pending.entries c.carry_keeping.new.strays.strays)) (sym back)
-    (carries_whole a c.carry_keeping.new.replicas c.carry_keeping.new.pending.entries c.carry_keeping.new.strays.strays c.after-self-inside.result _ c.args.ticket c.args.word c.in-Ok.failed (shows a _ c.self.view_is) c.self.invariant c.requires (rw (c.number.ensures, c.deref_mut.ensures.value) at c.in-Ok.ensures.carries) (rw c.number.ensures at c.in-Ok.ensures.keeps) c.after-self-inside.ensures).0
+    subst (λ (vs : List View). IsOwned (native_of i.room i.entries.items vs c.after-self-inside.result c.carry_keeping.new.pending.entries c.carry_keeping.new.strays)) (sym back)
+    (carries_whole a c.carry_keeping.new.replicas c.carry_keeping.new.pending.entries c.carry_keeping.new.strays c.after-self-inside.result _ c.args.ticket c.args.word c.in-Ok.failed (shows a _ c.self.view_is) c.self.invariant c.requires (rw (c.number.ensures, c.deref_mut.ensures.value) at c.in-Ok.ensures.carries) (rw c.number.ensures at c.in-Ok.ensures.keeps) c.after-self-inside.ensures).0
 
 pub returns-clause-step : goal.returns-clause-step
 returns-clause-step g c =
     let i = c.self.inside in
-    let a : Native = native_of i.room i.entries.items i.replicas.items i.marks i.pending.entries i.strays.strays in
+    let a : Native = native_of i.room i.entries.items i.replicas.items i.marks i.pending.entries i.strays in
     let back = lent_back i.replicas.len i.replicas.items c.carry_keeping.new.replicas i.replicas.ok.0 (c.carry_keeping.auto.replicas ∙ ap (λ (vs : List View). length vs) c.deref_mut.ensures.value) in
-    subst (λ (vs : List View). LogletStep c.args.self.now.loglet (Carry c.args.ticket c.args.word) Carried (loglet_of (native_of i.room i.entries.items vs c.after-self-inside.result c.carry_keeping.new.pending.entries c.carry_keeping.new.strays.strays))) (sym back)
-    (carries_whole a c.carry_keeping.new.replicas c.carry_keeping.new.pending.entries c.carry_keeping.new.strays.strays c.after-self-inside.result _ c.args.ticket c.args.word c.in-Ok.failed (shows a _ c.self.view_is) c.self.invariant c.requires (rw (c.number.ensures, c.deref_mut.ensures.value) at c.in-Ok.ensures.carries) (rw c.number.ensures at c.in-Ok.ensures.keeps) c.after-self-inside.ensures).1
+    subst (λ (vs : List View). LogletStep c.args.self.now.loglet (Carry c.args.ticket c.args.word) Carried (loglet_of (native_of i.room i.entries.items vs c.after-self-inside.result c.carry_keeping.new.pending.entries c.carry_keeping.new.strays))) (sym back)
+    (carries_whole a c.carry_keeping.new.replicas c.carry_keeping.new.pending.entries c.carry_keeping.new.strays c.after-self-inside.result _ c.args.ticket c.args.word c.in-Ok.failed (shows a _ c.self.view_is) c.self.invariant c.requires (rw (c.number.ensures, c.deref_mut.ensures.value) at c.in-Ok.ensures.carries) (rw c.number.ensures at c.in-Ok.ensures.keeps) c.after-self-inside.ensures).1
 
 pub returns-in_default-clause-serves : goal.returns-in_default-clause-serves
 returns-in_default-clause-serves g c =
@@ -93,7 +93,7 @@ returns-clause-serves g c =
 pub returns-clause-counts : goal.returns-clause-counts
 returns-clause-counts g c =
     let i = c.self.inside in
-    let a : Native = native_of i.room i.entries.items i.replicas.items i.marks i.pending.entries i.strays.strays in
+    let a : Native = native_of i.room i.entries.items i.replicas.items i.marks i.pending.entries i.strays in
     let back = lent_back i.replicas.len i.replicas.items c.carry_keeping.new.replicas i.replicas.ok.0 (c.carry_keeping.auto.replicas ∙ ap (λ (vs : List View). length vs) c.deref_mut.ensures.value) in
     subst (λ (vs : List View). c.after-self-inside.result.faults ≡ faults_after (is_failed c.args.word c.args.self.now.loglet.down (down_in vs)) c.args.self.now.loglet.faults) (sym back)
     (carry_counts a c.carry_keeping.new.replicas c.after-self-inside.result _ c.args.ticket c.args.word c.in-Ok.failed (shows a _ c.self.view_is) c.self.invariant c.requires (rw (c.number.ensures, c.deref_mut.ensures.value) at c.in-Ok.ensures.failed) c.after-self-inside.ensures)
@@ -101,20 +101,20 @@ returns-clause-counts g c =
 pub returns-in_default-clause-goes : goal.returns-in_default-clause-goes
 returns-in_default-clause-goes g c =
     let i = c.self.inside in
-    let a : Native = native_of i.room i.entries.items i.replicas.items i.marks i.pending.entries i.strays.strays in
-    let b : Native = native_of i.room i.entries.items c.carry_keeping.new.replicas i.marks c.carry_keeping.new.pending.entries c.carry_keeping.new.strays.strays in
+    let a : Native = native_of i.room i.entries.items i.replicas.items i.marks i.pending.entries i.strays in
+    let b : Native = native_of i.room i.entries.items c.carry_keeping.new.replicas i.marks c.carry_keeping.new.pending.entries c.carry_keeping.new.strays in
     let same : Alike a b = record { room = refl; entries = refl; servers = c.in_default.ensures.memory ∙ ap (map server_in) c.deref_mut.ensures.value; marks = refl; strays = c.in_default.ensures.strays_stay; pending = c.in_default.ensures.pending } in
     let back = lent_back i.replicas.len i.replicas.items c.carry_keeping.new.replicas i.replicas.ok.0 (c.carry_keeping.auto.replicas ∙ ap (λ (vs : List View). length vs) c.deref_mut.ensures.value) in
-    subst (λ (vs : List View). NativeStep c.args.self.now.parts (Carry c.args.ticket c.args.word) (Refusal Memory) (native_of i.room i.entries.items vs i.marks c.carry_keeping.new.pending.entries c.carry_keeping.new.strays.strays)) (sym back)
+    subst (λ (vs : List View). NativeStep c.args.self.now.parts (Carry c.args.ticket c.args.word) (Refusal Memory) (native_of i.room i.entries.items vs i.marks c.carry_keeping.new.pending.entries c.carry_keeping.new.strays)) (sym back)
     (goes_from a _ _ _ b c.self.view_is c.requires (λ can. stays_goes a b _ _ c.self.invariant same can refl (λ d. refl)))
 
 pub returns-clause-goes : goal.returns-clause-goes
 returns-clause-goes g c =
     let i = c.self.inside in
-    let a : Native = native_of i.room i.entries.items i.replicas.items i.marks i.pending.entries i.strays.strays in
+    let a : Native = native_of i.room i.entries.items i.replicas.items i.marks i.pending.entries i.strays in
     let back = lent_back i.replicas.len i.replicas.items c.carry_keeping.new.replicas i.replicas.ok.0 (c.carry_keeping.auto.replicas ∙ ap (λ (vs : List View). length vs) c.deref_mut.ensures.value) in
-    subst (λ (vs : List View). NativeStep c.args.self.now.parts (Carry c.args.ticket c.args.word) Carried (native_of i.room i.entries.items vs c.after-self-inside.result c.carry_keeping.new.pending.entries c.carry_keeping.new.strays.strays)) (sym back)
-    (goes_from a _ _ _ _ c.self.view_is c.requires (λ can. carries_goes a c.carry_keeping.new.replicas c.carry_keeping.new.pending.entries c.carry_keeping.new.strays.strays c.after-self-inside.result c.args.ticket c.args.word c.in-Ok.failed c.self.invariant can (rw (c.number.ensures, c.deref_mut.ensures.value) at c.in-Ok.ensures.carries) (rw c.number.ensures at c.in-Ok.ensures.keeps) c.after-self-inside.ensures))
+    subst (λ (vs : List View). NativeStep c.args.self.now.parts (Carry c.args.ticket c.args.word) Carried (native_of i.room i.entries.items vs c.after-self-inside.result c.carry_keeping.new.pending.entries c.carry_keeping.new.strays)) (sym back)
+    (goes_from a _ _ _ _ c.self.view_is c.requires (λ can. carries_goes a c.carry_keeping.new.replicas c.carry_keeping.new.pending.entries c.carry_keeping.new.strays c.after-self-inside.result c.args.ticket c.args.word c.in-Ok.failed c.self.invariant can (rw (c.number.ensures, c.deref_mut.ensures.value) at c.in-Ok.ensures.carries) (rw c.number.ensures at c.in-Ok.ensures.keeps) c.after-self-inside.ensures))
 
 pub returns-in_default-clause-disks : goal.returns-in_default-clause-disks
 returns-in_default-clause-disks g c =
@@ -133,8 +133,8 @@ returns-clause-disks g c =
 pub returns-clause-keeps : goal.returns-clause-keeps
 returns-clause-keeps g c =
     let i = c.self.inside in
-    let a : Native = native_of i.room i.entries.items i.replicas.items i.marks i.pending.entries i.strays.strays in
-    subst (λ (x : NativeView). c.carry_keeping.new.strays.strays ≡ kept_after (copy_in x.parts c.args.ticket c.args.word) x.parts.strays) c.self.view_is (rw c.number.ensures at c.in-Ok.ensures.keeps)
+    let a : Native = native_of i.room i.entries.items i.replicas.items i.marks i.pending.entries i.strays in
+    subst (λ (x : NativeView). c.carry_keeping.new.strays ≡ kept_after (copy_in x.parts c.args.ticket c.args.word) x.parts.strays) c.self.view_is (rw c.number.ensures at c.in-Ok.ensures.keeps)
 
 pub returns-in_default-clause-spares : goal.returns-in_default-clause-spares
 returns-in_default-clause-spares g c = c.in_default.ensures.strays_stay ∙ ap (λ (x : NativeView). x.parts.strays) c.self.view_is

@@ -8,7 +8,7 @@ use Rattle.native_loglet.proofs.loglet.NativeLogletLoglet.down.Goals as goal
 pub down-requires : goal.down-requires
 down-requires g c =
     let i = c.self.inside in
-    let a : Native = native_of i.room i.entries.items i.replicas.items i.marks i.pending.entries i.strays.strays in
+    let a : Native = native_of i.room i.entries.items i.replicas.items i.marks i.pending.entries i.strays in
     omega (arith, servers_few a c.self.invariant, c.deref.ensures.len)
 
 pub returns-clause-each : goal.returns-clause-each

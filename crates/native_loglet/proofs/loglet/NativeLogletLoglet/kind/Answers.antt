@@ -6,5 +6,5 @@ use Rattle.native_loglet.proofs.loglet.NativeLogletLoglet.kind.Goals as goal
 pub overflow_cast-result : goal.overflow_cast-result
 overflow_cast-result g c =
     let i = c.self.inside in
-    let a : Native = native_of i.room i.entries.items i.replicas.items i.marks i.pending.entries i.strays.strays in
+    let a : Native = native_of i.room i.entries.items i.replicas.items i.marks i.pending.entries i.strays in
     omega (arith, servers_few a c.self.invariant, c.len.ensures)

@@ -15,110 +15,109 @@ use Rattle.native_loglet.specs.Steps.{NativeStep}
 use Rattle.native_loglet.proofs.Alike.{IsOwned, Alike, shows, alike_owned, step_alike}
 use Rattle.native_loglet.proofs.Counting.{marks_count}
 use Rattle.native_loglet.proofs.Disks.{lent_back}
-use Rattle.native_loglet.proofs.Serving.{serving_with, states_with, comes_wear, comes_failed}
+use Rattle.native_loglet.proofs.Serving.{serving_with, states_with, comes_wear}
 use Rattle.native_loglet.proofs.Strays.{can_come, can_hear, strays_owned}
 use Rattle.native_loglet.proofs.Goes.{goes_from, stays_goes, strays_goes}
 use Rattle.native_loglet.proofs.loglet.NativeLogletLoglet.stray.Goals as goal
 
-pub stray_at-requires-clause-can : goal.stray_at-requires-clause-can
-stray_at-requires-clause-can g c =
+pub count_stray-requires-clause-can : goal.count_stray-requires-clause-can
+count_stray-requires-clause-can g c =
     let i = c.self.inside in
-    let a : Native = native_of i.room i.entries.items i.replicas.items i.marks i.pending.entries i.strays.strays in
+    let a : Native = native_of i.room i.entries.items i.replicas.items i.marks i.pending.entries i.strays in
     rw c.deref_mut.ensures.value (can_come a c.self.invariant)
 
-pub stray_at-requires-clause-hears : goal.stray_at-requires-clause-hears
-stray_at-requires-clause-hears g c =
+pub count_stray-requires-clause-hears : goal.count_stray-requires-clause-hears
+count_stray-requires-clause-hears g c =
     let i = c.self.inside in
-    let a : Native = native_of i.room i.entries.items i.replicas.items i.marks i.pending.entries i.strays.strays in
+    let a : Native = native_of i.room i.entries.items i.replicas.items i.marks i.pending.entries i.strays in
     rw c.deref_mut.ensures.value (can_hear a c.self.invariant)
 
 pub invariant_of-self : goal.invariant_of-self
 invariant_of-self g c =
     let i = c.self.inside in
-    let a : Native = native_of i.room i.entries.items i.replicas.items i.marks i.pending.entries i.strays.strays in
-    let b : Native = native_of i.room i.entries.items c.stray_at.new.replicas i.marks c.stray_at.new.pending.entries i.strays.strays in
+    let a : Native = native_of i.room i.entries.items i.replicas.items i.marks i.pending.entries i.strays in
+    let b : Native = native_of i.room i.entries.items c.count_stray.new.replicas i.marks c.count_stray.new.pending.entries i.strays in
     let same : Alike a b = record { room = refl; entries = refl; servers = c.in_default.ensures.memory ∙ ap (map server_in) c.deref_mut.ensures.value; marks = refl; strays = refl; pending = c.in_default.ensures.pending } in
-    let back = lent_back i.replicas.len i.replicas.items c.stray_at.new.replicas i.replicas.ok.0 (c.stray_at.auto.replicas ∙ ap (λ (vs : List View). length vs) c.deref_mut.ensures.value) in
-    subst (λ (vs : List View). IsOwned (native_of i.room i.entries.items vs i.marks c.stray_at.new.pending.entries i.strays.strays)) (sym back) (alike_owned a b same c.self.invariant)
+    let back = lent_back i.replicas.len i.replicas.items c.count_stray.new.replicas i.replicas.ok.0 (c.count_stray.auto.replicas ∙ ap (λ (vs : List View). length vs) c.deref_mut.ensures.value) in
+    subst (λ (vs : List View). IsOwned (native_of i.room i.entries.items vs i.marks c.count_stray.new.pending.entries i.strays)) (sym back) (alike_owned a b same c.self.invariant)
 
 pub returns-in_default-clause-step : goal.returns-in_default-clause-step
 returns-in_default-clause-step g c =
     let i = c.self.inside in
-    let a : Native = native_of i.room i.entries.items i.replicas.items i.marks i.pending.entries i.strays.strays in
-    let b : Native = native_of i.room i.entries.items c.stray_at.new.replicas i.marks c.stray_at.new.pending.entries i.strays.strays in
+    let a : Native = native_of i.room i.entries.items i.replicas.items i.marks i.pending.entries i.strays in
+    let b : Native = native_of i.room i.entries.items c.count_stray.new.replicas i.marks c.count_stray.new.pending.entries i.strays in
     let same : Alike a b = record { room = refl; entries = refl; servers = c.in_default.ensures.memory ∙ ap (map server_in) c.deref_mut.ensures.value; marks = refl; strays = refl; pending = c.in_default.ensures.pending } in
-    let back = lent_back i.replicas.len i.replicas.items c.stray_at.new.replicas i.replicas.ok.0 (c.stray_at.auto.replicas ∙ ap (λ (vs : List View). length vs) c.deref_mut.ensures.value) in
-    subst (λ (vs : List View). LogletStep c.args.self.now.loglet (Stray c.args.word) (Refusal Memory) (loglet_of (native_of i.room i.entries.items vs i.marks c.stray_at.new.pending.entries i.strays.strays))) (sym back)
+    let back = lent_back i.replicas.len i.replicas.items c.count_stray.new.replicas i.replicas.ok.0 (c.count_stray.auto.replicas ∙ ap (λ (vs : List View). length vs) c.deref_mut.ensures.value) in
+    subst (λ (vs : List View). LogletStep c.args.self.now.loglet (Stray c.args.word) (Refusal Memory) (loglet_of (native_of i.room i.entries.items vs i.marks c.count_stray.new.pending.entries i.strays))) (sym back)
     (step_alike a b _ _ _ (shows a _ c.self.view_is) c.self.invariant same tt refl)
 
 pub returns-in_default-clause-serves : goal.returns-in_default-clause-serves
 returns-in_default-clause-serves g c =
     let i = c.self.inside in
-    let back = lent_back i.replicas.len i.replicas.items c.stray_at.new.replicas i.replicas.ok.0 (c.stray_at.auto.replicas ∙ ap (λ (vs : List View). length vs) c.deref_mut.ensures.value) in
+    let back = lent_back i.replicas.len i.replicas.items c.count_stray.new.replicas i.replicas.ok.0 (c.count_stray.auto.replicas ∙ ap (λ (vs : List View). length vs) c.deref_mut.ensures.value) in
     ap (λ (vs : List View). serving_with vs i.told) back ∙ ap (λ (ss : List ServerState). states_with ss i.told) (c.in_default.ensures.spared ∙ ap states_in c.deref_mut.ensures.value) ∙ ap serving_of c.self.view_is
 
 pub returns-in_default-clause-goes : goal.returns-in_default-clause-goes
 returns-in_default-clause-goes g c =
     let i = c.self.inside in
-    let a : Native = native_of i.room i.entries.items i.replicas.items i.marks i.pending.entries i.strays.strays in
-    let b : Native = native_of i.room i.entries.items c.stray_at.new.replicas i.marks c.stray_at.new.pending.entries i.strays.strays in
+    let a : Native = native_of i.room i.entries.items i.replicas.items i.marks i.pending.entries i.strays in
+    let b : Native = native_of i.room i.entries.items c.count_stray.new.replicas i.marks c.count_stray.new.pending.entries i.strays in
     let same : Alike a b = record { room = refl; entries = refl; servers = c.in_default.ensures.memory ∙ ap (map server_in) c.deref_mut.ensures.value; marks = refl; strays = refl; pending = c.in_default.ensures.pending } in
-    let back = lent_back i.replicas.len i.replicas.items c.stray_at.new.replicas i.replicas.ok.0 (c.stray_at.auto.replicas ∙ ap (λ (vs : List View). length vs) c.deref_mut.ensures.value) in
-    subst (λ (vs : List View). NativeStep c.args.self.now.parts (Stray c.args.word) (Refusal Memory) (native_of i.room i.entries.items vs i.marks c.stray_at.new.pending.entries i.strays.strays)) (sym back)
+    let back = lent_back i.replicas.len i.replicas.items c.count_stray.new.replicas i.replicas.ok.0 (c.count_stray.auto.replicas ∙ ap (λ (vs : List View). length vs) c.deref_mut.ensures.value) in
+    subst (λ (vs : List View). NativeStep c.args.self.now.parts (Stray c.args.word) (Refusal Memory) (native_of i.room i.entries.items vs i.marks c.count_stray.new.pending.entries i.strays)) (sym back)
     (goes_from a _ _ _ b c.self.view_is tt (λ can. stays_goes a b _ _ c.self.invariant same can refl (λ d. refl)))
 
 pub returns-in_default-clause-disks : goal.returns-in_default-clause-disks
 returns-in_default-clause-disks g c =
     let i = c.self.inside in
-    let back = lent_back i.replicas.len i.replicas.items c.stray_at.new.replicas i.replicas.ok.0 (c.stray_at.auto.replicas ∙ ap (λ (vs : List View). length vs) c.deref_mut.ensures.value) in
+    let back = lent_back i.replicas.len i.replicas.items c.count_stray.new.replicas i.replicas.ok.0 (c.count_stray.auto.replicas ∙ ap (λ (vs : List View). length vs) c.deref_mut.ensures.value) in
     subst (λ (vs : List View). KeepDisks c.args.self.now.replicas vs) (sym back)
-    (subst (λ (x : NativeView). KeepDisks x.replicas c.stray_at.new.replicas) c.self.view_is (subst (λ (vs : List View). KeepDisks vs c.stray_at.new.replicas) c.deref_mut.ensures.value c.stray_at.ensures.disks))
+    (subst (λ (x : NativeView). KeepDisks x.replicas c.count_stray.new.replicas) c.self.view_is (subst (λ (vs : List View). KeepDisks vs c.count_stray.new.replicas) c.deref_mut.ensures.value c.count_stray.ensures.disks))
 
 pub invariant_of-self-2 : goal.invariant_of-self-2
 invariant_of-self-2 g c =
     let i = c.self.inside in
-    let a : Native = native_of i.room i.entries.items i.replicas.items i.marks i.pending.entries i.strays.strays in
-    let back = lent_back i.replicas.len i.replicas.items c.stray_at.new.replicas i.replicas.ok.0 (c.stray_at.auto.replicas ∙ ap (λ (vs : List View). length vs) c.deref_mut.ensures.value) in
-    subst (λ (vs : List View). IsOwned (native_of i.room i.entries.items vs c.after-self-inside.result c.stray_at.new.pending.entries i.strays.strays)) (sym back)
-    (subst (λ (x : Marks). IsOwned (native_of i.room i.entries.items c.stray_at.new.replicas x c.stray_at.new.pending.entries i.strays.strays)) (sym c.after-self-inside.ensures)
-    (strays_owned a c.stray_at.new.replicas c.stray_at.new.pending.entries c.args.word c.in-Ok.fault c.self.invariant (rw c.deref_mut.ensures.value at c.in-Ok.ensures.comes)))
+    let a : Native = native_of i.room i.entries.items i.replicas.items i.marks i.pending.entries i.strays in
+    let back = lent_back i.replicas.len i.replicas.items c.count_stray.new.replicas i.replicas.ok.0 (c.count_stray.auto.replicas ∙ ap (λ (vs : List View). length vs) c.deref_mut.ensures.value) in
+    subst (λ (vs : List View). IsOwned (native_of i.room i.entries.items vs c.in-Ok.marks c.count_stray.new.pending.entries i.strays)) (sym back)
+    (subst (λ (x : Marks). IsOwned (native_of i.room i.entries.items c.count_stray.new.replicas x c.count_stray.new.pending.entries i.strays)) (sym (rw c.deref_mut.ensures.value at c.in-Ok.ensures.counts))
+    (strays_owned a c.count_stray.new.replicas c.count_stray.new.pending.entries c.args.word _ c.self.invariant (rw c.deref_mut.ensures.value at c.in-Ok.ensures.comes)))
 
 pub returns-clause-step : goal.returns-clause-step
 returns-clause-step g c =
     let i = c.self.inside in
-    let a : Native = native_of i.room i.entries.items i.replicas.items i.marks i.pending.entries i.strays.strays in
-    let back = lent_back i.replicas.len i.replicas.items c.stray_at.new.replicas i.replicas.ok.0 (c.stray_at.auto.replicas ∙ ap (λ (vs : List View). length vs) c.deref_mut.ensures.value) in
-    subst (λ (vs : List View). LogletStep c.args.self.now.loglet (Stray c.args.word) Strayed (loglet_of (native_of i.room i.entries.items vs c.after-self-inside.result c.stray_at.new.pending.entries i.strays.strays))) (sym back)
-    (subst (λ (x : LogletView). LogletStep x (Stray c.args.word) Strayed (loglet_of (native_of i.room i.entries.items c.stray_at.new.replicas c.after-self-inside.result c.stray_at.new.pending.entries i.strays.strays))) (shows a _ c.self.view_is)
-    (strays_goes a c.stray_at.new.replicas c.stray_at.new.pending.entries c.after-self-inside.result c.args.word c.in-Ok.fault c.self.invariant (rw c.deref_mut.ensures.value at c.in-Ok.ensures.comes) c.after-self-inside.ensures).loglet)
+    let a : Native = native_of i.room i.entries.items i.replicas.items i.marks i.pending.entries i.strays in
+    let back = lent_back i.replicas.len i.replicas.items c.count_stray.new.replicas i.replicas.ok.0 (c.count_stray.auto.replicas ∙ ap (λ (vs : List View). length vs) c.deref_mut.ensures.value) in
+    subst (λ (vs : List View). LogletStep c.args.self.now.loglet (Stray c.args.word) Strayed (loglet_of (native_of i.room i.entries.items vs c.in-Ok.marks c.count_stray.new.pending.entries i.strays))) (sym back)
+    (subst (λ (x : LogletView). LogletStep x (Stray c.args.word) Strayed (loglet_of (native_of i.room i.entries.items c.count_stray.new.replicas c.in-Ok.marks c.count_stray.new.pending.entries i.strays))) (shows a _ c.self.view_is)
+    (strays_goes a c.count_stray.new.replicas c.count_stray.new.pending.entries c.in-Ok.marks c.args.word _ c.self.invariant (rw c.deref_mut.ensures.value at c.in-Ok.ensures.comes) (rw c.deref_mut.ensures.value at c.in-Ok.ensures.counts)).loglet)
 
 pub returns-clause-serves : goal.returns-clause-serves
 returns-clause-serves g c =
     let i = c.self.inside in
-    let back = lent_back i.replicas.len i.replicas.items c.stray_at.new.replicas i.replicas.ok.0 (c.stray_at.auto.replicas ∙ ap (λ (vs : List View). length vs) c.deref_mut.ensures.value) in (
+    let back = lent_back i.replicas.len i.replicas.items c.count_stray.new.replicas i.replicas.ok.0 (c.count_stray.auto.replicas ∙ ap (λ (vs : List View). length vs) c.deref_mut.ensures.value) in (
       subst (λ (vs : List View). Wear (states_in c.args.self.now.replicas) (states_in vs)) (sym back)
-          (subst (λ (x : NativeView). Wear (states_in x.replicas) (states_in c.stray_at.new.replicas)) c.self.view_is
-          (comes_wear i.marks.cut _ i.pending.entries c.stray_at.new.pending.entries i.replicas.items c.stray_at.new.replicas c.in-Ok.fault (rw c.deref_mut.ensures.value at c.in-Ok.ensures.comes))),
+          (subst (λ (x : NativeView). Wear (states_in x.replicas) (states_in c.count_stray.new.replicas)) c.self.view_is
+          (comes_wear i.marks.cut _ i.pending.entries c.count_stray.new.pending.entries i.replicas.items c.count_stray.new.replicas _ (rw c.deref_mut.ensures.value at c.in-Ok.ensures.comes))),
       refl,
     )
 
 pub returns-clause-goes : goal.returns-clause-goes
 returns-clause-goes g c =
     let i = c.self.inside in
-    let a : Native = native_of i.room i.entries.items i.replicas.items i.marks i.pending.entries i.strays.strays in
-    let back = lent_back i.replicas.len i.replicas.items c.stray_at.new.replicas i.replicas.ok.0 (c.stray_at.auto.replicas ∙ ap (λ (vs : List View). length vs) c.deref_mut.ensures.value) in
-    subst (λ (vs : List View). NativeStep c.args.self.now.parts (Stray c.args.word) Strayed (native_of i.room i.entries.items vs c.after-self-inside.result c.stray_at.new.pending.entries i.strays.strays)) (sym back)
-    (goes_from a _ _ _ _ c.self.view_is tt (λ can. strays_goes a c.stray_at.new.replicas c.stray_at.new.pending.entries c.after-self-inside.result c.args.word c.in-Ok.fault c.self.invariant (rw c.deref_mut.ensures.value at c.in-Ok.ensures.comes) c.after-self-inside.ensures))
+    let a : Native = native_of i.room i.entries.items i.replicas.items i.marks i.pending.entries i.strays in
+    let back = lent_back i.replicas.len i.replicas.items c.count_stray.new.replicas i.replicas.ok.0 (c.count_stray.auto.replicas ∙ ap (λ (vs : List View). length vs) c.deref_mut.ensures.value) in
+    subst (λ (vs : List View). NativeStep c.args.self.now.parts (Stray c.args.word) Strayed (native_of i.room i.entries.items vs c.in-Ok.marks c.count_stray.new.pending.entries i.strays)) (sym back)
+    (goes_from a _ _ _ _ c.self.view_is tt (λ can. strays_goes a c.count_stray.new.replicas c.count_stray.new.pending.entries c.in-Ok.marks c.args.word _ c.self.invariant (rw c.deref_mut.ensures.value at c.in-Ok.ensures.comes) (rw c.deref_mut.ensures.value at c.in-Ok.ensures.counts)))
 
 pub returns-clause-counts : goal.returns-clause-counts
 returns-clause-counts g c =
     let i = c.self.inside in
-    let a : Native = native_of i.room i.entries.items i.replicas.items i.marks i.pending.entries i.strays.strays in
-    let back = lent_back i.replicas.len i.replicas.items c.stray_at.new.replicas i.replicas.ok.0 (c.stray_at.auto.replicas ∙ ap (λ (vs : List View). length vs) c.deref_mut.ensures.value) in
-    subst (λ (vs : List View). c.after-self-inside.result.faults ≡ faults_after (nat_lt c.args.self.now.loglet.down (down_in vs)) c.args.self.now.loglet.faults) (sym back)
-    (marks_count a c.after-self-inside.result _ c.in-Ok.fault (shows a _ c.self.view_is) c.after-self-inside.ensures
-    ∙ ap (λ b. faults_after b c.args.self.now.loglet.faults) (comes_failed i.marks.cut _ i.pending.entries c.stray_at.new.pending.entries i.replicas.items c.stray_at.new.replicas c.in-Ok.fault (rw c.deref_mut.ensures.value at c.in-Ok.ensures.comes))
-    ∙ ap (λ (x : LogletView). faults_after (nat_lt x.down (down_in c.stray_at.new.replicas)) c.args.self.now.loglet.faults) (shows a _ c.self.view_is))
+    let a : Native = native_of i.room i.entries.items i.replicas.items i.marks i.pending.entries i.strays in
+    let back = lent_back i.replicas.len i.replicas.items c.count_stray.new.replicas i.replicas.ok.0 (c.count_stray.auto.replicas ∙ ap (λ (vs : List View). length vs) c.deref_mut.ensures.value) in
+    subst (λ (vs : List View). c.in-Ok.marks.faults ≡ faults_after (nat_lt c.args.self.now.loglet.down (down_in vs)) c.args.self.now.loglet.faults) (sym back)
+    (marks_count a c.in-Ok.marks _ _ (shows a _ c.self.view_is) (rw c.deref_mut.ensures.value at c.in-Ok.ensures.counts)
+    ∙ ap (λ (x : LogletView). faults_after (nat_lt x.down (down_in c.count_stray.new.replicas)) c.args.self.now.loglet.faults) (shows a _ c.self.view_is))
 
 pub returns-in_default-clause-keeps : goal.returns-in_default-clause-keeps
 returns-in_default-clause-keeps g c = ap (λ (x : NativeView). x.parts.strays) c.self.view_is
@@ -129,6 +128,6 @@ returns-clause-keeps g c = ap (λ (x : NativeView). x.parts.strays) c.self.view_
 pub returns-clause-disks : goal.returns-clause-disks
 returns-clause-disks g c =
     let i = c.self.inside in
-    let back = lent_back i.replicas.len i.replicas.items c.stray_at.new.replicas i.replicas.ok.0 (c.stray_at.auto.replicas ∙ ap (λ (vs : List View). length vs) c.deref_mut.ensures.value) in
+    let back = lent_back i.replicas.len i.replicas.items c.count_stray.new.replicas i.replicas.ok.0 (c.count_stray.auto.replicas ∙ ap (λ (vs : List View). length vs) c.deref_mut.ensures.value) in
     subst (λ (vs : List View). KeepDisks c.args.self.now.replicas vs) (sym back)
-    (subst (λ (x : NativeView). KeepDisks x.replicas c.stray_at.new.replicas) c.self.view_is (subst (λ (vs : List View). KeepDisks vs c.stray_at.new.replicas) c.deref_mut.ensures.value c.stray_at.ensures.disks))
+    (subst (λ (x : NativeView). KeepDisks x.replicas c.count_stray.new.replicas) c.self.view_is (subst (λ (vs : List View). KeepDisks vs c.count_stray.new.replicas) c.deref_mut.ensures.value c.count_stray.ensures.disks))
