@@ -1,6 +1,6 @@
 //! A cell: its servers, every message ever sent, and its operations.
 ghost use Rattle.std.specs.Prelude.{◌≡◌, ℕ, ◌+◌, ◌<◌, ◌≤◌, length, OnOk, IfOk, Some, not, IsTrue, slice_get, option_map};
-ghost use Rattle.quorum_cell.specs.Servers.{told as told_by, length_of as length_by, is_sealed as is_sealed_by};
+ghost use Rattle.quorum_cell.specs.Servers.{told as told_by, is_sealed as is_sealed_by};
 ghost use Rattle.quorum_cell.specs.Cells.{start, operation, server as server_of, down as down_of, is_shut as is_shut_by};
 ghost use Rattle.quorum_cell.specs.Steps.{is_full as is_full_by, wanted as wanted_by, cut_after as cut_by, entries_after, begun as begun_by, admit as admitted, with_fault as faulted, begin as begun, ask_for as asked, send as after_send, request_comes as after_request, request_stops as after_stop, waits as waits_of, reply_comes as after_reply, lose as after_loss, restart as restarted, restart_fails as after_failed_restart, decide as after_decide, cap_after as cap_by, give as after_give, take_outcome as after_take, forget as after_forget, cell_step};
 ghost use Rattle.quorum_cell.specs.Law.{IsLawful};
@@ -105,13 +105,11 @@ impl CellState {
         })
     }
 
-    /// How long a server's log is.
-    pub fn length_of(&self, server: u32) -> Option<u64>
-        ensures { result ≡ option_map length_by (slice_get self.now.servers server) }
+    /// The server of this number.
+    pub fn server(&self, number: u32) -> Option<&ServerState>
+        ensures { option_map (λ server. server.now) result ≡ slice_get self.now.servers number }
     {
-        self.servers
-            .get(server as usize)
-            .map(|server| server.length())
+        self.servers.get(number as usize)
     }
 
     /// How many servers it has.

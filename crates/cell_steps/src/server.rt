@@ -61,6 +61,20 @@ impl ServerState {
         }
     }
 
+    /// The entries below this place were let go.
+    pub fn base(&self) -> u64
+        ensures { result ≡ self.now.base }
+    {
+        self.base
+    }
+
+    /// How long it was as it was sealed, if it was.
+    pub fn sealed_at(&self) -> Option<u64>
+        ensures { result ≡ self.now.sealed_at }
+    {
+        self.sealed_at
+    }
+
     /// One more than the last place that it has or had.
     pub fn length(&self) -> u64
         ensures exact { result ≡ length_of self.now }

@@ -1,8 +1,7 @@
 -- What the calls of a cell in stripes ask for.
-use Rattle.std.proofs.Common.{◌≡◌, ℕ, zero, suc, ◌+◌, ◌/◌, ◌%◌, ◌^◌, ◌<◌, ◌≤◌, Bool, true, false, max, List, length, map, get_or, Option, Some, None, refl, sym, ap, ◌∙◌, subst, arith, [], ◌∷◌, ◌++◌}
+use Rattle.std.proofs.Common.{◌≡◌, ℕ, zero, suc, ◌+◌, ◌^◌, ◌<◌, ◌≤◌, Bool, true, false, max, List, length, map, get_or, Option, Some, None, refl, sym, ap, ◌∙◌, subst, arith, [], ◌∷◌, ◌++◌}
 use Rattle.std.specs.Prelude.{slice_get, IfSome, replicate}
 use Rattle.std.proofs.lemmas.Option.{none-some, same_Some}
-use Rattle.delos_types.specs.declared.entry.Entry.{Entry}
 use Rattle.loglet_api.specs.declared.call.Op.{Op}
 use Rattle.loglet_api.specs.declared.call.Answer.{Answer}
 use Rattle.loglet_api.specs.declared.call.Answer.TheVariants.{Placed, Settled, OpenTail, SealedTail, SealDone, Got, CutAt, Beyond, TrimDone, Sealed, NoQuorum}
@@ -16,15 +15,14 @@ use Rattle.striped_loglet.specs.State.{Plain, State, loglet_of}
 use Rattle.striped_loglet.specs.Going.{IsGoing, IsPending}
 use Rattle.striped_loglet.proofs.Lists.{within, total_below}
 use Rattle.striped_loglet.proofs.Places.{got_at}
-use Rattle.striped_loglet.proofs.Joins.{own_below}
 use Rattle.striped_loglet.proofs.Sounds.{striped_sound, behind}
 use Rattle.striped_loglet.proofs.Beginning.{target_below}
 use Rattle.striped_cells.specs.Pursuits.{Pursuit, plain_of, open_at, is_waiting, answer_at}
 use Rattle.striped_cells.specs.Ways.{Ways, IsKind}
-use Rattle.striped_cells.specs.Striped.{Striped, position_of, index_of, woven, AreSmall, state_of, takes, IsLawfulStriped}
+use Rattle.striped_cells.specs.Striped.{Striped, position_of, woven, AreSmall, state_of, takes, IsLawfulStriped}
 use Rattle.striped_cells.proofs.Weaving.{get_past, woven_length, woven_at}
 use Rattle.striped_cells.proofs.Notes.{there, at_there}
-use Rattle.striped_cells.proofs.Striping.{waiting, striped_takes, count, seen, has_all, some_stripes, entries_count}
+use Rattle.striped_cells.proofs.Striping.{waiting, striped_takes, count, seen, has_all, some_stripes}
 
 -- what is found at a place of one list stands at that place of the same list
 pub there_in : {A : Type 0} (xs ys : List A) (i j : ℕ) (x : A) → xs ≡ ys → i ≡ j → j < length ys → x ≡ get_or xs i x → slice_get ys j ≡ Some x
@@ -131,22 +129,8 @@ module _ {C : Type 0} (k : Ways C) (c : Striped C) (h : IsLawfulStriped k c) whe
   pub entry_past : (p : ℕ) → c.marks.size ≤ p → slice_get (woven (map k.entries c.stripes) c.marks.size) p ≡ None
   entry_past p l = let e = woven_length (map k.entries c.stripes) c.marks.size (has_all k c h) in get_past (woven (map k.entries c.stripes) c.marks.size) p (omega (arith, l, e))
 
-  position_is : (ess : List (List Entry)) (m p : ℕ) → length ess ≡ m → position_of ess p ≡ index_of (slice_get ess (p % m)) (p / m)
-  position_is ess m p e = rw e refl
-
-  entries_at : (xs : List C) (i : ℕ) (x : C) → slice_get xs i ≡ Some x → slice_get (map k.entries xs) i ≡ Some (k.entries x)
-  entries_at [] i x e = absurd (cc)
-  entries_at (y ∷ xs) zero x e = let same : y ≡ x = cc in ap (λ (z : C). Some (k.entries z)) same
-  entries_at (y ∷ xs) (suc i) x e = entries_at xs i x e
-
-  pub entry_at : (p : ℕ) (x : C) → p < c.marks.size → slice_get c.stripes (p % length c.stripes) ≡ Some x → slice_get (woven (map k.entries c.stripes) c.marks.size) p ≡ slice_get (k.entries x) (p / length c.stripes)
-  entry_at p x l e =
-      woven_at (map k.entries c.stripes) c.marks.size p (has_all k c h) l
-      ∙ (position_is (map k.entries c.stripes) (length c.stripes) p (entries_count k c.stripes)
-      ∙ ap (λ (o : Option (List Entry)). index_of o (p / length c.stripes)) (entries_at c.stripes (p % length c.stripes) x e))
-
-  pub own_stripe : (p : ℕ) → p % length c.stripes < length c.stripes
-  own_stripe p = own_below (length c.stripes) p (some_stripes k c h)
+  pub entry_in : (p : ℕ) → p < c.marks.size → slice_get (woven (map k.entries c.stripes) c.marks.size) p ≡ position_of (map k.entries c.stripes) p
+  entry_in p l = woven_at (map k.entries c.stripes) c.marks.size p (has_all k c h) l
 
   ---- operations
 

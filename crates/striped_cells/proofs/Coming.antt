@@ -1,26 +1,19 @@
 -- What comes of the calls of a cell in stripes, from what each of their parts does.
-use Rattle.std.proofs.Common.{◌≡◌, ℕ, zero, suc, Bool, true, false, List, [], ◌∷◌, length, set, Option, Some, None, refl, sym, ap, ◌∙◌, subst}
+use Rattle.std.proofs.Common.{◌≡◌, ℕ, Bool, true, false, List, length, set, Option, Some, None, refl, sym, ap, ◌∙◌, subst}
 use Rattle.std.specs.Prelude.{slice_get, is_some, if◌then◌else◌}
 use Rattle.loglet_api.specs.declared.call.Op.{Op}
 use Rattle.loglet_api.specs.declared.call.Answer.{Answer}
 use Rattle.loglet_api.specs.declared.call.Answer.TheVariants.{Beyond}
-use Rattle.loglet_api.specs.Step.{wanted_by}
-use Rattle.striped_loglet.specs.declared.marks.Marks.{Marks}
 use Rattle.striped_loglet.specs.declared.pending.Course.{Course}
 use Rattle.striped_loglet.specs.declared.plan.Plan.{Plan}
 use Rattle.striped_loglet.specs.declared.plan.Heard.{Heard}
 use Rattle.striped_loglet.specs.declared.stripe.Inner.{Inner}
 use Rattle.striped_loglet.specs.Plans.{IsUnspoken, target_of, asked_of, plan_behind, heard_by}
-use Rattle.striped_cells.specs.Pursuits.{Pursuit, open_at, is_waiting, is_unspoken, heard_so, answer_at}
+use Rattle.striped_loglet.proofs.Lists.{length_set, set_back}
+use Rattle.striped_cells.specs.Pursuits.{Pursuit, open_at, is_waiting, is_unspoken, heard_so}
 use Rattle.striped_cells.specs.Ways.{Ways}
-use Rattle.striped_cells.specs.Striped.{Striped, told_marks, inner_of, put_operation, asked, asked_on, asks, heard, heard_on, heard_from, hears, given, takes, dropped, dropped_on, forgets}
+use Rattle.striped_cells.specs.Striped.{Striped, inner_of, put_operation, asked, asked_on, asks, heard, heard_on, heard_from, hears, dropped, dropped_on, forgets}
 use Rattle.striped_cells.proofs.Striping.{unspoken_is}
-
--- what stands at a place is put there
-set_same : {A : Type 0} (xs : List A) (i : ℕ) (x : A) → slice_get xs i ≡ Some x → set xs i x ≡ xs
-set_same {A} [] i x e = absurd (cc)
-set_same {A} (y ∷ xs) zero x e = let same : y ≡ x = cc in ap (λ (z : A). z ∷ xs) (sym same)
-set_same {A} (y ∷ xs) (suc i) x e = ap (λ (zs : List A). y ∷ zs) (set_same xs i x e)
 
 pub spoken : (p : Pursuit) → (IsUnspoken p.asked.task p.asked.firm → ⊥) → is_unspoken p.asked.task p.asked.firm ≡ false
 spoken p not = by (is_unspoken p.asked.task p.asked.firm) refl
@@ -29,12 +22,13 @@ spoken p not = by (is_unspoken p.asked.task p.asked.firm) refl
     by true e = absurd (not (unspoken_is p.asked.task p.asked.firm e))
     by false e = e
 
+-- a list has as many after one of them is put
+pub as_many : {A : Type 0} (xs ys : List A) (i : ℕ) (x : A) → ys ≡ set xs i x → length ys ≡ length xs
+as_many xs ys i x e = ap length e ∙ length_set xs i x
+
 module _ {C : Type 0} (k : Ways C) (c : Striped C) (t : ℕ) (p : Pursuit) (at : open_at c.operations t ≡ Some p) where
   asks_it : is_waiting p ≡ true → asks k c t (open_at c.operations t) ≡ asked k c t p
   asks_it waits = ap (asks k c t) at ∙ ap (λ (b : Bool). if b then asked k c t p else c) waits
-
-  pub asked_beyond : is_waiting p ≡ true → is_unspoken p.asked.task p.asked.firm ≡ true → put_operation k c t (record p { inner = None; answer = Some (Beyond p.asked.firm) }) ≡ asks k c t (open_at c.operations t)
-  asked_beyond waits beyond = sym (asks_it waits ∙ ap (λ (b : Bool). if b then put_operation k c t (record p { inner = None; answer = Some (Beyond p.asked.firm) }) else asked_on k c t p (target_of p.asked.task (length c.stripes) p.plan) (slice_get c.stripes (target_of p.asked.task (length c.stripes) p.plan))) beyond)
 
   pub asked_stripe : (x : C) (op : Op) (inner : Inner) (plan : Plan) (stripes : List C) → is_waiting p ≡ true → is_unspoken p.asked.task p.asked.firm ≡ false → slice_get c.stripes (target_of p.asked.task (length c.stripes) p.plan) ≡ Some x
       → op ≡ asked_of p.asked.task p.asked.size p.plan.stage c.marks.cut (target_of p.asked.task (length c.stripes) p.plan) (length c.stripes) → inner ≡ inner_of k (target_of p.asked.task (length c.stripes) p.plan) x op → plan ≡ plan_behind p.asked.task (length c.stripes) p.plan → stripes ≡ set c.stripes (target_of p.asked.task (length c.stripes) p.plan) (k.begin x op)
@@ -62,13 +56,6 @@ module _ {C : Type 0} (k : Ways C) (c : Striped C) (t : ℕ) (p : Pursuit) (at :
       → record c { stripes = set c.stripes inner.stripe (k.take x inner.ticket); operations = set c.operations t (heard_so p (heard_by p.asked.task p.asked.size p.plan inner.stripe (length c.stripes) a)) } ≡ hears k c t (open_at c.operations t)
   heard_answer inner x a none mine is told = sym (hears_so inner x (Some a) none mine is told)
 
-  pub taken_answer : (a : Answer) → answer_at c.marks.cut (Some p) ≡ Some a
-      → record c { marks = told_marks c.marks a (wanted_by p.asked.task p.asked.size); operations = set c.operations t (record p { closed = true }) } ≡ takes k c t (open_at c.operations t)
-  taken_answer a e = sym (ap (takes k c t) at ∙ ap (given k c t p) e)
-
-  pub taken_none : answer_at c.marks.cut (Some p) ≡ None → c ≡ takes k c t (open_at c.operations t)
-  taken_none e = sym (ap (takes k c t) at ∙ ap (given k c t p) e)
-
   ---- the same, as the parts of a call tell it
 
   pub asked_whole : (s new : Striped C) (x : C) (op : Op) (inner : Inner) (course : Course) (plan : Plan) (m i : ℕ) (xs : List C) → s ≡ c → is_waiting p ≡ true → is_unspoken p.asked.task p.asked.firm ≡ false → slice_get c.stripes i ≡ Some x
@@ -89,37 +76,35 @@ module _ {C : Type 0} (k : Ways C) (c : Striped C) (t : ℕ) (p : Pursuit) (at :
       enew ∙ (ap (λ (z : Striped C). put_operation k (record z { stripes = xs }) t (record p { plan = plan; inner = Some inner; answer = None })) es
       ∙ asked_stripe x op inner plan xs waits said (subst (λ n. slice_get c.stripes n ≡ Some x) target is) what on behind all)
 
-  pub unheard_whole : (s : Striped C) (inner : Inner) (x : C) → s ≡ c → p.answer ≡ None → p.inner ≡ Some inner → slice_get c.stripes inner.stripe ≡ Some x → k.answer x inner.ticket ≡ None
-      → record s { stripes = set s.stripes inner.stripe x } ≡ hears k c t (open_at c.operations t)
-  unheard_whole s inner x es none mine is told =
-      ap (λ (z : Striped C). record z { stripes = set z.stripes inner.stripe x }) es
-      ∙ (ap (λ (zs : List C). record c { stripes = zs }) (set_same c.stripes inner.stripe x is) ∙ unheard inner x none mine is told)
+  pub unheard_whole : (s : Striped C) (inner : Inner) (x : C) (xs : List C) (o : Option Answer) → s ≡ c → p.answer ≡ None → p.inner ≡ Some inner → slice_get c.stripes inner.stripe ≡ Some x
+      → o ≡ k.answer x inner.ticket → o ≡ None → xs ≡ set s.stripes inner.stripe (if is_some o then k.take x inner.ticket else x)
+      → record s { stripes = xs } ≡ hears k c t (open_at c.operations t)
+  unheard_whole s inner x xs o es none mine is told so exs =
+      let all : xs ≡ c.stripes =
+      exs ∙ (ap (λ (a : Option Answer). set s.stripes inner.stripe (if is_some a then k.take x inner.ticket else x)) so
+      ∙ (ap (λ (z : Striped C). set z.stripes inner.stripe x) es ∙ set_back c.stripes inner.stripe x is)) in
+      ap (λ (z : Striped C). record z { stripes = xs }) es
+      ∙ (ap (λ (zs : List C). record c { stripes = zs }) all ∙ unheard inner x none mine is (sym told ∙ so))
 
-  pub heard_whole : (s : Striped C) (inner : Inner) (x y : C) (a : Answer) (h : Heard) (m n : ℕ) (found q : Pursuit) (course : Course) → s ≡ c → p.answer ≡ None → p.inner ≡ Some inner → slice_get c.stripes inner.stripe ≡ Some x → k.answer x inner.ticket ≡ Some a
-      → course ≡ record { asked = p.asked; plan = p.plan } → m ≡ length c.stripes → y ≡ k.take x inner.ticket → h ≡ heard_by course.asked.task course.asked.size course.plan inner.stripe m a → n ≡ t → found ≡ p → q ≡ heard_so found h
-      → record s { stripes = set s.stripes inner.stripe y; operations = set s.operations n q } ≡ hears k c t (open_at c.operations t)
-  heard_whole s inner x y a h m n found q course es none mine is told ec em ey eh en ef eq =
+  pub heard_whole : (s : Striped C) (inner : Inner) (x : C) (xs : List C) (o : Option Answer) (a : Answer) (h : Heard) (m n : ℕ) (found q : Pursuit) (course : Course) → s ≡ c → p.answer ≡ None → p.inner ≡ Some inner → slice_get c.stripes inner.stripe ≡ Some x
+      → o ≡ k.answer x inner.ticket → o ≡ Some a → xs ≡ set s.stripes inner.stripe (if is_some o then k.take x inner.ticket else x)
+      → course ≡ record { asked = p.asked; plan = p.plan } → m ≡ length c.stripes → h ≡ heard_by course.asked.task course.asked.size course.plan inner.stripe m a → n ≡ t → found ≡ p → q ≡ heard_so found h
+      → record s { stripes = xs; operations = set s.operations n q } ≡ hears k c t (open_at c.operations t)
+  heard_whole s inner x xs o a h m n found q course es none mine is told answer exs ec em eh en ef eq =
+      let all : xs ≡ set c.stripes inner.stripe (k.take x inner.ticket) =
+      exs ∙ (ap (λ (b : Option Answer). set s.stripes inner.stripe (if is_some b then k.take x inner.ticket else x)) answer
+      ∙ ap (λ (z : Striped C). set z.stripes inner.stripe (k.take x inner.ticket)) es) in
       let so : h ≡ heard_by p.asked.task p.asked.size p.plan inner.stripe (length c.stripes) a =
       eh ∙ (ap (λ (z : Course). heard_by z.asked.task z.asked.size z.plan inner.stripe m a) ec ∙ ap (λ j. heard_by p.asked.task p.asked.size p.plan inner.stripe j a) em) in
       let new : q ≡ heard_so p (heard_by p.asked.task p.asked.size p.plan inner.stripe (length c.stripes) a) = eq ∙ (ap (λ (z : Pursuit). heard_so z h) ef ∙ ap (heard_so p) so) in
-      ap (λ (z : Striped C). record z { stripes = set z.stripes inner.stripe y; operations = set z.operations n q }) es
-      ∙ (ap (λ (z : C). record c { stripes = set c.stripes inner.stripe z; operations = set c.operations n q }) ey
+      ap (λ (z : Striped C). record z { stripes = xs; operations = set z.operations n q }) es
+      ∙ (ap (λ (zs : List C). record c { stripes = zs; operations = set c.operations n q }) all
       ∙ (ap (λ j. record c { stripes = set c.stripes inner.stripe (k.take x inner.ticket); operations = set c.operations j q }) en
       ∙ (ap (λ (z : Pursuit). record c { stripes = set c.stripes inner.stripe (k.take x inner.ticket); operations = set c.operations t z }) new
-      ∙ heard_answer inner x a none mine is told)))
-
-  pub taken_whole : (s new : Striped C) (a : Answer) (m : Marks) (n : ℕ) → s ≡ c → answer_at c.marks.cut (Some p) ≡ Some a → n ≡ wanted_by p.asked.task p.asked.size → m ≡ told_marks s.marks a n → new ≡ put_operation k (record s { marks = m }) t (record p { closed = true })
-      → new ≡ takes k c t (open_at c.operations t)
-  taken_whole s new a m n es e en em enew =
-      let all : m ≡ told_marks c.marks a (wanted_by p.asked.task p.asked.size) = em ∙ (ap (λ (z : Striped C). told_marks z.marks a n) es ∙ ap (told_marks c.marks a) en) in
-      enew ∙ (ap (λ (z : Striped C). put_operation k (record z { marks = m }) t (record p { closed = true })) es
-      ∙ (ap (λ (z : Marks). put_operation k (record c { marks = z }) t (record p { closed = true })) all ∙ taken_answer a e))
+      ∙ heard_answer inner x a none mine is (sym told ∙ answer))))
 
   forgets_it : forgets k c t (open_at c.operations t) ≡ record c { stripes = dropped k c p.inner; operations = set c.operations t (record p { closed = true }) }
   forgets_it = ap (forgets k c t) at
-
-  pub forgot_none : (new : Striped C) → p.inner ≡ None → new ≡ put_operation k c t (record p { closed = true }) → new ≡ forgets k c t (open_at c.operations t)
-  forgot_none new none e = e ∙ sym (forgets_it ∙ ap (λ (o : Option Inner). record c { stripes = dropped k c o; operations = set c.operations t (record p { closed = true }) }) none)
 
   pub forgot_inner : (s new : Striped C) (inner : Inner) (x y : C) → s ≡ c → p.inner ≡ Some inner → slice_get c.stripes inner.stripe ≡ Some x → y ≡ k.forget x inner.ticket
       → new ≡ put_operation k (record s { stripes = set s.stripes inner.stripe y }) t (record p { closed = true }) → new ≡ forgets k c t (open_at c.operations t)

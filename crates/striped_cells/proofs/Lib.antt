@@ -7,3 +7,4 @@ pub mod Starting
 pub mod Taken
 pub mod Calling
 pub mod Coming
+pub mod Places

@@ -9,14 +9,14 @@ ghost use Rattle.striped_cells.specs.Striped.{shape_like as shape_by, kind_like 
 use crate::cell::{AnyCell, Numbers};
 use crate::motion::Motion;
 use crate::pursuit::PursuitState;
-use crate::stripes::{alike, begin_on, copied, counts, sealed};
+use crate::stripes::{alike, begin_on, copied, counts, entry_of, sealed, take_from};
 use cell_steps::cell::CellState;
 use delos_types::entry::Entry;
 use delos_types::numbers::Ticket;
 use loglet_api::call::{Answer, Kind, Op};
 use std::alloc::{AllocError, Global};
 use std::marker::Model;
-use stripe_rule::{index_of, stripe_of};
+use stripe_rule::stripe_of;
 use striped_loglet::marks::Marks;
 use striped_loglet::pending::Course;
 use striped_loglet::plan::{Asked, Plan};
@@ -185,11 +185,9 @@ impl<C: AnyCell> StripedState<C> {
             return Ok(());
         };
         let Course { asked, plan } = operation.course();
-        let stripe = &mut self.stripes[inner.stripe as usize];
-        let Some(answer) = stripe.answer(inner.ticket)? else {
+        let Some(answer) = take_from(alloc, &mut self.stripes, inner.stripe, inner.ticket)? else {
             return Ok(());
         };
-        stripe.take(alloc, inner.ticket)?;
         let count = self.stripes.len() as u64;
         let heard = asked.heard(plan, inner.stripe, count, answer);
         self.operations[ticket.number() as usize].hear(heard);
@@ -266,8 +264,7 @@ impl<C: AnyCell> AnyCell for StripedState<C> {
         if self.marks.size <= place {
             return None;
         }
-        let count = self.stripes.len() as u64;
-        self.stripes[stripe_of(place, count) as usize].entry(index_of(place, count))
+        entry_of(self.stripes.as_slice(), place)
     }
 
     fn is_full(&self, op: &Op) -> bool {

@@ -1,14 +1,16 @@
 //! Lists of stripes, each of a lawful kind.
-ghost use Rattle.std.specs.Prelude.{◌≡◌, ℕ, ◌<◌, ◌≤◌, length, map, replicate, set, slice_get, Some, IfOk, OnOk};
+ghost use Rattle.std.specs.Prelude.{◌≡◌, ℕ, ◌<◌, ◌≤◌, length, map, replicate, set, slice_get, option_map, Some, is_some, if◌then◌else◌, IfOk, OnOk};
 ghost use Rattle.loglet_api.specs.Step.{CanBegin};
 ghost use Rattle.striped_loglet.specs.Views.{total, any_shut};
 ghost use Rattle.striped_cells.specs.Ways.{IsKind};
-ghost use Rattle.striped_cells.specs.Striped.{inner_of, AllLawful, shut_of, most_count};
+ghost use Rattle.striped_cells.specs.Striped.{position_of, inner_of, AllLawful, shut_of, most_count};
 
 use crate::cell::AnyCell;
+use delos_types::entry::Entry;
 use delos_types::numbers::Ticket;
-use loglet_api::call::Op;
+use loglet_api::call::{Answer, Op};
 use std::alloc::{AllocError, Global};
+use stripe_rule::{index_of, stripe_of};
 use striped_loglet::stripe::Inner;
 
 /// What the stripes count together.
@@ -76,6 +78,17 @@ pub fn counts<C: AnyCell>(stripes: &[C]) -> Totals
     Totals { shut, faults, down }
 }
 
+/// The entry at a position: of m stripes, position p is index p / m of stripe p % m.
+#[tactic(auto, using(crate::proofs::Places::at_stripe))]
+pub fn entry_of<C: AnyCell>(stripes: &[C], place: u64) -> Option<&Entry>
+    requires some { 0 < length stripes.now }
+    requires lawful { AllLawful C.ways stripes.now }
+    ensures { option_map (λ entry. entry.now) result ≡ position_of (map C.ways.entries stripes.now) place }
+{
+    let count = stripes.len() as u64;
+    stripes[stripe_of(place, count) as usize].entry(index_of(place, count))
+}
+
 /// An operation begins on a stripe.
 pub fn begin_on<C: AnyCell>(
     alloc: Global,
@@ -100,4 +113,26 @@ pub fn begin_on<C: AnyCell>(
         rounds,
         steps,
     })
+}
+
+/// Where the operation of this ticket came to its end on a stripe, its client is told, and it is
+/// closed.
+pub fn take_from<C: AnyCell>(
+    alloc: Global,
+    stripes: &mut Vec<C>,
+    stripe: u64,
+    ticket: Ticket,
+) -> Result<Option<Answer>, AllocError>
+    requires here { stripe < length stripes.old.items }
+    requires lawful { AllLawful C.ways stripes.old.items }
+    ensures { (x : C) → slice_get stripes.old.items stripe ≡ Some x
+        → IfOk result (λ answer. (answer ≡ C.ways.answer x ticket)
+        × (stripes.new.items ≡ set stripes.old.items stripe (if is_some answer then C.ways.take x ticket else x))) }
+{
+    let cell = &mut stripes[stripe as usize];
+    let Some(answer) = cell.answer(ticket)? else {
+        return Ok(None);
+    };
+    cell.take(alloc, ticket)?;
+    Ok(Some(answer))
 }

@@ -14,7 +14,7 @@ use anyhow::Result;
 use topic::Part;
 use worked_cases::cases::print_file;
 
-const TOPICS: [Part; 2] = [Part::Cells, Part::Worlds];
+const TOPICS: [Part; 3] = [Part::Cells, Part::Worlds, Part::Stripes];
 
 fn main(rt: HostRuntime) -> Result<()> {
     let mut plays = String::new(rt.alloc());

@@ -1,4 +1,4 @@
-//! What the schedules of a file are about: one cell, or a world.
+//! What the schedules of a file are about: one cell, a world, or cells in stripes.
 use crate::worlds::WorldBench;
 use anyhow::Result;
 use std::alloc::Global;
@@ -9,6 +9,7 @@ use worked_cases::cases::{Line, Topic, play_on};
 pub enum Part {
     Cells,
     Worlds,
+    Stripes,
 }
 
 impl Topic for Part {
@@ -16,6 +17,7 @@ impl Topic for Part {
         match self {
             Part::Cells => "cells",
             Part::Worlds => "worlds",
+            Part::Stripes => "stripes",
         }
     }
 

@@ -5,13 +5,14 @@ use Rattle.std.proofs.lemmas.List.{length-map}
 use Rattle.delos_types.specs.declared.entry.Entry.{Entry}
 use Rattle.delos_types.specs.declared.chain.Chain.{Chain}
 use Rattle.chain_map.specs.Chain.{IsChain, last_segment, last_id}
-use Rattle.quorum_cell.specs.Cells.{Cell}
 use Rattle.legal_journal.specs.Journal as journal
 use Rattle.legal_journal.proofs.Log.{last_starts}
 use Rattle.legal_journal.proofs.Sound.{StateOk}
 use Rattle.legal_journal.proofs.Chains.{chain_ok}
 use Rattle.world_steps.specs.declared.step.ChainChange.{ChainChange}
 use Rattle.world_steps.specs.declared.step.ChainChange.TheVariants.{Extend, Raise}
+use Rattle.world_steps.specs.declared.cell.WorldCell.{WorldCell}
+use Rattle.world_steps.specs.Cells.{view_of}
 use Rattle.world_steps.specs.Parts.{World, given_under, shelf_of}
 use Rattle.world_steps.specs.Guards.{ChangeFits, may_follow}
 use Rattle.world_steps.specs.Laws.{WorldLaw}
@@ -32,7 +33,7 @@ module _ (may : ℕ → Entry → Type 0) (floor : List Entry → ℕ → Type 0
   given_chain v c h = chain_ok (length (shelf_of w)) (journal.state_of w.events) v c ok (law.register.given v ∙ h)
 
   many : length (shelf_of w) ≡ length w.cells
-  many = length-map w.cells (λ (c : Cell). length c.servers)
+  many = length-map w.cells (λ (c : WorldCell). (view_of c).servers)
 
   -- what may close the last segment ends it within a word, and the next cell is one of 64
   pub record IsSeam (c : Chain) (t : ℕ) : Type 0 where

@@ -6,7 +6,6 @@ use Rattle.std.proofs.lemmas.Bool.{or_cases, false≢true}
 use Rattle.std.proofs.lemmas.List.{append-nil}
 use Rattle.std.proofs.lemmas.Option.{slice_get-get_or}
 use Rattle.delos_types.specs.declared.entry.Entry.{Entry}
-use Rattle.quorum_cell.specs.Cells.{Cell}
 use Rattle.legal_journal.specs.declared.events.Event.{Event}
 use Rattle.legal_journal.specs.Told.{put}
 use Rattle.legal_journal.specs.Moves.{move}
@@ -16,6 +15,8 @@ use Rattle.legal_journal.proofs.Cells.{put_cases}
 use Rattle.legal_journal.proofs.Sound.{StateOk}
 use Rattle.legal_journal.proofs.Legal.{sound, goes_on}
 use Rattle.fabric_core.proofs.Kept.{legal_more, state_more}
+use Rattle.world_steps.specs.declared.cell.WorldCell.{WorldCell}
+use Rattle.world_steps.specs.Cells.{view_of}
 use Rattle.world_steps.specs.Parts.{Register, Node, World, no_cell, no_node, cell_at, node_at, shelf_of}
 use Rattle.world_steps.specs.Events.{is_begin_of, is_owner, ends, was_sealed_at, places, was_placed_at}
 use Rattle.world_steps.specs.Laws.{IsCellTold, IsRegisterTold, IsFront, WorldLaw}
@@ -72,16 +73,17 @@ pub record Goes (may : ℕ → Entry → Type 0) (floor : List Entry → ℕ →
   pub law : WorldLaw may floor new
   pub more : List Event
   pub events : new.events ≡ w.events ++ more
+  pub shelf : shelf_of new ≡ shelf_of w
 
 module _ (may : ℕ → Entry → Type 0) (floor : List Entry → ℕ → Type 0) (w : World) (law : WorldLaw may floor w) where
   pub idle : Goes may floor w w
-  idle = record { law = law; more = []; events = sym (append-nil w.events) }
+  idle = record { law = law; more = []; events = sym (append-nil w.events); shelf = refl }
 
   pub state_ok : StateOk (length (shelf_of w)) (state_of w.events)
   state_ok = sound may floor (shelf_of w) w.events law.legal
 
   -- One event: it may happen, and the parts go on as it tells.
-  pub event_kept : (cells : List Cell) (r : Register) (e : Event) → MayHappen (state_of w.events) may floor (shelf_of w) e → map (λ (c : Cell). length c.servers) cells ≡ shelf_of w → ((k : ℕ) → IsCellTold ((after (state_of w.events) e.who (move e)).cells k) (cell_at cells k)) → IsRegisterTold (after (state_of w.events) e.who (move e)).register r
+  pub event_kept : (cells : List WorldCell) (r : Register) (e : Event) → MayHappen (state_of w.events) may floor (shelf_of w) e → map (λ (c : WorldCell). (view_of c).servers) cells ≡ shelf_of w → ((k : ℕ) → IsCellTold ((after (state_of w.events) e.who (move e)).cells k) (cell_at cells k)) → IsRegisterTold (after (state_of w.events) e.who (move e)).register r
       → ((k t who : ℕ) → is_begin_of who k t e ≡ true → (t < ((after (state_of w.events) e.who (move e)).cells k).told.begun) × (((after (state_of w.events) e.who (move e)).cells k).owner t ≡ who))
       → ((k n : ℕ) → ends k n e.call e.answer ≡ true → Contains ((after (state_of w.events) e.who (move e)).cells k).ends n)
       → ((k p : ℕ) → places k p e.call e.answer ≡ true → p < ((after (state_of w.events) e.who (move e)).cells k).told.reach)
@@ -94,6 +96,7 @@ module _ (may : ℕ → Entry → Type 0) (floor : List Entry → ℕ → Type 0
       record {
         more = e ∷ [];
         events = refl;
+        shelf = shelf;
         law = record {
           legal = subst (λ (s : List ℕ). IsLegal may floor s es) (sym shelf) legal;
           cells = λ k. subst (λ (s : State). IsCellTold (s.cells k) (cell_at cells k)) (sym next) (told k);
@@ -120,12 +123,13 @@ module _ (may : ℕ → Entry → Type 0) (floor : List Entry → ℕ → Type 0
       }
 
   -- No event: a cell moves as nobody's call, or a node does something.
-  pub cell_kept : (i : ℕ) (c : Cell) → (i < length w.cells → IsCellTold ((state_of w.events).cells i) c) → length c.servers ≡ length (cell_at w.cells i).servers → Goes may floor w (record w { cells = set w.cells i c })
+  pub cell_kept : (i : ℕ) (c : WorldCell) → (i < length w.cells → IsCellTold ((state_of w.events).cells i) c) → (view_of c).servers ≡ (view_of (cell_at w.cells i)).servers → Goes may floor w (record w { cells = set w.cells i c })
   cell_kept i c told servers =
-      let shelf : map (λ (x : Cell). length x.servers) (set w.cells i c) ≡ shelf_of w = map_kept (λ (x : Cell). length x.servers) w.cells i c no_cell servers in
+      let shelf : map (λ (x : WorldCell). (view_of x).servers) (set w.cells i c) ≡ shelf_of w = map_kept (λ (x : WorldCell). (view_of x).servers) w.cells i c no_cell servers in
       record {
         more = [];
         events = sym (append-nil w.events);
+        shelf = shelf;
         law = record {
           legal = subst (λ (s : List ℕ). IsLegal may floor s w.events) (sym shelf) law.legal;
           cells = at_set (λ k x. IsCellTold ((state_of w.events).cells k) x) w.cells no_cell i c told law.cells;
@@ -141,6 +145,7 @@ module _ (may : ℕ → Entry → Type 0) (floor : List Entry → ℕ → Type 0
   node_kept k n front = record {
     more = [];
     events = sym (append-nil w.events);
+    shelf = refl;
     law = record {
       legal = law.legal;
       cells = law.cells;

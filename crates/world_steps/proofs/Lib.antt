@@ -1,3 +1,4 @@
+pub mod Kind
 pub mod Told
 pub mod Registers
 pub mod Kept
@@ -7,4 +8,3 @@ pub mod Fresh
 pub mod InCells
 pub mod LogLaws
 pub mod Fits
-pub mod Taken

@@ -6,7 +6,6 @@ use Rattle.delos_types.specs.declared.entry.Entry.{Entry}
 use Rattle.delos_types.specs.declared.chain.Segment.{Segment}
 use Rattle.delos_types.specs.declared.chain.Chain.{Chain}
 use Rattle.chain_map.specs.Chain.{IsChain}
-use Rattle.cell_views.proofs.Sounds.{size_is}
 use Rattle.legal_journal.specs.declared.events.Event.{Event}
 use Rattle.legal_journal.specs.Journal.{State, IsLegal}
 use Rattle.legal_journal.specs.Journal as journal
@@ -16,10 +15,12 @@ use Rattle.legal_journal.proofs.Log.{slice_get_front, HasStart-in}
 use Rattle.legal_journal.proofs.Sound.{StateOk, reach_le_end}
 use Rattle.legal_journal.proofs.Legal.{goes_on, agrees, whole, reached_stands}
 use Rattle.legal_journal.proofs.Chains.{chain_ok, closed_at, is_in_at}
+use Rattle.world_steps.specs.Cells.{view_of, entries_of}
 use Rattle.world_steps.specs.Parts.{World, cell_at, node_at, given_under, shelf_of}
 use Rattle.world_steps.specs.Logs.{log_at, trim_of, tail_of, Stands}
-use Rattle.world_steps.specs.Laws.{WorldLaw, IsFrontOf, plain}
+use Rattle.world_steps.specs.Laws.{WorldLaw, IsFrontOf}
 use Rattle.world_steps.specs.Events.{was_placed_at}
+use Rattle.world_steps.proofs.Kind.{cell_kind}
 use Rattle.world_steps.proofs.Kept.{Goes, state_ok}
 use Rattle.world_steps.proofs.Seen.{reach_same, entries_same, log_same, trim_same, tail_same}
 
@@ -45,7 +46,7 @@ module _ (may : ℕ → Entry → Type 0) (floor : List Entry → ℕ → Type 0
   pub chain_is : (v : ℕ) (c : Chain) → given_under w.register v ≡ Some c → IsChain c
   chain_is v c h = chain_ok (length (shelf_of w)) (journal.state_of w.events) v c ok (law.register.given v ∙ h)
 
-  pub end_above : (v k end : ℕ) (c : Chain) (s : Segment) → given_under w.register v ≡ Some c → slice_get c.segments k ≡ Some s → s.end ≡ Some end → s.start + (cell_at w.cells s.id).reach ≤ end
+  pub end_above : (v k end : ℕ) (c : Chain) (s : Segment) → given_under w.register v ≡ Some c → slice_get c.segments k ≡ Some s → s.end ≡ Some end → s.start + (view_of (cell_at w.cells s.id)).reach ≤ end
   end_above v k end c s given at is =
       let x = closed_at (length (shelf_of w)) (journal.state_of w.events) v c ok (law.register.given v ∙ given) k end s at is in
       omega (arith, x.1, reach_le_end ((journal.state_of w.events).cells s.id) x.0 (ok.cell s.id) x.2, reach_same may floor w law s.id)
@@ -79,7 +80,7 @@ module _ (may : ℕ → Entry → Type 0) (floor : List Entry → ℕ → Type 0
     pub given_stays : (v : ℕ) (c : Chain) → given_under w.register v ≡ Some c → given_under new.register v ≡ Some c
     given_stays v c h = sym (goes.law.register.given v) ∙ continues.given v c (law.register.given v ∙ h)
 
-    pub answered_stands : (v k p : ℕ) (c : Chain) (s : Segment) (e : Entry) → given_under new.register v ≡ Some c → slice_get c.segments k ≡ Some s → p < (cell_at w.cells s.id).reach → slice_get (cell_at w.cells s.id).entries p ≡ Some e → Stands new (s.start + p) e
+    pub answered_stands : (v k p : ℕ) (c : Chain) (s : Segment) (e : Entry) → given_under new.register v ≡ Some c → slice_get c.segments k ≡ Some s → p < (view_of (cell_at w.cells s.id)).reach → slice_get (entries_of (cell_at w.cells s.id)) p ≡ Some e → Stands new (s.start + p) e
     answered_stands v k p c s e given at low is =
         let late = journal.state_of new.events in
         let good = state_ok may floor new goes.law in
@@ -95,14 +96,14 @@ module _ (may : ℕ → Entry → Type 0) (floor : List Entry → ℕ → Type 0
 
     -- what a client was told stands
     pub placed_stands : (v k p : ℕ) (c : Chain) (s : Segment) → given_under new.register v ≡ Some c → slice_get c.segments k ≡ Some s → was_placed_at w.events s.id p ≡ true
-        → (e : Entry) × (slice_get (cell_at w.cells s.id).entries p ≡ Some e) × Stands new (s.start + p) e
+        → (e : Entry) × (slice_get (entries_of (cell_at w.cells s.id)) p ≡ Some e) × Stands new (s.start + p) e
     placed_stands v k p c s given at told =
         let here = law.cells s.id in
         let low = law.placed s.id p told in
-        let size = size_is plain (cell_at w.cells s.id) here.lawful in
+        let size = cell_kind.whole (cell_at w.cells s.id) here.lawful in
         let reach = reach_same may floor w law s.id in
         let sound = here.view.sound in
-        let entry = some_at (cell_at w.cells s.id).entries p (omega (arith, low, reach, size, sound.reach, sound.firm)) in
+        let entry = some_at (entries_of (cell_at w.cells s.id)) p (omega (arith, low, reach, size, sound.reach, sound.firm)) in
         (entry.0, entry.1, answered_stands v k p c s entry.0 given at (omega (arith, low, reach)) entry.1)
 
     pub nodes_same : (one other pos : ℕ) (e f : Entry) → slice_get (node_at w.nodes one).applied pos ≡ Some e → slice_get (node_at new.nodes other).applied pos ≡ Some f → e ≡ f

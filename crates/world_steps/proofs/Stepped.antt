@@ -14,11 +14,13 @@ use Rattle.loglet_api.specs.declared.call.Op.{Op}
 use Rattle.loglet_api.specs.declared.call.Op.TheVariants.{Append, Settle, Tail, Seal, Read, Trim}
 use Rattle.loglet_api.specs.declared.call.Answer.{Answer}
 use Rattle.loglet_api.specs.declared.call.Answer.TheVariants.{Placed, SealedTail}
-use Rattle.quorum_cell.specs.declared.operation.CellStep.{CellStep}
 use Rattle.quorum_cell.specs.declared.operation.CellStep.TheVariants as cell
-use Rattle.quorum_cell.specs.Cells.{Cell, operation}
-use Rattle.quorum_cell.specs.Steps.{cell_step, is_full, begin, take_outcome, forget}
-use Rattle.quorum_cell.proofs.Runs.{step_later}
+use Rattle.loglet_api.specs.declared.call.Refused.TheVariants.{Full as FullLoglet}
+use Rattle.loglet_api.specs.declared.call.LogletCall.TheVariants.{Begin as CallBegin, Take as CallTake, Forget as CallForget, Stray as CallStray}
+use Rattle.loglet_api.specs.declared.call.LogletAnswer.TheVariants.{Begun as BegunOn, Refusal, Taken, Forgotten, Strayed}
+use Rattle.loglet_api.specs.Step.{CanBegin}
+use Rattle.striped_cells.specs.declared.motion.Motion.{Motion}
+use Rattle.striped_cells.specs.Motions.{aim_of}
 use Rattle.legal_journal.specs.declared.events.FabricCall.TheVariants.{Begin as AskBegin, Carry as AskCarry, Forget as AskForget, ReadChain as AskRead, WriteChain as AskWrite, MendMeta as AskMend}
 use Rattle.legal_journal.specs.declared.events.FabricAnswer.TheVariants.{Begun, Full, Done, Gone, At, Down, Written, Conflict, MetaFault, Set}
 use Rattle.legal_journal.specs.declared.events.Event.{Event}
@@ -33,12 +35,14 @@ use Rattle.world_steps.specs.declared.step.ChainChange.{ChainChange}
 use Rattle.world_steps.specs.declared.step.ChainChange.TheVariants.{Extend, Raise}
 use Rattle.world_steps.specs.declared.step.WorldStep.{WorldStep}
 use Rattle.world_steps.specs.declared.step.WorldStep.TheVariants as step
+use Rattle.world_steps.specs.declared.cell.WorldCell.{WorldCell}
+use Rattle.world_steps.specs.Cells.{view_of, is_full, begun, answer_of, taken, is_open, forgotten, stirred}
 use Rattle.world_steps.specs.Parts.{Node, World, no_cell, cell_at, node_at, given_under, last_given, shelf_of}
 use Rattle.world_steps.specs.Events.{is_begin_of, is_owner, is_tail, is_place}
-use Rattle.world_steps.specs.Guards.{is_inner, aim_of, is_below, is_trimmed, may_begin, changed, may_follow}
-use Rattle.world_steps.specs.Steps.{event, answer_of, told, moves_inside, begins_op, takes_answer, forgets_op, done, gave, replaced, torn_by, mended, on_register, reads, asked, writes, stops_writing, mends, stays_down, with_entry, next_entry, applies, stops_node, restarts_node, put_node, world_step, run_world}
+use Rattle.world_steps.specs.Guards.{is_below, is_trimmed, may_begin, changed, may_follow}
+use Rattle.world_steps.specs.Steps.{event, inner_steps, told, moves_inside, begins_op, takes_answer, forgets_op, done, gave, replaced, torn_by, mended, on_register, reads, asked, writes, stops_writing, mends, stays_down, with_entry, next_entry, applies, stops_node, restarts_node, put_node, world_step, run_world}
 use Rattle.world_steps.specs.Laws.{IsCellTold, WorldLaw, IsLet, KeepsTo, AllKeepTo}
-use Rattle.world_steps.proofs.Told.{SpellsOp, begun_told, refused_told, inner_told, answered_told, dropped_told}
+use Rattle.world_steps.proofs.Told.{begun_told, refused_told, stirred_told, answered_told, dropped_told}
 use Rattle.world_steps.proofs.Registers.{push_here, push_else, gave_told, replaced_told, torn_told, missed_told, mended_told, expected}
 use Rattle.world_steps.proofs.Kept.{Goes, idle, placed, at_set, map_kept, state_ok, event_kept, cell_kept, node_kept}
 use Rattle.world_steps.proofs.Seen.{shown_now}
@@ -76,7 +80,7 @@ module _ (may : ℕ → Entry → Type 0) (floor : List Entry → ℕ → Type 0
   ok = state_ok may floor w law
 
   many : length (shelf_of w) ≡ length w.cells
-  many = length-map w.cells (λ (c : Cell). length c.servers)
+  many = length-map w.cells (λ (c : WorldCell). (view_of c).servers)
 
   -- the rule of what may be trimmed of a cell
   trimmed : (i n : ℕ) → is_trimmed w.register i n ≡ true → (s : ℕ) × ((state_of w.events).starts i ≡ Some s) × (s + n ≤ journal.trim_of (state_of w.events))
@@ -94,35 +98,37 @@ module _ (may : ℕ → Entry → Type 0) (floor : List Entry → ℕ → Type 0
   may_begin_is who i (Read p) k h = tt
   may_begin_is who i (Trim n) k h = trimmed i n h
 
-  spells : (who i : ℕ) (op : Op) → KeepsTo may floor w (step.Begin who i op) → SpellsOp op
-  spells who i (Append e) k = k.0
-  spells who i (Settle n) k = tt
-  spells who i Tail k = tt
-  spells who i Seal k = tt
-  spells who i (Read p) k = tt
-  spells who i (Trim n) k = tt
+  can : (who i : ℕ) (op : Op) → KeepsTo may floor w (step.Begin who i op) → CanBegin op
+  can who i (Append e) k = k.0
+  can who i (Settle n) k = tt
+  can who i Tail k = tt
+  can who i Seal k = tt
+  can who i (Read p) k = tt
+  can who i (Trim n) k = tt
 
-  told_at : (i : ℕ) → IsCellTold ((state_of w.events).cells i) (cell_at w.cells i)
-  told_at i = law.cells i
-
-  same_servers : (i : ℕ) (s : CellStep) → map (λ (c : Cell). length c.servers) (set w.cells i (cell_step (cell_at w.cells i) s)) ≡ shelf_of w
-  same_servers i s = map_kept (λ (c : Cell). length c.servers) w.cells i (cell_step (cell_at w.cells i) s) no_cell (step_later (cell_at w.cells i) s).servers
+  same_servers : (i : ℕ) (c : WorldCell) → (view_of c).servers ≡ (view_of (cell_at w.cells i)).servers → map (λ (x : WorldCell). (view_of x).servers) (set w.cells i c) ≡ shelf_of w
+  same_servers i c e = map_kept (λ (x : WorldCell). (view_of x).servers) w.cells i c no_cell e
 
   -- one cell goes on as its move tells
-  cells_placed : (who i : ℕ) (m : CellMove) (s : CellStep) → i < length w.cells → IsCellTold (cell_after who ((state_of w.events).cells i) m) (cell_step (cell_at w.cells i) s) → (k : ℕ) → IsCellTold (put (state_of w.events).cells i (cell_after who ((state_of w.events).cells i) m) k) (cell_at (set w.cells i (cell_step (cell_at w.cells i) s)) k)
-  cells_placed who i m s here now = placed IsCellTold (state_of w.events).cells w.cells no_cell i (cell_after who ((state_of w.events).cells i) m) (cell_step (cell_at w.cells i) s) here now law.cells
+  cells_placed : (who i : ℕ) (m : CellMove) (c : WorldCell) → i < length w.cells → IsCellTold (cell_after who ((state_of w.events).cells i) m) c → (k : ℕ) → IsCellTold (put (state_of w.events).cells i (cell_after who ((state_of w.events).cells i) m) k) (cell_at (set w.cells i c) k)
+  cells_placed who i m c here now = placed IsCellTold (state_of w.events).cells w.cells no_cell i (cell_after who ((state_of w.events).cells i) m) c here now law.cells
 
   ---- cells
 
-  inside_kept : (i : ℕ) (s : CellStep) → Goes may floor w (done w (moves_inside w i s))
-  inside_kept i s = by (nat_lt i (length w.cells) && is_inner s) refl
+  inside_kept : (i : ℕ) (path : List ℕ) (m : Motion) → Goes may floor w (done w (moves_inside w i path m))
+  inside_kept i path m = by (nat_lt i (length w.cells))
     where
-      no_event : Goes may floor w (record w { cells = set w.cells i (cell_step (cell_at w.cells i) s) }) → Goes may floor w (record w { cells = set w.cells i (cell_step (cell_at w.cells i) s); events = w.events ++ [] })
-      no_event h = subst (λ (es : List Event). Goes may floor w (record w { cells = set w.cells i (cell_step (cell_at w.cells i) s); events = es })) (sym (append-nil w.events)) h
+      c : WorldCell
+      c = stirred (cell_at w.cells i) path m
 
-      by : (b : Bool) → (nat_lt i (length w.cells) && is_inner s) ≡ b → Goes may floor w (done w (if b then Some (record { at = i; step = s; event = [] }) else None))
-      by true e = no_event (cell_kept may floor w law i (cell_step (cell_at w.cells i) s) (λ _. inner_told ((state_of w.events).cells i) (cell_at w.cells i) s (law.cells i) (and_parts _ _ e).1) (step_later (cell_at w.cells i) s).servers)
-      by false e = idle may floor w law
+      no_event : Goes may floor w (record w { cells = set w.cells i (stirred (cell_at w.cells i) path m) }) → Goes may floor w (record w { cells = set w.cells i (stirred (cell_at w.cells i) path m); events = w.events ++ [] })
+      no_event h = subst (λ (es : List Event). Goes may floor w (record w { cells = set w.cells i (stirred (cell_at w.cells i) path m); events = es })) (sym (append-nil w.events)) h
+
+      by : (b : Bool) → Goes may floor w (done w (if b then Some (record { at = i; cell = stirred (cell_at w.cells i) path m; steps = inner_steps path m; calls = (CallStray 0, Strayed) ∷ []; event = [] }) else None))
+      by true =
+          let told = stirred_told ((state_of w.events).cells i) (cell_at w.cells i) path m (law.cells i) in
+          no_event (cell_kept may floor w law i (stirred (cell_at w.cells i) path m) (λ _. told.now) told.servers)
+      by false = idle may floor w law
 
   begin_owner : (who i n : ℕ) (op : Op) → n ≡ ((state_of w.events).cells i).told.begun → (k t by : ℕ) → is_begin_of by k t (record { who = who; call = AskBegin i op; answer = Begun n }) ≡ true
       → (t < (put (state_of w.events).cells i (cell_after who ((state_of w.events).cells i) (Begins op n)) k).told.begun) × ((put (state_of w.events).cells i (cell_after who ((state_of w.events).cells i) (Begins op n)) k).owner t ≡ by)
@@ -137,27 +143,29 @@ module _ (may : ℕ → Entry → Type 0) (floor : List Entry → ℕ → Type 0
       subst (λ (x : CellState). (t < x.told.begun) × (x.owner t ≡ by)) (sym is) (omega (arith, ticket, at), ap (put c.owner n who) ticket ∙ (put_same c.owner n who ∙ same))
 
   begins_kept : (who i : ℕ) (op : Op) → KeepsTo may floor w (step.Begin who i op) → Goes may floor w (done w (begins_op w who i op))
-  begins_kept who i op keeps = by (nat_lt i (length w.cells) && may_begin w i op) refl (is_full (cell_at w.cells i) (aim_of op)) refl
+  begins_kept who i op keeps = by (nat_lt i (length w.cells) && may_begin w i op) refl (is_full (cell_at w.cells i) op) refl
     where
-      by : (b : Bool) → (nat_lt i (length w.cells) && may_begin w i op) ≡ b → (f : Bool) → is_full (cell_at w.cells i) (aim_of op) ≡ f → Goes may floor w (done w (if b then Some (record { at = i; step = cell.Begin (aim_of op); event = event who (AskBegin i op) (if f then Full else Begun (length (cell_at w.cells i).operations)) }) else None))
+      by : (b : Bool) → (nat_lt i (length w.cells) && may_begin w i op) ≡ b → (f : Bool) → is_full (cell_at w.cells i) op ≡ f
+          → Goes may floor w (done w (if b then Some (record { at = i; cell = begun (cell_at w.cells i) op; steps = cell.Begin (aim_of op) ∷ []; calls = (CallBegin op, if f then Refusal FullLoglet else BegunOn (view_of (cell_at w.cells i)).begun) ∷ []; event = event who (AskBegin i op) (if f then Full else Begun (view_of (cell_at w.cells i)).begun) }) else None))
       by true e true full =
           let here : i < length w.cells = ltb-true _ _ (and_parts _ _ e).0 in
-          event_kept may floor w law (set w.cells i (begin (cell_at w.cells i) (aim_of op))) w.register (record { who = who; call = AskBegin i op; answer = Full })
+          let r = refused_told ((state_of w.events).cells i) (cell_at w.cells i) op (law.cells i) (can who i op keeps) full in
+          event_kept may floor w law (set w.cells i (begun (cell_at w.cells i) op)) w.register (record { who = who; call = AskBegin i op; answer = Full })
           (record { there = omega (arith, here, many); allowed = tt })
-          (same_servers i (cell.Begin (aim_of op)))
-          (at_set (λ k x. IsCellTold ((state_of w.events).cells k) x) w.cells no_cell i (begin (cell_at w.cells i) (aim_of op)) (λ _. refused_told ((state_of w.events).cells i) (cell_at w.cells i) op (law.cells i) (spells who i op keeps) full) law.cells)
+          (same_servers i (begun (cell_at w.cells i) op) r.servers)
+          (at_set (λ k x. IsCellTold ((state_of w.events).cells k) x) w.cells no_cell i (begun (cell_at w.cells i) op) (λ _. r.now) law.cells)
           law.register
           (λ k t by h. absurd (false≢true h)) (λ k n h. absurd (false≢true h)) (λ k p h. absurd (false≢true h))
       by true e false room =
           let parts = and_parts _ _ e in
           let here : i < length w.cells = ltb-true _ _ parts.0 in
-          let b = begun_told ((state_of w.events).cells i) (cell_at w.cells i) who op (law.cells i) (spells who i op keeps) room in
-          event_kept may floor w law (set w.cells i (begin (cell_at w.cells i) (aim_of op))) w.register (record { who = who; call = AskBegin i op; answer = Begun (length (cell_at w.cells i).operations) })
+          let b = begun_told ((state_of w.events).cells i) (cell_at w.cells i) who op (law.cells i) (can who i op keeps) room in
+          event_kept may floor w law (set w.cells i (begun (cell_at w.cells i) op)) w.register (record { who = who; call = AskBegin i op; answer = Begun (view_of (cell_at w.cells i)).begun })
           (record { there = omega (arith, here, many); allowed = (may_begin_is who i op keeps parts.1, b.room, b.ticket) })
-          (same_servers i (cell.Begin (aim_of op)))
-          (cells_placed who i (Begins op (length (cell_at w.cells i).operations)) (cell.Begin (aim_of op)) here b.now)
+          (same_servers i (begun (cell_at w.cells i) op) b.servers)
+          (cells_placed who i (Begins op (view_of (cell_at w.cells i)).begun) (begun (cell_at w.cells i) op) here b.now)
           law.register
-          (begin_owner who i (length (cell_at w.cells i).operations) op b.ticket) (λ k n h. absurd (false≢true h)) (λ k p h. absurd (false≢true h))
+          (begin_owner who i (view_of (cell_at w.cells i)).begun op b.ticket) (λ k n h. absurd (false≢true h)) (λ k p h. absurd (false≢true h))
       by false e f full = idle may floor w law
 
   -- an operation is answered
@@ -190,34 +198,35 @@ module _ (may : ℕ → Entry → Type 0) (floor : List Entry → ℕ → Type 0
   takes_kept : (who i t : ℕ) → Goes may floor w (done w (takes_answer w who i t))
   takes_kept who i t = by (nat_lt i (length w.cells) && is_owner w.events who i t) refl
     where
-      given : i < length w.cells → is_owner w.events who i t ≡ true → (x : Option Answer) → answer_of (cell_at w.cells i) t ≡ x → Goes may floor w (done w (told who i t x))
+      given : i < length w.cells → is_owner w.events who i t ≡ true → (x : Option Answer) → answer_of (cell_at w.cells i) t ≡ x → Goes may floor w (done w (told w who i t x))
       given here own None e = idle may floor w law
       given here own (Some a) e =
           let k = answered_told ((state_of w.events).cells i) (cell_at w.cells i) who t a (law.cells i) e in
-          event_kept may floor w law (set w.cells i (take_outcome (cell_at w.cells i) t)) w.register (record { who = who; call = AskCarry i t 0; answer = Done a })
+          event_kept may floor w law (set w.cells i (taken (cell_at w.cells i) t)) w.register (record { who = who; call = AskCarry i t 0; answer = Done a })
           (record { there = omega (arith, here, many); allowed = (k.running, record { is_open = k.is_open; own = (law.owners i t who own).1 }, k.may) })
-          (same_servers i (cell.Take t))
-          (cells_placed who i (Answers t a) (cell.Take t) here k.now)
+          (same_servers i (taken (cell_at w.cells i) t) k.servers)
+          (cells_placed who i (Answers t a) (taken (cell_at w.cells i) t) here k.now)
           law.register
           (λ j u by h. absurd (false≢true h)) (λ j n h. told_end who i t a j n h) (λ j p h. told_place who i t k.running a j p k.is_open h)
 
-      by : (b : Bool) → (nat_lt i (length w.cells) && is_owner w.events who i t) ≡ b → Goes may floor w (done w (if b then told who i t (answer_of (cell_at w.cells i) t) else None))
+      by : (b : Bool) → (nat_lt i (length w.cells) && is_owner w.events who i t) ≡ b → Goes may floor w (done w (if b then told w who i t (answer_of (cell_at w.cells i) t) else None))
       by true e = let parts = and_parts _ _ e in given (ltb-true _ _ parts.0) parts.1 (answer_of (cell_at w.cells i) t) refl
       by false e = idle may floor w law
 
   forgets_kept : (who i t : ℕ) → Goes may floor w (done w (forgets_op w who i t))
-  forgets_kept who i t = by ((nat_lt i (length w.cells) && is_owner w.events who i t) && not (operation (cell_at w.cells i) t).closed) refl
+  forgets_kept who i t = by ((nat_lt i (length w.cells) && is_owner w.events who i t) && is_open (cell_at w.cells i) t) refl
     where
-      by : (b : Bool) → ((nat_lt i (length w.cells) && is_owner w.events who i t) && not (operation (cell_at w.cells i) t).closed) ≡ b → Goes may floor w (done w (if b then Some (record { at = i; step = cell.Forget t; event = event who (AskForget i t) Gone }) else None))
+      by : (b : Bool) → ((nat_lt i (length w.cells) && is_owner w.events who i t) && is_open (cell_at w.cells i) t) ≡ b
+          → Goes may floor w (done w (if b then Some (record { at = i; cell = forgotten (cell_at w.cells i) t; steps = cell.Forget t ∷ []; calls = (CallForget t, Forgotten) ∷ []; event = event who (AskForget i t) Gone }) else None))
       by true e =
           let parts = and_parts _ _ e in
           let front = and_parts _ _ parts.0 in
           let here : i < length w.cells = ltb-true _ _ front.0 in
-          let k = dropped_told ((state_of w.events).cells i) (cell_at w.cells i) who t (law.cells i) (not-true _ parts.1) in
-          event_kept may floor w law (set w.cells i (forget (cell_at w.cells i) t)) w.register (record { who = who; call = AskForget i t; answer = Gone })
+          let k = dropped_told ((state_of w.events).cells i) (cell_at w.cells i) who t (law.cells i) parts.1 in
+          event_kept may floor w law (set w.cells i (forgotten (cell_at w.cells i) t)) w.register (record { who = who; call = AskForget i t; answer = Gone })
           (record { there = omega (arith, here, many); allowed = (k.running, record { is_open = k.is_open; own = (law.owners i t who front.1).1 }) })
-          (same_servers i (cell.Forget t))
-          (cells_placed who i (Drops t) (cell.Forget t) here k.now)
+          (same_servers i (forgotten (cell_at w.cells i) t) k.servers)
+          (cells_placed who i (Drops t) (forgotten (cell_at w.cells i) t) here k.now)
           law.register
           (λ j u by h. absurd (false≢true h)) (λ j n h. absurd (false≢true h)) (λ j p h. absurd (false≢true h))
       by false e = idle may floor w law
@@ -376,7 +385,7 @@ module _ (may : ℕ → Entry → Type 0) (floor : List Entry → ℕ → Type 0
 ---- every step, and every list of steps
 
 pub step_goes : (may : ℕ → Entry → Type 0) (floor : List Entry → ℕ → Type 0) (w : World) (s : WorldStep) → WorldLaw may floor w → KeepsTo may floor w s → Goes may floor w (world_step w s)
-step_goes may floor w (step.Inside i s) law keeps = inside_kept may floor w law i s
+step_goes may floor w (step.Inside i path m) law keeps = inside_kept may floor w law i path m
 step_goes may floor w (step.Begin who i op) law keeps = begins_kept may floor w law who i op keeps
 step_goes may floor w (step.Take who i t) law keeps = takes_kept may floor w law who i t
 step_goes may floor w (step.Forget who i t) law keeps = forgets_kept may floor w law who i t
@@ -399,5 +408,6 @@ run_goes may floor (s ∷ steps) w law keeps =
     let all = run_goes may floor steps (world_step w s) one.law keeps.1 in record {
       law = all.law;
       more = one.more ++ all.more;
+      shelf = all.shelf ∙ one.shelf;
       events = all.events ∙ (ap (λ (es : List Event). es ++ all.more) one.events ∙ append_assoc w.events one.more all.more);
     }

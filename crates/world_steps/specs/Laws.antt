@@ -1,16 +1,17 @@
 -- What holds of every world that steps lead to.
-use Rattle.std.specs.Prelude.{◌≡◌, ℕ, ◌<◌, ◌≤◌, ◌^◌, true, not, List, [], ◌∷◌, length, slice_get, Option, Some, None, All, Contains, ⊤}
+use Rattle.std.specs.Prelude.{◌≡◌, ℕ, ◌*◌, ◌<◌, ◌≤◌, ◌^◌, true, not, List, [], ◌∷◌, length, slice_get, Option, Some, None, All, Contains, ⊤}
 use Rattle.delos_types.specs.declared.entry.Entry.{Entry}
 use Rattle.delos_types.specs.declared.chain.Chain.{Chain}
 use Rattle.delos_types.specs.Spelling.{IsSpellable}
-use Rattle.loglet_api.specs.declared.call.Kind.TheVariants.{File}
 use Rattle.loglet_api.specs.declared.call.Op.TheVariants.{Append}
-use Rattle.quorum_cell.specs.Cells.{Cell}
-use Rattle.quorum_cell.specs.Law.{IsLawful}
-use Rattle.cell_views.specs.Views.{Manner, IsSpelled, cell_view}
+use Rattle.loglet_api.specs.Step.{CanBegin}
 use Rattle.legal_journal.specs.Journal.{CellState, RegisterState, state_of, IsLegal, IsCurrent, IsFree, Shows}
 use Rattle.fabric_core.specs.Fabric.{IsAsTold}
+use Rattle.world_steps.specs.declared.cell.WorldCell.{WorldCell}
+use Rattle.world_steps.specs.declared.shape.QuorumShape.{QuorumShape}
 use Rattle.world_steps.specs.declared.shape.Shape.{Shape}
+use Rattle.world_steps.specs.declared.shape.Shape.TheVariants as shape
+use Rattle.world_steps.specs.Cells.{view_of, entries_of, IsLawfulCell}
 use Rattle.world_steps.specs.declared.step.ChainChange.{ChainChange}
 use Rattle.world_steps.specs.declared.step.ChainChange.TheVariants.{Extend, Raise}
 use Rattle.world_steps.specs.declared.step.WorldStep.{WorldStep}
@@ -22,7 +23,7 @@ use Rattle.world_steps.specs.Steps.{world_step}
 
 -- some bytes spell the entry that the step brings
 abbrev pub BringsSpelled : WorldStep → Type 0
-BringsSpelled (Begin who i (Append e)) = IsSpellable e
+BringsSpelled (Begin who i op) = CanBegin op
 BringsSpelled step = ⊤
 
 -- the log shows what lets it be trimmed so
@@ -42,11 +43,23 @@ abbrev pub AllKeepTo : (ℕ → Entry → Type 0) → (List Entry → ℕ → Ty
 AllKeepTo may floor w [] = ⊤
 AllKeepTo may floor w (step ∷ steps) = KeepsTo may floor w step × AllKeepTo may floor (world_step w step) steps
 
--- a cell has 1 to 64 servers, room for 1 to 2^32 entries, and at most 2^62 tickets
-pub record IsShaped (s : Shape) : Type 0 where
+-- a quorum cell has 1 to 64 servers, room for 1 to 2^32 entries, and at most 2^62 tickets
+pub record IsQuorumShaped (s : QuorumShape) : Type 0 where
   pub servers : (1 ≤ s.servers) × (s.servers ≤ 64)
   pub room : (1 ≤ s.room) × (s.room ≤ 2 ^ 32)
   pub limit : s.limit ≤ 2 ^ 62
+
+-- so many stripes, of so many servers and so much room each
+pub record AreStripes (m servers room : ℕ) : Type 0 where
+  pub count : (2 ≤ m) × (m ≤ 8)
+  pub few : m * servers ≤ 64
+  pub small : m * room ≤ 2 ^ 32
+
+-- a cell has at most 64 servers, and room for at most 2^32 entries
+abbrev pub IsShaped : Shape → Type 0
+IsShaped (shape.Quorum s) = IsQuorumShaped s
+IsShaped (shape.Striped m s) = IsQuorumShaped s × AreStripes m s.servers s.room
+IsShaped (shape.Nested n m s) = IsQuorumShaped s × AreStripes m s.servers s.room × AreStripes n (m * s.servers) (m * s.room)
 
 -- 1 to 64 such cells
 pub record IsShelf (shapes : List Shape) : Type 0 where
@@ -61,16 +74,11 @@ any_append who e = ⊤
 abbrev pub any_trim : List Entry → ℕ → Type 0
 any_trim log n = ⊤
 
--- nothing is told of how a loglet goes about its work
-abbrev pub plain : Manner
-plain = record { kind = File; rounds = 0; left = λ t. (0, 1) }
-
 -- a cell is as the events tell it
-pub record IsCellTold (told : CellState) (c : Cell) : Type 0 where
-  pub lawful : IsLawful c
-  pub spelled : IsSpelled c
-  pub view : IsAsTold told (cell_view plain c)
-  pub entries : told.entries ≡ c.entries
+pub record IsCellTold (told : CellState) (c : WorldCell) : Type 0 where
+  pub lawful : IsLawfulCell c
+  pub view : IsAsTold told (view_of c)
+  pub entries : told.entries ≡ entries_of c
 
 -- The register is as the events tell it: it gave what they say; what stands is what it gave last, or the write that
 -- faulted; and a write that it may find done as it comes up is the one that faulted, over what it gave last.

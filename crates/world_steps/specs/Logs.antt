@@ -6,13 +6,14 @@ use Rattle.chain_map.specs.Chain.{last_of_segments}
 use Rattle.legal_journal.specs.Shown.{entry_of, end_of}
 use Rattle.engine_api.specs.declared.act.Act.{Act}
 use Rattle.engine_api.specs.Acted.{acted_log}
+use Rattle.world_steps.specs.Cells.{view_of, entries_of}
 use Rattle.world_steps.specs.Parts.{World, Node, cell_at, last_given}
 
 abbrev pub reach_in : World → ℕ → ℕ
-reach_in w i = (cell_at w.cells i).reach
+reach_in w i = (view_of (cell_at w.cells i)).reach
 
 abbrev pub entries_in : World → ℕ → List Entry
-entries_in w i = (cell_at w.cells i).entries
+entries_in w i = entries_of (cell_at w.cells i)
 
 abbrev pub trim_of : World → ℕ
 trim_of w = (last_given w.register).trim

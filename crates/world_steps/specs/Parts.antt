@@ -3,9 +3,12 @@ use Rattle.std.specs.Prelude.{ℕ, zero, suc, ◌-◌, Bool, true, List, [], ◌
 use Rattle.delos_types.specs.declared.entry.Entry.{Entry}
 use Rattle.delos_types.specs.declared.chain.Chain.{Chain}
 use Rattle.chain_map.specs.Chain.{first_chain}
-use Rattle.quorum_cell.specs.Cells.{Cell, start}
+use Rattle.quorum_cell.specs.Cells.{start}
 use Rattle.legal_journal.specs.declared.events.Event.{Event}
+use Rattle.world_steps.specs.declared.cell.WorldCell.{WorldCell}
+use Rattle.world_steps.specs.declared.cell.WorldCell.TheVariants.{Quorum}
 use Rattle.world_steps.specs.declared.shape.Shape.{Shape}
+use Rattle.world_steps.specs.Cells.{view_of, start_of}
 
 pub record Register : Type 0 where
   -- what stands
@@ -25,20 +28,20 @@ pub record Node : Type 0 where
   pub up : Bool
 
 pub record World : Type 0 where
-  pub cells : List Cell
+  pub cells : List WorldCell
   pub register : Register
   pub nodes : List Node
   -- what clients asked, and what they were told
   pub events : List Event
 
 -- what stands at a number that names no cell or node
-abbrev pub no_cell : Cell
-no_cell = start 1 1 0
+abbrev pub no_cell : WorldCell
+no_cell = Quorum (start 1 1 0)
 
 abbrev pub no_node : Node
 no_node = record { applied = []; torn = None; up = true }
 
-abbrev pub cell_at : List Cell → ℕ → Cell
+abbrev pub cell_at : List WorldCell → ℕ → WorldCell
 cell_at cells i = get_or cells i no_cell
 
 abbrev pub node_at : List Node → ℕ → Node
@@ -64,7 +67,7 @@ first_register = record { version = 1; chain = first_chain; given = first_chain 
 -- a world of new cells of these shapes, and of so many nodes, in which nothing happened
 abbrev pub fresh : List Shape → ℕ → World
 fresh shapes nodes = record {
-  cells = map (λ s. start s.servers s.room s.limit) shapes;
+  cells = map start_of shapes;
   register = first_register;
   nodes = replicate nodes no_node;
   events = [];
@@ -72,4 +75,4 @@ fresh shapes nodes = record {
 
 -- the numbers of servers of the cells
 abbrev pub shelf_of : World → List ℕ
-shelf_of w = map (λ (c : Cell). length c.servers) w.cells
+shelf_of w = map (λ (c : WorldCell). (view_of c).servers) w.cells

@@ -4,12 +4,16 @@ use Rattle.delos_types.specs.declared.entry.Entry.{Entry}
 use Rattle.delos_types.specs.declared.chain.Chain.{Chain}
 use Rattle.loglet_api.specs.declared.call.Op.{Op}
 use Rattle.loglet_api.specs.declared.call.Answer.{Answer}
-use Rattle.quorum_cell.specs.declared.operation.Aim.{Aim}
+use Rattle.loglet_api.specs.declared.call.Refused.TheVariants.{Full as FullLoglet}
+use Rattle.loglet_api.specs.declared.call.LogletCall.{LogletCall}
+use Rattle.loglet_api.specs.declared.call.LogletCall.TheVariants.{Begin as CallBegin, Take as CallTake, Forget as CallForget, Stray as CallStray}
+use Rattle.loglet_api.specs.declared.call.LogletAnswer.{LogletAnswer}
+use Rattle.loglet_api.specs.declared.call.LogletAnswer.TheVariants.{Begun as BegunOn, Refusal, Taken, Forgotten, Strayed}
 use Rattle.quorum_cell.specs.declared.operation.CellStep.{CellStep}
 use Rattle.quorum_cell.specs.declared.operation.CellStep.TheVariants as cell
-use Rattle.quorum_cell.specs.Cells.{Cell, operation}
-use Rattle.quorum_cell.specs.Steps.{cell_step, is_full}
-use Rattle.cell_views.specs.Views.{taken}
+use Rattle.striped_cells.specs.declared.motion.Motion.{Motion}
+use Rattle.striped_cells.specs.declared.motion.Motion.TheVariants.{Servers}
+use Rattle.striped_cells.specs.Motions.{is_inner, aim_of}
 use Rattle.legal_journal.specs.declared.events.FabricCall.{FabricCall}
 use Rattle.legal_journal.specs.declared.events.FabricCall.TheVariants.{Begin as AskBegin, Carry as AskCarry, Forget as AskForget, ReadChain as AskRead, WriteChain as AskWrite, MendMeta as AskMend}
 use Rattle.legal_journal.specs.declared.events.FabricAnswer.{FabricAnswer}
@@ -18,9 +22,11 @@ use Rattle.legal_journal.specs.declared.events.Event.{Event}
 use Rattle.world_steps.specs.declared.step.ChainChange.{ChainChange}
 use Rattle.world_steps.specs.declared.step.WorldStep.{WorldStep}
 use Rattle.world_steps.specs.declared.step.WorldStep.TheVariants.{Inside, Begin, Take, Forget, ReadChain, WriteChain, WriteStops, MendRegister, MendFails, Apply, StopNode, RestartNode}
+use Rattle.world_steps.specs.declared.cell.WorldCell.{WorldCell}
+use Rattle.world_steps.specs.Cells.{view_of, is_full, begun, answer_of, taken, is_open, forgotten, stirred}
 use Rattle.world_steps.specs.Parts.{Register, Node, World, cell_at, node_at, given_under}
 use Rattle.world_steps.specs.Events.{is_owner}
-use Rattle.world_steps.specs.Guards.{is_inner, aim_of, may_begin, changed, may_follow}
+use Rattle.world_steps.specs.Guards.{may_begin, changed, may_follow}
 use Rattle.world_steps.specs.Logs.{log_at}
 
 abbrev pub event : ℕ → FabricCall → FabricAnswer → List Event
@@ -32,46 +38,58 @@ world_with w who call answer = record w { events = w.events ++ event who call an
 
 ---- cells
 
--- a step in one cell, with the event that it is, if it is one
+-- what is done in one cell
 pub record Deed : Type 0 where
   pub at : ℕ
-  pub step : CellStep
+  -- what the cell is then
+  pub cell : WorldCell
+  -- the steps that it is of a quorum cell, and the calls that it is of a loglet, with what they returned
+  pub steps : List CellStep
+  pub calls : List (LogletCall × LogletAnswer)
+  -- what its client asked and was told, if it is a client's
   pub event : List Event
 
--- servers and messages move: that is nobody's call
-abbrev pub moves_inside : World → ℕ → CellStep → Option Deed
-moves_inside w i step = if nat_lt i (length w.cells) && is_inner step then Some (record { at = i; step = step; event = [] }) else None
+-- the steps that a motion is of a quorum cell
+abbrev pub inner_steps : List ℕ → Motion → List CellStep
+inner_steps [] (Servers step) = if is_inner step then step ∷ [] else []
+inner_steps path m = []
+
+-- something moves: that is nobody's call
+abbrev pub moves_inside : World → ℕ → List ℕ → Motion → Option Deed
+moves_inside w i path m =
+    if nat_lt i (length w.cells)
+    then Some (record { at = i; cell = stirred (cell_at w.cells i) path m; steps = inner_steps path m; calls = (CallStray 0, Strayed) ∷ []; event = [] })
+    else None
 
 -- what the client of an operation that begins is told
-abbrev pub begin_answer : Cell → Aim → FabricAnswer
-begin_answer c aim = if is_full c aim then Full else Begun (length c.operations)
+abbrev pub begin_answer : WorldCell → Op → FabricAnswer
+begin_answer c op = if is_full c op then Full else Begun (view_of c).begun
+
+abbrev pub begin_returned : WorldCell → Op → LogletAnswer
+begin_returned c op = if is_full c op then Refusal FullLoglet else BegunOn (view_of c).begun
 
 abbrev pub begins_op : World → ℕ → ℕ → Op → Option Deed
 begins_op w who i op =
     if nat_lt i (length w.cells) && may_begin w i op
-    then Some (record { at = i; step = cell.Begin (aim_of op); event = event who (AskBegin i op) (begin_answer (cell_at w.cells i) (aim_of op)) })
+    then Some (record { at = i; cell = begun (cell_at w.cells i) op; steps = cell.Begin (aim_of op) ∷ []; calls = (CallBegin op, begin_returned (cell_at w.cells i) op) ∷ []; event = event who (AskBegin i op) (begin_answer (cell_at w.cells i) op) })
     else None
 
--- what the client of an open operation that came to its end is told
-abbrev pub answer_of : Cell → ℕ → Option Answer
-answer_of c t = let o = operation c t in if o.closed then None else taken c.cut o o.decided
-
-abbrev pub told : ℕ → ℕ → ℕ → Option Answer → Option Deed
-told who i t None = None
-told who i t (Some answer) = Some (record { at = i; step = cell.Take t; event = event who (AskCarry i t 0) (Done answer) })
+abbrev pub told : World → ℕ → ℕ → ℕ → Option Answer → Option Deed
+told w who i t None = None
+told w who i t (Some answer) = Some (record { at = i; cell = taken (cell_at w.cells i) t; steps = cell.Take t ∷ []; calls = (CallTake t, Taken (Some answer)) ∷ []; event = event who (AskCarry i t 0) (Done answer) })
 
 abbrev pub takes_answer : World → ℕ → ℕ → ℕ → Option Deed
-takes_answer w who i t = if nat_lt i (length w.cells) && is_owner w.events who i t then told who i t (answer_of (cell_at w.cells i) t) else None
+takes_answer w who i t = if nat_lt i (length w.cells) && is_owner w.events who i t then told w who i t (answer_of (cell_at w.cells i) t) else None
 
 abbrev pub forgets_op : World → ℕ → ℕ → ℕ → Option Deed
 forgets_op w who i t =
-    if (nat_lt i (length w.cells) && is_owner w.events who i t) && not (operation (cell_at w.cells i) t).closed
-    then Some (record { at = i; step = cell.Forget t; event = event who (AskForget i t) Gone })
+    if (nat_lt i (length w.cells) && is_owner w.events who i t) && is_open (cell_at w.cells i) t
+    then Some (record { at = i; cell = forgotten (cell_at w.cells i) t; steps = cell.Forget t ∷ []; calls = (CallForget t, Forgotten) ∷ []; event = event who (AskForget i t) Gone })
     else None
 
 -- what a step does in a cell
 abbrev pub deed : World → WorldStep → Option Deed
-deed w (Inside i step) = moves_inside w i step
+deed w (Inside i path m) = moves_inside w i path m
 deed w (Begin who i op) = begins_op w who i op
 deed w (Take who i t) = takes_answer w who i t
 deed w (Forget who i t) = forgets_op w who i t
@@ -79,7 +97,7 @@ deed w step = None
 
 abbrev pub done : World → Option Deed → World
 done w None = w
-done w (Some d) = record w { cells = set w.cells d.at (cell_step (cell_at w.cells d.at) d.step); events = w.events ++ d.event }
+done w (Some d) = record w { cells = set w.cells d.at d.cell; events = w.events ++ d.event }
 
 ---- the register
 

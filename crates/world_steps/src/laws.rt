@@ -6,39 +6,48 @@ ghost use Rattle.delos_types.specs.declared.chain.Segment.{Segment};
 ghost use Rattle.delos_types.specs.declared.chain.Chain.{Chain};
 ghost use Rattle.chain_map.specs.Chain.{IsChain};
 ghost use Rattle.loglet_api.specs.Run.{LogletRun};
+ghost use Rattle.quorum_cell.specs.Cells.{Cell};
 ghost use Rattle.quorum_cell.specs.Law.{IsLawful};
 ghost use Rattle.quorum_cell.specs.Steps.{run_cell};
 ghost use Rattle.cell_views.specs.Views.{Manner, IsManner, cell_view, calls_of};
 ghost use Rattle.legal_journal.specs.Journal.{IsLegal};
+ghost use Rattle.world_steps.specs.declared.cell.WorldCell.TheVariants.{Quorum};
+ghost use Rattle.world_steps.specs.declared.shape.QuorumShape.{QuorumShape};
 ghost use Rattle.world_steps.specs.declared.shape.Shape.{Shape};
+ghost use Rattle.world_steps.specs.declared.shape.Shape.TheVariants as shape;
+ghost use Rattle.world_steps.specs.Cells.{view_of, entries_of, quorum_of, start_quorum, servers_of};
 ghost use Rattle.world_steps.specs.declared.step.WorldStep.{WorldStep};
 ghost use Rattle.world_steps.specs.Parts.{World, fresh, cell_at, node_at, given_under};
 ghost use Rattle.world_steps.specs.Events.{was_placed_at};
 ghost use Rattle.world_steps.specs.Logs.{log_at, trim_of, tail_of, Stands, state_of, acts_in};
 ghost use Rattle.world_steps.specs.Steps.{run_world};
-ghost use Rattle.world_steps.specs.Moves.{steps_in};
+ghost use Rattle.world_steps.specs.Moves.{steps_in, calls_in};
 ghost use Rattle.world_steps.specs.Laws.{IsShelf, BringsSpelled, AllKeepTo, WorldLaw, IsFrontOf};
 
 use legal_journal::rules::Rules;
 
-/// The quorum law holds in each cell, and what a cell does is a run of a loglet, as its clients see
-/// it: its steps are those that the world's steps are in it, one after another.
+/// The quorum law holds in each quorum cell, of stripes too. What a cell does, striped over striped
+/// too, is a run of a loglet, as its clients see it: its calls are those that the world's steps are
+/// in it, one after another. The steps of a quorum cell are those that the world's steps are in it.
 pub fn cells_are_lawful()
-    ensures law { (shapes : List Shape) (nodes : ℕ) (steps : List WorldStep) (cell : ℕ) → IsShelf shapes → All BringsSpelled steps
-        → IsLawful (cell_at (run_world steps (fresh shapes nodes)).cells cell) }
-    ensures steps { (steps : List WorldStep) (world : World) (cell : ℕ)
-        → cell_at (run_world steps world).cells cell ≡ run_cell (steps_in cell steps world) (cell_at world.cells cell) }
-    ensures run { (manner : Manner) (shapes : List Shape) (nodes : ℕ) (steps : List WorldStep) (cell : ℕ) (shape : Shape) → IsShelf shapes → All BringsSpelled steps
-        → slice_get shapes cell ≡ Some shape → IsManner shape.servers manner
-        → let world = fresh shapes nodes in let first = cell_at world.cells cell in
-        LogletRun (cell_view manner first) (calls_of (steps_in cell steps world) first) (cell_view manner (cell_at (run_world steps world).cells cell)) }
+    ensures law { (shapes : List Shape) (nodes : ℕ) (steps : List WorldStep) (number : ℕ) (path : List ℕ) (cell : Cell) → IsShelf shapes → All BringsSpelled steps
+        → quorum_of (cell_at (run_world steps (fresh shapes nodes)).cells number) path ≡ Some cell → IsLawful cell }
+    ensures steps { (steps : List WorldStep) (world : World) (number : ℕ) (cell : Cell) → cell_at world.cells number ≡ Quorum cell
+        → cell_at (run_world steps world).cells number ≡ Quorum (run_cell (steps_in number steps world) cell) }
+    ensures run { (shapes : List Shape) (nodes : ℕ) (steps : List WorldStep) (number : ℕ) → IsShelf shapes → All BringsSpelled steps
+        → let world = fresh shapes nodes in
+        LogletRun (view_of (cell_at world.cells number)) (calls_in number steps world) (view_of (cell_at (run_world steps world).cells number)) }
+    ensures quorum_run { (manner : Manner) (shapes : List Shape) (nodes : ℕ) (steps : List WorldStep) (number : ℕ) (size : QuorumShape) → IsShelf shapes → All BringsSpelled steps
+        → slice_get shapes number ≡ Some (shape.Quorum size) → IsManner size.servers manner
+        → let world = fresh shapes nodes in let first = start_quorum size in
+        (last : Cell) × (cell_at (run_world steps world).cells number ≡ Quorum last) × LogletRun (cell_view manner first) (calls_of (steps_in number steps world) first) (cell_view manner last) }
 {}
 
 /// The events are a legal journal, by any rules of who may append what and of how far the log may
 /// be trimmed to which the steps keep, and all parts are as the events tell.
 pub fn events_are_legal<P: Rules>()
     ensures legal { (shapes : List Shape) (nodes : ℕ) (steps : List WorldStep) → IsShelf shapes
-        → AllKeepTo P.may P.floor (fresh shapes nodes) steps → IsLegal P.may P.floor (map (λ s. s.servers) shapes) (run_world steps (fresh shapes nodes)).events }
+        → AllKeepTo P.may P.floor (fresh shapes nodes) steps → IsLegal P.may P.floor (map servers_of shapes) (run_world steps (fresh shapes nodes)).events }
     ensures told { (shapes : List Shape) (nodes : ℕ) (steps : List WorldStep) → IsShelf shapes
         → AllKeepTo P.may P.floor (fresh shapes nodes) steps → WorldLaw P.may P.floor (run_world steps (fresh shapes nodes)) }
 {}
@@ -64,13 +73,13 @@ pub fn acknowledged_entries_stand()
     ensures reached { (shapes : List Shape) (nodes : ℕ) (early late : List WorldStep) → IsShelf shapes → All BringsSpelled early → All BringsSpelled late
         → let world = run_world early (fresh shapes nodes) in let later = run_world late world in
         (version number place : ℕ) (chain : Chain) (segment : Segment) (e : Entry) → given_under later.register version ≡ Some chain
-        → slice_get chain.segments number ≡ Some segment → place < (cell_at world.cells segment.id).reach
-        → slice_get (cell_at world.cells segment.id).entries place ≡ Some e → Stands later (segment.start + place) e }
+        → slice_get chain.segments number ≡ Some segment → place < (view_of (cell_at world.cells segment.id)).reach
+        → slice_get (entries_of (cell_at world.cells segment.id)) place ≡ Some e → Stands later (segment.start + place) e }
     ensures told { (shapes : List Shape) (nodes : ℕ) (early late : List WorldStep) → IsShelf shapes → All BringsSpelled early → All BringsSpelled late
         → let world = run_world early (fresh shapes nodes) in let later = run_world late world in
         (version number place : ℕ) (chain : Chain) (segment : Segment) → given_under later.register version ≡ Some chain
         → slice_get chain.segments number ≡ Some segment → was_placed_at world.events segment.id place ≡ true
-        → (e : Entry) × (slice_get (cell_at world.cells segment.id).entries place ≡ Some e) × Stands later (segment.start + place) e }
+        → (e : Entry) × (slice_get (entries_of (cell_at world.cells segment.id)) place ≡ Some e) × Stands later (segment.start + place) e }
 {}
 
 /// Each chain that the register gives under a version is the only one, its segments join, and no
@@ -85,7 +94,7 @@ pub fn chains_are_joined()
     ensures closed { (shapes : List Shape) (nodes : ℕ) (steps : List WorldStep) → IsShelf shapes → All BringsSpelled steps
         → let world = run_world steps (fresh shapes nodes) in
         (version number end : ℕ) (chain : Chain) (segment : Segment) → given_under world.register version ≡ Some chain
-        → slice_get chain.segments number ≡ Some segment → segment.end ≡ Some end → segment.start + (cell_at world.cells segment.id).reach ≤ end }
+        → slice_get chain.segments number ≡ Some segment → segment.end ≡ Some end → segment.start + (view_of (cell_at world.cells segment.id)).reach ≤ end }
 {}
 
 /// The state of a node is what a front of the log does, whatever stopped and came up again: each

@@ -3,13 +3,14 @@
 //! restarts is a list of steps.
 //!
 //! * `world`: the world, and lists of steps.
-//! * `shape`: the cells that a world begins with.
+//! * `shape`: the cells that a world begins with. `cell`: quorum cells, and stripes over cells.
 //! * `step`: what can happen next.
 //! * `parts`: the parts of a world, and what each step does to one of them.
 //! * `register`, `node`, `events`: the register, a node, and what clients' events tell.
 //! * `laws`: what holds of every world that a list of steps leads to.
 #![tactic(auto)]
 
+pub mod cell;
 pub mod events;
 pub mod laws;
 pub mod node;

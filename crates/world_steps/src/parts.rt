@@ -1,34 +1,32 @@
 //! The parts of a world, and what each step does to one of them.
 ghost use Rattle.std.specs.Prelude.{◌≡◌, ◌<◌, ◌^◌, ◌&&◌, not, nat_lt, true, Some, IfOk, OnOk, length, option_map, slice_get, set};
-ghost use Rattle.quorum_cell.specs.Law.{IsLawful};
-ghost use Rattle.quorum_cell.specs.Steps.{is_full as is_full_by, cell_step};
-ghost use Rattle.quorum_cell.specs.Cells.{operation as operation_of};
+ghost use Rattle.loglet_api.specs.Step.{CanBegin};
 ghost use Rattle.legal_journal.specs.Shown.{is_within, end_of};
-ghost use Rattle.world_steps.specs.Parts.{cell_at, node_at, given_under, fresh};
-ghost use Rattle.world_steps.specs.Guards.{is_inner as is_inner_by, aim_of as aim_by, may_begin as may_begin_by, may_follow as may_follow_by, changed as changed_by};
+ghost use Rattle.world_steps.specs.Parts.{node_at, given_under, fresh};
+ghost use Rattle.world_steps.specs.Guards.{may_begin as may_begin_by, may_follow as may_follow_by, changed as changed_by};
 ghost use Rattle.world_steps.specs.Logs.{reach_in, entries_in, log_at as log_by};
-ghost use Rattle.world_steps.specs.Steps.{begin_answer, answer_of, done, moves_inside, begins_op, takes_answer, forgets_op, reads, asked, writes, stops_writing, mends, stays_down, next_entry, applies, stops_node, restarts_node, world_step, world_with, followed, torn_world};
+ghost use Rattle.world_steps.specs.Steps.{begin_answer, done, moves_inside, begins_op, takes_answer, forgets_op, reads, asked, writes, stops_writing, mends, stays_down, next_entry, applies, stops_node, restarts_node, world_step, world_with, followed, torn_world};
 ghost use Rattle.world_steps.specs.Laws.{WorldLaw, BringsSpelled, any_append, any_trim};
 
+use crate::cell::WorldCell;
 use crate::events::{copy, is_owner, was_sealed_at};
 use crate::node::NodeState;
 use crate::register::{RegisterState, changed, last_id};
 use crate::step::{ChainChange, WorldStep};
-use cell_steps::answer::taken;
-use cell_steps::cell::CellState;
 use delos_types::chain::{Chain, Segment};
 use delos_types::entry::Entry;
 use delos_types::numbers::Ticket;
 use legal_journal::events::{Event, FabricAnswer, FabricCall};
-use loglet_api::call::{Answer, Op};
-use quorum_cell::operation::{Aim, CellStep};
+use loglet_api::call::Op;
 use std::alloc::{AllocError, Global};
 use std::marker::Model;
+use striped_cells::cell::AnyCell;
+use striped_cells::motion::Motion;
 
 /// The parts of a world.
 #[derive(Drop)]
 pub struct Parts {
-    pub cells: Vec<CellState>,
+    pub cells: Vec<WorldCell>,
     pub register: RegisterState,
     pub nodes: Vec<NodeState>,
     pub events: Vec<Event>,
@@ -47,7 +45,7 @@ impl Parts {
     pub fn copied(&self, alloc: Global) -> Result<Parts, AllocError>
         ensures { IfOk result (λ made. made ≡ self.now) }
     {
-        let cells = self.cells.clone()?;
+        let cells = copied_cells(alloc, self.cells.as_slice())?;
         let register = self.register.clone()?;
         let nodes = self.nodes.clone()?;
         let events = copied_events(alloc, self.events.as_slice())?;
@@ -79,11 +77,14 @@ impl Parts {
     }
 
     fn make(&mut self, alloc: Global, step: &WorldStep) -> Result<(), AllocError>
-        requires { WorldLaw any_append any_trim self.old }
+        requires law { WorldLaw any_append any_trim self.old }
+        requires brings { BringsSpelled step.now }
         ensures { OnOk result (self.new ≡ world_step self.old step.now) }
     {
         match step {
-            WorldStep::Inside(cell, step) => self.move_inside(alloc, *cell, step),
+            WorldStep::Inside { cell, path, motion } => {
+                self.move_inside(alloc, *cell, path.as_slice(), motion)
+            }
             WorldStep::Begin { who, cell, op } => self.begin(alloc, *who, *cell, op),
             WorldStep::Take { who, cell, ticket } => self.take(alloc, *who, *cell, *ticket),
             WorldStep::Forget { who, cell, ticket } => self.forget(alloc, *who, *cell, *ticket),
@@ -107,6 +108,16 @@ impl Parts {
     }
 }
 
+fn copied_cells(alloc: Global, cells: &[WorldCell]) -> Result<Vec<WorldCell>, AllocError>
+    ensures { IfOk result (λ made. made.items ≡ cells.now) }
+{
+    let mut made = Vec::new(alloc);
+    for cell in cells {
+        made.push(cell.copied(alloc)?)?;
+    }
+    Ok(made)
+}
+
 fn copied_events(alloc: Global, events: &[Event]) -> Result<Vec<Event>, AllocError>
     ensures { IfOk result (λ made. made.items ≡ events.now) }
 {
@@ -125,23 +136,20 @@ impl Parts {
         (cell as u64) < self.cells.len() as u64
     }
 
-    /// The cell takes a step.
-    fn step_in(&mut self, alloc: Global, cell: u32, step: &CellStep) -> Result<(), AllocError>
-        requires here { cell < length self.old.cells }
-        requires lawful { IsLawful (cell_at self.old.cells cell) }
-        ensures { OnOk result (self.new ≡ record self.old { cells = set self.old.cells cell (cell_step (cell_at self.old.cells cell) step.now) }) }
-    {
-        self.cells[cell as usize].take_step(alloc, step)
-    }
-
-    fn move_inside(&mut self, alloc: Global, cell: u32, step: &CellStep) -> Result<(), AllocError>
+    fn move_inside(
+        &mut self,
+        alloc: Global,
+        cell: u32,
+        path: &[u32],
+        motion: &Motion,
+    ) -> Result<(), AllocError>
         requires { WorldLaw any_append any_trim self.old }
-        ensures { OnOk result (self.new ≡ done self.old (moves_inside self.old cell step.now)) }
+        ensures { OnOk result (self.new ≡ done self.old (moves_inside self.old cell path.now motion.now)) }
     {
-        if !(self.has_cell(cell) && is_inner(step)) {
+        if !self.has_cell(cell) {
             return Ok(());
         }
-        self.step_in(alloc, cell, step)
+        self.cells[cell as usize].stir(alloc, path, motion)
     }
 
     /// The last cell isn't sealed, and a trim of a cell lets go of what is trimmed in the log.
@@ -156,16 +164,16 @@ impl Parts {
     }
 
     fn begin(&mut self, alloc: Global, who: u32, cell: u32, op: &Op) -> Result<(), AllocError>
-        requires { WorldLaw any_append any_trim self.old }
+        requires law { WorldLaw any_append any_trim self.old }
+        requires can { CanBegin op.now }
         ensures { OnOk result (self.new ≡ done self.old (begins_op self.old who cell op.now)) }
     {
         if !(self.has_cell(cell) && self.may_begin(cell, op)) {
             return Ok(());
         }
-        let aim = aim_of(op)?;
-        let answer = answer_to_begin(&self.cells[cell as usize], &aim);
+        let answer = answer_to_begin(&self.cells[cell as usize], op);
         let own_op = op.clone()?;
-        self.step_in(alloc, cell, &CellStep::Begin(aim))?;
+        self.cells[cell as usize].begin(alloc, op)?;
         self.tell(who, FabricCall::Begin(cell, own_op), answer)
     }
 
@@ -176,10 +184,10 @@ impl Parts {
         if !(self.has_cell(cell) && is_owner(self.events.as_slice(), who, cell, ticket)) {
             return Ok(());
         }
-        let Some(answer) = answer_to(&self.cells[cell as usize], ticket)? else {
+        let Some(answer) = self.cells[cell as usize].answer(ticket)? else {
             return Ok(());
         };
-        self.step_in(alloc, cell, &CellStep::Take(ticket))?;
+        self.cells[cell as usize].take(alloc, ticket)?;
         self.tell(
             who,
             FabricCall::Carry(cell, ticket, 0),
@@ -200,67 +208,22 @@ impl Parts {
         if !(self.has_cell(cell) && is_owner(self.events.as_slice(), who, cell, ticket)) {
             return Ok(());
         }
-        if is_closed(&self.cells[cell as usize], ticket) {
+        if !self.cells[cell as usize].is_open(ticket) {
             return Ok(());
         }
-        self.step_in(alloc, cell, &CellStep::Forget(ticket))?;
+        self.cells[cell as usize].forget(alloc, ticket)?;
         self.tell(who, FabricCall::Forget(cell, ticket), FabricAnswer::Gone)
     }
 }
 
-/// A step that is nobody's call.
-fn is_inner(step: &CellStep) -> bool
-    ensures { result ≡ is_inner_by step.now }
-{
-    !matches!(
-        step,
-        CellStep::Begin(_) | CellStep::Take(_) | CellStep::Forget(_)
-    )
-}
-
-fn aim_of(op: &Op) -> Result<Aim, AllocError>
-    ensures { IfOk result (λ aim. aim ≡ aim_by op.now) }
-{
-    match op {
-        Op::Append(entry) => Ok(Aim::Append(entry.clone()?)),
-        Op::Settle(n) => Ok(Aim::Settle(*n)),
-        Op::Tail => Ok(Aim::Tail),
-        Op::Seal => Ok(Aim::Seal),
-        Op::Read(place) => Ok(Aim::Read(*place)),
-        Op::Trim(n) => Ok(Aim::Trim(*n)),
-    }
-}
-
 /// What the client of an operation that begins is told.
-fn answer_to_begin(cell: &CellState, aim: &Aim) -> FabricAnswer
-    ensures { result ≡ begin_answer cell.now aim.now }
+fn answer_to_begin(cell: &WorldCell, op: &Op) -> FabricAnswer
+    ensures { result ≡ begin_answer cell.now op.now }
 {
-    if cell.is_full(aim) {
+    if cell.is_full(op) {
         FabricAnswer::Full
     } else {
         FabricAnswer::Begun(Ticket::new(cell.begun()))
-    }
-}
-
-/// What the client of an open operation that came to its end is told.
-fn answer_to(cell: &CellState, ticket: Ticket) -> Result<Option<Answer>, AllocError>
-    ensures { IfOk result (λ answer. answer ≡ answer_of cell.now ticket) }
-{
-    let Some(operation) = cell.operation(ticket) else {
-        return Ok(None);
-    };
-    if operation.closed {
-        return Ok(None);
-    }
-    taken(operation, cell.cut())
-}
-
-fn is_closed(cell: &CellState, ticket: Ticket) -> bool
-    ensures { result ≡ (operation_of cell.now ticket).closed }
-{
-    match cell.operation(ticket) {
-        Some(operation) => operation.closed,
-        None => true,
     }
 }
 
@@ -416,6 +379,7 @@ impl Parts {
 
     /// The entry of a cell at a place.
     fn entry_of(&self, cell: u32, place: u64) -> Option<&Entry>
+        requires { WorldLaw any_append any_trim self.now }
         ensures { option_map (λ entry. entry.now) result ≡ slice_get (entries_in self.now cell) place }
     {
         match self.cells.get(cell as usize) {
@@ -438,6 +402,7 @@ impl Parts {
 
     /// The entry at a position of the log.
     pub fn log_at(&self, pos: u64) -> Option<&Entry>
+        requires { WorldLaw any_append any_trim self.now }
         ensures { option_map (λ entry. entry.now) result ≡ log_by self.now pos }
     {
         let chain = self.register.last_given();
@@ -454,6 +419,7 @@ impl Parts {
 
     /// The entry that a node applies next.
     fn next_entry(&self, node: &NodeState) -> Result<Option<Entry>, AllocError>
+        requires { WorldLaw any_append any_trim self.now }
         ensures { IfOk result (λ entry. entry ≡ next_entry self.now node.now) }
     {
         match self.log_at(node.cursor()) {
@@ -463,6 +429,7 @@ impl Parts {
     }
 
     fn apply(&mut self, node: u32) -> Result<(), AllocError>
+        requires { WorldLaw any_append any_trim self.old }
         ensures { OnOk result (self.new ≡ applies self.old node) }
     {
         let Some(state) = self.nodes.get(node as usize) else {
@@ -476,6 +443,7 @@ impl Parts {
     }
 
     fn stop_node(&mut self, node: u32) -> Result<(), AllocError>
+        requires { WorldLaw any_append any_trim self.old }
         ensures { OnOk result (self.new ≡ stops_node self.old node) }
     {
         let Some(state) = self.nodes.get(node as usize) else {

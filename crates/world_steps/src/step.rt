@@ -1,7 +1,11 @@
 //! What can happen next in a world.
+ghost use Rattle.std.specs.Prelude.{◌≡◌, [], ◌∷◌, ◌++◌, OnOk, OnErr};
+
 use delos_types::numbers::Ticket;
 use loglet_api::call::Op;
-use quorum_cell::operation::CellStep;
+use std::alloc::{AllocError, Global};
+use std::marker::Model;
+use striped_cells::motion::Motion;
 
 /// How a writer changes the chain.
 #[derive(Clone, Copy, PartialEq, Eq, Debug)]
@@ -12,14 +16,59 @@ pub enum ChainChange {
     Raise(u64),
 }
 
+/// A path of stripes, from a cell down.
+#[derive(Drop)]
+pub struct Path {
+    stripes: Vec<u32>,
+}
+
+impl Model for Path {
+    ghost use Rattle.std.specs.Prelude.{ℕ, List};
+
+    ghost Value = { List ℕ };
+
+    ghost view = { λ p. p.stripes.items };
+}
+
+impl Path {
+    /// To the cell itself.
+    pub fn new(alloc: Global) -> Path
+        ensures { result ≡ [] }
+    {
+        Path {
+            stripes: Vec::new(alloc),
+        }
+    }
+
+    /// One stripe further down.
+    pub fn push(&mut self, stripe: u32) -> Result<(), AllocError>
+        ensures ok { OnOk result (self.new ≡ self.old ++ stripe ∷ []) }
+        ensures err { OnErr result (self.new ≡ self.old) }
+    {
+        self.stripes.push(stripe)?;
+        Ok(())
+    }
+
+    pub fn as_slice(&self) -> &[u32]
+        ensures { result.now ≡ self.now }
+    {
+        self.stripes.as_slice()
+    }
+}
+
 /// What can happen next. A step touches one part of the world: a cell, the register or a node. One
 /// that isn't possible changes nothing. Cells and nodes are named by their numbers, clients by any
 /// numbers.
 #[derive(Drop)]
 pub enum WorldStep {
-    /// Something moves in a cell that is nobody's call: a message is sent, comes or is lost, a
-    /// server stops inside a write or restarts, an operation comes to its end.
-    Inside(u32, CellStep),
+    /// Something moves in a cell, at the end of a path of stripes, that is nobody's call: a message
+    /// is sent, comes or is lost, a server stops inside a write or restarts, an operation comes to
+    /// its end, or goes round its stripes.
+    Inside {
+        cell: u32,
+        path: Path,
+        motion: Motion,
+    },
     /// A client begins an operation on a cell.
     Begin {
         who: u32,

@@ -4,12 +4,12 @@ ghost use Rattle.world_steps.specs.Parts.{fresh};
 ghost use Rattle.world_steps.specs.Steps.{world_step, run_world};
 ghost use Rattle.world_steps.specs.Laws.{IsShaped, BringsSpelled};
 
+use crate::cell::WorldCell;
 use crate::node::NodeState;
 use crate::parts::Parts;
 use crate::register::RegisterState;
 use crate::shape::Shape;
 use crate::step::WorldStep;
-use cell_steps::cell::CellState;
 use legal_journal::events::Event;
 use std::alloc::{AllocError, Global};
 use std::marker::Model;
@@ -97,7 +97,7 @@ impl World {
     }
 
     /// The cell of this number.
-    pub fn cell(&self, number: u32) -> Option<&CellState>
+    pub fn cell(&self, number: u32) -> Option<&WorldCell>
         ensures { option_map (λ cell. cell.now) result ≡ slice_get self.now.cells number }
     {
         self.parts.cells.get(number as usize)
@@ -127,6 +127,7 @@ impl World {
 
 /// The parts of a world of cells of these shapes.
 fn new_parts(alloc: Global, shapes: &[Shape], nodes: u32) -> Result<Parts, AllocError>
+    requires { All IsShaped shapes.now }
     ensures { IfOk result (λ made. made ≡ fresh shapes.now nodes) }
 {
     let cells = new_cells(alloc, shapes)?;
@@ -141,12 +142,13 @@ fn new_parts(alloc: Global, shapes: &[Shape], nodes: u32) -> Result<Parts, Alloc
 }
 
 /// The cells that a world begins with.
-fn new_cells(alloc: Global, shapes: &[Shape]) -> Result<Vec<CellState>, AllocError>
+fn new_cells(alloc: Global, shapes: &[Shape]) -> Result<Vec<WorldCell>, AllocError>
+    requires { All IsShaped shapes.now }
     ensures { IfOk result (λ made. made.items ≡ (fresh shapes.now 0).cells) }
 {
     let mut cells = Vec::new(alloc);
     for shape in shapes {
-        cells.push(CellState::new(alloc, shape.servers, shape.room, shape.limit)?)?;
+        cells.push(WorldCell::new(alloc, *shape)?)?;
     }
     Ok(cells)
 }

@@ -3,14 +3,13 @@ use Rattle.legal_journal.specs.Journal.{IsLegal}
 use Rattle.world_steps.specs.Parts.{fresh}
 use Rattle.world_steps.specs.Steps.{run_world}
 use Rattle.world_steps.proofs.Stepped.{run_goes}
-use Rattle.world_steps.proofs.InCells.{run_shelf}
 use Rattle.world_steps.proofs.Fresh.{fresh_law, fresh_shelf}
 use Rattle.world_steps.proofs.laws.events_are_legal.Goals as goal
 
 pub returns-clause-legal : goal.returns-clause-legal
 returns-clause-legal g c = λ shapes nodes steps shelf keeps.
-    subst (λ (s : List ℕ). IsLegal g.P.Rules.may g.P.Rules.floor s (run_world steps (fresh shapes nodes)).events) (run_shelf steps (fresh shapes nodes) ∙ fresh_shelf shapes nodes)
-    (run_goes g.P.Rules.may g.P.Rules.floor steps (fresh shapes nodes) (fresh_law g.P.Rules.may g.P.Rules.floor shapes nodes shelf) keeps).law.legal
+    let goes = run_goes g.P.Rules.may g.P.Rules.floor steps (fresh shapes nodes) (fresh_law g.P.Rules.may g.P.Rules.floor shapes nodes shelf) keeps in
+    subst (λ (s : List ℕ). IsLegal g.P.Rules.may g.P.Rules.floor s (run_world steps (fresh shapes nodes)).events) (goes.shelf ∙ fresh_shelf shapes nodes) goes.law.legal
 
 pub returns-clause-told : goal.returns-clause-told
 returns-clause-told g c = λ shapes nodes steps shelf keeps.
