@@ -138,7 +138,7 @@ module _ (may : ℕ → Entry → Type 0) (floor : List Entry → ℕ → Type 0
       within = record { least = legal.least; most = legal.most; steps = tt }
 
   module _ (state : List Entry → SpaceMap → Type 0) (spells : List ℕ → Saved → Type 0) (home : ℕ → ℕ) where
-    worker_rests : (nodes n : ℕ) (seat : SeatView) (desks : List Desk) → IsNewWorker (Sends may counts []) floor shelf state spells nodes n seat desks → Rests may floor shelf state spells lines home nodes first_course counts looks n 0 0 seat desks
+    worker_rests : (nodes n : ℕ) (seat : SeatView) (desks : List Desk) → IsNewWorker (Sends n may counts []) floor shelf state spells nodes n seat desks → Rests may floor shelf state spells lines home nodes first_course counts looks n 0 0 seat desks
     worker_rests nodes n seat desks w = record {
       worker = record {
         ok = record {
@@ -150,6 +150,7 @@ module _ (may : ℕ → Entry → Type 0) (floor : List Entry → ℕ → Type 0
           size = w.desks_are.size;
           each = λ s d at. desk_ok seat kept w.waits.outbox s d (known s d at) (w.desks_are.each s d at);
           counted = λ s d at some. let asked = (w.desks_are.each s d at).none_asked in absurd (omega (arith, asked, some));
+          home = λ s d at some. let asked = (w.desks_are.each s d at).none_asked in absurd (omega (arith, asked, some));
         };
         nodes_is = w.waits.nodes_is;
         order = omega arith;
@@ -181,7 +182,7 @@ module _ (may : ℕ → Entry → Type 0) (floor : List Entry → ℕ → Type 0
         }
 
     pub crew_rests : {A : Type 0} (seat : A → SeatView) (desks : A → List Desk) (workers : List A) → AreLines lines home (length workers) → length counts ≡ 64 → IsLegal may floor shelf []
-        → AreNewWorkers (Sends may counts []) floor shelf state spells (length workers) seat desks workers → CrewRests may floor shelf state spells lines 0 0 [] counts looks seat desks workers
+        → AreNewWorkers (λ n. Sends n may counts []) floor shelf state spells (length workers) seat desks workers → CrewRests may floor shelf state spells lines 0 0 [] counts looks seat desks workers
     crew_rests seat desks workers are long legal new = record {
       home = home;
       course = first_course;
@@ -199,5 +200,5 @@ module _ (may : ℕ → Entry → Type 0) (floor : List Entry → ℕ → Type 0
     }
 
 pub new_stands : {A : Type 0} (may : ℕ → Entry → Type 0) (floor : List Entry → ℕ → Type 0) (shelf : List ℕ) (state : List Entry → SpaceMap → Type 0) (spells : List ℕ → Saved → Type 0) (counts : List ℕ) (nodes : ℕ) (seat : A → SeatView) (desks : A → List Desk) (workers : List A)
-    → AreNewWorkers (Sends may counts []) floor shelf state spells nodes seat desks workers → CrewStands may floor shelf state spells [] seat workers
-new_stands may floor shelf state spells counts nodes seat desks workers new = λ j w at. seat_allowed may floor shelf counts state spells [] (seat w) (new j w at).waits.ok
+    → AreNewWorkers (λ n. Sends n may counts []) floor shelf state spells nodes seat desks workers → CrewStands may floor shelf state spells [] seat workers
+new_stands may floor shelf state spells counts nodes seat desks workers new = λ j w at. seat_allowed may floor shelf (j + 1) counts state spells [] (seat w) (new j w at).waits.ok

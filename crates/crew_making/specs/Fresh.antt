@@ -52,6 +52,6 @@ pub record IsNewWorker (may : ℕ → Entry → Type 0) (floor : List Entry → 
   pub waits : IsNewSeat may floor shelf state spells nodes who seat
   pub desks_are : AreFreshDesks desks
 
--- all of so many nodes, numbered from 1
-abbrev pub AreNewWorkers : {A : Type 0} → (ℕ → Entry → Type 0) → (List Entry → ℕ → Type 0) → List ℕ → (List Entry → SpaceMap → Type 0) → (List ℕ → Saved → Type 0) → ℕ → (A → SeatView) → (A → List Desk) → List A → Type 0
-AreNewWorkers {A} may floor shelf state spells nodes seat desks workers = (j : ℕ) (w : A) → slice_get workers j ≡ Some w → IsNewWorker may floor shelf state spells nodes (j + 1) (seat w) (desks w)
+-- all of so many nodes, numbered from 1, each by its own scope
+abbrev pub AreNewWorkers : {A : Type 0} → (ℕ → ℕ → Entry → Type 0) → (List Entry → ℕ → Type 0) → List ℕ → (List Entry → SpaceMap → Type 0) → (List ℕ → Saved → Type 0) → ℕ → (A → SeatView) → (A → List Desk) → List A → Type 0
+AreNewWorkers {A} sends floor shelf state spells nodes seat desks workers = (j : ℕ) (w : A) → slice_get workers j ≡ Some w → IsNewWorker (sends (j + 1)) floor shelf state spells nodes (j + 1) (seat w) (desks w)

@@ -68,7 +68,7 @@ fn seat_all<K: Terms, S: Replica, C: Chooser>(
     requires desks { AllByRecursion (λ b. AreFreshDesks b.desks.items) berths.items }
     requires fresh { AreFreshFrom S.state S.spells 1 (map (λ b. S.shows b.replica) berths.items) }
     requires room { (workers.items ≡ []) × (length berths.items ≤ vec_capacity workers) }
-    ensures workers { AreNewWorkers (Sends K.may counts.now []) K.floor K.shelf S.state S.spells (length berths.items) (λ w. w.seat) (λ w. w.desks.items) result.items }
+    ensures workers { AreNewWorkers (λ n. Sends n K.may counts.now []) K.floor K.shelf S.state S.spells (length berths.items) (λ w. w.seat) (λ w. w.desks.items) result.items }
     ensures replicas { map (λ w. w.seat.node.replica) result.items ≡ map (λ b. S.shows b.replica) berths.items }
 {
     let nodes = berths.len() as u8;

@@ -29,7 +29,7 @@ use Rattle.fitting_run.specs.Lines.{CanLog}
 use Rattle.fitting_run.specs.Faults.{disk_faults}
 use Rattle.fitting_run.specs.Yard.{Shown}
 use Rattle.fitting_run.specs.declared.told.Told.{Told}
-use Rattle.run_laws.specs.Ended.{session_in}
+use Rattle.run_laws.specs.Ended.{IsAtHome, session_in}
 use Rattle.run_course.specs.Script.{AreLines, logs_at, asked_by}
 use Rattle.run_course.specs.Workers.{CanSend}
 use Rattle.run_course.proofs.Lines.{at_get, rank_is}
@@ -37,6 +37,7 @@ use Rattle.node_crew.specs.Turns.{MaySendAll}
 use Rattle.run_ends.specs.Rules.{may_of}
 use Rattle.turn_scopes.specs.Seats.{SeatView}
 use Rattle.node_lines.specs.declared.desk.Desk.{Desk}
+use Rattle.node_lines.specs.Workers.{IsHome}
 use Rattle.run_ends.specs.Closing.{WorkerEnd, IsGivenBack}
 use Rattle.crew_making.specs.Apart.{AreAsTold}
 use Rattle.crew_run.specs.Telling.{FitsGivenBack}
@@ -93,9 +94,14 @@ pub sends_all : (lines : List NamedLine) (home : ℕ → ℕ) (nodes : ℕ) → 
     → ((at : ℕ) (line : NamedLine) → slice_get lines at ≡ Some line → line.asks ≡ asks.Admin Retire → may_of lines line.node (packed line.node (leave_item line.node ∷ [])))
     → ((at : ℕ) (line : NamedLine) → slice_get lines at ≡ Some line → line.asks ≡ asks.Admin Trim
     → (position : ℕ) → position < 2 ^ 64 → may_of lines line.node (packed line.node (trim_item position ∷ [])))
+    → ((s : ℕ) → IsHome (may_of lines) s (home s))
     → MaySendAll (may_of lines) lines
-sends_all lines home nodes are can law report leave trim i l at = by l.asks refl
+sends_all lines home nodes are can law report leave trim own i l at = by l.asks refl
   where
+    -- the line's session is at its node
+    its : (a : Asks) → l.asks ≡ a → IsAtHome home l.node a
+    its a is = subst (IsAtHome home l.node) is (at_get (λ (x : NamedLine). IsAtHome home x.node x.asks) lines i l are.at_home at)
+
     by : (a : Asks) → l.asks ≡ a → CanSend (may_of lines) l.node a
     by (asks.Logged s r c) is =
         let fits : CanLog (asks.Logged s r c) = subst CanLog is (at_get (λ (x : NamedLine). CanLog x.asks) lines i l can at) in
@@ -106,8 +112,8 @@ sends_all lines home nodes are can law report leave trim i l at = by l.asks refl
         let low : 1 ≤ r = omega (arith, rank) in
         let high : r ≤ 20001 = omega (arith, rank, few, short, are.few) in
         let small : r < 2 ^ 64 = omega (arith, high) in
-        (fits.0, fits.1, law i l s r c at is known low small fits.0 fits.1)
-    by (asks.Look s q) is = tt
+        (fits.0, fits.1, law i l s r c at is known low small fits.0 fits.1, subst (IsHome (may_of lines) s.id) (sym (its (asks.Logged s r c) is)) (own s.id))
+    by (asks.Look s q) is = subst (IsHome (may_of lines) s.id) (sym (its (asks.Look s q) is)) (own s.id)
     by (asks.Admin Extend) is = tt
     by (asks.Admin Alive) is = report i l at is
     by (asks.Admin Retire) is = leave i l at is

@@ -27,7 +27,8 @@ use register_api::Register;
 use replica_api::node::OpenNode;
 use replica_api::replica::Replica;
 use run_ends::line_rules::{
-    leaves_are_sent, lines_are_sent, lines_may_run, reports_are_sent, the_floor_is, trims_are_sent,
+    a_session_is_of_one_node, leaves_are_sent, lines_are_sent, lines_may_run, reports_are_sent,
+    the_floor_is, trims_are_sent,
 };
 use script_text::asks::NamedLine;
 use std::alloc::{AllocError, Global};
@@ -138,6 +139,7 @@ pub fn run_lines<L: Loglet, R: Register, S: Replica, C: Chooser>(
     reports_are_sent();
     leaves_are_sent();
     trims_are_sent();
+    a_session_is_of_one_node();
     know_all(cells.as_slice());
     run_by::<L, R, Brand, S, C>(alloc, cells, register, nodes, lines)
 }

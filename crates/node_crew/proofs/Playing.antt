@@ -26,7 +26,7 @@ use Rattle.run_course.proofs.Joining.{no_turn, turns_join}
 -- a node with its sessions can take the fabric
 pub worker_stands : (may : ℕ → Entry → Type 0) (floor : List Entry → ℕ → Type 0) (shelf : List ℕ) (state : List Entry → SpaceMap → Type 0) (spells : List ℕ → Saved → Type 0) (who : ℕ) (counts : List ℕ) (journal : List Event) (seat : SeatView) (desks : List Desk)
     → WorkerOk may floor shelf state spells who counts journal seat desks → SeatOk may floor shelf state spells journal seat
-worker_stands may floor shelf state spells who counts journal seat desks h = seat_allowed may floor shelf counts state spells journal seat h.ok
+worker_stands may floor shelf state spells who counts journal seat desks h = seat_allowed may floor shelf who counts state spells journal seat h.ok
 
 module _ (may : ℕ → Entry → Type 0) (floor : List Entry → ℕ → Type 0) (shelf : List ℕ) (state : List Entry → SpaceMap → Type 0) (spells : List ℕ → Saved → Type 0) (lines : List NamedLine) (home : ℕ → ℕ) (nodes : ℕ) (c : Course) (counts : List ℕ) (looks : List (Option Looked)) (n from : ℕ) where
   -- no line was played yet

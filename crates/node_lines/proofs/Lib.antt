@@ -15,6 +15,8 @@ pub mod Sessions
 pub mod Turning
 pub mod Closing
 pub mod Widening
+pub mod Own
+pub mod Keeping
 pub mod Scoping
 pub mod Cleaning
 pub mod Catching

@@ -1,5 +1,5 @@
 -- What holds within a scope of a worker, and what is left of it by the rules of the run.
-use Rattle.std.proofs.Common.{◌≡◌, sym, subst, ⊎_elim, ◌⊎◌, inl, inr, ℕ, ◌≤◌, List, [], Option, None, arith}
+use Rattle.std.proofs.Common.{◌≡◌, refl, sym, subst, ⊎_elim, ◌⊎◌, inl, inr, ℕ, ◌≤◌, List, [], Option, None, arith}
 use Rattle.std.specs.Prelude.{All, max, Contains, Result, Ok, Err, IfOk, OnOk}
 use Rattle.std.proofs.lemmas.List.Elements.{All-nil}
 use Rattle.delos_types.specs.Spaces.{SpaceMap}
@@ -7,40 +7,45 @@ use Rattle.delos_types.specs.declared.entry.Entry.{Entry}
 use Rattle.delos_types.specs.declared.cause.Cause.{Cause}
 use Rattle.legal_journal.specs.declared.events.Event.{Event}
 use Rattle.legal_journal.specs.Journal.{IsLegal}
-use Rattle.journal_laws.specs.Changes.{appended, TrimsUpTo, Adds}
-use Rattle.journal_laws.proofs.Changes.{appended_stays, appended_may, legal_by, upto_low, upto_more, below_low}
+use Rattle.journal_laws.specs.Changes.{TrimsUpTo}
+use Rattle.journal_laws.proofs.Changes.{legal_by, upto_low, upto_more, below_low}
 use Rattle.replica_api.specs.Replica.{Saved}
 use Rattle.virtual_log.specs.Holding.{IsTrimmed}
 use Rattle.base_engine.specs.Settling.{MaySend}
 use Rattle.base_engine.specs.Node.{NodeView}
 use Rattle.turn_scopes.specs.Beside.{Since, SealsByRight}
 use Rattle.turn_scopes.specs.Seats.{SeatView, SeatOk}
+use Rattle.turn_scopes.specs.Telling.{UpTo}
 use Rattle.node_lines.specs.Desks.{KeepsFrom}
 use Rattle.node_lines.specs.Leaving.{PlaysKnown}
-use Rattle.node_lines.specs.Workers.{Sends, SendsToo, IsOfSessions, UpTo, Grows, sent_of}
+use Rattle.node_lines.specs.Workers.{Sends, SendsToo, IsOfSessions, OwnAdds, KeepsBeside, Grows, appended_by, sent_of}
 use Rattle.node_lines.specs.Steps.{IsLeft, IsDone}
-use Rattle.node_lines.proofs.Widening.{within-more, seat_wider}
+use Rattle.node_lines.proofs.Own.{own_stays, own_may, legal_own}
+use Rattle.node_lines.proofs.Widening.{own-more, legal_wide, seat_wider}
 
-module _ (may : ℕ → Entry → Type 0) (counts : List ℕ) where
+module _ (me : ℕ) (may : ℕ → Entry → Type 0) (counts : List ℕ) where
   -- what may be sent may be sent still once the journal grew
-  pub sends_grow : (old new : List Event) → Grows old new → (who : ℕ) (e : Entry) → Sends may counts old who e → Sends may counts new who e
-  sends_grow old new g who e h = (h.0, ⊎_elim (λ (k : Contains (appended old) e). inl (subst (λ es. Contains (appended es) e) (sym g.1) (appended_stays old g.0 e k))) (λ (k : IsOfSessions e). inr k) h.1)
+  pub sends_grow : (old new : List Event) → Grows old new → (user : ℕ) (e : Entry) → Sends me may counts old user e → Sends me may counts new user e
+  sends_grow old new g user e h = (
+    h.0,
+    λ same. ⊎_elim (λ (k : Contains (appended_by me old) e). inl (subst (λ es. Contains (appended_by me es) e) (sym g.1) (own_stays me old g.0 e k))) (λ (k : IsOfSessions e). inr k) (h.1 same),
+  )
 
   -- and once more was counted
-  pub sends_more : (counts' : List ℕ) (journal : List Event) → ((s : ℕ) → sent_of counts s ≤ sent_of counts' s) → (who : ℕ) (e : Entry) → Sends may counts journal who e → Sends may counts' journal who e
-  sends_more counts' journal up who e h = (within-more may counts counts' up who e h.0, h.1)
+  pub sends_more : (counts' : List ℕ) (journal : List Event) → ((s : ℕ) → sent_of counts s ≤ sent_of counts' s) → (user : ℕ) (e : Entry) → Sends me may counts journal user e → Sends me may counts' journal user e
+  sends_more counts' journal up user e h = (own-more me may counts counts' up user e h.0, h.1)
 
   -- each of these may be told something beside
-  pub sends_too : (journal : List Event) (told : Entry) (who : ℕ) (e : Entry) → Sends may counts journal who e → SendsToo may counts journal told who e
-  sends_too journal told who e h = (h.0, ⊎_elim (λ (k : Contains (appended journal) e). inl k) (λ (k : IsOfSessions e). inr (inl k)) h.1)
+  pub sends_too : (journal : List Event) (told : Entry) (user : ℕ) (e : Entry) → Sends me may counts journal user e → SendsToo me may counts journal told user e
+  sends_too journal told user e h = (h.0, λ same. ⊎_elim (λ (k : Contains (appended_by me journal) e). inl k) (λ (k : IsOfSessions e). inr (inl k)) (h.1 same))
 
   module _ (low : List Entry → ℕ → Type 0) (shelf : List ℕ) where
-    -- what was appended within a scope says nothing but commands of sessions
-    pub adds_sends : (old new : List Event) → IsLegal (Sends may counts old) low shelf new → Adds IsOfSessions old new
-    adds_sends old new legal = λ e k. (appended_may (Sends may counts old) low shelf new e legal k).1.1
+    -- what its user appended within a scope says nothing but commands of sessions
+    pub adds_sends : (old new : List Event) → IsLegal (Sends me may counts old) low shelf new → OwnAdds me IsOfSessions old new
+    adds_sends old new legal = λ e k. (own_may (Sends me may counts old) low shelf new me e legal k).1 refl
 
-    pub adds_told : (old new : List Event) (told : Entry) → IsLegal (SendsToo may counts old told) low shelf new → Adds (λ e. IsOfSessions e ⊎ (e ≡ told)) old new
-    adds_told old new told legal = λ e k. (appended_may (SendsToo may counts old told) low shelf new e legal k).1.1
+    pub adds_told : (old new : List Event) (told : Entry) → IsLegal (SendsToo me may counts old told) low shelf new → OwnAdds me (λ e. IsOfSessions e ⊎ (e ≡ told)) old new
+    adds_told old new told legal = λ e k. (own_may (SendsToo me may counts old told) low shelf new me e legal k).1 refl
 
 module _ (may : ℕ → Entry → Type 0) (floor : List Entry → ℕ → Type 0) (shelf : List ℕ) where
   -- within a scope nothing is trimmed above where it began
@@ -52,12 +57,12 @@ module _ (may : ℕ → Entry → Type 0) (floor : List Entry → ℕ → Type 0
   high_low m m' new up legal = upto_more m m' new up (upto_low may (UpTo floor m) shelf m (λ log n h. h.1) new legal)
 
 module _ (may : ℕ → Entry → Type 0) (floor : List Entry → ℕ → Type 0) (shelf : List ℕ) where
-  module _ (counts : List ℕ) (state : List Entry → SpaceMap → Type 0) (spells : List ℕ → Saved → Type 0) where
+  module _ (me : ℕ) (counts : List ℕ) (state : List Entry → SpaceMap → Type 0) (spells : List ℕ → Saved → Type 0) where
     -- A seat as a scope begins: nothing was trimmed above where it is.
-    pub seat_begins : (m : ℕ) (journal : List Event) (s : SeatView) → TrimsUpTo m journal → SeatOk (Sends may counts journal) floor shelf state spells journal s → SeatOk (Sends may counts journal) (UpTo floor m) shelf state spells journal s
-    seat_begins m journal s high h = seat_free (legal_by (Sends may counts journal) (Sends may counts journal) floor (UpTo floor m) shelf journal h.node.legal (λ who e _ k. k) (λ log n raised free. (free, high n raised)))
+    pub seat_begins : (m : ℕ) (journal : List Event) (s : SeatView) → TrimsUpTo m journal → SeatOk (Sends me may counts journal) floor shelf state spells journal s → SeatOk (Sends me may counts journal) (UpTo floor m) shelf state spells journal s
+    seat_begins m journal s high h = seat_free (legal_by (Sends me may counts journal) (Sends me may counts journal) floor (UpTo floor m) shelf journal h.node.legal (λ who e _ k. k) (λ log n raised free. (free, high n raised)))
       where
-        seat_free : IsLegal (Sends may counts journal) (UpTo floor m) shelf journal → SeatOk (Sends may counts journal) (UpTo floor m) shelf state spells journal s
+        seat_free : IsLegal (Sends me may counts journal) (UpTo floor m) shelf journal → SeatOk (Sends me may counts journal) (UpTo floor m) shelf state spells journal s
         seat_free legal = record {
           shelf_is = h.shelf_is;
           goes_by = h.goes_by;
@@ -73,64 +78,73 @@ module _ (may : ℕ → Entry → Type 0) (floor : List Entry → ℕ → Type 0
         }
 
     -- .. of a scope that tells something
-    pub seat_tells : (m : ℕ) (journal : List Event) (told : Entry) (s : SeatView) → TrimsUpTo m journal → SeatOk (Sends may counts journal) floor shelf state spells journal s → SeatOk (SendsToo may counts journal told) (UpTo floor m) shelf state spells journal s
+    pub seat_tells : (m : ℕ) (journal : List Event) (told : Entry) (s : SeatView) → TrimsUpTo m journal → SeatOk (Sends me may counts journal) floor shelf state spells journal s → SeatOk (SendsToo me may counts journal told) (UpTo floor m) shelf state spells journal s
     seat_tells m journal told s high h =
-        seat_wider (Sends may counts journal) (SendsToo may counts journal told) (UpTo floor m) (UpTo floor m) shelf (λ who e k. sends_too may counts journal told who e k) (λ log n k. k) state spells journal s (seat_begins m journal s high h)
+        seat_wider (Sends me may counts journal) (SendsToo me may counts journal told) (UpTo floor m) (UpTo floor m) shelf (λ user e k. sends_too me may counts journal told user e k) (λ log n k. k) state spells journal s (seat_begins m journal s high h)
 
     -- A seat as a scope ends.
-    pub seat_ends : (m : ℕ) (old new : List Event) (s : SeatView) → Grows old new → SeatOk (Sends may counts old) (UpTo floor m) shelf state spells new s → SeatOk (Sends may counts new) floor shelf state spells new s
-    seat_ends m old new s g h = seat_wider (Sends may counts old) (Sends may counts new) (UpTo floor m) floor shelf (λ who e k. sends_grow may counts old new g who e k) (λ log n k. k.0) state spells new s h
+    pub seat_ends : (m : ℕ) (old new : List Event) (s : SeatView) → Grows old new → SeatOk (Sends me may counts old) (UpTo floor m) shelf state spells new s → SeatOk (Sends me may counts new) floor shelf state spells new s
+    seat_ends m old new s g h = seat_wider (Sends me may counts old) (Sends me may counts new) (UpTo floor m) floor shelf (λ user e k. sends_grow me may counts old new g user e k) (λ log n k. k.0) state spells new s h
 
     -- .. of one that told something: nothing is outstanding, and nothing waits
-    pub seat_told : (m : ℕ) (old new : List Event) (told : Entry) (s : SeatView) → s.node.outbox.entries ≡ [] → s.node.replica.kept ≡ [] → SeatOk (SendsToo may counts old told) (UpTo floor m) shelf state spells new s → SeatOk (Sends may counts new) floor shelf state spells new s
+    pub seat_told : (m : ℕ) (old new : List Event) (told : Entry) (s : SeatView) → s.node.outbox.entries ≡ [] → s.node.replica.kept ≡ [] → SeatOk (SendsToo me may counts old told) (UpTo floor m) shelf state spells new s → SeatOk (Sends me may counts new) floor shelf state spells new s
     seat_told m old new told s none kept h = record {
       shelf_is = h.shelf_is;
       goes_by = h.goes_by;
       node = record {
         eight = h.node.eight;
-        legal = legal_by (SendsToo may counts old told) (Sends may counts new) (UpTo floor m) floor shelf new h.node.legal (λ who e there k. (k.0, inl there)) (λ log n _ k. k.0);
+        legal = told_legal;
         follows = h.node.follows;
         bounded = h.node.bounded;
-        own = subst (λ es. All (λ e. MaySend (Sends may counts new) s.who e) es) (sym none) (All-nil (λ e. MaySend (Sends may counts new) s.who e));
+        own = subst (λ es. All (λ e. MaySend (Sends me may counts new) s.who e) es) (sym none) (All-nil (λ e. MaySend (Sends me may counts new) s.who e));
         few = h.node.few;
         waiting = λ some. absurd (some kept);
       };
     }
+      where
+        told_legal : IsLegal (Sends me may counts new) floor shelf new
+        told_legal =
+            legal_own (SendsToo me may counts old told) (Sends me may counts new) floor shelf new
+            (legal_wide (SendsToo me may counts old told) (SendsToo me may counts old told) (UpTo floor m) floor shelf (λ user e k. k) (λ log n k. k.0) new h.node.legal)
+            (λ user e there k. (k.0, λ same. inl (subst (λ u. Contains (appended_by u new) e) same there)))
 
     -- by the rules of the run alone
-    pub seat_allowed : (journal : List Event) (s : SeatView) → SeatOk (Sends may counts journal) floor shelf state spells journal s → SeatOk may floor shelf state spells journal s
-    seat_allowed journal s h = seat_wider (Sends may counts journal) may floor floor shelf (λ who e k. k.0.0) (λ log n k. k) state spells journal s h
+    pub seat_allowed : (journal : List Event) (s : SeatView) → SeatOk (Sends me may counts journal) floor shelf state spells journal s → SeatOk may floor shelf state spells journal s
+    seat_allowed journal s h = seat_wider (Sends me may counts journal) may floor floor shelf (λ who e k. k.0.0) (λ log n k. k) state spells journal s h
 
     pub left_by : (beside : ℕ → ℕ → Type 0) (right : ℕ → Type 0) (m : ℕ) (old new : List Event) (a b : SeatView) → b.who ≡ a.who → Since b.who (beside b.who) old new → SealsByRight (right b.who) b.who old new
-        → SeatOk (Sends may counts old) (UpTo floor m) shelf state spells new b → IsLeft may floor shelf state spells beside (right a.who) old a new b
+        → SeatOk (Sends me may counts old) (UpTo floor m) shelf state spells new b → IsLeft may floor shelf state spells beside (right a.who) old a new b
     left_by beside right m old new a b who since seals h = record {
-      stands = seat_wider (Sends may counts old) may (UpTo floor m) floor shelf (λ user e k. k.0.0) (λ log n k. k.0) state spells new b h;
+      stands = seat_wider (Sends me may counts old) may (UpTo floor m) floor shelf (λ user e k. k.0.0) (λ log n k. k.0) state spells new b h;
       who = who;
       since = subst (λ w. Since w (beside w) old new) who since;
       seals = subst (λ w. SealsByRight (right w) w old new) who seals;
     }
 
     pub left_told : (beside : ℕ → ℕ → Type 0) (right : ℕ → Type 0) (m : ℕ) (old new : List Event) (told : Entry) (a b : SeatView) → b.who ≡ a.who → Since b.who (beside b.who) old new → SealsByRight (right b.who) b.who old new
-        → SeatOk (SendsToo may counts old told) (UpTo floor m) shelf state spells new b → IsLeft may floor shelf state spells beside (right a.who) old a new b
+        → SeatOk (SendsToo me may counts old told) (UpTo floor m) shelf state spells new b → IsLeft may floor shelf state spells beside (right a.who) old a new b
     left_told beside right m old new told a b who since seals h = record {
-      stands = seat_wider (SendsToo may counts old told) may (UpTo floor m) floor shelf (λ user e k. k.0.0) (λ log n k. k.0) state spells new b h;
+      stands = seat_wider (SendsToo me may counts old told) may (UpTo floor m) floor shelf (λ user e k. k.0.0) (λ log n k. k.0) state spells new b h;
       who = who;
       since = subst (λ w. Since w (beside w) old new) who since;
       seals = subst (λ w. SealsByRight (right w) w old new) who seals;
     }
 
     -- a step that went no further back
-    pub done_by : (m : ℕ) (old new : List Event) (b : SeatView) → m ≤ b.node.replica.cursor → Grows old new → SeatOk (Sends may counts old) (UpTo floor m) shelf state spells new b → IsDone may floor shelf state spells counts new b
-    done_by m old new b up grows h = record {
-      ok = seat_ends m old new b grows h;
-      high = high_low (Sends may counts old) floor shelf m b.node.replica.cursor new up h.node.legal;
+    pub done_by : (beside : ℕ → ℕ → Type 0) (m : ℕ) (old new : List Event) (b : SeatView) → b.who ≡ me → m ≤ b.node.replica.cursor → Grows old new → KeepsBeside beside floor b new
+        → SeatOk (Sends me may counts old) (UpTo floor m) shelf state spells new b → IsDone may floor shelf state spells beside counts new b
+    done_by beside m old new b who up grows keeps h = record {
+      ok = subst (λ w. SeatOk (Sends w may counts new) floor shelf state spells new b) (sym who) (seat_ends m old new b grows h);
+      high = high_low (Sends me may counts old) floor shelf m b.node.replica.cursor new up h.node.legal;
+      keeps = keeps;
     }
 
-    pub done_told : (m : ℕ) (old new : List Event) (told : Entry) (b : SeatView) → m ≤ b.node.replica.cursor → b.node.outbox.entries ≡ [] → b.node.replica.kept ≡ []
-        → SeatOk (SendsToo may counts old told) (UpTo floor m) shelf state spells new b → IsDone may floor shelf state spells counts new b
-    done_told m old new told b up none kept h = record {
-      ok = seat_told m old new told b none kept h;
-      high = high_low (SendsToo may counts old told) floor shelf m b.node.replica.cursor new up h.node.legal;
+    pub done_told : (beside : ℕ → ℕ → Type 0) (m : ℕ) (old new : List Event) (told : Entry) (b : SeatView) → b.who ≡ me → m ≤ b.node.replica.cursor → b.node.outbox.entries ≡ [] → b.node.replica.kept ≡ [] → KeepsBeside beside floor b new
+        → SeatOk (SendsToo me may counts old told) (UpTo floor m) shelf state spells new b → IsDone may floor shelf state spells beside counts new b
+    done_told beside m old new told b who up none kept keeps h = record {
+      ok = subst (λ w. SeatOk (Sends w may counts new) floor shelf state spells new b) (sym who) (seat_told m old new told b none kept h);
+      high = high_low (SendsToo me may counts old told) floor shelf m b.node.replica.cursor new up h.node.legal;
+      keeps = keeps;
     }
 
 -- what is known was played, since nothing is trimmed within a scope that the node lacks

@@ -1,5 +1,5 @@
 -- Within more counts more is allowed, and all that was so stays so.
-use Rattle.std.proofs.Common.{◌∙◌, ap, ℕ, ◌≤◌, Bool, List, [], ◌++◌, Option, append_assoc, arith}
+use Rattle.std.proofs.Common.{◌≡◌, ◌∙◌, ap, ℕ, ◌≤◌, Bool, List, [], ◌++◌, Option, append_assoc, arith}
 use Rattle.std.specs.Prelude.{All}
 use Rattle.std.proofs.lemmas.List.Elements.{All-weaker}
 use Rattle.delos_types.specs.Spaces.{SpaceMap}
@@ -27,11 +27,14 @@ use Rattle.node_lines.specs.Leaving.{PlaysKnown}
 use Rattle.node_lines.specs.Trimming.{Cuts}
 use Rattle.node_lines.specs.Turns.{EndsTurn}
 use Rattle.node_lines.proofs.Relaying.{goes_by, moves_by, measures_by, tells_by, plays_by, cuts_by}
-use Rattle.node_lines.specs.Workers.{Within, Grows, sent_of}
+use Rattle.node_lines.specs.Workers.{Within, OwnWithin, Grows, sent_of}
 
 -- what was within the counts is within greater ones
 pub within-more : (may : ℕ → Entry → Type 0) (a b : List ℕ) → ((s : ℕ) → sent_of a s ≤ sent_of b s) → (who : ℕ) (e : Entry) → Within may a who e → Within may b who e
 within-more may a b low who e h = (h.0, λ s r k. omega (arith, h.1 s r k, low s))
+
+pub own-more : (me : ℕ) (may : ℕ → Entry → Type 0) (a b : List ℕ) → ((s : ℕ) → sent_of a s ≤ sent_of b s) → (user : ℕ) (e : Entry) → OwnWithin me may a user e → OwnWithin me may b user e
+own-more me may a b low user e h = (h.0, λ same s r k. omega (arith, h.1 same s r k, low s))
 
 module _ (a b : ℕ → Entry → Type 0) (low high : List Entry → ℕ → Type 0) (shelf : List ℕ) (wider : (who : ℕ) (e : Entry) → a who e → b who e) (lower : (log : List Entry) (n : ℕ) → low log n → high log n) where
   pub legal_wide : (es : List Event) → IsLegal a low shelf es → IsLegal b high shelf es

@@ -14,7 +14,7 @@ use Rattle.node_lines.specs.declared.lines.Looked.{Looked}
 use Rattle.node_lines.specs.declared.lines.Looked.TheVariants as looked
 use Rattle.node_lines.specs.Reporting.{Tells}
 use Rattle.node_lines.specs.Leaving.{PlaysKnown}
-use Rattle.node_lines.specs.Workers.{Sends}
+use Rattle.node_lines.specs.Workers.{Sends, KeepsBeside}
 
 -- Whatever it came to, the seat can take the access again; each event since is the node's or of one of those beside; and it began a Seal only where
 -- it has the right.
@@ -24,10 +24,11 @@ pub record IsLeft (may : ℕ → Entry → Type 0) (floor : List Entry → ℕ �
   pub since : Since a.who (beside a.who) old new
   pub seals : SealsByRight right a.who old new
 
--- The step was done, and no trim is above where the node is.
-pub record IsDone (may : ℕ → Entry → Type 0) (floor : List Entry → ℕ → Type 0) (shelf : List ℕ) (state : List Entry → SpaceMap → Type 0) (spells : List ℕ → Saved → Type 0) (counts : List ℕ) (new : List Event) (b : SeatView) : Type 0 where
-  pub ok : SeatOk (Sends may counts new) floor shelf state spells new b
+-- The step was done, and no trim is above where the node is; if anybody is beside, it keeps the log from there.
+pub record IsDone (may : ℕ → Entry → Type 0) (floor : List Entry → ℕ → Type 0) (shelf : List ℕ) (state : List Entry → SpaceMap → Type 0) (spells : List ℕ → Saved → Type 0) (beside : ℕ → ℕ → Type 0) (counts : List ℕ) (new : List Event) (b : SeatView) : Type 0 where
+  pub ok : SeatOk (Sends b.who may counts new) floor shelf state spells new b
   pub high : TrimsUpTo b.node.replica.cursor new
+  pub keeps : KeepsBeside beside floor b new
 
 -- the item's entry failed
 pub record Untold (may : ℕ → Entry → Type 0) (floor : List Entry → ℕ → Type 0) (shelf : List ℕ) (old new : NodeView) (item : Item) (failed : Option Cause) : Type 0 where

@@ -7,6 +7,7 @@ use Rattle.delos_types.specs.declared.cause.Cause.{Cause}
 use Rattle.delos_types.specs.declared.item.Item.{Item}
 use Rattle.legal_journal.specs.declared.events.Event.{Event}
 use Rattle.replica_api.specs.Replica.{Saved}
+use Rattle.base_engine.specs.Trimming.{FloorIs}
 use Rattle.base_engine.specs.Node.{NodeView}
 use Rattle.node_lines.specs.declared.desk.Desk.{Desk}
 use Rattle.node_lines.specs.UnderWay.{HasRank}
@@ -16,7 +17,8 @@ use Rattle.node_lines.specs.Desks.{DesksOk, MayJoin}
 use Rattle.node_lines.specs.Measuring.{IsCleanPoint}
 use Rattle.node_lines.specs.declared.lines.Looked.{Looked}
 use Rattle.node_lines.specs.declared.lines.Looked.TheVariants as looked
-use Rattle.journal_laws.specs.Changes.{appended, Adds}
+use Rattle.journal_laws.specs.Changes.{appended}
+use Rattle.journal_laws.specs.Own.{own}
 use Rattle.engine_api.specs.declared.content.Content.{Content}
 use Rattle.engine_api.specs.declared.content.Content.TheVariants.{Session, Alive, Leave, Trim}
 use Rattle.engine_api.specs.declared.content.Placed.{Placed}
@@ -29,6 +31,14 @@ sent_of counts s = get_or counts s 0
 -- who may append what, of which no rank is above those that were sent
 abbrev pub Within : (ℕ → Entry → Type 0) → List ℕ → ℕ → Entry → Type 0
 Within may counts who e = may who e × ((s r : ℕ) → HasRank s r e → r ≤ sent_of counts s)
+
+-- .. where this binds one of them alone
+abbrev pub OwnWithin : ℕ → (ℕ → Entry → Type 0) → List ℕ → ℕ → Entry → Type 0
+OwnWithin me may counts user e = may user e × (user ≡ me → (s r : ℕ) → HasRank s r e → r ≤ sent_of counts s)
+
+-- who alone may append ranks of this session
+abbrev pub IsHome : (ℕ → Entry → Type 0) → ℕ → ℕ → Type 0
+IsHome may s who = (user r : ℕ) (e : Entry) → may user e → HasRank s r e → user ≡ who
 
 -- the content is a command of a session
 abbrev pub IsCommand : Content → Type 0
@@ -49,67 +59,100 @@ IsOfSessions e = AllByRecursion (λ p. IsCommand p.content) (unpack 0 e)
 abbrev pub SaysAlone : Content → Entry → Type 0
 SaysAlone c e = map (λ p. p.content) (unpack 0 e) ≡ c ∷ []
 
--- .. of which what wasn't appended yet says nothing but commands of sessions
-abbrev pub Sends : (ℕ → Entry → Type 0) → List ℕ → List Event → ℕ → Entry → Type 0
-Sends may counts journal who e = Within may counts who e × (Contains (appended journal) e ⊎ IsOfSessions e)
+-- the entries that who began to append, in order
+abbrev pub appended_by : ℕ → List Event → List Entry
+appended_by who events = appended (own who events)
+
+-- of what who began to append since, each entry is one that it began to append before, or such a one
+abbrev pub OwnAdds : ℕ → (Entry → Type 0) → List Event → List Event → Type 0
+OwnAdds who P old new = (e : Entry) → Contains (appended_by who new) e → Contains (appended_by who old) e ⊎ P e
+
+-- .. of which what it hadn't appended yet says nothing but commands of sessions
+abbrev pub Sends : ℕ → (ℕ → Entry → Type 0) → List ℕ → List Event → ℕ → Entry → Type 0
+Sends me may counts journal user e = OwnWithin me may counts user e × (user ≡ me → Contains (appended_by me journal) e ⊎ IsOfSessions e)
 
 -- .. or is this one
-abbrev pub SendsToo : (ℕ → Entry → Type 0) → List ℕ → List Event → Entry → ℕ → Entry → Type 0
-SendsToo may counts journal told who e = Within may counts who e × (Contains (appended journal) e ⊎ (IsOfSessions e ⊎ (e ≡ told)))
-
--- where the log may be trimmed, but not above m
-abbrev pub UpTo : (List Entry → ℕ → Type 0) → ℕ → List Entry → ℕ → Type 0
-UpTo floor m log n = floor log n × (n ≤ m)
+abbrev pub SendsToo : ℕ → (ℕ → Entry → Type 0) → List ℕ → List Event → Entry → ℕ → Entry → Type 0
+SendsToo me may counts journal told user e = OwnWithin me may counts user e × (user ≡ me → Contains (appended_by me journal) e ⊎ (IsOfSessions e ⊎ (e ≡ told)))
 
 -- all events of before are there still
 abbrev pub Grows : List Event → List Event → Type 0
 Grows old new = (more : List Event) × (new ≡ old ++ more)
 
 -- A node and its sessions, by whom its events are. What waits at it is of sessions; of those that asked something here the counts
--- have what was sent.
+-- have what was sent, and nobody else may append their commands.
 pub record WorkerOk (may : ℕ → Entry → Type 0) (floor : List Entry → ℕ → Type 0) (shelf : List ℕ) (state : List Entry → SpaceMap → Type 0) (spells : List ℕ → Saved → Type 0) (who : ℕ) (counts : List ℕ) (journal : List Event) (seat : SeatView) (desks : List Desk) : Type 0 where
   pub who_is : seat.who ≡ who
   pub origin : seat.node.replica.origin ≡ who
-  pub ok : SeatOk (Sends may counts journal) floor shelf state spells journal seat
+  pub ok : SeatOk (Sends who may counts journal) floor shelf state spells journal seat
   pub packs : CanPack seat.node.replica.kept
   pub waits : All IsOfSession seat.node.replica.kept
   pub size : length desks ≡ 64
   pub each : DesksOk (node_of seat journal) desks
   pub counted : (s : ℕ) (d : Desk) → slice_get desks s ≡ Some d → 0 < d.asked → d.sent ≡ sent_of counts s
+  pub home : (s : ℕ) (d : Desk) → slice_get desks s ≡ Some d → 0 < d.asked → IsHome may s who
 
--- what the rules of a run allow: items may be packed together, and the log is trimmed no further than it goes
+-- What the rules of a run allow: items may be packed together, the log is trimmed no further than it goes, and nobody reports or
+-- leaves for another node.
 pub record MayRun (may : ℕ → Entry → Type 0) (floor : List Entry → ℕ → Type 0) (shelf : List ℕ) : Type 0 where
   pub low : (log : List Entry) (n : ℕ) → floor log n → n ≤ length log
   pub join : (who : ℕ) → MayJoin may who who
+  pub reports : (user node n : ℕ) (e : Entry) (p : Placed) → may user e → Contains (unpack 0 e) p → p.content ≡ Alive node n → user ≡ node
+  pub leaves : (user node : ℕ) (e : Entry) (p : Placed) → may user e → Contains (unpack 0 e) p → p.content ≡ Leave node → user ≡ node
 
--- What a report added: entries of sessions, and one that reports a clean position, of which the node has the state.
+-- What the node's report added of its own: entries of sessions, and one that reports a clean position, of which the node has the state.
 pub record ReportAdds (who cursor : ℕ) (old new : List Event) (answer : Looked) : Type 0 where
   pub position : ℕ
   pub clean : IsCleanPoint new position
   pub low : position ≤ cursor
   pub is : (n : ℕ) → answer ≡ looked.Reported n → n ≡ position
-  pub adds : Adds (λ e. IsOfSessions e ⊎ SaysAlone (Alive who position) e) old new
+  pub adds : OwnAdds who (λ e. IsOfSessions e ⊎ SaysAlone (Alive who position) e) old new
 
--- What a leave added: entries of sessions, and the leave.
+-- What its leave added: entries of sessions, and the leave.
 abbrev pub LeaveAdds : ℕ → List Event → List Event → Type 0
-LeaveAdds who old new = Adds (λ e. IsOfSessions e ⊎ SaysAlone (Leave who) e) old new
+LeaveAdds who old new = OwnAdds who (λ e. IsOfSessions e ⊎ SaysAlone (Leave who) e) old new
 
--- What a trim added: entries of sessions, and one that asks for a trim to a clean position.
-pub record TrimAdds (old new : List Event) : Type 0 where
+-- What its trim added: entries of sessions, and one that asks for a trim to a clean position.
+pub record TrimAdds (who : ℕ) (old new : List Event) : Type 0 where
   pub position : ℕ
   pub clean : IsCleanPoint new position
-  pub adds : Adds (λ e. IsOfSessions e ⊎ SaysAlone (Trim position) e) old new
+  pub adds : OwnAdds who (λ e. IsOfSessions e ⊎ SaysAlone (Trim position) e) old new
+
+-- As long as a node is a member and reports no more, nobody trims the log behind it.
 
 -- no leave of the node was appended
 abbrev pub HasNotLeft : ℕ → List Event → Type 0
 HasNotLeft who journal = (e : Entry) (p : Placed) → Contains (appended journal) e → Contains (unpack 0 e) p → p.content ≡ Leave who → ⊥
+
+-- no report of the node was appended above this position
+abbrev pub ReportsUpTo : ℕ → ℕ → List Event → Type 0
+ReportsUpTo who m journal = (e : Entry) (p : Placed) → Contains (appended journal) e → Contains (unpack 0 e) p → (position : ℕ) → p.content ≡ Alive who position → position ≤ m
+
+-- The node is one of those that may be members; it hasn't left, and reported no position above m.
+pub record KeepsLog (floor : List Entry → ℕ → Type 0) (who nodes m : ℕ) (journal : List Event) : Type 0 where
+  pub goes_by : FloorIs floor nodes
+  pub least : 1 ≤ who
+  pub most : who ≤ nodes
+  pub stays : HasNotLeft who journal
+  pub upto : ReportsUpTo who m journal
+
+-- if anybody is beside the node, it keeps the log from where it is
+abbrev pub KeepsBeside : (ℕ → ℕ → Type 0) → (List Entry → ℕ → Type 0) → SeatView → List Event → Type 0
+KeepsBeside beside floor s journal = (user : ℕ) → beside s.who user → KeepsLog floor s.who s.node.nodes s.node.replica.cursor journal
+
+-- the content is no leave, and no report above m
+abbrev pub TellsLow : ℕ → Content → Type 0
+TellsLow m (Session s r c) = Unit {0}
+TellsLow m (Alive node n) = n ≤ m
+TellsLow m (Leave node) = ⊥
+TellsLow m (Trim n) = Unit {0}
 
 -- The session's command was asked, and sent where the counts say so. Of no other session a command is lost, and one of which
 -- nothing was on its way is given no cause; each fault that the node came across came of its own. Where the session is stopped
 -- then, it was before, or is by one of the other causes; and then the command wasn't sent.
 pub record LogsIt (may : ℕ → Entry → Type 0) (floor : List Entry → ℕ → Type 0) (shelf : List ℕ) (counts counts' : List ℕ) (old new : NodeView) (s : ℕ) (was is : Desk) : Type 0 where
   pub others : List Cause
-  pub goes : Goes (Within may counts') floor shelf old new others
+  pub goes : Goes (OwnWithin old.who may counts') floor shelf old new others
   pub stays : (t : ℕ) → (s == t) ≡ false → StaysGiven old new t
   pub quiet : (t : ℕ) → (s == t) ≡ false → StaysQuiet old new t
   pub asked : is.asked ≡ was.asked + 1

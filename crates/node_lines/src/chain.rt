@@ -10,7 +10,7 @@ ghost use Rattle.base_engine.specs.Node.{NodeView};
 ghost use Rattle.turn_scopes.specs.Alone.{OwnSince};
 ghost use Rattle.node_lines.specs.declared.lines.Looked.TheVariants as looked;
 ghost use Rattle.node_lines.specs.Extending.{Extends};
-ghost use Rattle.node_lines.specs.Workers.{Within};
+ghost use Rattle.node_lines.specs.Workers.{OwnWithin};
 ghost use Rattle.node_lines.specs.Chains.{HasStarted, ExtendedSo, made};
 
 use legal_journal::rules::Rules;
@@ -37,14 +37,14 @@ pub fn a_last_loglet_is_of_the_shelf<P: Rules>()
 /// What a node did to the chain as it replaced the last loglet, where all events meanwhile are its own: nobody came before it, so
 /// it never finds that another did.
 pub fn a_lone_extension<P: Rules>()
-    ensures { (counts : List ℕ) (old new : NodeView) (x : Extension) → Extends (Within P.may counts) P.floor P.shelf old new (looked.Extended x)
+    ensures { (who : ℕ) (counts : List ℕ) (old new : NodeView) (x : Extension) → Extends (OwnWithin who P.may counts) P.floor P.shelf old new (looked.Extended x)
         → OwnSince old.who old.seen new.seen → ExtendedSo (length P.shelf) (state_of old.seen).register (state_of new.seen).register x }
 {}
 
 /// Where no fault came and the last loglet wasn't sealed, such a node lets the chain go on in the next
 /// loglet and no further, or leaves it as it is, and the last loglet isn't sealed then.
 pub fn a_lone_extension_goes_on_once<P: Rules>()
-    ensures { (counts : List ℕ) (old new : NodeView) (x : Extension) (n : ℕ) → Extends (Within P.may counts) P.floor P.shelf old new (looked.Extended x)
+    ensures { (who : ℕ) (counts : List ℕ) (old new : NodeView) (x : Extension) (n : ℕ) → Extends (OwnWithin who P.may counts) P.floor P.shelf old new (looked.Extended x)
         → OwnSince old.who old.seen new.seen → IsUnsealed (state_of old.seen) n → faults_in new.seen ≡ []
         → IsUnsealed (state_of new.seen) (n + made x) }
 {}

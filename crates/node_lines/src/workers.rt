@@ -12,24 +12,24 @@ ghost use Rattle.node_lines.specs.declared.desk.Desk.{Desk};
 ghost use Rattle.node_lines.specs.Answered.{AreAnswers};
 ghost use Rattle.node_lines.specs.UnderWay.{HasRank};
 ghost use Rattle.turn_scopes.specs.Seats.{SeatView};
-ghost use Rattle.node_lines.specs.Workers.{Within, WorkerOk, sent_of};
+ghost use Rattle.node_lines.specs.Workers.{Within, OwnWithin, WorkerOk, sent_of};
 
 use legal_journal::rules::Rules;
 use replica_api::replica::Replica;
 
-/// What holds of a worker holds still once others have had the fabric, whatever they did within the counts by then. Of no
-/// session that asked something at the worker they sent a command.
+/// What holds of a worker holds still at a later moment, whatever others did, as long as its own events sent no rank above the counts
+/// by then, and none of a session that had asked something at it.
 pub fn what_a_worker_has_stays<P: Rules, S: Replica>()
     ensures { (who : ℕ) (counts counts' : List ℕ) (early more : List Event) (seat : SeatView) (desks : List Desk)
-        → WorkerOk P.may P.floor P.shelf S.state S.spells who counts early seat desks → IsLegal (Within P.may counts') P.floor P.shelf (early ++ more)
+        → WorkerOk P.may P.floor P.shelf S.state S.spells who counts early seat desks → IsLegal (OwnWithin who P.may counts') P.floor P.shelf (early ++ more)
         → ((s : ℕ) → sent_of counts s ≤ sent_of counts' s) → ((s : ℕ) (d : Desk) → slice_get desks s ≡ Some d → 0 < d.asked → sent_of counts' s ≡ sent_of counts s)
         → WorkerOk P.may P.floor P.shelf S.state S.spells who counts' (early ++ more) seat desks }
 {}
 
-/// A worker's journal is legal, also within the counts.
+/// A worker's journal is legal, also where the counts bind what the worker appends.
 pub fn a_worker_is_legal<P: Rules, S: Replica>()
     ensures within { (who : ℕ) (counts : List ℕ) (journal : List Event) (seat : SeatView) (desks : List Desk)
-        → WorkerOk P.may P.floor P.shelf S.state S.spells who counts journal seat desks → IsLegal (Within P.may counts) P.floor P.shelf journal }
+        → WorkerOk P.may P.floor P.shelf S.state S.spells who counts journal seat desks → IsLegal (OwnWithin who P.may counts) P.floor P.shelf journal }
     ensures legal { (who : ℕ) (counts : List ℕ) (journal : List Event) (seat : SeatView) (desks : List Desk)
         → WorkerOk P.may P.floor P.shelf S.state S.spells who counts journal seat desks → IsLegal P.may P.floor P.shelf journal }
 {}

@@ -21,7 +21,7 @@ use Rattle.node_lines.specs.UnderWay.{Among, HasRank, rank_under, ranks_in}
 use Rattle.node_lines.proofs.Ranks.{rank-packed, ranks-append}
 use Rattle.node_lines.specs.Moving.{CanPack}
 use Rattle.node_lines.specs.Desks.{MayJoin}
-use Rattle.node_lines.specs.Workers.{Within, Sends, IsCommand, IsOfSession, IsOfSessions, SaysAlone, sent_of}
+use Rattle.node_lines.specs.Workers.{OwnWithin, Sends, IsCommand, IsOfSession, IsOfSessions, SaysAlone, sent_of}
 
 same_number : (a b : ℕ) → (a == b) ≡ true → a ≡ b
 same_number a b e = grind (arith, nat_tests, e)
@@ -76,13 +76,13 @@ rank-joined origin s r items item some all few fine h =
     least (suc n) h = omega arith
 
 -- items may be packed together within the counts, where they may be at all
-pub within-join : (may : ℕ → Entry → Type 0) (counts : List ℕ) (who : ℕ) → MayJoin may who who → MayJoin (Within may counts) who who
+pub within-join : (may : ℕ → Entry → Type 0) (counts : List ℕ) (who : ℕ) → MayJoin may who who → MayJoin (OwnWithin who may counts) who who
 within-join may counts who join = λ items item some all few fine old new.
-    (join items item some all few fine old.0 new.0, λ s r h. ⊎_elim (old.1 s r) (new.1 s r) (rank-joined who s r items item some all few fine h))
+    (join items item some all few fine old.0 new.0, λ same s r h. ⊎_elim (old.1 same s r) (new.1 same s r) (rank-joined who s r items item some all few fine h))
 
 -- a session's next command may be appended, once it is counted
-pub within-one : (may : ℕ → Entry → Type 0) (counts : List ℕ) (who s r : ℕ) (item : Item) → IsProposable item → may who (packed who (item ∷ [])) → rank_under s (content_of item) ≡ Some r → ((t : ℕ) → (s == t) ≡ false → rank_under t (content_of item) ≡ None) → r ≤ sent_of counts s → Within may counts who (packed who (item ∷ []))
-within-one may counts who s r item fine allowed own other low = (allowed, λ t q h. by_session t q (s == t) refl (packed-rank who t q (item ∷ []) (one item fine) h))
+pub within-one : (may : ℕ → Entry → Type 0) (counts : List ℕ) (who s r : ℕ) (item : Item) → IsProposable item → may who (packed who (item ∷ [])) → rank_under s (content_of item) ≡ Some r → ((t : ℕ) → (s == t) ≡ false → rank_under t (content_of item) ≡ None) → r ≤ sent_of counts s → OwnWithin who may counts who (packed who (item ∷ []))
+within-one may counts who s r item fine allowed own other low = (allowed, λ same t q h. by_session t q (s == t) refl (packed-rank who t q (item ∷ []) (one item fine) h))
   where
     by_session : (t q : ℕ) (b : Bool) → (s == t) ≡ b → Among q (cons_option (rank_under t (content_of item)) []) → q ≤ sent_of counts t
     by_session t q true e h =
@@ -92,8 +92,8 @@ within-one may counts who s r item fine allowed own other low = (allowed, λ t q
     by_session t q false e h = absurd (subst (λ o. Among q (cons_option o [])) (other t e) h)
 
 -- so may an item of no session
-pub within-plain : (may : ℕ → Entry → Type 0) (counts : List ℕ) (who : ℕ) (item : Item) → IsProposable item → may who (packed who (item ∷ [])) → ((t : ℕ) → rank_under t (content_of item) ≡ None) → Within may counts who (packed who (item ∷ []))
-within-plain may counts who item fine allowed none = (allowed, λ t q h. absurd (subst (λ o. Among q (cons_option o [])) (none t) (packed-rank who t q (item ∷ []) (one item fine) h)))
+pub within-plain : (may : ℕ → Entry → Type 0) (counts : List ℕ) (who : ℕ) (item : Item) → IsProposable item → may who (packed who (item ∷ [])) → ((t : ℕ) → rank_under t (content_of item) ≡ None) → OwnWithin who may counts who (packed who (item ∷ []))
+within-plain may counts who item fine allowed none = (allowed, λ same t q h. absurd (subst (λ o. Among q (cons_option o [])) (none t) (packed-rank who t q (item ∷ []) (one item fine) h)))
 
 -- Entries of sessions
 
@@ -126,11 +126,11 @@ may_go_down may who origin (k ∷ ks) item join can fine own waits =
     join (k ∷ ks) item some can.each can.few fine (waits (λ e. absurd (cc))) own
 
 -- what waits may be sent with a session's next command
-pub sends-next : (may : ℕ → Entry → Type 0) (counts : List ℕ) (journal : List Event) (who : ℕ) (kept : List Item) (item : Item) → MayJoin may who who → CanPack kept → All IsOfSession kept → (kept ≢ [] → Within may counts who (packed who kept))
-    → IsProposable item → IsOfSession item → Within may counts who (packed who (item ∷ [])) → Sends may counts journal who (packed who (kept ++ item ∷ []))
+pub sends-next : (may : ℕ → Entry → Type 0) (counts : List ℕ) (journal : List Event) (who : ℕ) (kept : List Item) (item : Item) → MayJoin may who who → CanPack kept → All IsOfSession kept → (kept ≢ [] → OwnWithin who may counts who (packed who kept))
+    → IsProposable item → IsOfSession item → OwnWithin who may counts who (packed who (item ∷ [])) → Sends who may counts journal who (packed who (kept ++ item ∷ []))
 sends-next may counts journal who kept item join can waits waiting fine says own = (
-  may_go_down (Within may counts) who who kept item (within-join may counts who join) can fine own waiting,
-  inr (of-sessions who (kept ++ item ∷ [])
+  may_go_down (OwnWithin who may counts) who who kept item (within-join may counts who join) can fine own waiting,
+  λ same. inr (of-sessions who (kept ++ item ∷ [])
       (record { some = omega (arith, length-snoc kept item); few = omega (arith, length-snoc kept item, can.few); each = All-push IsProposable kept item can.each fine })
       (All-push IsOfSession kept item waits says)),
 )

@@ -27,6 +27,6 @@ module _ {may : ℕ → Entry → Type 0} {floor : List Entry → ℕ → Type 0
   left_any {old} {new} {a} h = record { stands = h.stands; who = h.who; since = h.since; seals = right_any right a.who old new h.seals }
 
 -- once more was counted
-pub seat_counted : (may : ℕ → Entry → Type 0) (floor : List Entry → ℕ → Type 0) (shelf : List ℕ) (state : List Entry → SpaceMap → Type 0) (spells : List ℕ → Saved → Type 0) (counts counts' : List ℕ) (journal : List Event) (s : SeatView)
-    → ((t : ℕ) → sent_of counts t ≤ sent_of counts' t) → SeatOk (Sends may counts journal) floor shelf state spells journal s → SeatOk (Sends may counts' journal) floor shelf state spells journal s
-seat_counted may floor shelf state spells counts counts' journal s up h = seat_wider (Sends may counts journal) (Sends may counts' journal) floor floor shelf (λ who e k. sends_more may counts counts' journal up who e k) (λ log n k. k) state spells journal s h
+pub seat_counted : (me : ℕ) (may : ℕ → Entry → Type 0) (floor : List Entry → ℕ → Type 0) (shelf : List ℕ) (state : List Entry → SpaceMap → Type 0) (spells : List ℕ → Saved → Type 0) (counts counts' : List ℕ) (journal : List Event) (s : SeatView)
+    → ((t : ℕ) → sent_of counts t ≤ sent_of counts' t) → SeatOk (Sends me may counts journal) floor shelf state spells journal s → SeatOk (Sends me may counts' journal) floor shelf state spells journal s
+seat_counted me may floor shelf state spells counts counts' journal s up h = seat_wider (Sends me may counts journal) (Sends me may counts' journal) floor floor shelf (λ user e k. sends_more me may counts counts' journal up user e k) (λ log n k. k) state spells journal s h

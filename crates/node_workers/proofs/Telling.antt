@@ -1,15 +1,15 @@
 -- What comes of a node's own lines that tell something: what was read off its state, and the entry that says so.
-use Rattle.std.proofs.Common.{◌≡◌, refl, sym, subst, ⊎_elim, ◌⊎◌, inl, inr, ℕ, ◌≤◌, List, [], ◌∷◌, Option, Some, None, length, arith}
+use Rattle.std.proofs.Common.{◌≡◌, refl, sym, ◌∙◌, subst, ⊎_elim, ◌⊎◌, inl, inr, ℕ, ◌≤◌, List, [], ◌∷◌, Option, Some, None, length, arith}
+use Rattle.std.specs.Prelude.{Contains}
 use Rattle.delos_types.specs.declared.entry.Entry.{Entry}
 use Rattle.delos_types.specs.declared.item.Item.{Item}
 use Rattle.delos_types.specs.declared.cause.Cause.{Cause}
 use Rattle.legal_journal.specs.declared.events.Event.{Event}
 use Rattle.virtual_log.specs.Sealing.{SealsNone}
-use Rattle.journal_laws.specs.Changes.{Adds}
-use Rattle.journal_laws.proofs.Changes.{adds_trans, adds_wider}
 use Rattle.engine_api.specs.declared.content.Content.{Content}
 use Rattle.engine_api.specs.declared.content.Content.TheVariants as content
-use Rattle.engine_api.specs.Items.{content_of}
+use Rattle.engine_api.specs.declared.content.Placed.{Placed}
+use Rattle.engine_api.specs.Items.{content_of, unpack}
 use Rattle.engine_api.specs.Members.{clean_position}
 use Rattle.engine_api.specs.Packing.{packed, IsProposable, alive_item, leave_item}
 use Rattle.base_engine.specs.Node.{NodeView}
@@ -24,32 +24,33 @@ use Rattle.node_lines.specs.Reporting.{IsPlain, Tells, Reports}
 use Rattle.node_lines.specs.Leaving.{Leaves}
 use Rattle.node_lines.proofs.Moving.{moves-both}
 use Rattle.node_lines.proofs.Assembling.{reports_of, reports_told, reports_untold, leaves_of, leaves_done, leaves_untold, leaves_unplayed}
-use Rattle.node_lines.proofs.Reporting.{plain-rank}
-use Rattle.node_lines.specs.Workers.{Within, IsOfSessions, SaysAlone, ReportAdds}
-use Rattle.node_lines.proofs.Cleaning.{clean_later, clean_none, position_clean, position_low}
+use Rattle.node_lines.proofs.Reporting.{plain-rank, says_alone}
+use Rattle.node_lines.specs.Workers.{OwnWithin, IsOfSessions, OwnAdds, SaysAlone, ReportAdds, TellsLow}
+use Rattle.node_lines.proofs.Own.{own_adds_trans, own_adds_wider}
+use Rattle.node_lines.proofs.Cleaning.{clean_later, clean_none, position_clean, position_low, says_that}
 use Rattle.node_workers.proofs.Joining.{within-plain}
 use Rattle.node_lines.specs.Steps.{TellsAndPlays, came_to}
 
 -- What was appended meanwhile
 
-pub adds_saying : (old mid new : List Event) (told : Entry) (c : Content) → Adds IsOfSessions old mid → Adds (λ e. IsOfSessions e ⊎ (e ≡ told)) mid new → SaysAlone c told → Adds (λ e. IsOfSessions e ⊎ SaysAlone c e) old new
-adds_saying old mid new told c first more says =
+pub adds_saying : (who : ℕ) (old mid new : List Event) (told : Entry) (c : Content) → OwnAdds who IsOfSessions old mid → OwnAdds who (λ e. IsOfSessions e ⊎ (e ≡ told)) mid new → SaysAlone c told → OwnAdds who (λ e. IsOfSessions e ⊎ SaysAlone c e) old new
+adds_saying who old mid new told c first more says =
     let P : Entry → Type 0 = λ e. IsOfSessions e ⊎ SaysAlone c e in
-    adds_trans P old mid new
-    (adds_wider IsOfSessions P old mid (λ e k. inl k) first)
-    (adds_wider (λ e. IsOfSessions e ⊎ (e ≡ told)) P mid new (λ e k. ⊎_elim (λ (s : IsOfSessions e). inl s) (λ (t : e ≡ told). inr (subst (SaysAlone c) (sym t) says)) k) more)
+    own_adds_trans who P old mid new
+    (own_adds_wider who IsOfSessions P old mid (λ e k. inl k) first)
+    (own_adds_wider who (λ e. IsOfSessions e ⊎ (e ≡ told)) P mid new (λ e k. ⊎_elim (λ (s : IsOfSessions e). inl s) (λ (t : e ≡ told). inr (subst (SaysAlone c) (sym t) says)) k) more)
 
-pub adds_nothing : (c : Content) (old new : List Event) → Adds IsOfSessions old new → Adds (λ e. IsOfSessions e ⊎ SaysAlone c e) old new
-adds_nothing c old new h = adds_wider IsOfSessions (λ e. IsOfSessions e ⊎ SaysAlone c e) old new (λ e k. inl k) h
+pub adds_nothing : (who : ℕ) (c : Content) (old new : List Event) → OwnAdds who IsOfSessions old new → OwnAdds who (λ e. IsOfSessions e ⊎ SaysAlone c e) old new
+adds_nothing who c old new h = own_adds_wider who IsOfSessions (λ e. IsOfSessions e ⊎ SaysAlone c e) old new (λ e k. inl k) h
 
 -- a report that wasn't made
-pub report_adds_none : (who cursor : ℕ) (old new : List Event) (l : Looked) → ((n : ℕ) → l ≡ looked.Reported n → ⊥) → Adds IsOfSessions old new → ReportAdds who cursor old new l
+pub report_adds_none : (who cursor : ℕ) (old new : List Event) (l : Looked) → ((n : ℕ) → l ≡ looked.Reported n → ⊥) → OwnAdds who IsOfSessions old new → ReportAdds who cursor old new l
 report_adds_none who cursor old new l none h = record {
   position = 0;
   clean = clean_none new;
   low = omega arith;
   is = λ n e. absurd (none n e);
-  adds = adds_nothing (content.Alive who 0) old new h;
+  adds = adds_nothing who (content.Alive who 0) old new h;
 }
 
 reported_is : (failed : Option Cause) (n k : ℕ) → came_to failed (looked.Reported n) ≡ looked.Reported k → k ≡ n
@@ -57,11 +58,24 @@ reported_is None n k h = cc
 reported_is (Some c) n k h = absurd (cc)
 
 -- an item of no session may be told, within the counts, where it may be at all
-pub may_say : (may : ℕ → Entry → Type 0) (counts : List ℕ) (who who' origin : ℕ) (item said : Item) → who' ≡ who → origin ≡ who → item ≡ said → IsProposable item → IsPlain item → may who (packed who (said ∷ [])) → Within may counts who' (packed origin (item ∷ []))
+pub may_say : (may : ℕ → Entry → Type 0) (counts : List ℕ) (who who' origin : ℕ) (item said : Item) → who' ≡ who → origin ≡ who → item ≡ said → IsProposable item → IsPlain item → may who (packed who (said ∷ [])) → OwnWithin who' may counts who' (packed origin (item ∷ []))
 may_say may counts who who' origin item said same own is fine plain allowed =
-    subst (λ w. Within may counts w (packed origin (item ∷ []))) (sym same)
-    (subst (λ o. Within may counts who (packed o (item ∷ []))) (sym own)
+    subst (λ w. OwnWithin w may counts w (packed origin (item ∷ []))) (sym same)
+    (subst (λ o. OwnWithin who may counts who (packed o (item ∷ []))) (sym own)
     (within-plain may counts who item fine (subst (λ i. may who (packed who (i ∷ []))) (sym is) allowed) (plain-rank item plain)))
+
+-- what an item says its entry says alone
+pub says_low : (origin m : ℕ) (item : Item) → IsProposable item → IsPlain item → ((c : Content) → content_of item ≡ Some c → TellsLow m c) → (p : Placed) → Contains (unpack 0 (packed origin (item ∷ []))) p → TellsLow m p.content
+says_low origin m item fine plain low p there =
+    subst (TellsLow m) (sym (says_that (packed origin (item ∷ [])) plain.content p (says_alone origin item item plain.content fine plain.says refl) there)) (low plain.content plain.says)
+
+-- a position that was read off the state as clean isn't above where the node is
+pub measured_low : (may : ℕ → Entry → Type 0) (floor : List Entry → ℕ → Type 0) (shelf : List ℕ) (old new : NodeView) (n node : ℕ) (o : Option Content) → Measures may floor shelf clean_position old new (measured.At n) → o ≡ Some (content.Alive node n) → (c : Content) → o ≡ Some c → TellsLow new.replica.cursor c
+measured_low may floor shelf old new n node o h says c is =
+    let s = h.measured n refl in
+    let both : Some (content.Alive node n) ≡ Some c = sym says ∙ is in
+    let same : content.Alive node n ≡ c = cc in
+    subst (TellsLow new.replica.cursor) same (omega (arith, s.is, position_low s.at.log, s.at.size))
 
 module _ (may : ℕ → Entry → Type 0) (floor : List Entry → ℕ → Type 0) (shelf : List ℕ) (low : (log : List Entry) (n : ℕ) → floor log n → n ≤ length log) where
   -- All was carried to its end, and then the last loglet was replaced.
@@ -101,8 +115,8 @@ module _ (may : ℕ → Entry → Type 0) (floor : List Entry → ℕ → Type 0
   leaves old mid new number n item (Some c) h made own fine says (inr t) = leaves_unplayed may floor shelf low length old mid t.told new n item c h t.tells t.plays
 
   -- .. with what was appended by then
-  pub report_adds : (old mid new : NodeView) (who n : ℕ) (told : Entry) (failed : Option Cause) → Measures may floor shelf clean_position old mid (measured.At n) → Moves may floor shelf mid new (failure_in failed) → Adds IsOfSessions old.seen mid.seen
-      → Adds (λ e. IsOfSessions e ⊎ (e ≡ told)) mid.seen new.seen → SaysAlone (content.Alive who n) told → ReportAdds who new.replica.cursor old.seen new.seen (came_to failed (looked.Reported n))
+  pub report_adds : (old mid new : NodeView) (who n : ℕ) (told : Entry) (failed : Option Cause) → Measures may floor shelf clean_position old mid (measured.At n) → Moves may floor shelf mid new (failure_in failed) → OwnAdds who IsOfSessions old.seen mid.seen
+      → OwnAdds who (λ e. IsOfSessions e ⊎ (e ≡ told)) mid.seen new.seen → SaysAlone (content.Alive who n) told → ReportAdds who new.replica.cursor old.seen new.seen (came_to failed (looked.Reported n))
   report_adds old mid new who n told failed m moves first then says =
       let s = m.measured n refl in
       let k = moves.goes.keeps in
@@ -111,5 +125,5 @@ module _ (may : ℕ → Entry → Type 0) (floor : List Entry → ℕ → Type 0
         clean = clean_later may floor shelf low mid.seen new.seen n k.later.legal (k.later.more, k.later.seen) (subst (IsCleanPoint mid.seen) (sym s.is) (position_clean mid.seen s.at.log s.at.front));
         low = omega (arith, s.is, position_low s.at.log, s.at.size, k.forward);
         is = λ j e. reported_is failed n j e;
-        adds = adds_saying old.seen mid.seen new.seen told (content.Alive who n) first then says;
+        adds = adds_saying who old.seen mid.seen new.seen told (content.Alive who n) first then says;
       }

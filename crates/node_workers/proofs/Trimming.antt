@@ -8,7 +8,6 @@ use Rattle.delos_types.specs.declared.cause.Cause.{Cause}
 use Rattle.legal_journal.specs.declared.events.Event.{Event}
 use Rattle.legal_journal.specs.Journal.{IsLegal}
 use Rattle.journal_laws.specs.Changes.{appended, Adds}
-use Rattle.journal_laws.proofs.Changes.{adds_wider}
 use Rattle.virtual_log.specs.Holding.{Holds}
 use Rattle.engine_api.specs.declared.content.Content.{Content}
 use Rattle.engine_api.specs.declared.content.Content.TheVariants.{Session, Alive, Leave, Trim}
@@ -33,18 +32,19 @@ use Rattle.node_lines.specs.Trimming.{Cuts, TrimsLog}
 use Rattle.node_lines.proofs.Assembling.{trims_of, trims_done, trims_uncut, trims_unplayed, trims_untold}
 use Rattle.node_lines.proofs.Floors.{least-in_state, point-in_state}
 use Rattle.node_lines.proofs.Moving.{keeps-both}
-use Rattle.node_lines.specs.Workers.{IsCommand, IsOfSessions, HasNotLeft, TrimAdds, SaysAlone}
+use Rattle.node_lines.specs.Workers.{IsCommand, IsOfSessions, OwnAdds, HasNotLeft, TrimAdds, SaysAlone}
+use Rattle.node_lines.proofs.Own.{own_adds_wider}
 use Rattle.node_lines.specs.Steps.{TellsAndPlays}
 use Rattle.node_lines.proofs.Cleaning.{AreGood, good_clean, good_adds, good_told, good_point, good_least, said_appended, says_command, says_that, same_front, clean_within, clean_later, clean_in, clean_none}
 use Rattle.node_workers.proofs.Telling.{tells_moves}
 
 -- What was appended meanwhile
 
-pub trim_adds_none : (old new : List Event) → Adds IsOfSessions old new → TrimAdds old new
-trim_adds_none old new h = record { position = 0; clean = clean_none new; adds = adds_wider IsOfSessions (λ e. IsOfSessions e ⊎ SaysAlone (Trim 0) e) old new (λ e k. inl k) h }
+pub trim_adds_none : (who : ℕ) (old new : List Event) → OwnAdds who IsOfSessions old new → TrimAdds who old new
+trim_adds_none who old new h = record { position = 0; clean = clean_none new; adds = own_adds_wider who IsOfSessions (λ e. IsOfSessions e ⊎ SaysAlone (Trim 0) e) old new (λ e k. inl k) h }
 
-pub trim_adds_told : (old new : List Event) (position : ℕ) → IsCleanPoint new position → Adds (λ e. IsOfSessions e ⊎ SaysAlone (Trim position) e) old new → TrimAdds old new
-trim_adds_told old new position clean adds = record { position = position; clean = clean; adds = adds }
+pub trim_adds_told : (who : ℕ) (old new : List Event) (position : ℕ) → IsCleanPoint new position → OwnAdds who (λ e. IsOfSessions e ⊎ SaysAlone (Trim position) e) old new → TrimAdds who old new
+trim_adds_told who old new position clean adds = record { position = position; clean = clean; adds = adds }
 
 either_least : (a b : ℕ) → (min a b ≡ a) ⊎ (min a b ≡ b)
 either_least a b = ⊎_elim (λ (h : a < b). inl (omega (arith, h))) (λ (h : b ≤ a). inr (omega (arith, h))) (cases_lt a b)

@@ -1,5 +1,5 @@
 -- A worker at a later moment.
-use Rattle.std.proofs.Common.{◌≡◌, refl, sym, ap, ◌∙◌, subst, ◌⊎◌, inl, inr, ℕ, ◌<◌, ◌≤◌, List, [], Option, Some, length, arith}
+use Rattle.std.proofs.Common.{◌≡◌, refl, sym, ap, ◌∙◌, subst, ⊎_elim, ℕ, ◌<◌, ◌≤◌, List, [], Option, Some, length, arith}
 use Rattle.std.specs.Prelude.{All, get_or, slice_get}
 use Rattle.std.proofs.lemmas.Bool.{cases_lt}
 use Rattle.std.proofs.lemmas.List.Elements.{All-nil}
@@ -16,7 +16,7 @@ use Rattle.node_lines.specs.Moving.{Moves, CanPack}
 use Rattle.node_lines.specs.Turns.{ClosesIt, EndsTurn}
 use Rattle.node_lines.proofs.Desks.{desk_moves}
 use Rattle.node_lines.proofs.Turning.{was_at, same_at}
-use Rattle.node_lines.specs.Workers.{Within, Sends, IsOfSession, WorkerOk, MayRun, sent_of}
+use Rattle.node_lines.specs.Workers.{OwnWithin, Sends, IsOfSession, WorkerOk, MayRun}
 
 -- the desk with a session's number
 pub desk_there : (xs : List Desk) (i n s : ℕ) (d : Desk) → length xs ≡ 64 → n ≤ 63 → i ≡ n → n ≡ s → d ≡ get_or xs i d → slice_get xs s ≡ Some d
@@ -29,42 +29,53 @@ none-waits s kept = subst (All IsOfSession) (sym kept) (All-nil IsOfSession)
 module _ (may : ℕ → Entry → Type 0) (floor : List Entry → ℕ → Type 0) (shelf : List ℕ) (run : MayRun may floor shelf) where
   module _ (state : List Entry → SpaceMap → Type 0) (spells : List ℕ → Saved → Type 0) (who : ℕ) (counts : List ℕ) where
     -- a call that keeps all sessions keeps the worker
-    pub worker_moves : (old new : List Event) (s t : SeatView) (desks : List Desk) (others : List Cause) → WorkerOk may floor shelf state spells who counts old s desks → SeatOk (Sends may counts new) floor shelf state spells new t
-        → All IsOfSession t.node.replica.kept → Moves (Within may counts) floor shelf (node_of s old) (node_of t new) others → WorkerOk may floor shelf state spells who counts new t desks
+    pub worker_moves : (old new : List Event) (s t : SeatView) (desks : List Desk) (others : List Cause) → WorkerOk may floor shelf state spells who counts old s desks → SeatOk (Sends t.who may counts new) floor shelf state spells new t
+        → All IsOfSession t.node.replica.kept → Moves (OwnWithin s.who may counts) floor shelf (node_of s old) (node_of t new) others → WorkerOk may floor shelf state spells who counts new t desks
     worker_moves old new s t desks others h ok waits m = record {
       who_is = m.goes.keeps.who ∙ h.who_is;
       origin = m.goes.keeps.origin ∙ h.origin;
-      ok = ok;
+      ok = subst (λ w. SeatOk (Sends w may counts new) floor shelf state spells new t) (m.goes.keeps.who ∙ h.who_is) ok;
       packs = m.goes.packs h.packs;
       waits = waits;
       size = h.size;
-      each = λ i d at. desk_moves (Within may counts) floor shelf run.low (node_of s old) (node_of t new) others i d m (h.each i d at);
+      each = λ i d at. desk_moves (OwnWithin s.who may counts) floor shelf run.low (node_of s old) (node_of t new) others i d m (h.each i d at);
       counted = h.counted;
+      home = h.home;
     }
 
     -- so does the end of a phase
-    pub worker_ends : (old new : List Event) (s t : SeatView) (was is : List Desk) (failed : Option Cause) → WorkerOk may floor shelf state spells who counts old s was → SeatOk (Sends may counts new) floor shelf state spells new t
-        → EndsTurn (Within may counts) floor shelf (node_of s old) (node_of t new) was is failed → WorkerOk may floor shelf state spells who counts new t is
+    pub worker_ends : (old new : List Event) (s t : SeatView) (was is : List Desk) (failed : Option Cause) → WorkerOk may floor shelf state spells who counts old s was → SeatOk (Sends t.who may counts new) floor shelf state spells new t
+        → EndsTurn (OwnWithin s.who may counts) floor shelf (node_of s old) (node_of t new) was is failed → WorkerOk may floor shelf state spells who counts new t is
     worker_ends old new s t was is failed h ok e =
         let same = e.forgets in
+        let who_is = ap (λ (n : NodeView). n.who) same ∙ e.ends.moves.goes.keeps.who ∙ h.who_is in
         record {
-          who_is = ap (λ (n : NodeView). n.who) same ∙ e.ends.moves.goes.keeps.who ∙ h.who_is;
+          who_is = who_is;
           origin = ap (λ (n : NodeView). n.replica.origin) same ∙ e.ends.moves.goes.keeps.origin ∙ h.origin;
-          ok = ok;
+          ok = subst (λ w. SeatOk (Sends w may counts new) floor shelf state spells new t) who_is ok;
           packs = subst (λ (n : NodeView). CanPack n.replica.kept) (sym same) (e.ends.moves.goes.packs h.packs);
           waits = none-waits t (ap (λ (n : NodeView). n.replica.kept) same ∙ e.ends.kept);
           size = e.closes.size ∙ h.size;
           each = e.desks;
           counted = λ i d at some.
-              let y = was_at was is i d e.closes.size at in
-              let one = e.closes.each i y.0 y.1 in
-              let is_it = same_at is i one.desk d one.is at in
-              counted_it i y.0 d y.1 (subst (ClosesIt e.mid failed y.0) is_it one.closes) some;
+              let y = was_asked i d at some in
+              ap (λ (z : Desk). z.sent) (y.2.asked y.3).rest ∙ h.counted i y.0 y.1 y.3;
+          home = λ i d at some.
+              let y = was_asked i d at some in
+              h.home i y.0 y.1 y.3;
         }
       where
-        counted_it : (i : ℕ) (x d : Desk) → slice_get was i ≡ Some x → ClosesIt e.mid failed x d → 0 < d.asked → d.sent ≡ sent_of counts i
-        counted_it i x d at c some = by (cases_lt 0 x.asked)
-          where
-            by : (0 < x.asked) ⊎ (x.asked ≤ 0) → d.sent ≡ sent_of counts i
-            by (inl k) = ap (λ (z : Desk). z.sent) (c.asked k).rest ∙ h.counted i x at k
-            by (inr k) = absurd (omega (arith, some, k, ap (λ (z : Desk). z.asked) (c.none (let z : x.asked ≡ 0 = omega (arith, k) in z))))
+        -- a session that asked something had asked it before
+        was_asked : (i : ℕ) (d : Desk) → slice_get is i ≡ Some d → 0 < d.asked → (x : Desk) × (slice_get was i ≡ Some x) × ClosesIt e.mid failed x d × (0 < x.asked)
+        was_asked i d at some =
+            let y = was_at was is i d e.closes.size at in
+            let one = e.closes.each i y.0 y.1 in
+            let closes = subst (ClosesIt e.mid failed y.0) (same_at is i one.desk d one.is at) one.closes in (
+              y.0,
+              y.1,
+              closes,
+              ⊎_elim
+                  (λ (k : 0 < y.0.asked). k)
+                  (λ (k : y.0.asked ≤ 0). absurd (omega (arith, some, k, ap (λ (z : Desk). z.asked) (closes.none (let z : y.0.asked ≡ 0 = omega (arith, k) in z)))))
+                  (cases_lt 0 y.0.asked),
+            )

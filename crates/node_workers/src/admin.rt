@@ -3,7 +3,7 @@
 ghost use Rattle.std.specs.Prelude.{◌≡◌, ◌<◌, ◌≤◌, ◌^◌, ℕ, List, [], ◌∷◌, IfOk};
 ghost use Rattle.delos_types.specs.Spaces.{SpaceMap};
 ghost use Rattle.delos_types.specs.declared.entry.Entry.{Entry};
-ghost use Rattle.journal_laws.specs.Changes.{TrimsUpTo, Adds};
+ghost use Rattle.journal_laws.specs.Changes.{TrimsUpTo};
 ghost use Rattle.engine_api.specs.Packing.{packed, alive_item, leave_item, trim_item};
 ghost use Rattle.log_laws.specs.State.{IsStateOf};
 ghost use Rattle.base_engine.specs.Trimming.{FloorIs};
@@ -14,7 +14,7 @@ ghost use Rattle.node_lines.specs.Measuring.{AreClean};
 ghost use Rattle.node_lines.specs.Reporting.{Reports};
 ghost use Rattle.node_lines.specs.Leaving.{Leaves};
 ghost use Rattle.node_lines.specs.Trimming.{TrimsLog};
-ghost use Rattle.node_lines.specs.Workers.{WorkerOk, MayRun, Within, IsOfSessions, ReportAdds, LeaveAdds, TrimAdds, HasNotLeft};
+ghost use Rattle.node_lines.specs.Workers.{WorkerOk, MayRun, OwnWithin, OwnAdds, KeepsBeside, IsOfSessions, ReportAdds, LeaveAdds, TrimAdds, HasNotLeft};
 ghost use Rattle.node_lines.specs.Steps.{IsLeft};
 ghost use Rattle.node_workers.specs.Lines.{MayAskTrim, extends_on};
 
@@ -48,13 +48,13 @@ impl OwnLine for ExtendLine {
 
     ghost seals = { Unit {0} };
 
-    ghost adds = { λ line old new x. Adds IsOfSessions old.seen new.seen };
+    ghost adds = { λ line old new x. OwnAdds old.who IsOfSessions old.seen new.seen };
 
     ghost did = { λ may floor shelf line old new x. Extends may floor shelf old new x };
 
     ghost moves = { λ may floor shelf line old new x h. extends_on may floor shelf old new x h };
 
-    #[tactic(auto, using(crate::proofs::Stepping::left_any, turn_scopes::proofs::Alone::alone_still))]
+    #[tactic(auto, using(crate::proofs::Stepping::left_any))]
     fn go<A: Access, S: Replica, C: Chooser>(
         self,
         access: A,
@@ -79,7 +79,7 @@ pub fn extend_line<A: Access, S: Replica, C: Chooser>(
 ) -> Back<A, Worker<S, C>, Looked>
     requires run { MayRun A.Law.may A.Law.floor A.Law.shelf }
     requires who { worker.seat.who ≡ A.who access }
-    requires alone { IsAlone (A.beside (A.who access)) }
+    requires keeps { KeepsBeside A.beside A.Law.floor worker.seat (A.seen access) }
     requires worker { WorkerOk A.Law.may A.Law.floor A.Law.shelf S.state S.spells worker.seat.who counts.now (A.seen access) worker.seat worker.desks.items }
     requires high { TrimsUpTo worker.seat.node.replica.cursor (A.seen access) }
     ensures desks { result.part.desks ≡ worker.desks }
@@ -87,8 +87,9 @@ pub fn extend_line<A: Access, S: Replica, C: Chooser>(
     ensures left { IsLeft A.Law.may A.Law.floor A.Law.shelf S.state S.spells A.beside (Unit {0}) (A.seen access) worker.seat (A.seen result.access) result.part.seat }
     ensures worker { IfOk result.answer (λ l. WorkerOk A.Law.may A.Law.floor A.Law.shelf S.state S.spells worker.seat.who counts.now (A.seen result.access) result.part.seat result.part.desks.items) }
     ensures high { IfOk result.answer (λ l. TrimsUpTo result.part.seat.node.replica.cursor (A.seen result.access)) }
-    ensures adds { IfOk result.answer (λ l. Adds IsOfSessions (A.seen access) (A.seen result.access)) }
-    ensures extends { IfOk result.answer (Extends (Within A.Law.may counts.now) A.Law.floor A.Law.shelf (node_of worker.seat (A.seen access)) (node_of result.part.seat (A.seen result.access))) }
+    ensures keeps { IfOk result.answer (λ l. KeepsBeside A.beside A.Law.floor result.part.seat (A.seen result.access)) }
+    ensures adds { IfOk result.answer (λ l. OwnAdds worker.seat.who IsOfSessions (A.seen access) (A.seen result.access)) }
+    ensures extends { IfOk result.answer (Extends (OwnWithin worker.seat.who A.Law.may counts.now) A.Law.floor A.Law.shelf (node_of worker.seat (A.seen access)) (node_of result.part.seat (A.seen result.access))) }
 {
     own_line(access, worker, ExtendLine, counts)
 }
@@ -110,7 +111,6 @@ impl OwnLine for ReportLine {
 
     ghost moves = { λ may floor shelf line old new x h. record { others = h.others; moves = h.moves; kept = h.kept } };
 
-    #[tactic(auto, using(turn_scopes::proofs::Alone::alone_still))]
     fn go<A: Access, S: Replica, C: Chooser>(
         self,
         access: A,
@@ -161,7 +161,7 @@ pub fn report_line<A: Access, S: Replica, C: Chooser>(
 ) -> Back<A, Worker<S, C>, Looked>
     requires run { MayRun A.Law.may A.Law.floor A.Law.shelf }
     requires who { worker.seat.who ≡ A.who access }
-    requires alone { IsAlone (A.beside (A.who access)) }
+    requires keeps { KeepsBeside A.beside A.Law.floor worker.seat (A.seen access) }
     requires state { (log : List Entry) (m : SpaceMap) → S.state log m → IsStateOf log m }
     requires worker { WorkerOk A.Law.may A.Law.floor A.Law.shelf S.state S.spells worker.seat.who counts.now (A.seen access) worker.seat worker.desks.items }
     requires high { TrimsUpTo worker.seat.node.replica.cursor (A.seen access) }
@@ -172,8 +172,9 @@ pub fn report_line<A: Access, S: Replica, C: Chooser>(
     ensures left { IsLeft A.Law.may A.Law.floor A.Law.shelf S.state S.spells A.beside ⊥ (A.seen access) worker.seat (A.seen result.access) result.part.seat }
     ensures worker { IfOk result.answer (λ l. WorkerOk A.Law.may A.Law.floor A.Law.shelf S.state S.spells worker.seat.who counts.now (A.seen result.access) result.part.seat result.part.desks.items) }
     ensures high { IfOk result.answer (λ l. TrimsUpTo result.part.seat.node.replica.cursor (A.seen result.access)) }
+    ensures keeps { IfOk result.answer (λ l. KeepsBeside A.beside A.Law.floor result.part.seat (A.seen result.access)) }
     ensures adds { IfOk result.answer (ReportAdds worker.seat.who result.part.seat.node.replica.cursor (A.seen access) (A.seen result.access)) }
-    ensures reports { IfOk result.answer (λ l. Reports (Within A.Law.may counts.now) A.Law.floor A.Law.shelf (node_of worker.seat (A.seen access)) (node_of result.part.seat (A.seen result.access)) l) }
+    ensures reports { IfOk result.answer (λ l. Reports (OwnWithin worker.seat.who A.Law.may counts.now) A.Law.floor A.Law.shelf (node_of worker.seat (A.seen access)) (node_of result.part.seat (A.seen result.access)) l) }
 {
     own_line(access, worker, ReportLine { alloc, number }, counts)
 }
@@ -188,6 +189,9 @@ impl OwnLine for LeaveLine {
     type Answer = Looked;
 
     ghost can = { λ may floor line node. (node.who ≡ line.number) × may node.who (packed node.who (leave_item node.who ∷ [])) };
+
+    // The scope in which a leave is told can't be cut where the node is.
+    ghost alone = { Unit {0} };
 
     ghost adds = { λ line old new x. LeaveAdds old.who old.seen new.seen };
 
@@ -257,7 +261,7 @@ pub fn leave_line<A: Access, S: Replica, C: Chooser>(
     ensures worker { IfOk result.answer (λ l. WorkerOk A.Law.may A.Law.floor A.Law.shelf S.state S.spells worker.seat.who counts.now (A.seen result.access) result.part.seat result.part.desks.items) }
     ensures high { IfOk result.answer (λ l. TrimsUpTo result.part.seat.node.replica.cursor (A.seen result.access)) }
     ensures adds { IfOk result.answer (λ l. LeaveAdds worker.seat.who (A.seen access) (A.seen result.access)) }
-    ensures leaves { IfOk result.answer (λ l. Leaves (Within A.Law.may counts.now) A.Law.floor A.Law.shelf (node_of worker.seat (A.seen access)) (node_of result.part.seat (A.seen result.access)) l) }
+    ensures leaves { IfOk result.answer (λ l. Leaves (OwnWithin worker.seat.who A.Law.may counts.now) A.Law.floor A.Law.shelf (node_of worker.seat (A.seen access)) (node_of result.part.seat (A.seen result.access)) l) }
 {
     own_line(access, worker, LeaveLine { alloc, number }, counts)
 }
@@ -273,7 +277,10 @@ impl OwnLine for TrimLine {
 
     ghost can = { λ may floor line node. MayAskTrim may floor line.number node };
 
-    ghost adds = { λ line old new x. TrimAdds old.seen new.seen };
+    // What those beside report or ask to be trimmed needn't be clean by the rules, and so nor need be what they let be trimmed.
+    ghost alone = { Unit {0} };
+
+    ghost adds = { λ line old new x. TrimAdds old.who old.seen new.seen };
 
     ghost did = { λ may floor shelf line old new x. TrimsLog may floor shelf old new x };
 
@@ -349,8 +356,8 @@ pub fn trim_line<A: Access, S: Replica, C: Chooser>(
     ensures left { IsLeft A.Law.may A.Law.floor A.Law.shelf S.state S.spells A.beside ⊥ (A.seen access) worker.seat (A.seen result.access) result.part.seat }
     ensures worker { IfOk result.answer (λ l. WorkerOk A.Law.may A.Law.floor A.Law.shelf S.state S.spells worker.seat.who counts.now (A.seen result.access) result.part.seat result.part.desks.items) }
     ensures high { IfOk result.answer (λ l. TrimsUpTo result.part.seat.node.replica.cursor (A.seen result.access)) }
-    ensures adds { IfOk result.answer (λ l. TrimAdds (A.seen access) (A.seen result.access)) }
-    ensures trims { IfOk result.answer (λ l. TrimsLog (Within A.Law.may counts.now) A.Law.floor A.Law.shelf (node_of worker.seat (A.seen access)) (node_of result.part.seat (A.seen result.access)) l) }
+    ensures adds { IfOk result.answer (λ l. TrimAdds worker.seat.who (A.seen access) (A.seen result.access)) }
+    ensures trims { IfOk result.answer (λ l. TrimsLog (OwnWithin worker.seat.who A.Law.may counts.now) A.Law.floor A.Law.shelf (node_of worker.seat (A.seen access)) (node_of result.part.seat (A.seen result.access)) l) }
 {
     own_line(access, worker, TrimLine { alloc, number }, counts)
 }

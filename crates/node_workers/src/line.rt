@@ -8,7 +8,7 @@ ghost use Rattle.base_engine.specs.Node.{NodeView};
 ghost use Rattle.turn_scopes.specs.Alone.{IsAlone};
 ghost use Rattle.turn_scopes.specs.Seats.{SeatOk, node_of};
 ghost use Rattle.node_lines.specs.Moving.{CanPack};
-ghost use Rattle.node_lines.specs.Workers.{WorkerOk, MayRun, Within, Sends};
+ghost use Rattle.node_lines.specs.Workers.{WorkerOk, MayRun, OwnWithin, Sends, KeepsBeside};
 ghost use Rattle.node_lines.specs.Steps.{IsLeft, IsDone};
 ghost use Rattle.node_workers.specs.Lines.{MovesOn};
 
@@ -33,6 +33,9 @@ pub trait OwnLine {
     /// Whether it begins a Seal.
     ghost seals: { Type 0 } = { ⊥ };
 
+    /// Whether nobody may be beside.
+    ghost alone: { Type 0 } = { ⊥ };
+
     /// What it added to the journal.
     ghost adds: { Self → NodeView → NodeView → Self.Answer → Type 0 };
 
@@ -51,18 +54,19 @@ pub trait OwnLine {
     ) -> Back<A, Seat<S, C>, Self::Answer>
         requires run { MayRun A.Law.may A.Law.floor A.Law.shelf }
         requires who { seat.who ≡ A.who access }
-        requires alone { IsAlone (A.beside (A.who access)) }
+        requires alone { alone → IsAlone (A.beside seat.who) }
+        requires keeps { KeepsBeside A.beside A.Law.floor seat (A.seen access) }
         requires state { reads → (log : List Entry) (m : SpaceMap) → S.state log m → IsStateOf log m }
-        requires seat { SeatOk (Sends A.Law.may counts.now (A.seen access)) A.Law.floor A.Law.shelf S.state S.spells (A.seen access) seat }
+        requires seat { SeatOk (Sends seat.who A.Law.may counts.now (A.seen access)) A.Law.floor A.Law.shelf S.state S.spells (A.seen access) seat }
         requires high { TrimsUpTo seat.node.replica.cursor (A.seen access) }
         requires kept { CanPack seat.node.replica.kept }
         requires origin { seat.node.replica.origin ≡ seat.who }
         requires can { can A.Law.may A.Law.floor self (node_of seat (A.seen access)) }
         ensures who { A.who result.access ≡ A.who access }
         ensures left { IsLeft A.Law.may A.Law.floor A.Law.shelf S.state S.spells A.beside seals (A.seen access) seat (A.seen result.access) result.part }
-        ensures done { OnOk result.answer (IsDone A.Law.may A.Law.floor A.Law.shelf S.state S.spells counts.now (A.seen result.access) result.part) }
+        ensures done { OnOk result.answer (IsDone A.Law.may A.Law.floor A.Law.shelf S.state S.spells A.beside counts.now (A.seen result.access) result.part) }
         ensures adds { IfOk result.answer (adds self (node_of seat (A.seen access)) (node_of result.part (A.seen result.access))) }
-        ensures did { IfOk result.answer (did (Within A.Law.may counts.now) A.Law.floor A.Law.shelf self (node_of seat (A.seen access)) (node_of result.part (A.seen result.access))) };
+        ensures did { IfOk result.answer (did (OwnWithin seat.who A.Law.may counts.now) A.Law.floor A.Law.shelf self (node_of seat (A.seen access)) (node_of result.part (A.seen result.access))) };
 }
 
 /// A worker does a line of its node's own.
@@ -74,7 +78,8 @@ pub fn own_line<A: Access, S: Replica, C: Chooser, Y: OwnLine>(
 ) -> Back<A, Worker<S, C>, Y::Answer>
     requires run { MayRun A.Law.may A.Law.floor A.Law.shelf }
     requires who { worker.seat.who ≡ A.who access }
-    requires alone { IsAlone (A.beside (A.who access)) }
+    requires alone { Y.alone → IsAlone (A.beside worker.seat.who) }
+    requires keeps { KeepsBeside A.beside A.Law.floor worker.seat (A.seen access) }
     requires state { Y.reads → (log : List Entry) (m : SpaceMap) → S.state log m → IsStateOf log m }
     requires worker { WorkerOk A.Law.may A.Law.floor A.Law.shelf S.state S.spells worker.seat.who counts.now (A.seen access) worker.seat worker.desks.items }
     requires high { TrimsUpTo worker.seat.node.replica.cursor (A.seen access) }
@@ -84,8 +89,9 @@ pub fn own_line<A: Access, S: Replica, C: Chooser, Y: OwnLine>(
     ensures left { IsLeft A.Law.may A.Law.floor A.Law.shelf S.state S.spells A.beside Y.seals (A.seen access) worker.seat (A.seen result.access) result.part.seat }
     ensures worker { OnOk result.answer (WorkerOk A.Law.may A.Law.floor A.Law.shelf S.state S.spells worker.seat.who counts.now (A.seen result.access) result.part.seat result.part.desks.items) }
     ensures high { OnOk result.answer (TrimsUpTo result.part.seat.node.replica.cursor (A.seen result.access)) }
+    ensures keeps { OnOk result.answer (KeepsBeside A.beside A.Law.floor result.part.seat (A.seen result.access)) }
     ensures adds { IfOk result.answer (Y.adds line (node_of worker.seat (A.seen access)) (node_of result.part.seat (A.seen result.access))) }
-    ensures did { IfOk result.answer (Y.did (Within A.Law.may counts.now) A.Law.floor A.Law.shelf line (node_of worker.seat (A.seen access)) (node_of result.part.seat (A.seen result.access))) }
+    ensures did { IfOk result.answer (Y.did (OwnWithin worker.seat.who A.Law.may counts.now) A.Law.floor A.Law.shelf line (node_of worker.seat (A.seen access)) (node_of result.part.seat (A.seen result.access))) }
 {
     let Worker { seat, desks } = worker;
     let Back {

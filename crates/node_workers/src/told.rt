@@ -1,11 +1,12 @@
 //! A node tells the log something of no session, in a turn.
-ghost use Rattle.std.specs.Prelude.{◌≡◌, ◌⊎◌, [], ◌∷◌, IfOk, OnOk};
-ghost use Rattle.journal_laws.specs.Changes.{TrimsUpTo, Adds};
+ghost use Rattle.std.specs.Prelude.{◌≡◌, ◌⊎◌, ℕ, [], ◌∷◌, Some, IfOk, OnOk};
+ghost use Rattle.journal_laws.specs.Changes.{TrimsUpTo};
+ghost use Rattle.engine_api.specs.declared.content.Content.{Content};
+ghost use Rattle.engine_api.specs.Items.{content_of};
 ghost use Rattle.engine_api.specs.Packing.{packed};
-ghost use Rattle.turn_scopes.specs.Alone.{IsAlone};
 ghost use Rattle.turn_scopes.specs.Seats.{SeatOk, node_of};
 ghost use Rattle.node_lines.specs.Reporting.{Tells};
-ghost use Rattle.node_lines.specs.Workers.{MayRun, Within, Sends, IsOfSessions};
+ghost use Rattle.node_lines.specs.Workers.{MayRun, OwnWithin, Sends, OwnAdds, KeepsBeside, TellsLow, IsOfSessions};
 ghost use Rattle.node_lines.specs.Steps.{IsLeft, IsDone, TellsAndPlays};
 ghost use Rattle.node_workers.specs.Lines.{comes_to};
 ghost use Rattle.node_workers.specs.Telling.{MayTell};
@@ -24,7 +25,8 @@ use std::marker::Brand;
 use turn_scopes::access::Access;
 use turn_scopes::seat::Seat;
 
-/// An entry of an item of no session is appended. Its scope alone lets that entry be appended too.
+/// An entry of an item of no session is appended. Its scope alone lets that entry be appended too. If anybody is beside, the item is no
+/// leave, and reports no position above where the node is: so the node keeps the log.
 pub fn tell<A: Access, S: Replica, C: Chooser>(
     access: A,
     seat: Seat<S, C>,
@@ -33,22 +35,22 @@ pub fn tell<A: Access, S: Replica, C: Chooser>(
 ) -> Back<A, Seat<S, C>, Option<Cause>>
     requires run { MayRun A.Law.may A.Law.floor A.Law.shelf }
     requires who { seat.who ≡ A.who access }
-    requires alone { IsAlone (A.beside (A.who access)) }
-    requires seat { SeatOk (Sends A.Law.may counts.now (A.seen access)) A.Law.floor A.Law.shelf S.state S.spells (A.seen access) seat }
+    requires keeps { KeepsBeside A.beside A.Law.floor seat (A.seen access) }
+    requires seat { SeatOk (Sends seat.who A.Law.may counts.now (A.seen access)) A.Law.floor A.Law.shelf S.state S.spells (A.seen access) seat }
     requires high { TrimsUpTo seat.node.replica.cursor (A.seen access) }
-    requires can { MayTell (Within A.Law.may counts.now) item (node_of seat (A.seen access)) }
+    requires can { MayTell (OwnWithin seat.who A.Law.may counts.now) item (node_of seat (A.seen access)) }
+    requires low { (user : ℕ) → A.beside seat.who user → (c : Content) → content_of item ≡ Some c → TellsLow seat.node.replica.cursor c }
     ensures who { A.who result.access ≡ A.who access }
     ensures sits { result.part.who ≡ A.who result.access }
     ensures left { IsLeft A.Law.may A.Law.floor A.Law.shelf S.state S.spells A.beside ⊥ (A.seen access) seat (A.seen result.access) result.part }
-    ensures done { OnOk result.answer (IsDone A.Law.may A.Law.floor A.Law.shelf S.state S.spells counts.now (A.seen result.access) result.part) }
-    ensures adds { OnOk result.answer (Adds (λ e. IsOfSessions e ⊎ (e ≡ packed seat.node.replica.origin (item ∷ []))) (A.seen access) (A.seen result.access)) }
-    ensures did { IfOk result.answer (Tells (Within A.Law.may counts.now) A.Law.floor A.Law.shelf (node_of seat (A.seen access)) (node_of result.part (A.seen result.access)) item) }
+    ensures done { OnOk result.answer (IsDone A.Law.may A.Law.floor A.Law.shelf S.state S.spells A.beside counts.now (A.seen result.access) result.part) }
+    ensures adds { OnOk result.answer (OwnAdds seat.who (λ e. IsOfSessions e ⊎ (e ≡ packed seat.node.replica.origin (item ∷ []))) (A.seen access) (A.seen result.access)) }
+    ensures did { IfOk result.answer (Tells (OwnWithin seat.who A.Law.may counts.now) A.Law.floor A.Law.shelf (node_of seat (A.seen access)) (node_of result.part (A.seen result.access)) item) }
 {
     within::<A, Brand, S, C, Tell>(access, seat, Tell { item }, &mut (), counts)
 }
 
 /// An entry of an item of no session is appended, and the log is played as far as it is known.
-#[tactic(auto, using(turn_scopes::proofs::Alone::alone_still))]
 pub fn tell_and_play<A: Access, S: Replica, C: Chooser>(
     access: A,
     seat: Seat<S, C>,
@@ -57,16 +59,17 @@ pub fn tell_and_play<A: Access, S: Replica, C: Chooser>(
 ) -> Back<A, Seat<S, C>, Option<Cause>>
     requires run { MayRun A.Law.may A.Law.floor A.Law.shelf }
     requires who { seat.who ≡ A.who access }
-    requires alone { IsAlone (A.beside (A.who access)) }
-    requires seat { SeatOk (Sends A.Law.may counts.now (A.seen access)) A.Law.floor A.Law.shelf S.state S.spells (A.seen access) seat }
+    requires keeps { KeepsBeside A.beside A.Law.floor seat (A.seen access) }
+    requires seat { SeatOk (Sends seat.who A.Law.may counts.now (A.seen access)) A.Law.floor A.Law.shelf S.state S.spells (A.seen access) seat }
     requires high { TrimsUpTo seat.node.replica.cursor (A.seen access) }
-    requires can { MayTell (Within A.Law.may counts.now) item (node_of seat (A.seen access)) }
+    requires can { MayTell (OwnWithin seat.who A.Law.may counts.now) item (node_of seat (A.seen access)) }
+    requires low { (user : ℕ) → A.beside seat.who user → (c : Content) → content_of item ≡ Some c → TellsLow seat.node.replica.cursor c }
     ensures who { A.who result.access ≡ A.who access }
     ensures sits { result.part.who ≡ A.who result.access }
     ensures left { IsLeft A.Law.may A.Law.floor A.Law.shelf S.state S.spells A.beside ⊥ (A.seen access) seat (A.seen result.access) result.part }
-    ensures done { OnOk result.answer (IsDone A.Law.may A.Law.floor A.Law.shelf S.state S.spells counts.now (A.seen result.access) result.part) }
-    ensures adds { OnOk result.answer (Adds (λ e. IsOfSessions e ⊎ (e ≡ packed seat.node.replica.origin (item ∷ []))) (A.seen access) (A.seen result.access)) }
-    ensures did { IfOk result.answer (TellsAndPlays (Within A.Law.may counts.now) A.Law.floor A.Law.shelf (node_of seat (A.seen access)) (node_of result.part (A.seen result.access)) item) }
+    ensures done { OnOk result.answer (IsDone A.Law.may A.Law.floor A.Law.shelf S.state S.spells A.beside counts.now (A.seen result.access) result.part) }
+    ensures adds { OnOk result.answer (OwnAdds seat.who (λ e. IsOfSessions e ⊎ (e ≡ packed seat.node.replica.origin (item ∷ []))) (A.seen access) (A.seen result.access)) }
+    ensures did { IfOk result.answer (TellsAndPlays (OwnWithin seat.who A.Law.may counts.now) A.Law.floor A.Law.shelf (node_of seat (A.seen access)) (node_of result.part (A.seen result.access)) item) }
 {
     let Back {
         part: seat,

@@ -2,13 +2,13 @@
 ghost use Rattle.std.specs.Prelude.{◌≡◌, ◌≤◌, ℕ, List, length, IfOk, OnOk};
 ghost use Rattle.delos_types.specs.Spaces.{SpaceMap};
 ghost use Rattle.delos_types.specs.declared.entry.Entry.{Entry};
-ghost use Rattle.journal_laws.specs.Changes.{TrimsUpTo, Adds};
+ghost use Rattle.journal_laws.specs.Changes.{TrimsUpTo};
 ghost use Rattle.log_laws.specs.State.{IsStateOf};
-ghost use Rattle.turn_scopes.specs.Alone.{IsAlone};
 ghost use Rattle.turn_scopes.specs.Beside.{Since, SealsByRight, Narrows};
 ghost use Rattle.turn_scopes.specs.Seats.{SeatOk, node_of};
+ghost use Rattle.turn_scopes.specs.Telling.{UpTo};
 ghost use Rattle.node_lines.specs.Desks.{KeepsFrom};
-ghost use Rattle.node_lines.specs.Workers.{MayRun, Within, Sends, UpTo, IsOfSessions};
+ghost use Rattle.node_lines.specs.Workers.{MayRun, OwnWithin, Sends, OwnAdds, KeepsBeside, IsOfSessions};
 ghost use Rattle.node_lines.specs.Steps.{IsLeft, IsDone};
 
 use crate::back::Back;
@@ -56,8 +56,9 @@ pub fn within<A: Access, Q: Scope, S: Replica, C: Chooser, X: NodeStep>(
     }
 }
 
-/// The step is done in a turn, by the rules of a run: no rank of a session is appended above those that were sent, no entry that says
-/// more than commands of sessions, and the log isn't trimmed above where the node was.
+/// The step is done in a turn, by the rules of a run: the node appends no rank of a session above those that were sent, and no entry that
+/// says more than commands of sessions; and the log isn't trimmed above where the node was, which others can't do as long as the node
+/// keeps it.
 pub fn in_turn<A: Access, S: Replica, C: Chooser, X: NodeStep>(
     access: A,
     seat: Seat<S, C>,
@@ -68,19 +69,19 @@ pub fn in_turn<A: Access, S: Replica, C: Chooser, X: NodeStep>(
     requires run { MayRun A.Law.may A.Law.floor A.Law.shelf }
     requires state { X.reads → (log : List Entry) (m : SpaceMap) → S.state log m → IsStateOf log m }
     requires who { seat.who ≡ A.who access }
-    requires alone { IsAlone (A.beside (A.who access)) }
-    requires seat { SeatOk (Sends A.Law.may counts.now (A.seen access)) A.Law.floor A.Law.shelf S.state S.spells (A.seen access) seat }
+    requires keeps { KeepsBeside A.beside A.Law.floor seat (A.seen access) }
+    requires seat { SeatOk (Sends seat.who A.Law.may counts.now (A.seen access)) A.Law.floor A.Law.shelf S.state S.spells (A.seen access) seat }
     requires high { TrimsUpTo seat.node.replica.cursor (A.seen access) }
-    requires can { X.can (Sends A.Law.may counts.now (A.seen access)) (UpTo A.Law.floor seat.node.replica.cursor) step on.old (node_of seat (A.seen access)) }
+    requires can { X.can (Sends seat.who A.Law.may counts.now (A.seen access)) (UpTo A.Law.floor seat.node.replica.cursor) step on.old (node_of seat (A.seen access)) }
     ensures who { A.who result.access ≡ A.who access }
     ensures sits { result.part.who ≡ A.who result.access }
     ensures left { IsLeft A.Law.may A.Law.floor A.Law.shelf S.state S.spells A.beside (X.seals seat.who) (A.seen access) seat (A.seen result.access) result.part }
 
     // Nothing is trimmed above where the node was before.
     ensures low { TrimsUpTo seat.node.replica.cursor (A.seen result.access) }
-    ensures done { OnOk result.answer (IsDone A.Law.may A.Law.floor A.Law.shelf S.state S.spells counts.now (A.seen result.access) result.part) }
-    ensures adds { OnOk result.answer (Adds IsOfSessions (A.seen access) (A.seen result.access)) }
-    ensures did { IfOk result.answer (X.did (Within A.Law.may counts.now) A.Law.floor A.Law.shelf step on.old on.new (node_of seat (A.seen access)) (node_of result.part (A.seen result.access))) }
+    ensures done { OnOk result.answer (IsDone A.Law.may A.Law.floor A.Law.shelf S.state S.spells A.beside counts.now (A.seen result.access) result.part) }
+    ensures adds { OnOk result.answer (OwnAdds seat.who IsOfSessions (A.seen access) (A.seen result.access)) }
+    ensures did { IfOk result.answer (X.did (OwnWithin seat.who A.Law.may counts.now) A.Law.floor A.Law.shelf step on.old on.new (node_of seat (A.seen access)) (node_of result.part (A.seen result.access))) }
 {
     within::<A, Brand, S, C, X>(access, seat, step, on, counts)
 }

@@ -9,7 +9,6 @@ use Rattle.delos_types.specs.declared.entry.Entry.{Entry}
 use Rattle.legal_journal.specs.declared.events.Event.{Event}
 use Rattle.legal_journal.specs.Journal.{IsLegal}
 use Rattle.legal_journal.specs.Sealing.{Unsealed}
-use Rattle.journal_laws.specs.Changes.{Adds}
 use Rattle.engine_steps.specs.Layout.{has_left_in}
 use Rattle.log_laws.specs.State.{IsStateOf}
 use Rattle.base_engine.specs.Node.{NodeView}
@@ -21,7 +20,8 @@ use Rattle.turn_scopes.specs.Seats.{SeatView, SeatOk, node_of}
 use Rattle.node_lines.specs.declared.desk.Desk.{Desk}
 use Rattle.node_lines.specs.declared.lines.Looked.{Looked}
 use Rattle.node_lines.specs.Moving.{Moves}
-use Rattle.node_lines.specs.Workers.{Within, WorkerOk, IsOfSessions}
+use Rattle.node_lines.specs.Workers.{OwnAdds, OwnWithin, WorkerOk, IsOfSessions}
+use Rattle.node_lines.proofs.Own.{all_adds}
 use Rattle.run_course.specs.Script.{AreLines}
 use Rattle.run_course.specs.Course.{CourseOk}
 use Rattle.run_course.specs.Workers.{Rests, NodeFinished}
@@ -59,7 +59,7 @@ module _ {A : Type 0} (may : ℕ → Entry → Type 0) (floor : List Entry → �
       let ok = (h.each k w at).worker.ok in
       subst (λ n. WorkerOk may floor shelf state spells n counts journal (seat w) (desks w)) (sym ok.who_is) (subst (λ i. WorkerOk may floor shelf state spells (k + 1) counts i (seat w) (desks w)) h.journal_is ok)
 
-  module _ (k : ℕ) (journal' : List Event) (w w' : A) (at : slice_get workers k ≡ Some w) (since : OwnSince (seat w).who journal journal') (still : Unsealed journal journal') (adds : Adds IsOfSessions journal journal') (moves : Moves (Within may counts) floor shelf (node_of (seat w) journal) (node_of (seat w') journal') []) (same : (seat w').node.outbox ≡ (seat w).node.outbox) (now : WorkerOk may floor shelf state spells (seat w).who counts journal' (seat w') (desks w')) (kept : desks w' ≡ desks w) where
+  module _ (k : ℕ) (journal' : List Event) (w w' : A) (at : slice_get workers k ≡ Some w) (since : OwnSince (seat w).who journal journal') (still : Unsealed journal journal') (adds : OwnAdds (seat w).who IsOfSessions journal journal') (moves : Moves (OwnWithin (seat w).who may counts) floor shelf (node_of (seat w) journal) (node_of (seat w') journal') []) (same : (seat w').node.outbox ≡ (seat w).node.outbox) (now : WorkerOk may floor shelf state spells (seat w).who counts journal' (seat w') (desks w')) (kept : desks w' ≡ desks w) where
     who : (seat w).who ≡ k + 1
     who = (h.each k w at).worker.ok.who_is
 
@@ -74,8 +74,9 @@ module _ {A : Type 0} (may : ℕ → Entry → Type 0) (floor : List Entry → �
         node_finished may floor shelf state spells lines h.home (length workers) h.course counts looks (k + 1) from phase (seat w) (seat w') (desks w) journal' (omega arith) there h.begins low h.ok (h.each k w at)
         (subst (λ n. OwnSince n h.course.journal journal') who (subst (λ i. OwnSince (seat w).who i journal') (sym h.journal_is) since))
         (subst (λ i. Unsealed i journal') (sym h.journal_is) still)
-        (subst (λ i. Adds IsOfSessions i journal') (sym h.journal_is) adds)
-        (subst (λ i. Moves (Within may counts) floor shelf (node_of (seat w) i) (node_of (seat w') journal') []) (sym h.journal_is) moves) same
+        (subst (λ n. OwnAdds n IsOfSessions h.course.journal journal') who (subst (λ i. OwnAdds (seat w).who IsOfSessions i journal') (sym h.journal_is) adds))
+        (subst (λ n. Moves (OwnWithin n may counts) floor shelf (node_of (seat w) h.course.journal) (node_of (seat w') journal') []) who
+        (subst (λ i. Moves (OwnWithin (seat w).who may counts) floor shelf (node_of (seat w) i) (node_of (seat w') journal') []) (sym h.journal_is) moves)) same
         (subst (λ n. WorkerOk may floor shelf state spells n counts journal' (seat w') (desks w)) who (subst (WorkerOk may floor shelf state spells (seat w).who counts journal' (seat w')) kept now))
 
     size : length (slice_set workers k w') ≡ length workers
@@ -94,7 +95,7 @@ module _ {A : Type 0} (may : ℕ → Entry → Type 0) (floor : List Entry → �
       ok = subst (λ n. CourseOk may floor shelf lines n done.course counts looks) (sym size) done.ok;
       long = h.long;
       each = λ j x is. subst (λ n. Rests may floor shelf state spells lines h.home n done.course counts looks (j + 1) from phase (seat x) (desks x)) (sym size) (by j x (changed workers k j w w' x at is));
-      sees = finish_sees seat workers k w w' at may floor shelf state spells lines desks from phase journal journal' counts looks done.course h over rule led done.journal_is done.ok legal since adds moves.goes.keeps.forward moves.goes.keeps.counts does;
+      sees = finish_sees seat workers k w w' at may floor shelf state spells lines desks from phase journal journal' counts looks done.course h over rule led done.journal_is done.ok legal since (all_adds (seat w).who IsOfSessions journal journal' since adds) moves.goes.keeps.forward moves.goes.keeps.counts does;
     }
       where
         by : (j : ℕ) (x : A) → ((j ≡ k) × (w' ≡ x)) ⊎ ((j ≢ k) × (slice_get workers j ≡ Some x)) → Rests may floor shelf state spells lines h.home (length workers) done.course counts looks (j + 1) from phase (seat x) (desks x)

@@ -36,11 +36,11 @@ use Rattle.node_lines.specs.declared.desk.Desk.{Desk}
 use Rattle.node_lines.specs.declared.lines.Looked.{Looked}
 use Rattle.node_lines.specs.declared.lines.Looked.TheVariants as looked
 use Rattle.node_lines.specs.Moving.{is_store}
-use Rattle.node_lines.specs.Workers.{HasNotLeft, IsCommand, IsOfSessions, Sends, Within}
+use Rattle.node_lines.specs.Workers.{HasNotLeft, IsCommand, IsOfSessions, ReportsUpTo, Sends, Within}
 use Rattle.run_laws.specs.Ended.{pays}
 use Rattle.run_laws.proofs.Members.{among-get, contains-among}
 use Rattle.run_course.specs.Script.{failure_of_look, failed_looks}
-use Rattle.run_course.specs.Telling.{AreTold, AskedFor, ReportsUpTo, ToldSo}
+use Rattle.run_course.specs.Telling.{AreTold, AskedFor, ToldSo}
 use Rattle.run_course.specs.Leaving.{IsLeave, LeftSo}
 use Rattle.run_course.specs.Desks.{IsOfNode, PlayedSo}
 use Rattle.run_course.specs.Course.{Course, CourseOk}
@@ -127,7 +127,7 @@ module _ (may : ℕ → Entry → Type 0) (floor : List Entry → ℕ → Type 0
         by (looked.Failed k) look own left = none_failed k a.at a.line a.is a.node_is look
         by (looked.Extended x) look own left = own
         by (looked.Reported position) look own left = own
-        by looked.Left look own left = apart (sym (tells_left (Sends may counts c.journal) floor shelf state spells led c.journal seat n r.worker.ok.ok left) ∙ stays)
+        by looked.Left look own left = apart (sym (tells_left (Sends n may counts c.journal) floor shelf state spells led c.journal seat n r.worker.ok.ok left) ∙ stays)
         by (looked.Trimmed trim) look own left = own
 
     -- so its leave isn't in the log

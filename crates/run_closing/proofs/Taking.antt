@@ -4,6 +4,7 @@ use Rattle.std.specs.Prelude.{All, slice_get, slice_set}
 use Rattle.std.specs.List.{AllByRecursion}
 use Rattle.std.proofs.lemmas.Bool.{cases_lt}
 use Rattle.std.proofs.lemmas.List.{length-set}
+use Rattle.std.proofs.lemmas.List.Elements.{All-weaker}
 use Rattle.std.proofs.lemmas.Option.{slice_get_within}
 use Rattle.fabric_core.proofs.Marks.{set_other, set_same}
 use Rattle.delos_types.specs.Spaces.{SpaceMap}
@@ -14,7 +15,8 @@ use Rattle.virtual_log.specs.Holding.{Holds}
 use Rattle.replica_api.specs.Replica.{Saved, saved_in}
 use Rattle.base_engine.specs.Reading.{IsFront}
 use Rattle.base_engine.specs.Following.{IsStateAt}
-use Rattle.base_engine.specs.Node.{NodeView}
+use Rattle.base_engine.specs.Node.{NodeView, NodeOk}
+use Rattle.base_engine.specs.Settling.{MaySend}
 use Rattle.base_engine.specs.declared.outbox.Given.{Given}
 use Rattle.script_text.specs.declared.asks.NamedLine.{NamedLine}
 use Rattle.turn_scopes.specs.Seats.{SeatView, SeatOk, node_of}
@@ -23,11 +25,10 @@ use Rattle.node_lines.specs.Answered.{AreAllAnswers}
 use Rattle.node_lines.specs.declared.lines.Looked.{Looked}
 use Rattle.node_lines.specs.Moving.{CanPack, IsQuiet}
 use Rattle.node_lines.specs.Desks.{DesksOk}
-use Rattle.node_lines.specs.Workers.{IsOfSession, Sends, Within, WorkerOk}
+use Rattle.node_lines.specs.Workers.{IsOfSession, ReportsUpTo, Sends, Within, WorkerOk}
 use Rattle.node_lines.proofs.Scoping.{seat_allowed}
 use Rattle.node_lines.proofs.Bounding.{answers_stay}
 use Rattle.run_laws.specs.Ended.{CameTo}
-use Rattle.run_course.specs.Telling.{ReportsUpTo}
 use Rattle.run_course.specs.Script.{AreLines}
 use Rattle.run_course.specs.Course.{Course, CourseOk}
 use Rattle.run_course.specs.Desks.{PlayedSo}
@@ -42,7 +43,7 @@ use Rattle.run_closing.proofs.Putting.{some_at, same_some}
 
 -- a node that has slept meanwhile, and is the same
 pub rests_same : (may : ℕ → Entry → Type 0) (floor : List Entry → ℕ → Type 0) (shelf : List ℕ) (state : List Entry → SpaceMap → Type 0) (spells : List ℕ → Saved → Type 0) (lines : List NamedLine) (home : ℕ → ℕ) (nodes : ℕ) (c : Course) (counts : List ℕ) (looks : List (Option Looked)) (n from done : ℕ) (seat seat' : SeatView) (desks : List Desk)
-    → node_of seat' c.journal ≡ node_of seat c.journal → SeatOk (Sends may counts c.journal) floor shelf state spells c.journal seat'
+    → node_of seat' c.journal ≡ node_of seat c.journal → SeatOk (Sends n may counts c.journal) floor shelf state spells c.journal seat'
     → Rests may floor shelf state spells lines home nodes c counts looks n from done seat desks → Rests may floor shelf state spells lines home nodes c counts looks n from done seat' desks
 rests_same may floor shelf state spells lines home nodes c counts looks n from done seat seat' desks same ok r = record {
   worker = record {
@@ -55,6 +56,7 @@ rests_same may floor shelf state spells lines home nodes c counts looks n from d
       size = r.worker.ok.size;
       each = subst (λ (x : NodeView). DesksOk x desks) (sym same) r.worker.ok.each;
       counted = r.worker.ok.counted;
+      home = r.worker.ok.home;
     };
     nodes_is = ap (λ (x : NodeView). x.nodes) same ∙ r.worker.nodes_is;
     order = r.worker.order;
@@ -72,7 +74,7 @@ rests_same may floor shelf state spells lines home nodes c counts looks n from d
 -- Worker j before and after answers were taken at the desks of worker k: the same node, with the same desks where it is another.
 pub record Turned {A : Type 0} (may : ℕ → Entry → Type 0) (floor : List Entry → ℕ → Type 0) (shelf : List ℕ) (state : List Entry → SpaceMap → Type 0) (spells : List ℕ → Saved → Type 0) (journal : List Event) (counts : List ℕ) (seat : A → SeatView) (desks : A → List Desk) (k j : ℕ) (w w' : A) : Type 0 where
   pub same : node_of (seat w') journal ≡ node_of (seat w) journal
-  pub ok : SeatOk (Sends may counts journal) floor shelf state spells journal (seat w')
+  pub ok : SeatOk (Sends (j + 1) may counts journal) floor shelf state spells journal (seat w')
   pub kept : j ≢ k → desks w' ≡ desks w
 
 module _ {A : Type 0} (may : ℕ → Entry → Type 0) (floor : List Entry → ℕ → Type 0) (shelf : List ℕ) (state : List Entry → SpaceMap → Type 0) (spells : List ℕ → Saved → Type 0) (lines : List NamedLine) (seat : A → SeatView) (desks : A → List Desk) (workers : List A) (journal : List Event) (counts : List ℕ) (looks : List (Option Looked)) where
@@ -119,11 +121,31 @@ module _ {A : Type 0} (may : ℕ → Entry → Type 0) (floor : List Entry → �
         by (inl low) = let t = h.taken j w low at in (t.was, t.rests)
         by (inr high) = (desks w, (h.waits j w high at).rests)
 
-    pub sends_ok : (j : ℕ) (w : A) → slice_get workers j ≡ Some w → SeatOk (Sends may counts journal) floor shelf state spells journal (seat w)
-    sends_ok j w at = subst (λ i. SeatOk (Sends may counts i) floor shelf state spells i (seat w)) h.journal_is (rest_of j w at).1.worker.ok.ok
+    sends_ok : (j : ℕ) (w : A) → slice_get workers j ≡ Some w → SeatOk (Sends (j + 1) may counts journal) floor shelf state spells journal (seat w)
+    sends_ok j w at = subst (λ i. SeatOk (Sends (j + 1) may counts i) floor shelf state spells i (seat w)) h.journal_is (rest_of j w at).1.worker.ok.ok
+
+    -- so it can take the fabric where nobody's ranks are above those that were sent
+    pub bound_ok : (j : ℕ) (w : A) → slice_get workers j ≡ Some w → SeatOk (Within may counts) floor shelf state spells journal (seat w)
+    bound_ok j w at =
+        let ok = sends_ok j w at in
+        let who = (rest_of j w at).1.worker.ok.who_is in
+        record {
+          shelf_is = ok.shelf_is;
+          goes_by = ok.goes_by;
+          node = record {
+            eight = ok.node.eight;
+            legal = subst (IsLegal (Within may counts) floor shelf) h.journal_is h.ok.legal;
+            follows = ok.node.follows;
+            bounded = ok.node.bounded;
+            own = All-weaker (λ e. MaySend (Sends (j + 1) may counts journal) (seat w).who e) (λ e. MaySend (Within may counts) (seat w).who e)
+                (λ e k. record { allowed = (k.allowed.0.0, k.allowed.0.1 who); spelled = k.spelled }) (seat w).node.outbox.entries ok.node.own;
+            few = ok.node.few;
+            waiting = λ some. let k = ok.node.waiting some in (k.0.0, k.0.1 who);
+          };
+        }
 
     pub takes_stand : CrewStands may floor shelf state spells journal seat workers
-    takes_stand j w at = seat_allowed may floor shelf counts state spells journal (seat w) (sends_ok j w at)
+    takes_stand j w at = seat_allowed may floor shelf (j + 1) counts state spells journal (seat w) (sends_ok j w at)
 
     -- the next node's desks can be answered by the one that has played most
     pub can_take : (b w : A) → slice_get workers node ≡ Some b → slice_get workers k ≡ Some w → CanTakeAll (Within may counts) (node_of (seat b) journal) (desks w)
@@ -148,13 +170,13 @@ module _ {A : Type 0} (may : ℕ → Entry → Type 0) (floor : List Entry → �
     -- Answers were taken at worker k.
     module _ (workers' : List A) (long : length workers' ≡ length workers) (turned : (j : ℕ) (w' : A) → slice_get workers' j ≡ Some w' → (w : A) × (slice_get workers j ≡ Some w) × Turned may floor shelf state spells journal counts seat desks k j w w') where
       pub stands_then : CrewStands may floor shelf state spells journal seat workers'
-      stands_then j w' at = seat_allowed may floor shelf counts state spells journal (seat w') (turned j w' at).2.ok
+      stands_then j w' at = seat_allowed may floor shelf (j + 1) counts state spells journal (seat w') (turned j w' at).2.ok
 
       rests_then : (j : ℕ) (w w' : A) (ds : List Desk) → Turned may floor shelf state spells journal counts seat desks k j w w' → Rests may floor shelf state spells lines h.home (length workers) h.course counts looks (j + 1) (length lines) h.course.phase (seat w) ds
           → Rests may floor shelf state spells lines h.home (length workers) h.course counts looks (j + 1) (length lines) h.course.phase (seat w') ds
       rests_then j w w' ds t r =
           rests_same may floor shelf state spells lines h.home (length workers) h.course counts looks (j + 1) (length lines) h.course.phase (seat w) (seat w') ds
-          (subst (λ i. node_of (seat w') i ≡ node_of (seat w) i) (sym h.journal_is) t.same) (subst (λ i. SeatOk (Sends may counts i) floor shelf state spells i (seat w')) (sym h.journal_is) t.ok) r
+          (subst (λ i. node_of (seat w') i ≡ node_of (seat w) i) (sym h.journal_is) t.same) (subst (λ i. SeatOk (Sends (j + 1) may counts i) floor shelf state spells i (seat w')) (sym h.journal_is) t.ok) r
 
       cursor_same : (j : ℕ) (w w' : A) → Turned may floor shelf state spells journal counts seat desks k j w w' → (seat w').node.replica.cursor ≡ (seat w).node.replica.cursor
       cursor_same j w w' t = ap (λ (x : NodeView). x.replica.cursor) t.same
@@ -237,12 +259,16 @@ module _ {A : Type 0} (may : ℕ → Entry → Type 0) (floor : List Entry → �
               subst (λ n. WaitsToTake may floor shelf state spells lines h.home n h.course counts looks h.log (j + 1) (seat w') (desks w')) (sym long) now;
         }
 
+    -- the same node, which has made no event
+    same_seat : (j : ℕ) (w w' : A) → slice_get workers j ≡ Some w → node_of (seat w') journal ≡ node_of (seat w) journal → SeatOk (Within may counts) floor shelf state spells journal (seat w') → SeatOk (Sends (j + 1) may counts journal) floor shelf state spells journal (seat w')
+    same_seat j w w' at same ok = record { shelf_is = ok.shelf_is; goes_by = ok.goes_by; node = subst (NodeOk (Sends (j + 1) may counts journal) floor shelf Holds state spells) (sym same) (sends_ok j w at).node }
+
     -- where nothing happened to a worker
     untouched : (j : ℕ) (w : A) → slice_get workers j ≡ Some w → Turned may floor shelf state spells journal counts seat desks k j w w
     untouched j w at = record { same = refl; ok = sends_ok j w at; kept = λ other. refl }
 
     -- At the node's own desks.
-    module _ (b y : A) (best : slice_get workers k ≡ Some b) (same : node_of (seat y) journal ≡ node_of (seat b) journal) (ok : SeatOk (Sends may counts journal) floor shelf state spells journal (seat y)) where
+    module _ (b y : A) (best : slice_get workers k ≡ Some b) (same : node_of (seat y) journal ≡ node_of (seat b) journal) (ok : SeatOk (Within may counts) floor shelf state spells journal (seat y)) where
       own_size : length (slice_set workers k y) ≡ length workers
       own_size = length-set workers k y
 
@@ -250,7 +276,9 @@ module _ {A : Type 0} (may : ℕ → Entry → Type 0) (floor : List Entry → �
       own_turned j w' at = by (changed workers k j b y w' best at)
         where
           by : ((j ≡ k) × (y ≡ w')) ⊎ ((j ≢ k) × (slice_get workers j ≡ Some w')) → (w : A) × (slice_get workers j ≡ Some w) × Turned may floor shelf state spells journal counts seat desks k j w w'
-          by (inl here) = (b, ap (slice_get workers) here.0 ∙ best, subst (λ x. Turned may floor shelf state spells journal counts seat desks k j b x) here.1 (record { same = same; ok = ok; kept = λ other. absurd (other here.0) }))
+          by (inl here) =
+              let was = ap (slice_get workers) here.0 ∙ best in
+              (b, was, subst (λ x. Turned may floor shelf state spells journal counts seat desks k j b x) here.1 (record { same = same; ok = same_seat j b y was same ok; kept = λ other. absurd (other here.0) }))
           by (inr other) = (w', other.1, untouched j w' other.1)
 
       pub own_stands : CrewStands may floor shelf state spells journal seat (slice_set workers k y)
@@ -262,7 +290,7 @@ module _ {A : Type 0} (may : ℕ → Entry → Type 0) (floor : List Entry → �
           (subst (λ x. TakesAll (node_of (seat b) journal) (desks b) (desks x)) (same_some y w' (sym (set_same workers k y b best) ∙ at')) t))
 
     -- At another's.
-    module _ (b w y z : A) (apart : node ≢ k) (best : slice_get workers node ≡ Some b) (at : slice_get workers k ≡ Some w) (other : seat y ≡ seat w) (same : node_of (seat z) journal ≡ node_of (seat b) journal) (ok : SeatOk (Sends may counts journal) floor shelf state spells journal (seat z)) (kept : desks z ≡ desks b) where
+    module _ (b w y z : A) (apart : node ≢ k) (best : slice_get workers node ≡ Some b) (at : slice_get workers k ≡ Some w) (other : seat y ≡ seat w) (same : node_of (seat z) journal ≡ node_of (seat b) journal) (ok : SeatOk (Within may counts) floor shelf state spells journal (seat z)) (kept : desks z ≡ desks b) where
       abbrev mid : List A
       mid = slice_set workers k y
 
@@ -281,14 +309,16 @@ module _ {A : Type 0} (may : ℕ → Entry → Type 0) (floor : List Entry → �
             ap (slice_get workers) here.0 ∙ at,
             subst (λ x. Turned may floor shelf state spells journal counts seat desks k j w x) here.1 (record {
               same = ap (λ s. node_of s journal) other;
-              ok = subst (SeatOk (Sends may counts journal) floor shelf state spells journal) (sym other) (sends_ok k w at);
+              ok = subst (SeatOk (Sends (j + 1) may counts journal) floor shelf state spells journal) (sym other) (sends_ok j w (ap (slice_get workers) here.0 ∙ at));
               kept = λ elsewhere. absurd (elsewhere here.0);
             }),
           )
           by_mid (inr elsewhere) = (w', elsewhere.1, untouched j w' elsewhere.1)
 
           by : ((j ≡ node) × (z ≡ w')) ⊎ ((j ≢ node) × (slice_get mid j ≡ Some w')) → (x : A) × (slice_get workers j ≡ Some x) × Turned may floor shelf state spells journal counts seat desks k j x w'
-          by (inl here) = (b, ap (slice_get workers) here.0 ∙ best, subst (λ x. Turned may floor shelf state spells journal counts seat desks k j b x) here.1 (record { same = same; ok = ok; kept = λ elsewhere. kept }))
+          by (inl here) =
+              let was = ap (slice_get workers) here.0 ∙ best in
+              (b, was, subst (λ x. Turned may floor shelf state spells journal counts seat desks k j b x) here.1 (record { same = same; ok = same_seat j b z was same ok; kept = λ elsewhere. kept }))
           by (inr elsewhere) = by_mid (changed workers k j w y w' at elsewhere.1)
 
       pub other_stands : CrewStands may floor shelf state spells journal seat (slice_set mid node z)

@@ -2,13 +2,12 @@
 ghost use Rattle.std.specs.Prelude.{◌≡◌, ◌≤◌, ℕ, List, [], length, IfOk, OnOk};
 ghost use Rattle.delos_types.specs.Spaces.{SpaceMap};
 ghost use Rattle.delos_types.specs.declared.entry.Entry.{Entry};
-ghost use Rattle.journal_laws.specs.Changes.{Adds};
 ghost use Rattle.log_laws.specs.State.{IsStateOf};
 ghost use Rattle.turn_scopes.specs.Alone.{IsAlone};
 ghost use Rattle.turn_scopes.specs.Beside.{Since, SealsByRight, Narrows};
 ghost use Rattle.turn_scopes.specs.Seats.{SeatOk, node_of};
 ghost use Rattle.node_lines.specs.Moving.{Moves};
-ghost use Rattle.node_lines.specs.Workers.{WorkerOk, MayRun, Within, Sends, IsOfSessions};
+ghost use Rattle.node_lines.specs.Workers.{WorkerOk, MayRun, Within, OwnWithin, OwnAdds, IsOfSessions};
 ghost use Rattle.node_lines.specs.Steps.{IsLeft};
 ghost use Rattle.run_closing.specs.Ending.{Finishes};
 ghost use Rattle.run_closing.specs.Collecting.{CanTakeAll, TakesAll};
@@ -78,11 +77,11 @@ pub fn finish_worker<A: Access, S: Replica, C: Chooser>(
     ensures who { A.who result.access ≡ A.who access }
     ensures left { IsLeft A.Law.may A.Law.floor A.Law.shelf S.state S.spells A.beside ⊥ (A.seen access) worker.seat (A.seen result.access) result.part.seat }
     ensures worker { OnOk result.answer (WorkerOk A.Law.may A.Law.floor A.Law.shelf S.state S.spells worker.seat.who counts.now (A.seen result.access) result.part.seat result.part.desks.items) }
-    ensures moves { OnOk result.answer (Moves (Within A.Law.may counts.now) A.Law.floor A.Law.shelf (node_of worker.seat (A.seen access)) (node_of result.part.seat (A.seen result.access)) []) }
+    ensures moves { OnOk result.answer (Moves (OwnWithin worker.seat.who A.Law.may counts.now) A.Law.floor A.Law.shelf (node_of worker.seat (A.seen access)) (node_of result.part.seat (A.seen result.access)) []) }
     ensures plays { OnOk result.answer (Finishes number (node_of worker.seat (A.seen access)) (node_of result.part.seat (A.seen result.access))) }
     ensures outbox { OnOk result.answer (result.part.seat.node.outbox ≡ worker.seat.node.outbox) }
     ensures cursor { IfOk result.answer (λ n. n ≡ result.part.seat.node.replica.cursor) }
-    ensures adds { Adds IsOfSessions (A.seen access) (A.seen result.access) }
+    ensures adds { OwnAdds worker.seat.who IsOfSessions (A.seen access) (A.seen result.access) }
 {
     let Worker { seat, desks } = worker;
     let Back {
@@ -125,7 +124,8 @@ fn take_within<A: Access, Q: Scope, S: Replica, C: Chooser>(
     }
 }
 
-/// Takes the answers of all these sessions from a node's state. No event is made.
+/// Takes the answers of all these sessions, of whatever node they are, from a node's state. No event is made. Nobody is beside, so the
+/// scope binds all users: no rank was sent above those that were counted.
 pub fn take_answers<A: Access, S: Replica, C: Chooser>(
     access: A,
     seat: Seat<S, C>,
@@ -135,10 +135,10 @@ pub fn take_answers<A: Access, S: Replica, C: Chooser>(
     requires state { (log : List Entry) (m : SpaceMap) → S.state log m → IsStateOf log m }
     requires who { seat.who ≡ A.who access }
     requires alone { IsAlone (A.beside (A.who access)) }
-    requires seat { SeatOk (Sends A.Law.may counts.now (A.seen access)) A.Law.floor A.Law.shelf S.state S.spells (A.seen access) seat }
+    requires seat { SeatOk (Within A.Law.may counts.now) A.Law.floor A.Law.shelf S.state S.spells (A.seen access) seat }
     requires desks { CanTakeAll (Within A.Law.may counts.now) (node_of seat (A.seen access)) desks.old.items }
     ensures node { node_of result.part (A.seen result.access) ≡ node_of seat (A.seen access) }
-    ensures seat { SeatOk (Sends A.Law.may counts.now (A.seen access)) A.Law.floor A.Law.shelf S.state S.spells (A.seen result.access) result.part }
+    ensures seat { SeatOk (Within A.Law.may counts.now) A.Law.floor A.Law.shelf S.state S.spells (A.seen result.access) result.part }
     ensures takes { OnOk result.answer (TakesAll (node_of seat (A.seen access)) desks.old.items desks.new.items) }
 {
     take_within::<A, Brand, S, C>(access, seat, desks, counts)

@@ -22,13 +22,13 @@ use Rattle.log_laws.proofs.Pairs.{all-append}
 use Rattle.node_lines.specs.declared.lines.Looked.{Looked}
 use Rattle.node_lines.specs.declared.lines.Looked.TheVariants as looked
 use Rattle.node_lines.specs.Moving.{is_store, Rises}
-use Rattle.node_lines.specs.Workers.{Within, sent_of}
+use Rattle.node_lines.specs.Workers.{ReportsUpTo, Within, sent_of}
 use Rattle.run_laws.specs.Ended.{Fault, pays, most_faults}
 use Rattle.run_course.specs.Script.{failure_of_look, failed_looks}
 use Rattle.run_course.specs.Course.{Course, BeganAt, CourseOk, TurnOf}
 use Rattle.run_course.specs.Replacing.{Replaced, has_replaced}
 use Rattle.run_course.specs.Reporting.{StandsThere}
-use Rattle.run_course.specs.Telling.{AreTold, HasToldSo, IsTrim, ReportsUpTo}
+use Rattle.run_course.specs.Telling.{AreTold, HasToldSo, IsTrim}
 use Rattle.run_course.proofs.Lines.{count-cons}
 use Rattle.run_course.proofs.Stands.{stands_on, trim_rises}
 use Rattle.run_course.proofs.Told.{stand_on, trim_on}

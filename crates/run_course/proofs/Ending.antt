@@ -13,7 +13,6 @@ use Rattle.virtual_log.specs.Holding.{Holds}
 use Rattle.engine_api.specs.Acted.{asked_in}
 use Rattle.engine_api.specs.Order.{gap_from}
 use Rattle.legal_journal.specs.Sealing.{Unsealed}
-use Rattle.journal_laws.specs.Changes.{Adds}
 use Rattle.replica_api.specs.Replica.{Saved, saved_in}
 use Rattle.base_engine.specs.declared.outbox.Given.{Given}
 use Rattle.base_engine.specs.Following.{IsStateAt}
@@ -35,7 +34,8 @@ use Rattle.node_lines.specs.Moving.{causes_of}
 use Rattle.node_lines.specs.Lines.{Stopped, failure_in}
 use Rattle.node_lines.specs.Turns.{ClosesIt, EndsTurn}
 use Rattle.node_lines.proofs.Turning.{ends_quiet, same_at, was_at}
-use Rattle.node_lines.specs.Workers.{IsOfSessions, MayRun, Within, WorkerOk}
+use Rattle.node_lines.specs.Workers.{IsOfSessions, MayRun, OwnAdds, OwnWithin, Within, WorkerOk}
+use Rattle.node_lines.proofs.Own.{all_adds}
 use Rattle.node_lines.proofs.Bounding.{acted_stays}
 use Rattle.run_laws.specs.Ended.{CameTo, rank_in, session_in}
 use Rattle.run_laws.proofs.Members.{Among, among-right}
@@ -114,7 +114,7 @@ became mid failed d d' h = ⊎_elim
 none_some : {A : Type 0} (a : A) → None ≡ Some a → ⊥
 none_some a e = cc
 
-module _ (may : ℕ → Entry → Type 0) (floor : List Entry → ℕ → Type 0) (shelf : List ℕ) (state : List Entry → SpaceMap → Type 0) (spells : List ℕ → Saved → Type 0) (run : MayRun may floor shelf) (lines : List NamedLine) (home : ℕ → ℕ) (nodes : ℕ) (c : Course) (counts : List ℕ) (looks : List (Option Looked)) (n from to : ℕ) (failed : Option Cause) (seat seat' : SeatView) (desks desks' : List Desk) (journal : List Event) (are : AreLines lines home nodes) (least : 1 ≤ n) (most : n ≤ nodes) (over : BeginsAt lines to (c.phase + 1)) (ok : CourseOk may floor shelf lines nodes c counts looks) (worker : WorkerAt may floor shelf state spells lines home nodes c counts looks n from to c.phase seat desks) (since : OwnSince n c.journal journal) (still : Unsealed c.journal journal) (adds : Adds IsOfSessions c.journal journal) (does : EndsTurn (Within may counts) floor shelf (node_of seat c.journal) (node_of seat' journal) desks desks' failed) (now : WorkerOk may floor shelf state spells n counts journal seat' desks') where
+module _ (may : ℕ → Entry → Type 0) (floor : List Entry → ℕ → Type 0) (shelf : List ℕ) (state : List Entry → SpaceMap → Type 0) (spells : List ℕ → Saved → Type 0) (run : MayRun may floor shelf) (lines : List NamedLine) (home : ℕ → ℕ) (nodes : ℕ) (c : Course) (counts : List ℕ) (looks : List (Option Looked)) (n from to : ℕ) (failed : Option Cause) (seat seat' : SeatView) (desks desks' : List Desk) (journal : List Event) (are : AreLines lines home nodes) (least : 1 ≤ n) (most : n ≤ nodes) (over : BeginsAt lines to (c.phase + 1)) (ok : CourseOk may floor shelf lines nodes c counts looks) (worker : WorkerAt may floor shelf state spells lines home nodes c counts looks n from to c.phase seat desks) (since : OwnSince n c.journal journal) (still : Unsealed c.journal journal) (adds : OwnAdds n IsOfSessions c.journal journal) (does : EndsTurn (OwnWithin n may counts) floor shelf (node_of seat c.journal) (node_of seat' journal) desks desks' failed) (now : WorkerOk may floor shelf state spells n counts journal seat' desks') where
   abbrev came : List Cause
   came = causes_of does.ends.moves.goes.given (failure_in failed)
 
@@ -145,13 +145,13 @@ module _ (may : ℕ → Entry → Type 0) (floor : List Entry → ℕ → Type 0
   forward = let up = does.ends.moves.goes.keeps.forward in omega (arith, up, cursor_is)
 
   within : IsLegal (Within may counts) floor shelf journal
-  within = worker_legal may floor shelf state spells n counts journal seat' desks' now
+  within = worker_legal may floor shelf state spells n counts counts c.journal journal seat' desks' ok.legal since (λ s. omega arith) now
 
   legal : IsLegal may floor shelf journal
   legal = legal_wider (Within may counts) may floor shelf (λ who e h. h.0) journal within
 
   tells : TellsOn lines looks n seat.node.replica.cursor seat'.node.replica.cursor c.journal journal
-  tells = tells_commands (Within may counts) floor shelf c.journal journal does.ends.moves.goes.spends.more seen_more within lines looks looks n seat.node.replica.cursor seat'.node.replica.cursor (λ j x come. come) forward ok.told adds
+  tells = tells_commands (Within may counts) floor shelf c.journal journal does.ends.moves.goes.spends.more seen_more within lines looks looks n seat.node.replica.cursor seat'.node.replica.cursor (λ j x come. come) forward ok.told (all_adds n IsOfSessions c.journal journal since adds)
 
   -- The run
 
@@ -430,7 +430,7 @@ module _ (may : ℕ → Entry → Type 0) (floor : List Entry → ℕ → Type 0
     nodes_is = ap (λ (v : NodeView). v.nodes) does.forgets ∙ does.ends.moves.goes.keeps.nodes ∙ worker.nodes_is;
     order = omega arith;
     each = each;
-    quiet = λ s same. ends_quiet (Within may counts) floor shelf (node_of seat c.journal) (node_of seat' journal) desks desks' failed does s;
+    quiet = λ s same. ends_quiet (OwnWithin n may counts) floor shelf (node_of seat c.journal) (node_of seat' journal) desks desks' failed does s;
     given = subst (AllByRecursion (λ (g : Given). CameTo then'.faults g.cause n c.phase)) (sym given_is) tt;
     waiting = worker.waiting;
     played = played;

@@ -5,7 +5,7 @@ use Rattle.delos_types.specs.declared.entry.Entry.{Entry}
 use Rattle.delos_types.specs.declared.cause.Cause.{Cause}
 use Rattle.legal_journal.specs.declared.events.Event.{Event}
 use Rattle.legal_journal.specs.Journal.{IsLegal, state_of}
-use Rattle.journal_laws.specs.Changes.{Adds, TrimsUpTo}
+use Rattle.journal_laws.specs.Changes.{TrimsUpTo}
 use Rattle.journal_laws.specs.Faults.{faults_in}
 use Rattle.journal_laws.specs.Unsealed.{IsUnsealed}
 use Rattle.journal_laws.proofs.Staying.{calm_parts}
@@ -25,7 +25,8 @@ use Rattle.node_lines.specs.declared.lines.Looked.{Looked}
 use Rattle.node_lines.specs.declared.lines.Looked.TheVariants as looked
 use Rattle.node_lines.specs.Moving.{is_store}
 use Rattle.node_lines.specs.Extending.{Extends, ExtendsSo}
-use Rattle.node_lines.specs.Workers.{IsOfSessions, Within, WorkerOk}
+use Rattle.node_lines.specs.Workers.{IsOfSessions, OwnAdds, OwnWithin, Within, WorkerOk}
+use Rattle.node_lines.proofs.Own.{all_adds}
 use Rattle.node_lines.specs.Chains.{made}
 use Rattle.node_lines.proofs.Lone.{lone_extension}
 use Rattle.node_lines.proofs.Sealing.{lone_once}
@@ -44,7 +45,7 @@ use Rattle.run_course.proofs.Advance.{advanced, count-append, failed_of}
 use Rattle.run_course.proofs.Replacing.{LooksOn, count_set}
 use Rattle.run_course.proofs.Playing.{line_went}
 
-module _ (may : ℕ → Entry → Type 0) (floor : List Entry → ℕ → Type 0) (shelf : List ℕ) (state : List Entry → SpaceMap → Type 0) (spells : List ℕ → Saved → Type 0) (lines : List NamedLine) (home : ℕ → ℕ) (nodes : ℕ) (c : Course) (counts : List ℕ) (looks : List (Option Looked)) (n from i : ℕ) (line : NamedLine) (look : Looked) (seat seat' : SeatView) (desks : List Desk) (journal : List Event) (are : AreLines lines home nodes) (least : 1 ≤ n) (most : n ≤ nodes) (at : slice_get lines i ≡ Some line) (node : line.node ≡ n) (phase : line.phase ≡ c.phase) (asks_is : line.asks ≡ asks.Admin Extend) (ok : CourseOk may floor shelf lines nodes c counts looks) (worker : WorkerAt may floor shelf state spells lines home nodes c counts looks n from i c.phase seat desks) (since : OwnSince n c.journal journal) (adds : Adds IsOfSessions c.journal journal) (high : TrimsUpTo seat'.node.replica.cursor journal) (does : Extends (Within may counts) floor shelf (node_of seat c.journal) (node_of seat' journal) look) (now : WorkerOk may floor shelf state spells n counts journal seat' desks) where
+module _ (may : ℕ → Entry → Type 0) (floor : List Entry → ℕ → Type 0) (shelf : List ℕ) (state : List Entry → SpaceMap → Type 0) (spells : List ℕ → Saved → Type 0) (lines : List NamedLine) (home : ℕ → ℕ) (nodes : ℕ) (c : Course) (counts : List ℕ) (looks : List (Option Looked)) (n from i : ℕ) (line : NamedLine) (look : Looked) (seat seat' : SeatView) (desks : List Desk) (journal : List Event) (are : AreLines lines home nodes) (least : 1 ≤ n) (most : n ≤ nodes) (at : slice_get lines i ≡ Some line) (node : line.node ≡ n) (phase : line.phase ≡ c.phase) (asks_is : line.asks ≡ asks.Admin Extend) (ok : CourseOk may floor shelf lines nodes c counts looks) (worker : WorkerAt may floor shelf state spells lines home nodes c counts looks n from i c.phase seat desks) (since : OwnSince n c.journal journal) (adds : OwnAdds n IsOfSessions c.journal journal) (high : TrimsUpTo seat'.node.replica.cursor journal) (does : Extends (OwnWithin n may counts) floor shelf (node_of seat c.journal) (node_of seat' journal) look) (now : WorkerOk may floor shelf state spells n counts journal seat' desks) where
   abbrev then' : Course
   then' = advanced c n (map (λ g. g.cause) does.moves.goes.given) journal c.when
 
@@ -104,8 +105,8 @@ module _ (may : ℕ → Entry → Type 0) (floor : List Entry → ℕ → Type 0
 
   on : LooksOn (length shelf) (state_of c.journal).register (state_of journal).register look
   on x is =
-      lone_extension (Within may counts) floor shelf (node_of seat c.journal) (node_of seat' journal) x
-      (subst (Extends (Within may counts) floor shelf (node_of seat c.journal) (node_of seat' journal)) is does)
+      lone_extension (OwnWithin n may counts) floor shelf (node_of seat c.journal) (node_of seat' journal) x
+      (subst (Extends (OwnWithin n may counts) floor shelf (node_of seat c.journal) (node_of seat' journal)) is does)
       (subst (λ w. OwnSince w c.journal journal) (sym worker.ok.who_is) since)
 
   own : (x : Extension) → look ≡ looked.Extended x → AsksNode line.asks
@@ -115,12 +116,12 @@ module _ (may : ℕ → Entry → Type 0) (floor : List Entry → ℕ → Type 0
   not_yet = worker.waiting i line (omega arith) at node
 
   legal : IsLegal (Within may counts) floor shelf journal
-  legal = worker_legal may floor shelf state spells n counts journal seat' desks now
+  legal = worker_legal may floor shelf state spells n counts counts c.journal journal seat' desks ok.legal since (λ s. omega arith) now
 
   tells : TellsOn lines (slice_set looks i (Some look)) n seat.node.replica.cursor seat'.node.replica.cursor c.journal journal
   tells =
       tells_commands (Within may counts) floor shelf c.journal journal does.moves.goes.spends.more does.moves.goes.spends.seen legal lines looks (slice_set looks i (Some look)) n seat.node.replica.cursor seat'.node.replica.cursor
-      (looks_stay looks i look not_yet) does.moves.goes.keeps.forward ok.told adds
+      (looks_stay looks i look not_yet) does.moves.goes.keeps.forward ok.told (all_adds n IsOfSessions c.journal journal since adds)
 
   -- a log that failed told a fault
   no_failure : (k : Cause) → does.others ≡ k ∷ [] → is_store k ≡ false → faults_in journal ≡ [] → ⊥
@@ -148,8 +149,8 @@ module _ (may : ℕ → Entry → Type 0) (floor : List Entry → ℕ → Type 0
       let spends = does.moves.goes.spends in
       let was = ok.unsealed (calm_parts c.journal journal spends.more spends.seen calm).0 in
       subst (λ k. IsUnsealed (state_of journal) (count_by has_replaced looks + k)) (made_is x)
-      (lone_once (Within may counts) floor shelf (node_of seat c.journal) (node_of seat' journal) x (count_by has_replaced looks)
-      (subst (Extends (Within may counts) floor shelf (node_of seat c.journal) (node_of seat' journal)) is does) (subst (λ w. OwnSince w c.journal journal) (sym worker.ok.who_is) since) was calm)
+      (lone_once (OwnWithin n may counts) floor shelf (node_of seat c.journal) (node_of seat' journal) x (count_by has_replaced looks)
+      (subst (Extends (OwnWithin n may counts) floor shelf (node_of seat c.journal) (node_of seat' journal)) is does) (subst (λ w. OwnSince w c.journal journal) (sym worker.ok.who_is) since) was calm)
   by_look (looked.Reported position) is h calm = absurd h
   by_look looked.Left is h calm = absurd h
   by_look (looked.Trimmed trim) is h calm = absurd h

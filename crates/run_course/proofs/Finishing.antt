@@ -6,7 +6,6 @@ use Rattle.delos_types.specs.declared.entry.Entry.{Entry}
 use Rattle.legal_journal.specs.declared.events.Event.{Event}
 use Rattle.legal_journal.specs.Journal.{IsLegal}
 use Rattle.legal_journal.specs.Sealing.{Unsealed}
-use Rattle.journal_laws.specs.Changes.{Adds}
 use Rattle.replica_api.specs.Replica.{Saved}
 use Rattle.base_engine.specs.declared.outbox.Given.{Given}
 use Rattle.base_engine.specs.Settling.{OutboxView}
@@ -16,7 +15,8 @@ use Rattle.turn_scopes.specs.Seats.{SeatView, node_of}
 use Rattle.node_lines.specs.declared.desk.Desk.{Desk}
 use Rattle.node_lines.specs.declared.lines.Looked.{Looked}
 use Rattle.node_lines.specs.Moving.{Moves}
-use Rattle.node_lines.specs.Workers.{IsOfSessions, Within, WorkerOk}
+use Rattle.node_lines.specs.Workers.{IsOfSessions, OwnAdds, OwnWithin, Within, WorkerOk}
+use Rattle.node_lines.proofs.Own.{all_adds}
 use Rattle.run_laws.specs.Ended.{CameTo, session_in}
 use Rattle.run_course.specs.Script.{BeginsAt}
 use Rattle.run_course.specs.Course.{Course, CourseOk, TurnOf}
@@ -29,15 +29,15 @@ use Rattle.run_course.proofs.Advance.{advance_still, advanced, stores_counted, t
 use Rattle.run_course.proofs.Unsealing.{still_unsealed}
 use Rattle.run_course.proofs.Growing.{Grown, desk_same, ended_grows, grown_of, played_grows}
 
-module _ (may : ℕ → Entry → Type 0) (floor : List Entry → ℕ → Type 0) (shelf : List ℕ) (state : List Entry → SpaceMap → Type 0) (spells : List ℕ → Saved → Type 0) (lines : List NamedLine) (home : ℕ → ℕ) (nodes : ℕ) (c : Course) (counts : List ℕ) (looks : List (Option Looked)) (n from done : ℕ) (seat seat' : SeatView) (desks : List Desk) (journal : List Event) (least : 1 ≤ n) (most : n ≤ nodes) (begins : BeginsAt lines from done) (low : done ≤ c.phase + 1) (ok : CourseOk may floor shelf lines nodes c counts looks) (r : Rests may floor shelf state spells lines home nodes c counts looks n from done seat desks) (since : OwnSince n c.journal journal) (still : Unsealed c.journal journal) (adds : Adds IsOfSessions c.journal journal) (moves : Moves (Within may counts) floor shelf (node_of seat c.journal) (node_of seat' journal) []) (same : seat'.node.outbox ≡ seat.node.outbox) (now : WorkerOk may floor shelf state spells n counts journal seat' desks) where
+module _ (may : ℕ → Entry → Type 0) (floor : List Entry → ℕ → Type 0) (shelf : List ℕ) (state : List Entry → SpaceMap → Type 0) (spells : List ℕ → Saved → Type 0) (lines : List NamedLine) (home : ℕ → ℕ) (nodes : ℕ) (c : Course) (counts : List ℕ) (looks : List (Option Looked)) (n from done : ℕ) (seat seat' : SeatView) (desks : List Desk) (journal : List Event) (least : 1 ≤ n) (most : n ≤ nodes) (begins : BeginsAt lines from done) (low : done ≤ c.phase + 1) (ok : CourseOk may floor shelf lines nodes c counts looks) (r : Rests may floor shelf state spells lines home nodes c counts looks n from done seat desks) (since : OwnSince n c.journal journal) (still : Unsealed c.journal journal) (adds : OwnAdds n IsOfSessions c.journal journal) (moves : Moves (OwnWithin n may counts) floor shelf (node_of seat c.journal) (node_of seat' journal) []) (same : seat'.node.outbox ≡ seat.node.outbox) (now : WorkerOk may floor shelf state spells n counts journal seat' desks) where
   abbrev then' : Course
   then' = advanced c n [] journal c.when
 
   legal : IsLegal (Within may counts) floor shelf journal
-  legal = worker_legal may floor shelf state spells n counts journal seat' desks now
+  legal = worker_legal may floor shelf state spells n counts counts c.journal journal seat' desks ok.legal since (λ s. omega arith) now
 
   tells : TellsOn lines looks n seat.node.replica.cursor seat'.node.replica.cursor c.journal journal
-  tells = tells_commands (Within may counts) floor shelf c.journal journal since.more since.seen legal lines looks looks n seat.node.replica.cursor seat'.node.replica.cursor (λ j x come. come) moves.goes.keeps.forward ok.told adds
+  tells = tells_commands (Within may counts) floor shelf c.journal journal since.more since.seen legal lines looks looks n seat.node.replica.cursor seat'.node.replica.cursor (λ j x come. come) moves.goes.keeps.forward ok.told (all_adds n IsOfSessions c.journal journal since adds)
 
   course_ok : CourseOk may floor shelf lines nodes then' counts looks
   course_ok = advance_still may floor shelf lines nodes c counts looks ok n [] journal since.more c.when counts since.seen legal least most (λ P store. omega arith)

@@ -1,11 +1,11 @@
 -- A line had its node leave.
-use Rattle.std.proofs.Common.{◌≡◌, subst, ℕ, ◌+◌, ◌≤◌, List, [], ◌∷◌, Option, Some, None, map, slice_get, slice_set, arith}
+use Rattle.std.proofs.Common.{◌≡◌, ◌⊎◌, subst, ℕ, ◌+◌, ◌≤◌, List, [], ◌∷◌, Option, Some, None, map, slice_get, slice_set, arith}
 use Rattle.delos_types.specs.Spaces.{SpaceMap}
 use Rattle.delos_types.specs.declared.entry.Entry.{Entry}
 use Rattle.legal_journal.specs.declared.events.Event.{Event}
 use Rattle.legal_journal.specs.Journal.{IsLegal}
 use Rattle.legal_journal.specs.Sealing.{Unsealed}
-use Rattle.journal_laws.specs.Changes.{TrimsUpTo}
+use Rattle.journal_laws.specs.Changes.{Adds, TrimsUpTo}
 use Rattle.virtual_log.specs.declared.extend.Extension.{Extension}
 use Rattle.engine_api.specs.declared.content.Content.TheVariants as content
 use Rattle.engine_api.specs.Packing.{leave_item, packed}
@@ -21,7 +21,8 @@ use Rattle.node_lines.specs.declared.desk.Desk.{Desk}
 use Rattle.node_lines.specs.declared.lines.Looked.{Looked}
 use Rattle.node_lines.specs.declared.lines.Looked.TheVariants as looked
 use Rattle.node_lines.specs.Leaving.{HasLeft, Leaves, LeavesSo}
-use Rattle.node_lines.specs.Workers.{LeaveAdds, Within, WorkerOk}
+use Rattle.node_lines.specs.Workers.{IsOfSessions, LeaveAdds, OwnWithin, SaysAlone, Within, WorkerOk}
+use Rattle.node_lines.proofs.Own.{all_adds}
 use Rattle.run_course.specs.Script.{AreLines}
 use Rattle.run_course.specs.Course.{Course, CourseOk}
 use Rattle.run_course.specs.Desks.{IsOfNode}
@@ -40,7 +41,7 @@ told_leave may floor shelf old new legal left = record {
   within = left.played;
 }
 
-module _ (may : ℕ → Entry → Type 0) (floor : List Entry → ℕ → Type 0) (shelf : List ℕ) (state : List Entry → SpaceMap → Type 0) (spells : List ℕ → Saved → Type 0) (lines : List NamedLine) (home : ℕ → ℕ) (nodes : ℕ) (c : Course) (counts : List ℕ) (looks : List (Option Looked)) (n from i : ℕ) (line : NamedLine) (look : Looked) (seat seat' : SeatView) (desks : List Desk) (journal : List Event) (are : AreLines lines home nodes) (least : 1 ≤ n) (most : n ≤ nodes) (at : slice_get lines i ≡ Some line) (node : line.node ≡ n) (phase : line.phase ≡ c.phase) (asks_is : line.asks ≡ asks.Admin Retire) (ok : CourseOk may floor shelf lines nodes c counts looks) (worker : WorkerAt may floor shelf state spells lines home nodes c counts looks n from i c.phase seat desks) (since : OwnSince n c.journal journal) (still : Unsealed c.journal journal) (adds : LeaveAdds n c.journal journal) (high : TrimsUpTo seat'.node.replica.cursor journal) (does : Leaves (Within may counts) floor shelf (node_of seat c.journal) (node_of seat' journal) look) (now : WorkerOk may floor shelf state spells n counts journal seat' desks) where
+module _ (may : ℕ → Entry → Type 0) (floor : List Entry → ℕ → Type 0) (shelf : List ℕ) (state : List Entry → SpaceMap → Type 0) (spells : List ℕ → Saved → Type 0) (lines : List NamedLine) (home : ℕ → ℕ) (nodes : ℕ) (c : Course) (counts : List ℕ) (looks : List (Option Looked)) (n from i : ℕ) (line : NamedLine) (look : Looked) (seat seat' : SeatView) (desks : List Desk) (journal : List Event) (are : AreLines lines home nodes) (least : 1 ≤ n) (most : n ≤ nodes) (at : slice_get lines i ≡ Some line) (node : line.node ≡ n) (phase : line.phase ≡ c.phase) (asks_is : line.asks ≡ asks.Admin Retire) (ok : CourseOk may floor shelf lines nodes c counts looks) (worker : WorkerAt may floor shelf state spells lines home nodes c counts looks n from i c.phase seat desks) (since : OwnSince n c.journal journal) (still : Unsealed c.journal journal) (adds : LeaveAdds n c.journal journal) (high : TrimsUpTo seat'.node.replica.cursor journal) (does : Leaves (OwnWithin n may counts) floor shelf (node_of seat c.journal) (node_of seat' journal) look) (now : WorkerOk may floor shelf state spells n counts journal seat' desks) where
   abbrev then' : Course
   then' = advanced c n (map (λ g. g.cause) does.moves.goes.given) journal c.when
 
@@ -48,7 +49,7 @@ module _ (may : ℕ → Entry → Type 0) (floor : List Entry → ℕ → Type 0
   So = LeavesSo (node_of seat c.journal) (node_of seat' journal) does.others
 
   legal : IsLegal (Within may counts) floor shelf journal
-  legal = worker_legal may floor shelf state spells n counts journal seat' desks now
+  legal = worker_legal may floor shelf state spells n counts counts c.journal journal seat' desks ok.legal since (λ s. omega arith) now
 
   not_yet : slice_get looks i ≡ Some None
   not_yet = worker.waiting i line (omega arith) at node
@@ -111,10 +112,14 @@ module _ (may : ℕ → Entry → Type 0) (floor : List Entry → ℕ → Type 0
     so = tt;
   }
 
+  -- what it added, it added alone
+  added : Adds (λ e. IsOfSessions e ⊎ SaysAlone (content.Leave n) e) c.journal journal
+  added = all_adds n (λ e. IsOfSessions e ⊎ SaysAlone (content.Leave n) e) c.journal journal since adds
+
   tells : TellsOn lines looks' n seat.node.replica.cursor seat'.node.replica.cursor c.journal journal
   tells =
       tells_one (Within may counts) floor shelf c.journal journal does.moves.goes.spends.more does.moves.goes.spends.seen legal lines looks looks' n seat.node.replica.cursor seat'.node.replica.cursor
-      (looks_stay looks i look not_yet) does.moves.goes.keeps.forward ok.told (content.Leave n) asked tt adds
+      (looks_stay looks i look not_yet) does.moves.goes.keeps.forward ok.told (content.Leave n) asked tt added
 
   stood : (x : Looked) → So x → LeftSo journal seat'.node.replica.cursor n x → HasToldSo journal n x
   stood (looked.Found after found) h l = tt

@@ -9,7 +9,7 @@ use Rattle.table_core.specs.declared.command.Command.{Command}
 use Rattle.legal_journal.specs.declared.events.Event.{Event}
 use Rattle.legal_journal.specs.Journal.{IsLegal}
 use Rattle.legal_journal.specs.Sealing.{Unsealed}
-use Rattle.journal_laws.specs.Changes.{Adds, TrimsUpTo}
+use Rattle.journal_laws.specs.Changes.{TrimsUpTo}
 use Rattle.replica_api.specs.Replica.{Saved}
 use Rattle.script_text.specs.declared.line.Session.{Session}
 use Rattle.script_text.specs.declared.asks.NamedLine.{NamedLine}
@@ -22,7 +22,8 @@ use Rattle.node_lines.specs.declared.desk.Desk.{Desk}
 use Rattle.node_lines.proofs.Spending.{all-events}
 use Rattle.node_lines.specs.declared.lines.Looked.{Looked}
 use Rattle.node_lines.specs.Moving.{IsQuiet, causes_of}
-use Rattle.node_lines.specs.Workers.{IsOfSessions, Logs, Within, WorkerOk, sent_of}
+use Rattle.node_lines.specs.Workers.{IsOfSessions, Logs, OwnAdds, Within, WorkerOk, sent_of}
+use Rattle.node_lines.proofs.Own.{all_adds}
 use Rattle.run_laws.specs.Ended.{IsAtHome, session_in}
 use Rattle.run_laws.proofs.Members.{among-right, contained-among}
 use Rattle.run_laws.proofs.Placing.{same_some}
@@ -39,7 +40,7 @@ use Rattle.run_course.proofs.Unsealing.{still_unsealed}
 use Rattle.run_course.proofs.Growing.{DeskGrew, DeskOfOld, Grown, desk_same, ended_grows, grown_of, halted_grows, played_grows}
 use Rattle.run_course.proofs.Coming.{came_at, given_among, given_then}
 
-module _ (may : ℕ → Entry → Type 0) (floor : List Entry → ℕ → Type 0) (shelf : List ℕ) (state : List Entry → SpaceMap → Type 0) (spells : List ℕ → Saved → Type 0) (lines : List NamedLine) (home : ℕ → ℕ) (nodes : ℕ) (c : Course) (counts counts' : List ℕ) (looks : List (Option Looked)) (n from i : ℕ) (line : NamedLine) (session : Session) (rank : ℕ) (command : Command) (seat seat' : SeatView) (desks desks' : List Desk) (journal : List Event) (are : AreLines lines home nodes) (least : 1 ≤ n) (most : n ≤ nodes) (at : slice_get lines i ≡ Some line) (node : line.node ≡ n) (phase : line.phase ≡ c.phase) (asks_is : line.asks ≡ asks.Logged session rank command) (ok : CourseOk may floor shelf lines nodes c counts looks) (worker : WorkerAt may floor shelf state spells lines home nodes c counts looks n from i c.phase seat desks) (since : OwnSince n c.journal journal) (still : Unsealed c.journal journal) (adds : Adds IsOfSessions c.journal journal) (high : TrimsUpTo seat'.node.replica.cursor journal) (logs : Logs may floor shelf counts counts' (node_of seat c.journal) (node_of seat' journal) session.id desks desks') (now : WorkerOk may floor shelf state spells n counts' journal seat' desks') where
+module _ (may : ℕ → Entry → Type 0) (floor : List Entry → ℕ → Type 0) (shelf : List ℕ) (state : List Entry → SpaceMap → Type 0) (spells : List ℕ → Saved → Type 0) (lines : List NamedLine) (home : ℕ → ℕ) (nodes : ℕ) (c : Course) (counts counts' : List ℕ) (looks : List (Option Looked)) (n from i : ℕ) (line : NamedLine) (session : Session) (rank : ℕ) (command : Command) (seat seat' : SeatView) (desks desks' : List Desk) (journal : List Event) (are : AreLines lines home nodes) (least : 1 ≤ n) (most : n ≤ nodes) (at : slice_get lines i ≡ Some line) (node : line.node ≡ n) (phase : line.phase ≡ c.phase) (asks_is : line.asks ≡ asks.Logged session rank command) (ok : CourseOk may floor shelf lines nodes c counts looks) (worker : WorkerAt may floor shelf state spells lines home nodes c counts looks n from i c.phase seat desks) (since : OwnSince n c.journal journal) (still : Unsealed c.journal journal) (adds : OwnAdds n IsOfSessions c.journal journal) (high : TrimsUpTo seat'.node.replica.cursor journal) (logs : Logs may floor shelf counts counts' (node_of seat c.journal) (node_of seat' journal) session.id desks desks') (now : WorkerOk may floor shelf state spells n counts' journal seat' desks') where
   here : (t : ℕ) → (session.id == t) ≡ true → session.id ≡ t
   here t e = grind (arith, nat_tests, e)
 
@@ -52,11 +53,18 @@ module _ (may : ℕ → Entry → Type 0) (floor : List Entry → ℕ → Type 0
   abbrev then' : Course
   then' = advanced c n came journal c.when
 
+  no_fewer : (s : ℕ) → sent_of counts s ≤ sent_of counts' s
+  no_fewer s = by (session.id == s) refl
+    where
+      by : (b : Bool) → (session.id == s) ≡ b → sent_of counts s ≤ sent_of counts' s
+      by true e = subst (λ t. sent_of counts t ≤ sent_of counts' t) (here s e) logs.logs.more
+      by false e = omega (arith, logs.logs.counted s e)
+
   legal : IsLegal (Within may counts') floor shelf journal
-  legal = worker_legal may floor shelf state spells n counts' journal seat' desks' now
+  legal = worker_legal may floor shelf state spells n counts counts' c.journal journal seat' desks' ok.legal since no_fewer now
 
   tells : TellsOn lines looks n seat.node.replica.cursor seat'.node.replica.cursor c.journal journal
-  tells = tells_commands (Within may counts') floor shelf c.journal journal logs.logs.goes.spends.more logs.logs.goes.spends.seen legal lines looks looks n seat.node.replica.cursor seat'.node.replica.cursor (λ j x come. come) logs.logs.goes.keeps.forward ok.told adds
+  tells = tells_commands (Within may counts') floor shelf c.journal journal logs.logs.goes.spends.more logs.logs.goes.spends.seen legal lines looks looks n seat.node.replica.cursor seat'.node.replica.cursor (λ j x come. come) logs.logs.goes.keeps.forward ok.told (all_adds n IsOfSessions c.journal journal since adds)
 
   course_ok : CourseOk may floor shelf lines nodes then' counts' looks
   course_ok = advance_still may floor shelf lines nodes c counts looks ok n came journal logs.logs.goes.spends.more c.when counts' logs.logs.goes.spends.seen legal least most
@@ -75,13 +83,6 @@ module _ (may : ℕ → Entry → Type 0) (floor : List Entry → ℕ → Type 0
       by : (b : Bool) → (session.id == s) ≡ b → sent_of counts' s ≡ sent_of counts s
       by true e = absurd (not_here (home s) (ap home (sym (here s e)) ∙ at_home) other)
       by false e = logs.logs.counted s e
-
-  no_fewer : (s : ℕ) → sent_of counts s ≤ sent_of counts' s
-  no_fewer s = by (session.id == s) refl
-    where
-      by : (b : Bool) → (session.id == s) ≡ b → sent_of counts s ≤ sent_of counts' s
-      by true e = subst (λ t. sent_of counts t ≤ sent_of counts' t) (here s e) logs.logs.more
-      by false e = omega (arith, logs.logs.counted s e)
 
   turn : TurnOf lines home n c then' counts counts' looks looks
   turn = turned lines home n c came journal c.when counts counts' looks looks since (λ s other. refl) others_sent no_fewer refl (λ j l get other. refl) tells.others (λ by none. refl)

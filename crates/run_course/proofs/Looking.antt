@@ -11,7 +11,7 @@ use Rattle.legal_journal.specs.declared.events.Event.{Event}
 use Rattle.legal_journal.specs.Journal.{IsLegal, state_of}
 use Rattle.journal_laws.specs.Faults.{faults_in}
 use Rattle.legal_journal.specs.Sealing.{Unsealed}
-use Rattle.journal_laws.specs.Changes.{Adds, TrimsUpTo}
+use Rattle.journal_laws.specs.Changes.{TrimsUpTo}
 use Rattle.journal_laws.specs.Unsealed.{IsUnsealed}
 use Rattle.virtual_log.specs.declared.extend.Extension.{Extension}
 use Rattle.engine_api.specs.Acted.{asked_in}
@@ -30,7 +30,8 @@ use Rattle.node_lines.specs.declared.desk.Desk.{Desk}
 use Rattle.node_lines.specs.declared.lines.Looked.{Looked}
 use Rattle.node_lines.specs.declared.lines.Looked.TheVariants as looked
 use Rattle.node_lines.specs.Lines.{Looks, LooksSo}
-use Rattle.node_lines.specs.Workers.{IsOfSessions, MayRun, Within, WorkerOk}
+use Rattle.node_lines.specs.Workers.{IsOfSessions, MayRun, OwnAdds, OwnWithin, Within, WorkerOk}
+use Rattle.node_lines.proofs.Own.{all_adds}
 use Rattle.run_laws.specs.Ended.{CameTo}
 use Rattle.run_laws.proofs.Placing.{same_some}
 use Rattle.run_course.specs.Script.{AreLines, BeginsAt, asked_by}
@@ -50,7 +51,7 @@ use Rattle.run_course.proofs.Replacing.{LooksOn}
 use Rattle.run_course.proofs.Unsealing.{count_same, still_unsealed}
 use Rattle.run_course.proofs.Playing as playing
 
-module _ (may : ℕ → Entry → Type 0) (floor : List Entry → ℕ → Type 0) (shelf : List ℕ) (state : List Entry → SpaceMap → Type 0) (spells : List ℕ → Saved → Type 0) (run : MayRun may floor shelf) (lines : List NamedLine) (home : ℕ → ℕ) (nodes : ℕ) (c : Course) (counts : List ℕ) (looks : List (Option Looked)) (n from i : ℕ) (line : NamedLine) (session : Session) (query : Query) (desk : Desk) (look : Looked) (seat seat' : SeatView) (desks : List Desk) (journal : List Event) (are : AreLines lines home nodes) (least : 1 ≤ n) (most : n ≤ nodes) (begins : BeginsAt lines from c.phase) (at : slice_get lines i ≡ Some line) (node : line.node ≡ n) (phase : line.phase ≡ c.phase) (asks_is : line.asks ≡ asks.Look session query) (ok : CourseOk may floor shelf lines nodes c counts looks) (worker : WorkerAt may floor shelf state spells lines home nodes c counts looks n from i c.phase seat desks) (since : OwnSince n c.journal journal) (still : Unsealed c.journal journal) (adds : Adds IsOfSessions c.journal journal) (high : TrimsUpTo seat'.node.replica.cursor journal) (desk_at : slice_get desks session.id ≡ Some desk) (does : Looks (Within may counts) floor shelf (node_of seat c.journal) (node_of seat' journal) desk query look) (now : WorkerOk may floor shelf state spells n counts journal seat' desks) where
+module _ (may : ℕ → Entry → Type 0) (floor : List Entry → ℕ → Type 0) (shelf : List ℕ) (state : List Entry → SpaceMap → Type 0) (spells : List ℕ → Saved → Type 0) (run : MayRun may floor shelf) (lines : List NamedLine) (home : ℕ → ℕ) (nodes : ℕ) (c : Course) (counts : List ℕ) (looks : List (Option Looked)) (n from i : ℕ) (line : NamedLine) (session : Session) (query : Query) (desk : Desk) (look : Looked) (seat seat' : SeatView) (desks : List Desk) (journal : List Event) (are : AreLines lines home nodes) (least : 1 ≤ n) (most : n ≤ nodes) (begins : BeginsAt lines from c.phase) (at : slice_get lines i ≡ Some line) (node : line.node ≡ n) (phase : line.phase ≡ c.phase) (asks_is : line.asks ≡ asks.Look session query) (ok : CourseOk may floor shelf lines nodes c counts looks) (worker : WorkerAt may floor shelf state spells lines home nodes c counts looks n from i c.phase seat desks) (since : OwnSince n c.journal journal) (still : Unsealed c.journal journal) (adds : OwnAdds n IsOfSessions c.journal journal) (high : TrimsUpTo seat'.node.replica.cursor journal) (desk_at : slice_get desks session.id ≡ Some desk) (does : Looks (OwnWithin n may counts) floor shelf (node_of seat c.journal) (node_of seat' journal) desk query look) (now : WorkerOk may floor shelf state spells n counts journal seat' desks) where
   abbrev came : List Cause
   came = map (λ g. g.cause) does.moves.goes.given
 
@@ -90,12 +91,12 @@ module _ (may : ℕ → Entry → Type 0) (floor : List Entry → ℕ → Type 0
   none_replaced (looked.Trimmed trim) h = absurd h
 
   legal : IsLegal (Within may counts) floor shelf journal
-  legal = worker_legal may floor shelf state spells n counts journal seat' desks now
+  legal = worker_legal may floor shelf state spells n counts counts c.journal journal seat' desks ok.legal since (λ s. omega arith) now
 
   tells : TellsOn lines looks' n seat.node.replica.cursor seat'.node.replica.cursor c.journal journal
   tells =
       tells_commands (Within may counts) floor shelf c.journal journal does.moves.goes.spends.more does.moves.goes.spends.seen legal lines looks looks' n seat.node.replica.cursor seat'.node.replica.cursor
-      (looks_stay looks i look not_yet) does.moves.goes.keeps.forward ok.told adds
+      (looks_stay looks i look not_yet) does.moves.goes.keeps.forward ok.told (all_adds n IsOfSessions c.journal journal since adds)
 
   -- it told nothing
   stood : (x : Looked) → LooksSo (node_of seat c.journal) (node_of seat' journal) desk query does.others x → HasToldSo journal n x

@@ -27,7 +27,7 @@ use Rattle.node_lines.proofs.Spending.{all-events}
 use Rattle.node_lines.specs.declared.lines.Looked.{Looked}
 use Rattle.node_lines.specs.declared.lines.Looked.TheVariants as looked
 use Rattle.node_lines.specs.Moving.{causes_of, Moves}
-use Rattle.node_lines.specs.Workers.{Within, WorkerOk}
+use Rattle.node_lines.specs.Workers.{OwnWithin, Within, WorkerOk}
 use Rattle.run_laws.specs.Ended.{CameTo, session_in}
 use Rattle.run_laws.proofs.Members.{among-map}
 use Rattle.run_laws.proofs.Placing.{same_some}
@@ -47,7 +47,7 @@ use Rattle.run_course.proofs.Replacing.{LooksOn, later, replaced_then}
 use Rattle.run_course.proofs.Growing.{Grown, desk_same, ended_grows, grown_of, halted_grows, played_grows}
 use Rattle.run_course.proofs.Coming.{given_then}
 
-module _ (may : ℕ → Entry → Type 0) (floor : List Entry → ℕ → Type 0) (shelf : List ℕ) (state : List Entry → SpaceMap → Type 0) (spells : List ℕ → Saved → Type 0) (lines : List NamedLine) (home : ℕ → ℕ) (nodes : ℕ) (c : Course) (counts : List ℕ) (looks : List (Option Looked)) (n from i : ℕ) (line : NamedLine) (look : Looked) (seat seat' : SeatView) (desks : List Desk) (journal : List Event) (are : AreLines lines home nodes) (least : 1 ≤ n) (most : n ≤ nodes) (at : slice_get lines i ≡ Some line) (node : line.node ≡ n) (phase : line.phase ≡ c.phase) (unlogged : (s : ℕ) → logs_for s line ≡ false) (ok : CourseOk may floor shelf lines nodes c counts looks) (worker : WorkerAt may floor shelf state spells lines home nodes c counts looks n from i c.phase seat desks) (since : OwnSince n c.journal journal) (others : List Cause) (moves : Moves (Within may counts) floor shelf (node_of seat c.journal) (node_of seat' journal) others) (paid_is : others ≡ failed_of look) (on : LooksOn (length shelf) (state_of c.journal).register (state_of journal).register look) (own : (x : Extension) → look ≡ looked.Extended x → AsksNode line.asks) (unsealed : faults_in journal ≡ [] → IsUnsealed (state_of journal) (count_by has_replaced (slice_set looks i (Some look)))) (now : WorkerOk may floor shelf state spells n counts journal seat' desks) (tells : TellsOn lines (slice_set looks i (Some look)) n seat.node.replica.cursor seat'.node.replica.cursor c.journal journal) (stood : HasToldSo journal n look) (trimmed : (trim : ℕ) → look ≡ looked.Trimmed trim → IsTrim lines (slice_set looks i (Some look)) nodes journal i line trim) where
+module _ (may : ℕ → Entry → Type 0) (floor : List Entry → ℕ → Type 0) (shelf : List ℕ) (state : List Entry → SpaceMap → Type 0) (spells : List ℕ → Saved → Type 0) (lines : List NamedLine) (home : ℕ → ℕ) (nodes : ℕ) (c : Course) (counts : List ℕ) (looks : List (Option Looked)) (n from i : ℕ) (line : NamedLine) (look : Looked) (seat seat' : SeatView) (desks : List Desk) (journal : List Event) (are : AreLines lines home nodes) (least : 1 ≤ n) (most : n ≤ nodes) (at : slice_get lines i ≡ Some line) (node : line.node ≡ n) (phase : line.phase ≡ c.phase) (unlogged : (s : ℕ) → logs_for s line ≡ false) (ok : CourseOk may floor shelf lines nodes c counts looks) (worker : WorkerAt may floor shelf state spells lines home nodes c counts looks n from i c.phase seat desks) (since : OwnSince n c.journal journal) (others : List Cause) (moves : Moves (OwnWithin n may counts) floor shelf (node_of seat c.journal) (node_of seat' journal) others) (paid_is : others ≡ failed_of look) (on : LooksOn (length shelf) (state_of c.journal).register (state_of journal).register look) (own : (x : Extension) → look ≡ looked.Extended x → AsksNode line.asks) (unsealed : faults_in journal ≡ [] → IsUnsealed (state_of journal) (count_by has_replaced (slice_set looks i (Some look)))) (now : WorkerOk may floor shelf state spells n counts journal seat' desks) (tells : TellsOn lines (slice_set looks i (Some look)) n seat.node.replica.cursor seat'.node.replica.cursor c.journal journal) (stood : HasToldSo journal n look) (trimmed : (trim : ℕ) → look ≡ looked.Trimmed trim → IsTrim lines (slice_set looks i (Some look)) nodes journal i line trim) where
   abbrev came : List Cause
   came = map (λ g. g.cause) moves.goes.given
 
@@ -61,7 +61,7 @@ module _ (may : ℕ → Entry → Type 0) (floor : List Entry → ℕ → Type 0
   not_yet = worker.waiting i line (omega arith) at node
 
   legal : IsLegal (Within may counts) floor shelf journal
-  legal = worker_legal may floor shelf state spells n counts journal seat' desks now
+  legal = worker_legal may floor shelf state spells n counts counts c.journal journal seat' desks ok.legal since (λ s. omega arith) now
 
   both : (P : Cause → Bool) → count_by P came + count_by P (failed_of look) ≡ count_by P (causes_of moves.goes.given others)
   both P =

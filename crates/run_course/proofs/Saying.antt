@@ -10,8 +10,7 @@ use Rattle.engine_api.specs.Items.{unpack}
 use Rattle.engine_api.specs.Acted.{unpack_all}
 use Rattle.engine_api.specs.Members.{has_left, position_of}
 use Rattle.log_laws.proofs.Membership.{left_says, position_says, unpack_says}
-use Rattle.node_lines.specs.Workers.{HasNotLeft}
-use Rattle.run_course.specs.Telling.{ReportsUpTo}
+use Rattle.node_lines.specs.Workers.{HasNotLeft, ReportsUpTo}
 
 -- an entry that was appended says it
 pub record IsSaid (seen : List Event) (c : Content) : Type 0 where

@@ -17,11 +17,11 @@ use Rattle.fabric_core.proofs.Marks.{set_other}
 use Rattle.node_lines.specs.declared.lines.Looked.{Looked}
 use Rattle.node_lines.specs.declared.lines.Looked.TheVariants as looked
 use Rattle.node_lines.specs.Measuring.{IsCleanPoint}
-use Rattle.node_lines.specs.Workers.{IsCommand, IsOfSessions, SaysAlone}
+use Rattle.node_lines.specs.Workers.{IsCommand, IsOfSessions, ReportsUpTo, SaysAlone}
 use Rattle.run_laws.proofs.Members.{Among, all-at, among-map, contained-among}
 use Rattle.run_laws.proofs.Placing.{same_some}
 use Rattle.run_course.specs.Reporting.{StandsThere}
-use Rattle.run_course.specs.Telling.{AreTold, AskedFor, GoesFirst, HasToldSo, IsTrim, ReportsUpTo, ToldSo}
+use Rattle.run_course.specs.Telling.{AreTold, AskedFor, GoesFirst, HasToldSo, IsTrim, ToldSo}
 use Rattle.run_course.proofs.Stands.{clean_on}
 
 -- Entries

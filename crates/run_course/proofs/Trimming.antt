@@ -5,7 +5,7 @@ use Rattle.delos_types.specs.declared.entry.Entry.{Entry}
 use Rattle.legal_journal.specs.declared.events.Event.{Event}
 use Rattle.legal_journal.specs.Journal.{IsLegal}
 use Rattle.legal_journal.specs.Sealing.{Unsealed}
-use Rattle.journal_laws.specs.Changes.{TrimsUpTo, appended}
+use Rattle.journal_laws.specs.Changes.{Adds, TrimsUpTo, appended}
 use Rattle.virtual_log.specs.declared.extend.Extension.{Extension}
 use Rattle.engine_api.specs.declared.content.Content.TheVariants as content
 use Rattle.engine_api.specs.declared.content.Placed.{Placed}
@@ -23,7 +23,8 @@ use Rattle.node_lines.specs.declared.desk.Desk.{Desk}
 use Rattle.node_lines.specs.declared.lines.Looked.{Looked}
 use Rattle.node_lines.specs.declared.lines.Looked.TheVariants as looked
 use Rattle.node_lines.specs.Trimming.{HasTrimmed, TrimsLog, TrimsSo}
-use Rattle.node_lines.specs.Workers.{HasNotLeft, IsCommand, IsOfSessions, MayRun, SaysAlone, TrimAdds, Within, WorkerOk}
+use Rattle.node_lines.specs.Workers.{HasNotLeft, IsCommand, IsOfSessions, MayRun, OwnWithin, SaysAlone, TrimAdds, Within, WorkerOk}
+use Rattle.node_lines.proofs.Own.{all_adds}
 use Rattle.run_course.specs.Script.{AreLines}
 use Rattle.run_course.specs.Course.{Course, CourseOk}
 use Rattle.run_course.specs.Desks.{IsOfNode}
@@ -38,7 +39,7 @@ use Rattle.run_course.proofs.Turning.{not_left}
 use Rattle.run_course.proofs.Advance.{advanced, failed_of}
 use Rattle.run_course.proofs.Telling.{line_told, stands_now}
 
-module _ (may : ℕ → Entry → Type 0) (floor : List Entry → ℕ → Type 0) (shelf : List ℕ) (state : List Entry → SpaceMap → Type 0) (spells : List ℕ → Saved → Type 0) (run : MayRun may floor shelf) (lines : List NamedLine) (home : ℕ → ℕ) (nodes : ℕ) (c : Course) (counts : List ℕ) (looks : List (Option Looked)) (n from i : ℕ) (line : NamedLine) (look : Looked) (seat seat' : SeatView) (desks : List Desk) (journal : List Event) (are : AreLines lines home nodes) (least : 1 ≤ n) (most : n ≤ nodes) (at : slice_get lines i ≡ Some line) (node : line.node ≡ n) (phase : line.phase ≡ c.phase) (asks_is : line.asks ≡ asks.Admin Trim) (ok : CourseOk may floor shelf lines nodes c counts looks) (worker : WorkerAt may floor shelf state spells lines home nodes c counts looks n from i c.phase seat desks) (since : OwnSince n c.journal journal) (still : Unsealed c.journal journal) (adds : TrimAdds c.journal journal) (high : TrimsUpTo seat'.node.replica.cursor journal) (does : TrimsLog (Within may counts) floor shelf (node_of seat c.journal) (node_of seat' journal) look) (now : WorkerOk may floor shelf state spells n counts journal seat' desks) where
+module _ (may : ℕ → Entry → Type 0) (floor : List Entry → ℕ → Type 0) (shelf : List ℕ) (state : List Entry → SpaceMap → Type 0) (spells : List ℕ → Saved → Type 0) (run : MayRun may floor shelf) (lines : List NamedLine) (home : ℕ → ℕ) (nodes : ℕ) (c : Course) (counts : List ℕ) (looks : List (Option Looked)) (n from i : ℕ) (line : NamedLine) (look : Looked) (seat seat' : SeatView) (desks : List Desk) (journal : List Event) (are : AreLines lines home nodes) (least : 1 ≤ n) (most : n ≤ nodes) (at : slice_get lines i ≡ Some line) (node : line.node ≡ n) (phase : line.phase ≡ c.phase) (asks_is : line.asks ≡ asks.Admin Trim) (ok : CourseOk may floor shelf lines nodes c counts looks) (worker : WorkerAt may floor shelf state spells lines home nodes c counts looks n from i c.phase seat desks) (since : OwnSince n c.journal journal) (still : Unsealed c.journal journal) (adds : TrimAdds n c.journal journal) (high : TrimsUpTo seat'.node.replica.cursor journal) (does : TrimsLog (OwnWithin n may counts) floor shelf (node_of seat c.journal) (node_of seat' journal) look) (now : WorkerOk may floor shelf state spells n counts journal seat' desks) where
   abbrev then' : Course
   then' = advanced c n (map (λ g. g.cause) does.moves.goes.given) journal c.when
 
@@ -46,7 +47,7 @@ module _ (may : ℕ → Entry → Type 0) (floor : List Entry → ℕ → Type 0
   So = TrimsSo (node_of seat c.journal) (node_of seat' journal) does.others
 
   legal : IsLegal (Within may counts) floor shelf journal
-  legal = worker_legal may floor shelf state spells n counts journal seat' desks now
+  legal = worker_legal may floor shelf state spells n counts counts c.journal journal seat' desks ok.legal since (λ s. omega arith) now
 
   not_yet : slice_get looks i ≡ Some None
   not_yet = worker.waiting i line (omega arith) at node
@@ -105,16 +106,20 @@ module _ (may : ℕ → Entry → Type 0) (floor : List Entry → ℕ → Type 0
   stood looked.Left h = absurd h
   stood (looked.Trimmed trim) h = tt
 
+  -- what it added, it added alone
+  added : Adds (λ e. IsOfSessions e ⊎ SaysAlone (content.Trim adds.position) e) c.journal journal
+  added = all_adds n (λ e. IsOfSessions e ⊎ SaysAlone (content.Trim adds.position) e) c.journal journal since adds.adds
+
   tells : TellsOn lines looks' n seat.node.replica.cursor seat'.node.replica.cursor c.journal journal
   tells =
       tells_one (Within may counts) floor shelf c.journal journal does.moves.goes.spends.more does.moves.goes.spends.seen legal lines looks looks' n seat.node.replica.cursor seat'.node.replica.cursor
-      (looks_stay looks i look not_yet) does.moves.goes.keeps.forward ok.told (content.Trim adds.position) adds.clean tt adds.adds
+      (looks_stay looks i look not_yet) does.moves.goes.keeps.forward ok.told (content.Trim adds.position) adds.clean tt added
 
   -- the node hadn't left, and didn't
   stays : HasNotLeft n journal
   stays = λ e p sent among is. ⊎_elim (λ (was : Contains (appended c.journal) e). not_left lines home nodes are looks c.journal ok.told n i i line at node (omega arith) worker.waiting e p was among is)
       (λ (now' : IsOfSessions e ⊎ SaysAlone (content.Trim adds.position) e). none_now e p among is now')
-      (adds.adds e sent)
+      (added e sent)
     where
       apart : content.Trim adds.position ≡ content.Leave n → ⊥
       apart e = cc

@@ -25,9 +25,9 @@ use Rattle.node_lines.specs.declared.desk.Desk.{Desk}
 use Rattle.node_lines.specs.declared.lines.Looked.{Looked}
 use Rattle.node_lines.specs.declared.lines.Looked.TheVariants as looked
 use Rattle.node_lines.specs.Measuring.{AreClean, IsCleanContent}
-use Rattle.node_lines.specs.Workers.{HasNotLeft, Within}
+use Rattle.node_lines.specs.Workers.{HasNotLeft, ReportsUpTo, Within}
 use Rattle.run_course.specs.Script.{AreLines}
-use Rattle.run_course.specs.Telling.{AreTold, AskedFor, ReportsUpTo, TellsAtLeast, ToldSo}
+use Rattle.run_course.specs.Telling.{AreTold, AskedFor, TellsAtLeast, ToldSo}
 use Rattle.run_course.specs.Course.{Course, CourseOk}
 use Rattle.run_course.specs.Workers.{CanPlay, IsUnderWay, Rests}
 use Rattle.run_course.proofs.Lines.{at_get}

@@ -15,10 +15,11 @@ use Rattle.script_text.specs.declared.asks.NamedLine.{NamedLine}
 use Rattle.fitting_run.specs.Lines.{logs_for}
 use Rattle.fitting_run.specs.Faults.{lacks_store}
 use Rattle.turn_scopes.specs.Seats.{SeatView, node_of}
+use Rattle.turn_scopes.proofs.Widening.{legal_wider}
 use Rattle.node_lines.specs.declared.desk.Desk.{Desk}
 use Rattle.node_lines.specs.declared.lines.Looked.{Looked}
 use Rattle.node_lines.specs.Moving.{IsQuiet}
-use Rattle.node_lines.specs.Workers.{Within, WorkerOk}
+use Rattle.node_lines.specs.Workers.{OwnWithin, Within, WorkerOk}
 use Rattle.node_lines.proofs.Staying.{worker_stays}
 use Rattle.run_laws.specs.Ended.{CameTo, Fault, IsAtHome, most_faults, session_in}
 use Rattle.run_course.specs.Script.{AreLines, BeginsAt, asked_by, failed_looks, logs_at}
@@ -87,7 +88,8 @@ module _ (may : ℕ → Entry → Type 0) (floor : List Entry → ℕ → Type 0
 
   worker_ok : WorkerOk may floor shelf state spells m counts' c'.journal seat desks
   worker_ok = subst (λ l. WorkerOk may floor shelf state spells m counts' l seat desks) (sym turn.seen)
-      (worker_stays may floor shelf state spells m counts counts' c.journal turn.more seat desks r.worker.ok (subst (IsLegal (Within may counts') floor shelf) turn.seen ok'.legal) turn.no_fewer
+      (worker_stays may floor shelf state spells m counts counts' c.journal turn.more seat desks r.worker.ok
+      (subst (IsLegal (OwnWithin m may counts') floor shelf) turn.seen (legal_wider (Within may counts') (OwnWithin m may counts') floor shelf (λ user e h. (h.0, λ own. h.1)) c'.journal ok'.legal)) turn.no_fewer
       (λ s d at some. let asked = (r.worker.each s d at).asked in turn.others s (other (home s) (asked_has_home lines home nodes m s from are (omega (arith, some, asked))))))
 
   quiet : (s : ℕ) → IsQuiet (node_of seat c.journal) s → IsQuiet (node_of seat c'.journal) s

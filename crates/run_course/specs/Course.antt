@@ -12,11 +12,11 @@ use Rattle.script_text.specs.declared.asks.NamedLine.{NamedLine}
 use Rattle.node_lines.specs.declared.lines.Looked.{Looked}
 use Rattle.node_lines.specs.declared.lines.Looked.TheVariants as looked
 use Rattle.turn_scopes.specs.Alone.{AreOwn}
-use Rattle.node_lines.specs.Workers.{Within, sent_of}
+use Rattle.node_lines.specs.Workers.{ReportsUpTo, Within, sent_of}
 use Rattle.run_laws.specs.Ended.{Fault}
 use Rattle.run_course.specs.Script.{asked_before, failed_looks}
 use Rattle.run_course.specs.Replacing.{Replaced, has_replaced}
-use Rattle.run_course.specs.Telling.{AreTold, HasToldSo, IsTrim, ReportsUpTo}
+use Rattle.run_course.specs.Telling.{AreTold, HasToldSo, IsTrim}
 
 -- All events so far; the present phase; the tails at which phases began, of those to come the present tail; the faults that came,
 -- but for those of reads' own looks; and the phases in which sessions were stopped, of those that were.

@@ -47,10 +47,6 @@ ToldSo lines looks journal (content.Trim n) = IsCleanPoint journal n
 abbrev pub AreTold : List NamedLine → List (Option Looked) → List Event → Type 0
 AreTold lines looks journal = (e : Entry) (p : Placed) → Contains (appended journal) e → Contains (unpack 0 e) p → ToldSo lines looks journal p.content
 
--- node n told no position above this cursor
-abbrev pub ReportsUpTo : ℕ → ℕ → List Event → Type 0
-ReportsUpTo n cursor journal = (e : Entry) (p : Placed) → Contains (appended journal) e → Contains (unpack 0 e) p → (position : ℕ) → p.content ≡ content.Alive n position → position ≤ cursor
-
 -- what lines came to
 
 -- what the node told stands in the log

@@ -16,12 +16,11 @@ use Rattle.node_lines.specs.declared.desk.Desk.{Desk}
 use Rattle.node_lines.specs.declared.lines.Looked.{Looked}
 use Rattle.node_lines.specs.Measuring.{AreClean}
 use Rattle.node_lines.specs.Moving.{IsQuiet}
-use Rattle.node_lines.specs.Workers.{HasNotLeft, WorkerOk, sent_of}
+use Rattle.node_lines.specs.Workers.{HasNotLeft, IsHome, ReportsUpTo, WorkerOk, sent_of}
 use Rattle.run_laws.specs.Ended.{CameTo, most_faults}
 use Rattle.run_course.specs.Script.{AreLines, BeginsAt, asked_by, failed_looks}
 use Rattle.legal_journal.specs.declared.events.Event.{Event}
 use Rattle.journal_laws.specs.Changes.{TrimsUpTo}
-use Rattle.run_course.specs.Telling.{ReportsUpTo}
 use Rattle.run_course.specs.Course.{Course, CourseOk, TurnOf}
 use Rattle.run_course.specs.Desks.{DeskAt, PlayedSo}
 
@@ -92,10 +91,10 @@ pub record CanPlay (n : ℕ) (journal : List Event) (seat : SeatView) : Type 0 w
   pub cleans : AreClean journal
   pub stays : HasNotLeft n journal
 
--- what the line logs, or has its node tell of itself or ask for, the node may append
+-- what the line logs, or has its node tell of itself or ask for, the node may append; of the line's session nobody else may append anything
 abbrev pub CanSend : (ℕ → Entry → Type 0) → ℕ → Asks → Type 0
-CanSend may who (asks.Logged s r command) = IsSpellable command × (command_length command ≤ 984) × may who (packed who (session_item s.id r command ∷ []))
-CanSend may who (asks.Look s query) = Unit {0}
+CanSend may who (asks.Logged s r command) = IsSpellable command × (command_length command ≤ 984) × may who (packed who (session_item s.id r command ∷ [])) × IsHome may s.id who
+CanSend may who (asks.Look s query) = IsHome may s.id who
 CanSend may who (asks.Admin Extend) = Unit {0}
 CanSend may who (asks.Admin Alive) = (position : ℕ) → position < 2 ^ 64 → may who (packed who (alive_item who position ∷ []))
 CanSend may who (asks.Admin Retire) = may who (packed who (leave_item who ∷ []))

@@ -10,7 +10,7 @@ ghost use Rattle.script_text.specs.declared.line.Admin.TheVariants.{Extend, Aliv
 ghost use Rattle.script_text.specs.declared.asks.Asks.TheVariants as asks;
 ghost use Rattle.legal_journal.specs.Journal.{state_of, trim_of};
 ghost use Rattle.legal_journal.specs.Sealing.{Unsealed};
-ghost use Rattle.journal_laws.specs.Changes.{Adds, TrimsUpTo};
+ghost use Rattle.journal_laws.specs.Changes.{TrimsUpTo};
 ghost use Rattle.base_engine.specs.Trimming.{FloorIs};
 ghost use Rattle.turn_scopes.specs.Alone.{OwnSince};
 ghost use Rattle.turn_scopes.specs.Seats.{SeatView, node_of};
@@ -23,9 +23,9 @@ ghost use Rattle.node_lines.specs.Leaving.{Leaves};
 ghost use Rattle.node_lines.specs.Trimming.{TrimsLog};
 ghost use Rattle.node_lines.specs.Moving.{Moves};
 ghost use Rattle.node_lines.specs.Turns.{EndsTurn};
-ghost use Rattle.node_lines.specs.Workers.{WorkerOk, MayRun, Logs, Within, IsOfSessions, ReportAdds, LeaveAdds, TrimAdds, sent_of};
+ghost use Rattle.node_lines.specs.Workers.{WorkerOk, MayRun, Logs, OwnWithin, OwnAdds, IsOfSessions, ReportAdds, LeaveAdds, TrimAdds, sent_of, ReportsUpTo};
 ghost use Rattle.run_course.specs.Script.{AreLines, BeginsAt, asked_before};
-ghost use Rattle.run_course.specs.Telling.{AskedFor, TellsAtLeast, ReportsUpTo};
+ghost use Rattle.run_course.specs.Telling.{AskedFor, TellsAtLeast};
 ghost use Rattle.run_course.specs.Course.{Course, CourseOk, TurnOf};
 ghost use Rattle.run_course.specs.Workers.{WorkerAt, Rests, LineWent, TurnEnded, NodeFinished, IsUnderWay, CanPlay, IsNext};
 
@@ -80,7 +80,7 @@ pub fn a_command_is_logged<P: Rules, S: Replica>()
         → slice_get lines i ≡ Some line → line.node ≡ n → line.phase ≡ c.phase → line.asks ≡ asks.Logged session rank command
         → CourseOk P.may P.floor P.shelf lines nodes c counts looks
         → WorkerAt P.may P.floor P.shelf S.state S.spells lines home nodes c counts looks n from i c.phase seat desks
-        → OwnSince n c.journal journal → Unsealed c.journal journal → Adds IsOfSessions c.journal journal → TrimsUpTo seat'.node.replica.cursor journal
+        → OwnSince n c.journal journal → Unsealed c.journal journal → OwnAdds n IsOfSessions c.journal journal → TrimsUpTo seat'.node.replica.cursor journal
         → Logs P.may P.floor P.shelf counts counts' (node_of seat c.journal) (node_of seat' journal) session.id desks desks'
         → WorkerOk P.may P.floor P.shelf S.state S.spells n counts' journal seat' desks'
         → LineWent P.may P.floor P.shelf S.state S.spells lines home nodes c counts counts' looks looks n from (i + 1) journal seat' desks' }
@@ -93,9 +93,9 @@ pub fn a_read_has_looked<P: Rules, S: Replica>()
         → slice_get lines i ≡ Some line → line.node ≡ n → line.phase ≡ c.phase → line.asks ≡ asks.Look session query
         → CourseOk P.may P.floor P.shelf lines nodes c counts looks
         → WorkerAt P.may P.floor P.shelf S.state S.spells lines home nodes c counts looks n from i c.phase seat desks
-        → OwnSince n c.journal journal → Unsealed c.journal journal → Adds IsOfSessions c.journal journal → TrimsUpTo seat'.node.replica.cursor journal
+        → OwnSince n c.journal journal → Unsealed c.journal journal → OwnAdds n IsOfSessions c.journal journal → TrimsUpTo seat'.node.replica.cursor journal
         → slice_get desks session.id ≡ Some desk
-        → Looks (Within P.may counts) P.floor P.shelf (node_of seat c.journal) (node_of seat' journal) desk query look
+        → Looks (OwnWithin n P.may counts) P.floor P.shelf (node_of seat c.journal) (node_of seat' journal) desk query look
         → WorkerOk P.may P.floor P.shelf S.state S.spells n counts journal seat' desks
         → LineWent P.may P.floor P.shelf S.state S.spells lines home nodes c counts counts looks (slice_set looks i (Some look)) n from (i + 1) journal seat' desks }
 {}
@@ -107,8 +107,8 @@ pub fn a_node_extends<P: Rules, S: Replica>()
         → slice_get lines i ≡ Some line → line.node ≡ n → line.phase ≡ c.phase → line.asks ≡ asks.Admin Extend
         → CourseOk P.may P.floor P.shelf lines nodes c counts looks
         → WorkerAt P.may P.floor P.shelf S.state S.spells lines home nodes c counts looks n from i c.phase seat desks
-        → OwnSince n c.journal journal → Adds IsOfSessions c.journal journal → TrimsUpTo seat'.node.replica.cursor journal
-        → Extends (Within P.may counts) P.floor P.shelf (node_of seat c.journal) (node_of seat' journal) look
+        → OwnSince n c.journal journal → OwnAdds n IsOfSessions c.journal journal → TrimsUpTo seat'.node.replica.cursor journal
+        → Extends (OwnWithin n P.may counts) P.floor P.shelf (node_of seat c.journal) (node_of seat' journal) look
         → WorkerOk P.may P.floor P.shelf S.state S.spells n counts journal seat' desks
         → LineWent P.may P.floor P.shelf S.state S.spells lines home nodes c counts counts looks (slice_set looks i (Some look)) n from (i + 1) journal seat' desks }
 {}
@@ -121,7 +121,7 @@ pub fn a_node_reports<P: Rules, S: Replica>()
         → CourseOk P.may P.floor P.shelf lines nodes c counts looks
         → WorkerAt P.may P.floor P.shelf S.state S.spells lines home nodes c counts looks n from i c.phase seat desks
         → OwnSince n c.journal journal → Unsealed c.journal journal → ReportAdds n seat'.node.replica.cursor c.journal journal look → TrimsUpTo seat'.node.replica.cursor journal
-        → Reports (Within P.may counts) P.floor P.shelf (node_of seat c.journal) (node_of seat' journal) look
+        → Reports (OwnWithin n P.may counts) P.floor P.shelf (node_of seat c.journal) (node_of seat' journal) look
         → WorkerOk P.may P.floor P.shelf S.state S.spells n counts journal seat' desks
         → LineWent P.may P.floor P.shelf S.state S.spells lines home nodes c counts counts looks (slice_set looks i (Some look)) n from (i + 1) journal seat' desks }
 {}
@@ -134,7 +134,7 @@ pub fn a_node_leaves<P: Rules, S: Replica>()
         → CourseOk P.may P.floor P.shelf lines nodes c counts looks
         → WorkerAt P.may P.floor P.shelf S.state S.spells lines home nodes c counts looks n from i c.phase seat desks
         → OwnSince n c.journal journal → Unsealed c.journal journal → LeaveAdds n c.journal journal → TrimsUpTo seat'.node.replica.cursor journal
-        → Leaves (Within P.may counts) P.floor P.shelf (node_of seat c.journal) (node_of seat' journal) look
+        → Leaves (OwnWithin n P.may counts) P.floor P.shelf (node_of seat c.journal) (node_of seat' journal) look
         → WorkerOk P.may P.floor P.shelf S.state S.spells n counts journal seat' desks
         → LineWent P.may P.floor P.shelf S.state S.spells lines home nodes c counts counts looks (slice_set looks i (Some look)) n from (i + 1) journal seat' desks }
 {}
@@ -146,8 +146,8 @@ pub fn a_node_trims<P: Rules, S: Replica>()
         → slice_get lines i ≡ Some line → line.node ≡ n → line.phase ≡ c.phase → line.asks ≡ asks.Admin Trim
         → CourseOk P.may P.floor P.shelf lines nodes c counts looks
         → WorkerAt P.may P.floor P.shelf S.state S.spells lines home nodes c counts looks n from i c.phase seat desks
-        → OwnSince n c.journal journal → Unsealed c.journal journal → TrimAdds c.journal journal → TrimsUpTo seat'.node.replica.cursor journal
-        → TrimsLog (Within P.may counts) P.floor P.shelf (node_of seat c.journal) (node_of seat' journal) look
+        → OwnSince n c.journal journal → Unsealed c.journal journal → TrimAdds n c.journal journal → TrimsUpTo seat'.node.replica.cursor journal
+        → TrimsLog (OwnWithin n P.may counts) P.floor P.shelf (node_of seat c.journal) (node_of seat' journal) look
         → WorkerOk P.may P.floor P.shelf S.state S.spells n counts journal seat' desks
         → LineWent P.may P.floor P.shelf S.state S.spells lines home nodes c counts counts looks (slice_set looks i (Some look)) n from (i + 1) journal seat' desks }
 {}
@@ -158,8 +158,8 @@ pub fn a_phase_has_ended<P: Rules, S: Replica>()
         → AreLines lines home nodes → 1 ≤ n → n ≤ nodes → BeginsAt lines from c.phase → BeginsAt lines to (c.phase + 1)
         → CourseOk P.may P.floor P.shelf lines nodes c counts looks
         → WorkerAt P.may P.floor P.shelf S.state S.spells lines home nodes c counts looks n from to c.phase seat desks
-        → OwnSince n c.journal journal → Unsealed c.journal journal → Adds IsOfSessions c.journal journal
-        → EndsTurn (Within P.may counts) P.floor P.shelf (node_of seat c.journal) (node_of seat' journal) desks desks' failed
+        → OwnSince n c.journal journal → Unsealed c.journal journal → OwnAdds n IsOfSessions c.journal journal
+        → EndsTurn (OwnWithin n P.may counts) P.floor P.shelf (node_of seat c.journal) (node_of seat' journal) desks desks' failed
         → WorkerOk P.may P.floor P.shelf S.state S.spells n counts journal seat' desks'
         → TurnEnded P.may P.floor P.shelf S.state S.spells lines home nodes c counts looks n to journal seat' desks' }
 {}
@@ -190,8 +190,8 @@ pub fn a_node_finishes<P: Rules, S: Replica>()
         → AreLines lines home nodes → 1 ≤ n → n ≤ nodes → BeginsAt lines from done → done ≤ c.phase + 1
         → CourseOk P.may P.floor P.shelf lines nodes c counts looks
         → Rests P.may P.floor P.shelf S.state S.spells lines home nodes c counts looks n from done seat desks
-        → OwnSince n c.journal journal → Unsealed c.journal journal → Adds IsOfSessions c.journal journal
-        → Moves (Within P.may counts) P.floor P.shelf (node_of seat c.journal) (node_of seat' journal) [] → seat'.node.outbox ≡ seat.node.outbox
+        → OwnSince n c.journal journal → Unsealed c.journal journal → OwnAdds n IsOfSessions c.journal journal
+        → Moves (OwnWithin n P.may counts) P.floor P.shelf (node_of seat c.journal) (node_of seat' journal) [] → seat'.node.outbox ≡ seat.node.outbox
         → WorkerOk P.may P.floor P.shelf S.state S.spells n counts journal seat' desks
         → NodeFinished P.may P.floor P.shelf S.state S.spells lines home nodes c counts looks n from done journal seat' desks }
 {}

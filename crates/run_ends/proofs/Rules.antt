@@ -1,7 +1,8 @@
 -- What may be appended, and what stands in a log of it.
-use Rattle.std.proofs.Common.{◌≡◌, refl, sym, subst, ◌⊎◌, inl, inr, ℕ, zero, suc, ◌<◌, ◌≤◌, ◌^◌, List, [], ◌∷◌, ◌++◌, Option, Some, None, length, arith}
-use Rattle.std.specs.Prelude.{slice_get, All, Contains}
+use Rattle.std.proofs.Common.{◌≡◌, refl, sym, ap, ◌∙◌, subst, ◌⊎◌, inl, inr, ℕ, zero, suc, ◌<◌, ◌≤◌, ◌^◌, ◌==◌, ◌&&◌, true, List, [], ◌∷◌, ◌++◌, Option, Some, None, length, arith, eqb-true}
+use Rattle.std.specs.Prelude.{slice_get, is_some, All, Contains}
 use Rattle.std.specs.List.{AllByRecursion, cons_option}
+use Rattle.std.proofs.lemmas.Bool.{and_parts}
 use Rattle.delos_types.specs.declared.entry.Entry.{Entry}
 use Rattle.delos_types.specs.declared.item.Item.{Item}
 use Rattle.delos_types.specs.declared.place.Place.{Place}
@@ -11,7 +12,8 @@ use Rattle.engine_api.specs.declared.content.Content.{Content}
 use Rattle.engine_api.specs.declared.content.Content.TheVariants.{Session, Alive, Leave, Trim}
 use Rattle.engine_api.specs.declared.content.Placed.{Placed}
 use Rattle.engine_api.specs.Items.{content_of, unpack}
-use Rattle.engine_api.specs.Acted.{Asked, unpack_all, asked_in}
+use Rattle.engine_api.specs.Acted.{Asked, appearances, unpack_all, asked_in}
+use Rattle.engine_api.specs.Order.{first_of}
 use Rattle.engine_api.specs.Packing.{packed, session_item, alive_item, leave_item, trim_item, IsProposable}
 use Rattle.engine_api.proofs.Packed.{content_of-session, content_of-alive, content_of-leave, content_of-trim, proposable-session, proposable-alive, proposable-leave, proposable-trim}
 use Rattle.script_text.specs.declared.line.Admin.TheVariants as admin
@@ -19,10 +21,13 @@ use Rattle.script_text.specs.declared.asks.NamedLine.{NamedLine}
 use Rattle.script_text.specs.declared.asks.Asks.{Asks}
 use Rattle.script_text.specs.declared.asks.Asks.TheVariants as asks
 use Rattle.script_text.specs.declared.line.Session as script
-use Rattle.run_laws.specs.Ended.{LogsThis}
-use Rattle.node_lines.specs.Workers.{MayRun}
+use Rattle.run_laws.specs.Ended.{IsAtHome, LogsThis}
+use Rattle.run_laws.proofs.Members.{all-at, found-among}
+use Rattle.node_lines.specs.Workers.{IsHome, MayRun}
+use Rattle.run_course.specs.Script.{AreLines}
+use Rattle.run_course.proofs.Lines.{at_get}
 use Rattle.base_engine.specs.Trimming.{MayTrim, FloorIs}
-use Rattle.run_ends.specs.Rules.{LogsRank, IsLineOf, may_of, AreOfLines, IsAskedBy}
+use Rattle.run_ends.specs.Rules.{HasLine, LogsRank, IsLineOf, may_of, AreOfLines, IsAskedBy}
 use Rattle.run_ends.proofs.Contents.{all-contained, unpack_all-has, to_packed, one, joined, appearances-has}
 use Rattle.run_ends.proofs.Views.{IsNumber, view, view_number, view_unpack}
 
@@ -113,8 +118,43 @@ module _ (lines : List NamedLine) where
 
   -- The rules of a run
 
+  -- what an item says that the node may append
+  said : (user : ℕ) (e : Entry) (p : Placed) (c : Content) → may_of lines user e → Contains (unpack 0 e) p → p.content ≡ c → IsLineOf lines user c
+  said user e p c h among is = subst (IsLineOf lines user) is (all-contained (λ (q : Placed). IsLineOf lines user q.content) (unpack 0 e) p h.items among)
+
   pub may_run : (nodes : ℕ) (shelf : List ℕ) → MayRun (may_of lines) (MayTrim nodes) shelf
-  may_run nodes shelf = record { low = λ log n h. h.within; join = lines_join }
+  may_run nodes shelf = record {
+    low = λ log n h. h.within;
+    join = lines_join;
+    reports = λ user node n e p h among is. sym (said user e p (Alive node n) h among is).0;
+    leaves = λ user node e p h among is. sym (said user e p (Leave node) h among is).0;
+  }
+
+  -- Whose a session is
+
+  module _ (home : ℕ → ℕ) (nodes : ℕ) (are : AreLines lines home nodes) where
+    -- a line that logs something of it is at its home
+    line_home : (user s r : ℕ) (command : Option Command) → HasLine lines user s r command → user ≡ home s
+    line_home user s r command h = sym h.node ∙ by h.line.asks (at_get (λ (l : NamedLine). IsAtHome home l.node l.asks) lines h.at h.line are.at_home h.is) h.logs
+      where
+        by : (a : Asks) → IsAtHome home h.line.node a → LogsRank a s r command → h.line.node ≡ home s
+        by (asks.Logged t rank c) at logs = at ∙ ap home (sym logs.0)
+        by (asks.Look t q) at logs = absurd logs
+        by (asks.Admin a) at logs = absurd logs
+
+    pub session_home : (s : ℕ) → IsHome (may_of lines) s (home s)
+    session_home s user r e h has = by (first_of (appearances (unpack 0 e)) s r) refl has
+      where
+        all : AllByRecursion (λ (x : Asked). HasLine lines user x.session x.rank x.command) (appearances (unpack 0 e))
+        all = appearances-has (IsLineOf lines user) (λ (x : Asked). HasLine lines user x.session x.rank x.command) (λ place t q c k. k) (unpack 0 e) h.items
+
+        by : (o : Option Asked) → first_of (appearances (unpack 0 e)) s r ≡ o → is_some o ≡ true → user ≡ home s
+        by None is some = absurd (cc)
+        by (Some x) is some =
+            let found = found-among (λ (y : Asked). (y.session == s) && (y.rank == r)) (appearances (unpack 0 e)) x is in
+            let its = all-at (λ (y : Asked). HasLine lines user y.session y.rank y.command) (appearances (unpack 0 e)) x all found.0 in
+            let same : x.session ≡ s = eqb-true x.session s (and_parts (x.session == s) (x.rank == r) found.1).0 in
+            line_home user x.session x.rank x.command its ∙ ap home same
 
 pub floor_is : (nodes : ℕ) → FloorIs (MayTrim nodes) nodes
 floor_is nodes = record { only = λ log n h. h; free = λ log n h. h }

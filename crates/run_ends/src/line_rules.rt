@@ -6,16 +6,23 @@ ghost use Rattle.table_core.specs.Spelling.{IsSpellable, command_length};
 ghost use Rattle.engine_api.specs.Packing.{packed, session_item, alive_item, leave_item, trim_item};
 ghost use Rattle.engine_api.specs.Acted.{Asked, asked_in};
 ghost use Rattle.base_engine.specs.Trimming.{MayTrim, FloorIs};
-ghost use Rattle.node_lines.specs.Workers.{MayRun};
+ghost use Rattle.node_lines.specs.Workers.{IsHome, MayRun};
+ghost use Rattle.run_course.specs.Script.{AreLines};
 ghost use Rattle.script_text.specs.declared.asks.NamedLine.{NamedLine};
 ghost use Rattle.script_text.specs.declared.line.Session.{Session};
 ghost use Rattle.script_text.specs.declared.line.Admin.TheVariants.{Alive, Retire, Trim};
 ghost use Rattle.script_text.specs.declared.asks.Asks.TheVariants as asks;
 ghost use Rattle.run_ends.specs.Rules.{may_of, AreOfLines, IsAskedBy};
 
-/// A run may go by these rules: items of lines may be packed together, and the log is trimmed no further than it goes.
+/// A run may go by these rules: items of lines may be packed together, the log is trimmed no further than it goes, and of no node
+/// another says that it leaves, or how much of the log it needs no more.
 pub fn lines_may_run()
     ensures { (lines : List NamedLine) (nodes : ℕ) (shelf : List ℕ) → MayRun (may_of lines) (MayTrim nodes) shelf }
+{}
+
+/// Of a session the node where its lines are may append commands, and no other.
+pub fn a_session_is_of_one_node()
+    ensures { (lines : List NamedLine) (home : ℕ → ℕ) (nodes : ℕ) → AreLines lines home nodes → (s : ℕ) → IsHome (may_of lines) s (home s) }
 {}
 
 /// The rules let the log be trimmed to where nobody needs it again, and to nowhere else.

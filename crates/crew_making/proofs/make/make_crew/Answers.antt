@@ -42,7 +42,7 @@ returns-in-Ok-new-clause-rests g c =
     subst (λ j. CrewRests p.may p.floor p.shelf r.state r.spells a.lines.now 0 0 j n.result c.in-Ok.looks.items (λ w. w.seat) (λ w. w.desks.items) q.result.items) (sym (ap (λ (f : FabricView). f.journal) c.in-Ok-new.ensures.ok))
     (crew_rests p.may p.floor p.shelf a.lines.now n.result c.in-Ok.looks.items n.ensures.none c.in-Ok.ensures.size c.in-Ok.ensures.none r.state r.spells c.requires.lines.0 (λ w. w.seat) (λ w. w.desks.items) q.result.items
     (subst (AreLines a.lines.now c.requires.lines.0) (sym (size' ∙ size)) c.requires.lines.1) n.ensures.long legal
-    (subst (λ k. AreNewWorkers (Sends p.may n.result []) p.floor p.shelf r.state r.spells k (λ w. w.seat) (λ w. w.desks.items) q.result.items) (sym size') q.ensures.workers))
+    (subst (λ k. AreNewWorkers (λ who. Sends who p.may n.result []) p.floor p.shelf r.state r.spells k (λ w. w.seat) (λ w. w.desks.items) q.result.items) (sym size') q.ensures.workers))
 
 pub returns-in-Ok-new-clause-stands : goal.returns-in-Ok-new-clause-stands
 returns-in-Ok-new-clause-stands g c =

@@ -10,3 +10,4 @@ run_by-requires-clause-floor g c = c.the_floor_is.ensures (length c.args.nodes.i
 
 pub run_by-requires-clause-sends : goal.run_by-requires-clause-sends
 run_by-requires-clause-sends g c = sends_all c.args.lines.now c.requires.lines.0 (length c.args.nodes.items) c.requires.lines.1 c.requires.spelled (c.lines_are_sent.ensures c.args.lines.now) (c.reports_are_sent.ensures c.args.lines.now) (c.leaves_are_sent.ensures c.args.lines.now) (c.trims_are_sent.ensures c.args.lines.now)
+    (c.a_session_is_of_one_node.ensures c.args.lines.now c.requires.lines.0 (length c.args.nodes.items) c.requires.lines.1)

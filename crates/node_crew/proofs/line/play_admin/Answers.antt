@@ -2,14 +2,13 @@ use Rattle.std.proofs.Common.{sym, ap, ◌∙◌, subst, ◌+◌, Some}
 use Rattle.std.specs.Prelude.{slice_set}
 use Rattle.script_text.specs.declared.asks.Asks.TheVariants as asks
 use Rattle.legal_journal.specs.Sealing.{Unsealed}
-use Rattle.journal_laws.specs.Changes.{Adds}
 use Rattle.turn_scopes.specs.Alone.{OwnSince}
 use Rattle.turn_scopes.specs.Seats.{node_of}
 use Rattle.node_lines.specs.Extending.{Extends}
 use Rattle.node_lines.specs.Reporting.{Reports}
 use Rattle.node_lines.specs.Leaving.{Leaves}
 use Rattle.node_lines.specs.Trimming.{TrimsLog}
-use Rattle.node_lines.specs.Workers.{WorkerOk, Within, IsOfSessions, ReportAdds, LeaveAdds, TrimAdds}
+use Rattle.node_lines.specs.Workers.{WorkerOk, OwnWithin, OwnAdds, IsOfSessions, ReportAdds, LeaveAdds, TrimAdds}
 use Rattle.run_course.specs.Workers.{CanSend, LineWent}
 use Rattle.run_course.proofs.Extending.{line_extended}
 use Rattle.run_course.proofs.Reporting.{line_reported}
@@ -44,8 +43,8 @@ returns-in-Extend-clause-goes g c = λ lines home nodes course from at node phas
     let went = line_extended p.may p.floor p.shelf r.state r.spells lines home nodes course counts looks w.seat.who from c.args.i c.args.line.now look w.seat seat w.desks.items new
     u.lines_are u.least u.most at node phase (c.requires.asked ∙ ap (λ a. asks.Admin a) c.in-Extend.is) u.ok u.worker
     (subst (λ j. OwnSince w.seat.who j new) (sym u.journal_is) since)
-    (subst (λ j. Adds IsOfSessions j new) (sym u.journal_is) adds) high
-    (subst (λ j. Extends (Within p.may counts) p.floor p.shelf (node_of w.seat j) (node_of seat new) look) (sym u.journal_is) extends) now' in
+    (subst (λ j. OwnAdds w.seat.who IsOfSessions j new) (sym u.journal_is) adds) high
+    (subst (λ j. Extends (OwnWithin w.seat.who p.may counts) p.floor p.shelf (node_of w.seat j) (node_of seat new) look) (sym u.journal_is) extends) now' in
     subst (λ l. LineWent p.may p.floor p.shelf r.state r.spells lines home nodes course counts counts looks l w.seat.who from (c.args.i + 1) k.result.access.fabric.journal k.result.part.seat k.result.part.desks.items) (sym kept.2)
     (subst (λ x. LineWent p.may p.floor p.shelf r.state r.spells lines home nodes course counts counts looks (slice_set looks c.args.i (Some look)) w.seat.who from (c.args.i + 1) k.result.access.fabric.journal x.seat x.desks.items) (sym k.ensures.part)
     (subst (λ f. LineWent p.may p.floor p.shelf r.state r.spells lines home nodes course counts counts looks (slice_set looks c.args.i (Some look)) w.seat.who from (c.args.i + 1) f.fabric.journal seat q.result.part.desks.items) (sym k.ensures.access)
@@ -86,7 +85,7 @@ returns-in-Alive-clause-goes g c = λ lines home nodes course from at node phase
     (subst (λ j. OwnSince w.seat.who j new) (sym u.journal_is) since)
     (subst (λ j. Unsealed j new) (sym u.journal_is) (left_unsealed q.ensures.left))
     (subst (λ j. ReportAdds w.seat.who seat.node.replica.cursor j new look) (sym u.journal_is) adds) high
-    (subst (λ j. Reports (Within p.may counts) p.floor p.shelf (node_of w.seat j) (node_of seat new) look) (sym u.journal_is) reports) now' in
+    (subst (λ j. Reports (OwnWithin w.seat.who p.may counts) p.floor p.shelf (node_of w.seat j) (node_of seat new) look) (sym u.journal_is) reports) now' in
     subst (λ l. LineWent p.may p.floor p.shelf r.state r.spells lines home nodes course counts counts looks l w.seat.who from (c.args.i + 1) k.result.access.fabric.journal k.result.part.seat k.result.part.desks.items) (sym kept.2)
     (subst (λ x. LineWent p.may p.floor p.shelf r.state r.spells lines home nodes course counts counts looks (slice_set looks c.args.i (Some look)) w.seat.who from (c.args.i + 1) k.result.access.fabric.journal x.seat x.desks.items) (sym k.ensures.part)
     (subst (λ f. LineWent p.may p.floor p.shelf r.state r.spells lines home nodes course counts counts looks (slice_set looks c.args.i (Some look)) w.seat.who from (c.args.i + 1) f.fabric.journal seat q.result.part.desks.items) (sym k.ensures.access)
@@ -127,7 +126,7 @@ returns-in-Retire-clause-goes g c = λ lines home nodes course from at node phas
     (subst (λ j. OwnSince w.seat.who j new) (sym u.journal_is) since)
     (subst (λ j. Unsealed j new) (sym u.journal_is) (left_unsealed q.ensures.left))
     (subst (λ j. LeaveAdds w.seat.who j new) (sym u.journal_is) adds) high
-    (subst (λ j. Leaves (Within p.may counts) p.floor p.shelf (node_of w.seat j) (node_of seat new) look) (sym u.journal_is) leaves) now' in
+    (subst (λ j. Leaves (OwnWithin w.seat.who p.may counts) p.floor p.shelf (node_of w.seat j) (node_of seat new) look) (sym u.journal_is) leaves) now' in
     subst (λ l. LineWent p.may p.floor p.shelf r.state r.spells lines home nodes course counts counts looks l w.seat.who from (c.args.i + 1) k.result.access.fabric.journal k.result.part.seat k.result.part.desks.items) (sym kept.2)
     (subst (λ x. LineWent p.may p.floor p.shelf r.state r.spells lines home nodes course counts counts looks (slice_set looks c.args.i (Some look)) w.seat.who from (c.args.i + 1) k.result.access.fabric.journal x.seat x.desks.items) (sym k.ensures.part)
     (subst (λ f. LineWent p.may p.floor p.shelf r.state r.spells lines home nodes course counts counts looks (slice_set looks c.args.i (Some look)) w.seat.who from (c.args.i + 1) f.fabric.journal seat q.result.part.desks.items) (sym k.ensures.access)
@@ -167,8 +166,8 @@ returns-in-Trim-clause-goes g c = λ lines home nodes course from at node phase 
     u.lines_are u.least u.most at node phase (c.requires.asked ∙ ap (λ a. asks.Admin a) c.in-Trim.is) u.ok u.worker
     (subst (λ j. OwnSince w.seat.who j new) (sym u.journal_is) since)
     (subst (λ j. Unsealed j new) (sym u.journal_is) (left_unsealed q.ensures.left))
-    (subst (λ j. TrimAdds j new) (sym u.journal_is) adds) high
-    (subst (λ j. TrimsLog (Within p.may counts) p.floor p.shelf (node_of w.seat j) (node_of seat new) look) (sym u.journal_is) trims) now' in
+    (subst (λ j. TrimAdds w.seat.who j new) (sym u.journal_is) adds) high
+    (subst (λ j. TrimsLog (OwnWithin w.seat.who p.may counts) p.floor p.shelf (node_of w.seat j) (node_of seat new) look) (sym u.journal_is) trims) now' in
     subst (λ l. LineWent p.may p.floor p.shelf r.state r.spells lines home nodes course counts counts looks l w.seat.who from (c.args.i + 1) k.result.access.fabric.journal k.result.part.seat k.result.part.desks.items) (sym kept.2)
     (subst (λ x. LineWent p.may p.floor p.shelf r.state r.spells lines home nodes course counts counts looks (slice_set looks c.args.i (Some look)) w.seat.who from (c.args.i + 1) k.result.access.fabric.journal x.seat x.desks.items) (sym k.ensures.part)
     (subst (λ f. LineWent p.may p.floor p.shelf r.state r.spells lines home nodes course counts counts looks (slice_set looks c.args.i (Some look)) w.seat.who from (c.args.i + 1) f.fabric.journal seat q.result.part.desks.items) (sym k.ensures.access)

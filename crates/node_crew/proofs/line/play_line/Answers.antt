@@ -1,12 +1,11 @@
 use Rattle.std.proofs.Common.{◌≡◌, refl, sym, ap, ◌∙◌, subst, ◌+◌, ◌<◌, ℕ, zero, suc, List, [], ◌∷◌, length, Some, arith}
 use Rattle.std.specs.Prelude.{slice_get, slice_set}
 use Rattle.legal_journal.specs.Sealing.{Unsealed}
-use Rattle.journal_laws.specs.Changes.{Adds}
 use Rattle.node_lines.specs.declared.desk.Desk.{Desk}
 use Rattle.turn_scopes.specs.Alone.{OwnSince}
 use Rattle.turn_scopes.specs.Seats.{node_of}
 use Rattle.node_lines.specs.Lines.{Looks}
-use Rattle.node_lines.specs.Workers.{WorkerOk, Within, Logs, IsOfSessions}
+use Rattle.node_lines.specs.Workers.{WorkerOk, OwnWithin, OwnAdds, Logs, IsOfSessions}
 use Rattle.run_course.specs.Workers.{LineWent}
 use Rattle.run_course.proofs.Logging.{line_logged}
 use Rattle.run_course.proofs.Looking.{line_looked}
@@ -32,7 +31,7 @@ returns-in-Logged-clause-goes g c = λ lines home nodes course from at node phas
     w.seat c.log_line.result.part.seat w.desks.items c.log_line.result.part.desks.items new u.lines_are u.least u.most at node phase c.in-Logged.is u.ok u.worker
     (subst (λ j. OwnSince w.seat.who j new) (sym u.journal_is) (left_own c.log_line.ensures.left))
     (subst (λ j. Unsealed j new) (sym u.journal_is) (left_unsealed c.log_line.ensures.left))
-    (subst (λ j. Adds IsOfSessions j new) (sym u.journal_is) adds) high
+    (subst (λ j. OwnAdds w.seat.who IsOfSessions j new) (sym u.journal_is) adds) high
     (subst (λ j. Logs p.may p.floor p.shelf c.args.counts.now c.log_line.new.counts (node_of w.seat j) (node_of c.log_line.result.part.seat new) s.id w.desks.items c.log_line.result.part.desks.items) (sym u.journal_is) logs)
     now)
 
@@ -66,8 +65,8 @@ returns-in-Look-clause-goes g c = λ lines home nodes course from at node phase 
     u.lines_are u.least u.most u.begins at node phase c.in-Look.is u.ok u.worker
     (subst (λ j. OwnSince w.seat.who j new) (sym u.journal_is) since)
     (subst (λ j. Unsealed j new) (sym u.journal_is) (left_unsealed q.ensures.left))
-    (subst (λ j. Adds IsOfSessions j new) (sym u.journal_is) adds) high d.1
-    (subst (λ j. Looks (Within p.may counts) p.floor p.shelf (node_of w.seat j) (node_of seat new) d.0 c.in-Look.query look) (sym u.journal_is) (looks_it d.0 d.1)) now' in
+    (subst (λ j. OwnAdds w.seat.who IsOfSessions j new) (sym u.journal_is) adds) high d.1
+    (subst (λ j. Looks (OwnWithin w.seat.who p.may counts) p.floor p.shelf (node_of w.seat j) (node_of seat new) d.0 c.in-Look.query look) (sym u.journal_is) (looks_it d.0 d.1)) now' in
     subst (λ l. LineWent p.may p.floor p.shelf r.state r.spells lines home nodes course counts counts looks l w.seat.who from (c.args.i + 1) k.result.access.fabric.journal k.result.part.seat k.result.part.desks.items) (sym kept.2)
     (subst (λ x. LineWent p.may p.floor p.shelf r.state r.spells lines home nodes course counts counts looks (slice_set looks c.args.i (Some look)) w.seat.who from (c.args.i + 1) k.result.access.fabric.journal x.seat x.desks.items) (sym k.ensures.part)
     (subst (λ f. LineWent p.may p.floor p.shelf r.state r.spells lines home nodes course counts counts looks (slice_set looks c.args.i (Some look)) w.seat.who from (c.args.i + 1) f.fabric.journal seat q.result.part.desks.items) (sym k.ensures.access)

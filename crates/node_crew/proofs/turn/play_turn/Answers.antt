@@ -1,10 +1,9 @@
 use Rattle.std.proofs.Common.{sym, ◌∙◌, subst, ◌+◌}
 use Rattle.legal_journal.specs.Sealing.{Unsealed}
-use Rattle.journal_laws.specs.Changes.{Adds}
 use Rattle.turn_scopes.specs.Alone.{OwnSince}
 use Rattle.turn_scopes.specs.Seats.{node_of}
 use Rattle.node_lines.specs.Turns.{EndsTurn}
-use Rattle.node_lines.specs.Workers.{WorkerOk, Within, IsOfSessions}
+use Rattle.node_lines.specs.Workers.{WorkerOk, OwnWithin, OwnAdds, IsOfSessions}
 use Rattle.run_course.specs.Script.{BeginsAt}
 use Rattle.run_course.proofs.Ending.{phase_ended}
 use Rattle.run_course.proofs.Joining.{turns_join}
@@ -55,9 +54,10 @@ returns-in-Ok-answer-clause-goes g c = λ home nodes course u ends.
     let since' = subst (λ j. OwnSince a.node j new) (sym w.journal_is) (subst (λ k. OwnSince k mid new) who since) in
     let still = subst (λ j. Unsealed j new) (sym w.journal_is) (left_unsealed left) in
     let adds = in_ok _ c.in-Ok-answer.is e.ensures.adds in
-    let adds' = subst (λ j. Adds IsOfSessions j new) (sym w.journal_is) adds in
+    let adds' = subst (λ j. OwnAdds a.node IsOfSessions j new) (sym w.journal_is) (subst (λ k. OwnAdds k IsOfSessions mid new) who adds) in
     let does = in_ok _ c.in-Ok-answer.is e.ensures.ends in
-    let does' = subst (λ j. EndsTurn (Within p.may counts) p.floor p.shelf (node_of seat j) (node_of seat' new) desks desks' c.in-Ok-answer._failed) (sym w.journal_is) does in
+    let does' = subst (λ j. EndsTurn (OwnWithin a.node p.may counts) p.floor p.shelf (node_of seat j) (node_of seat' new) desks desks' c.in-Ok-answer._failed) (sym w.journal_is)
+    (subst (λ k. EndsTurn (OwnWithin k p.may counts) p.floor p.shelf (node_of seat mid) (node_of seat' new) desks desks' c.in-Ok-answer._failed) who does) in
     let now = in_ok _ c.in-Ok-answer.is e.ensures.worker in
     let now' = subst (λ k. WorkerOk p.may p.floor p.shelf r.state r.spells k counts new seat' desks') who now in
     let t = phase_ended p.may p.floor p.shelf r.state r.spells c.requires.run a.lines.now home nodes w.course counts looks a.node a.from a.to c.in-Ok-answer._failed seat seat' desks desks' new u.lines_are u.least u.most over w.ok w.worker since' still adds' does' now' in
@@ -67,7 +67,7 @@ returns-in-Ok-answer-clause-goes g c = λ home nodes course u ends.
       ok = t.ok;
       turn = turns_join a.lines.now home a.node course w.course t.course a.counts.now counts counts a.looks.now.items looks looks w.turn t.turn;
       rests = t.rests;
-      sees = ended_sees p.may (Within p.may counts) p.floor p.shelf seat seat' desks desks' mid new c.in-Ok-answer._failed left.stands.node.legal e.ensures.low since does;
+      sees = ended_sees p.may (OwnWithin seat.who p.may counts) p.floor p.shelf seat seat' desks desks' mid new c.in-Ok-answer._failed left.stands.node.legal e.ensures.low since does;
     }
 
 pub returns-in-Ok-answer-clause-grows : goal.returns-in-Ok-answer-clause-grows

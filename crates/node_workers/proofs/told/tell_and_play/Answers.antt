@@ -1,10 +1,11 @@
 use Rattle.std.proofs.Common.{◌≡◌, ◌⊎◌, refl, subst, inl, inr, [], ◌∷◌}
 use Rattle.delos_types.specs.declared.entry.Entry.{Entry}
-use Rattle.journal_laws.proofs.Changes.{adds_trans, adds_wider}
 use Rattle.engine_api.specs.Packing.{packed}
 use Rattle.turn_scopes.specs.Seats.{node_of}
 use Rattle.node_lines.specs.Reporting.{Tells}
-use Rattle.node_lines.specs.Workers.{Within, IsOfSessions}
+use Rattle.node_lines.specs.Workers.{OwnWithin, IsOfSessions, OwnAdds}
+use Rattle.node_lines.specs.Leaving.{PlaysKnown}
+use Rattle.node_lines.proofs.Own.{own_adds_trans, own_adds_wider}
 use Rattle.node_workers.proofs.Stepping.{left_both}
 use Rattle.node_workers.proofs.Ok.{in_ok, on_ok, ok_then}
 use Rattle.node_workers.proofs.told.tell_and_play.Goals as goal
@@ -14,6 +15,9 @@ in_turn-requires-clause-seat g c = (on_ok _ c.in-Ok.is c.tell-seat.ensures.done)
 
 pub in_turn-requires-clause-high : goal.in_turn-requires-clause-high
 in_turn-requires-clause-high g c = (on_ok _ c.in-Ok.is c.tell-seat.ensures.done).high
+
+pub in_turn-requires-clause-keeps : goal.in_turn-requires-clause-keeps
+in_turn-requires-clause-keeps g c = (on_ok _ c.in-Ok.is c.tell-seat.ensures.done).keeps
 
 pub returns-in-Some-clause-done : goal.returns-in-Some-clause-done
 returns-in-Some-clause-done g c = on_ok _ c.in-Ok.is c.tell-seat.ensures.done
@@ -25,22 +29,24 @@ pub returns-in-Some-clause-did : goal.returns-in-Some-clause-did
 returns-in-Some-clause-did g c =
     let p = g.A.Law.Rules in
     let told = in_ok _ c.in-Ok.is c.tell-seat.ensures.did in
-    inl (record { cause = c.in-Some.cause; is = refl; tells = subst (λ f. Tells (Within p.may c.args.counts.now) p.floor p.shelf (node_of c.args.seat (g.A.Access.seen c.args.access)) (node_of c.tell-seat.result.part (g.A.Access.seen c.tell-seat.result.access)) c.args.item f) c.in-Some.is told })
+    inl (record { cause = c.in-Some.cause; is = refl; tells = subst (λ f. Tells (OwnWithin c.args.seat.who p.may c.args.counts.now) p.floor p.shelf (node_of c.args.seat (g.A.Access.seen c.args.access)) (node_of c.tell-seat.result.part (g.A.Access.seen c.tell-seat.result.access)) c.args.item f) c.in-Some.is told })
 
 pub returns-clause-adds : goal.returns-clause-adds
 returns-clause-adds g c =
     let P : Entry → Type 0 = λ e. IsOfSessions e ⊎ (e ≡ packed c.args.seat.node.replica.origin (c.args.item ∷ [])) in
     let mid = g.A.Access.seen c.tell-seat.result.access in
     let now = g.A.Access.seen c.in_turn.result.access in
-    ok_then c.in_turn.result.answer c.in_turn.ensures.adds (λ x h. adds_trans P (g.A.Access.seen c.args.access) mid now (on_ok _ c.in-Ok.is c.tell-seat.ensures.adds) (adds_wider IsOfSessions P mid now (λ e k. inl k) h))
+    ok_then c.in_turn.result.answer c.in_turn.ensures.adds (λ x h. own_adds_trans c.args.seat.who P (g.A.Access.seen c.args.access) mid now (on_ok _ c.in-Ok.is c.tell-seat.ensures.adds)
+    (own_adds_wider c.args.seat.who IsOfSessions P mid now (λ e k. inl k) (subst (λ w. OwnAdds w IsOfSessions mid now) c.tell-seat.ensures.left.who h)))
 
 pub returns-clause-did : goal.returns-clause-did
 returns-clause-did g c =
     let p = g.A.Law.Rules in
     let mid = node_of c.tell-seat.result.part (g.A.Access.seen c.tell-seat.result.access) in
+    let now = node_of c.in_turn.result.part (g.A.Access.seen c.in_turn.result.access) in
     let told = in_ok _ c.in-Ok.is c.tell-seat.ensures.did in
     ok_then c.in_turn.result.answer c.in_turn.ensures.did
-    (λ x h. inr (record { told = mid; tells = subst (λ f. Tells (Within p.may c.args.counts.now) p.floor p.shelf (node_of c.args.seat (g.A.Access.seen c.args.access)) mid c.args.item f) c.in_default.is told; plays = h.0; reached = h.1 }))
+    (λ x h. inr (record { told = mid; tells = subst (λ f. Tells (OwnWithin c.args.seat.who p.may c.args.counts.now) p.floor p.shelf (node_of c.args.seat (g.A.Access.seen c.args.access)) mid c.args.item f) c.in_default.is told; plays = subst (λ w. PlaysKnown (OwnWithin w p.may c.args.counts.now) p.floor p.shelf mid now x) c.tell-seat.ensures.left.who h.0; reached = h.1 }))
 
 pub returns-clause-left : goal.returns-clause-left
 returns-clause-left g c = left_both c.tell-seat.ensures.left c.in_turn.ensures.left

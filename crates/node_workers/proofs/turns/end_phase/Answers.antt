@@ -4,7 +4,7 @@ use Rattle.node_workers.proofs.Working.{worker_ends}
 use Rattle.node_workers.proofs.turns.end_phase.Goals as goal
 
 pub in_turn-seat-requires-clause-can : goal.in_turn-seat-requires-clause-can
-in_turn-seat-requires-clause-can g c = (c.requires.worker.packs, c.requires.worker.each, λ s d at some who e k allowed has. omega (arith, allowed.0.1 s k has, c.requires.worker.counted s d at some))
+in_turn-seat-requires-clause-can g c = (c.requires.worker.packs, c.requires.worker.each, λ s d at some user e k allowed has. omega (arith, allowed.0.1 (c.requires.worker.home s d at some user k e allowed.0.0 has) s k has, c.requires.worker.counted s d at some))
 
 pub returns-clause-worker : goal.returns-clause-worker
 returns-clause-worker g c =
@@ -16,3 +16,6 @@ returns-clause-worker g c =
 
 pub returns-clause-high : goal.returns-clause-high
 returns-clause-high g c = ok_then c.in_turn-seat.result.answer c.in_turn-seat.ensures.done (λ x h. h.high)
+
+pub returns-clause-keeps : goal.returns-clause-keeps
+returns-clause-keeps g c = ok_then c.in_turn-seat.result.answer c.in_turn-seat.ensures.done (λ x h. h.keeps)

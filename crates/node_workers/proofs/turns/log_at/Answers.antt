@@ -1,20 +1,20 @@
 use Rattle.std.proofs.Common.{◌≡◌, sym, ap, ◌∙◌, subst, ⊎_elim, ◌+◌, ◌^◌, ◌<◌, ◌≤◌, [], ◌∷◌, ◌++◌, Some, None, arith}
 use Rattle.std.specs.Prelude.{All}
 use Rattle.std.proofs.lemmas.List.Elements.{All-push}
-use Rattle.journal_laws.proofs.Changes.{adds_trans}
 use Rattle.engine_api.specs.Items.{content_of}
 use Rattle.engine_api.specs.Packing.{packed, session_item}
 use Rattle.engine_api.proofs.Packed.{content_of-session, proposable-session}
 use Rattle.base_engine.specs.Settling.{cause_in}
 use Rattle.node_lines.specs.declared.desk.Desk.{Desk}
-use Rattle.node_lines.specs.UnderWay.{rank_under}
+use Rattle.node_lines.specs.UnderWay.{HasRank, rank_under}
 use Rattle.turn_scopes.specs.Seats.{node_of}
 use Rattle.node_lines.specs.Moving.{HandsIn}
 use Rattle.node_lines.specs.Desks.{DeskOk}
 use Rattle.node_lines.specs.Lines.{Readies}
 use Rattle.node_lines.proofs.Moving.{rank_elsewhere}
 use Rattle.node_lines.proofs.Sessions.{own_under}
-use Rattle.node_lines.specs.Workers.{Within, Sends, IsOfSession, IsOfSessions, LogsIt, sent_of}
+use Rattle.node_lines.specs.Workers.{OwnWithin, Sends, OwnAdds, IsOfSession, IsOfSessions, LogsIt, sent_of}
+use Rattle.node_lines.proofs.Own.{own_adds_trans}
 use Rattle.node_workers.proofs.Joining.{sends-next, session-command, within-one}
 use Rattle.node_workers.proofs.Logging.{OneMore, counts-rise, kept_logs, handed_logs}
 use Rattle.node_workers.proofs.Ok.{in_ok, on_ok, ok_then}
@@ -26,8 +26,14 @@ pub in_turn-seat-requires-clause-can : goal.in_turn-seat-requires-clause-can
 in_turn-seat-requires-clause-can g c =
     let d = c.args.desk.now in
     let ok = c.requires.desk in
-    let sent = c.requires.sent ∙ ap (sent_of c.args.counts.now) (sym ok.session) in
-    (c.requires.kept, subst (λ k. DeskOk (node_of c.args.seat (g.A.Access.seen c.args.access)) k d) (sym ok.session) ok, λ who e k allowed has. omega (arith, allowed.0.1 d.session k has, sent), omega (arith, c.requires.few))
+    let sent = c.requires.sent ∙ ap (sent_of c.args.counts.now) (sym ok.session) in (
+      c.requires.kept,
+      subst (λ k. DeskOk (node_of c.args.seat (g.A.Access.seen c.args.access)) k d) (sym ok.session) ok,
+      λ user e k allowed has.
+          let own = c.requires.home user k e allowed.0.0 (subst (λ s. HasRank s k e) ok.session has) in
+          omega (arith, allowed.0.1 own d.session k has, sent),
+      omega (arith, c.requires.few),
+    )
 
 pub returns-then-not-is_ready-clause-done : goal.returns-then-not-is_ready-clause-done
 returns-then-not-is_ready-clause-done g c = on_ok _ c.in-Ok.is c.in_turn-seat.ensures.done
@@ -48,7 +54,7 @@ returns-then-not-is_ready-clause-logs g c =
     let counts = c.args.counts.now in
     let r = (in_ok _ c.in-Ok.is c.in_turn-seat.ensures.did).0 in
     subst (λ (x : Desk). LogsIt p.may p.floor p.shelf counts counts old mid s c.args.desk.now x) (sym c.keep.ensures)
-    (kept_logs p.may p.floor p.shelf c.requires.run.low counts old mid s c.args.desk.now d (subst (λ b. Readies (Within p.may counts) p.floor p.shelf old mid c.args.desk.now d b) c.if-not-is_ready.true r) c.requires.sent)
+    (kept_logs p.may p.floor p.shelf c.requires.run.low counts old mid s c.args.desk.now d (subst (λ b. Readies (OwnWithin c.args.seat.who p.may counts) p.floor p.shelf old mid c.args.desk.now d b) c.if-not-is_ready.true r) c.requires.sent)
 
 pub in_turn-requires-clause-seat : goal.in_turn-requires-clause-seat
 in_turn-requires-clause-seat g c =
@@ -57,7 +63,10 @@ in_turn-requires-clause-seat g c =
     let counts = c.args.counts.now in
     let counts' = c.count.new.counts in
     let one : OneMore counts counts' c.args.session = record { own = c.count.ensures.own; others = c.count.ensures.others } in
-    seat_counted p.may p.floor p.shelf r.state r.spells counts counts' (g.A.Access.seen c.in_turn-seat.result.access) c.in_turn-seat.result.part (counts-rise counts counts' c.args.session one) (on_ok _ c.in-Ok.is c.in_turn-seat.ensures.done).ok
+    seat_counted c.in_turn-seat.result.part.who p.may p.floor p.shelf r.state r.spells counts counts' (g.A.Access.seen c.in_turn-seat.result.access) c.in_turn-seat.result.part (counts-rise counts counts' c.args.session one) (on_ok _ c.in-Ok.is c.in_turn-seat.ensures.done).ok
+
+pub in_turn-requires-clause-keeps : goal.in_turn-requires-clause-keeps
+in_turn-requires-clause-keeps g c = (on_ok _ c.in-Ok.is c.in_turn-seat.ensures.done).keeps
 
 pub in_turn-requires-clause-high : goal.in_turn-requires-clause-high
 in_turn-requires-clause-high g c = (on_ok _ c.in-Ok.is c.in_turn-seat.ensures.done).high
@@ -103,18 +112,21 @@ in_turn-requires-clause-can g c =
       given = free.1;
       near = (r.free c.if-not-is_ready.false).1;
       few = omega (arith, c.requires.few, asked);
-      bound = λ who e k allowed has. omega (arith, allowed.0.1 d.session k has, counted);
+      bound = λ user e k allowed has.
+          let by_own = c.requires.home user k e allowed.0.0 (subst (λ s. HasRank s k e) named has) ∙ sym keeps.who in
+          omega (arith, allowed.0.1 by_own d.session k has, counted);
       spelled = c.requires.spelled;
       short = c.requires.short;
-      own = subst (λ o. Sends p.may counts' journal seat.who (packed o (seat.node.replica.kept ++ item ∷ []))) (sym origin)
+      own = subst (λ o. Sends seat.who p.may counts' journal seat.who (packed o (seat.node.replica.kept ++ item ∷ []))) (sym origin)
           (sends-next p.may counts' journal seat.who seat.node.replica.kept item (c.requires.run.join seat.who) (r.moves.goes.packs c.requires.kept) waits
-          (λ waiting. subst (λ o. Within p.may counts' seat.who (packed o seat.node.replica.kept)) origin ((in_turn-requires-clause-seat g c).node.waiting waiting).0)
+          (λ waiting. subst (λ o. OwnWithin seat.who p.may counts' seat.who (packed o seat.node.replica.kept)) origin ((in_turn-requires-clause-seat g c).node.waiting waiting).0)
           fine (session-command d.session n cmd stands.known some small c.requires.spelled) own);
     }
 
 pub returns-clause-adds : goal.returns-clause-adds
 returns-clause-adds g c =
-    ok_then c.in_turn.result.answer c.in_turn.ensures.adds (λ x h. adds_trans IsOfSessions (g.A.Access.seen c.args.access) (g.A.Access.seen c.in_turn-seat.result.access) (g.A.Access.seen c.in_turn.result.access) (on_ok _ c.in-Ok.is c.in_turn-seat.ensures.adds) h)
+    ok_then c.in_turn.result.answer c.in_turn.ensures.adds (λ x h. own_adds_trans c.args.seat.who IsOfSessions (g.A.Access.seen c.args.access) (g.A.Access.seen c.in_turn-seat.result.access) (g.A.Access.seen c.in_turn.result.access) (on_ok _ c.in-Ok.is c.in_turn-seat.ensures.adds)
+    (subst (λ w. OwnAdds w IsOfSessions (g.A.Access.seen c.in_turn-seat.result.access) (g.A.Access.seen c.in_turn.result.access)) c.in_turn-seat.ensures.left.who h))
 
 pub returns-clause-desk : goal.returns-clause-desk
 returns-clause-desk g c =
@@ -153,7 +165,7 @@ returns-clause-logs g c =
     let named : d.session ≡ s = ap (λ (x : Desk). x.session) r.desk ∙ c.requires.desk.session in
     ok_then c.in_turn.result.answer c.in_turn.ensures.did
     (λ x h. handed_logs p.may p.floor p.shelf c.requires.run.low counts counts' old mid new s was d c.in_turn.new.on (record { own = c.count.ensures.own; others = c.count.ensures.others })
-    (subst (λ b. Readies (Within p.may counts) p.floor p.shelf old mid was d b) c.if-not-is_ready.false r) (subst (λ q. HandsIn (Within p.may counts') p.floor p.shelf mid new q d.sent) named h.hands) c.requires.sent h.counts)
+    (subst (λ b. Readies (OwnWithin c.args.seat.who p.may counts) p.floor p.shelf old mid was d b) c.if-not-is_ready.false r) (subst (λ q. HandsIn (OwnWithin c.in_turn-seat.result.part.who p.may counts') p.floor p.shelf mid new q d.sent) named h.hands) c.requires.sent h.counts)
 
 pub returns-clause-left : goal.returns-clause-left
 returns-clause-left g c = left_both c.in_turn-seat.ensures.left c.in_turn.ensures.left

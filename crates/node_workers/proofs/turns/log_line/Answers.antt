@@ -40,7 +40,7 @@ returns-clause-worker g c =
     let at = desk_there xs c.from-i.result c.number.result s d c.requires.worker.size c.number.ensures.range c.from-i.ensures c.number.ensures.value c.index_mut.ensures.value in
     ok_then back.answer (ok_pair _ _ back.answer (ok_pair _ _ back.answer c.log_at-seat.ensures.done c.log_at-seat.ensures.waits) (ok_pair _ _ back.answer c.log_at-seat.ensures.desk c.log_at-seat.ensures.logs))
     (λ x h. subst (λ k. WorkerOk p.may p.floor p.shelf r.state r.spells a.who counts' (g.A.Access.seen back.access) back.part (slice_set xs k new)) (sym (c.from-i.ensures ∙ c.number.ensures.value))
-    (worker_logs p.may p.floor p.shelf c.requires.run.low r.state r.spells a.who c.args.counts.now counts' (g.A.Access.seen c.args.access) (g.A.Access.seen back.access) a back.part xs s d new c.requires.worker h.0.0.ok h.0.1 at h.1.0 h.1.1))
+    (worker_logs p.may p.floor p.shelf c.requires.run.low r.state r.spells a.who c.args.counts.now counts' (g.A.Access.seen c.args.access) (g.A.Access.seen back.access) a back.part xs s d new c.requires.worker c.requires.home h.0.0.ok h.0.1 at h.1.0 h.1.1))
 
 pub returns-clause-logs : goal.returns-clause-logs
 returns-clause-logs g c =
@@ -53,3 +53,6 @@ returns-clause-logs g c =
 
 pub returns-clause-high : goal.returns-clause-high
 returns-clause-high g c = ok_then c.log_at-seat.result.answer c.log_at-seat.ensures.done (λ x h. h.high)
+
+pub returns-clause-keeps : goal.returns-clause-keeps
+returns-clause-keeps g c = ok_then c.log_at-seat.result.answer c.log_at-seat.ensures.done (λ x h. h.keeps)

@@ -2,7 +2,7 @@ use Rattle.std.proofs.Common.{◌≡◌, ◌-◌, ◌+◌, length, subst, sym, a
 use Rattle.run_ends.specs.Ends.{cursor_at, cursor_of}
 use Rattle.run_ends.proofs.Ending.{played_lines, run_ended}
 use Rattle.run_ends.proofs.Turns.{some_at}
-use Rattle.run_course.specs.Telling.{ReportsUpTo}
+use Rattle.node_lines.specs.Workers.{ReportsUpTo}
 use Rattle.run_ends.proofs.ends.what_closed_has_ended.Goals as goal
 
 pub returns : goal.returns

@@ -1,17 +1,18 @@
-use Rattle.std.proofs.Common.{refl, sym, ap, ◌∙◌, ◌<◌, ◌^◌, [], ◌∷◌, Some, arith}
+use Rattle.std.proofs.Common.{◌≡◌, ◌⊎◌, refl, sym, ap, subst, ◌∙◌, ◌<◌, ◌^◌, [], ◌∷◌, Some, arith}
 use Rattle.engine_api.specs.declared.content.Content.TheVariants as content
+use Rattle.engine_api.specs.Items.{content_of}
 use Rattle.engine_api.specs.Members.{clean_position}
 use Rattle.engine_api.specs.Packing.{packed, alive_item}
 use Rattle.turn_scopes.specs.Seats.{node_of}
 use Rattle.node_lines.specs.declared.lines.Looked.TheVariants as looked
-use Rattle.node_lines.specs.Reporting.{IsPlain, Reports}
-use Rattle.node_lines.specs.Workers.{Within, ReportAdds}
+use Rattle.node_lines.specs.Reporting.{IsPlain, Tells, Reports}
+use Rattle.node_lines.specs.Workers.{OwnWithin, OwnAdds, IsOfSessions, ReportAdds}
 use Rattle.node_lines.specs.Steps.{IsDone}
 use Rattle.node_lines.proofs.Assembling.{reports_unmeasured}
 use Rattle.node_workers.proofs.Joining.{says-one}
 use Rattle.node_workers.proofs.Stepping.{left_both}
 use Rattle.node_workers.proofs.Ok.{on_ok, in_ok_at, ok_pair, ok_comes}
-use Rattle.node_workers.proofs.Telling.{may_say, reports, report_adds, report_adds_none}
+use Rattle.node_workers.proofs.Telling.{measured_low, may_say, reports, report_adds, report_adds_none}
 use Rattle.node_workers.proofs.admin.ReportLineOwnLine.go.Goals as goal
 
 pub returns-in-Failed-clause-done : goal.returns-in-Failed-clause-done
@@ -25,7 +26,7 @@ returns-in-Failed-clause-adds g c =
 pub returns-in-Failed-clause-did : goal.returns-in-Failed-clause-did
 returns-in-Failed-clause-did g c =
     let p = g.A.Law.Rules in
-    reports_unmeasured (Within p.may c.args.counts.now) p.floor p.shelf c.requires.run.low clean_position (node_of c.args.seat (g.A.Access.seen c.args.access))
+    reports_unmeasured (OwnWithin c.args.seat.who p.may c.args.counts.now) p.floor p.shelf c.requires.run.low clean_position (node_of c.args.seat (g.A.Access.seen c.args.access))
     (node_of c.in_turn-seat.result.part (g.A.Access.seen c.in_turn-seat.result.access)) c.in-Failed.cause
     (in_ok_at _ c.in-Ok.is c.in-Failed.is c.in_turn-seat.ensures.did)
 
@@ -34,6 +35,15 @@ tell-seat-requires-clause-seat g c = (on_ok _ c.in-Ok.is c.in_turn-seat.ensures.
 
 pub tell-seat-requires-clause-high : goal.tell-seat-requires-clause-high
 tell-seat-requires-clause-high g c = (on_ok _ c.in-Ok.is c.in_turn-seat.ensures.done).high
+
+pub tell-seat-requires-clause-keeps : goal.tell-seat-requires-clause-keeps
+tell-seat-requires-clause-keeps g c = (on_ok _ c.in-Ok.is c.in_turn-seat.ensures.done).keeps
+
+pub tell-seat-requires-clause-low : goal.tell-seat-requires-clause-low
+tell-seat-requires-clause-low g c = λ user there what says.
+    let p = g.A.Law.Rules in
+    measured_low (OwnWithin c.args.seat.who p.may c.args.counts.now) p.floor p.shelf (node_of c.args.seat (g.A.Access.seen c.args.access)) (node_of c.in_turn-seat.result.part (g.A.Access.seen c.in_turn-seat.result.access)) c.in-At.position
+    c.args.self.number (content_of c.in-Ok-alive_item.value) (in_ok_at _ c.in-Ok.is c.in-At.is c.in_turn-seat.ensures.did) c.in-Ok-alive_item.ensures.says what says
 
 pub tell-seat-requires-clause-can : goal.tell-seat-requires-clause-can
 tell-seat-requires-clause-can g c =
@@ -58,24 +68,36 @@ pub returns-clause-did : goal.returns-clause-did
 returns-clause-did g c =
     let p = g.A.Law.Rules in
     let made = c.in-Ok-alive_item.ensures in
-    ok_comes (Reports (Within p.may c.args.counts.now) p.floor p.shelf (node_of c.args.seat (g.A.Access.seen c.args.access)) (node_of c.tell-seat.result.part (g.A.Access.seen c.tell-seat.result.access))) c.tell-seat.result.answer c.came_to.ensures c.tell-seat.ensures.did
-    (λ failed t. reports (Within p.may c.args.counts.now) p.floor p.shelf c.requires.run.low (node_of c.args.seat (g.A.Access.seen c.args.access))
-    (node_of c.in_turn-seat.result.part (g.A.Access.seen c.in_turn-seat.result.access)) (node_of c.tell-seat.result.part (g.A.Access.seen c.tell-seat.result.access))
-    c.args.self.number c.in-At.position c.in-Ok-alive_item.value failed (in_ok_at _ c.in-Ok.is c.in-At.is c.in_turn-seat.ensures.did) made.item
-    (sym c.requires.can.0 ∙ sym c.requires.origin) made.proposable made.says t)
+    let counts = c.args.counts.now in
+    let old = node_of c.args.seat (g.A.Access.seen c.args.access) in
+    let mid = node_of c.in_turn-seat.result.part (g.A.Access.seen c.in_turn-seat.result.access) in
+    let now = node_of c.tell-seat.result.part (g.A.Access.seen c.tell-seat.result.access) in
+    let item = c.in-Ok-alive_item.value in
+    ok_comes (Reports (OwnWithin c.args.seat.who p.may counts) p.floor p.shelf old now) c.tell-seat.result.answer c.came_to.ensures c.tell-seat.ensures.did
+    (λ failed t. reports (OwnWithin c.args.seat.who p.may counts) p.floor p.shelf c.requires.run.low old mid now c.args.self.number c.in-At.position item failed (in_ok_at _ c.in-Ok.is c.in-At.is c.in_turn-seat.ensures.did) made.item
+    (sym c.requires.can.0 ∙ sym c.requires.origin) made.proposable made.says
+    (subst (λ w. Tells (OwnWithin w p.may counts) p.floor p.shelf mid now item failed) c.in_turn-seat.ensures.left.who t))
 
 pub returns-clause-adds : goal.returns-clause-adds
 returns-clause-adds g c =
     let p = g.A.Law.Rules in
     let a = c.args.seat in
     let b = c.in_turn-seat.result.part in
+    let counts = c.args.counts.now in
+    let was = g.A.Access.seen c.args.access in
+    let seen = g.A.Access.seen c.in_turn-seat.result.access in
+    let now = g.A.Access.seen c.tell-seat.result.access in
+    let old = node_of a was in
+    let mid = node_of b seen in
+    let new = node_of c.tell-seat.result.part now in
     let item = c.in-Ok-alive_item.value in
     let made = c.in-Ok-alive_item.ensures in
-    ok_comes (ReportAdds a.who c.tell-seat.result.part.node.replica.cursor (g.A.Access.seen c.args.access) (g.A.Access.seen c.tell-seat.result.access)) c.tell-seat.result.answer c.came_to.ensures (ok_pair _ _ c.tell-seat.result.answer c.tell-seat.ensures.did c.tell-seat.ensures.adds)
-    (λ failed h. report_adds (Within p.may c.args.counts.now) p.floor p.shelf c.requires.run.low (node_of a (g.A.Access.seen c.args.access))
-    (node_of b (g.A.Access.seen c.in_turn-seat.result.access)) (node_of c.tell-seat.result.part (g.A.Access.seen c.tell-seat.result.access)) a.who c.in-At.position
-    (packed b.node.replica.origin (item ∷ [])) failed (in_ok_at _ c.in-Ok.is c.in-At.is c.in_turn-seat.ensures.did) h.0.moves
-    (on_ok _ c.in-Ok.is c.in_turn-seat.ensures.adds) h.1
+    let told = packed b.node.replica.origin (item ∷ []) in
+    let same = c.in_turn-seat.ensures.left.who in
+    ok_comes (ReportAdds a.who c.tell-seat.result.part.node.replica.cursor was now) c.tell-seat.result.answer c.came_to.ensures (ok_pair _ _ c.tell-seat.result.answer c.tell-seat.ensures.did c.tell-seat.ensures.adds)
+    (λ failed h. report_adds (OwnWithin a.who p.may counts) p.floor p.shelf c.requires.run.low old mid new a.who c.in-At.position told failed (in_ok_at _ c.in-Ok.is c.in-At.is c.in_turn-seat.ensures.did)
+    (subst (λ w. Tells (OwnWithin w p.may counts) p.floor p.shelf mid new item failed) same h.0).moves
+    (on_ok _ c.in-Ok.is c.in_turn-seat.ensures.adds) (subst (λ w. OwnAdds w (λ e. IsOfSessions e ⊎ (e ≡ told)) seen now) same h.1)
     (says-one b.node.replica.origin item (content.Alive a.who c.in-At.position) made.proposable
     (made.says ∙ ap (λ n. Some (content.Alive n c.in-At.position)) (sym c.requires.can.0))))
 
@@ -84,7 +106,7 @@ returns-clause-done g c =
     let p = g.A.Law.Rules in
     let r = g.S.Replica in
     let back = c.tell-seat.result in
-    ok_comes (λ _. IsDone p.may p.floor p.shelf r.state r.spells c.args.counts.now (g.A.Access.seen back.access) back.part) back.answer c.came_to.ensures c.tell-seat.ensures.done
+    ok_comes (λ _. IsDone p.may p.floor p.shelf r.state r.spells g.A.Access.beside c.args.counts.now (g.A.Access.seen back.access) back.part) back.answer c.came_to.ensures c.tell-seat.ensures.done
     (λ x h. h)
 
 pub returns-clause-left : goal.returns-clause-left

@@ -1,14 +1,17 @@
-use Rattle.std.proofs.Common.{◌⊎◌, refl, ◌∙◌, subst, inl, ◌<◌, ◌≤◌, ◌^◌, [], ◌∷◌, None, arith}
+use Rattle.std.proofs.Common.{◌≡◌, ◌⊎◌, refl, sym, ◌∙◌, subst, inl, ◌<◌, ◌≤◌, ◌^◌, [], ◌∷◌, Some, None, arith}
 use Rattle.delos_types.specs.declared.entry.Entry.{Entry}
-use Rattle.journal_laws.proofs.Changes.{adds_trans, adds_wider}
 use Rattle.engine_api.specs.declared.content.Content.TheVariants as content
 use Rattle.engine_api.specs.Acted.{unpack_all}
 use Rattle.engine_api.specs.Members.{least_position}
 use Rattle.engine_api.specs.Packing.{packed, trim_item}
+use Rattle.turn_scopes.specs.Alone.{IsAlone}
 use Rattle.turn_scopes.specs.Seats.{node_of}
+use Rattle.turn_scopes.proofs.Alone.{own_since}
 use Rattle.node_lines.specs.Reporting.{IsPlain}
-use Rattle.node_lines.specs.Workers.{Within, Sends, IsOfSessions, SaysAlone}
+use Rattle.node_lines.specs.Trimming.{Cuts}
+use Rattle.node_lines.specs.Workers.{OwnWithin, OwnAdds, Sends, IsOfSessions, SaysAlone}
 use Rattle.node_lines.specs.Steps.{TellsAndPlays}
+use Rattle.node_lines.proofs.Own.{own_adds_trans, own_adds_wider, all_adds}
 use Rattle.node_lines.proofs.Reporting.{says_alone}
 use Rattle.node_lines.proofs.Assembling.{trims_unmeasured}
 use Rattle.node_lines.proofs.Widening.{legal_wide}
@@ -23,13 +26,13 @@ pub returns-in-Failed-clause-done : goal.returns-in-Failed-clause-done
 returns-in-Failed-clause-done g c = on_ok _ c.in-Ok.is c.in_turn-seat.ensures.done
 
 pub returns-in-Failed-clause-adds : goal.returns-in-Failed-clause-adds
-returns-in-Failed-clause-adds g c = trim_adds_none (g.A.Access.seen c.args.access) (g.A.Access.seen c.in_turn-seat.result.access) (on_ok _ c.in-Ok.is c.in_turn-seat.ensures.adds)
+returns-in-Failed-clause-adds g c = trim_adds_none c.args.seat.who (g.A.Access.seen c.args.access) (g.A.Access.seen c.in_turn-seat.result.access) (on_ok _ c.in-Ok.is c.in_turn-seat.ensures.adds)
 
 pub returns-in-Failed-clause-did : goal.returns-in-Failed-clause-did
 returns-in-Failed-clause-did g c =
     let p = g.A.Law.Rules in
     let a = c.args.seat in
-    trims_unmeasured (Within p.may c.args.counts.now) p.floor p.shelf c.requires.run.low (λ log. least_position a.node.nodes (unpack_all 0 log)) (node_of a (g.A.Access.seen c.args.access))
+    trims_unmeasured (OwnWithin c.args.seat.who p.may c.args.counts.now) p.floor p.shelf c.requires.run.low (λ log. least_position a.node.nodes (unpack_all 0 log)) (node_of a (g.A.Access.seen c.args.access))
     (node_of c.in_turn-seat.result.part (g.A.Access.seen c.in_turn-seat.result.access)) c.in-Failed.cause
     (in_ok_at _ c.in-Ok.is c.in-Failed.is c.in_turn-seat.ensures.did)
 
@@ -38,6 +41,13 @@ tell_and_play-seat-requires-clause-seat g c = (on_ok _ c.in-Ok.is c.in_turn-seat
 
 pub tell_and_play-seat-requires-clause-high : goal.tell_and_play-seat-requires-clause-high
 tell_and_play-seat-requires-clause-high g c = (on_ok _ c.in-Ok.is c.in_turn-seat.ensures.done).high
+
+pub tell_and_play-seat-requires-clause-keeps : goal.tell_and_play-seat-requires-clause-keeps
+tell_and_play-seat-requires-clause-keeps g c = (on_ok _ c.in-Ok.is c.in_turn-seat.ensures.done).keeps
+
+pub tell_and_play-seat-requires-clause-low : goal.tell_and_play-seat-requires-clause-low
+tell_and_play-seat-requires-clause-low g c = λ user there what says.
+    absurd ((c.requires.alone tt).nobody user (subst (λ w. g.A.Access.beside w user) c.in_turn-seat.ensures.left.who there))
 
 pub tell_and_play-seat-requires-clause-can : goal.tell_and_play-seat-requires-clause-can
 tell_and_play-seat-requires-clause-can g c =
@@ -61,13 +71,14 @@ tell_and_play-seat-requires-clause-can g c =
 pub returns-in-Some-clause-did : goal.returns-in-Some-clause-did
 returns-in-Some-clause-did g c =
     let p = g.A.Law.Rules in
-    let may = Within p.may c.args.counts.now in
+    let may = OwnWithin c.args.seat.who p.may c.args.counts.now in
     let mid = node_of c.in_turn-seat.result.part (g.A.Access.seen c.in_turn-seat.result.access) in
     let played = node_of c.tell_and_play-seat.result.part (g.A.Access.seen c.tell_and_play-seat.result.access) in
     let item = c.in-Ok-trim_item.value in
     trims_not may p.floor p.shelf c.requires.run.low (node_of c.args.seat (g.A.Access.seen c.args.access)) mid played c.in-At.position item c.in-Some.cause
     (in_ok_at _ c.in-Ok.is c.in-At.is c.in_turn-seat.ensures.did)
-    (subst (λ f. TellsAndPlays may p.floor p.shelf mid played item f) c.in-Some.is (in_ok _ c.in-Ok-answer.is c.tell_and_play-seat.ensures.did))
+    (subst (λ w. TellsAndPlays (OwnWithin w p.may c.args.counts.now) p.floor p.shelf mid played item (Some c.in-Some.cause)) c.in_turn-seat.ensures.left.who
+    (subst (λ f. TellsAndPlays (OwnWithin c.in_turn-seat.result.part.who p.may c.args.counts.now) p.floor p.shelf mid played item f) c.in-Some.is (in_ok _ c.in-Ok-answer.is c.tell_and_play-seat.ensures.did)))
 
 pub returns-in-Some-clause-adds : goal.returns-in-Some-clause-adds
 returns-in-Some-clause-adds g c =
@@ -78,11 +89,13 @@ returns-in-Some-clause-adds g c =
     let later = g.A.Access.seen c.tell_and_play-seat.result.access in
     let item = c.in-Ok-trim_item.value in
     let first = on_ok _ c.in-Ok.is c.in_turn-seat.ensures.adds in
-    trim_adds_told was later c.in-At.position
-    (asks_clean_later (Within p.may c.args.counts.now) p.floor p.shelf c.requires.run.low (node_of c.args.seat was) (node_of b mid) c.in-At.position
-    (in_ok_at _ c.in-Ok.is c.in-At.is c.in_turn-seat.ensures.did) first c.requires.can.cleans (node_of c.tell_and_play-seat.result.part later)
+    let all = all_adds c.args.seat.who IsOfSessions was mid (own_since c.args.seat.who (g.A.Access.beside c.args.seat.who) was mid (c.requires.alone tt) c.in_turn-seat.ensures.left.since) (on_ok _ c.in-Ok.is c.in_turn-seat.ensures.adds) in
+    trim_adds_told c.args.seat.who was later c.in-At.position
+    (asks_clean_later (OwnWithin c.args.seat.who p.may c.args.counts.now) p.floor p.shelf c.requires.run.low (node_of c.args.seat was) (node_of b mid) c.in-At.position
+    (in_ok_at _ c.in-Ok.is c.in-At.is c.in_turn-seat.ensures.did) all c.requires.can.cleans (node_of c.tell_and_play-seat.result.part later)
     (returns-in-Some-clause-did g c).moves.goes.keeps)
-    (adds_saying was mid later (packed b.node.replica.origin (item ∷ [])) (content.Trim c.in-At.position) first (on_ok _ c.in-Ok-answer.is c.tell_and_play-seat.ensures.adds)
+    (adds_saying c.args.seat.who was mid later (packed b.node.replica.origin (item ∷ [])) (content.Trim c.in-At.position) first
+    (subst (λ w. OwnAdds w (λ e. IsOfSessions e ⊎ (e ≡ packed b.node.replica.origin (item ∷ []))) mid later) c.in_turn-seat.ensures.left.who (on_ok _ c.in-Ok-answer.is c.tell_and_play-seat.ensures.adds))
     (says-one b.node.replica.origin item (content.Trim c.in-At.position) c.in-Ok-trim_item.ensures.proposable c.in-Ok-trim_item.ensures.says))
 
 pub in_turn-requires-clause-seat : goal.in_turn-requires-clause-seat
@@ -91,10 +104,13 @@ in_turn-requires-clause-seat g c = (on_ok _ c.in-Ok-answer.is c.tell_and_play-se
 pub in_turn-requires-clause-high : goal.in_turn-requires-clause-high
 in_turn-requires-clause-high g c = (on_ok _ c.in-Ok-answer.is c.tell_and_play-seat.ensures.done).high
 
+pub in_turn-requires-clause-keeps : goal.in_turn-requires-clause-keeps
+in_turn-requires-clause-keeps g c = (on_ok _ c.in-Ok-answer.is c.tell_and_play-seat.ensures.done).keeps
+
 pub in_turn-requires-clause-can : goal.in_turn-requires-clause-can
 in_turn-requires-clause-can g c = λ log there size.
     let p = g.A.Law.Rules in
-    let may = Within p.may c.args.counts.now in
+    let may = OwnWithin c.args.seat.who p.may c.args.counts.now in
     let was = g.A.Access.seen c.args.access in
     let b = c.in_turn-seat.result.part in
     let mid = g.A.Access.seen c.in_turn-seat.result.access in
@@ -104,14 +120,19 @@ in_turn-requires-clause-can g c = λ log there size.
     let done = on_ok _ c.in-Ok-answer.is c.tell_and_play-seat.ensures.done in
     let front = done.ok.node.follows.now in
     let free = may_trim may p.floor p.shelf c.requires.run.low (node_of c.args.seat was) (node_of b mid) c.in-At.position
-    (in_ok_at _ c.in-Ok.is c.in-At.is c.in_turn-seat.ensures.did) (on_ok _ c.in-Ok.is c.in_turn-seat.ensures.adds) c.requires.can.cleans
+    (in_ok_at _ c.in-Ok.is c.in-At.is c.in_turn-seat.ensures.did)
+    (all_adds c.args.seat.who IsOfSessions was mid (own_since c.args.seat.who (g.A.Access.beside c.args.seat.who) was mid (c.requires.alone tt) c.in_turn-seat.ensures.left.since) (on_ok _ c.in-Ok.is c.in_turn-seat.ensures.adds)) c.requires.can.cleans
     (node_of d later) (packed b.node.replica.origin (item ∷ []))
     (tells_moves may p.floor p.shelf c.requires.run.low (node_of b mid) (node_of d later) item None
-    (subst (λ f. TellsAndPlays may p.floor p.shelf (node_of b mid) (node_of d later) item f) c.in_default.is
-    (in_ok _ c.in-Ok-answer.is c.tell_and_play-seat.ensures.did))) (on_ok _ c.in-Ok-answer.is c.tell_and_play-seat.ensures.adds)
+    (subst (λ w. TellsAndPlays (OwnWithin w p.may c.args.counts.now) p.floor p.shelf (node_of b mid) (node_of d later) item None) c.in_turn-seat.ensures.left.who
+    (subst (λ f. TellsAndPlays (OwnWithin b.who p.may c.args.counts.now) p.floor p.shelf (node_of b mid) (node_of d later) item f) c.in_default.is
+    (in_ok _ c.in-Ok-answer.is c.tell_and_play-seat.ensures.did))))
+    (all_adds b.who (λ e. IsOfSessions e ⊎ (e ≡ packed b.node.replica.origin (item ∷ []))) mid later
+    (own_since b.who (g.A.Access.beside b.who) mid later (subst (λ w. IsAlone (g.A.Access.beside w)) (sym c.in_turn-seat.ensures.left.who) (c.requires.alone tt)) c.tell_and_play-seat.ensures.left.since)
+    (on_ok _ c.in-Ok-answer.is c.tell_and_play-seat.ensures.adds))
     (says_alone b.node.replica.origin item item (content.Trim c.in-At.position) c.in-Ok-trim_item.ensures.proposable
     c.in-Ok-trim_item.ensures.says refl)
-    (legal_wide (Sends p.may c.args.counts.now was) may p.floor p.floor p.shelf (λ who e k. k.0) (λ log n k. k) was c.requires.seat.node.legal)
+    (legal_wide (Sends c.args.seat.who p.may c.args.counts.now was) may p.floor p.floor p.shelf (λ user e k. k.0) (λ log n k. k) was c.requires.seat.node.legal)
     (record { log = front.log; size = front.size; front = front.front; led = c.requires.state tt front.log d.node.replica.contents front.led })
     c.requires.can.goes_by log there size in
     (free, omega (arith))
@@ -119,7 +140,7 @@ in_turn-requires-clause-can g c = λ log there size.
 pub returns-clause-did : goal.returns-clause-did
 returns-clause-did g c =
     let p = g.A.Law.Rules in
-    let may = Within p.may c.args.counts.now in
+    let may = OwnWithin c.args.seat.who p.may c.args.counts.now in
     let was = g.A.Access.seen c.args.access in
     let b = c.in_turn-seat.result.part in
     let mid = g.A.Access.seen c.in_turn-seat.result.access in
@@ -132,15 +153,21 @@ returns-clause-did g c =
     ok_then c.in_turn.result.answer c.in_turn.ensures.did
     (λ l h. trims may p.floor p.shelf c.requires.run.low (node_of c.args.seat was) (node_of b mid) (node_of d later)
     (node_of c.in_turn.result.part (g.A.Access.seen c.in_turn.result.access)) c.in-At.position c.args.seat.who item l
-    (in_ok_at _ c.in-Ok.is c.in-At.is c.in_turn-seat.ensures.did) (on_ok _ c.in-Ok.is c.in_turn-seat.ensures.adds) c.requires.can.cleans
+    (in_ok_at _ c.in-Ok.is c.in-At.is c.in_turn-seat.ensures.did)
+    (all_adds c.args.seat.who IsOfSessions was mid (own_since c.args.seat.who (g.A.Access.beside c.args.seat.who) was mid (c.requires.alone tt) c.in_turn-seat.ensures.left.since) (on_ok _ c.in-Ok.is c.in_turn-seat.ensures.adds)) c.requires.can.cleans
     made.item made.proposable made.says
-    (subst (λ f. TellsAndPlays may p.floor p.shelf (node_of b mid) (node_of d later) item f) c.in_default.is
-    (in_ok _ c.in-Ok-answer.is c.tell_and_play-seat.ensures.did)) (packed b.node.replica.origin (item ∷ []))
-    (on_ok _ c.in-Ok-answer.is c.tell_and_play-seat.ensures.adds)
+    (subst (λ w. TellsAndPlays (OwnWithin w p.may c.args.counts.now) p.floor p.shelf (node_of b mid) (node_of d later) item None) c.in_turn-seat.ensures.left.who
+    (subst (λ f. TellsAndPlays (OwnWithin b.who p.may c.args.counts.now) p.floor p.shelf (node_of b mid) (node_of d later) item f) c.in_default.is
+    (in_ok _ c.in-Ok-answer.is c.tell_and_play-seat.ensures.did))) (packed b.node.replica.origin (item ∷ []))
+    (all_adds b.who (λ e. IsOfSessions e ⊎ (e ≡ packed b.node.replica.origin (item ∷ []))) mid later
+    (own_since b.who (g.A.Access.beside b.who) mid later (subst (λ w. IsAlone (g.A.Access.beside w)) (sym c.in_turn-seat.ensures.left.who) (c.requires.alone tt)) c.tell_and_play-seat.ensures.left.since)
+    (on_ok _ c.in-Ok-answer.is c.tell_and_play-seat.ensures.adds))
     (says_alone b.node.replica.origin item item (content.Trim c.in-At.position) made.proposable made.says refl)
-    (legal_wide (Sends p.may c.args.counts.now was) may p.floor p.floor p.shelf (λ who e k. k.0) (λ log n k. k) was c.requires.seat.node.legal)
+    (legal_wide (Sends c.args.seat.who p.may c.args.counts.now was) may p.floor p.floor p.shelf (λ user e k. k.0) (λ log n k. k) was c.requires.seat.node.legal)
     (record { log = front.log; size = front.size; front = front.front; led = c.requires.state tt front.log d.node.replica.contents front.led })
-    some c.requires.can.few c.requires.can.stays h)
+    some c.requires.can.few c.requires.can.stays
+    (subst (λ w. Cuts (OwnWithin w p.may c.args.counts.now) p.floor p.shelf (node_of d later) (node_of c.in_turn.result.part (g.A.Access.seen c.in_turn.result.access)) l)
+    (c.tell_and_play-seat.ensures.left.who ∙ c.in_turn-seat.ensures.left.who) h))
 
 pub returns-clause-adds : goal.returns-clause-adds
 returns-clause-adds g c =
@@ -152,15 +179,18 @@ returns-clause-adds g c =
     let now = g.A.Access.seen c.in_turn.result.access in
     let item = c.in-Ok-trim_item.value in
     let first = on_ok _ c.in-Ok.is c.in_turn-seat.ensures.adds in
+    let all = all_adds c.args.seat.who IsOfSessions was mid (own_since c.args.seat.who (g.A.Access.beside c.args.seat.who) was mid (c.requires.alone tt) c.in_turn-seat.ensures.left.since) (on_ok _ c.in-Ok.is c.in_turn-seat.ensures.adds) in
     let P : Entry → Type 0 = λ e. IsOfSessions e ⊎ SaysAlone (content.Trim c.in-At.position) e in
     ok_then c.in_turn.result.answer (ok_pair _ _ c.in_turn.result.answer (returns-clause-did g c) c.in_turn.ensures.adds)
-    (λ l h. trim_adds_told was now c.in-At.position
-    (asks_clean_later (Within p.may c.args.counts.now) p.floor p.shelf c.requires.run.low (node_of c.args.seat was) (node_of b mid) c.in-At.position
-    (in_ok_at _ c.in-Ok.is c.in-At.is c.in_turn-seat.ensures.did) first c.requires.can.cleans (node_of c.in_turn.result.part now) h.0.moves.goes.keeps)
-    (adds_trans P was later now
-    (adds_saying was mid later (packed b.node.replica.origin (item ∷ [])) (content.Trim c.in-At.position) first (on_ok _ c.in-Ok-answer.is c.tell_and_play-seat.ensures.adds)
+    (λ l h. trim_adds_told c.args.seat.who was now c.in-At.position
+    (asks_clean_later (OwnWithin c.args.seat.who p.may c.args.counts.now) p.floor p.shelf c.requires.run.low (node_of c.args.seat was) (node_of b mid) c.in-At.position
+    (in_ok_at _ c.in-Ok.is c.in-At.is c.in_turn-seat.ensures.did) all c.requires.can.cleans (node_of c.in_turn.result.part now) h.0.moves.goes.keeps)
+    (own_adds_trans c.args.seat.who P was later now
+    (adds_saying c.args.seat.who was mid later (packed b.node.replica.origin (item ∷ [])) (content.Trim c.in-At.position) first
+    (subst (λ w. OwnAdds w (λ e. IsOfSessions e ⊎ (e ≡ packed b.node.replica.origin (item ∷ []))) mid later) c.in_turn-seat.ensures.left.who (on_ok _ c.in-Ok-answer.is c.tell_and_play-seat.ensures.adds))
     (says-one b.node.replica.origin item (content.Trim c.in-At.position) c.in-Ok-trim_item.ensures.proposable c.in-Ok-trim_item.ensures.says))
-    (adds_wider IsOfSessions P later now (λ e k. inl k) h.1)))
+    (own_adds_wider c.args.seat.who IsOfSessions P later now (λ e k. inl k)
+    (subst (λ w. OwnAdds w IsOfSessions later now) (c.tell_and_play-seat.ensures.left.who ∙ c.in_turn-seat.ensures.left.who) h.1))))
 
 pub returns-in-Some-clause-done : goal.returns-in-Some-clause-done
 returns-in-Some-clause-done g c = on_ok _ c.in-Ok-answer.is c.tell_and_play-seat.ensures.done

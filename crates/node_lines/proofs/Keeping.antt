@@ -1,0 +1,129 @@
+-- A node that keeps the log from being trimmed: what it may tell by a scope, and what others may trim then.
+use Rattle.std.proofs.Common.{◌≡◌, ◌≢◌, refl, sym, ◌∙◌, subst, ⊎_elim, ◌⊎◌, ℕ, ◌≤◌, List, arith}
+use Rattle.std.specs.Prelude.{Contains}
+use Rattle.delos_types.specs.declared.entry.Entry.{Entry}
+use Rattle.legal_journal.specs.declared.events.Event.{Event}
+use Rattle.legal_journal.specs.Journal.{IsLegal}
+use Rattle.journal_laws.proofs.Changes.{appended_may}
+use Rattle.engine_api.specs.declared.content.Content.{Content}
+use Rattle.engine_api.specs.declared.content.Content.TheVariants.{Session, Alive, Leave, Trim}
+use Rattle.engine_api.specs.declared.content.Placed.{Placed}
+use Rattle.engine_api.specs.Items.{unpack}
+use Rattle.base_engine.specs.Trimming.{FloorIs}
+use Rattle.turn_scopes.specs.Alone.{IsAlone}
+use Rattle.turn_scopes.specs.Beside.{Narrows}
+use Rattle.turn_scopes.specs.Seats.{SeatView}
+use Rattle.turn_scopes.specs.Telling.{UpTo, TellsUpTo}
+use Rattle.turn_scopes.proofs.Trims.{others_trim}
+use Rattle.node_lines.specs.Workers.{OwnWithin, Sends, SendsToo, IsCommand, IsOfSessions, MayRun, HasNotLeft, ReportsUpTo, KeepsLog, KeepsBeside, TellsLow, appended_by}
+use Rattle.node_lines.proofs.Own.{own_appended}
+use Rattle.node_lines.proofs.Cleaning.{says_command}
+
+-- nobody is beside: there is nothing to keep
+pub keeps_alone : (beside : ℕ → ℕ → Type 0) (floor : List Entry → ℕ → Type 0) (s : SeatView) (journal : List Event) → IsAlone (beside s.who) → KeepsBeside beside floor s journal
+keeps_alone beside floor s journal alone = λ user h. absurd (alone.nobody user h)
+
+-- what the entry says is no leave of the node, and no report of it above m
+record IsLow (me m : ℕ) (e : Entry) : Type 0 where
+  pub stays : (p : Placed) → Contains (unpack 0 e) p → p.content ≡ Leave me → ⊥
+  pub upto : (p : Placed) (n : ℕ) → Contains (unpack 0 e) p → p.content ≡ Alive me n → n ≤ m
+
+command_low : (me m : ℕ) (e : Entry) → IsOfSessions e → IsLow me m e
+command_low me m e h = record {
+  stays = λ p there is. subst IsCommand is (says_command e p h there);
+  upto = λ p n there is. absurd (subst IsCommand is (says_command e p h there));
+}
+
+told_low : (me m : ℕ) (e : Entry) → ((p : Placed) → Contains (unpack 0 e) p → TellsLow m p.content) → IsLow me m e
+told_low me m e h = record {
+  stays = λ p there is. subst (TellsLow m) is (h p there);
+  upto = λ p n there is. subst (TellsLow m) is (h p there);
+}
+
+module _ (may : ℕ → Entry → Type 0) (floor : List Entry → ℕ → Type 0) (shelf : List ℕ) (run : MayRun may floor shelf) (me m : ℕ) where
+  -- where what it may append is low
+  tells_upto : (sends : ℕ → Entry → Type 0) → ((user : ℕ) (e : Entry) → sends user e → may user e) → ((e : Entry) → sends me e → IsLow me m e) → TellsUpTo sends me m
+  tells_upto sends allows low = record {
+    stays = λ user e p h there is. (low e (subst (λ u. sends u e) (run.leaves user me e p (allows user e h) there is) h)).stays p there is;
+    upto = λ user n e p h there is. (low e (subst (λ u. sends u e) (run.reports user me n e p (allows user e h) there is) h)).upto p n there is;
+  }
+
+  module _ (nodes : ℕ) (counts : List ℕ) (journal : List Event) (keeps : KeepsLog floor me nodes m journal) where
+    was_low : (e : Entry) → Contains (appended_by me journal) e → IsLow me m e
+    was_low e h = record {
+      stays = λ p there is. keeps.stays e p (own_appended me journal e h) there is;
+      upto = λ p n there is. keeps.upto e p (own_appended me journal e h) there n is;
+    }
+
+    pub sends_low : TellsUpTo (Sends me may counts journal) me m
+    sends_low = tells_upto (Sends me may counts journal) (λ user e h. h.0.0)
+        (λ e h. ⊎_elim (λ (k : Contains (appended_by me journal) e). was_low e k) (λ (k : IsOfSessions e). command_low me m e k) (h.1 refl))
+
+    pub sends_too_low : (told : Entry) → ((p : Placed) → Contains (unpack 0 told) p → TellsLow m p.content) → TellsUpTo (SendsToo me may counts journal told) me m
+    sends_too_low told low = tells_upto (SendsToo me may counts journal told) (λ user e h. h.0.0)
+        (λ e h.
+        ⊎_elim
+        (λ (k : Contains (appended_by me journal) e). was_low e k)
+        (λ (k : IsOfSessions e ⊎ (e ≡ told)). ⊎_elim (λ (s : IsOfSessions e). command_low me m e s) (λ (t : e ≡ told). subst (IsLow me m) (sym t) (told_low me m told low)) k)
+        (h.1 refl))
+
+module _ (floor : List Entry → ℕ → Type 0) (shelf : List ℕ) (me m : ℕ) (sends : ℕ → Entry → Type 0) where
+  -- what was appended by such a scope leaves the log kept
+  keeps_on : (low : List Entry → ℕ → Type 0) (nodes m' : ℕ) (old new : List Event) → m ≤ m' → IsLegal sends low shelf new → TellsUpTo sends me m → KeepsLog floor me nodes m old → KeepsLog floor me nodes m' new
+  keeps_on low nodes m' old new up legal tells keeps = record {
+    goes_by = keeps.goes_by;
+    least = keeps.least;
+    most = keeps.most;
+    stays = λ e p h there is. let s = appended_may sends low shelf new e legal h in tells.stays s.0 e p s.1 there is;
+    upto = λ e p h there n is. let s = appended_may sends low shelf new e legal h in omega (arith, tells.upto s.0 n e p s.1 there is, up);
+  }
+
+  -- a scope that binds what this user appends is narrower than the rules, and binds nobody beside
+  narrows_by : (may : ℕ → Entry → Type 0) (beside : ℕ → Type 0) → ((user : ℕ) (e : Entry) → sends user e → may user e) → ((user : ℕ) (e : Entry) → user ≢ me → may user e → sends user e) → ((user : ℕ) → beside user → user ≢ me)
+      → ((user : ℕ) → beside user → (nodes : ℕ) × FloorIs floor nodes × (1 ≤ me) × (me ≤ nodes) × TellsUpTo sends me m) → Narrows may sends floor (UpTo floor m) shelf beside
+  narrows_by may beside allows others apart tells = record {
+    narrower = allows;
+    lower = λ log n h. h.0;
+    others = λ user e b h. others user e (apart user b) h;
+    trims = λ user b seen n legal free. let t = tells user b in others_trim sends floor shelf t.0 me m t.1 t.2 t.3 t.4 beside user b seen n legal free;
+  }
+
+module _ (may : ℕ → Entry → Type 0) (floor : List Entry → ℕ → Type 0) (shelf : List ℕ) (run : MayRun may floor shelf) (beside : ℕ → ℕ → Type 0) (counts : List ℕ) (journal : List Event) (a : SeatView) (keeps : KeepsBeside beside floor a journal) where
+  -- what is told is low, if anybody is beside
+  abbrev pub IsToldLow : Entry → Type 0
+  IsToldLow told = (user : ℕ) → beside a.who user → (p : Placed) → Contains (unpack 0 told) p → TellsLow a.node.replica.cursor p.content
+
+  module _ (who : ℕ) (same : a.who ≡ who) where
+    here : (user : ℕ) → beside who user → beside a.who user
+    here user h = subst (λ w. beside w user) (sym same) h
+
+    module _ (apart : (user : ℕ) → beside who user → user ≢ who) where
+      others : (user : ℕ) → beside who user → user ≢ a.who
+      others user h = λ is. apart user h (is ∙ same)
+
+      pub narrows_beside : Narrows may (Sends a.who may counts journal) floor (UpTo floor a.node.replica.cursor) shelf (beside who)
+      narrows_beside = narrows_by floor shelf a.who a.node.replica.cursor (Sends a.who may counts journal) may (beside who) (λ user e h. h.0.0)
+          (λ user e other h. ((h, λ is. absurd (other is)), λ is. absurd (other is))) others
+          (λ user h. let k = keeps user (here user h) in (a.node.nodes, k.goes_by, k.least, k.most, sends_low may floor shelf run a.who a.node.replica.cursor a.node.nodes counts journal k))
+
+      pub narrows_told : (told : Entry) → IsToldLow told → Narrows may (SendsToo a.who may counts journal told) floor (UpTo floor a.node.replica.cursor) shelf (beside who)
+      narrows_told told low = narrows_by floor shelf a.who a.node.replica.cursor (SendsToo a.who may counts journal told) may (beside who) (λ user e h. h.0.0)
+          (λ user e other h. ((h, λ is. absurd (other is)), λ is. absurd (other is))) others
+          (λ user h. let k = keeps user (here user h) in (a.node.nodes, k.goes_by, k.least, k.most, sends_too_low may floor shelf run a.who a.node.replica.cursor a.node.nodes counts journal k told (low user (here user h))))
+
+  -- the node keeps the log still
+  module _ (low : List Entry → ℕ → Type 0) (new : List Event) (b : SeatView) (who : b.who ≡ a.who) (nodes : b.node.nodes ≡ a.node.nodes) (up : a.node.replica.cursor ≤ b.node.replica.cursor) where
+    pub still_beside : IsLegal (Sends a.who may counts journal) low shelf new → KeepsBeside beside floor b new
+    still_beside legal = λ user h.
+        let k = keeps user (subst (λ w. beside w user) who h) in
+        subst (λ w. KeepsLog floor w b.node.nodes b.node.replica.cursor new) (sym who)
+        (subst (λ n. KeepsLog floor a.who n b.node.replica.cursor new) (sym nodes)
+        (keeps_on floor shelf a.who a.node.replica.cursor (Sends a.who may counts journal) low a.node.nodes b.node.replica.cursor journal new up legal (sends_low may floor shelf run a.who a.node.replica.cursor a.node.nodes counts journal k) k))
+
+    pub still_told : (told : Entry) → IsToldLow told → IsLegal (SendsToo a.who may counts journal told) low shelf new → KeepsBeside beside floor b new
+    still_told told is_low legal = λ user h.
+        let there = subst (λ w. beside w user) who h in
+        let k = keeps user there in
+        subst (λ w. KeepsLog floor w b.node.nodes b.node.replica.cursor new) (sym who)
+        (subst (λ n. KeepsLog floor a.who n b.node.replica.cursor new) (sym nodes)
+        (keeps_on floor shelf a.who a.node.replica.cursor (SendsToo a.who may counts journal told) low a.node.nodes b.node.replica.cursor journal new up legal (sends_too_low may floor shelf run a.who a.node.replica.cursor a.node.nodes counts journal k told (is_low user there)) k))

@@ -1,0 +1,188 @@
+-- Who began to append what.
+use Rattle.std.proofs.Common.{◌≡◌, ◌⊎◌, inl, inr, refl, sym, ap, ◌∙◌, subst, ⊎_elim, ℕ, Bool, true, false, cond, List, [], ◌∷◌, ◌++◌, length, Option, Some, None, arith}
+use Rattle.std.specs.Prelude.{Contains, ◌==◌}
+use Rattle.std.specs.List.{cons_option}
+use Rattle.std.proofs.lemmas.Bool.Decides.{nat_tests}
+use Rattle.std.proofs.lemmas.List.Elements.{Contains-push, Contains-push_cases}
+use Rattle.delos_types.specs.declared.entry.Entry.{Entry}
+use Rattle.loglet_api.specs.declared.call.Op.{Op}
+use Rattle.loglet_api.specs.declared.call.Op.TheVariants.{Append, Settle, Tail, Seal, Read, Trim}
+use Rattle.legal_journal.specs.declared.events.FabricCall.{FabricCall}
+use Rattle.legal_journal.specs.declared.events.FabricCall.TheVariants.{Begin, Carry, Forget, ReadChain, WriteChain, Stop, Mend, Stray, StopMeta, MendMeta}
+use Rattle.legal_journal.specs.declared.events.FabricAnswer.{FabricAnswer}
+use Rattle.legal_journal.specs.declared.events.FabricAnswer.TheVariants.{Begun, Full, Done, Going, NoTicket, Gone, At, Down, Written, Conflict, MetaFault, Set, Memory}
+use Rattle.legal_journal.specs.declared.events.Event.{Event}
+use Rattle.legal_journal.specs.Moves.{move, move_of}
+use Rattle.legal_journal.specs.Journal.{State, start, after, MayBegin, IsAllowed, IsLegalFrom, IsLegal}
+use Rattle.journal_laws.specs.Changes.{entry_begun, appended, Adds}
+use Rattle.journal_laws.specs.Own.{own}
+use Rattle.journal_laws.proofs.Changes.{appended_stays, appended_more, appended_parts}
+use Rattle.turn_scopes.specs.Alone.{AreOwn, OwnSince}
+use Rattle.node_lines.specs.Workers.{appended_by, OwnAdds}
+
+-- Event by event
+
+none_in : {X : Type 0} (x : X) → Contains [] x → ⊥
+none_in x h = omega (arith, h.1)
+
+just_in : (o : Option Entry) (e : Entry) → Contains (cons_option o []) e → o ≡ Some e
+just_in None e h = absurd (none_in e h)
+just_in (Some y) e h = ⊎_elim (λ (k : Contains [] e). absurd (none_in e k)) (λ (k : y ≡ e). ap (λ (z : Entry). Some z) k) (Contains-push_cases [] y e h)
+
+in_just : (o : Option Entry) (e : Entry) → o ≡ Some e → Contains (cons_option o []) e
+in_just o e is = subst (λ (p : Option Entry). Contains (cons_option p []) e) (sym is) (Contains-push [] e)
+
+module _ (x : Event) (xs : List Event) (e : Entry) where
+  first_or_later : Contains (appended (x ∷ xs)) e → (entry_begun x.call x.answer ≡ Some e) ⊎ Contains (appended xs) e
+  first_or_later h =
+      ⊎_elim
+      (λ (k : Contains (appended (x ∷ [])) e). inl (just_in (entry_begun x.call x.answer) e k))
+      (λ (k : Contains (appended xs) e). inr k)
+      (appended_parts (x ∷ []) xs e h)
+
+  at_first : entry_begun x.call x.answer ≡ Some e → Contains (appended (x ∷ xs)) e
+  at_first begun = appended_stays (x ∷ []) xs e (in_just (entry_begun x.call x.answer) e begun)
+
+  at_later : Contains (appended xs) e → Contains (appended (x ∷ xs)) e
+  at_later h = appended_more (x ∷ []) xs e h
+
+module _ (who : ℕ) (x : Event) (xs : List Event) (e : Entry) where
+  own_first_or_later : Contains (appended_by who (x ∷ xs)) e → ((x.who ≡ who) × (entry_begun x.call x.answer ≡ Some e)) ⊎ Contains (appended_by who xs) e
+  own_first_or_later h = by (x.who == who) refl h
+    where
+      by : (b : Bool) → (x.who == who) ≡ b → Contains (appended (cond b (x ∷ own who xs) (own who xs))) e → ((x.who ≡ who) × (entry_begun x.call x.answer ≡ Some e)) ⊎ Contains (appended_by who xs) e
+      by true is k =
+          let same : x.who ≡ who = grind (arith, nat_tests, is) in
+          ⊎_elim
+          (λ (begun : entry_begun x.call x.answer ≡ Some e). inl (same, begun))
+          (λ (later : Contains (appended (own who xs)) e). inr later)
+          (first_or_later x (own who xs) e k)
+      by false is k = inr k
+
+  own_at_first : x.who ≡ who → entry_begun x.call x.answer ≡ Some e → Contains (appended_by who (x ∷ xs)) e
+  own_at_first same begun = by (x.who == who) refl
+    where
+      by : (b : Bool) → (x.who == who) ≡ b → Contains (appended (cond b (x ∷ own who xs) (own who xs))) e
+      by true is = at_first x (own who xs) e begun
+      by false is = absurd (let t : (x.who == who) ≡ true = grind (arith, nat_tests, same) in let f : true ≡ false = sym t ∙ is in cc)
+
+  own_at_later : Contains (appended_by who xs) e → Contains (appended_by who (x ∷ xs)) e
+  own_at_later h = by (x.who == who)
+    where
+      by : (b : Bool) → Contains (appended (cond b (x ∷ own who xs) (own who xs))) e
+      by true = at_later x (own who xs) e h
+      by false = h
+
+-- what who appended was appended
+pub own_appended : (who : ℕ) (es : List Event) (e : Entry) → Contains (appended_by who es) e → Contains (appended es) e
+own_appended who [] e h = h
+own_appended who (x ∷ xs) e h =
+    ⊎_elim
+    (λ (k : (x.who ≡ who) × (entry_begun x.call x.answer ≡ Some e)). at_first x xs e k.1)
+    (λ (k : Contains (appended_by who xs) e). at_later x xs e (own_appended who xs e k))
+    (own_first_or_later who x xs e h)
+
+-- One journal after another
+
+pub own_stays : (who : ℕ) (a b : List Event) (e : Entry) → Contains (appended_by who a) e → Contains (appended_by who (a ++ b)) e
+own_stays who [] b e h = absurd (none_in e h)
+own_stays who (x ∷ xs) b e h =
+    ⊎_elim
+    (λ (k : (x.who ≡ who) × (entry_begun x.call x.answer ≡ Some e)). own_at_first who x (xs ++ b) e k.0 k.1)
+    (λ (k : Contains (appended_by who xs) e). own_at_later who x (xs ++ b) e (own_stays who xs b e k))
+    (own_first_or_later who x xs e h)
+
+own_more : (who : ℕ) (a b : List Event) (e : Entry) → Contains (appended_by who b) e → Contains (appended_by who (a ++ b)) e
+own_more who [] b e h = h
+own_more who (x ∷ xs) b e h = own_at_later who x (xs ++ b) e (own_more who xs b e h)
+
+-- What who adds
+
+pub own_adds_trans : (who : ℕ) (P : Entry → Type 0) (a b c : List Event) → OwnAdds who P a b → OwnAdds who P b c → OwnAdds who P a c
+own_adds_trans who P a b c f g = λ e h. ⊎_elim (λ (k : Contains (appended_by who b) e). f e k) (λ (k : P e). inr k) (g e h)
+
+pub own_adds_wider : (who : ℕ) (P Q : Entry → Type 0) (a b : List Event) → ((e : Entry) → P e → Q e) → OwnAdds who P a b → OwnAdds who Q a b
+own_adds_wider who P Q a b wider f = λ e h. ⊎_elim (λ (k : Contains (appended_by who a) e). inl k) (λ (k : P e). inr (wider e k)) (f e h)
+
+all_own : (who : ℕ) (es : List Event) (e : Entry) → AreOwn who es → Contains (appended es) e → Contains (appended_by who es) e
+all_own who [] e own h = h
+all_own who (x ∷ xs) e own h =
+    ⊎_elim
+    (λ (begun : entry_begun x.call x.answer ≡ Some e). own_at_first who x xs e own.0 begun)
+    (λ (later : Contains (appended xs) e). own_at_later who x xs e (all_own who xs e own.1 later))
+    (first_or_later x xs e h)
+
+-- where each event since is who's, that is all that was added
+pub all_adds : (who : ℕ) (P : Entry → Type 0) (old new : List Event) → OwnSince who old new → OwnAdds who P old new → Adds P old new
+all_adds who P old new since adds = λ e h.
+    ⊎_elim
+    (λ (k : Contains (appended old) e). inl k)
+    (λ (k : Contains (appended since.more) e).
+    ⊎_elim
+    (λ (was : Contains (appended_by who old) e). inl (own_appended who old e was))
+    (λ (p : P e). inr p)
+    (adds e (subst (λ es. Contains (appended_by who es) e) (sym since.seen) (own_more who old since.more e (all_own who since.more e since.own k)))))
+    (appended_parts old since.more e (subst (λ es. Contains (appended es) e) since.seen h))
+
+-- By the rules
+
+module _ (may : ℕ → Entry → Type 0) (floor : List Entry → ℕ → Type 0) (shelf : List ℕ) where
+  begun_may : (w : State) (cells who : ℕ) (call : FabricCall) (answer : FabricAnswer) (e : Entry) → IsAllowed w may floor cells who (move_of call answer) → entry_begun call answer ≡ Some e → may who e
+  begun_may w cells who (Begin i (Append x)) (Begun t) e h is = let same : x ≡ e = cc in subst (may who) same h.0.1
+  begun_may w cells who call answer e h is = absurd (cc)
+
+  may_from : (w : State) (es : List Event) (who : ℕ) (e : Entry) → IsLegalFrom w may floor shelf es → Contains (appended_by who es) e → may who e
+  may_from w [] who e h c = absurd (none_in e c)
+  may_from w (x ∷ xs) who e h c =
+      ⊎_elim
+      (λ (k : (x.who ≡ who) × (entry_begun x.call x.answer ≡ Some e)). subst (λ u. may u e) k.0 (begun_may w (length shelf) x.who x.call x.answer e h.0.allowed k.1))
+      (λ (k : Contains (appended_by who xs) e). may_from (after w x.who (move x)) xs who e h.1 k)
+      (own_first_or_later who x xs e c)
+
+  -- what who appended it was allowed to
+  pub own_may : (events : List Event) (who : ℕ) (e : Entry) → IsLegal may floor shelf events → Contains (appended_by who events) e → may who e
+  own_may events who e legal h = may_from start events who e legal.steps h
+
+module _ (may may' : ℕ → Entry → Type 0) (floor : List Entry → ℕ → Type 0) where
+  begin_by : (w : State) (cells who i t : ℕ) (op : Op) → ((e : Entry) → entry_begun (Begin i op) (Begun t) ≡ Some e → may who e → may' who e) → MayBegin w may cells who i op → MayBegin w may' cells who i op
+  begin_by w cells who i t (Append e) f h = (h.0, f e refl h.1)
+  begin_by w cells who i t (Settle n) f h = h
+  begin_by w cells who i t Tail f h = h
+  begin_by w cells who i t Seal f h = h
+  begin_by w cells who i t (Read p) f h = h
+  begin_by w cells who i t (Trim n) f h = h
+
+  -- what one event appends, the other rules allow
+  allowed_by : (w : State) (cells who : ℕ) (call : FabricCall) (answer : FabricAnswer) → ((e : Entry) → entry_begun call answer ≡ Some e → may who e → may' who e)
+      → IsAllowed w may floor cells who (move_of call answer) → IsAllowed w may' floor cells who (move_of call answer)
+  allowed_by w cells who (Begin i op) (Begun t) f h = (begin_by w cells who i t op f h.0, h.1, h.2)
+  allowed_by w cells who (Begin i op) Full f h = h
+  allowed_by w cells who (Carry i t x) Going f h = h
+  allowed_by w cells who (Carry i t x) (Done y) f h = h
+  allowed_by w cells who (Carry i t x) Memory f h = h
+  allowed_by w cells who (Carry i t x) NoTicket f h = h
+  allowed_by w cells who (Forget i t) Gone f h = h
+  allowed_by w cells who (Forget i t) NoTicket f h = h
+  allowed_by w cells who ReadChain (At v c) f h = h
+  allowed_by w cells who ReadChain Down f h = h
+  allowed_by w cells who (WriteChain x c) (Written v) f h = h
+  allowed_by w cells who (WriteChain x c) (Conflict v d) f h = h
+  allowed_by w cells who (WriteChain x c) MetaFault f h = h
+  allowed_by w cells who (WriteChain x c) Down f h = h
+  allowed_by w cells who (MendMeta x) (Set y) f h = h
+  allowed_by w cells who (Stop i s n) (Set true) f h = h
+  allowed_by w cells who (Mend i s x) (Set y) f h = h
+  allowed_by w cells who (Stray i x) (Set true) f h = h
+  allowed_by w cells who (StopMeta n) (Set true) f h = h
+  allowed_by w cells who call answer f h = absurd h
+
+  from_own : (shelf : List ℕ) (w : State) (es : List Event) → ((who : ℕ) (e : Entry) → Contains (appended_by who es) e → may who e → may' who e) → IsLegalFrom w may floor shelf es → IsLegalFrom w may' floor shelf es
+  from_own shelf w [] f h = tt
+  from_own shelf w (x ∷ xs) f h = (
+    record { there = h.0.there; allowed = allowed_by w (length shelf) x.who x.call x.answer (λ e is. f x.who e (own_at_first x.who x xs e refl is)) h.0.allowed },
+    from_own shelf (after w x.who (move x)) xs (λ who e c. f who e (own_at_later who x xs e c)) h.1,
+  )
+
+  -- A journal is legal by other rules too, where they let each user append what it appended.
+  pub legal_own : (shelf : List ℕ) (events : List Event) → IsLegal may floor shelf events → ((who : ℕ) (e : Entry) → Contains (appended_by who events) e → may who e → may' who e) → IsLegal may' floor shelf events
+  legal_own shelf events h f = record { least = h.least; most = h.most; steps = from_own shelf start events f h.steps }
