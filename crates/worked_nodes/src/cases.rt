@@ -12,8 +12,6 @@ pub(crate) enum Topic {
     Engines,
     /// Histories of a replica.
     Replicas,
-    /// Scripts for two nodes.
-    Nodes,
     /// Calls of virtual logs.
     Logs,
 }

@@ -11,18 +11,14 @@ ghost use Rattle.worked_nodes.specs.Resting.{anything, least_of_two, one_loglet,
 use crate::rules::TwoNodes;
 use base_engine::fault::Fault;
 use base_engine::node::Node;
-use base_engine::over_virtual_log::what_is_held_is_shown;
 use delos_types::item::Item;
-use delos_types::numbers::{NodeId, Rank, SessionId};
+use delos_types::numbers::NodeId;
 use disk_model::{Disk, MemDisk};
-use engine_steps::layout::Kept;
 use fabric_core::fabric::Fabric;
 use fabric_core::own::Own;
 use fate_words::chooser::Calm;
 use file_loglet::file::FileLoglet;
 use file_loglet::memory::in_memory;
-use legal_journal::events::{FabricAnswer, FabricCall};
-use legal_journal::turns::Turns;
 use local_replica::layers::Layers;
 use local_replica::replica::LocalReplica;
 use local_store::Store;
@@ -262,52 +258,11 @@ impl<E: Layers, D: Disk> Two<E, D> {
         self.node.settle_all()
     }
 
-    /// The write number `after` from now on of the disk of the node that has the log stops inside itself; 0 takes that back.
-    pub fn stop(&mut self, after: u64) {
-        self.node.stop(after);
-    }
-
     pub fn sync(&mut self) -> Result<u64, Fault> {
         self.node.sync()
     }
 
-    pub fn trim_now(&mut self) -> Result<u64, Fault> {
-        what_is_held_is_shown::<TwoNodes>();
-        self.node.trim_now()
-    }
-
-    pub fn cursor(&self) -> u64 {
-        self.node.cursor()
-    }
-
-    pub fn clean(&self) -> Result<u64, AllocError> {
-        self.node.clean()
-    }
-
-    /// Whether the node that has the log has left.
-    pub fn has_left(&self) -> Result<bool, AllocError> {
-        self.node.has_left(self.number)
-    }
-
-    pub fn reply_of(&self, session: SessionId, rank: Rank) -> Result<Option<Kept>, AllocError> {
-        self.node.reply_of(session, rank)
-    }
-
     pub fn read(&self, query: &Query) -> Result<Found, AllocError> {
         self.node.read(query)
-    }
-
-    /// What the register of the chain answers, and how often the disk of the node that has the log failed.
-    pub fn end(self) -> (FabricAnswer, u64) {
-        let Two {
-            number: _,
-            node,
-            other: _,
-        } = self;
-        let (log, replica) = node.into_parts();
-        let (_, store) = replica.into_parts();
-        let mut turns = log.into_parts().turns;
-        let answer = turns.turn(FabricCall::ReadChain);
-        (answer, store.disk_faults())
     }
 }

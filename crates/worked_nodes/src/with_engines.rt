@@ -2,8 +2,9 @@
 ghost use Rattle.std.specs.Prelude.{◌≡◌, [], ◌∷◌};
 
 use crate::cases::Topic;
+use crate::embedded::put_and_get;
 use crate::stuck::Stuck;
-use crate::{engines, lines, logs, replicas};
+use crate::{engines, logs, replicas};
 use batch_engine::BatchEngine;
 use engine_steps::engine::Engine;
 use local_replica::layers::Layers;
@@ -26,35 +27,37 @@ macro_rules! engines {
     }};
 }
 
-/// What comes of the lines of a case. There are engines for two nodes, of which a case takes what it needs.
+/// What comes of the lines of a case.
 pub(crate) fn play(
     alloc: Global,
     topic: Topic,
     input: &[&str],
     out: &mut String,
 ) -> Result<(), Stuck> {
-    let first = engines!(alloc);
-    let second = engines!(alloc);
-    play_with(alloc, first, second, topic, input, out)
+    let engines = engines!(alloc);
+    play_with(alloc, engines, topic, input, out)
 }
 
 fn play_with<E: Layers>(
     alloc: Global,
-    first: E,
-    second: E,
+    engines: E,
     topic: Topic,
     input: &[&str],
     out: &mut String,
 ) -> Result<(), Stuck>
-    requires kinds { E.kinds first ≡ 1 ∷ 2 ∷ 3 ∷ 4 ∷ 5 ∷ [] }
-    requires waiting { E.waiting first ≡ [] }
-    requires other_kinds { E.kinds second ≡ 1 ∷ 2 ∷ 3 ∷ 4 ∷ 5 ∷ [] }
-    requires other_waiting { E.waiting second ≡ [] }
+    requires kinds { E.kinds engines ≡ 1 ∷ 2 ∷ 3 ∷ 4 ∷ 5 ∷ [] }
+    requires waiting { E.waiting engines ≡ [] }
 {
     match topic {
-        Topic::Engines => engines::play(alloc, first, input, out),
-        Topic::Replicas => replicas::play(alloc, first, input, out),
-        Topic::Nodes => lines::play(alloc, first, second, input, out),
+        Topic::Engines => engines::play(alloc, engines, input, out),
+        Topic::Replicas => replicas::play(alloc, engines, input, out),
         Topic::Logs => logs::play(alloc, input, out),
     }
+}
+
+/// What a second node finds of what a first one put.
+pub(crate) fn show_two(alloc: Global, out: &mut String) -> Result<(), Stuck> {
+    let first = engines!(alloc);
+    let second = engines!(alloc);
+    put_and_get(alloc, first, second, out)
 }

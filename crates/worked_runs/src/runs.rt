@@ -1,19 +1,21 @@
 //! Runs of the program.
-ghost use Rattle.std.specs.Prelude.{◌≤◌};
+ghost use Rattle.std.specs.Prelude.{◌≡◌, IfOk, Some, map, string_bytes};
+ghost use Rattle.script_words.specs.Plans.{plan_of};
+ghost use Rattle.script_words.specs.declared.plan.Plan as plans;
 ghost use Rattle.shelf_loglets.specs.Shelf.{AreRooms};
 
 use crate::disks::failing_disks;
 use crate::own::counted_shelf;
-use crate::setup::{PIECE, ROOMS, Setup, Yard, read_setup};
+use crate::setup::{DiskFaults, PIECE, ROOMS, Setup, read_setup};
 use anyhow::{Context, bail, ensure};
 use batch_engine::BatchEngine;
 use counted_engine::counted::Counted;
 use disk_model::MemDisk;
 use fitting_run::told::Told;
-use memory_runs::run::{Engines, add_node, run_in_memory, run_on, run_over};
+use memory_runs::run::{Engines, add_node, run_on, run_over};
 use outside_ends::memory::{MemSink, MemSource};
 use script_runner::ended::End;
-use script_words::plan::read_words;
+use script_words::plan::{WordsError, read_words};
 use session_engine::SessionEngine;
 use shelf_loglets::shelf::Rooms;
 use std::alloc::Global;
@@ -30,22 +32,30 @@ const GREATEST: Rooms = Rooms {
     inner: 0x2000_0000,
 };
 
-/// Runs the program over disks that fail.
-fn run_on_failing(
+/// How many nodes the words name; none where they aren't taken.
+fn nodes_of(alloc: Global, words: &[String]) -> anyhow::Result<u8>
+    ensures { IfOk result (λ nodes. (p : plans.Plan) → plan_of (map string_bytes words.now) ≡ Some p → nodes ≡ p.nodes) }
+{
+    match read_words(alloc, words) {
+        Ok(plan) => Ok(plan.nodes),
+        Err(WordsError::BadWords) => Ok(0),
+        Err(WordsError::Memory) => bail!("out of memory"),
+    }
+}
+
+/// Runs the program over disks to the first of which these faults come.
+fn run_on_disks(
     rt: &HostRuntime,
     words: &[String],
     rooms: Rooms,
-    failing: &[u64],
+    faults: &DiskFaults,
     source: &mut MemSource,
     sink: &mut MemSink,
 ) -> anyhow::Result<End>
     requires { AreRooms rooms }
 {
     let alloc = rt.alloc();
-    let Ok(plan) = read_words(alloc, words) else {
-        bail!("the words aren't taken");
-    };
-    let disks = failing_disks(alloc, plan.nodes, failing)?;
+    let disks = failing_disks(alloc, nodes_of(alloc, words)?, faults)?;
     Ok(run_on(rt, alloc, words, rooms, disks, source, sink)?.end)
 }
 
@@ -92,11 +102,10 @@ fn run_program(
     );
     ensure!(1 <= inner && inner <= GREATEST.inner, "no room: {inner}");
     let words = setup.words.as_slice();
-    match &setup.yard {
-        Yard::Memory => Ok(run_in_memory(rt, rt.alloc(), words, rooms, source, sink)?.end),
-        Yard::Failing(calls) => run_on_failing(rt, words, rooms, calls.as_slice(), source, sink),
-        Yard::Counted => run_over_counted(rt, words, rooms, source, sink),
+    if setup.is_counted {
+        return run_over_counted(rt, words, rooms, source, sink);
     }
+    run_on_disks(rt, words, rooms, &setup.faults, source, sink)
 }
 
 /// Runs a script over a file loglet, and gives what the run told.
@@ -108,8 +117,9 @@ pub(crate) fn run_plainly(rt: &HostRuntime, script: &[u8]) -> anyhow::Result<Tol
     }
     let mut source = MemSource::new(Vec::from_slice(alloc, script)?, PIECE, Vec::new(alloc));
     let mut sink = MemSink::new(alloc, SINK_ROOM, PIECE, Vec::new(alloc))?;
-    let ended = run_in_memory(rt, alloc, words.as_slice(), ROOMS, &mut source, &mut sink)?;
-    ended.end.told.context("the run told nothing")
+    let faults = DiskFaults::none(alloc);
+    let end = run_on_disks(rt, words.as_slice(), ROOMS, &faults, &mut source, &mut sink)?;
+    end.told.context("the run told nothing")
 }
 
 /// Prints what a run put, and says where its last line has no end.

@@ -14,15 +14,22 @@ pub(crate) const ROOMS: Rooms = Rooms {
 /// How many bytes a call of an end moves where the case doesn't say.
 pub(crate) const PIECE: usize = 64;
 
-/// What the loglets and the nodes of a run stand on.
+/// What comes to the first node's disk.
 #[derive(Drop)]
-pub(crate) enum Yard {
-    /// Disks in memory.
-    Memory,
-    /// Disks that fail: of the first node's disk these calls.
-    Failing(Vec<u64>),
-    /// Disks in memory, and each loglet in one that counts.
-    Counted,
+pub(crate) struct DiskFaults {
+    /// Which of its calls fail.
+    pub(crate) calls: Vec<u64>,
+    /// Inside which of its writes it stops, counted from 1; none where it is 0.
+    pub(crate) stop: u64,
+}
+
+impl DiskFaults {
+    pub(crate) fn none(alloc: Global) -> DiskFaults {
+        DiskFaults {
+            calls: Vec::new(alloc),
+            stop: 0,
+        }
+    }
 }
 
 /// A run of the program.
@@ -38,7 +45,9 @@ pub(crate) struct Setup {
     pub(crate) source_fails: Vec<u64>,
     /// Which calls of standard output fail.
     pub(crate) sink_fails: Vec<u64>,
-    pub(crate) yard: Yard,
+    pub(crate) faults: DiskFaults,
+    /// Each loglet stands in one that counts, on disks of which no call fails.
+    pub(crate) is_counted: bool,
     /// The text of the run isn't told.
     pub(crate) is_silent: bool,
 }
@@ -52,18 +61,18 @@ fn calm(alloc: Global) -> Setup {
         piece: PIECE,
         source_fails: Vec::new(alloc),
         sink_fails: Vec::new(alloc),
-        yard: Yard::Memory,
+        faults: DiskFaults::none(alloc),
+        is_counted: false,
         is_silent: false,
     }
 }
 
-/// The numbers from one to another.
-fn numbers(alloc: Global, first: &str, last: &str) -> anyhow::Result<Vec<u64>> {
-    let mut all = Vec::new(alloc);
+/// Adds the numbers from one to another.
+fn push_numbers(all: &mut Vec<u64>, first: &str, last: &str) -> anyhow::Result<()> {
     for number in number_in(first)?..=number_in(last)? {
         all.push(number)?;
     }
-    Ok(all)
+    Ok(())
 }
 
 /// A line above the command line: what of the run isn't as always.
@@ -80,12 +89,15 @@ fn take_condition(alloc: Global, setup: &mut Setup, line: &str) -> anyhow::Resul
         ["source:", "call", call, "fails"] => setup.source_fails.push(number_in(call)?)?,
         ["sink:", "call", call, "fails"] => setup.sink_fails.push(number_in(call)?)?,
         ["disk", "of", "n1:", "call", call, "fails"] => {
-            setup.yard = Yard::Failing(numbers(alloc, call, call)?);
+            setup.faults.calls.push(number_in(call)?)?;
         }
         ["disk", "of", "n1:", "calls", first, "to", last, "fail"] => {
-            setup.yard = Yard::Failing(numbers(alloc, first, last)?);
+            push_numbers(&mut setup.faults.calls, first, last)?;
         }
-        ["loglets:", "counted"] => setup.yard = Yard::Counted,
+        ["disk", "of", "n1:", "stops", "in", "write", write] => {
+            setup.faults.stop = number_in(write)?;
+        }
+        ["loglets:", "counted"] => setup.is_counted = true,
         ["told:", "the", "status", "alone"] => setup.is_silent = true,
         _ => bail!("no condition of a run: `{line}`"),
     }
