@@ -25,8 +25,9 @@ use Rattle.node_lines.specs.declared.lines.Looked.{Looked}
 use Rattle.node_lines.specs.declared.lines.Looked.TheVariants as looked
 use Rattle.node_lines.specs.Moving.{CanPack, IsQuiet, HasNoneOf}
 use Rattle.node_lines.specs.Desks.{HasAnswers, DeskOk}
-use Rattle.node_lines.specs.Workers.{IsOfSession, Sends, Within, sent_of}
-use Rattle.node_lines.proofs.Scoping.{seat_allowed}
+use Rattle.node_lines.specs.Workers.{IsOfSession, Sends, Within, sent_of, sent_by}
+use Rattle.node_lines.proofs.Scoping.{seat_allowed, sends_more}
+use Rattle.node_lines.proofs.Widening.{seat_wider}
 use Rattle.run_laws.specs.Ended.{CameTo, pays}
 use Rattle.run_course.specs.Script.{AreLines, asked_by, failure_of_look, failed_looks}
 use Rattle.run_course.specs.Course.{Course, CourseOk}
@@ -105,10 +106,11 @@ first_course = record { journal = []; phase = 0; tails = λ _. tail_of (state_of
 some_none : {A : Type 0} (x : Option A) (a : A) → x ≡ None → x ≡ Some a → ⊥
 some_none x a h k = absurd (cc)
 
-module _ (may : ℕ → Entry → Type 0) (floor : List Entry → ℕ → Type 0) (shelf : List ℕ) (lines : List NamedLine) (counts : List ℕ) (looks : List (Option Looked)) (none_sent : (s : ℕ) → sent_of counts s ≡ 0) (size : length looks ≡ length lines) (none : AllByRecursion (λ look. look ≡ None) looks) where
+module _ (may : ℕ → Entry → Type 0) (floor : List Entry → ℕ → Type 0) (shelf : List ℕ) (lines : List NamedLine) (counts : List ℕ) (looks : List (Option Looked)) (none_sent : (s : ℕ) → sent_of counts s ≡ 0) (long : length counts ≡ 64) (size : length looks ≡ length lines) (none : AllByRecursion (λ look. look ≡ None) looks) where
   course_ok : (nodes : ℕ) → IsLegal may floor shelf [] → CourseOk may floor shelf lines nodes first_course counts looks
   course_ok nodes legal = record {
     legal = within;
+    long = long;
     began = λ p low. record {
       early = [];
       more = [];
@@ -128,6 +130,10 @@ module _ (may : ℕ → Entry → Type 0) (floor : List Entry → ℕ → Type 0
     told = λ e p has says. absurd (none_in e has);
     stand = λ i l look at seen. absurd (not_looked i l look at seen);
     trims = λ j l trim at seen. absurd (not_looked j l (looked.Trimmed trim) at seen);
+    reports = record {
+      each = λ i l n at seen. absurd (not_looked i l (looked.Reported n) at seen);
+      reads = λ i j l m n after found at there low same told seen. absurd (not_looked i l (looked.Reported n) at told);
+    };
     ahead = λ i l at late. none_there lines looks i l size none at;
   }
     where
@@ -138,18 +144,17 @@ module _ (may : ℕ → Entry → Type 0) (floor : List Entry → ℕ → Type 0
       within = record { least = legal.least; most = legal.most; steps = tt }
 
   module _ (state : List Entry → SpaceMap → Type 0) (spells : List ℕ → Saved → Type 0) (home : ℕ → ℕ) where
-    worker_rests : (nodes n : ℕ) (seat : SeatView) (desks : List Desk) → IsNewWorker (Sends n may counts []) floor shelf state spells nodes n seat desks → Rests may floor shelf state spells lines home nodes first_course counts looks n 0 0 seat desks
+    worker_rests : (nodes n : ℕ) (seat : SeatView) (desks : List Desk) → IsNewWorker (Sends n may [] []) floor shelf state spells nodes n seat desks → Rests may floor shelf state spells lines home nodes first_course counts looks n 0 0 seat desks
     worker_rests nodes n seat desks w = record {
       worker = record {
         ok = record {
           who_is = w.waits.who_is;
           origin = w.waits.replica.origin_is;
-          ok = w.waits.ok;
+          ok = seat_wider (Sends n may [] []) (Sends n may (sent_by desks) []) floor floor shelf (λ user e k. sends_more n may [] (sent_by desks) [] (λ s. omega arith) user e k) (λ log m k. k) state spells [] seat w.waits.ok;
           packs = subst CanPack (sym kept) (record { each = λ k d low. absurd (omega (arith, low)); few = omega arith });
           waits = subst (All IsOfSession) (sym kept) (λ k d low. absurd (omega (arith, low)));
           size = w.desks_are.size;
           each = λ s d at. desk_ok seat kept w.waits.outbox s d (known s d at) (w.desks_are.each s d at);
-          counted = λ s d at some. let asked = (w.desks_are.each s d at).none_asked in absurd (omega (arith, asked, some));
           home = λ s d at some. let asked = (w.desks_are.each s d at).none_asked in absurd (omega (arith, asked, some));
         };
         nodes_is = w.waits.nodes_is;
@@ -181,17 +186,17 @@ module _ (may : ℕ → Entry → Type 0) (floor : List Entry → ℕ → Type 0
           held = λ cause _ is. absurd (some_none d.stopped cause h.goes_on is);
         }
 
-    pub crew_rests : {A : Type 0} (seat : A → SeatView) (desks : A → List Desk) (workers : List A) → AreLines lines home (length workers) → length counts ≡ 64 → IsLegal may floor shelf []
-        → AreNewWorkers (λ n. Sends n may counts []) floor shelf state spells (length workers) seat desks workers → CrewRests may floor shelf state spells lines 0 0 [] counts looks seat desks workers
-    crew_rests seat desks workers are long legal new = record {
+    pub crew_rests : {A : Type 0} (seat : A → SeatView) (desks : A → List Desk) (workers : List A) → AreLines lines home (length workers) → IsLegal may floor shelf []
+        → AreNewWorkers (λ n. Sends n may [] []) floor shelf state spells (length workers) seat desks workers → CrewRests may floor shelf state spells lines 0 0 [] looks seat desks workers
+    crew_rests seat desks workers are legal new = record {
       home = home;
       course = first_course;
+      counts = counts;
       journal_is = refl;
       phase_is = refl;
       lines_are = are;
       begins = record { before = λ i l at low. absurd (omega (arith, low)); behind = λ i l at high. omega arith };
       ok = course_ok (length workers) legal;
-      long = long;
       each = λ j w at. worker_rests (length workers) (j + 1) (seat w) (desks w) (new j w at);
       sees = λ calm.
           let first = some_at workers 0 (let least = are.there 0 in let most = are.within 0 in omega (arith, least, most)) in
@@ -199,6 +204,6 @@ module _ (may : ℕ → Entry → Type 0) (floor : List Entry → ℕ → Type 0
           record { at = 0; one = first.0; is = first.1; upto = omega (arith, none) };
     }
 
-pub new_stands : {A : Type 0} (may : ℕ → Entry → Type 0) (floor : List Entry → ℕ → Type 0) (shelf : List ℕ) (state : List Entry → SpaceMap → Type 0) (spells : List ℕ → Saved → Type 0) (counts : List ℕ) (nodes : ℕ) (seat : A → SeatView) (desks : A → List Desk) (workers : List A)
-    → AreNewWorkers (λ n. Sends n may counts []) floor shelf state spells nodes seat desks workers → CrewStands may floor shelf state spells [] seat workers
-new_stands may floor shelf state spells counts nodes seat desks workers new = λ j w at. seat_allowed may floor shelf (j + 1) counts state spells [] (seat w) (new j w at).waits.ok
+pub new_stands : {A : Type 0} (may : ℕ → Entry → Type 0) (floor : List Entry → ℕ → Type 0) (shelf : List ℕ) (state : List Entry → SpaceMap → Type 0) (spells : List ℕ → Saved → Type 0) (nodes : ℕ) (seat : A → SeatView) (desks : A → List Desk) (workers : List A)
+    → AreNewWorkers (λ n. Sends n may [] []) floor shelf state spells nodes seat desks workers → CrewStands may floor shelf state spells [] seat workers
+new_stands may floor shelf state spells nodes seat desks workers new = λ j w at. seat_allowed may floor shelf (j + 1) [] state spells [] (seat w) (new j w at).waits.ok

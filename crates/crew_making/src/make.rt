@@ -6,7 +6,7 @@ ghost use Rattle.legal_journal.specs.Journal.{IsLegal};
 ghost use Rattle.loglet_api.specs.View.{IsFresh};
 ghost use Rattle.loglet_api.specs.Sound.{IsSound};
 ghost use Rattle.register_api.specs.View as view;
-ghost use Rattle.node_lines.specs.Workers.{Sends, sent_of};
+ghost use Rattle.node_lines.specs.Workers.{Sends};
 ghost use Rattle.run_course.specs.Script.{AreLines};
 ghost use Rattle.node_crew.specs.Crews.{CrewRests, CrewStands};
 ghost use Rattle.crew_making.specs.Apart.{AreAsTold};
@@ -32,15 +32,13 @@ use turn_scopes::seat::Seat;
 use turn_scopes::terms::{By, Scope, Terms, Within};
 use virtual_log::rest::Rested as RestedLog;
 
-/// A node gets its seat before there is a fabric, within a scope. The counts of commands that were sent are handed in for the rules
-/// of the scope alone.
+/// A node gets its seat before there is a fabric, within a scope.
 fn seat_within<K: Terms, Q: Scope, S: Replica, C: Chooser>(
     alloc: Global,
     who: u32,
     nodes: u8,
     log: RestedLog<C>,
     replica: S,
-    _counts: &[u64; 64],
 ) -> Seat<S, C>
     requires eight { nodes ≤ 8 }
     requires legal { IsLegal K.may K.floor K.shelf [] }
@@ -60,7 +58,6 @@ fn seat_all<K: Terms, S: Replica, C: Chooser>(
     alloc: Global,
     berths: Vec<Berth<S, C>>,
     workers: Vec<Worker<S, C>>,
-    counts: &[u64; 64],
 ) -> Vec<Worker<S, C>>
     requires eight { length berths.items ≤ 8 }
     requires legal { IsLegal K.may K.floor K.shelf [] }
@@ -68,7 +65,7 @@ fn seat_all<K: Terms, S: Replica, C: Chooser>(
     requires desks { AllByRecursion (λ b. AreFreshDesks b.desks.items) berths.items }
     requires fresh { AreFreshFrom S.state S.spells 1 (map (λ b. S.shows b.replica) berths.items) }
     requires room { (workers.items ≡ []) × (length berths.items ≤ vec_capacity workers) }
-    ensures workers { AreNewWorkers (λ n. Sends n K.may counts.now []) K.floor K.shelf S.state S.spells (length berths.items) (λ w. w.seat) (λ w. w.desks.items) result.items }
+    ensures workers { AreNewWorkers (λ n. Sends n K.may [] []) K.floor K.shelf S.state S.spells (length berths.items) (λ w. w.seat) (λ w. w.desks.items) result.items }
     ensures replicas { map (λ w. w.seat.node.replica) result.items ≡ map (λ b. S.shows b.replica) berths.items }
 {
     let nodes = berths.len() as u8;
@@ -79,14 +76,7 @@ fn seat_all<K: Terms, S: Replica, C: Chooser>(
             log,
             desks,
         } = berths.remove(0);
-        let seat = seat_within::<K, Brand, S, C>(
-            alloc,
-            u32::from(k) + 1,
-            nodes,
-            log,
-            replica,
-            counts,
-        );
+        let seat = seat_within::<K, Brand, S, C>(alloc, u32::from(k) + 1, nodes, log, replica);
         workers.push_reserved(Worker { seat, desks });
     }
     berths.destroy_empty();
@@ -103,14 +93,6 @@ fn no_looks(alloc: Global, lines: usize) -> Result<Vec<Option<Looked>>, AllocErr
         looks.push_reserved(None);
     }
     Ok(looks)
-}
-
-/// No command was sent.
-fn no_counts() -> [u64; 64]
-    ensures none { (s : ℕ) → sent_of result s ≡ 0 }
-    ensures long { length result ≡ 64 }
-{
-    [0; 64]
 }
 
 /// Makes the nodes of a run of their parts, which are numbered from 1 in their order, over a fabric of these loglets and this
@@ -132,7 +114,7 @@ pub fn make_crew<L: Loglet, R: Register, K: Terms, S: Replica, C: Chooser>(
     requires eight { length nodes.old.items ≤ 8 }
     requires nodes { (j : ℕ) (n : OpenNode S C) → slice_get nodes.old.items j ≡ Some n → IsFreshReplica S.state S.spells (j + 1) (S.shows n.replica) }
     requires lines { (home : ℕ → ℕ) × AreLines lines.now home (length nodes.old.items) }
-    ensures rests { IfOk result (λ crew. CrewRests K.may K.floor K.shelf S.state S.spells lines.now 0 0 crew.fabric.journal crew.counts crew.looks.items (λ w. w.seat) (λ w. w.desks.items) crew.workers.items) }
+    ensures rests { IfOk result (λ crew. CrewRests K.may K.floor K.shelf S.state S.spells lines.now 0 0 crew.fabric.journal crew.looks.items (λ w. w.seat) (λ w. w.desks.items) crew.workers.items) }
     ensures stands { IfOk result (λ crew. CrewStands K.may K.floor K.shelf S.state S.spells crew.fabric.journal (λ w. w.seat) crew.workers.items) }
     ensures none { IfOk result (λ crew. crew.fabric.journal ≡ []) }
     ensures told { IfOk result (λ crew. AreAsTold K.may K.floor K.shelf [] crew.fabric.cells crew.fabric.register) }
@@ -161,14 +143,12 @@ pub fn make_crew<L: Loglet, R: Register, K: Terms, S: Replica, C: Chooser>(
     };
     match Fabric::new(alloc, cells, register) {
         Ok(fabric) => {
-            let counts = no_counts();
-            let workers = seat_all::<K, S, C>(alloc, berths, workers, &counts);
+            let workers = seat_all::<K, S, C>(alloc, berths, workers);
             // The loglets and the register are as their journal tells.
             let _told = fabric.journal();
             return Ok(Crew {
                 fabric,
                 workers,
-                counts,
                 looks,
             });
         }

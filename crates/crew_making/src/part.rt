@@ -67,7 +67,6 @@ pub fn part_crew<L: Loglet, R: Register, K: Terms, S: Replica, C: Chooser>(
     let Crew {
         fabric,
         workers,
-        counts: _,
         looks: _,
     } = crew;
     let (mut fabric, mut workers) = (fabric, workers);

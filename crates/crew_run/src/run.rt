@@ -7,7 +7,7 @@ ghost use Rattle.loglet_api.specs.View.{IsFresh};
 ghost use Rattle.loglet_api.specs.Sound.{IsSound};
 ghost use Rattle.register_api.specs.View as view;
 ghost use Rattle.log_laws.specs.State.{IsStateOf};
-ghost use Rattle.base_engine.specs.Trimming.{FloorIs};
+ghost use Rattle.turn_scopes.specs.Floors.{FloorIs};
 ghost use Rattle.fitting_run.specs.Lines.{CanLog};
 ghost use Rattle.node_lines.specs.Workers.{MayRun};
 ghost use Rattle.run_ends.specs.Rules.{may_of};

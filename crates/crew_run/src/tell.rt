@@ -3,7 +3,7 @@ ghost use Rattle.std.specs.Prelude.{◌≡◌, ◌≤◌, ℕ, List, length, map
 ghost use Rattle.delos_types.specs.Spaces.{SpaceMap};
 ghost use Rattle.delos_types.specs.declared.entry.Entry.{Entry};
 ghost use Rattle.log_laws.specs.State.{IsStateOf};
-ghost use Rattle.base_engine.specs.Trimming.{FloorIs};
+ghost use Rattle.turn_scopes.specs.Floors.{FloorIs};
 ghost use Rattle.node_lines.specs.Workers.{MayRun};
 ghost use Rattle.run_ends.specs.Rules.{may_of};
 ghost use Rattle.node_crew.specs.Turns.{MaySendAll};
@@ -51,7 +51,7 @@ fn tell_closed<L: Loglet, R: Register, K: Terms, S: Replica, C: Chooser>(
     requires run { MayRun K.may K.floor K.shelf }
     requires may { (who : ℕ) (e : Entry) → K.may who e → may_of lines.now who e }
     requires floor { FloorIs K.floor (length crew.workers.items) }
-    requires closed { (log : List Entry) × (length log ≡ end) × HasClosed K.may K.floor K.shelf S.state S.spells lines.now crew.fabric.journal crew.counts crew.looks.items log (map (λ w. record { seat = w.seat; desks = w.desks.items }) crew.workers.items) }
+    requires closed { (log : List Entry) × (length log ≡ end) × HasClosed K.may K.floor K.shelf S.state S.spells lines.now crew.fabric.journal crew.looks.items log (map (λ w. record { seat = w.seat; desks = w.desks.items }) crew.workers.items) }
     requires sees { SeesAll crew.fabric.journal (λ (w : WorkerEnd). w.seat) (map (λ w. record { seat = w.seat; desks = w.desks.items }) crew.workers.items) end }
     requires stands { CrewStands K.may K.floor K.shelf S.state S.spells crew.fabric.journal (λ w. w.seat) crew.workers.items }
     ensures told { IfOk result.told (FitsGivenBack K.may K.floor K.shelf lines.now result.crew.fabric.journal (map (λ w. record { seat = w.seat; desks = w.desks.items }) result.crew.workers.items)) }
@@ -70,7 +70,6 @@ fn tell_closed<L: Loglet, R: Register, K: Terms, S: Replica, C: Chooser>(
     let Crew {
         fabric,
         workers,
-        counts,
         looks,
     } = crew;
     let Last { fabric, answer } = read_last(alloc, NOBODY, fabric);
@@ -79,7 +78,6 @@ fn tell_closed<L: Loglet, R: Register, K: Terms, S: Replica, C: Chooser>(
     let crew = Crew {
         fabric,
         workers,
-        counts,
         looks,
     };
     match (answer, rows) {
@@ -116,7 +114,7 @@ pub fn tell<L: Loglet, R: Register, K: Terms, S: Replica, C: Chooser>(
     requires floor { FloorIs K.floor (length crew.workers.items) }
     requires sends { MaySendAll K.may lines.now }
     requires eight { length crew.workers.items ≤ 8 }
-    requires fresh { CrewRests K.may K.floor K.shelf S.state S.spells lines.now 0 0 crew.fabric.journal crew.counts crew.looks.items (λ w. w.seat) (λ w. w.desks.items) crew.workers.items }
+    requires fresh { CrewRests K.may K.floor K.shelf S.state S.spells lines.now 0 0 crew.fabric.journal crew.looks.items (λ w. w.seat) (λ w. w.desks.items) crew.workers.items }
     requires stands { CrewStands K.may K.floor K.shelf S.state S.spells crew.fabric.journal (λ w. w.seat) crew.workers.items }
     ensures told { IfOk result.told (FitsGivenBack K.may K.floor K.shelf lines.now result.crew.fabric.journal (map (λ w. record { seat = w.seat; desks = w.desks.items }) result.crew.workers.items)) }
     ensures stands { CrewStands K.may K.floor K.shelf S.state S.spells result.crew.fabric.journal (λ w. w.seat) result.crew.workers.items }

@@ -3,6 +3,7 @@ use Rattle.std.specs.Prelude.{ℕ, Bool, true, false, ◌&&◌, ◌||◌, ◌==�
 use Rattle.std.specs.List.{zip}
 use Rattle.delos_types.specs.declared.place.Place.{Place}
 use Rattle.delos_types.specs.declared.cause.Cause.{Cause}
+use Rattle.delos_types.specs.declared.cause.Cause.TheVariants as cause
 use Rattle.script_text.specs.declared.asks.NamedLine.{NamedLine}
 use Rattle.script_text.specs.declared.line.Session.{Session}
 use Rattle.script_text.specs.declared.asks.Asks.{Asks}
@@ -46,6 +47,13 @@ looked_at other = None
 abbrev pub cause_of : Outcome → Option Cause
 cause_of (out.Open c) = Some c
 cause_of other = None
+
+abbrev pub same_cause : Cause → Cause → Bool
+same_cause (cause.NoQuorum l u) (cause.NoQuorum m v) = (l == m) && (u == v)
+same_cause (cause.Full l) (cause.Full m) = l == m
+same_cause cause.Meta cause.Meta = true
+same_cause cause.Store cause.Store = true
+same_cause c d = false
 
 abbrev pub is_open : Outcome → Bool
 is_open o = is_some (cause_of o)

@@ -10,7 +10,7 @@ use Rattle.fitting_run.specs.Outcomes.{OneRowEach, KeepsSessionOrder, keeps_barr
 use Rattle.fitting_run.specs.Reads.{ReadsAreCurrent}
 use Rattle.fitting_run.specs.Faults.{FaultsAreCounted}
 use Rattle.fitting_run.specs.Replacements.{ReplacementsAgree}
-use Rattle.fitting_run.specs.Reports.{ReportsStand}
+use Rattle.fitting_run.specs.Reports.{ReportsStand, items_of}
 use Rattle.fitting_run.specs.Trims.{TrimsStand}
 use Rattle.fitting_run.specs.Yard.{Shown}
 
@@ -37,6 +37,6 @@ pub record Fits (lines : List NamedLine) (o : Told) (yard : Shown) : Type 0 wher
   pub barriers : keeps_barriers (told_of lines o) ≡ true
   pub faults_are_counted : FaultsAreCounted (told_of lines o) yard
   pub replacements : ReplacementsAgree lines (told_of lines o) o.version o.chain (length yard.cells)
-  pub reports : ReportsStand (told_of lines o) o.chain yard.cells o.end
-  pub trims : TrimsStand lines (told_of lines o) (length yard.disks) o.chain yard.cells o.end
+  pub reports : ReportsStand (told_of lines o) o.chain.trim (items_of o.chain yard.cells) o.end
+  pub trims : TrimsStand lines (told_of lines o) (length yard.disks) o.chain.trim (items_of o.chain yard.cells) o.end
   pub chain_is_registered : ChainIsRegistered o yard.register

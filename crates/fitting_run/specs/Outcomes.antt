@@ -1,7 +1,7 @@
 -- One row for each line, and the order of sessions and barriers.
-use Rattle.std.specs.Prelude.{◌≡◌, ℕ, Bool, true, false, not, ◌&&◌, nat_lt, nat_le, nat_eq, ◌==◌, List, length, filter, Option, Some, None}
+use Rattle.std.specs.Prelude.{◌≡◌, ℕ, Bool, true, false, not, ◌&&◌, ◌||◌, nat_lt, nat_le, nat_eq, ◌==◌, List, length, filter, Option, Some, None}
 use Rattle.std.specs.Cmp.Lexicographic.{pointwise}
-use Rattle.std.specs.List.{list_all}
+use Rattle.std.specs.List.{list_all, list_any}
 use Rattle.delos_types.specs.declared.place.Place.{Place}
 use Rattle.script_text.specs.declared.asks.NamedLine.{NamedLine}
 use Rattle.script_text.specs.declared.line.Session.{Session}
@@ -13,8 +13,9 @@ use Rattle.row_text.specs.declared.row.Who.{Who}
 use Rattle.row_text.specs.declared.row.Who.TheVariants as who
 use Rattle.row_text.specs.declared.row.Outcome.{Outcome}
 use Rattle.row_text.specs.declared.row.Outcome.TheVariants as out
-use Rattle.fitting_run.specs.Tests.{◌⇒◌, each_pair}
-use Rattle.fitting_run.specs.Answered.{Answered, has_row, session_asking, same_session, before_barrier, is_logged, is_placed_on_time, is_open, on_time, on_read, place_le, answered_lines}
+use Rattle.fitting_run.specs.Tests.{◌⇒◌, where_some, each_pair}
+use Rattle.fitting_run.specs.Answered.{Answered, has_row, session_asking, same_session, before_barrier, is_logged, is_placed_on_time, is_open, on_time, on_read, place_le, answered_lines, cause_of, same_cause}
+use Rattle.fitting_run.specs.Faults.{stops}
 
 -- One row for each `on` line, in order, with its number and who asked
 
@@ -57,10 +58,21 @@ rises a b = same_session a b ⇒ on_time a.row.outcome (λ p. on_time b.row.outc
 abbrev pub is_stopped_by : Answered → Answered → Bool
 is_stopped_by a b = (same_session a b && before_barrier a b && is_logged a && not (is_placed_on_time a)) ⇒ is_open b.row.outcome
 
--- places in a session don't fall, and a session that was stopped stays so
+-- its row, if it is open, tells why its session was stopped: it is a command's, or of a later phase than one that stopped it
+abbrev pub tells_why : List Answered → Answered → Bool
+tells_why told b = is_logged b || list_any (stops b) told
+
+-- open rows of one session that tell why it was stopped tell one cause
+abbrev pub shares_cause : List Answered → Answered → Answered → Bool
+shares_cause told a b =
+    (same_session a b && tells_why told a && tells_why told b)
+    ⇒ where_some (cause_of a.row.outcome) (λ c. where_some (cause_of b.row.outcome) (same_cause c))
+
+-- places in a session don't fall, and a session that was stopped stays so, with the cause that it was stopped by
 pub record KeepsSessionOrder (told : List Answered) : Type 0 where
   pub places : each_pair rises told ≡ true
   pub stopped : each_pair is_stopped_by told ≡ true
+  pub causes : each_pair (shares_cause told) told ≡ true
 
 -- Barriers, rows without `late`
 

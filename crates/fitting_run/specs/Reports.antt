@@ -5,13 +5,15 @@ use Rattle.delos_types.specs.declared.chain.Chain.{Chain}
 use Rattle.loglet_api.specs.View.{LogletView}
 use Rattle.engine_api.specs.declared.content.Content.{Content}
 use Rattle.engine_api.specs.declared.content.Content.TheVariants.{Alive}
+use Rattle.engine_api.specs.declared.content.Placed.{Placed}
 use Rattle.engine_api.specs.Acted.{unpack_all}
 use Rattle.engine_api.specs.Members.{has_left}
 use Rattle.fabric_core.specs.Log.{virtual_tail, virtual_log}
 use Rattle.row_text.specs.declared.row.Outcome.{Outcome}
 use Rattle.row_text.specs.declared.row.Outcome.TheVariants as out
-use Rattle.fitting_run.specs.Tests.{◌⇒◌, where_some}
+use Rattle.fitting_run.specs.Tests.{◌⇒◌, where_some, each_pair}
 use Rattle.fitting_run.specs.Answered.{Answered, before_barrier, is_logged, is_placed_on_time, on_time}
+use Rattle.fitting_run.specs.Replacements.{is_behind}
 
 -- how many of the log's first entries are clean, as the row reports
 abbrev pub reported : Outcome → Option ℕ
@@ -34,31 +36,50 @@ lies_below b d a = before_barrier a b ⇒ on_time a.row.outcome (λ p. nat_lt p.
 abbrev pub reports_all : List Answered → Answered → Bool
 reports_all told b = where_some (reported b.row.outcome) (λ d. list_all (is_done b) told ⇒ list_all (lies_below b d) told)
 
--- an item is the node's report of this position
-abbrev pub says_alive : ℕ → ℕ → Content → Bool
-says_alive node position (Alive n p) = (n == node) && (p == position)
-says_alive node position other = false
+-- Behind a report
 
--- where nothing is trimmed, the log has the report, up to its tail
-abbrev pub stands_in_log : Chain → List LogletView → Answered → Bool
-stands_in_log chain cells b =
-    where_some (reported b.row.outcome) (λ d.
-    (chain.trim == 0) ⇒ list_any (λ p. says_alive b.line.node d p.content) (unpack_all chain.trim (virtual_log chain cells chain.trim (virtual_tail chain cells))))
+-- what this row says stands at this position or above, a late place too
+abbrev pub is_from : ℕ → Outcome → Bool
+is_from d (out.Placed p reply late) = nat_le d p.pos
+is_from d (out.Read after found) = nat_le d after
+is_from d other = true
+
+-- where a reports, b stands there or above, if it is a later line of its node or of a later phase
+abbrev pub stays_above : Answered → Answered → Bool
+stays_above a b = is_behind a b ⇒ where_some (reported a.row.outcome) (λ d. is_from d b.row.outcome)
+
+-- With the log: its items up to its tail, but for what was trimmed
+
+abbrev pub items_of : Chain → List LogletView → List Placed
+items_of chain cells = unpack_all chain.trim (virtual_log chain cells chain.trim (virtual_tail chain cells))
+
+-- it says that the node reports this position
+abbrev pub is_alive_at : ℕ → ℕ → Content → Bool
+is_alive_at node position (Alive n p) = (n == node) && (p == position)
+is_alive_at node position other = false
+
+-- an item is the node's report of this position, no lower than that
+abbrev pub says_alive : ℕ → ℕ → Placed → Bool
+says_alive node position p = is_alive_at node position p.content && nat_le position p.place.pos
+
+-- where the log isn't trimmed above what the row reports, it has the report, no lower than that
+abbrev pub stands_in_log : ℕ → List Placed → Answered → Bool
+stands_in_log trim items b = where_some (reported b.row.outcome) (λ d. nat_le trim d ⇒ list_any (says_alive b.line.node d) items)
 
 -- the node left, as the row says
 abbrev pub is_retired : Outcome → Bool
 is_retired out.Retired = true
 is_retired other = false
 
--- where nothing is trimmed, the log has that the node leaves, up to its tail
-abbrev pub has_leave : Chain → List LogletView → Answered → Bool
-has_leave chain cells b =
-    is_retired b.row.outcome
-    ⇒ ((chain.trim == 0) ⇒ has_left (unpack_all chain.trim (virtual_log chain cells chain.trim (virtual_tail chain cells))) b.line.node)
+-- where nothing is trimmed, the log has that the node leaves
+abbrev pub has_leave : ℕ → List Placed → Answered → Bool
+has_leave trim items b = is_retired b.row.outcome ⇒ ((trim == 0) ⇒ has_left items b.line.node)
 
--- What nodes were answered that were asked to report, or to leave.
-pub record ReportsStand (told : List Answered) (chain : Chain) (cells : List LogletView) (end : ℕ) : Type 0 where
+-- What nodes were answered that were asked to report, or to leave. The log is trimmed so far, and has these items from there on.
+pub record ReportsStand (told : List Answered) (trim : ℕ) (items : List Placed) (end : ℕ) : Type 0 where
   pub within : list_all (is_within end) told ≡ true
   pub all : list_all (reports_all told) told ≡ true
-  pub stand : list_all (stands_in_log chain cells) told ≡ true
-  pub left : list_all (has_leave chain cells) told ≡ true
+  -- what comes behind a report stands at it or above
+  pub above : each_pair stays_above told ≡ true
+  pub stand : list_all (stands_in_log trim items) told ≡ true
+  pub left : list_all (has_leave trim items) told ≡ true

@@ -1,19 +1,17 @@
 -- How far lines trimmed the log, and how far it is trimmed at the end.
 use Rattle.std.specs.Prelude.{◌≡◌, ◌≤◌, ℕ, Bool, true, false, not, ◌&&◌, ◌||◌, ◌==◌, nat_le, if◌then◌else◌, List, [], filter, filter_map, Option, Some, None, is_some}
 use Rattle.std.specs.List.{list_all, list_any}
-use Rattle.delos_types.specs.declared.chain.Chain.{Chain}
-use Rattle.loglet_api.specs.View.{LogletView}
-use Rattle.engine_api.specs.Acted.{unpack_all}
-use Rattle.engine_api.specs.Members.{greatest, trim_asked}
+use Rattle.engine_api.specs.declared.content.Content.{Content}
+use Rattle.engine_api.specs.declared.content.Placed.{Placed}
+use Rattle.engine_api.specs.Members.{greatest, report_of, trim_asked}
 use Rattle.engine_api.specs.Order.{numbers}
-use Rattle.fabric_core.specs.Log.{virtual_tail, virtual_log}
 use Rattle.script_text.specs.declared.asks.NamedLine.{NamedLine}
 use Rattle.script_text.specs.declared.asks.Asks.{Asks}
 use Rattle.script_text.specs.declared.asks.Asks.TheVariants as asks
 use Rattle.script_text.specs.declared.line.Admin.TheVariants.{Alive, Trim}
 use Rattle.row_text.specs.declared.row.Outcome.{Outcome}
 use Rattle.row_text.specs.declared.row.Outcome.TheVariants as out
-use Rattle.fitting_run.specs.Tests.{◌⇒◌, where_some, each_after}
+use Rattle.fitting_run.specs.Tests.{◌⇒◌, where_some, some_is, each_after}
 use Rattle.fitting_run.specs.Answered.{Answered, is_open}
 use Rattle.fitting_run.specs.Lines.{asks_to_leave}
 use Rattle.fitting_run.specs.Replacements.{is_behind}
@@ -91,18 +89,35 @@ is_held lines told trim node =
 abbrev pub is_asked_for : List NamedLine → ℕ → ℕ → Bool
 is_asked_for lines nodes trim = (trim == 0) || (list_any (λ l. asks_to_trim l.asks) lines && list_all (is_to_let_go lines) (numbers 1 nodes))
 
--- where nothing is trimmed at the end, the log has that a trim was asked for, up to its tail
-abbrev pub has_trim : Chain → List LogletView → Answered → Bool
-has_trim chain cells b =
-    is_some (trimmed b.row.outcome)
-    ⇒ ((chain.trim == 0) ⇒ list_any (λ p. is_some (trim_asked p.content)) (unpack_all chain.trim (virtual_log chain cells chain.trim (virtual_tail chain cells))))
+-- With the log: its items up to its tail, but for what was trimmed
 
--- What the lines of a script were answered that asked for a trim, and how far the chain is trimmed that is told. The nodes are 1 to
--- `nodes`.
-pub record TrimsStand (lines : List NamedLine) (told : List Answered) (nodes : ℕ) (chain : Chain) (cells : List LogletView) (end : ℕ) : Type 0 where
-  pub upto : list_all (is_upto chain.trim) told ≡ true
+-- where nothing is trimmed at the end, the log has that a trim was asked for
+abbrev pub has_trim : ℕ → List Placed → Answered → Bool
+has_trim trim items b = is_some (trimmed b.row.outcome) ⇒ ((trim == 0) ⇒ list_any (λ p. is_some (trim_asked p.content)) items)
+
+-- it asks for a trim as far as this, or further
+abbrev pub asks_from : ℕ → Content → Bool
+asks_from trim c = some_is (trim_asked c) (nat_le trim)
+
+-- it says that the node reports so much, or more
+abbrev pub reports_from : ℕ → ℕ → Content → Bool
+reports_from node trim c = some_is (report_of node c) (nat_le trim)
+
+-- the log has a report of as much as is trimmed, of a node that isn't to leave
+abbrev pub lets_go : List NamedLine → ℕ → List Placed → ℕ → Bool
+lets_go lines trim items node = list_any (is_to_leave node) lines || list_any (λ p. reports_from node trim p.content) items
+
+-- nothing is trimmed, or the log has from there on that as much was asked for, and that each node reported as much that isn't to leave
+abbrev pub rests_on_log : List NamedLine → ℕ → ℕ → List Placed → Bool
+rests_on_log lines nodes trim items = (trim == 0) || (list_any (λ p. asks_from trim p.content) items && list_all (lets_go lines trim items) (numbers 1 nodes))
+
+-- What the lines of a script were answered that asked for a trim, and how far the log is trimmed, which has these items from there on.
+-- The nodes are 1 to `nodes`.
+pub record TrimsStand (lines : List NamedLine) (told : List Answered) (nodes trim : ℕ) (items : List Placed) (end : ℕ) : Type 0 where
+  pub upto : list_all (is_upto trim) told ≡ true
   pub reach : each_after (reaches_a_report nodes) [] told ≡ true
-  pub held : list_all (is_held lines told chain.trim) (numbers 1 nodes) ≡ true
-  pub within : chain.trim ≤ end
-  pub asked : is_asked_for lines nodes chain.trim ≡ true
-  pub stand : list_all (has_trim chain cells) told ≡ true
+  pub held : list_all (is_held lines told trim) (numbers 1 nodes) ≡ true
+  pub within : trim ≤ end
+  pub asked : is_asked_for lines nodes trim ≡ true
+  pub stand : list_all (has_trim trim items) told ≡ true
+  pub rests : rests_on_log lines nodes trim items ≡ true

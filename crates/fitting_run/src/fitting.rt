@@ -1,15 +1,17 @@
 //! The tests of which a fitting run is made, as plain programs: whether a row is of its line, and
 //! whether sessions and barriers are kept. The tests on lists compare each row with each later one.
 ghost use Rattle.std.specs.Prelude.{◌≡◌, ◌&&◌, nat_le};
-ghost use Rattle.std.specs.List.{list_all};
+ghost use Rattle.std.specs.List.{list_all, list_any};
 ghost use Rattle.std.specs.Option.{option_copied};
-ghost use Rattle.fitting_run.specs.Tests.{each_pair};
+ghost use Rattle.fitting_run.specs.Faults.{stops};
+ghost use Rattle.fitting_run.specs.Tests.{each_pair, where_some};
 ghost use Rattle.fitting_run.specs.Acts as acts_of;
 ghost use Rattle.fitting_run.specs.Answered as answers_of;
 ghost use Rattle.fitting_run.specs.Outcomes as outcomes;
 ghost use Rattle.fitting_run.specs.Reads as reads;
 
 use crate::answered::Answered;
+use delos_types::cause::Cause;
 use delos_types::numbers::{NodeId, SessionId};
 use delos_types::place::Place;
 use engine_api::act::Act;
@@ -194,6 +196,125 @@ pub fn stays_stopped(told: &[Answered]) -> bool
     match told {
         [] => true,
         [a, rest @ ..] => all_stopped_by(a, rest) && stays_stopped(rest),
+    }
+}
+
+fn is_late(outcome: &Outcome) -> bool
+    ensures { result ≡ answers_of.is_late outcome.now }
+{
+    match outcome {
+        Outcome::Placed { late, .. } => *late,
+        _ => false,
+    }
+}
+
+fn stops(b: &Answered, a: &Answered) -> bool
+    ensures { result ≡ stops b.now a.now }
+{
+    same_session(a, b)
+        && before_barrier(a, b)
+        && logs(&a.line.asks)
+        && (is_open(&a.row.outcome) || is_late(&a.row.outcome))
+}
+
+fn some_stops(b: &Answered, told: &[Answered]) -> bool
+    ensures { result ≡ list_any (stops b.now) told.now }
+{
+    told.iter().any(|a| stops(b, a))
+}
+
+fn tells_why(told: &[Answered], b: &Answered) -> bool
+    ensures { result ≡ outcomes.tells_why told.now b.now }
+{
+    logs(&b.line.asks) || some_stops(b, told)
+}
+
+fn cause_of(outcome: &Outcome) -> Option<Cause>
+    ensures { result ≡ answers_of.cause_of outcome.now }
+{
+    match outcome {
+        Outcome::Open { cause } => Some(*cause),
+        _ => None,
+    }
+}
+
+fn same_cause(c: Cause, d: Cause) -> bool
+    ensures { result ≡ answers_of.same_cause c d }
+{
+    match (c, d) {
+        (
+            Cause::NoQuorum { id, unreached },
+            Cause::NoQuorum {
+                id: other,
+                unreached: others,
+            },
+        ) => id == other && unreached == others,
+        (Cause::Full { id }, Cause::Full { id: other }) => id == other,
+        (Cause::Meta, Cause::Meta) => true,
+        (Cause::Store, Cause::Store) => true,
+        _ => false,
+    }
+}
+
+fn have_one_cause(a: &Outcome, b: &Outcome) -> bool
+    ensures { result ≡ where_some (answers_of.cause_of a.now) (λ c. where_some (answers_of.cause_of b.now) (answers_of.same_cause c)) }
+{
+    match (cause_of(a), cause_of(b)) {
+        (Some(c), Some(d)) => same_cause(c, d),
+        _ => true,
+    }
+}
+
+fn shares_cause(told: &[Answered], a: &Answered, b: &Answered) -> bool
+    ensures { result ≡ outcomes.shares_cause told.now a.now b.now }
+{
+    let both = same_session(a, b) && tells_why(told, a) && tells_why(told, b);
+    !both || have_one_cause(&a.row.outcome, &b.row.outcome)
+}
+
+fn all_share_cause(told: &[Answered], a: &Answered, rest: &[Answered]) -> bool
+    ensures { result ≡ list_all (outcomes.shares_cause told.now a.now) rest.now }
+{
+    rest.iter().all(|b| shares_cause(told, a, b))
+}
+
+fn some_share_cause(told: &[Answered], some: &[Answered]) -> bool
+    ensures { result ≡ each_pair (outcomes.shares_cause told.now) some.now }
+{
+    match some {
+        [] => true,
+        [a, rest @ ..] => all_share_cause(told, a, rest) && some_share_cause(told, rest),
+    }
+}
+
+/// The open rows of a session that was stopped have one cause: its commands, and all its rows of later phases. In time that is the
+/// cube of the rows' number, where all are open.
+pub fn causes_are_kept(told: &[Answered]) -> bool
+    ensures { result ≡ each_pair (outcomes.shares_cause told.now) told.now }
+{
+    some_share_cause(told, told)
+}
+
+fn is_kept_open(a: &Answered, b: &Answered) -> bool
+    ensures { result ≡ reads.is_kept_open a.now b.now }
+{
+    let stops = same_session(a, b) && logs(&a.line.asks) && place_on_time(&a.row.outcome).is_none();
+    !stops || looked_at(&b.row.outcome).is_none()
+}
+
+fn all_are_kept_open(a: &Answered, rest: &[Answered]) -> bool
+    ensures { result ≡ list_all (reads.is_kept_open a.now) rest.now }
+{
+    rest.iter().all(|b| is_kept_open(a, b))
+}
+
+/// No read was answered behind a command of its session that wasn't placed in its phase.
+pub fn reads_are_kept_open(told: &[Answered]) -> bool
+    ensures { result ≡ each_pair reads.is_kept_open told.now }
+{
+    match told {
+        [] => true,
+        [a, rest @ ..] => all_are_kept_open(a, rest) && reads_are_kept_open(rest),
     }
 }
 

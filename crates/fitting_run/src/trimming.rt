@@ -1,6 +1,7 @@
 //! The tests of how far lines trimmed the log, and of how far it is trimmed at the end, as plain programs.
-ghost use Rattle.std.specs.Prelude.{◌≡◌, ◌≤◌, []};
+ghost use Rattle.std.specs.Prelude.{◌≡◌, ◌≤◌, [], is_some};
 ghost use Rattle.std.specs.List.{list_all, list_any};
+ghost use Rattle.engine_api.specs.Members.{report_of, trim_asked};
 ghost use Rattle.engine_api.specs.Order.{numbers};
 ghost use Rattle.fitting_run.specs.Lines as lines_of;
 ghost use Rattle.fitting_run.specs.Tests.{each_after};
@@ -11,6 +12,7 @@ use crate::fitting::is_open;
 use crate::replacing::is_behind;
 use crate::reporting::reported;
 use delos_types::numbers::NodeId;
+use engine_api::content::{Content, Placed};
 use row_text::row::Outcome;
 use script_text::asks::{Asks, NamedLine};
 use script_text::line::Admin;
@@ -249,4 +251,106 @@ pub fn trim_is_asked_for(lines: &[NamedLine], nodes: u8, trim: u64) -> bool
     ensures { result ≡ trims.is_asked_for lines.now nodes trim }
 {
     trim == 0 || (some_trims(lines) && all_are_to_let_go(lines, nodes))
+}
+
+fn trim_asked(content: &Content) -> Option<u64>
+    ensures { result ≡ trim_asked content.now }
+{
+    match content {
+        Content::Trim { position } => Some(*position),
+        _ => None,
+    }
+}
+
+fn report_of(node: NodeId, content: &Content) -> Option<u64>
+    ensures { result ≡ report_of node content.now }
+{
+    match content {
+        Content::Alive {
+            node: who,
+            position,
+        } => if *who == node { Some(*position) } else { None },
+        _ => None,
+    }
+}
+
+fn asks_from(trim: u64, content: &Content) -> bool
+    ensures { result ≡ trims.asks_from trim content.now }
+{
+    match trim_asked(content) {
+        Some(position) => trim <= position,
+        None => false,
+    }
+}
+
+fn reports_from(node: NodeId, trim: u64, content: &Content) -> bool
+    ensures { result ≡ trims.reports_from node trim content.now }
+{
+    match report_of(node, content) {
+        Some(position) => trim <= position,
+        None => false,
+    }
+}
+
+fn some_asks(items: &[Placed]) -> bool
+    ensures { result ≡ list_any (λ p. is_some (trim_asked p.content)) items.now }
+{
+    items.iter().any(|item| trim_asked(&item.content).is_some())
+}
+
+fn has_trim(trim: u64, items: &[Placed], b: &Answered) -> bool
+    ensures { result ≡ trims.has_trim trim items.now b.now }
+{
+    trimmed(&b.row.outcome).is_none() || trim != 0 || some_asks(items)
+}
+
+/// Where nothing is trimmed at the end, though a line tells that the log was, the log has that it was asked for: one of these items.
+pub fn trims_stand(told: &[Answered], trim: u64, items: &[Placed]) -> bool
+    ensures { result ≡ list_all (trims.has_trim trim items.now) told.now }
+{
+    told.iter().all(|b| has_trim(trim, items, b))
+}
+
+fn some_asks_from(trim: u64, items: &[Placed]) -> bool
+    ensures { result ≡ list_any (λ p. trims.asks_from trim p.content) items.now }
+{
+    items.iter().any(|item| asks_from(trim, &item.content))
+}
+
+fn some_reports_from(node: NodeId, trim: u64, items: &[Placed]) -> bool
+    ensures { result ≡ list_any (λ p. trims.reports_from node trim p.content) items.now }
+{
+    items
+        .iter()
+        .any(|item| reports_from(node, trim, &item.content))
+}
+
+fn lets_go(lines: &[NamedLine], trim: u64, items: &[Placed], node: NodeId) -> bool
+    ensures { result ≡ trims.lets_go lines.now trim items.now node }
+{
+    some_leaves(lines, node) || some_reports_from(node, trim, items)
+}
+
+fn all_let_go(lines: &[NamedLine], nodes: u8, trim: u64, items: &[Placed]) -> bool
+    requires { nodes ≤ 8 }
+    ensures { result ≡ list_all (trims.lets_go lines.now trim items.now) (numbers 1 nodes) }
+{
+    for number in 1..=nodes {
+        let Some(node) = NodeId::new(number) else {
+            continue;
+        };
+        if !lets_go(lines, trim, items, node) {
+            return false;
+        }
+    }
+    true
+}
+
+/// Nothing is trimmed, or the log says, by these items, which it has from the trim on, that as much was asked for, and that each node
+/// reported as much that isn't to leave.
+pub fn trim_rests_on_log(lines: &[NamedLine], nodes: u8, trim: u64, items: &[Placed]) -> bool
+    requires { nodes ≤ 8 }
+    ensures { result ≡ trims.rests_on_log lines.now nodes trim items.now }
+{
+    trim == 0 || (some_asks_from(trim, items) && all_let_go(lines, nodes, trim, items))
 }

@@ -7,14 +7,16 @@ use Rattle.legal_journal.specs.declared.events.Event.{Event}
 use Rattle.replica_api.specs.Replica.{Saved}
 use Rattle.script_text.specs.declared.asks.NamedLine.{NamedLine}
 use Rattle.legal_journal.specs.Sealing.{Unsealed}
-use Rattle.turn_scopes.specs.Alone.{OwnSince}
+use Rattle.journal_laws.specs.Changes.{TrimsUpTo}
+use Rattle.turn_scopes.specs.Alone.{IsAlone, OwnSince}
 use Rattle.turn_scopes.specs.Seats.{SeatView, SeatOk}
 use Rattle.turn_scopes.proofs.Alone.{own_since, unsealed_own}
 use Rattle.turn_scopes.proofs.Seals.{seals_none}
 use Rattle.node_lines.specs.declared.desk.Desk.{Desk}
 use Rattle.node_lines.specs.declared.lines.Looked.{Looked}
-use Rattle.node_lines.specs.Workers.{Grows, WorkerOk}
+use Rattle.node_lines.specs.Workers.{Grows, IsKept, WorkerOk, sent_by}
 use Rattle.node_lines.specs.Steps.{IsLeft}
+use Rattle.node_lines.proofs.Keeping.{kept_alone}
 use Rattle.node_lines.proofs.Widening.{grows-since}
 use Rattle.node_lines.proofs.Scoping.{seat_allowed}
 use Rattle.run_course.specs.Script.{BeginsAt}
@@ -24,16 +26,17 @@ use Rattle.run_course.proofs.Passing.{another_line}
 use Rattle.run_course.proofs.Joining.{no_turn, turns_join}
 
 -- a node with its sessions can take the fabric
-pub worker_stands : (may : ℕ → Entry → Type 0) (floor : List Entry → ℕ → Type 0) (shelf : List ℕ) (state : List Entry → SpaceMap → Type 0) (spells : List ℕ → Saved → Type 0) (who : ℕ) (counts : List ℕ) (journal : List Event) (seat : SeatView) (desks : List Desk)
-    → WorkerOk may floor shelf state spells who counts journal seat desks → SeatOk may floor shelf state spells journal seat
-worker_stands may floor shelf state spells who counts journal seat desks h = seat_allowed may floor shelf who counts state spells journal seat h.ok
+pub worker_stands : (may : ℕ → Entry → Type 0) (floor : List Entry → ℕ → Type 0) (shelf : List ℕ) (state : List Entry → SpaceMap → Type 0) (spells : List ℕ → Saved → Type 0) (who : ℕ) (journal : List Event) (seat : SeatView) (desks : List Desk)
+    → WorkerOk may floor shelf state spells who journal seat desks → SeatOk may floor shelf state spells journal seat
+worker_stands may floor shelf state spells who journal seat desks h = seat_allowed may floor shelf who (sent_by desks) state spells journal seat h.ok
 
 module _ (may : ℕ → Entry → Type 0) (floor : List Entry → ℕ → Type 0) (shelf : List ℕ) (state : List Entry → SpaceMap → Type 0) (spells : List ℕ → Saved → Type 0) (lines : List NamedLine) (home : ℕ → ℕ) (nodes : ℕ) (c : Course) (counts : List ℕ) (looks : List (Option Looked)) (n from : ℕ) where
   -- no line was played yet
   pub none_went : (journal : List Event) (seat : SeatView) (desks : List Desk) → IsUnderWay may floor shelf state spells lines home nodes c counts looks n from from journal seat desks
-      → LineWent may floor shelf state spells lines home nodes c counts counts looks looks n from from journal seat desks
+      → LineWent may floor shelf state spells lines home nodes c counts looks looks n from from journal seat desks
   none_went journal seat desks u = record {
     course = c;
+    sent = counts;
     journal_is = u.journal_is;
     ok = u.ok;
     turn = no_turn lines home n c counts looks;
@@ -42,9 +45,9 @@ module _ (may : ℕ → Entry → Type 0) (floor : List Entry → ℕ → Type 0
   }
 
   -- so far it is the node's turn
-  pub under_way : (counts' : List ℕ) (looks' : List (Option Looked)) (i : ℕ) (early journal : List Event) (seat seat' : SeatView) (desks desks' : List Desk) → IsUnderWay may floor shelf state spells lines home nodes c counts looks n from from early seat desks
-      → (w : LineWent may floor shelf state spells lines home nodes c counts counts' looks looks' n from i journal seat' desks') → IsUnderWay may floor shelf state spells lines home nodes w.course counts' looks' n from i journal seat' desks'
-  under_way counts' looks' i early journal seat seat' desks desks' u w = record {
+  pub under_way : (looks' : List (Option Looked)) (i : ℕ) (early journal : List Event) (seat seat' : SeatView) (desks desks' : List Desk) → IsUnderWay may floor shelf state spells lines home nodes c counts looks n from from early seat desks
+      → (w : LineWent may floor shelf state spells lines home nodes c counts looks looks' n from i journal seat' desks') → IsUnderWay may floor shelf state spells lines home nodes w.course w.sent looks' n from i journal seat' desks'
+  under_way looks' i early journal seat seat' desks desks' u w = record {
     journal_is = w.journal_is;
     lines_are = u.lines_are;
     least = u.least;
@@ -56,28 +59,30 @@ module _ (may : ℕ → Entry → Type 0) (floor : List Entry → ℕ → Type 0
   }
 
   -- one more line
-  pub then_went : (counts' counts'' : List ℕ) (looks' looks'' : List (Option Looked)) (i : ℕ) (journal journal' : List Event) (seat seat' : SeatView) (desks desks' : List Desk)
-      → (w : LineWent may floor shelf state spells lines home nodes c counts counts' looks looks' n from i journal seat desks)
-      → LineWent may floor shelf state spells lines home nodes w.course counts' counts'' looks' looks'' n from (i + 1) journal' seat' desks'
-      → LineWent may floor shelf state spells lines home nodes c counts counts'' looks looks'' n from (i + 1) journal' seat' desks'
-  then_went counts' counts'' looks' looks'' i journal journal' seat seat' desks desks' w v = record {
+  pub then_went : (looks' looks'' : List (Option Looked)) (i : ℕ) (journal journal' : List Event) (seat seat' : SeatView) (desks desks' : List Desk)
+      → (w : LineWent may floor shelf state spells lines home nodes c counts looks looks' n from i journal seat desks)
+      → LineWent may floor shelf state spells lines home nodes w.course w.sent looks' looks'' n from (i + 1) journal' seat' desks'
+      → LineWent may floor shelf state spells lines home nodes c counts looks looks'' n from (i + 1) journal' seat' desks'
+  then_went looks' looks'' i journal journal' seat seat' desks desks' w v = record {
     course = v.course;
+    sent = v.sent;
     journal_is = v.journal_is;
     ok = v.ok;
-    turn = turns_join lines home n c w.course v.course counts counts' counts'' looks looks' looks'' w.turn v.turn;
+    turn = turns_join lines home n c w.course v.course counts w.sent v.sent looks looks' looks'' w.turn v.turn;
     worker = v.worker;
     high = v.high;
   }
 
   -- a line of another node
-  pub passed_by : (counts' : List ℕ) (looks' : List (Option Looked)) (i : ℕ) (line : NamedLine) (journal : List Event) (seat : SeatView) (desks : List Desk) → slice_get lines i ≡ Some line → (line.node == n) ≡ false
-      → LineWent may floor shelf state spells lines home nodes c counts counts' looks looks' n from i journal seat desks → LineWent may floor shelf state spells lines home nodes c counts counts' looks looks' n from (i + 1) journal seat desks
-  passed_by counts' looks' i line journal seat desks at other w = record {
+  pub passed_by : (looks' : List (Option Looked)) (i : ℕ) (line : NamedLine) (journal : List Event) (seat : SeatView) (desks : List Desk) → slice_get lines i ≡ Some line → (line.node == n) ≡ false
+      → LineWent may floor shelf state spells lines home nodes c counts looks looks' n from i journal seat desks → LineWent may floor shelf state spells lines home nodes c counts looks looks' n from (i + 1) journal seat desks
+  passed_by looks' i line journal seat desks at other w = record {
     course = w.course;
+    sent = w.sent;
     journal_is = w.journal_is;
     ok = w.ok;
     turn = w.turn;
-    worker = another_line may floor shelf state spells lines home nodes w.course counts' looks' n from i w.course.phase line seat desks at other w.worker;
+    worker = another_line may floor shelf state spells lines home nodes w.course w.sent looks' n from i w.course.phase line seat desks at other w.worker;
     high = w.high;
   }
 
@@ -95,11 +100,20 @@ nil (x ∷ xs) = ap (λ l. x ∷ l) (nil xs)
 pub grows-none : (journal : List Event) → Grows journal journal
 grows-none journal = ([], sym (nil journal))
 
--- What a turn left, where nobody is beside.
+-- Where nobody is beside
+
+pub nobody : IsAlone (λ _. ⊥)
+nobody = record { nobody = λ user k. k }
+
+-- a node keeps the log where it isn't trimmed above that
+pub kept_lone : {floor : List Entry → ℕ → Type 0} {seat : SeatView} {journal : List Event} → TrimsUpTo seat.node.replica.cursor journal → IsKept (λ _ _. ⊥) floor seat journal
+kept_lone {floor} {seat} {journal} high = kept_alone (λ _ _. ⊥) floor seat journal nobody high
+
+-- What a turn left.
 
 module _ {may : ℕ → Entry → Type 0} {floor : List Entry → ℕ → Type 0} {shelf : List ℕ} {state : List Entry → SpaceMap → Type 0} {spells : List ℕ → Saved → Type 0} {right : Type 0} {old new : List Event} {a b : SeatView} where
   pub left_own : IsLeft may floor shelf state spells (λ _ _. ⊥) right old a new b → OwnSince a.who old new
-  left_own h = own_since a.who (λ _. ⊥) old new (record { nobody = λ user k. k }) h.since
+  left_own h = own_since a.who (λ _. ⊥) old new nobody h.since
 
   pub left_grows : IsLeft may floor shelf state spells (λ _ _. ⊥) right old a new b → Grows old new
   left_grows h = grows-since a.who (λ _. ⊥) old new h.since

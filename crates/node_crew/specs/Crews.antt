@@ -49,28 +49,28 @@ SomeSees journal seat workers = HasNoFault journal seat workers → HasReached s
 
 -- Between two phases: the lines of `phase` and of later ones begin at `from`. A worker is seen by its seat and its desks; the
 -- nodes are numbered from 1.
-pub record CrewRests {A : Type 0} (may : ℕ → Entry → Type 0) (floor : List Entry → ℕ → Type 0) (shelf : List ℕ) (state : List Entry → SpaceMap → Type 0) (spells : List ℕ → Saved → Type 0) (lines : List NamedLine) (from phase : ℕ) (journal : List Event) (counts : List ℕ) (looks : List (Option Looked)) (seat : A → SeatView) (desks : A → List Desk) (workers : List A) : Type 0 where
+pub record CrewRests {A : Type 0} (may : ℕ → Entry → Type 0) (floor : List Entry → ℕ → Type 0) (shelf : List ℕ) (state : List Entry → SpaceMap → Type 0) (spells : List ℕ → Saved → Type 0) (lines : List NamedLine) (from phase : ℕ) (journal : List Event) (looks : List (Option Looked)) (seat : A → SeatView) (desks : A → List Desk) (workers : List A) : Type 0 where
   pub home : ℕ → ℕ
   pub course : Course
+  pub counts : List ℕ
   pub journal_is : course.journal ≡ journal
   pub phase_is : course.phase ≡ phase
   pub lines_are : AreLines lines home (length workers)
   pub begins : BeginsAt lines from phase
   pub ok : CourseOk may floor shelf lines (length workers) course counts looks
-  pub long : length counts ≡ 64
   pub each : (j : ℕ) (w : A) → slice_get workers j ≡ Some w → Rests may floor shelf state spells lines home (length workers) course counts looks (j + 1) from phase (seat w) (desks w)
   pub sees : SomeSees journal seat workers
 
 -- In a phase, whose lines are those from `from` up to `to`: the first k nodes have had their turn, the others not yet.
-pub record CrewAt {A : Type 0} (may : ℕ → Entry → Type 0) (floor : List Entry → ℕ → Type 0) (shelf : List ℕ) (state : List Entry → SpaceMap → Type 0) (spells : List ℕ → Saved → Type 0) (lines : List NamedLine) (from to k : ℕ) (journal : List Event) (counts : List ℕ) (looks : List (Option Looked)) (seat : A → SeatView) (desks : A → List Desk) (workers : List A) : Type 0 where
+pub record CrewAt {A : Type 0} (may : ℕ → Entry → Type 0) (floor : List Entry → ℕ → Type 0) (shelf : List ℕ) (state : List Entry → SpaceMap → Type 0) (spells : List ℕ → Saved → Type 0) (lines : List NamedLine) (from to k : ℕ) (journal : List Event) (looks : List (Option Looked)) (seat : A → SeatView) (desks : A → List Desk) (workers : List A) : Type 0 where
   pub home : ℕ → ℕ
   pub course : Course
+  pub counts : List ℕ
   pub journal_is : course.journal ≡ journal
   pub lines_are : AreLines lines home (length workers)
   pub begins : BeginsAt lines from course.phase
   pub ends : BeginsAt lines to (course.phase + 1)
   pub ok : CourseOk may floor shelf lines (length workers) course counts looks
-  pub long : length counts ≡ 64
   pub had : (j : ℕ) (w : A) → j < k → slice_get workers j ≡ Some w → Rests may floor shelf state spells lines home (length workers) course counts looks (j + 1) to (course.phase + 1) (seat w) (desks w)
   pub waits : (j : ℕ) (w : A) → k ≤ j → slice_get workers j ≡ Some w → Rests may floor shelf state spells lines home (length workers) course counts looks (j + 1) from course.phase (seat w) (desks w)
   pub sees : SomeSees journal seat workers

@@ -4,7 +4,7 @@ ghost use Rattle.delos_types.specs.Spaces.{SpaceMap};
 ghost use Rattle.delos_types.specs.declared.entry.Entry.{Entry};
 ghost use Rattle.script_text.specs.declared.asks.NamedLine.{NamedLine};
 ghost use Rattle.log_laws.specs.State.{IsStateOf};
-ghost use Rattle.base_engine.specs.Trimming.{FloorIs};
+ghost use Rattle.turn_scopes.specs.Floors.{FloorIs};
 ghost use Rattle.node_lines.specs.Workers.{MayRun};
 ghost use Rattle.node_crew.specs.Turns.{MaySendAll};
 ghost use Rattle.node_crew.specs.Crews.{CrewAt, CrewRests, CrewStands, HasNone, HasOne, EndsPhase};
@@ -24,12 +24,11 @@ use std::alloc::{AllocError, Global};
 use turn_scopes::lone::Lone;
 use turn_scopes::terms::{By, Terms};
 
-/// The nodes of a run, numbered from 1 in their order, and the fabric that they share; how many commands of each session
-/// were sent; and what each line's own look came to, if it was played.
+/// The nodes of a run, numbered from 1 in their order, and the fabric that they share; and what each line's own look came to, if it
+/// was played.
 pub struct Crew<L: Loglet, R: Register, K: Terms, S: Replica, C: Chooser> {
     pub fabric: Fabric<L, R, By<K>>,
     pub workers: Vec<Worker<S, C>>,
-    pub counts: [u64; 64],
     pub looks: Vec<Option<Looked>>,
 }
 
@@ -69,8 +68,8 @@ fn play_node<L: Loglet, R: Register, K: Terms, S: Replica, C: Chooser>(
     requires floor { FloorIs K.floor (length crew.workers.items) }
     requires there { k < length crew.workers.items }
     requires eight { length crew.workers.items ≤ 8 }
-    requires now { CrewAt K.may K.floor K.shelf S.state S.spells lines.now from to k crew.fabric.journal crew.counts crew.looks.items (λ w. w.seat) (λ w. w.desks.items) crew.workers.items }
-    ensures goes { OnOk result.answer (CrewAt K.may K.floor K.shelf S.state S.spells lines.now from to (k + 1) result.crew.fabric.journal result.crew.counts result.crew.looks.items (λ w. w.seat) (λ w. w.desks.items) result.crew.workers.items) }
+    requires now { CrewAt K.may K.floor K.shelf S.state S.spells lines.now from to k crew.fabric.journal crew.looks.items (λ w. w.seat) (λ w. w.desks.items) crew.workers.items }
+    ensures goes { OnOk result.answer (CrewAt K.may K.floor K.shelf S.state S.spells lines.now from to (k + 1) result.crew.fabric.journal result.crew.looks.items (λ w. w.seat) (λ w. w.desks.items) result.crew.workers.items) }
     ensures stands { CrewStands K.may K.floor K.shelf S.state S.spells result.crew.fabric.journal (λ w. w.seat) result.crew.workers.items }
     ensures size { length result.crew.workers.items ≡ length crew.workers.items }
 {
@@ -86,10 +85,9 @@ fn play_node<L: Loglet, R: Register, K: Terms, S: Replica, C: Chooser>(
     let Crew {
         fabric,
         workers,
-        counts,
         looks,
     } = crew;
-    let (mut workers, mut counts, mut looks) = (workers, counts, looks);
+    let (mut workers, mut looks) = (workers, looks);
     let worker = workers.remove(k);
     let lone = Lone {
         who: worker.seat.who(),
@@ -99,17 +97,7 @@ fn play_node<L: Loglet, R: Register, K: Terms, S: Replica, C: Chooser>(
         part: worker,
         access,
         answer,
-    } = play_turn(
-        alloc,
-        lone,
-        worker,
-        &mut counts,
-        &mut looks,
-        node,
-        lines,
-        from,
-        to,
-    );
+    } = play_turn(alloc, lone, worker, &mut looks, node, lines, from, to);
     match workers.insert(k, worker) {
         Ok(()) => {}
         Err(_) => unreachable!(),
@@ -118,7 +106,6 @@ fn play_node<L: Loglet, R: Register, K: Terms, S: Replica, C: Chooser>(
         crew: Crew {
             fabric: access.fabric,
             workers,
-            counts,
             looks,
         },
         answer,
@@ -139,8 +126,8 @@ fn play_phase<L: Loglet, R: Register, K: Terms, S: Replica, C: Chooser>(
     requires sends { MaySendAll K.may lines.now }
     requires floor { FloorIs K.floor (length crew.workers.items) }
     requires eight { length crew.workers.items ≤ 8 }
-    requires now { CrewAt K.may K.floor K.shelf S.state S.spells lines.now from to 0 crew.fabric.journal crew.counts crew.looks.items (λ w. w.seat) (λ w. w.desks.items) crew.workers.items }
-    ensures goes { OnOk result.answer (CrewAt K.may K.floor K.shelf S.state S.spells lines.now from to (length crew.workers.items) result.crew.fabric.journal result.crew.counts result.crew.looks.items (λ w. w.seat) (λ w. w.desks.items) result.crew.workers.items) }
+    requires now { CrewAt K.may K.floor K.shelf S.state S.spells lines.now from to 0 crew.fabric.journal crew.looks.items (λ w. w.seat) (λ w. w.desks.items) crew.workers.items }
+    ensures goes { OnOk result.answer (CrewAt K.may K.floor K.shelf S.state S.spells lines.now from to (length crew.workers.items) result.crew.fabric.journal result.crew.looks.items (λ w. w.seat) (λ w. w.desks.items) result.crew.workers.items) }
     ensures stands { CrewStands K.may K.floor K.shelf S.state S.spells result.crew.fabric.journal (λ w. w.seat) result.crew.workers.items }
     ensures size { length result.crew.workers.items ≡ length crew.workers.items }
 {
@@ -191,9 +178,9 @@ pub fn play_phases<L: Loglet, R: Register, K: Terms, S: Replica, C: Chooser>(
     requires sends { MaySendAll K.may lines.now }
     requires floor { FloorIs K.floor (length crew.workers.items) }
     requires eight { length crew.workers.items ≤ 8 }
-    requires fresh { CrewRests K.may K.floor K.shelf S.state S.spells lines.now 0 0 crew.fabric.journal crew.counts crew.looks.items (λ w. w.seat) (λ w. w.desks.items) crew.workers.items }
+    requires fresh { CrewRests K.may K.floor K.shelf S.state S.spells lines.now 0 0 crew.fabric.journal crew.looks.items (λ w. w.seat) (λ w. w.desks.items) crew.workers.items }
     requires stands { CrewStands K.may K.floor K.shelf S.state S.spells crew.fabric.journal (λ w. w.seat) crew.workers.items }
-    ensures played { OnOk result.answer ((phase : ℕ) × CrewRests K.may K.floor K.shelf S.state S.spells lines.now (length lines.now) phase result.crew.fabric.journal result.crew.counts result.crew.looks.items (λ w. w.seat) (λ w. w.desks.items) result.crew.workers.items) }
+    ensures played { OnOk result.answer ((phase : ℕ) × CrewRests K.may K.floor K.shelf S.state S.spells lines.now (length lines.now) phase result.crew.fabric.journal result.crew.looks.items (λ w. w.seat) (λ w. w.desks.items) result.crew.workers.items) }
     ensures stands { CrewStands K.may K.floor K.shelf S.state S.spells result.crew.fabric.journal (λ w. w.seat) result.crew.workers.items }
     ensures size { length result.crew.workers.items ≡ length crew.workers.items }
 {

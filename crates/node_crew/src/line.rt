@@ -3,7 +3,7 @@ ghost use Rattle.std.specs.Prelude.{◌≡◌, ◌<◌, ◌≤◌, ◌+◌, ℕ,
 ghost use Rattle.delos_types.specs.Spaces.{SpaceMap};
 ghost use Rattle.delos_types.specs.declared.entry.Entry.{Entry};
 ghost use Rattle.log_laws.specs.State.{IsStateOf};
-ghost use Rattle.base_engine.specs.Trimming.{FloorIs};
+ghost use Rattle.turn_scopes.specs.Floors.{FloorIs};
 ghost use Rattle.turn_scopes.specs.Seats.{SeatOk};
 ghost use Rattle.script_text.specs.declared.asks.NamedLine.{NamedLine};
 ghost use Rattle.script_text.specs.declared.asks.Asks.TheVariants as asks;
@@ -15,8 +15,9 @@ ghost use Rattle.run_course.specs.Workers.{IsUnderWay, CanPlay, CanSend, IsNext,
 use fate_words::chooser::Chooser;
 use loglet_api::loglet::Loglet;
 use node_lines::lines::Looked;
-use node_workers::admin::{extend_line, leave_line, report_line, trim_line};
+use node_workers::admin::{extend_line, report_line, trim_line};
 use node_workers::back::Back;
+use node_workers::leaving::leave_line;
 use node_workers::or_back;
 use node_workers::turns::{log_line, look_line};
 use node_workers::worker::Worker;
@@ -58,7 +59,6 @@ fn play_admin<L: Loglet, R: Register, K: Terms, S: Replica, C: Chooser>(
     alloc: Global,
     lone: Lone<L, R, By<K>>,
     worker: Worker<S, C>,
-    counts: &[u64; 64],
     looks: &mut Vec<Option<Looked>>,
     i: usize,
     line: &NamedLine,
@@ -67,7 +67,7 @@ fn play_admin<L: Loglet, R: Register, K: Terms, S: Replica, C: Chooser>(
     requires run { MayRun K.may K.floor K.shelf }
     requires state { (log : List Entry) (m : SpaceMap) → S.state log m → IsStateOf log m }
     requires who { lone.who ≡ worker.seat.who }
-    requires worker { WorkerOk K.may K.floor K.shelf S.state S.spells worker.seat.who counts.now lone.fabric.journal worker.seat worker.desks.items }
+    requires worker { WorkerOk K.may K.floor K.shelf S.state S.spells worker.seat.who lone.fabric.journal worker.seat worker.desks.items }
     requires node { line.now.node ≡ worker.seat.who }
     requires asked { line.now.asks ≡ asks.Admin admin }
     requires sends { CanSend K.may worker.seat.who (asks.Admin admin) }
@@ -77,9 +77,9 @@ fn play_admin<L: Loglet, R: Register, K: Terms, S: Replica, C: Chooser>(
     requires there { i < length looks.old.items }
 
     // The run goes on.
-    ensures goes { (lines : List NamedLine) (home : ℕ → ℕ) (nodes : ℕ) (c : Course) (from : ℕ) → slice_get lines i ≡ Some line.now → line.now.node ≡ worker.seat.who → line.now.phase ≡ c.phase
-        → IsUnderWay K.may K.floor K.shelf S.state S.spells lines home nodes c counts.now looks.old.items worker.seat.who from i lone.fabric.journal worker.seat worker.desks.items
-        → OnOk result.answer (LineWent K.may K.floor K.shelf S.state S.spells lines home nodes c counts.now counts.now looks.old.items looks.new.items worker.seat.who from (i + 1) result.access.fabric.journal result.part.seat result.part.desks.items) }
+    ensures goes { (lines : List NamedLine) (home : ℕ → ℕ) (nodes : ℕ) (c : Course) (counts : List ℕ) (from : ℕ) → slice_get lines i ≡ Some line.now → line.now.node ≡ worker.seat.who → line.now.phase ≡ c.phase
+        → IsUnderWay K.may K.floor K.shelf S.state S.spells lines home nodes c counts looks.old.items worker.seat.who from i lone.fabric.journal worker.seat worker.desks.items
+        → OnOk result.answer (LineWent K.may K.floor K.shelf S.state S.spells lines home nodes c counts looks.old.items looks.new.items worker.seat.who from (i + 1) result.access.fabric.journal result.part.seat result.part.desks.items) }
     ensures stands { SeatOk K.may K.floor K.shelf S.state S.spells result.access.fabric.journal result.part.seat }
     ensures grows { Grows lone.fabric.journal result.access.fabric.journal }
     ensures who { result.part.seat.who ≡ worker.seat.who }
@@ -87,19 +87,19 @@ fn play_admin<L: Loglet, R: Register, K: Terms, S: Replica, C: Chooser>(
 {
     match admin {
         Admin::Extend => {
-            let looked = extend_line(lone, worker, counts);
+            let looked = extend_line(lone, worker);
             return keep_look(looked, looks, i);
         }
         Admin::Alive => {
-            let looked = report_line(alloc, lone, worker, counts, line.node);
+            let looked = report_line(alloc, lone, worker, line.node);
             return keep_look(looked, looks, i);
         }
         Admin::Retire => {
-            let looked = leave_line(alloc, lone, worker, counts, line.node);
+            let looked = leave_line(alloc, lone, worker, line.node);
             return keep_look(looked, looks, i);
         }
         Admin::Trim => {
-            let looked = trim_line(alloc, lone, worker, counts, line.node);
+            let looked = trim_line(alloc, lone, worker, line.node);
             return keep_look(looked, looks, i);
         }
     }
@@ -111,7 +111,6 @@ pub fn play_line<L: Loglet, R: Register, K: Terms, S: Replica, C: Chooser>(
     alloc: Global,
     lone: Lone<L, R, By<K>>,
     worker: Worker<S, C>,
-    counts: &mut [u64; 64],
     looks: &mut Vec<Option<Looked>>,
     i: usize,
     line: &NamedLine,
@@ -119,9 +118,9 @@ pub fn play_line<L: Loglet, R: Register, K: Terms, S: Replica, C: Chooser>(
     requires run { MayRun K.may K.floor K.shelf }
     requires state { (log : List Entry) (m : SpaceMap) → S.state log m → IsStateOf log m }
     requires who { lone.who ≡ worker.seat.who }
-    requires worker { WorkerOk K.may K.floor K.shelf S.state S.spells worker.seat.who counts.old lone.fabric.journal worker.seat worker.desks.items }
+    requires worker { WorkerOk K.may K.floor K.shelf S.state S.spells worker.seat.who lone.fabric.journal worker.seat worker.desks.items }
     requires node { line.now.node ≡ worker.seat.who }
-    requires next { IsNext counts.old worker.desks.items line.now.asks }
+    requires next { IsNext worker.desks.items line.now.asks }
     requires sends { CanSend K.may worker.seat.who line.now.asks }
     requires can { CanPlay worker.seat.who lone.fabric.journal worker.seat }
     requires few { worker.seat.who ≤ worker.seat.node.nodes }
@@ -129,9 +128,9 @@ pub fn play_line<L: Loglet, R: Register, K: Terms, S: Replica, C: Chooser>(
     requires there { i < length looks.old.items }
 
     // The run goes on.
-    ensures goes { (lines : List NamedLine) (home : ℕ → ℕ) (nodes : ℕ) (c : Course) (from : ℕ) → slice_get lines i ≡ Some line.now → line.now.node ≡ worker.seat.who → line.now.phase ≡ c.phase
-        → IsUnderWay K.may K.floor K.shelf S.state S.spells lines home nodes c counts.old looks.old.items worker.seat.who from i lone.fabric.journal worker.seat worker.desks.items
-        → OnOk result.answer (LineWent K.may K.floor K.shelf S.state S.spells lines home nodes c counts.old counts.new looks.old.items looks.new.items worker.seat.who from (i + 1) result.access.fabric.journal result.part.seat result.part.desks.items) }
+    ensures goes { (lines : List NamedLine) (home : ℕ → ℕ) (nodes : ℕ) (c : Course) (counts : List ℕ) (from : ℕ) → slice_get lines i ≡ Some line.now → line.now.node ≡ worker.seat.who → line.now.phase ≡ c.phase
+        → IsUnderWay K.may K.floor K.shelf S.state S.spells lines home nodes c counts looks.old.items worker.seat.who from i lone.fabric.journal worker.seat worker.desks.items
+        → OnOk result.answer (LineWent K.may K.floor K.shelf S.state S.spells lines home nodes c counts looks.old.items looks.new.items worker.seat.who from (i + 1) result.access.fabric.journal result.part.seat result.part.desks.items) }
     ensures stands { SeatOk K.may K.floor K.shelf S.state S.spells result.access.fabric.journal result.part.seat }
     ensures grows { Grows lone.fabric.journal result.access.fabric.journal }
     ensures who { result.part.seat.who ≡ worker.seat.who }
@@ -143,16 +142,16 @@ pub fn play_line<L: Loglet, R: Register, K: Terms, S: Replica, C: Chooser>(
             rank: _,
             command,
         } => {
-            return log_line(alloc, lone, worker, counts, session.id, command);
+            return log_line(alloc, lone, worker, session.id, command);
         }
         Asks::Look { session, query } => {
             // There is a desk for each session: its number is at most 63.
             let _number = session.id.number();
-            let looked = look_line(lone, worker, counts, session.id, query);
+            let looked = look_line(lone, worker, session.id, query);
             return keep_look(looked, looks, i);
         }
         Asks::Admin(admin) => {
-            return play_admin(alloc, lone, worker, counts, looks, i, line, *admin);
+            return play_admin(alloc, lone, worker, looks, i, line, *admin);
         }
     }
 }

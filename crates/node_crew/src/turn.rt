@@ -3,7 +3,7 @@ ghost use Rattle.std.specs.Prelude.{◌≡◌, ◌<◌, ◌≤◌, ◌+◌, ℕ,
 ghost use Rattle.delos_types.specs.Spaces.{SpaceMap};
 ghost use Rattle.delos_types.specs.declared.entry.Entry.{Entry};
 ghost use Rattle.log_laws.specs.State.{IsStateOf};
-ghost use Rattle.base_engine.specs.Trimming.{FloorIs};
+ghost use Rattle.turn_scopes.specs.Floors.{FloorIs};
 ghost use Rattle.turn_scopes.specs.Seats.{SeatOk};
 ghost use Rattle.node_lines.specs.Workers.{MayRun, Grows};
 ghost use Rattle.run_course.specs.Script.{BeginsAt};
@@ -31,7 +31,6 @@ fn play_lines<L: Loglet, R: Register, K: Terms, S: Replica, C: Chooser>(
     alloc: Global,
     lone: Lone<L, R, By<K>>,
     worker: Worker<S, C>,
-    counts: &mut [u64; 64],
     looks: &mut Vec<Option<Looked>>,
     node: NodeId,
     lines: &[NamedLine],
@@ -45,10 +44,10 @@ fn play_lines<L: Loglet, R: Register, K: Terms, S: Replica, C: Chooser>(
     requires range { (from ≤ to) × (to ≤ length lines.now) }
     requires sends { MaySendAll K.may lines.now }
     requires floor { FloorIs K.floor worker.seat.node.nodes }
-    requires playing { IsPlaying K.may K.floor K.shelf S.state S.spells lines.now counts.old looks.old.items node from to lone.fabric.journal worker.seat worker.desks.items }
-    ensures goes { (home : ℕ → ℕ) (nodes : ℕ) (c : Course)
-        → IsUnderWay K.may K.floor K.shelf S.state S.spells lines.now home nodes c counts.old looks.old.items node from from lone.fabric.journal worker.seat worker.desks.items → BeginsAt lines.now to (c.phase + 1)
-        → OnOk result.answer (LineWent K.may K.floor K.shelf S.state S.spells lines.now home nodes c counts.old counts.new looks.old.items looks.new.items node from to result.access.fabric.journal result.part.seat result.part.desks.items) }
+    requires playing { IsPlaying K.may K.floor K.shelf S.state S.spells lines.now looks.old.items node from to lone.fabric.journal worker.seat worker.desks.items }
+    ensures goes { (home : ℕ → ℕ) (nodes : ℕ) (c : Course) (counts : List ℕ)
+        → IsUnderWay K.may K.floor K.shelf S.state S.spells lines.now home nodes c counts looks.old.items node from from lone.fabric.journal worker.seat worker.desks.items → BeginsAt lines.now to (c.phase + 1)
+        → OnOk result.answer (LineWent K.may K.floor K.shelf S.state S.spells lines.now home nodes c counts looks.old.items looks.new.items node from to result.access.fabric.journal result.part.seat result.part.desks.items) }
     ensures stands { SeatOk K.may K.floor K.shelf S.state S.spells result.access.fabric.journal result.part.seat }
     ensures grows { Grows lone.fabric.journal result.access.fabric.journal }
     ensures who { result.part.seat.who ≡ worker.seat.who }
@@ -63,7 +62,7 @@ fn play_lines<L: Loglet, R: Register, K: Terms, S: Replica, C: Chooser>(
                 part: played,
                 access: rest,
                 answer,
-            } = play_line(alloc, lone, worker, counts, looks, i, line);
+            } = play_line(alloc, lone, worker, looks, i, line);
             worker = played;
             lone = rest;
             match answer {
@@ -90,7 +89,6 @@ pub fn play_turn<L: Loglet, R: Register, K: Terms, S: Replica, C: Chooser>(
     alloc: Global,
     lone: Lone<L, R, By<K>>,
     worker: Worker<S, C>,
-    counts: &mut [u64; 64],
     looks: &mut Vec<Option<Looked>>,
     node: NodeId,
     lines: &[NamedLine],
@@ -104,10 +102,10 @@ pub fn play_turn<L: Loglet, R: Register, K: Terms, S: Replica, C: Chooser>(
     requires range { (from ≤ to) × (to ≤ length lines.now) }
     requires sends { MaySendAll K.may lines.now }
     requires floor { FloorIs K.floor worker.seat.node.nodes }
-    requires playing { IsPlaying K.may K.floor K.shelf S.state S.spells lines.now counts.old looks.old.items node from to lone.fabric.journal worker.seat worker.desks.items }
-    ensures goes { (home : ℕ → ℕ) (nodes : ℕ) (c : Course)
-        → IsUnderWay K.may K.floor K.shelf S.state S.spells lines.now home nodes c counts.old looks.old.items node from from lone.fabric.journal worker.seat worker.desks.items → BeginsAt lines.now to (c.phase + 1)
-        → OnOk result.answer (TurnWent K.may K.floor K.shelf S.state S.spells lines.now home nodes c counts.old counts.new looks.old.items looks.new.items node to result.access.fabric.journal result.part.seat result.part.desks.items) }
+    requires playing { IsPlaying K.may K.floor K.shelf S.state S.spells lines.now looks.old.items node from to lone.fabric.journal worker.seat worker.desks.items }
+    ensures goes { (home : ℕ → ℕ) (nodes : ℕ) (c : Course) (counts : List ℕ)
+        → IsUnderWay K.may K.floor K.shelf S.state S.spells lines.now home nodes c counts looks.old.items node from from lone.fabric.journal worker.seat worker.desks.items → BeginsAt lines.now to (c.phase + 1)
+        → OnOk result.answer (TurnWent K.may K.floor K.shelf S.state S.spells lines.now home nodes c counts looks.old.items looks.new.items node to result.access.fabric.journal result.part.seat result.part.desks.items) }
     ensures stands { SeatOk K.may K.floor K.shelf S.state S.spells result.access.fabric.journal result.part.seat }
     ensures grows { Grows lone.fabric.journal result.access.fabric.journal }
     ensures who { result.part.seat.who ≡ worker.seat.who }
@@ -117,7 +115,7 @@ pub fn play_turn<L: Loglet, R: Register, K: Terms, S: Replica, C: Chooser>(
         part: worker,
         access: lone,
         answer,
-    } = play_lines(alloc, lone, worker, counts, looks, node, lines, from, to);
+    } = play_lines(alloc, lone, worker, looks, node, lines, from, to);
     match answer {
         Ok(()) => {}
         Err(fault) => {
@@ -132,7 +130,7 @@ pub fn play_turn<L: Loglet, R: Register, K: Terms, S: Replica, C: Chooser>(
         part: worker,
         access: lone,
         answer,
-    } = end_phase(lone, worker, counts);
+    } = end_phase(lone, worker);
     match answer {
         Ok(_failed) => {
             return Back {

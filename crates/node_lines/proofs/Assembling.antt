@@ -1,13 +1,13 @@
 -- What a node's own lines come to, of the pieces that they are put together of.
-use Rattle.std.proofs.Common.{◌≡◌, refl, sym, ap, ◌∙◌, subst, ℕ, zero, suc, ◌≤◌, List, [], ◌∷◌, ◌++◌, Some, None, length, drop, Contains, false, arith, append_assoc}
-use Rattle.std.specs.Prelude.{slice_get}
+use Rattle.std.proofs.Common.{◌≡◌, refl, sym, ap, ◌∙◌, subst, ⊎_elim, inl, inr, ℕ, zero, suc, ◌≤◌, List, [], ◌∷◌, ◌++◌, Some, None, length, drop, Contains, false, arith, append_assoc}
+use Rattle.std.specs.Prelude.{max, slice_get}
 use Rattle.std.proofs.lemmas.List.Elements.{Contains-append_right}
 use Rattle.delos_types.specs.declared.entry.Entry.{Entry}
 use Rattle.delos_types.specs.declared.item.Item.{Item}
 use Rattle.delos_types.specs.declared.cause.Cause.{Cause}
 use Rattle.legal_journal.specs.declared.events.Event.{Event}
 use Rattle.legal_journal.specs.Journal.{IsLegal}
-use Rattle.virtual_log.specs.Holding.{Holds}
+use Rattle.virtual_log.specs.Holding.{Holds, IsTrimmed}
 use Rattle.base_engine.specs.Holding.{held_stays}
 use Rattle.virtual_log.proofs.Agreeing.{holds_agree}
 use Rattle.engine_api.specs.declared.content.Content.TheVariants as content
@@ -30,6 +30,8 @@ use Rattle.node_lines.specs.declared.measure.Measured.TheVariants as measured
 use Rattle.node_lines.specs.Moving.{Moves}
 use Rattle.node_lines.specs.Measuring.{Measures, MeasuresSo}
 use Rattle.node_lines.specs.Reporting.{IsAppendedWithin, Tells, HasTold, Reports}
+use Rattle.node_lines.specs.declared.desk.Desk.{Desk}
+use Rattle.node_lines.specs.Turns.{AnswersAll}
 use Rattle.node_lines.specs.Leaving.{PlaysKnown, HasLeft, Leaves}
 use Rattle.node_lines.specs.Trimming.{Cuts, HasTrimmed, TrimsLog}
 use Rattle.node_lines.proofs.Floors.{least-in_state}
@@ -88,20 +90,22 @@ module _ (may : ℕ → Entry → Type 0) (floor : List Entry → ℕ → Type 0
       is : item ≡ alive_item old.replica.origin n
       is = made ∙ ap (λ x. alive_item x n) own
 
-  -- the leave was appended at a position that the node knew, and then the log was played as far as that
-  pub leaves_of : (measure : List Entry → ℕ) (old mid told new : NodeView) (number n : ℕ) (item : Item) → Measures may floor shelf measure old mid (measured.At n)
+  -- the leave was appended at a position that the node knew, and then the log was played as far as that, or as it isn't trimmed
+  pub leaves_of : (old mid told new : NodeView) (number : ℕ) (item : Item) → Moves may floor shelf old mid []
       → item ≡ leave_item number → number ≡ old.replica.origin → IsProposable item → content_of item ≡ Some (content.Leave number) → Tells may floor shelf mid told item None
-      → PlaysKnown may floor shelf told new None → told.known ≤ new.replica.cursor → HasLeft old new
-  leaves_of measure old mid told new number n item h made own fine says tells plays reached = record {
+      → PlaysKnown may floor shelf told new None → HasLeft old new
+  leaves_of old mid told new number item first made own fine says tells plays = record {
     synced = mid.seen;
     since = (k.later.more, k.later.seen);
     says = says_alone old.replica.origin item (leave_item old.replica.origin) (content.Leave number) fine says is ∙ ap (λ x. placed_from 0 0 (content.Leave x ∷ [])) own;
     landed = appended_later old.who mid.seen (packed old.replica.origin (leave_item old.replica.origin ∷ [])) told.seen new.seen on.later.more on.later.seen a.landed;
-    played = omega (arith, a.within, reached);
+    played = ⊎_elim
+        (λ (r : new.replica.cursor ≡ max told.replica.cursor told.known). inl (omega (arith, a.within, r)))
+        (λ (t : IsTrimmed new.seen new.replica.cursor). inr t) (plays.reaches refl);
   }
     where
       k : Keeps may floor shelf old mid
-      k = h.moves.goes.keeps
+      k = first.goes.keeps
 
       on : Keeps may floor shelf told new
       on = plays.moves.goes.keeps
@@ -221,49 +225,47 @@ module _ (may : ℕ → Entry → Type 0) (floor : List Entry → ℕ → Type 0
   reports_unmeasured measure old new cause h = record { others = cause ∷ []; moves = h.moves; none = h.none; kept = h.kept; tells = refl }
 
   -- what was told was played, or the log or the disk failed
-  told_moves : (measure : List Entry → ℕ) (old mid told : NodeView) (n : ℕ) (item : Item) → Measures may floor shelf measure old mid (measured.At n) → Tells may floor shelf mid told item None → Moves may floor shelf old told []
-  told_moves measure old mid told n item h tells = moves_trans old mid told [] [] h.moves tells.moves
+  played_moves : (old mid told new : NodeView) (item : Item) → Moves may floor shelf old mid [] → Tells may floor shelf mid told item None → PlaysKnown may floor shelf told new None → Moves may floor shelf old new []
+  played_moves old mid told new item first tells plays = moves_trans old told new [] [] (moves_trans old mid told [] [] first tells.moves) plays.moves
 
-  played_moves : (measure : List Entry → ℕ) (old mid told new : NodeView) (n : ℕ) (item : Item) → Measures may floor shelf measure old mid (measured.At n) → Tells may floor shelf mid told item None → PlaysKnown may floor shelf told new None → Moves may floor shelf old new []
-  played_moves measure old mid told new n item h tells plays = moves_trans old told new [] [] (told_moves measure old mid told n item h tells) plays.moves
+  unplayed_moves : (old mid told new : NodeView) (item : Item) (cause : Cause) → Moves may floor shelf old mid [] → Tells may floor shelf mid told item None → PlaysKnown may floor shelf told new (Some cause) → Moves may floor shelf old new (cause ∷ [])
+  unplayed_moves old mid told new item cause first tells plays = moves_trans old told new [] (cause ∷ []) (moves_trans old mid told [] [] first tells.moves) plays.moves
 
-  pub leaves_done : (measure : List Entry → ℕ) (old mid told new : NodeView) (n : ℕ) (item : Item) → Measures may floor shelf measure old mid (measured.At n) → Tells may floor shelf mid told item None → PlaysKnown may floor shelf told new None
-      → HasLeft old new → Leaves may floor shelf old new looked.Left
-  leaves_done measure old mid told new n item h tells plays left = record {
+  pub leaves_done : (old mid told new : NodeView) (item : Item) → Moves may floor shelf old mid [] → Tells may floor shelf mid told item None → PlaysKnown may floor shelf told new None → HasLeft old new → Leaves may floor shelf old new looked.Left
+  leaves_done old mid told new item first tells plays left = record {
     others = [];
-    moves = played_moves measure old mid told new n item h tells plays;
+    moves = played_moves old mid told new item first tells plays;
     none = ap (λ (o : OutboxView). o.entries) plays.outbox ∙ tells.none;
     kept = plays.kept ∙ tells.kept;
     leaves = (refl, left);
   }
 
-  pub leaves_unplayed : (measure : List Entry → ℕ) (old mid told new : NodeView) (n : ℕ) (item : Item) (cause : Cause) → Measures may floor shelf measure old mid (measured.At n) → Tells may floor shelf mid told item None → PlaysKnown may floor shelf told new (Some cause)
-      → Leaves may floor shelf old new (looked.Failed cause)
-  leaves_unplayed measure old mid told new n item cause h tells plays = record {
+  pub leaves_unplayed : (old mid told new : NodeView) (item : Item) (cause : Cause) → Moves may floor shelf old mid [] → Tells may floor shelf mid told item None → PlaysKnown may floor shelf told new (Some cause) → Leaves may floor shelf old new (looked.Failed cause)
+  leaves_unplayed old mid told new item cause first tells plays = record {
     others = cause ∷ [];
-    moves = moves_trans old told new [] (cause ∷ []) (told_moves measure old mid told n item h tells) plays.moves;
+    moves = unplayed_moves old mid told new item cause first tells plays;
     none = ap (λ (o : OutboxView). o.entries) plays.outbox ∙ tells.none;
     kept = plays.kept ∙ tells.kept;
     leaves = refl;
   }
 
-  pub leaves_untold : (measure : List Entry → ℕ) (old mid new : NodeView) (n : ℕ) (item : Item) (cause : Cause) → Measures may floor shelf measure old mid (measured.At n) → Tells may floor shelf mid new item (Some cause) → Leaves may floor shelf old new (looked.Failed cause)
-  leaves_untold measure old mid new n item cause h tells = record {
+  pub leaves_untold : (old mid new : NodeView) (item : Item) (cause : Cause) → Moves may floor shelf old mid [] → Tells may floor shelf mid new item (Some cause) → Leaves may floor shelf old new (looked.Failed cause)
+  leaves_untold old mid new item cause first tells = record {
     others = cause ∷ [];
-    moves = moves_trans old mid new [] (cause ∷ []) h.moves tells.moves;
+    moves = moves_trans old mid new [] (cause ∷ []) first tells.moves;
     none = tells.none;
     kept = tells.kept;
     leaves = refl;
   }
 
-  pub leaves_unmeasured : (measure : List Entry → ℕ) (old new : NodeView) (cause : Cause) → Measures may floor shelf measure old new (measured.Failed cause) → Leaves may floor shelf old new (looked.Failed cause)
-  leaves_unmeasured measure old new cause h = record { others = cause ∷ []; moves = h.moves; none = h.none; kept = h.kept; leaves = refl }
+  pub leaves_unanswered : (old new : NodeView) (was is : List Desk) (cause : Cause) → AnswersAll may floor shelf old new was is (Some cause) → Leaves may floor shelf old new (looked.Failed cause)
+  leaves_unanswered old new was is cause h = record { others = cause ∷ []; moves = h.moves; none = h.none; kept = h.kept; leaves = refl }
 
   pub trims_done : (measure : List Entry → ℕ) (old mid told played new : NodeView) (n trim : ℕ) (item : Item) → Measures may floor shelf measure old mid (measured.At n) → Tells may floor shelf mid told item None → PlaysKnown may floor shelf told played None
       → Cuts may floor shelf played new (looked.Trimmed trim) → HasTrimmed old new trim → TrimsLog may floor shelf old new (looked.Trimmed trim)
   trims_done measure old mid told played new n trim item h tells plays cuts trimmed = record {
     others = cuts.others;
-    moves = moves_trans old played new [] cuts.others (played_moves measure old mid told played n item h tells plays) cuts.moves;
+    moves = moves_trans old played new [] cuts.others (played_moves old mid told played item h.moves tells plays) cuts.moves;
     none = ap (λ (o : OutboxView). o.entries) (cuts.outbox ∙ plays.outbox) ∙ tells.none;
     kept = ap (λ (r : ReplicaView). r.kept) cuts.replica ∙ (plays.kept ∙ tells.kept);
     trims = (cuts.cuts.0, trimmed);
@@ -273,7 +275,7 @@ module _ (may : ℕ → Entry → Type 0) (floor : List Entry → ℕ → Type 0
       → Cuts may floor shelf played new (looked.Failed cause) → TrimsLog may floor shelf old new (looked.Failed cause)
   trims_uncut measure old mid told played new n item cause h tells plays cuts = record {
     others = cuts.others;
-    moves = moves_trans old played new [] cuts.others (played_moves measure old mid told played n item h tells plays) cuts.moves;
+    moves = moves_trans old played new [] cuts.others (played_moves old mid told played item h.moves tells plays) cuts.moves;
     none = ap (λ (o : OutboxView). o.entries) (cuts.outbox ∙ plays.outbox) ∙ tells.none;
     kept = ap (λ (r : ReplicaView). r.kept) cuts.replica ∙ (plays.kept ∙ tells.kept);
     trims = cuts.cuts;
@@ -283,7 +285,7 @@ module _ (may : ℕ → Entry → Type 0) (floor : List Entry → ℕ → Type 0
       → TrimsLog may floor shelf old new (looked.Failed cause)
   trims_unplayed measure old mid told new n item cause h tells plays = record {
     others = cause ∷ [];
-    moves = moves_trans old told new [] (cause ∷ []) (told_moves measure old mid told n item h tells) plays.moves;
+    moves = unplayed_moves old mid told new item cause h.moves tells plays;
     none = ap (λ (o : OutboxView). o.entries) plays.outbox ∙ tells.none;
     kept = plays.kept ∙ tells.kept;
     trims = refl;

@@ -1,4 +1,4 @@
--- What nodes report and ask to be trimmed is clean, and within what had been answered by then.
+-- What entries say, and which first entries of the log are clean.
 use Rattle.std.proofs.Common.{◌≡◌, refl, sym, ap, ◌∙◌, subst, ⊎_elim, ◌⊎◌, inl, inr, ℕ, zero, suc, ◌+◌, ◌≤◌, ◌<◌, cond, Bool, true, false, List, [], ◌∷◌, ◌++◌, length, get_or, take, drop, Some, arith, append-nil}
 use Rattle.std.specs.Prelude.{max, filter, slice_get, Contains}
 use Rattle.std.proofs.lemmas.Bool.{cases_lt}
@@ -7,53 +7,23 @@ use Rattle.std.proofs.lemmas.List.Elements.{All-from_recursion, Contains-push_ca
 use Rattle.delos_types.specs.declared.entry.Entry.{Entry}
 use Rattle.legal_journal.specs.declared.events.Event.{Event}
 use Rattle.legal_journal.specs.Journal.{IsLegal, state_of, tail_of}
-use Rattle.journal_laws.specs.Changes.{appended, Adds}
+use Rattle.journal_laws.specs.Changes.{appended}
 use Rattle.journal_laws.proofs.Changes.{held_appended}
 use Rattle.virtual_log.specs.Holding.{Holds}
 use Rattle.virtual_log.proofs.Agreeing.{holds_agree}
 use Rattle.virtual_log.proofs.Holding.{holds_stands}
 use Rattle.engine_api.specs.declared.content.Content.{Content}
-use Rattle.engine_api.specs.declared.content.Content.TheVariants.{Session, Alive, Leave, Trim}
 use Rattle.engine_api.specs.declared.content.Placed.{Placed}
-use Rattle.engine_api.specs.Acted.{unpack_all, asked_in}
 use Rattle.engine_api.specs.Items.{placed_from, unpack}
-use Rattle.engine_api.specs.Members.{greatest, position_of, least_position, trim_point, clean_at, clean_position}
-use Rattle.engine_api.specs.Order.{numbers, is_clean}
-use Rattle.log_laws.proofs.Membership.{least_some, point_says, position_says, unpack_says}
+use Rattle.engine_api.specs.Members.{greatest, clean_at, clean_position}
+use Rattle.engine_api.specs.Order.{numbers}
 use Rattle.base_engine.specs.Reading.{IsFront}
 use Rattle.turn_scopes.proofs.Bounds.{stands_below}
-use Rattle.node_lines.proofs.Settling.{Extends}
-use Rattle.node_lines.specs.Measuring.{IsCleanPoint, IsCleanContent, AreClean}
-use Rattle.node_lines.proofs.Desks.{front_later}
+use Rattle.node_lines.specs.Measuring.{IsCleanPoint}
 use Rattle.node_lines.proofs.Fronts.{splits}
 use Rattle.node_lines.specs.Workers.{IsCommand, IsOfSessions}
 
--- Positions that are told
-
--- what is told of a position is so
-abbrev pub IsGood : (ℕ → Type 0) → Content → Type 0
-IsGood G (Session s r c) = Unit {0}
-IsGood G (Alive node n) = G n
-IsGood G (Leave node) = Unit {0}
-IsGood G (Trim n) = G n
-
-abbrev pub AreGood : (ℕ → Type 0) → List Event → Type 0
-AreGood G journal = (e : Entry) (p : Placed) → Contains (appended journal) e → Contains (unpack 0 e) p → IsGood G p.content
-
-good_content : (journal : List Event) (c : Content) → IsCleanContent journal c → IsGood (IsCleanPoint journal) c
-good_content journal (Session s r c) h = h
-good_content journal (Alive node n) h = h
-good_content journal (Leave node) h = h
-good_content journal (Trim n) h = h
-
-pub good_clean : (journal : List Event) → AreClean journal → AreGood (IsCleanPoint journal) journal
-good_clean journal h = λ e p there says. good_content journal p.content (h e p there says)
-
-command_good : (G : ℕ → Type 0) (c : Content) → IsCommand c → IsGood G c
-command_good G (Session s r c) h = tt
-command_good G (Alive node n) h = absurd h
-command_good G (Leave node) h = tt
-command_good G (Trim n) h = absurd h
+-- What an entry says
 
 -- what an entry of sessions says is a command
 pub says_command : (e : Entry) (p : Placed) → IsOfSessions e → Contains (unpack 0 e) p → IsCommand p.content
@@ -68,65 +38,18 @@ says_that e c p is h =
     (λ (same : it ≡ p). ap (λ (q : Placed). q.content) (sym same))
     (Contains-push_cases [] it p (subst (λ ps. Contains ps p) is h))
 
-pub good_adds : (G : ℕ → Type 0) (old new : List Event) → AreGood G old → Adds IsOfSessions old new → AreGood G new
-good_adds G old new good adds = λ e p there says.
-    ⊎_elim
-    (λ (k : Contains (appended old) e). good e p k says)
-    (λ (k : IsOfSessions e). command_good G p.content (says_command e p k says))
-    (adds e there)
-
-pub good_told : (G : ℕ → Type 0) (old new : List Event) (told : Entry) (n : ℕ) → AreGood G old → Adds (λ e. IsOfSessions e ⊎ (e ≡ told)) old new → unpack 0 told ≡ placed_from 0 0 (Trim n ∷ []) → G n → AreGood G new
-good_told G old new told n good adds is g = λ e p there says.
-    ⊎_elim
-    (λ (k : Contains (appended old) e). good e p k says)
-    (λ (k : IsOfSessions e ⊎ (e ≡ told)).
-    ⊎_elim
-    (λ (s : IsOfSessions e). command_good G p.content (says_command e p s says))
-    (λ (t : e ≡ told). subst (IsGood G) (sym (says_that told (Trim n) p is (subst (λ x. Contains (unpack 0 x) p) t says))) g)
-    k)
-    (adds e there)
-
-at_index : (log : List Entry) (k : ℕ) (e : Entry) → k < length log → get_or log k e ≡ e → slice_get log k ≡ Some e
+-- an entry of a log stands at some index of it
+pub at_index : (log : List Entry) (k : ℕ) (e : Entry) → k < length log → get_or log k e ≡ e → slice_get log k ≡ Some e
 at_index [] k e low same = absurd (omega (arith, low))
 at_index (x ∷ xs) zero e low same = ap (λ y. Some y) same
 at_index (x ∷ xs) (suc k) e low same = at_index xs k e (omega (arith, low)) same
 
--- .. of what stands in a front of the log
+-- Fronts of the log
 
 module _ (may : ℕ → Entry → Type 0) (floor : List Entry → ℕ → Type 0) (shelf : List ℕ) where
-  pub said_appended : (seen : List Event) (log : List Entry) (p : Placed) → IsLegal may floor shelf seen → IsFront Holds seen log → Contains (unpack_all 0 log) p → (e : Entry) × (q : Placed) × Contains (appended seen) e × Contains (unpack 0 e) q × (q.content ≡ p.content)
-  said_appended seen log p legal front h =
-      let s = unpack_says log p h in
-      let here = at_index log s.1.0 s.0 s.1.1 s.1.2 in
-      (s.0, s.2, held_appended may floor shelf seen s.1.0 s.0 legal (front s.1.0 s.0 here), s.3, s.4)
-
-  module _ (G : ℕ → Type 0) (none : G 0) (seen : List Event) (log : List Entry) (legal : IsLegal may floor shelf seen) (front : IsFront Holds seen log) (good : AreGood G seen) where
-    good_said : (p : Placed) → Contains (unpack_all 0 log) p → IsGood G p.content
-    good_said p h = let s = said_appended seen log p legal front h in subst (IsGood G) s.4 (good s.0 s.1 s.2 s.3)
-
-    pub good_point : G (trim_point (unpack_all 0 log))
-    good_point =
-        let ps = unpack_all 0 log in
-        ⊎_elim
-        (λ (z : trim_point ps ≡ 0). subst G (sym z) none)
-        (λ (q : (p : Placed) × Contains ps p × (p.content ≡ Trim (trim_point ps))). subst (IsGood G) q.2 (good_said q.0 q.1))
-        (point_says ps)
-
-    good_position : (k : ℕ) → G (position_of (unpack_all 0 log) k)
-    good_position k =
-        let ps = unpack_all 0 log in
-        ⊎_elim
-        (λ (z : position_of ps k ≡ 0). subst G (sym z) none)
-        (λ (q : (p : Placed) × Contains ps p × (p.content ≡ Alive k (position_of ps k))). subst (IsGood G) q.2 (good_said q.0 q.1))
-        (position_says ps k)
-
-    pub good_least : (nodes : ℕ) → G (least_position nodes (unpack_all 0 log))
-    good_least nodes =
-        let ps = unpack_all 0 log in
-        ⊎_elim
-        (λ (some : 0 < least_position nodes ps). let m = least_some nodes ps some in subst G (sym m.is) (good_position m.node))
-        (λ (z : least_position nodes ps ≤ 0). let e : 0 ≡ least_position nodes ps = omega (arith, z) in subst G e none)
-        (cases_lt 0 (least_position nodes ps))
+  -- what stands in a front was appended
+  pub front_appended : (seen : List Event) (log : List Entry) → IsLegal may floor shelf seen → IsFront Holds seen log → (e : Entry) → Contains log e → Contains (appended seen) e
+  front_appended seen log legal front e h = held_appended may floor shelf seen h.0 e legal (front h.0 e (at_index log h.0 e h.1 h.2))
 
   -- Two fronts of one log
 
@@ -166,17 +89,6 @@ module _ (may : ℕ → Entry → Type 0) (floor : List Entry → ℕ → Type 0
             let x = some_at log t h in
             absurd (omega (arith, stands_below may floor shelf low seen t x.0 legal (holds_stands may floor shelf seen t x.0 legal (front t x.0 x.1))))
 
-    pub clean_within : (seen : List Event) (n : ℕ) → IsLegal may floor shelf seen → IsCleanPoint seen n → n ≤ tail_of (state_of seen)
-    clean_within seen n legal h = omega (arith, h.within, front_within seen h.log legal h.front)
-
-    -- what was clean is so later
-    pub clean_later : (old new : List Event) (n : ℕ) → IsLegal may floor shelf new → Extends old new → IsCleanPoint old n → IsCleanPoint new n
-    clean_later old new n legal on h = record { log = h.log; front = front_later may floor shelf low old new h.log legal on h.front; within = h.within; clean = h.clean }
-
-    -- .. in each front that goes so far
-    pub clean_in : (seen : List Event) (n : ℕ) (log : List Entry) → IsLegal may floor shelf seen → IsCleanPoint seen n → IsFront Holds seen log → n ≤ length log → clean_at log n ≡ true
-    clean_in seen n log legal h front within = ap (λ l. is_clean (λ s. 1) (asked_in 0 l)) (same_beginning seen log h.log n legal front h.front within h.within) ∙ h.clean
-
 -- Nothing is clean at once.
 pub clean_none : (seen : List Event) → IsCleanPoint seen 0
 clean_none seen = record { log = []; front = λ pos e at. absurd (cc); within = omega arith; clean = refl }
@@ -197,13 +109,17 @@ greatest_passes p a (suc n) = by (p a) refl (greatest_passes p (a + 1) n)
         (λ (k : greatest (filter p (numbers (a + 1) n)) ≤ a). let same : a ≡ max a (greatest (filter p (numbers (a + 1) n))) = omega (arith, k) in inr (subst (λ k. p k ≡ true) same e, omega (arith, k)))
         (cases_lt a (greatest (filter p (numbers (a + 1) n))))
 
--- so many of its first entries as a front has clean
-pub position_clean : (seen : List Event) (log : List Entry) → IsFront Holds seen log → IsCleanPoint seen (clean_position log)
-position_clean seen log front =
+-- so many of its first entries are clean
+pub position_clean : (log : List Entry) → clean_at log (clean_position log) ≡ true
+position_clean log =
     ⊎_elim
-    (λ (z : clean_position log ≡ 0). subst (IsCleanPoint seen) (sym z) (clean_none seen))
-    (λ (h : (clean_at log (clean_position log) ≡ true) × (clean_position log < 0 + (length log + 1))). record { log = log; front = front; within = omega (arith, h.1); clean = h.0 })
+    (λ (z : clean_position log ≡ 0). subst (λ n. clean_at log n ≡ true) (sym z) (none log))
+    (λ (h : (clean_at log (clean_position log) ≡ true) × (clean_position log < 0 + (length log + 1))). h.0)
     (greatest_passes (clean_at log) 0 (length log + 1))
+  where
+    none : (l : List Entry) → clean_at l 0 ≡ true
+    none [] = refl
+    none (e ∷ es) = refl
 
 pub position_low : (log : List Entry) → clean_position log ≤ length log
 position_low log =

@@ -1,5 +1,5 @@
 -- What has acted once all was carried to its end and played.
-use Rattle.std.proofs.Common.{◌≡◌, refl, sym, ap, ◌∙◌, subst, ⊎_elim, ℕ, zero, suc, ◌+◌, ◌-◌, ◌<◌, ◌≤◌, List, [], ◌∷◌, Option, Some, None, length, arith}
+use Rattle.std.proofs.Common.{◌≡◌, refl, sym, ap, ◌∙◌, subst, ⊎_elim, inl, inr, ℕ, zero, suc, ◌+◌, ◌-◌, ◌<◌, ◌≤◌, List, [], ◌∷◌, Option, Some, None, length, arith}
 use Rattle.delos_types.specs.Spaces.{SpaceMap}
 use Rattle.delos_types.specs.declared.entry.Entry.{Entry}
 use Rattle.delos_types.specs.declared.item.Item.{Item}
@@ -7,8 +7,8 @@ use Rattle.table_core.specs.Find.{find_in}
 use Rattle.table_core.specs.declared.command.Query.{Query}
 use Rattle.table_core.specs.declared.command.Found.{Found}
 use Rattle.legal_journal.specs.declared.events.Event.{Event}
-use Rattle.legal_journal.specs.Journal.{state_of, tail_of, IsLegal}
-use Rattle.legal_journal.proofs.Legal.{goes_on}
+use Rattle.legal_journal.specs.Journal.{state_of, tail_of, trim_of, IsLegal}
+use Rattle.legal_journal.proofs.Legal.{goes_on, sound}
 use Rattle.virtual_log.specs.Holding.{Holds, IsTrimmed}
 use Rattle.virtual_log.specs.Turning.{IsAbove, OnlyOwn}
 use Rattle.virtual_log.proofs.Owning.{own_split}
@@ -57,7 +57,13 @@ pub record Ended (may : ℕ → Entry → Type 0) (floor : List Entry → ℕ �
   pub last : Moves may floor shelf settled new []
   pub above : IsAbove settled.who settled.seen tail new.seen
   pub at : IsAt tail new.replica new.seen
-  pub keeps : KeepsFrom may floor shelf old.replica.cursor
+
+-- no chain was given whose trim is above the log's
+pub never_above : (may : ℕ → Entry → Type 0) (floor : List Entry → ℕ → Type 0) (shelf : List ℕ) (seen : List Event) (pos : ℕ) → IsLegal may floor shelf seen → trim_of (state_of seen) ≤ pos → IsTrimmed seen pos → ⊥
+never_above may floor shelf seen pos legal low t =
+    let ok = sound may floor shelf seen legal in
+    let upto = (ok.olds t.version t.chain t.given).trim in
+    omega (arith, upto, t.below, low)
 
 module _ (may : ℕ → Entry → Type 0) (floor : List Entry → ℕ → Type 0) (shelf : List ℕ) (low : (log : List Entry) (n : ℕ) → floor log n → n ≤ length log) where
   module _ (old packed settled new : NodeView) (tail : ℕ) (e : Ended may floor shelf old packed settled new tail) where
@@ -70,24 +76,9 @@ module _ (may : ℕ → Entry → Type 0) (floor : List Entry → ℕ → Type 0
     legal : IsLegal may floor shelf new.seen
     legal = all.goes.keeps.later.legal
 
-    pub cursor_is : new.replica.cursor ≡ tail
-    cursor_is = ⊎_elim (λ (k : new.replica.cursor ≡ tail). k) (λ (k : IsTrimmed new.seen new.replica.cursor). absurd (omega (arith, e.keeps new.seen new.replica.cursor legal k, all.goes.keeps.forward))) e.at
-
     pub landed : (s sent : ℕ) → cause_in s new.outbox.given ≡ None → IsGiven old.seen old.outbox.entries old.replica.kept s sent → (r : ℕ) → 1 ≤ r → r ≤ sent → HasLanded settled.seen s r
     landed s sent none g = given_landed settled.seen s sent (subst (λ (k : List Item). IsGiven settled.seen [] k s sent) e.kept (subst (λ (x : List Entry). IsGiven settled.seen x settled.replica.kept s sent) e.none
         (both.stays s sent (none-before may floor shelf low settled new [] s e.last.goes none) g)))
-
-    -- what was given has acted
-    pub acted : (s sent : ℕ) → cause_in s new.outbox.given ≡ None → IsGiven old.seen old.outbox.entries old.replica.kept s sent → InFront new.seen new.replica.cursor (HasActedTo s sent)
-    acted s sent none g = λ log size front. found_acted may floor shelf settled.who s sent tail settled.seen new.seen log legal e.above (size ∙ cursor_is) front (landed s sent none g)
-
-    -- and nothing else has
-    pub whole : (s sent : ℕ) → cause_in s new.outbox.given ≡ None → IsGiven old.seen old.outbox.entries old.replica.kept s sent → IsBound may s sent
-        → (log : List Entry) → length log ≡ new.replica.cursor → IsFront Holds new.seen log → gap_from (asked_in 0 log) s 1 ≡ sent + 1
-    whole s sent none g bound log size front =
-        let least : sent < gap_from (asked_in 0 log) s 1 = acted s sent none g log size front in
-        let most = acted_sent may floor shelf new.seen log s sent legal front bound in
-        omega (arith, least, most)
 
     -- a tail that was found isn't below that of the beginning
     pub upward : tail_of (state_of old.seen) ≤ tail
@@ -104,42 +95,70 @@ module _ (may : ℕ → Entry → Type 0) (floor : List Entry → ℕ → Type 0
         let k = both.goes.keeps in
         let parts = own_split old.who old.seen settled.seen new.seen k.later.more e.last.goes.keeps.later.more k.later.seen e.last.goes.keeps.later.seen alone in
         let ends = by (omega (arith, trim, still)) (subst (λ w. OnlyOwn w settled.seen new.seen) (sym k.who) parts.1) in
-        omega (arith, ends, cursor_is)
+        ⊎_elim
+        (λ (same : new.replica.cursor ≡ tail). omega (arith, ends, same))
+        (λ (k : IsTrimmed new.seen new.replica.cursor). absurd (never_above may floor shelf new.seen new.replica.cursor legal (omega (arith, trim, all.goes.keeps.forward)) k))
+        e.at
 
-    pub ends_at : new.outbox.entries ≡ [] → new.replica.kept ≡ [] → settled.replica.cursor ≡ old.replica.cursor → EndsBy settled.who settled.replica.cursor settled.seen tail new.seen → EndsPhase may floor shelf old new None
-    ends_at none kept still by = record { moves = all; none = none; kept = kept; acted = λ f. acted; exact = λ f. exact still by }
+    -- what was given has acted where the node has applied all up to that tail
+    acted_at : new.replica.cursor ≡ tail → (s sent : ℕ) → cause_in s new.outbox.given ≡ None → IsGiven old.seen old.outbox.entries old.replica.kept s sent → InFront new.seen new.replica.cursor (HasActedTo s sent)
+    acted_at is s sent none g = λ log size front. found_acted may floor shelf settled.who s sent tail settled.seen new.seen log legal e.above (size ∙ is) front (landed s sent none g)
 
-    -- the node has the state of a front then
-    pub stands_at : (state : List Entry → SpaceMap → Type 0) → ((log : List Entry) (m : SpaceMap) → state log m → IsStateOf log m) → IsStateAt Holds state new.seen (saved_in new.replica) → StandsAt old new
-    stands_at state means at = record {
-      log = at.log;
-      front = at.front;
-      from = omega (arith, upward, cursor_is, at.size);
-      size = at.size;
-      led = means at.log new.replica.contents at.led;
+    -- Under rules by which nothing is trimmed where the node was, or above
+
+    module _ (keeps : KeepsFrom may floor shelf old.replica.cursor) where
+      pub cursor_is : new.replica.cursor ≡ tail
+      cursor_is = ⊎_elim (λ (k : new.replica.cursor ≡ tail). k) (λ (k : IsTrimmed new.seen new.replica.cursor). absurd (omega (arith, keeps new.seen new.replica.cursor legal k, all.goes.keeps.forward))) e.at
+
+      -- what was given has acted, and nothing else has
+      pub whole : (s sent : ℕ) → cause_in s new.outbox.given ≡ None → IsGiven old.seen old.outbox.entries old.replica.kept s sent → IsBound may s sent
+          → (log : List Entry) → length log ≡ new.replica.cursor → IsFront Holds new.seen log → gap_from (asked_in 0 log) s 1 ≡ sent + 1
+      whole s sent none g bound log size front =
+          let least : sent < gap_from (asked_in 0 log) s 1 = acted_at cursor_is s sent none g log size front in
+          let most = acted_sent may floor shelf new.seen log s sent legal front bound in
+          omega (arith, least, most)
+
+      -- the node has the state of a front then
+      pub stands_at : (state : List Entry → SpaceMap → Type 0) → ((log : List Entry) (m : SpaceMap) → state log m → IsStateOf log m) → IsStateAt Holds state new.seen (saved_in new.replica) → StandsAt old new
+      stands_at state means at = record {
+        log = at.log;
+        front = at.front;
+        from = omega (arith, upward, cursor_is, at.size);
+        size = at.size;
+        led = means at.log new.replica.contents at.led;
+      }
+
+      -- what a read answers then
+      pub looks_at : (state : List Entry → SpaceMap → Type 0) (d : Desk) (query : Query) (found : Found) → ((log : List Entry) (m : SpaceMap) → state log m → IsStateOf log m)
+          → DeskOk old d.session d → d.stopped ≡ None → cause_in d.session new.outbox.given ≡ None → IsBound may d.session d.sent
+          → IsStateAt Holds state new.seen (saved_in new.replica) → found ≡ found_in new.replica.contents query → Looks may floor shelf old new d query (looked.Found tail found)
+      looks_at state d query found means ok free none bound at shows =
+          let none_then = none-before may floor shelf low old new [] d.session all.goes none in
+          let given = (ok.given free none_then).1 in
+          let told : LooksSo old new d query [] (looked.Found tail found) = (
+            refl,
+            (free, none_then),
+            upward,
+            record {
+              log = at.log;
+              front = at.front;
+              size = at.size ∙ cursor_is;
+              sees = whole d.session d.sent none given bound at.log at.size at.front;
+              shows = shows ∙ ap (λ t. find_in t query) (state_table at.log new.replica.contents (means at.log new.replica.contents at.led));
+            },
+            sym cursor_is,
+          ) in
+          record { others = []; moves = all; looks = told }
+
+    pub ends_at : new.outbox.entries ≡ [] → new.outbox.unsettled ≡ None → new.replica.kept ≡ [] → settled.replica.cursor ≡ old.replica.cursor → EndsBy settled.who settled.replica.cursor settled.seen tail new.seen → EndsPhase may floor shelf old new None
+    ends_at none unsettled kept still by = record {
+      moves = all;
+      none = none;
+      unsettled = unsettled;
+      kept = kept;
+      acted = λ f. ⊎_elim (λ (k : new.replica.cursor ≡ tail). inr (acted_at k)) (λ (k : IsTrimmed new.seen new.replica.cursor). inl k) e.at;
+      exact = λ f. exact still by;
     }
-
-    -- what a read answers then
-    pub looks_at : (state : List Entry → SpaceMap → Type 0) (d : Desk) (query : Query) (found : Found) → ((log : List Entry) (m : SpaceMap) → state log m → IsStateOf log m)
-        → DeskOk old d.session d → d.stopped ≡ None → cause_in d.session new.outbox.given ≡ None → IsBound may d.session d.sent
-        → IsStateAt Holds state new.seen (saved_in new.replica) → found ≡ found_in new.replica.contents query → Looks may floor shelf old new d query (looked.Found tail found)
-    looks_at state d query found means ok free none bound at shows =
-        let none_then = none-before may floor shelf low old new [] d.session all.goes none in
-        let given = (ok.given free none_then).1 in
-        let told : LooksSo old new d query [] (looked.Found tail found) = (
-          refl,
-          (free, none_then),
-          upward,
-          record {
-            log = at.log;
-            front = at.front;
-            size = at.size ∙ cursor_is;
-            sees = whole d.session d.sent none given bound at.log at.size at.front;
-            shows = shows ∙ ap (λ t. find_in t query) (state_table at.log new.replica.contents (means at.log new.replica.contents at.led));
-          },
-          sym cursor_is,
-        ) in
-        record { others = []; moves = all; looks = told }
 
 ranks-few : (s : ℕ) (items : List Item) → length (ranks_in s items) ≤ length items
 ranks-few s [] = omega arith

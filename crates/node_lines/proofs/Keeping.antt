@@ -3,25 +3,27 @@ use Rattle.std.proofs.Common.{◌≡◌, ◌≢◌, refl, sym, ◌∙◌, subst,
 use Rattle.std.specs.Prelude.{Contains}
 use Rattle.delos_types.specs.declared.entry.Entry.{Entry}
 use Rattle.legal_journal.specs.declared.events.Event.{Event}
-use Rattle.legal_journal.specs.Journal.{IsLegal}
+use Rattle.legal_journal.specs.Journal.{IsLegal, IsFree, state_of}
+use Rattle.journal_laws.specs.Changes.{TrimsUpTo}
 use Rattle.journal_laws.proofs.Changes.{appended_may}
-use Rattle.engine_api.specs.declared.content.Content.{Content}
-use Rattle.engine_api.specs.declared.content.Content.TheVariants.{Session, Alive, Leave, Trim}
+use Rattle.engine_api.specs.declared.content.Content.TheVariants.{Alive, Leave}
 use Rattle.engine_api.specs.declared.content.Placed.{Placed}
 use Rattle.engine_api.specs.Items.{unpack}
-use Rattle.base_engine.specs.Trimming.{FloorIs}
+use Rattle.turn_scopes.specs.Floors.{FloorIs}
 use Rattle.turn_scopes.specs.Alone.{IsAlone}
 use Rattle.turn_scopes.specs.Beside.{Narrows}
 use Rattle.turn_scopes.specs.Seats.{SeatView}
 use Rattle.turn_scopes.specs.Telling.{UpTo, TellsUpTo}
 use Rattle.turn_scopes.proofs.Trims.{others_trim}
-use Rattle.node_lines.specs.Workers.{OwnWithin, Sends, SendsToo, IsCommand, IsOfSessions, MayRun, HasNotLeft, ReportsUpTo, KeepsLog, KeepsBeside, TellsLow, appended_by}
+use Rattle.node_lines.specs.Workers.{Sends, SendsToo, IsCommand, IsOfSessions, MayRun, IsKept, KeepsLog, KeepsBeside, TellsLow, appended_by}
+use Rattle.node_lines.specs.Steps.{UpToIf}
+use Rattle.node_lines.proofs.Widening.{legal_wide}
 use Rattle.node_lines.proofs.Own.{own_appended}
 use Rattle.node_lines.proofs.Cleaning.{says_command}
 
 -- nobody is beside: there is nothing to keep
-pub keeps_alone : (beside : ℕ → ℕ → Type 0) (floor : List Entry → ℕ → Type 0) (s : SeatView) (journal : List Event) → IsAlone (beside s.who) → KeepsBeside beside floor s journal
-keeps_alone beside floor s journal alone = λ user h. absurd (alone.nobody user h)
+pub kept_alone : (beside : ℕ → ℕ → Type 0) (floor : List Entry → ℕ → Type 0) (s : SeatView) (journal : List Event) → IsAlone (beside s.who) → TrimsUpTo s.node.replica.cursor journal → IsKept beside floor s journal
+kept_alone beside floor s journal alone high = record { high = high; keeps = λ user h. absurd (alone.nobody user h) }
 
 -- what the entry says is no leave of the node, and no report of it above m
 record IsLow (me m : ℕ) (e : Entry) : Type 0 where
@@ -79,19 +81,27 @@ module _ (floor : List Entry → ℕ → Type 0) (shelf : List ℕ) (me m : ℕ)
   }
 
   -- a scope that binds what this user appends is narrower than the rules, and binds nobody beside
-  narrows_by : (may : ℕ → Entry → Type 0) (beside : ℕ → Type 0) → ((user : ℕ) (e : Entry) → sends user e → may user e) → ((user : ℕ) (e : Entry) → user ≢ me → may user e → sends user e) → ((user : ℕ) → beside user → user ≢ me)
-      → ((user : ℕ) → beside user → (nodes : ℕ) × FloorIs floor nodes × (1 ≤ me) × (me ≤ nodes) × TellsUpTo sends me m) → Narrows may sends floor (UpTo floor m) shelf beside
-  narrows_by may beside allows others apart tells = record {
+  narrows_by : (so : Type 0) (may : ℕ → Entry → Type 0) (beside : ℕ → Type 0) → ((user : ℕ) (e : Entry) → sends user e → may user e) → ((user : ℕ) (e : Entry) → user ≢ me → may user e → sends user e) → ((user : ℕ) → beside user → user ≢ me)
+      → (so → (user : ℕ) → beside user → (nodes : ℕ) × FloorIs floor nodes × (1 ≤ me) × (me ≤ nodes) × TellsUpTo sends me m) → Narrows may sends floor (UpToIf so floor m) shelf beside
+  narrows_by so may beside allows others apart tells = record {
     narrower = allows;
     lower = λ log n h. h.0;
     others = λ user e b h. others user e (apart user b) h;
-    trims = λ user b seen n legal free. let t = tells user b in others_trim sends floor shelf t.0 me m t.1 t.2 t.3 t.4 beside user b seen n legal free;
+    trims = λ user b seen n legal free. record { log = free.log; shows = free.shows; free = (free.free, λ is. upto user b seen n legal free is) };
   }
+    where
+      -- if the scope is bound, others trim no further
+      upto : (user : ℕ) → beside user → (seen : List Event) (n : ℕ) → IsLegal sends (UpToIf so floor m) shelf seen → IsFree (state_of seen).shown floor n → so → n ≤ m
+      upto user b seen n legal free is =
+          let t = tells is user b in
+          let bound = legal_wide sends sends (UpToIf so floor m) (UpTo floor m) shelf (λ u e h. h) (λ log k h. (h.0, h.1 is)) seen legal in
+          (others_trim sends floor shelf t.0 me m t.1 t.2 t.3 t.4 beside user b seen n bound free).free.1
 
-module _ (may : ℕ → Entry → Type 0) (floor : List Entry → ℕ → Type 0) (shelf : List ℕ) (run : MayRun may floor shelf) (beside : ℕ → ℕ → Type 0) (counts : List ℕ) (journal : List Event) (a : SeatView) (keeps : KeepsBeside beside floor a journal) where
+-- A scope that is bound where the node keeps the log.
+module _ (may : ℕ → Entry → Type 0) (floor : List Entry → ℕ → Type 0) (shelf : List ℕ) (run : MayRun may floor shelf) (beside : ℕ → ℕ → Type 0) (counts : List ℕ) (journal : List Event) (a : SeatView) (so : Type 0) (keeps : so → KeepsBeside beside floor a journal) where
   -- what is told is low, if anybody is beside
   abbrev pub IsToldLow : Entry → Type 0
-  IsToldLow told = (user : ℕ) → beside a.who user → (p : Placed) → Contains (unpack 0 told) p → TellsLow a.node.replica.cursor p.content
+  IsToldLow told = so → (user : ℕ) → beside a.who user → (p : Placed) → Contains (unpack 0 told) p → TellsLow a.node.replica.cursor p.content
 
   module _ (who : ℕ) (same : a.who ≡ who) where
     here : (user : ℕ) → beside who user → beside a.who user
@@ -101,29 +111,29 @@ module _ (may : ℕ → Entry → Type 0) (floor : List Entry → ℕ → Type 0
       others : (user : ℕ) → beside who user → user ≢ a.who
       others user h = λ is. apart user h (is ∙ same)
 
-      pub narrows_beside : Narrows may (Sends a.who may counts journal) floor (UpTo floor a.node.replica.cursor) shelf (beside who)
-      narrows_beside = narrows_by floor shelf a.who a.node.replica.cursor (Sends a.who may counts journal) may (beside who) (λ user e h. h.0.0)
+      pub narrows_beside : Narrows may (Sends a.who may counts journal) floor (UpToIf so floor a.node.replica.cursor) shelf (beside who)
+      narrows_beside = narrows_by floor shelf a.who a.node.replica.cursor (Sends a.who may counts journal) so may (beside who) (λ user e h. h.0.0)
           (λ user e other h. ((h, λ is. absurd (other is)), λ is. absurd (other is))) others
-          (λ user h. let k = keeps user (here user h) in (a.node.nodes, k.goes_by, k.least, k.most, sends_low may floor shelf run a.who a.node.replica.cursor a.node.nodes counts journal k))
+          (λ is user h. let k = keeps is user (here user h) in (a.node.nodes, k.goes_by, k.least, k.most, sends_low may floor shelf run a.who a.node.replica.cursor a.node.nodes counts journal k))
 
-      pub narrows_told : (told : Entry) → IsToldLow told → Narrows may (SendsToo a.who may counts journal told) floor (UpTo floor a.node.replica.cursor) shelf (beside who)
-      narrows_told told low = narrows_by floor shelf a.who a.node.replica.cursor (SendsToo a.who may counts journal told) may (beside who) (λ user e h. h.0.0)
+      pub narrows_told : (told : Entry) → IsToldLow told → Narrows may (SendsToo a.who may counts journal told) floor (UpToIf so floor a.node.replica.cursor) shelf (beside who)
+      narrows_told told low = narrows_by floor shelf a.who a.node.replica.cursor (SendsToo a.who may counts journal told) so may (beside who) (λ user e h. h.0.0)
           (λ user e other h. ((h, λ is. absurd (other is)), λ is. absurd (other is))) others
-          (λ user h. let k = keeps user (here user h) in (a.node.nodes, k.goes_by, k.least, k.most, sends_too_low may floor shelf run a.who a.node.replica.cursor a.node.nodes counts journal k told (low user (here user h))))
+          (λ is user h. let k = keeps is user (here user h) in (a.node.nodes, k.goes_by, k.least, k.most, sends_too_low may floor shelf run a.who a.node.replica.cursor a.node.nodes counts journal k told (low is user (here user h))))
 
   -- the node keeps the log still
   module _ (low : List Entry → ℕ → Type 0) (new : List Event) (b : SeatView) (who : b.who ≡ a.who) (nodes : b.node.nodes ≡ a.node.nodes) (up : a.node.replica.cursor ≤ b.node.replica.cursor) where
-    pub still_beside : IsLegal (Sends a.who may counts journal) low shelf new → KeepsBeside beside floor b new
-    still_beside legal = λ user h.
-        let k = keeps user (subst (λ w. beside w user) who h) in
+    pub still_beside : IsLegal (Sends a.who may counts journal) low shelf new → so → KeepsBeside beside floor b new
+    still_beside legal is = λ user h.
+        let k = keeps is user (subst (λ w. beside w user) who h) in
         subst (λ w. KeepsLog floor w b.node.nodes b.node.replica.cursor new) (sym who)
         (subst (λ n. KeepsLog floor a.who n b.node.replica.cursor new) (sym nodes)
         (keeps_on floor shelf a.who a.node.replica.cursor (Sends a.who may counts journal) low a.node.nodes b.node.replica.cursor journal new up legal (sends_low may floor shelf run a.who a.node.replica.cursor a.node.nodes counts journal k) k))
 
-    pub still_told : (told : Entry) → IsToldLow told → IsLegal (SendsToo a.who may counts journal told) low shelf new → KeepsBeside beside floor b new
-    still_told told is_low legal = λ user h.
+    pub still_told : (told : Entry) → IsToldLow told → IsLegal (SendsToo a.who may counts journal told) low shelf new → so → KeepsBeside beside floor b new
+    still_told told is_low legal is = λ user h.
         let there = subst (λ w. beside w user) who h in
-        let k = keeps user there in
+        let k = keeps is user there in
         subst (λ w. KeepsLog floor w b.node.nodes b.node.replica.cursor new) (sym who)
         (subst (λ n. KeepsLog floor a.who n b.node.replica.cursor new) (sym nodes)
-        (keeps_on floor shelf a.who a.node.replica.cursor (SendsToo a.who may counts journal told) low a.node.nodes b.node.replica.cursor journal new up legal (sends_too_low may floor shelf run a.who a.node.replica.cursor a.node.nodes counts journal k told (is_low user there)) k))
+        (keeps_on floor shelf a.who a.node.replica.cursor (SendsToo a.who may counts journal told) low a.node.nodes b.node.replica.cursor journal new up legal (sends_too_low may floor shelf run a.who a.node.replica.cursor a.node.nodes counts journal k told (is_low is user there)) k))

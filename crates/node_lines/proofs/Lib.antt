@@ -13,6 +13,7 @@ pub mod Fronts
 pub mod Ending
 pub mod Sessions
 pub mod Turning
+pub mod Sent
 pub mod Closing
 pub mod Widening
 pub mod Own
@@ -32,3 +33,4 @@ pub mod Bounding
 pub mod Chains
 pub mod Lone
 pub mod Sealing
+pub mod Saying

@@ -18,7 +18,10 @@ use Rattle.journal_laws.specs.Changes.{entry_begun, appended, Adds}
 use Rattle.journal_laws.specs.Own.{own}
 use Rattle.journal_laws.proofs.Changes.{appended_stays, appended_more, appended_parts}
 use Rattle.turn_scopes.specs.Alone.{AreOwn, OwnSince}
-use Rattle.node_lines.specs.Workers.{appended_by, OwnAdds}
+use Rattle.engine_api.specs.declared.content.Content.TheVariants.{Alive, Leave}
+use Rattle.engine_api.specs.declared.content.Placed.{Placed}
+use Rattle.engine_api.specs.Items.{unpack}
+use Rattle.node_lines.specs.Workers.{appended_by, HasNotLeft, MayRun, OwnAdds}
 
 -- Event by event
 
@@ -186,3 +189,31 @@ module _ (may may' : ℕ → Entry → Type 0) (floor : List Entry → ℕ → T
   -- A journal is legal by other rules too, where they let each user append what it appended.
   pub legal_own : (shelf : List ℕ) (events : List Event) → IsLegal may floor shelf events → ((who : ℕ) (e : Entry) → Contains (appended_by who events) e → may who e → may' who e) → IsLegal may' floor shelf events
   legal_own shelf events h f = record { least = h.least; most = h.most; steps = from_own shelf start events f h.steps }
+
+-- each entry that was appended somebody appended
+some_appended : (es : List Event) (e : Entry) → Contains (appended es) e → (who : ℕ) × Contains (appended_by who es) e
+some_appended [] e h = absurd (none_in e h)
+some_appended (x ∷ xs) e h =
+    ⊎_elim
+    (λ (begun : entry_begun x.call x.answer ≡ Some e). (x.who, own_at_first x.who x xs e refl begun))
+    (λ (later : Contains (appended xs) e). let r = some_appended xs e later in (r.0, own_at_later r.0 x xs e r.1))
+    (first_or_later x xs e h)
+
+-- By the rules of a run a node itself tells what is told of it
+
+module _ (may : ℕ → Entry → Type 0) (floor low : List Entry → ℕ → Type 0) (shelf : List ℕ) (run : MayRun may floor shelf) (by : ℕ → Entry → Type 0) (allows : (user : ℕ) (e : Entry) → by user e → may user e) (journal : List Event) (legal : IsLegal by low shelf journal) where
+  appender : (e : Entry) → Contains (appended journal) e → (who : ℕ) × Contains (appended_by who journal) e × may who e
+  appender e h = let s = some_appended journal e h in (s.0, s.1, allows s.0 e (own_may by low shelf journal s.0 e legal s.1))
+
+  pub reported_by : (node n : ℕ) (e : Entry) (p : Placed) → Contains (appended journal) e → Contains (unpack 0 e) p → p.content ≡ Alive node n → Contains (appended_by node journal) e
+  reported_by node n e p h there is = let s = appender e h in subst (λ u. Contains (appended_by u journal) e) (run.reports s.0 node n e p s.2 there is) s.1
+
+  left_by : (node : ℕ) (e : Entry) (p : Placed) → Contains (appended journal) e → Contains (unpack 0 e) p → p.content ≡ Leave node → Contains (appended_by node journal) e
+  left_by node e p h there is = let s = appender e h in subst (λ u. Contains (appended_by u journal) e) (run.leaves s.0 node e p s.2 there is) s.1
+
+  -- a node that hadn't left, and since told no leave, hasn't
+  pub stays_on : (who : ℕ) (P : Entry → Type 0) (old : List Event) → HasNotLeft who old → OwnAdds who P old journal → ((e : Entry) (p : Placed) → P e → Contains (unpack 0 e) p → p.content ≡ Leave who → ⊥) → HasNotLeft who journal
+  stays_on who P old stays adds none = λ e p h there is. ⊎_elim
+      (λ (was : Contains (appended_by who old) e). stays e p (own_appended who old e was) there is)
+      (λ (k : P e). none e p k there is)
+      (adds e (left_by who e p h there is))

@@ -1,25 +1,20 @@
 -- What holds within a scope of a worker, and what is left of it by the rules of the run.
-use Rattle.std.proofs.Common.{◌≡◌, refl, sym, subst, ⊎_elim, ◌⊎◌, inl, inr, ℕ, ◌≤◌, List, [], Option, None, arith}
-use Rattle.std.specs.Prelude.{All, max, Contains, Result, Ok, Err, IfOk, OnOk}
+use Rattle.std.proofs.Common.{◌≡◌, refl, sym, subst, ⊎_elim, ◌⊎◌, inl, inr, ℕ, ◌≤◌, List, []}
+use Rattle.std.specs.Prelude.{All, Contains, Result, Ok, Err, IfOk, OnOk}
 use Rattle.std.proofs.lemmas.List.Elements.{All-nil}
 use Rattle.delos_types.specs.Spaces.{SpaceMap}
 use Rattle.delos_types.specs.declared.entry.Entry.{Entry}
-use Rattle.delos_types.specs.declared.cause.Cause.{Cause}
 use Rattle.legal_journal.specs.declared.events.Event.{Event}
 use Rattle.legal_journal.specs.Journal.{IsLegal}
 use Rattle.journal_laws.specs.Changes.{TrimsUpTo}
 use Rattle.journal_laws.proofs.Changes.{legal_by, upto_low, upto_more, below_low}
 use Rattle.replica_api.specs.Replica.{Saved}
-use Rattle.virtual_log.specs.Holding.{IsTrimmed}
 use Rattle.base_engine.specs.Settling.{MaySend}
-use Rattle.base_engine.specs.Node.{NodeView}
 use Rattle.turn_scopes.specs.Beside.{Since, SealsByRight}
 use Rattle.turn_scopes.specs.Seats.{SeatView, SeatOk}
-use Rattle.turn_scopes.specs.Telling.{UpTo}
 use Rattle.node_lines.specs.Desks.{KeepsFrom}
-use Rattle.node_lines.specs.Leaving.{PlaysKnown}
-use Rattle.node_lines.specs.Workers.{Sends, SendsToo, IsOfSessions, OwnAdds, KeepsBeside, Grows, appended_by, sent_of}
-use Rattle.node_lines.specs.Steps.{IsLeft, IsDone}
+use Rattle.node_lines.specs.Workers.{Sends, SendsToo, IsOfSessions, OwnAdds, IsKept, KeepsBeside, Grows, appended_by, sent_of}
+use Rattle.node_lines.specs.Steps.{IsLeft, UpToIf}
 use Rattle.node_lines.proofs.Own.{own_stays, own_may, legal_own}
 use Rattle.node_lines.proofs.Widening.{own-more, legal_wide, seat_wider}
 
@@ -47,22 +42,26 @@ module _ (me : ℕ) (may : ℕ → Entry → Type 0) (counts : List ℕ) where
     pub adds_told : (old new : List Event) (told : Entry) → IsLegal (SendsToo me may counts old told) low shelf new → OwnAdds me (λ e. IsOfSessions e ⊎ (e ≡ told)) old new
     adds_told old new told legal = λ e k. (own_may (SendsToo me may counts old told) low shelf new me e legal k).1 refl
 
-module _ (may : ℕ → Entry → Type 0) (floor : List Entry → ℕ → Type 0) (shelf : List ℕ) where
-  -- within a scope nothing is trimmed above where it began
-  pub keeps_low : (m : ℕ) → KeepsFrom may (UpTo floor m) shelf m
-  keeps_low m = λ seen pos legal trimmed. below_low may (UpTo floor m) shelf m (λ log n h. h.1) seen pos legal trimmed
+module _ (may : ℕ → Entry → Type 0) (floor : List Entry → ℕ → Type 0) (shelf : List ℕ) (so : Type 0) (is : so) where
+  -- within a scope that is bound so nothing is trimmed above where it began
+  pub keeps_low : (m : ℕ) → KeepsFrom may (UpToIf so floor m) shelf m
+  keeps_low m = λ seen pos legal trimmed. below_low may (UpToIf so floor m) shelf m (λ log n h. h.1 is) seen pos legal trimmed
 
   -- nor is it by what comes then
-  pub high_low : (m m' : ℕ) (new : List Event) → m ≤ m' → IsLegal may (UpTo floor m) shelf new → TrimsUpTo m' new
-  high_low m m' new up legal = upto_more m m' new up (upto_low may (UpTo floor m) shelf m (λ log n h. h.1) new legal)
+  pub high_low : (m m' : ℕ) (new : List Event) → m ≤ m' → IsLegal may (UpToIf so floor m) shelf new → TrimsUpTo m' new
+  high_low m m' new up legal = upto_more m m' new up (upto_low may (UpToIf so floor m) shelf m (λ log n h. h.1 is) new legal)
+
+  -- so a step that went no further back keeps the log
+  pub kept_by : (beside : ℕ → ℕ → Type 0) (m : ℕ) (new : List Event) (b : SeatView) → m ≤ b.node.replica.cursor → IsLegal may (UpToIf so floor m) shelf new → KeepsBeside beside floor b new → IsKept beside floor b new
+  kept_by beside m new b up legal keeps = record { high = high_low m b.node.replica.cursor new up legal; keeps = keeps }
 
 module _ (may : ℕ → Entry → Type 0) (floor : List Entry → ℕ → Type 0) (shelf : List ℕ) where
   module _ (me : ℕ) (counts : List ℕ) (state : List Entry → SpaceMap → Type 0) (spells : List ℕ → Saved → Type 0) where
-    -- A seat as a scope begins: nothing was trimmed above where it is.
-    pub seat_begins : (m : ℕ) (journal : List Event) (s : SeatView) → TrimsUpTo m journal → SeatOk (Sends me may counts journal) floor shelf state spells journal s → SeatOk (Sends me may counts journal) (UpTo floor m) shelf state spells journal s
-    seat_begins m journal s high h = seat_free (legal_by (Sends me may counts journal) (Sends me may counts journal) floor (UpTo floor m) shelf journal h.node.legal (λ who e _ k. k) (λ log n raised free. (free, high n raised)))
+    -- A seat as a scope begins: if the scope is bound, nothing was trimmed above where it is.
+    pub seat_begins : (so : Type 0) (m : ℕ) (journal : List Event) (s : SeatView) → (so → TrimsUpTo m journal) → SeatOk (Sends me may counts journal) floor shelf state spells journal s → SeatOk (Sends me may counts journal) (UpToIf so floor m) shelf state spells journal s
+    seat_begins so m journal s high h = seat_free (legal_by (Sends me may counts journal) (Sends me may counts journal) floor (UpToIf so floor m) shelf journal h.node.legal (λ who e _ k. k) (λ log n raised free. (free, λ is. high is n raised)))
       where
-        seat_free : IsLegal (Sends me may counts journal) (UpTo floor m) shelf journal → SeatOk (Sends me may counts journal) (UpTo floor m) shelf state spells journal s
+        seat_free : IsLegal (Sends me may counts journal) (UpToIf so floor m) shelf journal → SeatOk (Sends me may counts journal) (UpToIf so floor m) shelf state spells journal s
         seat_free legal = record {
           shelf_is = h.shelf_is;
           goes_by = h.goes_by;
@@ -78,17 +77,17 @@ module _ (may : ℕ → Entry → Type 0) (floor : List Entry → ℕ → Type 0
         }
 
     -- .. of a scope that tells something
-    pub seat_tells : (m : ℕ) (journal : List Event) (told : Entry) (s : SeatView) → TrimsUpTo m journal → SeatOk (Sends me may counts journal) floor shelf state spells journal s → SeatOk (SendsToo me may counts journal told) (UpTo floor m) shelf state spells journal s
-    seat_tells m journal told s high h =
-        seat_wider (Sends me may counts journal) (SendsToo me may counts journal told) (UpTo floor m) (UpTo floor m) shelf (λ user e k. sends_too me may counts journal told user e k) (λ log n k. k) state spells journal s (seat_begins m journal s high h)
+    pub seat_tells : (so : Type 0) (m : ℕ) (journal : List Event) (told : Entry) (s : SeatView) → (so → TrimsUpTo m journal) → SeatOk (Sends me may counts journal) floor shelf state spells journal s → SeatOk (SendsToo me may counts journal told) (UpToIf so floor m) shelf state spells journal s
+    seat_tells so m journal told s high h =
+        seat_wider (Sends me may counts journal) (SendsToo me may counts journal told) (UpToIf so floor m) (UpToIf so floor m) shelf (λ user e k. sends_too me may counts journal told user e k) (λ log n k. k) state spells journal s (seat_begins so m journal s high h)
 
     -- A seat as a scope ends.
-    pub seat_ends : (m : ℕ) (old new : List Event) (s : SeatView) → Grows old new → SeatOk (Sends me may counts old) (UpTo floor m) shelf state spells new s → SeatOk (Sends me may counts new) floor shelf state spells new s
-    seat_ends m old new s g h = seat_wider (Sends me may counts old) (Sends me may counts new) (UpTo floor m) floor shelf (λ user e k. sends_grow me may counts old new g user e k) (λ log n k. k.0) state spells new s h
+    pub seat_ends : (so : Type 0) (m : ℕ) (old new : List Event) (s : SeatView) → Grows old new → SeatOk (Sends me may counts old) (UpToIf so floor m) shelf state spells new s → SeatOk (Sends me may counts new) floor shelf state spells new s
+    seat_ends so m old new s g h = seat_wider (Sends me may counts old) (Sends me may counts new) (UpToIf so floor m) floor shelf (λ user e k. sends_grow me may counts old new g user e k) (λ log n k. k.0) state spells new s h
 
     -- .. of one that told something: nothing is outstanding, and nothing waits
-    pub seat_told : (m : ℕ) (old new : List Event) (told : Entry) (s : SeatView) → s.node.outbox.entries ≡ [] → s.node.replica.kept ≡ [] → SeatOk (SendsToo me may counts old told) (UpTo floor m) shelf state spells new s → SeatOk (Sends me may counts new) floor shelf state spells new s
-    seat_told m old new told s none kept h = record {
+    pub seat_told : (so : Type 0) (m : ℕ) (old new : List Event) (told : Entry) (s : SeatView) → s.node.outbox.entries ≡ [] → s.node.replica.kept ≡ [] → SeatOk (SendsToo me may counts old told) (UpToIf so floor m) shelf state spells new s → SeatOk (Sends me may counts new) floor shelf state spells new s
+    seat_told so m old new told s none kept h = record {
       shelf_is = h.shelf_is;
       goes_by = h.goes_by;
       node = record {
@@ -105,56 +104,38 @@ module _ (may : ℕ → Entry → Type 0) (floor : List Entry → ℕ → Type 0
         told_legal : IsLegal (Sends me may counts new) floor shelf new
         told_legal =
             legal_own (SendsToo me may counts old told) (Sends me may counts new) floor shelf new
-            (legal_wide (SendsToo me may counts old told) (SendsToo me may counts old told) (UpTo floor m) floor shelf (λ user e k. k) (λ log n k. k.0) new h.node.legal)
+            (legal_wide (SendsToo me may counts old told) (SendsToo me may counts old told) (UpToIf so floor m) floor shelf (λ user e k. k) (λ log n k. k.0) new h.node.legal)
             (λ user e there k. (k.0, λ same. inl (subst (λ u. Contains (appended_by u new) e) same there)))
 
     -- by the rules of the run alone
     pub seat_allowed : (journal : List Event) (s : SeatView) → SeatOk (Sends me may counts journal) floor shelf state spells journal s → SeatOk may floor shelf state spells journal s
     seat_allowed journal s h = seat_wider (Sends me may counts journal) may floor floor shelf (λ who e k. k.0.0) (λ log n k. k) state spells journal s h
 
-    pub left_by : (beside : ℕ → ℕ → Type 0) (right : ℕ → Type 0) (m : ℕ) (old new : List Event) (a b : SeatView) → b.who ≡ a.who → Since b.who (beside b.who) old new → SealsByRight (right b.who) b.who old new
-        → SeatOk (Sends me may counts old) (UpTo floor m) shelf state spells new b → IsLeft may floor shelf state spells beside (right a.who) old a new b
-    left_by beside right m old new a b who since seals h = record {
-      stands = seat_wider (Sends me may counts old) may (UpTo floor m) floor shelf (λ user e k. k.0.0) (λ log n k. k.0) state spells new b h;
+    pub left_by : (beside : ℕ → ℕ → Type 0) (right : ℕ → Type 0) (so : Type 0) (m : ℕ) (old new : List Event) (a b : SeatView) → b.who ≡ a.who → Since b.who (beside b.who) old new → SealsByRight (right b.who) b.who old new
+        → SeatOk (Sends me may counts old) (UpToIf so floor m) shelf state spells new b → IsLeft may floor shelf state spells beside (right a.who) old a new b
+    left_by beside right so m old new a b who since seals h = record {
+      stands = seat_wider (Sends me may counts old) may (UpToIf so floor m) floor shelf (λ user e k. k.0.0) (λ log n k. k.0) state spells new b h;
       who = who;
       since = subst (λ w. Since w (beside w) old new) who since;
       seals = subst (λ w. SealsByRight (right w) w old new) who seals;
     }
 
-    pub left_told : (beside : ℕ → ℕ → Type 0) (right : ℕ → Type 0) (m : ℕ) (old new : List Event) (told : Entry) (a b : SeatView) → b.who ≡ a.who → Since b.who (beside b.who) old new → SealsByRight (right b.who) b.who old new
-        → SeatOk (SendsToo me may counts old told) (UpTo floor m) shelf state spells new b → IsLeft may floor shelf state spells beside (right a.who) old a new b
-    left_told beside right m old new told a b who since seals h = record {
-      stands = seat_wider (SendsToo me may counts old told) may (UpTo floor m) floor shelf (λ user e k. k.0.0) (λ log n k. k.0) state spells new b h;
+    pub left_told : (beside : ℕ → ℕ → Type 0) (right : ℕ → Type 0) (so : Type 0) (m : ℕ) (old new : List Event) (told : Entry) (a b : SeatView) → b.who ≡ a.who → Since b.who (beside b.who) old new → SealsByRight (right b.who) b.who old new
+        → SeatOk (SendsToo me may counts old told) (UpToIf so floor m) shelf state spells new b → IsLeft may floor shelf state spells beside (right a.who) old a new b
+    left_told beside right so m old new told a b who since seals h = record {
+      stands = seat_wider (SendsToo me may counts old told) may (UpToIf so floor m) floor shelf (λ user e k. k.0.0) (λ log n k. k.0) state spells new b h;
       who = who;
       since = subst (λ w. Since w (beside w) old new) who since;
       seals = subst (λ w. SealsByRight (right w) w old new) who seals;
     }
 
-    -- a step that went no further back
-    pub done_by : (beside : ℕ → ℕ → Type 0) (m : ℕ) (old new : List Event) (b : SeatView) → b.who ≡ me → m ≤ b.node.replica.cursor → Grows old new → KeepsBeside beside floor b new
-        → SeatOk (Sends me may counts old) (UpTo floor m) shelf state spells new b → IsDone may floor shelf state spells beside counts new b
-    done_by beside m old new b who up grows keeps h = record {
-      ok = subst (λ w. SeatOk (Sends w may counts new) floor shelf state spells new b) (sym who) (seat_ends m old new b grows h);
-      high = high_low (Sends me may counts old) floor shelf m b.node.replica.cursor new up h.node.legal;
-      keeps = keeps;
-    }
+    -- a step was done
+    pub ok_by : (so : Type 0) (m : ℕ) (old new : List Event) (b : SeatView) → b.who ≡ me → Grows old new → SeatOk (Sends me may counts old) (UpToIf so floor m) shelf state spells new b → SeatOk (Sends b.who may counts new) floor shelf state spells new b
+    ok_by so m old new b who grows h = subst (λ w. SeatOk (Sends w may counts new) floor shelf state spells new b) (sym who) (seat_ends so m old new b grows h)
 
-    pub done_told : (beside : ℕ → ℕ → Type 0) (m : ℕ) (old new : List Event) (told : Entry) (b : SeatView) → b.who ≡ me → m ≤ b.node.replica.cursor → b.node.outbox.entries ≡ [] → b.node.replica.kept ≡ [] → KeepsBeside beside floor b new
-        → SeatOk (SendsToo me may counts old told) (UpTo floor m) shelf state spells new b → IsDone may floor shelf state spells beside counts new b
-    done_told beside m old new told b who up none kept keeps h = record {
-      ok = subst (λ w. SeatOk (Sends w may counts new) floor shelf state spells new b) (sym who) (seat_told m old new told b none kept h);
-      high = high_low (SendsToo me may counts old told) floor shelf m b.node.replica.cursor new up h.node.legal;
-      keeps = keeps;
-    }
-
--- what is known was played, since nothing is trimmed within a scope that the node lacks
-pub plays_all : (a : ℕ → Entry → Type 0) (floor : List Entry → ℕ → Type 0) (shelf : List ℕ) (old new : NodeView) (failed : Option Cause) → PlaysKnown a (UpTo floor old.replica.cursor) shelf old new failed → failed ≡ None → old.known ≤ new.replica.cursor
-plays_all a floor shelf old new failed h none =
-    let k = h.moves.goes.keeps in
-    ⊎_elim
-    (λ (e : new.replica.cursor ≡ max old.replica.cursor old.known). omega (arith, e))
-    (λ (t : IsTrimmed new.seen new.replica.cursor). absurd (omega (arith, keeps_low a floor shelf old.replica.cursor new.seen new.replica.cursor k.later.legal t, k.forward)))
-    (h.reaches none)
+    pub ok_told : (so : Type 0) (m : ℕ) (old new : List Event) (told : Entry) (b : SeatView) → b.who ≡ me → b.node.outbox.entries ≡ [] → b.node.replica.kept ≡ []
+        → SeatOk (SendsToo me may counts old told) (UpToIf so floor m) shelf state spells new b → SeatOk (Sends b.who may counts new) floor shelf state spells new b
+    ok_told so m old new told b who none kept h = subst (λ w. SeatOk (Sends w may counts new) floor shelf state spells new b) (sym who) (seat_told so m old new told b none kept h)
 
 -- Of a call's answer
 

@@ -1,6 +1,6 @@
 -- A worker once others have had the fabric.
-use Rattle.std.proofs.Common.{◌≡◌, refl, sym, ◌∙◌, subst, inl, inr, ℕ, ◌<◌, ◌≤◌, List, ◌++◌, Some, arith}
-use Rattle.std.specs.Prelude.{slice_get, Contains}
+use Rattle.std.proofs.Common.{refl, subst, inl, inr, ℕ, List, ◌++◌, arith}
+use Rattle.std.specs.Prelude.{Contains}
 use Rattle.delos_types.specs.Spaces.{SpaceMap}
 use Rattle.delos_types.specs.declared.entry.Entry.{Entry}
 use Rattle.delos_types.specs.declared.item.Item.{Item}
@@ -19,10 +19,10 @@ use Rattle.node_lines.specs.declared.desk.Desk.{Desk}
 use Rattle.node_lines.specs.UnderWay.{HasLanded, IsUnderWay, IsGiven}
 use Rattle.turn_scopes.specs.Seats.{SeatView, SeatOk, node_of}
 use Rattle.node_lines.specs.Desks.{DeskOk}
-use Rattle.node_lines.specs.Workers.{OwnWithin, Sends, WorkerOk, appended_by, sent_of}
+use Rattle.node_lines.specs.Workers.{OwnWithin, Sends, WorkerOk, appended_by, sent_by}
 use Rattle.node_lines.proofs.Own.{legal_own}
 use Rattle.node_lines.proofs.Widening.{seat_wider}
-use Rattle.node_lines.proofs.Scoping.{sends_grow, sends_more}
+use Rattle.node_lines.proofs.Scoping.{sends_grow}
 
 module _ (may : ℕ → Entry → Type 0) (floor : List Entry → ℕ → Type 0) (shelf : List ℕ) (early more : List Event) (legal : IsLegal may floor shelf (early ++ more)) where
   front_later : (log : List Entry) → IsFront Holds early log → IsFront Holds (early ++ more) log
@@ -65,22 +65,22 @@ module _ (may : ℕ → Entry → Type 0) (floor : List Entry → ℕ → Type 0
             (follows_later may floor shelf Holds state spells (held_stays may floor shelf) early (early ++ more) s.node.replica on h.node.follows) h.node.bounded refl refl refl refl;
       }
 
--- What who sent meanwhile is within the counts by then, and none of it is of a session of this worker; what others sent may be anything.
-pub worker_stays : (may : ℕ → Entry → Type 0) (floor : List Entry → ℕ → Type 0) (shelf : List ℕ) (state : List Entry → SpaceMap → Type 0) (spells : List ℕ → Saved → Type 0) (who : ℕ) (counts counts' : List ℕ) (early more : List Event) (seat : SeatView) (desks : List Desk)
-    → WorkerOk may floor shelf state spells who counts early seat desks → IsLegal (OwnWithin who may counts') floor shelf (early ++ more)
-    → ((s : ℕ) → sent_of counts s ≤ sent_of counts' s) → ((s : ℕ) (d : Desk) → slice_get desks s ≡ Some d → 0 < d.asked → sent_of counts' s ≡ sent_of counts s)
-    → WorkerOk may floor shelf state spells who counts' (early ++ more) seat desks
-worker_stays may floor shelf state spells who counts counts' early more seat desks h legal up same = record {
-  who_is = h.who_is;
-  origin = h.origin;
-  ok = seat_later (Sends who may counts' (early ++ more)) floor shelf early more
-      (legal_own (OwnWithin who may counts') (Sends who may counts' (early ++ more)) floor shelf (early ++ more) legal (λ user e there k. (k, λ is. inl (subst (λ u. Contains (appended_by u (early ++ more)) e) is there)))) state spells seat
-      (seat_wider (Sends who may counts early) (Sends who may counts' (early ++ more)) floor floor shelf
-      (λ user e k. sends_grow who may counts' early (early ++ more) (more, refl) user e (sends_more who may counts counts' early up user e k)) (λ log n k. k) state spells early seat h.ok);
-  packs = h.packs;
-  waits = h.waits;
-  size = h.size;
-  each = λ s d at. desk_later (OwnWithin who may counts') floor shelf early more legal seat s d (h.each s d at);
-  counted = λ s d at some. h.counted s d at some ∙ sym (same s d at some);
-  home = h.home;
-}
+-- What who sent meanwhile is none that its desks didn't send before; what others sent may be anything.
+pub worker_stays : (may : ℕ → Entry → Type 0) (floor : List Entry → ℕ → Type 0) (shelf : List ℕ) (state : List Entry → SpaceMap → Type 0) (spells : List ℕ → Saved → Type 0) (who : ℕ) (early more : List Event) (seat : SeatView) (desks : List Desk)
+    → WorkerOk may floor shelf state spells who early seat desks → IsLegal (OwnWithin who may (sent_by desks)) floor shelf (early ++ more)
+    → WorkerOk may floor shelf state spells who (early ++ more) seat desks
+worker_stays may floor shelf state spells who early more seat desks h legal =
+    let counts = sent_by desks in
+    record {
+      who_is = h.who_is;
+      origin = h.origin;
+      ok = seat_later (Sends who may counts (early ++ more)) floor shelf early more
+          (legal_own (OwnWithin who may counts) (Sends who may counts (early ++ more)) floor shelf (early ++ more) legal (λ user e there k. (k, λ is. inl (subst (λ u. Contains (appended_by u (early ++ more)) e) is there)))) state spells seat
+          (seat_wider (Sends who may counts early) (Sends who may counts (early ++ more)) floor floor shelf
+          (λ user e k. sends_grow who may counts early (early ++ more) (more, refl) user e k) (λ log n k. k) state spells early seat h.ok);
+      packs = h.packs;
+      waits = h.waits;
+      size = h.size;
+      each = λ s d at. desk_later (OwnWithin who may counts) floor shelf early more legal seat s d (h.each s d at);
+      home = h.home;
+    }

@@ -1,5 +1,5 @@
 -- A desk once a phase has ended.
-use Rattle.std.proofs.Common.{◌≡◌, refl, sym, ap, ◌∙◌, subst, inl, inr, ◌⊎◌, ℕ, zero, suc, ◌+◌, ◌<◌, ◌≤◌, List, [], ◌∷◌, Option, Some, None, length, arith}
+use Rattle.std.proofs.Common.{◌≡◌, refl, sym, ap, ◌∙◌, subst, ⊎_elim, inl, inr, ◌⊎◌, ℕ, zero, suc, ◌+◌, ◌<◌, ◌≤◌, List, [], ◌∷◌, Option, Some, None, length, arith}
 use Rattle.std.specs.Prelude.{slice_get, All}
 use Rattle.std.proofs.lemmas.Bool.{cases_lt}
 use Rattle.std.proofs.lemmas.List.Elements.{All-nil}
@@ -8,21 +8,29 @@ use Rattle.delos_types.specs.declared.item.Item.{Item}
 use Rattle.delos_types.specs.declared.cause.Cause.{Cause}
 use Rattle.legal_journal.specs.declared.events.Event.{Event}
 use Rattle.legal_journal.specs.Journal.{IsLegal}
-use Rattle.virtual_log.specs.Holding.{Holds}
+use Rattle.virtual_log.specs.Holding.{Holds, IsTrimmed}
 use Rattle.virtual_log.proofs.Holding.{holds_stands}
 use Rattle.turn_scopes.proofs.Bounds.{stands_below}
 use Rattle.engine_api.specs.Acted.{asked_in}
 use Rattle.engine_api.specs.Order.{gap_from, top_rank}
 use Rattle.engine_api.proofs.Gaps.{gap-run}
+use Rattle.base_engine.specs.Following.{IsStateAt}
 use Rattle.base_engine.specs.Reading.{IsFront}
+use Rattle.base_engine.specs.Settling.{cause_in}
+use Rattle.replica_api.specs.Replica.{saved_in}
+use Rattle.delos_types.specs.Spaces.{SpaceMap}
 use Rattle.base_engine.specs.Node.{NodeView}
 use Rattle.node_lines.specs.declared.desk.Desk.{Desk}
 use Rattle.node_lines.specs.UnderWay.{HasLanded, IsGiven, ranks_in}
 use Rattle.node_lines.proofs.Catching.{appears_in, acted_sent}
 use Rattle.node_lines.specs.Moving.{HasNoneOf, IsQuiet}
-use Rattle.node_lines.specs.Desks.{DeskOk, IsBound}
-use Rattle.node_lines.specs.Lines.{Stopped}
-use Rattle.node_lines.specs.Turns.{ClosesIt, EndsTurn}
+use Rattle.node_lines.specs.Answered.{InFront}
+use Rattle.node_lines.specs.Desks.{DeskOk, DesksOk, IsBound, KeepsFrom}
+use Rattle.node_lines.specs.Lines.{EndsPhase, HasActedTo, IsFree, Stopped, failure_in}
+use Rattle.node_lines.specs.Turns.{AllAnswered, ClosesIt, EndsTurn, IsAnswered, TakesAll, TakesIt}
+use Rattle.node_lines.proofs.Fronts.{answers_at}
+use Rattle.node_lines.proofs.Desks.{desk_moves}
+use Rattle.node_lines.proofs.Moving.{none-before}
 
 module _ (may : ℕ → Entry → Type 0) (floor : List Entry → ℕ → Type 0) (shelf : List ℕ) (low : (log : List Entry) (n : ℕ) → floor log n → n ≤ length log) where
   -- what has acted in a front of the log has landed
@@ -105,3 +113,83 @@ same_at xs s x y h k = some_same x y (sym h ∙ k)
   where
     some_same : (x y : Desk) → Some x ≡ Some y → x ≡ y
     some_same x y e = cc
+
+-- where all of a session's commands are answered they have acted
+pub answered_acted : (may : ℕ → Entry → Type 0) (floor : List Entry → ℕ → Type 0) (shelf : List ℕ) (n : NodeView) (s : ℕ) (d : Desk) → IsLegal may floor shelf n.seen → DeskOk n s d → d.asked ≤ length d.answers.items → InFront n.seen n.replica.cursor (HasActedTo s d.sent)
+answered_acted may floor shelf n s d legal ok all = λ log size front.
+    let are = answers_at may floor shelf n.seen n.replica.cursor s d.answers.items legal ok.acted log size front in
+    omega (arith, are.below, ok.few, all)
+
+-- Where nothing was trimmed where the node was, or above, what was given has acted as a phase ends.
+pub kept_acted : (may : ℕ → Entry → Type 0) (floor : List Entry → ℕ → Type 0) (shelf : List ℕ) (old new : NodeView) (failed : Option Cause) → EndsPhase may floor shelf old new failed → KeepsFrom may floor shelf old.replica.cursor → failed ≡ None
+    → (s sent : ℕ) → cause_in s new.outbox.given ≡ None → IsGiven old.seen old.outbox.entries old.replica.kept s sent → InFront new.seen new.replica.cursor (HasActedTo s sent)
+kept_acted may floor shelf old new failed e keeps none s sent free given = by (e.acted none)
+  where
+    by : IsTrimmed new.seen new.replica.cursor ⊎ ((s sent : ℕ) → cause_in s new.outbox.given ≡ None → IsGiven old.seen old.outbox.entries old.replica.kept s sent → InFront new.seen new.replica.cursor (HasActedTo s sent)) → InFront new.seen new.replica.cursor (HasActedTo s sent)
+    by (inl t) = let k = e.moves.goes.keeps in absurd (omega (arith, keeps new.seen new.replica.cursor k.later.legal t, k.forward))
+    by (inr acted) = acted s sent free given
+
+-- Where a tail was found, and all answers were taken, each session that has no cause has them all.
+pub answers_whole : (may : ℕ → Entry → Type 0) (floor : List Entry → ℕ → Type 0) (shelf : List ℕ) → ((log : List Entry) (n : ℕ) → floor log n → n ≤ length log) → (state : List Entry → SpaceMap → Type 0) (n m : NodeView) (failed : Option Cause) (old new : List Desk)
+    → EndsPhase may floor shelf n m failed → failed ≡ None → KeepsFrom may floor shelf n.replica.cursor → DesksOk n old → IsStateAt Holds state m.seen (saved_in m.replica) → TakesAll m old new → DesksOk m new → IsAnswered old new × AllAnswered m new
+answers_whole may floor shelf low state n m failed old new e none keeps were at takes are = (
+  λ s d there. let w = was s d there in (w.0, w.1, w.2.rest, more s d there),
+  λ s d there free. whole s d there free,
+)
+  where
+    was : (s : ℕ) (d : Desk) → slice_get new s ≡ Some d → (x : Desk) × (slice_get old s ≡ Some x) × TakesIt m x d
+    was s d there =
+        let x = was_at old new s d takes.size there in
+        let one = takes.each s x.0 x.1 in
+        (x.0, x.1, subst (TakesIt m x.0) (same_at new s one.desk d one.is there) one.takes)
+
+    -- none is lost: those of before are among all
+    more : (s : ℕ) (d : Desk) (there : slice_get new s ≡ Some d) → length (was s d there).0.answers.items ≤ length d.answers.items
+    more s d there = ⊎_elim some (λ (zero_asked : x.asked ≤ 0). let same = t.none (omega (arith, zero_asked)) in omega (arith, ap (λ (y : Desk). length y.answers.items) same)) (cases_lt 0 x.asked)
+      where
+        x : Desk
+        x = (was s d there).0
+
+        t : TakesIt m x d
+        t = (was s d there).2
+
+        some : 0 < x.asked → length x.answers.items ≤ length d.answers.items
+        some up =
+            let old_ok = were s x (was s d there).1 in
+            let ok = desk_moves may floor shelf low n m (failure_in failed) s x e.moves old_ok in
+            let had = answers_at may floor shelf m.seen m.replica.cursor s x.answers.items e.moves.goes.keeps.later.legal ok.acted at.log at.size at.front in
+            let all = (t.all up at.log at.size at.front).all in
+            let gap : gap_from (asked_in 0 at.log) s 1 ≡ length d.answers.items + 1 = subst (λ q. gap_from (asked_in 0 at.log) q 1 ≡ length d.answers.items + 1) old_ok.session all in
+            omega (arith, had.below, gap)
+
+    whole : (s : ℕ) (d : Desk) → slice_get new s ≡ Some d → IsFree m d → d.asked ≤ length d.answers.items
+    whole s d there free = ⊎_elim some (λ (zero_asked : x.asked ≤ 0). omega (arith, zero_asked, asked)) (cases_lt 0 x.asked)
+      where
+        x : Desk
+        x = (was s d there).0
+
+        t : TakesIt m x d
+        t = (was s d there).2
+
+        asked : d.asked ≡ x.asked
+        asked = ap (λ (y : Desk). y.asked) t.rest
+
+        sent : d.sent ≡ x.sent
+        sent = ap (λ (y : Desk). y.sent) t.rest
+
+        ok : DeskOk m s d
+        ok = are s d there
+
+        old_ok : DeskOk n s x
+        old_ok = were s x (was s d there).1
+
+        some : 0 < x.asked → d.asked ≤ length d.answers.items
+        some up =
+            let cause : cause_in s m.outbox.given ≡ None = subst (λ q. cause_in q m.outbox.given ≡ None) ok.session free.1 in
+            let stopped : x.stopped ≡ None = sym (ap (λ (y : Desk). y.stopped) t.rest) ∙ free.0 in
+            let before = none-before may floor shelf low n m (failure_in failed) s e.moves.goes cause in
+            let given = old_ok.given stopped before in
+            let acted = kept_acted may floor shelf n m failed e keeps none s x.sent cause given.1 at.log at.size at.front in
+            let all = (t.all up at.log at.size at.front).all in
+            let gap : gap_from (asked_in 0 at.log) s 1 ≡ length d.answers.items + 1 = subst (λ q. gap_from (asked_in 0 at.log) q 1 ≡ length d.answers.items + 1) old_ok.session all in
+            omega (arith, acted, gap, given.0, asked)

@@ -1,5 +1,5 @@
 -- Within more counts more is allowed, and all that was so stays so.
-use Rattle.std.proofs.Common.{◌≡◌, ◌∙◌, ap, ℕ, ◌≤◌, Bool, List, [], ◌++◌, Option, append_assoc, arith}
+use Rattle.std.proofs.Common.{◌∙◌, ap, ℕ, ◌≤◌, Bool, List, [], ◌++◌, Option, append_assoc, arith}
 use Rattle.std.specs.Prelude.{All}
 use Rattle.std.proofs.lemmas.List.Elements.{All-weaker}
 use Rattle.delos_types.specs.Spaces.{SpaceMap}
@@ -25,7 +25,7 @@ use Rattle.node_lines.specs.Measuring.{Measures}
 use Rattle.node_lines.specs.Reporting.{Tells}
 use Rattle.node_lines.specs.Leaving.{PlaysKnown}
 use Rattle.node_lines.specs.Trimming.{Cuts}
-use Rattle.node_lines.specs.Turns.{EndsTurn}
+use Rattle.node_lines.specs.Turns.{AnswersAll, EndsTurn}
 use Rattle.node_lines.proofs.Relaying.{goes_by, moves_by, measures_by, tells_by, plays_by, cuts_by}
 use Rattle.node_lines.specs.Workers.{Within, OwnWithin, Grows, sent_of}
 
@@ -101,10 +101,29 @@ module _ (a b : ℕ → Entry → Type 0) (low high : List Entry → ℕ → Typ
   pub ends_wider : (old new : NodeView) (was is : List Desk) (failed : Option Cause) → EndsTurn a low shelf old new was is failed → EndsTurn b high shelf old new was is failed
   ends_wider old new was is failed h = record {
     mid = h.mid;
-    ends = record { moves = moves_wider old h.mid (failure_in failed) h.ends.moves; none = h.ends.none; kept = h.ends.kept; acted = h.ends.acted; exact = h.ends.exact };
+    ends = record {
+      moves = moves_wider old h.mid (failure_in failed) h.ends.moves;
+      none = h.ends.none;
+      unsettled = h.ends.unsettled;
+      kept = h.ends.kept;
+      acted = h.ends.acted;
+      exact = h.ends.exact;
+    };
     forgets = h.forgets;
     closes = h.closes;
     desks = h.desks;
+  }
+
+  pub answers_wider : (old new : NodeView) (was is : List Desk) (failed : Option Cause) → AnswersAll a low shelf old new was is failed → AnswersAll b high shelf old new was is failed
+  answers_wider old new was is failed h = record {
+    moves = moves_wider old new (failure_in failed) h.moves;
+    none = h.none;
+    unsettled = h.unsettled;
+    kept = h.kept;
+    desks = h.desks;
+    size = h.size;
+    takes = h.takes;
+    answered = h.answered;
   }
 
 -- A journal that grows.

@@ -1,9 +1,9 @@
 -- What comes of a line by which a node leaves.
-use Rattle.std.specs.Prelude.{◌≡◌, ℕ, ◌<◌, List, [], ◌∷◌, ◌++◌, Option, None}
+use Rattle.std.specs.Prelude.{◌≡◌, ◌⊎◌, ℕ, ◌<◌, List, [], ◌∷◌, ◌++◌, Option, None}
 use Rattle.delos_types.specs.declared.entry.Entry.{Entry}
 use Rattle.delos_types.specs.declared.cause.Cause.{Cause}
 use Rattle.legal_journal.specs.declared.events.Event.{Event}
-use Rattle.virtual_log.specs.Holding.{Holds}
+use Rattle.virtual_log.specs.Holding.{Holds, IsTrimmed}
 use Rattle.engine_api.specs.declared.content.Content.TheVariants as content
 use Rattle.engine_api.specs.Items.{placed_from, unpack}
 use Rattle.engine_api.specs.Packing.{packed, leave_item}
@@ -22,13 +22,14 @@ pub record PlaysKnown (may : ℕ → Entry → Type 0) (floor : List Entry → �
   pub kept : new.replica.kept ≡ old.replica.kept
   pub reaches : failed ≡ None → Reaches old.known old.replica new.replica new.seen
 
--- An entry that says that the node leaves, and nothing else, was appended since then, and the node has applied it.
+-- An entry that says that the node leaves, and nothing else, was appended since then. The node has applied it, or what comes next for the
+-- node is trimmed, as it may be behind a leave.
 pub record HasLeft (old new : NodeView) : Type 0 where
   pub synced : List Event
   pub since : (more : List Event) × (synced ≡ old.seen ++ more)
   pub says : unpack 0 (packed old.replica.origin (leave_item old.replica.origin ∷ [])) ≡ placed_from 0 0 (content.Leave old.replica.origin ∷ [])
   pub landed : IsAppended Holds old.who synced (packed old.replica.origin (leave_item old.replica.origin ∷ [])) new.seen
-  pub played : landed.position < new.replica.cursor
+  pub played : (landed.position < new.replica.cursor) ⊎ IsTrimmed new.seen new.replica.cursor
 
 -- The node left; or the log or the disk failed.
 abbrev pub LeavesSo : NodeView → NodeView → List Cause → Looked → Type 0

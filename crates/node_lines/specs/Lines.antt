@@ -9,7 +9,7 @@ use Rattle.table_core.specs.declared.command.Found.{Found}
 use Rattle.table_core.specs.Find.{find_in}
 use Rattle.legal_journal.specs.declared.events.Event.{Event}
 use Rattle.legal_journal.specs.Journal.{state_of, tail_of}
-use Rattle.virtual_log.specs.Holding.{Holds}
+use Rattle.virtual_log.specs.Holding.{Holds, IsTrimmed}
 use Rattle.engine_api.specs.Acted.{asked_in, table_after}
 use Rattle.engine_api.specs.Order.{gap_from}
 use Rattle.log_laws.specs.State.{acts_in}
@@ -84,14 +84,15 @@ abbrev pub failure_in : Option Cause → List Cause
 failure_in None = []
 failure_in (Some c) = c ∷ []
 
--- All was carried to its end and played. Where a tail was found, what a session was given has acted, if it has no cause; and the
--- log ends no higher than what the node has applied then, where no event of another came meanwhile and nothing was trimmed above
--- where the node was.
+-- All was carried to its end and played. Where a tail was found, what comes next for the node is trimmed, or what a session was given
+-- has acted, if it has no cause; and the log ends no higher than what the node has applied then, where no event of another came
+-- meanwhile and nothing was trimmed above where the node was.
 pub record EndsPhase (may : ℕ → Entry → Type 0) (floor : List Entry → ℕ → Type 0) (shelf : List ℕ) (old new : NodeView) (failed : Option Cause) : Type 0 where
   pub moves : Moves may floor shelf old new (failure_in failed)
   pub none : new.outbox.entries ≡ []
+  pub unsettled : new.outbox.unsettled ≡ None
   pub kept : new.replica.kept ≡ []
-  pub acted : failed ≡ None → (s sent : ℕ) → cause_in s new.outbox.given ≡ None → IsGiven old.seen old.outbox.entries old.replica.kept s sent → InFront new.seen new.replica.cursor (HasActedTo s sent)
+  pub acted : failed ≡ None → IsTrimmed new.seen new.replica.cursor ⊎ ((s sent : ℕ) → cause_in s new.outbox.given ≡ None → IsGiven old.seen old.outbox.entries old.replica.kept s sent → InFront new.seen new.replica.cursor (HasActedTo s sent))
   pub exact : failed ≡ None → EndsBy old.who old.replica.cursor old.seen new.replica.cursor new.seen
 
 -- a session that has commands which weren't answered is stopped, unless it was at the end of an earlier phase

@@ -1,15 +1,10 @@
 -- What a node reads off its state at a tail.
-use Rattle.std.specs.Prelude.{◌≡◌, ℕ, ◌≤◌, true, List, [], ◌∷◌, length, None, Contains}
+use Rattle.std.specs.Prelude.{◌≡◌, ℕ, ◌≤◌, true, List, [], ◌∷◌, length, None}
 use Rattle.delos_types.specs.declared.entry.Entry.{Entry}
 use Rattle.delos_types.specs.declared.cause.Cause.{Cause}
 use Rattle.legal_journal.specs.declared.events.Event.{Event}
 use Rattle.legal_journal.specs.Journal.{state_of, tail_of}
 use Rattle.virtual_log.specs.Holding.{Holds}
-use Rattle.journal_laws.specs.Changes.{appended}
-use Rattle.engine_api.specs.declared.content.Content.{Content}
-use Rattle.engine_api.specs.declared.content.Content.TheVariants.{Session, Alive, Leave, Trim}
-use Rattle.engine_api.specs.declared.content.Placed.{Placed}
-use Rattle.engine_api.specs.Items.{unpack}
 use Rattle.engine_api.specs.Members.{clean_at}
 use Rattle.log_laws.specs.State.{IsStateOf}
 use Rattle.base_engine.specs.Reading.{IsFront}
@@ -48,14 +43,3 @@ pub record IsCleanPoint (journal : List Event) (n : ℕ) : Type 0 where
   pub front : IsFront Holds journal log
   pub within : n ≤ length log
   pub clean : clean_at log n ≡ true
-
--- so it is of what a node reports, or asks to be trimmed
-abbrev pub IsCleanContent : List Event → Content → Type 0
-IsCleanContent journal (Session s r c) = Unit {0}
-IsCleanContent journal (Alive node n) = IsCleanPoint journal n
-IsCleanContent journal (Leave node) = Unit {0}
-IsCleanContent journal (Trim n) = IsCleanPoint journal n
-
--- .. in each entry that was appended
-abbrev pub AreClean : List Event → Type 0
-AreClean journal = (e : Entry) (p : Placed) → Contains (appended journal) e → Contains (unpack 0 e) p → IsCleanContent journal p.content

@@ -6,7 +6,6 @@ use Rattle.delos_types.specs.declared.item.Item.{Item}
 use Rattle.delos_types.specs.declared.cause.Cause.{Cause}
 use Rattle.legal_journal.specs.declared.events.Event.{Event}
 use Rattle.base_engine.specs.Node.{NodeView}
-use Rattle.journal_laws.specs.Changes.{TrimsUpTo}
 use Rattle.replica_api.specs.Replica.{Saved}
 use Rattle.turn_scopes.specs.Beside.{Since, SealsByRight}
 use Rattle.turn_scopes.specs.Seats.{SeatView, SeatOk}
@@ -14,7 +13,6 @@ use Rattle.node_lines.specs.declared.lines.Looked.{Looked}
 use Rattle.node_lines.specs.declared.lines.Looked.TheVariants as looked
 use Rattle.node_lines.specs.Reporting.{Tells}
 use Rattle.node_lines.specs.Leaving.{PlaysKnown}
-use Rattle.node_lines.specs.Workers.{Sends, KeepsBeside}
 
 -- Whatever it came to, the seat can take the access again; each event since is the node's or of one of those beside; and it began a Seal only where
 -- it has the right.
@@ -24,11 +22,9 @@ pub record IsLeft (may : ℕ → Entry → Type 0) (floor : List Entry → ℕ �
   pub since : Since a.who (beside a.who) old new
   pub seals : SealsByRight right a.who old new
 
--- The step was done, and no trim is above where the node is; if anybody is beside, it keeps the log from there.
-pub record IsDone (may : ℕ → Entry → Type 0) (floor : List Entry → ℕ → Type 0) (shelf : List ℕ) (state : List Entry → SpaceMap → Type 0) (spells : List ℕ → Saved → Type 0) (beside : ℕ → ℕ → Type 0) (counts : List ℕ) (new : List Event) (b : SeatView) : Type 0 where
-  pub ok : SeatOk (Sends b.who may counts new) floor shelf state spells new b
-  pub high : TrimsUpTo b.node.replica.cursor new
-  pub keeps : KeepsBeside beside floor b new
+-- where the log may be trimmed; if that is so, not above m
+abbrev pub UpToIf : Type 0 → (List Entry → ℕ → Type 0) → ℕ → List Entry → ℕ → Type 0
+UpToIf so floor m log n = floor log n × (so → n ≤ m)
 
 -- the item's entry failed
 pub record Untold (may : ℕ → Entry → Type 0) (floor : List Entry → ℕ → Type 0) (shelf : List ℕ) (old new : NodeView) (item : Item) (failed : Option Cause) : Type 0 where
@@ -36,12 +32,11 @@ pub record Untold (may : ℕ → Entry → Type 0) (floor : List Entry → ℕ �
   pub is : failed ≡ Some cause
   pub tells : Tells may floor shelf old new item (Some cause)
 
--- the item's entry was appended, and then the log was played as far as it is known, or it or the disk failed
+-- the item's entry was appended, and then the log was played as far as it is known, or as it isn't trimmed; or it or the disk failed
 pub record ToldAndPlayed (may : ℕ → Entry → Type 0) (floor : List Entry → ℕ → Type 0) (shelf : List ℕ) (old new : NodeView) (item : Item) (failed : Option Cause) : Type 0 where
   pub told : NodeView
   pub tells : Tells may floor shelf old told item None
   pub plays : PlaysKnown may floor shelf told new failed
-  pub reached : failed ≡ None → told.known ≤ new.replica.cursor
 
 abbrev pub TellsAndPlays : (ℕ → Entry → Type 0) → (List Entry → ℕ → Type 0) → List ℕ → NodeView → NodeView → Item → Option Cause → Type 0
 TellsAndPlays may floor shelf old new item failed = Untold may floor shelf old new item failed ⊎ ToldAndPlayed may floor shelf old new item failed

@@ -7,7 +7,7 @@ use Rattle.delos_types.specs.declared.cause.Cause.{Cause}
 use Rattle.delos_types.specs.declared.item.Item.{Item}
 use Rattle.legal_journal.specs.declared.events.Event.{Event}
 use Rattle.replica_api.specs.Replica.{Saved}
-use Rattle.base_engine.specs.Trimming.{FloorIs}
+use Rattle.turn_scopes.specs.Floors.{FloorIs}
 use Rattle.base_engine.specs.Node.{NodeView}
 use Rattle.node_lines.specs.declared.desk.Desk.{Desk}
 use Rattle.node_lines.specs.UnderWay.{HasRank}
@@ -17,7 +17,7 @@ use Rattle.node_lines.specs.Desks.{DesksOk, MayJoin}
 use Rattle.node_lines.specs.Measuring.{IsCleanPoint}
 use Rattle.node_lines.specs.declared.lines.Looked.{Looked}
 use Rattle.node_lines.specs.declared.lines.Looked.TheVariants as looked
-use Rattle.journal_laws.specs.Changes.{appended}
+use Rattle.journal_laws.specs.Changes.{TrimsUpTo, appended}
 use Rattle.journal_laws.specs.Own.{own}
 use Rattle.engine_api.specs.declared.content.Content.{Content}
 use Rattle.engine_api.specs.declared.content.Content.TheVariants.{Session, Alive, Leave, Trim}
@@ -27,6 +27,10 @@ use Rattle.engine_api.specs.Items.{content_of, unpack}
 -- how many commands of a session were sent, by this list of counts
 abbrev pub sent_of : List ℕ → ℕ → ℕ
 sent_of counts s = get_or counts s 0
+
+-- how many of them a node sent, by the desks of its sessions
+abbrev pub sent_by : List Desk → List ℕ
+sent_by desks = map (λ d. d.sent) desks
 
 -- who may append what, of which no rank is above those that were sent
 abbrev pub Within : (ℕ → Entry → Type 0) → List ℕ → ℕ → Entry → Type 0
@@ -79,17 +83,17 @@ SendsToo me may counts journal told user e = OwnWithin me may counts user e × (
 abbrev pub Grows : List Event → List Event → Type 0
 Grows old new = (more : List Event) × (new ≡ old ++ more)
 
--- A node and its sessions, by whom its events are. What waits at it is of sessions; of those that asked something here the counts
--- have what was sent, and nobody else may append their commands.
-pub record WorkerOk (may : ℕ → Entry → Type 0) (floor : List Entry → ℕ → Type 0) (shelf : List ℕ) (state : List Entry → SpaceMap → Type 0) (spells : List ℕ → Saved → Type 0) (who : ℕ) (counts : List ℕ) (journal : List Event) (seat : SeatView) (desks : List Desk) : Type 0 where
+-- A node and its sessions, by whom its events are. It appended no rank of a session above those that its desk of the session sent, and
+-- of a session without a desk none. What waits at it is of sessions, and nobody else may append the commands of those that asked
+-- something here.
+pub record WorkerOk (may : ℕ → Entry → Type 0) (floor : List Entry → ℕ → Type 0) (shelf : List ℕ) (state : List Entry → SpaceMap → Type 0) (spells : List ℕ → Saved → Type 0) (who : ℕ) (journal : List Event) (seat : SeatView) (desks : List Desk) : Type 0 where
   pub who_is : seat.who ≡ who
   pub origin : seat.node.replica.origin ≡ who
-  pub ok : SeatOk (Sends who may counts journal) floor shelf state spells journal seat
+  pub ok : SeatOk (Sends who may (sent_by desks) journal) floor shelf state spells journal seat
   pub packs : CanPack seat.node.replica.kept
   pub waits : All IsOfSession seat.node.replica.kept
   pub size : length desks ≡ 64
   pub each : DesksOk (node_of seat journal) desks
-  pub counted : (s : ℕ) (d : Desk) → slice_get desks s ≡ Some d → 0 < d.asked → d.sent ≡ sent_of counts s
   pub home : (s : ℕ) (d : Desk) → slice_get desks s ≡ Some d → 0 < d.asked → IsHome may s who
 
 -- What the rules of a run allow: items may be packed together, the log is trimmed no further than it goes, and nobody reports or
@@ -100,10 +104,24 @@ pub record MayRun (may : ℕ → Entry → Type 0) (floor : List Entry → ℕ �
   pub reports : (user node n : ℕ) (e : Entry) (p : Placed) → may user e → Contains (unpack 0 e) p → p.content ≡ Alive node n → user ≡ node
   pub leaves : (user node : ℕ) (e : Entry) (p : Placed) → may user e → Contains (unpack 0 e) p → p.content ≡ Leave node → user ≡ node
 
+-- an entry that was appended says it
+pub record IsSaid (journal : List Event) (c : Content) : Type 0 where
+  pub entry : Entry
+  pub appended_is : Contains (appended journal) entry
+  pub placed : Placed
+  pub among : Contains (unpack 0 entry) placed
+  pub is : placed.content ≡ c
+
+-- a node reported this position, or it is none
+abbrev pub IsReported : List Event → ℕ → Type 0
+IsReported journal n = (n ≡ 0) ⊎ ((node : ℕ) × IsSaid journal (Alive node n))
+
 -- What the node's report added of its own: entries of sessions, and one that reports a clean position, of which the node has the state.
+-- What says this report among the entries below that position, the node had appended before.
 pub record ReportAdds (who cursor : ℕ) (old new : List Event) (answer : Looked) : Type 0 where
   pub position : ℕ
   pub clean : IsCleanPoint new position
+  pub before : (i : ℕ) (e : Entry) (p : Placed) → i < position → slice_get clean.log i ≡ Some e → Contains (unpack 0 e) p → p.content ≡ Alive who position → Contains (appended_by who old) e
   pub low : position ≤ cursor
   pub is : (n : ℕ) → answer ≡ looked.Reported n → n ≡ position
   pub adds : OwnAdds who (λ e. IsOfSessions e ⊎ SaysAlone (Alive who position) e) old new
@@ -112,10 +130,10 @@ pub record ReportAdds (who cursor : ℕ) (old new : List Event) (answer : Looked
 abbrev pub LeaveAdds : ℕ → List Event → List Event → Type 0
 LeaveAdds who old new = OwnAdds who (λ e. IsOfSessions e ⊎ SaysAlone (Leave who) e) old new
 
--- What its trim added: entries of sessions, and one that asks for a trim to a clean position.
+-- What its trim added: entries of sessions, and one that asks for a trim to a position that a node reported.
 pub record TrimAdds (who : ℕ) (old new : List Event) : Type 0 where
   pub position : ℕ
-  pub clean : IsCleanPoint new position
+  pub reported : IsReported new position
   pub adds : OwnAdds who (λ e. IsOfSessions e ⊎ SaysAlone (Trim position) e) old new
 
 -- As long as a node is a member and reports no more, nobody trims the log behind it.
@@ -140,6 +158,11 @@ pub record KeepsLog (floor : List Entry → ℕ → Type 0) (who nodes m : ℕ) 
 abbrev pub KeepsBeside : (ℕ → ℕ → Type 0) → (List Entry → ℕ → Type 0) → SeatView → List Event → Type 0
 KeepsBeside beside floor s journal = (user : ℕ) → beside s.who user → KeepsLog floor s.who s.node.nodes s.node.replica.cursor journal
 
+-- The log is kept from where the node is: it isn't trimmed above that; and if anybody is beside the node, it keeps it from there.
+pub record IsKept (beside : ℕ → ℕ → Type 0) (floor : List Entry → ℕ → Type 0) (s : SeatView) (journal : List Event) : Type 0 where
+  pub high : TrimsUpTo s.node.replica.cursor journal
+  pub keeps : KeepsBeside beside floor s journal
+
 -- the content is no leave, and no report above m
 abbrev pub TellsLow : ℕ → Content → Type 0
 TellsLow m (Session s r c) = Unit {0}
@@ -147,29 +170,33 @@ TellsLow m (Alive node n) = n ≤ m
 TellsLow m (Leave node) = ⊥
 TellsLow m (Trim n) = Unit {0}
 
--- The session's command was asked, and sent where the counts say so. Of no other session a command is lost, and one of which
+-- .. and is so once this item is told: if anybody is beside the node, it is no leave, and no report above where the node is
+pub record StaysKept (beside : ℕ → ℕ → Type 0) (floor : List Entry → ℕ → Type 0) (s : SeatView) (journal : List Event) (item : Item) : Type 0 where
+  pub kept : IsKept beside floor s journal
+  pub low : (user : ℕ) → beside s.who user → (c : Content) → content_of item ≡ Some c → TellsLow s.node.replica.cursor c
+
+-- The session's command was asked, and sent, or not. Of no other session a command is lost, and one of which
 -- nothing was on its way is given no cause; each fault that the node came across came of its own. Where the session is stopped
--- then, it was before, or is by one of the other causes; and then the command wasn't sent.
-pub record LogsIt (may : ℕ → Entry → Type 0) (floor : List Entry → ℕ → Type 0) (shelf : List ℕ) (counts counts' : List ℕ) (old new : NodeView) (s : ℕ) (was is : Desk) : Type 0 where
+-- then, it was before, or is by one of the other causes; and then the command wasn't sent. `counts` are the commands that the node
+-- sent by then.
+pub record LogsIt (may : ℕ → Entry → Type 0) (floor : List Entry → ℕ → Type 0) (shelf : List ℕ) (counts : List ℕ) (old new : NodeView) (s : ℕ) (was is : Desk) : Type 0 where
   pub others : List Cause
-  pub goes : Goes (OwnWithin old.who may counts') floor shelf old new others
+  pub goes : Goes (OwnWithin old.who may counts) floor shelf old new others
   pub stays : (t : ℕ) → (s == t) ≡ false → StaysGiven old new t
   pub quiet : (t : ℕ) → (s == t) ≡ false → StaysQuiet old new t
   pub asked : is.asked ≡ was.asked + 1
-  pub sent : is.sent ≡ sent_of counts' s
   pub session : is.session ≡ was.session
   pub answered : is.answered ≡ was.answered
   pub stopped : (c : Cause) → was.stopped ≡ Some c → is.stopped ≡ Some c
   pub stops : (c : Cause) → is.stopped ≡ Some c → (was.stopped ≡ Some c) ⊎ Contains others c
   pub held : (c : Cause) → is.stopped ≡ Some c → is.sent ≡ was.sent
-  pub counted : (t : ℕ) → (s == t) ≡ false → sent_of counts' t ≡ sent_of counts t
-  pub more : sent_of counts s ≤ sent_of counts' s
-  pub most : sent_of counts' s ≤ sent_of counts s + 1
+  pub more : was.sent ≤ is.sent
+  pub most : is.sent ≤ was.sent + 1
 
--- so it is of a worker
-pub record Logs (may : ℕ → Entry → Type 0) (floor : List Entry → ℕ → Type 0) (shelf : List ℕ) (counts counts' : List ℕ) (old new : NodeView) (s : ℕ) (was is : List Desk) : Type 0 where
+-- so it is of a worker, at whose other desks nothing is sent
+pub record Logs (may : ℕ → Entry → Type 0) (floor : List Entry → ℕ → Type 0) (shelf : List ℕ) (old new : NodeView) (s : ℕ) (was is : List Desk) : Type 0 where
   pub before : Desk
   pub was_at : slice_get was s ≡ Some before
   pub after : Desk
   pub is_at : is ≡ slice_set was s after
-  pub logs : LogsIt may floor shelf counts counts' old new s before after
+  pub logs : LogsIt may floor shelf (sent_by is) old new s before after

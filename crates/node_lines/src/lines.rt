@@ -187,7 +187,6 @@ pub fn end_phase<T: Turns, C: Chooser, R: Replica>(
     requires floor { (log : List Entry) (n : ℕ) → T.Law.floor log n → n ≤ length log }
     requires legal { IsLegal T.Law.may T.Law.floor T.Law.shelf node.old.seen }
     requires kept { CanPack node.old.replica.kept }
-    requires keeps { KeepsFrom T.Law.may T.Law.floor T.Law.shelf node.old.replica.cursor }
     ensures ends { IfOk result (EndsPhase T.Law.may T.Law.floor T.Law.shelf node.old node.new) }
     ensures follows { OnOk result (Follows Holds R.state R.spells node.new.seen node.new.replica) }
 {

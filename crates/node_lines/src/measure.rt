@@ -32,7 +32,7 @@ pub enum Measured {
 /// What waits is packed, all that is outstanding is carried to its end, and a tail is found and played to. Answers the tail.
 ///
 /// Cost: that of a settling and of a sync.
-pub fn catch_up<T: Turns, C: Chooser, R: Replica>(
+fn catch_up<T: Turns, C: Chooser, R: Replica>(
     node: &mut Node<VirtualLog<T, C>, R>,
 ) -> Result<Measured, AllocError>
     requires floor { (log : List Entry) (n : ℕ) → T.Law.floor log n → n ≤ length log }

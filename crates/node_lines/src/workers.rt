@@ -12,26 +12,25 @@ ghost use Rattle.node_lines.specs.declared.desk.Desk.{Desk};
 ghost use Rattle.node_lines.specs.Answered.{AreAnswers};
 ghost use Rattle.node_lines.specs.UnderWay.{HasRank};
 ghost use Rattle.turn_scopes.specs.Seats.{SeatView};
-ghost use Rattle.node_lines.specs.Workers.{Within, OwnWithin, WorkerOk, sent_of};
+ghost use Rattle.node_lines.specs.Workers.{Within, OwnWithin, WorkerOk, sent_by, sent_of};
 
 use legal_journal::rules::Rules;
 use replica_api::replica::Replica;
 
-/// What holds of a worker holds still at a later moment, whatever others did, as long as its own events sent no rank above the counts
-/// by then, and none of a session that had asked something at it.
+/// What holds of a worker holds still at a later moment, whatever others did, as long as its own events sent no rank of a session above
+/// those that its desk of the session sent.
 pub fn what_a_worker_has_stays<P: Rules, S: Replica>()
-    ensures { (who : ℕ) (counts counts' : List ℕ) (early more : List Event) (seat : SeatView) (desks : List Desk)
-        → WorkerOk P.may P.floor P.shelf S.state S.spells who counts early seat desks → IsLegal (OwnWithin who P.may counts') P.floor P.shelf (early ++ more)
-        → ((s : ℕ) → sent_of counts s ≤ sent_of counts' s) → ((s : ℕ) (d : Desk) → slice_get desks s ≡ Some d → 0 < d.asked → sent_of counts' s ≡ sent_of counts s)
-        → WorkerOk P.may P.floor P.shelf S.state S.spells who counts' (early ++ more) seat desks }
+    ensures { (who : ℕ) (early more : List Event) (seat : SeatView) (desks : List Desk)
+        → WorkerOk P.may P.floor P.shelf S.state S.spells who early seat desks → IsLegal (OwnWithin who P.may (sent_by desks)) P.floor P.shelf (early ++ more)
+        → WorkerOk P.may P.floor P.shelf S.state S.spells who (early ++ more) seat desks }
 {}
 
-/// A worker's journal is legal, also where the counts bind what the worker appends.
+/// A worker's journal is legal, also where what its desks sent binds what the worker appends.
 pub fn a_worker_is_legal<P: Rules, S: Replica>()
-    ensures within { (who : ℕ) (counts : List ℕ) (journal : List Event) (seat : SeatView) (desks : List Desk)
-        → WorkerOk P.may P.floor P.shelf S.state S.spells who counts journal seat desks → IsLegal (OwnWithin who P.may counts) P.floor P.shelf journal }
-    ensures legal { (who : ℕ) (counts : List ℕ) (journal : List Event) (seat : SeatView) (desks : List Desk)
-        → WorkerOk P.may P.floor P.shelf S.state S.spells who counts journal seat desks → IsLegal P.may P.floor P.shelf journal }
+    ensures within { (who : ℕ) (journal : List Event) (seat : SeatView) (desks : List Desk)
+        → WorkerOk P.may P.floor P.shelf S.state S.spells who journal seat desks → IsLegal (OwnWithin who P.may (sent_by desks)) P.floor P.shelf journal }
+    ensures legal { (who : ℕ) (journal : List Event) (seat : SeatView) (desks : List Desk)
+        → WorkerOk P.may P.floor P.shelf S.state S.spells who journal seat desks → IsLegal P.may P.floor P.shelf journal }
 {}
 
 /// What is held below an early tail was sent by then. So a rank above those that were sent by then is held at no position

@@ -20,23 +20,8 @@ use Rattle.node_lines.specs.Lines.{IsFree, Readies}
 use Rattle.node_lines.proofs.Moving.{goes-both, stays-both}
 use Rattle.node_lines.proofs.Desks.{desk_goes}
 use Rattle.node_lines.proofs.Turning.{same_at}
-use Rattle.node_lines.specs.Workers.{OwnWithin, IsHome, Sends, IsOfSession, WorkerOk, LogsIt, sent_of}
+use Rattle.node_lines.specs.Workers.{OwnWithin, IsHome, Sends, IsOfSession, WorkerOk, LogsIt, sent_by, sent_of}
 use Rattle.node_lines.proofs.Widening.{own-more, goes_wider}
-
--- counts that differ in one session alone
-pub record OneMore (counts counts' : List ℕ) (s : ℕ) : Type 0 where
-  pub own : sent_of counts' s ≡ sent_of counts s + 1
-  pub others : (t : ℕ) → (s == t) ≡ false → sent_of counts' t ≡ sent_of counts t
-
-pub counts-rise : (counts counts' : List ℕ) (s : ℕ) → OneMore counts counts' s → (t : ℕ) → sent_of counts t ≤ sent_of counts' t
-counts-rise counts counts' s h t = by (s == t) refl
-  where
-    here : (s t : ℕ) → (s == t) ≡ true → s ≡ t
-    here s t e = grind (arith, nat_tests, e)
-
-    by : (b : Bool) → (s == t) ≡ b → sent_of counts t ≤ sent_of counts' t
-    by true e = let same = here s t e in subst (λ k. sent_of counts k ≤ sent_of counts' k) same (omega (arith, h.own))
-    by false e = omega (arith, h.others t e)
 
 module _ (may : ℕ → Entry → Type 0) (floor : List Entry → ℕ → Type 0) (shelf : List ℕ) (low : (log : List Entry) (n : ℕ) → floor log n → n ≤ length log) where
   still : (was d : Desk) (others : List Cause) → d ≡ record was { answers = d.answers; stopped = d.stopped } → ((others ≡ []) × (d.stopped ≡ was.stopped)) ⊎ ((c : Cause) × (others ≡ c ∷ []) × (was.stopped ≡ None) × (d.stopped ≡ Some c)) → (c : Cause) → was.stopped ≡ Some c → d.stopped ≡ Some c
@@ -63,31 +48,29 @@ module _ (may : ℕ → Entry → Type 0) (floor : List Entry → ℕ → Type 0
     given = λ free none. absurd (held (free, subst (λ q. cause_in q n.outbox.given ≡ None) (sym ok.session) none));
   }
 
-  pub kept_logs : (counts : List ℕ) (old new : NodeView) (s : ℕ) (was d : Desk) → Readies (OwnWithin old.who may counts) floor shelf old new was d false → was.sent ≡ sent_of counts s
-      → LogsIt may floor shelf counts counts old new s was (record d { asked = d.asked + 1 })
-  kept_logs counts old new s was d r sent = record {
+  pub kept_logs : (counts : List ℕ) (old new : NodeView) (s : ℕ) (was d : Desk) → Readies (OwnWithin old.who may counts) floor shelf old new was d false
+      → LogsIt may floor shelf counts old new s was (record d { asked = d.asked + 1 })
+  kept_logs counts old new s was d r = record {
     others = r.others;
     goes = r.moves.goes;
     stays = λ t apart. r.moves.stays t;
     quiet = λ t apart. r.moves.quiet t;
     asked = ap (λ (x : Desk). x.asked + 1) r.desk;
-    sent = ap (λ (x : Desk). x.sent) r.desk ∙ sent;
     session = ap (λ (x : Desk). x.session) r.desk;
     answered = ap (λ (x : Desk). x.answered) r.desk;
     stopped = still was d r.others r.desk r.stops;
     stops = newly was d r.others r.stops;
     held = λ c e. ap (λ (x : Desk). x.sent) r.desk;
-    counted = λ t apart. refl;
-    more = omega arith;
-    most = omega arith;
+    more = omega (arith, ap (λ (x : Desk). x.sent) r.desk);
+    most = omega (arith, ap (λ (x : Desk). x.sent) r.desk);
   }
 
   -- a command that is handed in
-  pub handed_logs : (counts counts' : List ℕ) (old mid new : NodeView) (s : ℕ) (was d is : Desk) → OneMore counts counts' s → Readies (OwnWithin old.who may counts) floor shelf old mid was d true → HandsIn (OwnWithin mid.who may counts') floor shelf mid new s d.sent
-      → was.sent ≡ sent_of counts s → is ≡ record d { asked = d.asked + 1; sent = d.sent + 1; answers = is.answers } → LogsIt may floor shelf counts counts' old new s was is
-  handed_logs counts counts' old mid new s was d is one r hands sent is_it =
+  pub handed_logs : (counts counts' : List ℕ) (old mid new : NodeView) (s : ℕ) (was d is : Desk) → ((t : ℕ) → sent_of counts t ≤ sent_of counts' t) → Readies (OwnWithin old.who may counts) floor shelf old mid was d true → HandsIn (OwnWithin mid.who may counts') floor shelf mid new s d.sent
+      → is ≡ record d { asked = d.asked + 1; sent = d.sent + 1; answers = is.answers } → LogsIt may floor shelf counts' old new s was is
+  handed_logs counts counts' old mid new s was d is up r hands is_it =
       let h = subst (λ w. HandsIn (OwnWithin w may counts') floor shelf mid new s d.sent) r.moves.goes.keeps.who hands in
-      let first = goes_wider (OwnWithin old.who may counts) (OwnWithin old.who may counts') floor floor shelf (λ user e. own-more old.who may counts counts' (counts-rise counts counts' s one) user e) (λ log n k. k) old mid r.others r.moves.goes in
+      let first = goes_wider (OwnWithin old.who may counts) (OwnWithin old.who may counts') floor floor shelf (λ user e. own-more old.who may counts counts' up user e) (λ log n k. k) old mid r.others r.moves.goes in
       let own : d.sent ≡ was.sent = ap (λ (x : Desk). x.sent) r.desk in
       let next : is.sent ≡ d.sent + 1 = ap (λ (x : Desk). x.sent) is_it in
       let free : is.stopped ≡ None = ap (λ (x : Desk). x.stopped) is_it ∙ ((r.free refl).0).0 in
@@ -97,30 +80,27 @@ module _ (may : ℕ → Entry → Type 0) (floor : List Entry → ℕ → Type 0
         stays = λ t apart. stays-both (OwnWithin old.who may counts') floor shelf low old mid new [] t h.goes (r.moves.stays t) (h.stays t apart);
         quiet = λ t apart q. h.quiet t apart (r.moves.quiet t q);
         asked = ap (λ (x : Desk). x.asked) is_it ∙ ap (λ (x : Desk). x.asked + 1) r.desk;
-        sent = omega (arith, next, own, sent, one.own);
         session = ap (λ (x : Desk). x.session) is_it ∙ ap (λ (x : Desk). x.session) r.desk;
         answered = ap (λ (x : Desk). x.answered) is_it ∙ ap (λ (x : Desk). x.answered) r.desk;
         stopped = λ c e. ap (λ (x : Desk). x.stopped) is_it ∙ still was d r.others r.desk r.stops c e;
         stops = λ c e. absurd (let t : None ≡ Some c = sym free ∙ e in cc);
         held = λ c e. absurd (let t : None ≡ Some c = sym free ∙ e in cc);
-        counted = one.others;
-        more = omega (arith, one.own);
-        most = omega (arith, one.own);
+        more = omega (arith, next, own);
+        most = omega (arith, next, own);
       }
 
   -- the worker then
-  pub worker_logs : (state : List Entry → SpaceMap → Type 0) (spells : List ℕ → Saved → Type 0) (who : ℕ) (counts counts' : List ℕ) (old new : List Event) (a b : SeatView) (desks : List Desk) (s : ℕ) (was is : Desk)
-      → WorkerOk may floor shelf state spells who counts old a desks → IsHome may s who → SeatOk (Sends b.who may counts' new) floor shelf state spells new b → All IsOfSession b.node.replica.kept → slice_get desks s ≡ Some was → DeskOk (node_of b new) s is
-      → LogsIt may floor shelf counts counts' (node_of a old) (node_of b new) s was is → WorkerOk may floor shelf state spells who counts' new b (slice_set desks s is)
-  worker_logs state spells who counts counts' old new a b desks s was is h home ok waits at fine l = record {
+  pub worker_logs : (state : List Entry → SpaceMap → Type 0) (spells : List ℕ → Saved → Type 0) (who : ℕ) (counts : List ℕ) (old new : List Event) (a b : SeatView) (desks : List Desk) (s : ℕ) (was is : Desk)
+      → WorkerOk may floor shelf state spells who old a desks → IsHome may s who → SeatOk (Sends b.who may (sent_by (slice_set desks s is)) new) floor shelf state spells new b → All IsOfSession b.node.replica.kept → slice_get desks s ≡ Some was → DeskOk (node_of b new) s is
+      → LogsIt may floor shelf counts (node_of a old) (node_of b new) s was is → WorkerOk may floor shelf state spells who new b (slice_set desks s is)
+  worker_logs state spells who counts old new a b desks s was is h home ok waits at fine l = record {
     who_is = l.goes.keeps.who ∙ h.who_is;
     origin = l.goes.keeps.origin ∙ h.origin;
-    ok = subst (λ w. SeatOk (Sends w may counts' new) floor shelf state spells new b) (l.goes.keeps.who ∙ h.who_is) ok;
+    ok = subst (λ w. SeatOk (Sends w may (sent_by (slice_set desks s is)) new) floor shelf state spells new b) (l.goes.keeps.who ∙ h.who_is) ok;
     packs = l.goes.packs h.packs;
     waits = waits;
     size = length-set desks s is ∙ h.size;
     each = λ t d g. each_is t d g (s == t) refl;
-    counted = λ t d g some. counted_is t d g some (s == t) refl;
     home = λ t d g some. home_is t d g some (s == t) refl;
   }
     where
@@ -137,11 +117,7 @@ module _ (may : ℕ → Entry → Type 0) (floor : List Entry → ℕ → Type 0
       each_is t d g true e = subst (λ k. DeskOk (node_of b new) k d) (sym (here s t e)) (subst (DeskOk (node_of b new) s) (is_here t d g e) fine)
       each_is t d g false e =
           let old_at = sym (set_other desks s t is (apart s t e)) ∙ g in
-          desk_goes (OwnWithin a.who may counts') floor shelf low (node_of a old) (node_of b new) l.others t d l.goes (l.stays t e) (h.each t d old_at)
-
-      counted_is : (t : ℕ) (d : Desk) → slice_get (slice_set desks s is) t ≡ Some d → 0 < d.asked → (q : Bool) → (s == t) ≡ q → d.sent ≡ sent_of counts' t
-      counted_is t d g some true e = ap (λ (x : Desk). x.sent) (sym (is_here t d g e)) ∙ l.sent ∙ ap (sent_of counts') (sym (here s t e))
-      counted_is t d g some false e = h.counted t d (sym (set_other desks s t is (apart s t e)) ∙ g) some ∙ sym (l.counted t e)
+          desk_goes (OwnWithin a.who may counts) floor shelf low (node_of a old) (node_of b new) l.others t d l.goes (l.stays t e) (h.each t d old_at)
 
       home_is : (t : ℕ) (d : Desk) → slice_get (slice_set desks s is) t ≡ Some d → 0 < d.asked → (q : Bool) → (s == t) ≡ q → IsHome may t who
       home_is t d g some true e = subst (λ k. IsHome may k who) (sym (here s t e)) home

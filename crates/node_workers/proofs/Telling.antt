@@ -1,5 +1,5 @@
 -- What comes of a node's own lines that tell something: what was read off its state, and the entry that says so.
-use Rattle.std.proofs.Common.{◌≡◌, refl, sym, ◌∙◌, subst, ⊎_elim, ◌⊎◌, inl, inr, ℕ, ◌≤◌, List, [], ◌∷◌, Option, Some, None, length, arith}
+use Rattle.std.proofs.Common.{◌≡◌, refl, sym, ap, ◌∙◌, subst, ⊎_elim, ◌⊎◌, inl, inr, ℕ, ◌≤◌, List, [], ◌∷◌, Option, Some, None, length, arith}
 use Rattle.std.specs.Prelude.{Contains}
 use Rattle.delos_types.specs.declared.entry.Entry.{Entry}
 use Rattle.delos_types.specs.declared.item.Item.{Item}
@@ -10,7 +10,7 @@ use Rattle.engine_api.specs.declared.content.Content.{Content}
 use Rattle.engine_api.specs.declared.content.Content.TheVariants as content
 use Rattle.engine_api.specs.declared.content.Placed.{Placed}
 use Rattle.engine_api.specs.Items.{content_of, unpack}
-use Rattle.engine_api.specs.Members.{clean_position}
+use Rattle.engine_api.specs.Members.{clean_at, clean_position}
 use Rattle.engine_api.specs.Packing.{packed, IsProposable, alive_item, leave_item}
 use Rattle.base_engine.specs.Node.{NodeView}
 use Rattle.node_lines.specs.declared.lines.Looked.{Looked}
@@ -19,15 +19,17 @@ use Rattle.node_lines.specs.declared.measure.Measured.TheVariants as measured
 use Rattle.node_lines.specs.Moving.{Moves}
 use Rattle.node_lines.specs.Lines.{failure_in}
 use Rattle.node_lines.specs.Extending.{CarriesAll, Replaces, Extends}
-use Rattle.node_lines.specs.Measuring.{IsCleanPoint, Measures}
+use Rattle.node_lines.specs.Measuring.{Measures}
 use Rattle.node_lines.specs.Reporting.{IsPlain, Tells, Reports}
 use Rattle.node_lines.specs.Leaving.{Leaves}
 use Rattle.node_lines.proofs.Moving.{moves-both}
 use Rattle.node_lines.proofs.Assembling.{reports_of, reports_told, reports_untold, leaves_of, leaves_done, leaves_untold, leaves_unplayed}
 use Rattle.node_lines.proofs.Reporting.{plain-rank, says_alone}
-use Rattle.node_lines.specs.Workers.{OwnWithin, IsOfSessions, OwnAdds, SaysAlone, ReportAdds, TellsLow}
-use Rattle.node_lines.proofs.Own.{own_adds_trans, own_adds_wider}
-use Rattle.node_lines.proofs.Cleaning.{clean_later, clean_none, position_clean, position_low, says_that}
+use Rattle.node_lines.specs.Workers.{OwnWithin, IsCommand, IsOfSessions, MayRun, OwnAdds, SaysAlone, ReportAdds, TellsLow, appended_by}
+use Rattle.journal_laws.proofs.Changes.{held_appended}
+use Rattle.node_lines.proofs.Desks.{front_later}
+use Rattle.node_lines.proofs.Own.{own_adds_trans, own_adds_wider, reported_by}
+use Rattle.node_lines.proofs.Cleaning.{clean_none, position_clean, position_low, says_command, says_that}
 use Rattle.node_workers.proofs.Joining.{within-plain}
 use Rattle.node_lines.specs.Steps.{TellsAndPlays, came_to}
 
@@ -48,6 +50,7 @@ pub report_adds_none : (who cursor : ℕ) (old new : List Event) (l : Looked) �
 report_adds_none who cursor old new l none h = record {
   position = 0;
   clean = clean_none new;
+  before = λ i e p early. absurd (omega (arith, early));
   low = omega arith;
   is = λ n e. absurd (none n e);
   adds = adds_nothing who (content.Alive who 0) old new h;
@@ -76,6 +79,13 @@ measured_low may floor shelf old new n node o h says c is =
     let both : Some (content.Alive node n) ≡ Some c = sym says ∙ is in
     let same : content.Alive node n ≡ c = cc in
     subst (TellsLow new.replica.cursor) same (omega (arith, s.is, position_low s.at.log, s.at.size))
+
+-- a request for a trim is no leave and no report
+pub trim_low : (m n : ℕ) (o : Option Content) → o ≡ Some (content.Trim n) → (c : Content) → o ≡ Some c → TellsLow m c
+trim_low m n o says c is =
+    let both : Some (content.Trim n) ≡ Some c = sym says ∙ is in
+    let same : content.Trim n ≡ c = cc in
+    subst (TellsLow m) same tt
 
 module _ (may : ℕ → Entry → Type 0) (floor : List Entry → ℕ → Type 0) (shelf : List ℕ) (low : (log : List Entry) (n : ℕ) → floor log n → n ≤ length log) where
   -- All was carried to its end, and then the last loglet was replaced.
@@ -106,23 +116,32 @@ module _ (may : ℕ → Entry → Type 0) (floor : List Entry → ℕ → Type 0
   reports old mid new number n item (Some c) h made own fine says t = reports_untold may floor shelf low clean_position old mid new n item c h t
 
   -- The leave was appended and played.
-  pub leaves : (old mid new : NodeView) (number n : ℕ) (item : Item) (failed : Option Cause) → Measures may floor shelf length old mid (measured.At n) → item ≡ leave_item number → number ≡ old.replica.origin → IsProposable item
+  pub leaves : (old mid new : NodeView) (number : ℕ) (item : Item) (failed : Option Cause) → Moves may floor shelf old mid [] → item ≡ leave_item number → number ≡ old.replica.origin → IsProposable item
       → content_of item ≡ Some (content.Leave number) → TellsAndPlays may floor shelf mid new item failed → Leaves may floor shelf old new (came_to failed looked.Left)
-  leaves old mid new number n item failed h made own fine says (inl t) =
-      subst (λ f. Leaves may floor shelf old new (came_to f looked.Left)) (sym t.is) (leaves_untold may floor shelf low length old mid new n item t.cause h t.tells)
-  leaves old mid new number n item None h made own fine says (inr t) =
-      leaves_done may floor shelf low length old mid t.told new n item h t.tells t.plays (leaves_of may floor shelf length old mid t.told new number n item h made own fine says t.tells t.plays (t.reached refl))
-  leaves old mid new number n item (Some c) h made own fine says (inr t) = leaves_unplayed may floor shelf low length old mid t.told new n item c h t.tells t.plays
+  leaves old mid new number item failed first made own fine says (inl t) = subst (λ f. Leaves may floor shelf old new (came_to f looked.Left)) (sym t.is) (leaves_untold may floor shelf low old mid new item t.cause first t.tells)
+  leaves old mid new number item None first made own fine says (inr t) =
+      leaves_done may floor shelf low old mid t.told new item first t.tells t.plays (leaves_of may floor shelf old mid t.told new number item first made own fine says t.tells t.plays)
+  leaves old mid new number item (Some c) first made own fine says (inr t) = leaves_unplayed may floor shelf low old mid t.told new item c first t.tells t.plays
 
   -- .. with what was appended by then
-  pub report_adds : (old mid new : NodeView) (who n : ℕ) (told : Entry) (failed : Option Cause) → Measures may floor shelf clean_position old mid (measured.At n) → Moves may floor shelf mid new (failure_in failed) → OwnAdds who IsOfSessions old.seen mid.seen
+  pub report_adds : (rules : ℕ → Entry → Type 0) → MayRun rules floor shelf → ((user : ℕ) (e : Entry) → may user e → rules user e) → (old mid new : NodeView) (who n : ℕ) (told : Entry) (failed : Option Cause) → Measures may floor shelf clean_position old mid (measured.At n) → Moves may floor shelf mid new (failure_in failed) → OwnAdds who IsOfSessions old.seen mid.seen
       → OwnAdds who (λ e. IsOfSessions e ⊎ (e ≡ told)) mid.seen new.seen → SaysAlone (content.Alive who n) told → ReportAdds who new.replica.cursor old.seen new.seen (came_to failed (looked.Reported n))
-  report_adds old mid new who n told failed m moves first then says =
+  report_adds rules run allows old mid new who n told failed m moves first then says =
       let s = m.measured n refl in
       let k = moves.goes.keeps in
+      let legal = m.moves.goes.keeps.later.legal in
       record {
         position = n;
-        clean = clean_later may floor shelf low mid.seen new.seen n k.later.legal (k.later.more, k.later.seen) (subst (IsCleanPoint mid.seen) (sym s.is) (position_clean mid.seen s.at.log s.at.front));
+        clean = record {
+          log = s.at.log;
+          front = front_later may floor shelf low mid.seen new.seen s.at.log k.later.legal (k.later.more, k.later.seen) s.at.front;
+          within = omega (arith, s.is, position_low s.at.log);
+          clean = ap (clean_at s.at.log) s.is ∙ position_clean s.at.log;
+        };
+        before = λ i e p early at there is. ⊎_elim
+            (λ (was : Contains (appended_by who old.seen) e). was)
+            (λ (k : IsOfSessions e). absurd (subst IsCommand is (says_command e p k there)))
+            (first e (reported_by rules floor floor shelf run may allows mid.seen legal who n e p (held_appended may floor shelf mid.seen i e legal (s.at.front i e at)) there is));
         low = omega (arith, s.is, position_low s.at.log, s.at.size, k.forward);
         is = λ j e. reported_is failed n j e;
         adds = adds_saying who old.seen mid.seen new.seen told (content.Alive who n) first then says;

@@ -13,10 +13,12 @@ use Rattle.replica_api.specs.Replica.{Saved}
 use Rattle.node_lines.specs.declared.desk.Desk.{Desk}
 use Rattle.turn_scopes.specs.Seats.{SeatView, SeatOk, node_of}
 use Rattle.node_lines.specs.Moving.{Moves, CanPack}
-use Rattle.node_lines.specs.Turns.{ClosesIt, EndsTurn}
+use Rattle.node_lines.specs.Desks.{DesksOk}
+use Rattle.node_lines.specs.Turns.{ClosesIt, EndsTurn, IsAnswered}
 use Rattle.node_lines.proofs.Desks.{desk_moves}
+use Rattle.node_lines.proofs.Sent.{answered_sent, ends_sent}
 use Rattle.node_lines.proofs.Turning.{was_at, same_at}
-use Rattle.node_lines.specs.Workers.{OwnWithin, Sends, IsOfSession, WorkerOk, MayRun}
+use Rattle.node_lines.specs.Workers.{OwnWithin, Sends, IsOfSession, WorkerOk, MayRun, sent_by}
 
 -- the desk with a session's number
 pub desk_there : (xs : List Desk) (i n s : ℕ) (d : Desk) → length xs ≡ 64 → n ≤ 63 → i ≡ n → n ≡ s → d ≡ get_or xs i d → slice_get xs s ≡ Some d
@@ -28,38 +30,54 @@ none-waits s kept = subst (All IsOfSession) (sym kept) (All-nil IsOfSession)
 
 module _ (may : ℕ → Entry → Type 0) (floor : List Entry → ℕ → Type 0) (shelf : List ℕ) (run : MayRun may floor shelf) where
   module _ (state : List Entry → SpaceMap → Type 0) (spells : List ℕ → Saved → Type 0) (who : ℕ) (counts : List ℕ) where
+    -- its seat, by what its desks sent
+    pub seat_by : (journal : List Event) (s : SeatView) (desks : List Desk) → counts ≡ sent_by desks → WorkerOk may floor shelf state spells who journal s desks → SeatOk (Sends s.who may counts journal) floor shelf state spells journal s
+    seat_by journal s desks sent h = subst (λ cs. SeatOk (Sends s.who may cs journal) floor shelf state spells journal s) (sym sent) (subst (λ w. SeatOk (Sends w may (sent_by desks) journal) floor shelf state spells journal s) (sym h.who_is) h.ok)
+
     -- a call that keeps all sessions keeps the worker
-    pub worker_moves : (old new : List Event) (s t : SeatView) (desks : List Desk) (others : List Cause) → WorkerOk may floor shelf state spells who counts old s desks → SeatOk (Sends t.who may counts new) floor shelf state spells new t
-        → All IsOfSession t.node.replica.kept → Moves (OwnWithin s.who may counts) floor shelf (node_of s old) (node_of t new) others → WorkerOk may floor shelf state spells who counts new t desks
-    worker_moves old new s t desks others h ok waits m = record {
+    pub worker_moves : (old new : List Event) (s t : SeatView) (desks : List Desk) (others : List Cause) → counts ≡ sent_by desks → WorkerOk may floor shelf state spells who old s desks → SeatOk (Sends t.who may counts new) floor shelf state spells new t
+        → All IsOfSession t.node.replica.kept → Moves (OwnWithin s.who may counts) floor shelf (node_of s old) (node_of t new) others → WorkerOk may floor shelf state spells who new t desks
+    worker_moves old new s t desks others sent h ok waits m = record {
       who_is = m.goes.keeps.who ∙ h.who_is;
       origin = m.goes.keeps.origin ∙ h.origin;
-      ok = subst (λ w. SeatOk (Sends w may counts new) floor shelf state spells new t) (m.goes.keeps.who ∙ h.who_is) ok;
+      ok = subst (λ cs. SeatOk (Sends who may cs new) floor shelf state spells new t) sent (subst (λ w. SeatOk (Sends w may counts new) floor shelf state spells new t) (m.goes.keeps.who ∙ h.who_is) ok);
       packs = m.goes.packs h.packs;
       waits = waits;
       size = h.size;
       each = λ i d at. desk_moves (OwnWithin s.who may counts) floor shelf run.low (node_of s old) (node_of t new) others i d m (h.each i d at);
-      counted = h.counted;
       home = h.home;
     }
 
+    -- so does one that takes answers too
+    pub worker_answers : (old new : List Event) (s t : SeatView) (was is : List Desk) (others : List Cause) → counts ≡ sent_by was → WorkerOk may floor shelf state spells who old s was → SeatOk (Sends t.who may counts new) floor shelf state spells new t
+        → All IsOfSession t.node.replica.kept → Moves (OwnWithin s.who may counts) floor shelf (node_of s old) (node_of t new) others → DesksOk (node_of t new) is → length is ≡ length was → IsAnswered was is → WorkerOk may floor shelf state spells who new t is
+    worker_answers old new s t was is others sent h ok waits m each size takes = record {
+      who_is = m.goes.keeps.who ∙ h.who_is;
+      origin = m.goes.keeps.origin ∙ h.origin;
+      ok = subst (λ cs. SeatOk (Sends who may cs new) floor shelf state spells new t) (sent ∙ sym (answered_sent was is size takes)) (subst (λ w. SeatOk (Sends w may counts new) floor shelf state spells new t) (m.goes.keeps.who ∙ h.who_is) ok);
+      packs = m.goes.packs h.packs;
+      waits = waits;
+      size = size ∙ h.size;
+      each = each;
+      home = λ i d at some.
+          let x = takes i d at in
+          h.home i x.0 x.1 (omega (arith, some, ap (λ (z : Desk). z.asked) x.2));
+    }
+
     -- so does the end of a phase
-    pub worker_ends : (old new : List Event) (s t : SeatView) (was is : List Desk) (failed : Option Cause) → WorkerOk may floor shelf state spells who counts old s was → SeatOk (Sends t.who may counts new) floor shelf state spells new t
-        → EndsTurn (OwnWithin s.who may counts) floor shelf (node_of s old) (node_of t new) was is failed → WorkerOk may floor shelf state spells who counts new t is
-    worker_ends old new s t was is failed h ok e =
+    pub worker_ends : (old new : List Event) (s t : SeatView) (was is : List Desk) (failed : Option Cause) → counts ≡ sent_by was → WorkerOk may floor shelf state spells who old s was → SeatOk (Sends t.who may counts new) floor shelf state spells new t
+        → EndsTurn (OwnWithin s.who may counts) floor shelf (node_of s old) (node_of t new) was is failed → WorkerOk may floor shelf state spells who new t is
+    worker_ends old new s t was is failed sent h ok e =
         let same = e.forgets in
         let who_is = ap (λ (n : NodeView). n.who) same ∙ e.ends.moves.goes.keeps.who ∙ h.who_is in
         record {
           who_is = who_is;
           origin = ap (λ (n : NodeView). n.replica.origin) same ∙ e.ends.moves.goes.keeps.origin ∙ h.origin;
-          ok = subst (λ w. SeatOk (Sends w may counts new) floor shelf state spells new t) who_is ok;
+          ok = subst (λ cs. SeatOk (Sends who may cs new) floor shelf state spells new t) (sent ∙ sym (ends_sent e.mid failed was is e.closes)) (subst (λ w. SeatOk (Sends w may counts new) floor shelf state spells new t) who_is ok);
           packs = subst (λ (n : NodeView). CanPack n.replica.kept) (sym same) (e.ends.moves.goes.packs h.packs);
           waits = none-waits t (ap (λ (n : NodeView). n.replica.kept) same ∙ e.ends.kept);
           size = e.closes.size ∙ h.size;
           each = e.desks;
-          counted = λ i d at some.
-              let y = was_asked i d at some in
-              ap (λ (z : Desk). z.sent) (y.2.asked y.3).rest ∙ h.counted i y.0 y.1 y.3;
           home = λ i d at some.
               let y = was_asked i d at some in
               h.home i y.0 y.1 y.3;

@@ -5,23 +5,22 @@ use Rattle.delos_types.specs.declared.entry.Entry.{Entry}
 use Rattle.delos_types.specs.declared.cause.Cause.{Cause}
 use Rattle.engine_api.specs.Packing.{packed, trim_item}
 use Rattle.replica_api.specs.Replica.{ReplicaView}
-use Rattle.base_engine.specs.Trimming.{FloorIs}
+use Rattle.turn_scopes.specs.Floors.{FloorIs}
 use Rattle.base_engine.specs.Node.{NodeView}
 use Rattle.node_lines.specs.declared.lines.Looked.{Looked}
 use Rattle.node_lines.specs.Extending.{Extends}
-use Rattle.node_lines.specs.Measuring.{AreClean}
 use Rattle.node_lines.specs.Moving.{Moves}
-use Rattle.node_lines.specs.Workers.{HasNotLeft}
+use Rattle.node_lines.specs.Workers.{HasNotLeft, ReportsUpTo}
 use Rattle.node_lines.specs.Steps.{came_to}
 
--- The node, which has this number, may ask for a trim to any position: it is one of those that may be members and hasn't left, and
--- what was reported or asked to be trimmed is clean.
+-- The node, which has this number, may ask for a trim to any position: it is one of those that may be members, hasn't left,
+-- and reported no position above where it is.
 pub record MayAskTrim (may : ℕ → Entry → Type 0) (floor : List Entry → ℕ → Type 0) (number : ℕ) (node : NodeView) : Type 0 where
   pub who : node.who ≡ number
   pub few : node.who ≤ node.nodes
   pub goes_by : FloorIs floor node.nodes
-  pub cleans : AreClean node.seen
   pub stays : HasNotLeft node.who node.seen
+  pub upto : ReportsUpTo node.who node.replica.cursor node.seen
   pub own : (position : ℕ) → position < 2 ^ 64 → may node.who (packed node.who (trim_item position ∷ []))
 
 -- no command of a session was lost, and nothing waits

@@ -28,8 +28,12 @@ pub trait NodeStep {
     /// Whether it reads the node's state, which then has to be that of the log.
     ghost reads: { Type 0 } = { Unit {0} };
 
-    /// When it may be done, by the rules: who may append what, where the log may be trimmed, the step, what it is on, and the node.
-    ghost can: { (ℕ → Entry → Type 0) → (List Entry → ℕ → Type 0) → Self → Self.On → NodeView → Type 0 };
+    /// Whether it rests on it that nothing is trimmed where the node is, or above.
+    ghost stays: { Type 0 } = { ⊥ };
+
+    /// When it may be done, by the rules: who may append what, where the log may be trimmed, the shelf, the step, what it is on, and the
+    /// node.
+    ghost can: { (ℕ → Entry → Type 0) → (List Entry → ℕ → Type 0) → List ℕ → Self → Self.On → NodeView → Type 0 };
 
     /// Who begins a Seal by it.
     ghost seals: { ℕ → Type 0 } = { λ who. ⊥ };
@@ -55,8 +59,8 @@ pub trait NodeStep {
         requires state { reads → (log : List Entry) (m : SpaceMap) → R.state log m → IsStateOf log m }
         requires legal { IsLegal T.Law.may T.Law.floor T.Law.shelf node.old.seen }
         requires follows { Follows Holds R.state R.spells node.old.seen node.old.replica }
-        requires stays { KeepsFrom T.Law.may T.Law.floor T.Law.shelf node.old.replica.cursor }
+        requires stays { stays → KeepsFrom T.Law.may T.Law.floor T.Law.shelf node.old.replica.cursor }
         requires right { seals node.old.who → T.Law.seals node.old.who }
-        requires can { can T.Law.may T.Law.floor self on.old node.old }
+        requires can { can T.Law.may T.Law.floor T.Law.shelf self on.old node.old }
         ensures did { IfOk result (did T.Law.may T.Law.floor T.Law.shelf self on.old on.new node.old node.new) };
 }

@@ -1,5 +1,5 @@
 //! What a node does in its turns, one step each.
-ghost use Rattle.std.specs.Prelude.{◌≡◌, ◌<◌, ◌≤◌, ◌^◌, ℕ, List, [], length, None};
+ghost use Rattle.std.specs.Prelude.{◌≡◌, ◌⊎◌, ◌<◌, ◌≤◌, ◌^◌, ℕ, List, [], length, None};
 ghost use Rattle.delos_types.specs.declared.entry.Entry.{Entry};
 ghost use Rattle.engine_api.specs.Acted.{unpack_all};
 ghost use Rattle.engine_api.specs.Members.{clean_position, least_position};
@@ -7,15 +7,15 @@ ghost use Rattle.virtual_log.specs.Holding.{Holds};
 ghost use Rattle.base_engine.specs.Reading.{IsFront};
 ghost use Rattle.base_engine.specs.Trimming.{trim_to};
 ghost use Rattle.node_lines.specs.Moving.{CanPack};
-ghost use Rattle.node_lines.specs.Desks.{DeskOk, DesksOk, IsBound, AreBound};
+ghost use Rattle.node_lines.specs.Desks.{DeskOk, DesksOk, IsBound, AreBound, KeepsFrom};
 ghost use Rattle.node_lines.specs.Lines.{Readies, Looks};
-ghost use Rattle.node_lines.specs.Turns.{EndsTurn};
+ghost use Rattle.node_lines.specs.Turns.{AllAnswered, AnswersAll, EndsTurn};
 ghost use Rattle.node_lines.specs.Extending.{CarriesAll, Replaces};
 ghost use Rattle.node_lines.specs.Leaving.{PlaysKnown};
 ghost use Rattle.node_lines.specs.Measuring.{Measures};
 ghost use Rattle.node_lines.specs.Reporting.{Tells};
 ghost use Rattle.node_lines.specs.Trimming.{Cuts};
-ghost use Rattle.node_lines.proofs.Widening.{carries_wider, replaces_wider, plays_wider, measures_wider, tells_wider, cuts_wider, readies_wider, looks_wider, ends_wider};
+ghost use Rattle.node_lines.proofs.Widening.{carries_wider, replaces_wider, plays_wider, measures_wider, tells_wider, cuts_wider, readies_wider, looks_wider, answers_wider, ends_wider};
 ghost use Rattle.node_workers.specs.Ending.{ends_keeps};
 ghost use Rattle.node_workers.specs.Telling.{MayTell};
 ghost use Rattle.node_workers.specs.Logging.{MayLog, LogsOne, logs_wider};
@@ -30,10 +30,10 @@ use node_lines::desk::Desk;
 use node_lines::extend::{extend_log, settle_log};
 use node_lines::leave::play_known;
 use node_lines::lines::{Looked, log_command, look, make_ready};
-use node_lines::measure::{Measured, catch_up, measure_clean, measure_least};
+use node_lines::measure::{Measured, measure_clean, measure_least};
 use node_lines::report::tell;
 use node_lines::trim::cut;
-use node_lines::turn::end_turn;
+use node_lines::turn::{answer_all, end_turn};
 use replica_api::replica::Replica;
 use std::alloc::{AllocError, Global};
 use table_core::command::{Command, Query};
@@ -50,7 +50,7 @@ impl NodeStep for Settle {
 
     ghost reads = { ⊥ };
 
-    ghost can = { λ may floor step on node. CanPack node.replica.kept };
+    ghost can = { λ may floor shelf step on node. CanPack node.replica.kept };
 
     ghost did = { λ may floor shelf step was is old new x. CarriesAll may floor shelf old new };
 
@@ -78,7 +78,7 @@ impl NodeStep for Extend {
 
     ghost reads = { ⊥ };
 
-    ghost can = { λ may floor step on node. Unit {0} };
+    ghost can = { λ may floor shelf step on node. Unit {0} };
 
     ghost seals = { λ who. Unit {0} };
 
@@ -97,33 +97,8 @@ impl NodeStep for Extend {
     }
 }
 
-/// All that the node was given is carried to its end, and a tail is found and played to.
-#[derive(Drop)]
-pub struct CatchUp;
-
-impl NodeStep for CatchUp {
-    type Answer = Measured;
-
-    type On = ();
-
-    ghost can = { λ may floor step on node. CanPack node.replica.kept };
-
-    ghost did = { λ may floor shelf step was is old new x. Measures may floor shelf length old new x };
-
-    ghost wider = { λ a b low high shelf up down step was is old new x h. measures_wider a b low high shelf up down length old new x h };
-
-    ghost keeps = { λ may floor shelf step was is old new x h. h.moves.goes.keeps };
-
-    fn run<T: Turns, C: Chooser, R: Replica>(
-        self,
-        _on: &mut (),
-        node: &mut Node<VirtualLog<T, C>, R>,
-    ) -> Result<Measured, AllocError> {
-        catch_up(node)
-    }
-}
-
-/// The same, but answers how many of the log's first entries are clean then.
+/// All that the node was given is carried to its end, and a tail is found and played to. Answers how many of the log's first entries are
+/// clean then.
 #[derive(Drop)]
 pub struct Clean;
 
@@ -132,7 +107,9 @@ impl NodeStep for Clean {
 
     type On = ();
 
-    ghost can = { λ may floor step on node. CanPack node.replica.kept };
+    ghost stays = { Unit {0} };
+
+    ghost can = { λ may floor shelf step on node. CanPack node.replica.kept };
 
     ghost did = { λ may floor shelf step was is old new x. Measures may floor shelf clean_position old new x };
 
@@ -158,7 +135,9 @@ impl NodeStep for Least {
 
     type On = ();
 
-    ghost can = { λ may floor step on node. CanPack node.replica.kept };
+    ghost stays = { Unit {0} };
+
+    ghost can = { λ may floor shelf step on node. CanPack node.replica.kept };
 
     ghost did = { λ may floor shelf step was is old new x. Measures may floor shelf (λ log. least_position old.nodes (unpack_all 0 log)) old new x };
 
@@ -187,7 +166,7 @@ impl NodeStep for Tell {
 
     ghost reads = { ⊥ };
 
-    ghost can = { λ may floor step on node. MayTell may step.item node };
+    ghost can = { λ may floor shelf step on node. MayTell may step.item node };
 
     ghost did = { λ may floor shelf step was is old new x. Tells may floor shelf old new step.item x };
 
@@ -205,7 +184,7 @@ impl NodeStep for Tell {
     }
 }
 
-/// The log is played as far as it is known, of which nothing is trimmed that the node lacks.
+/// The log is played as far as it is known, or as it isn't trimmed.
 #[derive(Drop)]
 pub struct Play;
 
@@ -216,13 +195,13 @@ impl NodeStep for Play {
 
     ghost reads = { ⊥ };
 
-    ghost can = { λ may floor step on node. Unit {0} };
+    ghost can = { λ may floor shelf step on node. Unit {0} };
 
-    ghost did = { λ may floor shelf step was is old new x. PlaysKnown may floor shelf old new x × (x ≡ None → old.known ≤ new.replica.cursor) };
+    ghost did = { λ may floor shelf step was is old new x. PlaysKnown may floor shelf old new x };
 
-    ghost wider = { λ a b low high shelf up down step was is old new x h. (plays_wider a b low high shelf up down old new x h.0, h.1) };
+    ghost wider = { λ a b low high shelf up down step was is old new x h. plays_wider a b low high shelf up down old new x h };
 
-    ghost keeps = { λ may floor shelf step was is old new x h. h.0.moves.goes.keeps };
+    ghost keeps = { λ may floor shelf step was is old new x h. h.moves.goes.keeps };
 
     fn run<T: Turns, C: Chooser, R: Replica>(
         self,
@@ -244,7 +223,7 @@ impl NodeStep for Cut {
 
     ghost reads = { ⊥ };
 
-    ghost can = { λ may floor step on node. (log : List Entry) → IsFront Holds node.seen log → length log ≡ node.replica.cursor → floor log (trim_to node.nodes node.replica) };
+    ghost can = { λ may floor shelf step on node. (log : List Entry) → IsFront Holds node.seen log → length log ≡ node.replica.cursor → floor log (trim_to node.nodes node.replica) };
 
     ghost did = { λ may floor shelf step was is old new x. Cuts may floor shelf old new x };
 
@@ -270,7 +249,9 @@ impl NodeStep for Ready {
 
     type On = Desk;
 
-    ghost can = { λ may floor step on node. CanPack node.replica.kept × DeskOk node on.session on × IsBound may on.session on.sent × (on.asked < 2 ^ 32) };
+    ghost stays = { Unit {0} };
+
+    ghost can = { λ may floor shelf step on node. CanPack node.replica.kept × DeskOk node on.session on × IsBound may on.session on.sent × (on.asked < 2 ^ 32) };
 
     ghost did = { λ may floor shelf step was is old new x. Readies may floor shelf old new was is x × DeskOk new was.session is × (new.replica.kept ≡ old.replica.kept) };
 
@@ -287,7 +268,35 @@ impl NodeStep for Ready {
     }
 }
 
-/// A phase ends.
+/// The answers of all sessions are taken at a tail, before their phase ends. No session is stopped.
+#[derive(Drop)]
+pub struct AnswerAll;
+
+impl NodeStep for AnswerAll {
+    type Answer = Option<Cause>;
+
+    type On = Vec<Desk>;
+
+    ghost stays = { Unit {0} };
+
+    ghost can = { λ may floor shelf step on node. CanPack node.replica.kept × DesksOk node on.items × AreBound may on.items };
+
+    ghost did = { λ may floor shelf step was is old new x. AnswersAll may floor shelf old new was.items is.items x };
+
+    ghost wider = { λ a b low high shelf up down step was is old new x h. answers_wider a b low high shelf up down old new was.items is.items x h };
+
+    ghost keeps = { λ may floor shelf step was is old new x h. h.moves.goes.keeps };
+
+    fn run<T: Turns, C: Chooser, R: Replica>(
+        self,
+        on: &mut Vec<Desk>,
+        node: &mut Node<VirtualLog<T, C>, R>,
+    ) -> Result<Option<Cause>, AllocError> {
+        answer_all(node, on.as_mut_slice())
+    }
+}
+
+/// A phase ends. Where the log may be trimmed past the node, the answers of all sessions were taken before.
 #[derive(Drop)]
 pub struct End;
 
@@ -296,7 +305,7 @@ impl NodeStep for End {
 
     type On = Vec<Desk>;
 
-    ghost can = { λ may floor step on node. CanPack node.replica.kept × DesksOk node on.items × AreBound may on.items };
+    ghost can = { λ may floor shelf step on node. CanPack node.replica.kept × DesksOk node on.items × AreBound may on.items × (KeepsFrom may floor shelf node.replica.cursor ⊎ AllAnswered node on.items) };
 
     ghost did = { λ may floor shelf step was is old new x. EndsTurn may floor shelf old new was.items is.items x };
 
@@ -324,7 +333,9 @@ impl<'a> NodeStep for Look<'a> {
 
     type On = ();
 
-    ghost can = { λ may floor step on node. CanPack node.replica.kept × DeskOk node step.desk.now.session step.desk.now × IsBound may step.desk.now.session step.desk.now.sent };
+    ghost stays = { Unit {0} };
+
+    ghost can = { λ may floor shelf step on node. CanPack node.replica.kept × DeskOk node step.desk.now.session step.desk.now × IsBound may step.desk.now.session step.desk.now.sent };
 
     ghost did = { λ may floor shelf step was is old new x. Looks may floor shelf old new step.desk.now step.query.now x × (new.replica.kept ≡ []) };
 
@@ -353,7 +364,7 @@ impl<'a> NodeStep for Log<'a> {
 
     type On = Desk;
 
-    ghost can = { λ may floor step on node. MayLog may step.command.now on node };
+    ghost can = { λ may floor shelf step on node. MayLog may step.command.now on node };
 
     ghost did = { λ may floor shelf step was is old new x. LogsOne may floor shelf step.command.now was is old new };
 

@@ -6,12 +6,12 @@ ghost use Rattle.journal_laws.specs.Changes.{TrimsUpTo};
 ghost use Rattle.log_laws.specs.State.{IsStateOf};
 ghost use Rattle.turn_scopes.specs.Beside.{Since, SealsByRight, Narrows};
 ghost use Rattle.turn_scopes.specs.Seats.{SeatOk, node_of};
-ghost use Rattle.turn_scopes.specs.Telling.{UpTo};
 ghost use Rattle.node_lines.specs.Desks.{KeepsFrom};
-ghost use Rattle.node_lines.specs.Workers.{MayRun, OwnWithin, Sends, OwnAdds, KeepsBeside, IsOfSessions};
-ghost use Rattle.node_lines.specs.Steps.{IsLeft, IsDone};
+ghost use Rattle.node_lines.specs.Workers.{MayRun, OwnWithin, Sends, OwnAdds, IsKept, IsOfSessions};
+ghost use Rattle.node_lines.specs.Steps.{IsLeft, UpToIf};
 
 use crate::back::Back;
+use crate::sent::Sent;
 use crate::step::NodeStep;
 use fate_words::chooser::Chooser;
 use replica_api::replica::Replica;
@@ -20,14 +20,12 @@ use turn_scopes::access::Access;
 use turn_scopes::seat::{Seat, rest};
 use turn_scopes::terms::Scope;
 
-/// The step is done within a scope: the node takes the access, does it, and gives the access back. The counts of commands that were
-/// sent are handed in for the rules of the scope alone.
+/// The step is done within a scope: the node takes the access, does it, and gives the access back.
 pub fn within<A: Access, Q: Scope, S: Replica, C: Chooser, X: NodeStep>(
     access: A,
     seat: Seat<S, C>,
     step: X,
     on: &mut X::On,
-    _counts: &[u64; 64],
 ) -> Back<A, Seat<S, C>, X::Answer>
     requires floor { (log : List Entry) (n : ℕ) → Q.floor log n → n ≤ length log }
     requires state { X.reads → (log : List Entry) (m : SpaceMap) → S.state log m → IsStateOf log m }
@@ -36,9 +34,9 @@ pub fn within<A: Access, Q: Scope, S: Replica, C: Chooser, X: NodeStep>(
     requires seat { SeatOk Q.sends Q.floor A.Law.shelf S.state S.spells (A.seen access) seat }
     requires whose { Q.who ≡ A.who access }
     requires since { Q.since ≡ A.seen access }
-    requires stays { KeepsFrom Q.sends Q.floor A.Law.shelf seat.node.replica.cursor }
+    requires stays { X.stays → KeepsFrom Q.sends Q.floor A.Law.shelf seat.node.replica.cursor }
     requires right { X.seals seat.who → Q.seals seat.who }
-    requires can { X.can Q.sends Q.floor step on.old (node_of seat (A.seen access)) }
+    requires can { X.can Q.sends Q.floor A.Law.shelf step on.old (node_of seat (A.seen access)) }
     ensures who { A.who result.access ≡ A.who access }
     ensures sits { result.part.who ≡ A.who result.access }
     ensures seat { SeatOk Q.sends Q.floor A.Law.shelf S.state S.spells (A.seen result.access) result.part }
@@ -56,32 +54,31 @@ pub fn within<A: Access, Q: Scope, S: Replica, C: Chooser, X: NodeStep>(
     }
 }
 
-/// The step is done in a turn, by the rules of a run: the node appends no rank of a session above those that were sent, and no entry that
-/// says more than commands of sessions; and the log isn't trimmed above where the node was, which others can't do as long as the node
-/// keeps it.
-pub fn in_turn<A: Access, S: Replica, C: Chooser, X: NodeStep>(
+/// The step is done in a turn, by the rules of a run: the node appends no rank of a session above those that it has sent, and no entry that
+/// says more than commands of sessions. If the log is kept from where the node is, it isn't trimmed above that, and is kept still; a step
+/// that rests on that asks for it.
+pub fn in_turn<A: Access, E: Sent, S: Replica, C: Chooser, X: NodeStep>(
     access: A,
     seat: Seat<S, C>,
     step: X,
     on: &mut X::On,
-    counts: &[u64; 64],
 ) -> Back<A, Seat<S, C>, X::Answer>
     requires run { MayRun A.Law.may A.Law.floor A.Law.shelf }
     requires state { X.reads → (log : List Entry) (m : SpaceMap) → S.state log m → IsStateOf log m }
     requires who { seat.who ≡ A.who access }
-    requires keeps { KeepsBeside A.beside A.Law.floor seat (A.seen access) }
-    requires seat { SeatOk (Sends seat.who A.Law.may counts.now (A.seen access)) A.Law.floor A.Law.shelf S.state S.spells (A.seen access) seat }
-    requires high { TrimsUpTo seat.node.replica.cursor (A.seen access) }
-    requires can { X.can (Sends seat.who A.Law.may counts.now (A.seen access)) (UpTo A.Law.floor seat.node.replica.cursor) step on.old (node_of seat (A.seen access)) }
+    requires seat { SeatOk (Sends seat.who A.Law.may E.counts (A.seen access)) A.Law.floor A.Law.shelf S.state S.spells (A.seen access) seat }
+    requires stays { X.stays → IsKept A.beside A.Law.floor seat (A.seen access) }
+    requires can { X.can (Sends seat.who A.Law.may E.counts (A.seen access)) (UpToIf (IsKept A.beside A.Law.floor seat (A.seen access)) A.Law.floor seat.node.replica.cursor) A.Law.shelf step on.old (node_of seat (A.seen access)) }
     ensures who { A.who result.access ≡ A.who access }
     ensures sits { result.part.who ≡ A.who result.access }
     ensures left { IsLeft A.Law.may A.Law.floor A.Law.shelf S.state S.spells A.beside (X.seals seat.who) (A.seen access) seat (A.seen result.access) result.part }
 
     // Nothing is trimmed above where the node was before.
-    ensures low { TrimsUpTo seat.node.replica.cursor (A.seen result.access) }
-    ensures done { OnOk result.answer (IsDone A.Law.may A.Law.floor A.Law.shelf S.state S.spells A.beside counts.now (A.seen result.access) result.part) }
+    ensures low { IsKept A.beside A.Law.floor seat (A.seen access) → TrimsUpTo seat.node.replica.cursor (A.seen result.access) }
+    ensures ok { OnOk result.answer (SeatOk (Sends result.part.who A.Law.may E.counts (A.seen result.access)) A.Law.floor A.Law.shelf S.state S.spells (A.seen result.access) result.part) }
+    ensures kept { IsKept A.beside A.Law.floor seat (A.seen access) → OnOk result.answer (IsKept A.beside A.Law.floor result.part (A.seen result.access)) }
     ensures adds { OnOk result.answer (OwnAdds seat.who IsOfSessions (A.seen access) (A.seen result.access)) }
-    ensures did { IfOk result.answer (X.did (OwnWithin seat.who A.Law.may counts.now) A.Law.floor A.Law.shelf step on.old on.new (node_of seat (A.seen access)) (node_of result.part (A.seen result.access))) }
+    ensures did { IfOk result.answer (X.did (OwnWithin seat.who A.Law.may E.counts) A.Law.floor A.Law.shelf step on.old on.new (node_of seat (A.seen access)) (node_of result.part (A.seen result.access))) }
 {
-    within::<A, Brand, S, C, X>(access, seat, step, on, counts)
+    within::<A, Brand, S, C, X>(access, seat, step, on)
 }

@@ -76,9 +76,9 @@ same_tail a b s =
 
 -- The nodes
 
-module _ {A : Type 0} (may : ℕ → Entry → Type 0) (floor : List Entry → ℕ → Type 0) (shelf : List ℕ) (state : List Entry → SpaceMap → Type 0) (spells : List ℕ → Saved → Type 0) (lines : List NamedLine) (seat : A → SeatView) (desks : A → List Desk) (workers : List A) (from phase : ℕ) (journal more : List Event) (counts : List ℕ) (looks : List (Option Looked)) (h : CrewRests may floor shelf state spells lines from phase journal counts looks seat desks workers) (own : AreOwn 0 more) (reads : AreReads more) (legal : IsLegal may floor shelf (journal ++ more)) where
-  within : IsLegal (Within may counts) floor shelf (journal ++ more)
-  within = reads_legal (Within may counts) may floor shelf journal more reads (subst (IsLegal (Within may counts) floor shelf) h.journal_is h.ok.legal) legal
+module _ {A : Type 0} (may : ℕ → Entry → Type 0) (floor : List Entry → ℕ → Type 0) (shelf : List ℕ) (state : List Entry → SpaceMap → Type 0) (spells : List ℕ → Saved → Type 0) (lines : List NamedLine) (seat : A → SeatView) (desks : A → List Desk) (workers : List A) (from phase : ℕ) (journal more : List Event) (looks : List (Option Looked)) (h : CrewRests may floor shelf state spells lines from phase journal looks seat desks workers) (own : AreOwn 0 more) (reads : AreReads more) (legal : IsLegal may floor shelf (journal ++ more)) where
+  within : IsLegal (Within may h.counts) floor shelf (journal ++ more)
+  within = reads_legal (Within may h.counts) may floor shelf journal more reads (subst (IsLegal (Within may h.counts) floor shelf) h.journal_is h.ok.legal) legal
 
   seen : journal ++ more ≡ h.course.journal ++ more
   seen = ap (λ l. l ++ more) (sym h.journal_is)
@@ -91,16 +91,16 @@ module _ {A : Type 0} (may : ℕ → Entry → Type 0) (floor : List Entry → �
 
   tells : TellsOn lines looks 0 0 0 h.course.journal (journal ++ more)
   tells =
-      tells_commands (Within may counts) floor shelf h.course.journal (journal ++ more) more seen within lines looks looks 0 0 0 (λ i look at. at) (omega arith) h.ok.told
+      tells_commands (Within may h.counts) floor shelf h.course.journal (journal ++ more) more seen within lines looks looks 0 0 0 (λ i look at. at) (omega arith) h.ok.told
       (subst (Adds IsOfSessions h.course.journal) (sym seen) (adds_none IsOfSessions h.course.journal more (appended_none more reads)))
 
-  ok : CourseOk may floor shelf lines (length workers) then' counts looks
-  ok = advance_still may floor shelf lines (length workers) h.course counts looks h.ok 1 [] (journal ++ more) more h.course.when counts seen within (omega arith) some (λ P store. omega arith)
+  ok : CourseOk may floor shelf lines (length workers) then' h.counts looks
+  ok = advance_still may floor shelf lines (length workers) h.course h.counts looks h.ok 1 [] (journal ++ more) more h.course.when h.counts seen within h.ok.long (omega arith) some (λ P store. omega arith)
       (reads_unsealed may floor shelf journal more (count_by has_replaced looks) legal reads (subst (λ es. faults_in es ≡ [] → IsUnsealed (state_of es) (count_by has_replaced looks)) h.journal_is h.ok.unsealed))
       tells.told
 
-  turn : TurnOf lines h.home 0 h.course then' counts counts looks looks
-  turn = turned lines h.home 0 h.course [] (journal ++ more) h.course.when counts counts looks looks (record { more = more; seen = seen; own = own }) (λ s other. refl) (λ s other. refl) (λ s. omega arith) refl (λ i l at other. refl) (λ m cursor other. tells.others m cursor other) (λ by none. refl)
+  turn : TurnOf lines h.home 0 h.course then' h.counts h.counts looks looks
+  turn = turned lines h.home 0 h.course [] (journal ++ more) h.course.when h.counts h.counts looks looks (record { more = more; seen = seen; own = own }) (λ s other. refl) (λ s other. refl) (λ s. omega arith) refl (λ i l at other. refl) (λ m cursor other. tells.others m cursor other) (λ by none. refl)
 
   -- where no fault came the log ends where it did
   sees : SomeSees (journal ++ more) seat workers
@@ -113,18 +113,18 @@ module _ {A : Type 0} (may : ℕ → Entry → Type 0) (floor : List Entry → �
       let upto = r.upto in
       record { at = r.at; one = r.one; is = r.is; upto = omega (arith, upto, tail) }
 
-  pub crew_read : CrewRests may floor shelf state spells lines from phase (journal ++ more) counts looks seat desks workers
+  pub crew_read : CrewRests may floor shelf state spells lines from phase (journal ++ more) looks seat desks workers
   crew_read = record {
     home = h.home;
     course = then';
+    counts = h.counts;
     journal_is = refl;
     phase_is = h.phase_is;
     lines_are = h.lines_are;
     begins = h.begins;
     ok = ok;
-    long = h.long;
     each = λ j w at.
         let low : phase ≤ h.course.phase + 1 = omega (arith, h.phase_is) in
-        rests_on may floor shelf state spells lines h.home (length workers) h.course then' counts counts looks looks 0 (j + 1) from phase (seat w) (desks w) h.lines_are (zero-apart j) h.begins low h.ok turn ok (h.each j w at);
+        rests_on may floor shelf state spells lines h.home (length workers) h.course then' h.counts h.counts looks looks 0 (j + 1) from phase (seat w) (desks w) h.lines_are (zero-apart j) h.begins low h.ok turn ok (h.each j w at);
     sees = sees;
   }

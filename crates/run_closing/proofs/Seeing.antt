@@ -10,7 +10,6 @@ use Rattle.delos_types.specs.declared.cause.Cause.{Cause}
 use Rattle.delos_types.specs.declared.cause.Cause.TheVariants as cause
 use Rattle.legal_journal.specs.declared.events.Event.{Event}
 use Rattle.legal_journal.specs.Journal.{IsLegal, state_of, trim_of, tail_of}
-use Rattle.legal_journal.proofs.Legal.{sound}
 use Rattle.journal_laws.specs.Changes.{appended, Adds}
 use Rattle.journal_laws.specs.Faults.{faults_in}
 use Rattle.virtual_log.specs.Holding.{IsTrimmed}
@@ -25,7 +24,7 @@ use Rattle.log_laws.specs.State.{IsStateOf}
 use Rattle.log_laws.proofs.Membership.{says_left, says_unpack}
 use Rattle.replica_api.specs.Replica.{Saved}
 use Rattle.base_engine.specs.Node.{NodeView}
-use Rattle.base_engine.specs.Trimming.{FloorIs}
+use Rattle.turn_scopes.specs.Floors.{FloorIs}
 use Rattle.script_text.specs.declared.line.Admin.TheVariants.{Retire}
 use Rattle.script_text.specs.declared.asks.NamedLine.{NamedLine}
 use Rattle.script_text.specs.declared.asks.Asks.TheVariants as asks
@@ -36,7 +35,8 @@ use Rattle.node_lines.specs.declared.desk.Desk.{Desk}
 use Rattle.node_lines.specs.declared.lines.Looked.{Looked}
 use Rattle.node_lines.specs.declared.lines.Looked.TheVariants as looked
 use Rattle.node_lines.specs.Moving.{is_store}
-use Rattle.node_lines.specs.Workers.{HasNotLeft, IsCommand, IsOfSessions, ReportsUpTo, Sends, Within}
+use Rattle.node_lines.specs.Workers.{HasNotLeft, IsCommand, IsOfSessions, ReportsUpTo, Sends, Within, sent_by}
+use Rattle.node_lines.proofs.Ending.{never_above}
 use Rattle.run_laws.specs.Ended.{pays}
 use Rattle.run_laws.proofs.Members.{among-get, contains-among}
 use Rattle.run_course.specs.Script.{failure_of_look, failed_looks}
@@ -127,7 +127,7 @@ module _ (may : ℕ → Entry → Type 0) (floor : List Entry → ℕ → Type 0
         by (looked.Failed k) look own left = none_failed k a.at a.line a.is a.node_is look
         by (looked.Extended x) look own left = own
         by (looked.Reported position) look own left = own
-        by looked.Left look own left = apart (sym (tells_left (Sends n may counts c.journal) floor shelf state spells led c.journal seat n r.worker.ok.ok left) ∙ stays)
+        by looked.Left look own left = apart (sym (tells_left (Sends n may (sent_by desks) c.journal) floor shelf state spells led c.journal seat n r.worker.ok.ok left) ∙ stays)
         by (looked.Trimmed trim) look own left = own
 
     -- so its leave isn't in the log
@@ -146,13 +146,6 @@ reports_stay n cursor old new adds h = λ e p has says position is. by e p says 
     by : (e : Entry) (p : Placed) → Contains (unpack 0 e) p → (position : ℕ) → p.content ≡ content.Alive n position → Contains (appended old) e ⊎ IsOfSessions e → position ≤ cursor
     by e p says position is (inl before) = h e p before says position is
     by e p says position is (inr own) = absurd (no_command p.content position (command_is e p own says) is)
-
--- no chain was given whose trim is above the log's
-never_above : (may : ℕ → Entry → Type 0) (floor : List Entry → ℕ → Type 0) (shelf : List ℕ) (seen : List Event) (pos : ℕ) → IsLegal may floor shelf seen → trim_of (state_of seen) ≤ pos → IsTrimmed seen pos → ⊥
-never_above may floor shelf seen pos legal low t =
-    let ok = sound may floor shelf seen legal in
-    let upto = (ok.olds t.version t.chain t.given).trim in
-    omega (arith, upto, t.below, low)
 
 pub same_or_other : (j k : ℕ) → (j ≡ k) ⊎ (j ≢ k)
 same_or_other j k = by (cases_lt j k) (cases_lt k j)
@@ -192,7 +185,7 @@ module _ {A : Type 0} (seat : A → SeatView) (workers : List A) (k : ℕ) (w w'
 
   -- a node has made its last calls
   pub finish_sees : (may : ℕ → Entry → Type 0) (floor : List Entry → ℕ → Type 0) (shelf : List ℕ) (state : List Entry → SpaceMap → Type 0) (spells : List ℕ → Saved → Type 0) (lines : List NamedLine) (desks : A → List Desk) (from phase : ℕ) (journal journal' : List Event) (counts : List ℕ) (looks : List (Option Looked)) (c : Course)
-      → CrewRests may floor shelf state spells lines from phase journal counts looks seat desks workers → from ≡ length lines → FloorIs floor (length workers) → ((log : List Entry) (m : SpaceMap) → state log m → IsStateOf log m)
+      → CrewRests may floor shelf state spells lines from phase journal looks seat desks workers → from ≡ length lines → FloorIs floor (length workers) → ((log : List Entry) (m : SpaceMap) → state log m → IsStateOf log m)
       → c.journal ≡ journal' → CourseOk may floor shelf lines (length workers) c counts looks → IsLegal may floor shelf journal' → OwnSince (seat w).who journal journal' → Adds IsOfSessions journal journal'
       → (seat w).node.replica.cursor ≤ (seat w').node.replica.cursor → (seat w).node.replica.faults ≤ (seat w').node.replica.faults → Finishes (k + 1) (node_of (seat w) journal) (node_of (seat w') journal')
       → SomeSees journal' seat (slice_set workers k w')
@@ -211,7 +204,7 @@ module _ {A : Type 0} (seat : A → SeatView) (workers : List A) (k : ℕ) (w w'
       low : has_left_in (seat w).node.replica.contents (k + 1) ≡ false → trim_of (state_of journal') ≤ cursor
       low stays =
           let rests = h.each k w at in
-          let gone = stays_in may floor shelf state spells lines h.home (length workers) h.course counts looks (k + 1) from phase (seat w) (desks w) led h.ok rests over (subst (λ l. faults_in l ≡ []) (sym h.journal_is) before.told) (before.disks k w at) stays c.journal ok.told in
+          let gone = stays_in may floor shelf state spells lines h.home (length workers) h.course h.counts looks (k + 1) from phase (seat w) (desks w) led h.ok rests over (subst (λ l. faults_in l ≡ []) (sym h.journal_is) before.told) (before.disks k w at) stays c.journal ok.told in
           let reports = subst (ReportsUpTo (k + 1) cursor) (sym is) (reports_stay (k + 1) cursor journal journal' adds (subst (ReportsUpTo (k + 1) cursor) h.journal_is rests.worker.reports)) in
           let high = trims_low may floor shelf lines (length workers) c counts looks rule ok (k + 1) (omega arith) (omega (arith, inside)) cursor gone reports in
           subst (λ l. trim_of (state_of l) ≤ cursor) is (trim_low (Within may counts) floor shelf cursor c.journal ok.legal high)

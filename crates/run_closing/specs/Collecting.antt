@@ -5,6 +5,11 @@ use Rattle.base_engine.specs.Node.{NodeView}
 use Rattle.node_lines.specs.declared.desk.Desk.{Desk}
 use Rattle.node_lines.specs.Answered.{AreAnswers, AreAllAnswers, InFront}
 use Rattle.node_lines.specs.Desks.{IsBound}
+use Rattle.node_lines.specs.UnderWay.{HasRank}
+
+-- who may append what, of which no rank of a session that asked something at these desks is above those that its desk sent
+abbrev pub WithinDesks : (ℕ → Entry → Type 0) → List Desk → ℕ → Entry → Type 0
+WithinDesks may desks who e = may who e × ((s r : ℕ) (d : Desk) → slice_get desks s ≡ Some d → 0 < d.asked → HasRank s r e → r ≤ d.sent)
 
 -- the session's first answers are those that the node's state tells, and there are few more
 pub record CanTake (may : ℕ → Entry → Type 0) (n : NodeView) (s : ℕ) (d : Desk) : Type 0 where

@@ -23,9 +23,10 @@ pub record WaitsToTake (may : ℕ → Entry → Type 0) (floor : List Entry → 
 
 -- The node at index `node` has played most of the log, just `log`, which has so many entries as `cursor` says. The answers of
 -- the first k nodes' sessions were taken there.
-pub record CrewTakes {A : Type 0} (may : ℕ → Entry → Type 0) (floor : List Entry → ℕ → Type 0) (shelf : List ℕ) (state : List Entry → SpaceMap → Type 0) (spells : List ℕ → Saved → Type 0) (lines : List NamedLine) (node cursor k : ℕ) (journal : List Event) (counts : List ℕ) (looks : List (Option Looked)) (seat : A → SeatView) (desks : A → List Desk) (workers : List A) : Type 0 where
+pub record CrewTakes {A : Type 0} (may : ℕ → Entry → Type 0) (floor : List Entry → ℕ → Type 0) (shelf : List ℕ) (state : List Entry → SpaceMap → Type 0) (spells : List ℕ → Saved → Type 0) (lines : List NamedLine) (node cursor k : ℕ) (journal : List Event) (looks : List (Option Looked)) (seat : A → SeatView) (desks : A → List Desk) (workers : List A) : Type 0 where
   pub home : ℕ → ℕ
   pub course : Course
+  pub counts : List ℕ
   pub journal_is : course.journal ≡ journal
   pub lines_are : AreLines lines home (length workers)
   pub ok : CourseOk may floor shelf lines (length workers) course counts looks

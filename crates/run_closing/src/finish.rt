@@ -3,7 +3,7 @@ ghost use Rattle.std.specs.Prelude.{◌≡◌, ◌<◌, ◌≤◌, ◌+◌, ℕ,
 ghost use Rattle.delos_types.specs.Spaces.{SpaceMap};
 ghost use Rattle.delos_types.specs.declared.entry.Entry.{Entry};
 ghost use Rattle.log_laws.specs.State.{IsStateOf};
-ghost use Rattle.base_engine.specs.Trimming.{FloorIs};
+ghost use Rattle.turn_scopes.specs.Floors.{FloorIs};
 ghost use Rattle.node_lines.specs.Workers.{MayRun, Grows};
 ghost use Rattle.node_crew.specs.Crews.{CrewStands};
 ghost use Rattle.run_closing.specs.Finishing.{HasPlayed, HasFinished, HasMost, PassesBy, SeesAll};
@@ -56,8 +56,8 @@ fn finish_node<L: Loglet, R: Register, K: Terms, S: Replica, C: Chooser>(
     requires state { (log : List Entry) (m : SpaceMap) → S.state log m → IsStateOf log m }
     requires floor { FloorIs K.floor (length crew.workers.items) }
     requires there { k < length crew.workers.items }
-    requires rests { HasPlayed K.may K.floor K.shelf S.state S.spells _lines.now crew.fabric.journal crew.counts crew.looks.items (λ w. w.seat) (λ w. w.desks.items) crew.workers.items }
-    ensures rests { OnOk result.answer (HasPlayed K.may K.floor K.shelf S.state S.spells _lines.now result.crew.fabric.journal result.crew.counts result.crew.looks.items (λ w. w.seat) (λ w. w.desks.items) result.crew.workers.items) }
+    requires rests { HasPlayed K.may K.floor K.shelf S.state S.spells _lines.now crew.fabric.journal crew.looks.items (λ w. w.seat) (λ w. w.desks.items) crew.workers.items }
+    ensures rests { OnOk result.answer (HasPlayed K.may K.floor K.shelf S.state S.spells _lines.now result.crew.fabric.journal result.crew.looks.items (λ w. w.seat) (λ w. w.desks.items) result.crew.workers.items) }
     ensures finishes { IfOk result.answer (HasFinished crew.fabric.journal result.crew.fabric.journal (λ w. w.seat) crew.workers.items result.crew.workers.items k) }
     ensures grows { Grows crew.fabric.journal result.crew.fabric.journal }
     ensures stands { CrewStands K.may K.floor K.shelf S.state S.spells result.crew.fabric.journal (λ w. w.seat) result.crew.workers.items }
@@ -69,7 +69,6 @@ fn finish_node<L: Loglet, R: Register, K: Terms, S: Replica, C: Chooser>(
     let Crew {
         fabric,
         workers,
-        counts,
         looks,
     } = crew;
     let mut workers = workers;
@@ -82,7 +81,7 @@ fn finish_node<L: Loglet, R: Register, K: Terms, S: Replica, C: Chooser>(
         part: worker,
         access,
         answer,
-    } = finish_worker(lone, worker, number, &counts);
+    } = finish_worker(lone, worker, number);
     match workers.insert(k, worker) {
         Ok(()) => {}
         Err(_) => unreachable!(),
@@ -91,7 +90,6 @@ fn finish_node<L: Loglet, R: Register, K: Terms, S: Replica, C: Chooser>(
         crew: Crew {
             fabric: access.fabric,
             workers,
-            counts,
             looks,
         },
         answer,
@@ -106,8 +104,8 @@ pub fn finish_all<L: Loglet, R: Register, K: Terms, S: Replica, C: Chooser>(
     requires run { MayRun K.may K.floor K.shelf }
     requires state { (log : List Entry) (m : SpaceMap) → S.state log m → IsStateOf log m }
     requires floor { FloorIs K.floor (length crew.workers.items) }
-    requires rests { HasPlayed K.may K.floor K.shelf S.state S.spells lines.now crew.fabric.journal crew.counts crew.looks.items (λ w. w.seat) (λ w. w.desks.items) crew.workers.items }
-    ensures rests { OnOk result.answer (HasPlayed K.may K.floor K.shelf S.state S.spells lines.now result.crew.fabric.journal result.crew.counts result.crew.looks.items (λ w. w.seat) (λ w. w.desks.items) result.crew.workers.items) }
+    requires rests { HasPlayed K.may K.floor K.shelf S.state S.spells lines.now crew.fabric.journal crew.looks.items (λ w. w.seat) (λ w. w.desks.items) crew.workers.items }
+    ensures rests { OnOk result.answer (HasPlayed K.may K.floor K.shelf S.state S.spells lines.now result.crew.fabric.journal result.crew.looks.items (λ w. w.seat) (λ w. w.desks.items) result.crew.workers.items) }
     ensures most { IfOk result.answer (λ most. HasMost (λ w. w.seat) result.crew.workers.items (length result.crew.workers.items) most.node most.cursor) }
     ensures sees { IfOk result.answer (λ most. SeesAll result.crew.fabric.journal (λ w. w.seat) result.crew.workers.items most.cursor) }
 

@@ -28,8 +28,8 @@ fn take_own<L: Loglet, R: Register, K: Terms, S: Replica, C: Chooser>(
 ) -> Finished<L, R, K, S, C, ()>
     requires run { MayRun K.may K.floor K.shelf }
     requires state { (log : List Entry) (m : SpaceMap) → S.state log m → IsStateOf log m }
-    requires takes { CrewTakes K.may K.floor K.shelf S.state S.spells _lines.now most.node most.cursor most.node crew.fabric.journal crew.counts crew.looks.items (λ w. w.seat) (λ w. w.desks.items) crew.workers.items }
-    ensures takes { OnOk result.answer (CrewTakes K.may K.floor K.shelf S.state S.spells _lines.now most.node most.cursor (most.node + 1) result.crew.fabric.journal result.crew.counts result.crew.looks.items (λ w. w.seat) (λ w. w.desks.items) result.crew.workers.items) }
+    requires takes { CrewTakes K.may K.floor K.shelf S.state S.spells _lines.now most.node most.cursor most.node crew.fabric.journal crew.looks.items (λ w. w.seat) (λ w. w.desks.items) crew.workers.items }
+    ensures takes { OnOk result.answer (CrewTakes K.may K.floor K.shelf S.state S.spells _lines.now most.node most.cursor (most.node + 1) result.crew.fabric.journal result.crew.looks.items (λ w. w.seat) (λ w. w.desks.items) result.crew.workers.items) }
     ensures journal { result.crew.fabric.journal ≡ crew.fabric.journal }
     ensures stands { CrewStands K.may K.floor K.shelf S.state S.spells result.crew.fabric.journal (λ w. w.seat) result.crew.workers.items }
     ensures size { length result.crew.workers.items ≡ length crew.workers.items }
@@ -37,7 +37,6 @@ fn take_own<L: Loglet, R: Register, K: Terms, S: Replica, C: Chooser>(
     let Crew {
         fabric,
         workers,
-        counts,
         looks,
     } = crew;
     let mut workers = workers;
@@ -51,7 +50,7 @@ fn take_own<L: Loglet, R: Register, K: Terms, S: Replica, C: Chooser>(
         part: seat,
         access,
         answer,
-    } = take_answers(lone, seat, &mut desks, &counts);
+    } = take_answers(lone, seat, &mut desks);
     match workers.insert(most.node, Worker { seat, desks }) {
         Ok(()) => {}
         Err(_) => unreachable!(),
@@ -60,7 +59,6 @@ fn take_own<L: Loglet, R: Register, K: Terms, S: Replica, C: Chooser>(
         crew: Crew {
             fabric: access.fabric,
             workers,
-            counts,
             looks,
         },
         answer,
@@ -90,8 +88,8 @@ fn take_other<L: Loglet, R: Register, K: Terms, S: Replica, C: Chooser>(
     requires state { (log : List Entry) (m : SpaceMap) → S.state log m → IsStateOf log m }
     requires there { k < length crew.workers.items }
     requires other { most.node ≢ k }
-    requires takes { CrewTakes K.may K.floor K.shelf S.state S.spells _lines.now most.node most.cursor k crew.fabric.journal crew.counts crew.looks.items (λ w. w.seat) (λ w. w.desks.items) crew.workers.items }
-    ensures takes { OnOk result.answer (CrewTakes K.may K.floor K.shelf S.state S.spells _lines.now most.node most.cursor (k + 1) result.crew.fabric.journal result.crew.counts result.crew.looks.items (λ w. w.seat) (λ w. w.desks.items) result.crew.workers.items) }
+    requires takes { CrewTakes K.may K.floor K.shelf S.state S.spells _lines.now most.node most.cursor k crew.fabric.journal crew.looks.items (λ w. w.seat) (λ w. w.desks.items) crew.workers.items }
+    ensures takes { OnOk result.answer (CrewTakes K.may K.floor K.shelf S.state S.spells _lines.now most.node most.cursor (k + 1) result.crew.fabric.journal result.crew.looks.items (λ w. w.seat) (λ w. w.desks.items) result.crew.workers.items) }
     ensures journal { result.crew.fabric.journal ≡ crew.fabric.journal }
     ensures stands { CrewStands K.may K.floor K.shelf S.state S.spells result.crew.fabric.journal (λ w. w.seat) result.crew.workers.items }
     ensures size { length result.crew.workers.items ≡ length crew.workers.items }
@@ -99,7 +97,6 @@ fn take_other<L: Loglet, R: Register, K: Terms, S: Replica, C: Chooser>(
     let Crew {
         fabric,
         workers,
-        counts,
         looks,
     } = crew;
     let mut workers = workers;
@@ -118,7 +115,7 @@ fn take_other<L: Loglet, R: Register, K: Terms, S: Replica, C: Chooser>(
         part: seat,
         access,
         answer,
-    } = take_answers(lone, seat, &mut taken, &counts);
+    } = take_answers(lone, seat, &mut taken);
     match workers.insert(
         i,
         Worker {
@@ -137,7 +134,6 @@ fn take_other<L: Loglet, R: Register, K: Terms, S: Replica, C: Chooser>(
         crew: Crew {
             fabric: access.fabric,
             workers,
-            counts,
             looks,
         },
         answer,
@@ -154,8 +150,8 @@ fn take_node<L: Loglet, R: Register, K: Terms, S: Replica, C: Chooser>(
     requires run { MayRun K.may K.floor K.shelf }
     requires state { (log : List Entry) (m : SpaceMap) → S.state log m → IsStateOf log m }
     requires there { k < length crew.workers.items }
-    requires takes { CrewTakes K.may K.floor K.shelf S.state S.spells lines.now most.node most.cursor k crew.fabric.journal crew.counts crew.looks.items (λ w. w.seat) (λ w. w.desks.items) crew.workers.items }
-    ensures takes { OnOk result.answer (CrewTakes K.may K.floor K.shelf S.state S.spells lines.now most.node most.cursor (k + 1) result.crew.fabric.journal result.crew.counts result.crew.looks.items (λ w. w.seat) (λ w. w.desks.items) result.crew.workers.items) }
+    requires takes { CrewTakes K.may K.floor K.shelf S.state S.spells lines.now most.node most.cursor k crew.fabric.journal crew.looks.items (λ w. w.seat) (λ w. w.desks.items) crew.workers.items }
+    ensures takes { OnOk result.answer (CrewTakes K.may K.floor K.shelf S.state S.spells lines.now most.node most.cursor (k + 1) result.crew.fabric.journal result.crew.looks.items (λ w. w.seat) (λ w. w.desks.items) result.crew.workers.items) }
     ensures journal { result.crew.fabric.journal ≡ crew.fabric.journal }
     ensures stands { CrewStands K.may K.floor K.shelf S.state S.spells result.crew.fabric.journal (λ w. w.seat) result.crew.workers.items }
     ensures size { length result.crew.workers.items ≡ length crew.workers.items }
@@ -174,8 +170,8 @@ pub fn take_all_nodes<L: Loglet, R: Register, K: Terms, S: Replica, C: Chooser>(
 ) -> Finished<L, R, K, S, C, ()>
     requires run { MayRun K.may K.floor K.shelf }
     requires state { (log : List Entry) (m : SpaceMap) → S.state log m → IsStateOf log m }
-    requires takes { CrewTakes K.may K.floor K.shelf S.state S.spells lines.now most.node most.cursor 0 crew.fabric.journal crew.counts crew.looks.items (λ w. w.seat) (λ w. w.desks.items) crew.workers.items }
-    ensures takes { OnOk result.answer (CrewTakes K.may K.floor K.shelf S.state S.spells lines.now most.node most.cursor (length result.crew.workers.items) result.crew.fabric.journal result.crew.counts result.crew.looks.items (λ w. w.seat) (λ w. w.desks.items) result.crew.workers.items) }
+    requires takes { CrewTakes K.may K.floor K.shelf S.state S.spells lines.now most.node most.cursor 0 crew.fabric.journal crew.looks.items (λ w. w.seat) (λ w. w.desks.items) crew.workers.items }
+    ensures takes { OnOk result.answer (CrewTakes K.may K.floor K.shelf S.state S.spells lines.now most.node most.cursor (length result.crew.workers.items) result.crew.fabric.journal result.crew.looks.items (λ w. w.seat) (λ w. w.desks.items) result.crew.workers.items) }
     ensures journal { result.crew.fabric.journal ≡ crew.fabric.journal }
     ensures stands { CrewStands K.may K.floor K.shelf S.state S.spells result.crew.fabric.journal (λ w. w.seat) result.crew.workers.items }
     ensures size { length result.crew.workers.items ≡ length crew.workers.items }

@@ -7,10 +7,10 @@ ghost use Rattle.turn_scopes.specs.Alone.{IsAlone};
 ghost use Rattle.turn_scopes.specs.Beside.{Since, SealsByRight, Narrows};
 ghost use Rattle.turn_scopes.specs.Seats.{SeatOk, node_of};
 ghost use Rattle.node_lines.specs.Moving.{Moves};
-ghost use Rattle.node_lines.specs.Workers.{WorkerOk, MayRun, Within, OwnWithin, OwnAdds, IsOfSessions};
+ghost use Rattle.node_lines.specs.Workers.{WorkerOk, MayRun, OwnWithin, OwnAdds, IsOfSessions, sent_by};
 ghost use Rattle.node_lines.specs.Steps.{IsLeft};
 ghost use Rattle.run_closing.specs.Ending.{Finishes};
-ghost use Rattle.run_closing.specs.Collecting.{CanTakeAll, TakesAll};
+ghost use Rattle.run_closing.specs.Collecting.{CanTakeAll, TakesAll, WithinDesks};
 
 use crate::answers::take_all;
 use crate::last::finish;
@@ -25,35 +25,36 @@ use turn_scopes::access::Access;
 use turn_scopes::seat::{Seat, rest};
 use turn_scopes::terms::Scope;
 
-/// The last calls of the node with that number, within a scope. Answers how many entries of the log its state has then.
+/// The last calls of a worker's node, which has that number, within a scope. Answers how many entries of the log its state has then.
 fn finish_within<A: Access, Q: Scope, S: Replica, C: Chooser>(
     access: A,
-    seat: Seat<S, C>,
+    worker: Worker<S, C>,
     number: NodeId,
-    _counts: &[u64; 64],
-) -> Back<A, Seat<S, C>, u64>
+) -> Back<A, Worker<S, C>, u64>
     requires floor { (log : List Entry) (n : ℕ) → Q.floor log n → n ≤ length log }
-    requires who { seat.who ≡ A.who access }
+    requires who { worker.seat.who ≡ A.who access }
     requires narrows { Narrows A.Law.may Q.sends A.Law.floor Q.floor A.Law.shelf (A.beside (A.who access)) }
-    requires seat { SeatOk Q.sends Q.floor A.Law.shelf S.state S.spells (A.seen access) seat }
+    requires seat { SeatOk Q.sends Q.floor A.Law.shelf S.state S.spells (A.seen access) worker.seat }
     requires whose { Q.who ≡ A.who access }
     requires since { Q.since ≡ A.seen access }
+    ensures desks { result.part.desks ≡ worker.desks }
     ensures who { A.who result.access ≡ A.who access }
-    ensures sits { result.part.who ≡ A.who result.access }
-    ensures seat { SeatOk Q.sends Q.floor A.Law.shelf S.state S.spells (A.seen result.access) result.part }
-    ensures since { Since result.part.who (A.beside result.part.who) (A.seen access) (A.seen result.access) }
-    ensures right { SealsByRight (Q.seals result.part.who) result.part.who (A.seen access) (A.seen result.access) }
-    ensures moves { OnOk result.answer (Moves Q.sends Q.floor A.Law.shelf (node_of seat (A.seen access)) (node_of result.part (A.seen result.access)) []) }
-    ensures plays { OnOk result.answer (Finishes number (node_of seat (A.seen access)) (node_of result.part (A.seen result.access))) }
-    ensures outbox { OnOk result.answer (result.part.node.outbox ≡ seat.node.outbox) }
-    ensures kept { OnOk result.answer (result.part.node.replica.kept ≡ seat.node.replica.kept) }
-    ensures cursor { IfOk result.answer (λ n. n ≡ result.part.node.replica.cursor) }
+    ensures sits { result.part.seat.who ≡ A.who result.access }
+    ensures seat { SeatOk Q.sends Q.floor A.Law.shelf S.state S.spells (A.seen result.access) result.part.seat }
+    ensures since { Since result.part.seat.who (A.beside result.part.seat.who) (A.seen access) (A.seen result.access) }
+    ensures right { SealsByRight (Q.seals result.part.seat.who) result.part.seat.who (A.seen access) (A.seen result.access) }
+    ensures moves { OnOk result.answer (Moves Q.sends Q.floor A.Law.shelf (node_of worker.seat (A.seen access)) (node_of result.part.seat (A.seen result.access)) []) }
+    ensures plays { OnOk result.answer (Finishes number (node_of worker.seat (A.seen access)) (node_of result.part.seat (A.seen result.access))) }
+    ensures outbox { OnOk result.answer (result.part.seat.node.outbox ≡ worker.seat.node.outbox) }
+    ensures kept { OnOk result.answer (result.part.seat.node.replica.kept ≡ worker.seat.node.replica.kept) }
+    ensures cursor { IfOk result.answer (λ n. n ≡ result.part.seat.node.replica.cursor) }
 {
+    let Worker { seat, desks } = worker;
     let mut node = seat.wake::<A, Q>(access);
     let answer = finish(&mut node, number);
     let (seat, access) = rest(node);
     Back {
-        part: seat,
+        part: Worker { seat, desks },
         access,
         answer,
     }
@@ -66,34 +67,23 @@ pub fn finish_worker<A: Access, S: Replica, C: Chooser>(
     access: A,
     worker: Worker<S, C>,
     number: NodeId,
-    counts: &[u64; 64],
 ) -> Back<A, Worker<S, C>, u64>
     requires run { MayRun A.Law.may A.Law.floor A.Law.shelf }
     requires state { (log : List Entry) (m : SpaceMap) → S.state log m → IsStateOf log m }
     requires who { worker.seat.who ≡ A.who access }
     requires alone { IsAlone (A.beside (A.who access)) }
-    requires worker { WorkerOk A.Law.may A.Law.floor A.Law.shelf S.state S.spells worker.seat.who counts.now (A.seen access) worker.seat worker.desks.items }
+    requires worker { WorkerOk A.Law.may A.Law.floor A.Law.shelf S.state S.spells worker.seat.who (A.seen access) worker.seat worker.desks.items }
     ensures desks { result.part.desks ≡ worker.desks }
     ensures who { A.who result.access ≡ A.who access }
     ensures left { IsLeft A.Law.may A.Law.floor A.Law.shelf S.state S.spells A.beside ⊥ (A.seen access) worker.seat (A.seen result.access) result.part.seat }
-    ensures worker { OnOk result.answer (WorkerOk A.Law.may A.Law.floor A.Law.shelf S.state S.spells worker.seat.who counts.now (A.seen result.access) result.part.seat result.part.desks.items) }
-    ensures moves { OnOk result.answer (Moves (OwnWithin worker.seat.who A.Law.may counts.now) A.Law.floor A.Law.shelf (node_of worker.seat (A.seen access)) (node_of result.part.seat (A.seen result.access)) []) }
+    ensures worker { OnOk result.answer (WorkerOk A.Law.may A.Law.floor A.Law.shelf S.state S.spells worker.seat.who (A.seen result.access) result.part.seat result.part.desks.items) }
+    ensures moves { OnOk result.answer (Moves (OwnWithin worker.seat.who A.Law.may (sent_by worker.desks.items)) A.Law.floor A.Law.shelf (node_of worker.seat (A.seen access)) (node_of result.part.seat (A.seen result.access)) []) }
     ensures plays { OnOk result.answer (Finishes number (node_of worker.seat (A.seen access)) (node_of result.part.seat (A.seen result.access))) }
     ensures outbox { OnOk result.answer (result.part.seat.node.outbox ≡ worker.seat.node.outbox) }
     ensures cursor { IfOk result.answer (λ n. n ≡ result.part.seat.node.replica.cursor) }
     ensures adds { OwnAdds worker.seat.who IsOfSessions (A.seen access) (A.seen result.access) }
 {
-    let Worker { seat, desks } = worker;
-    let Back {
-        part: seat,
-        access,
-        answer,
-    } = finish_within::<A, Brand, S, C>(access, seat, number, counts);
-    Back {
-        part: Worker { seat, desks },
-        access,
-        answer,
-    }
+    finish_within::<A, Brand, S, C>(access, worker, number)
 }
 
 /// Takes the answers of all these sessions from a node's state, within a scope.
@@ -101,7 +91,6 @@ fn take_within<A: Access, Q: Scope, S: Replica, C: Chooser>(
     access: A,
     seat: Seat<S, C>,
     desks: &mut Vec<Desk>,
-    _counts: &[u64; 64],
 ) -> Back<A, Seat<S, C>, ()>
     requires state { (log : List Entry) (m : SpaceMap) → S.state log m → IsStateOf log m }
     requires who { seat.who ≡ A.who access }
@@ -125,21 +114,20 @@ fn take_within<A: Access, Q: Scope, S: Replica, C: Chooser>(
 }
 
 /// Takes the answers of all these sessions, of whatever node they are, from a node's state. No event is made. Nobody is beside, so the
-/// scope binds all users: no rank was sent above those that were counted.
+/// scope binds all users: no rank of these sessions was sent above those that their desks sent.
 pub fn take_answers<A: Access, S: Replica, C: Chooser>(
     access: A,
     seat: Seat<S, C>,
     desks: &mut Vec<Desk>,
-    counts: &[u64; 64],
 ) -> Back<A, Seat<S, C>, ()>
     requires state { (log : List Entry) (m : SpaceMap) → S.state log m → IsStateOf log m }
     requires who { seat.who ≡ A.who access }
     requires alone { IsAlone (A.beside (A.who access)) }
-    requires seat { SeatOk (Within A.Law.may counts.now) A.Law.floor A.Law.shelf S.state S.spells (A.seen access) seat }
-    requires desks { CanTakeAll (Within A.Law.may counts.now) (node_of seat (A.seen access)) desks.old.items }
+    requires seat { SeatOk (WithinDesks A.Law.may desks.old.items) A.Law.floor A.Law.shelf S.state S.spells (A.seen access) seat }
+    requires desks { CanTakeAll (WithinDesks A.Law.may desks.old.items) (node_of seat (A.seen access)) desks.old.items }
     ensures node { node_of result.part (A.seen result.access) ≡ node_of seat (A.seen access) }
-    ensures seat { SeatOk (Within A.Law.may counts.now) A.Law.floor A.Law.shelf S.state S.spells (A.seen result.access) result.part }
+    ensures seat { SeatOk (WithinDesks A.Law.may desks.old.items) A.Law.floor A.Law.shelf S.state S.spells (A.seen result.access) result.part }
     ensures takes { OnOk result.answer (TakesAll (node_of seat (A.seen access)) desks.old.items desks.new.items) }
 {
-    take_within::<A, Brand, S, C>(access, seat, desks, counts)
+    take_within::<A, Brand, S, C>(access, seat, desks)
 }

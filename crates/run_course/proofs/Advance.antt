@@ -24,11 +24,13 @@ use Rattle.node_lines.specs.declared.lines.Looked.TheVariants as looked
 use Rattle.node_lines.specs.Moving.{is_store, Rises}
 use Rattle.node_lines.specs.Workers.{ReportsUpTo, Within, sent_of}
 use Rattle.run_laws.specs.Ended.{Fault, pays, most_faults}
+use Rattle.run_course.specs.Behind.{ReportsHold}
 use Rattle.run_course.specs.Script.{failure_of_look, failed_looks}
 use Rattle.run_course.specs.Course.{Course, BeganAt, CourseOk, TurnOf}
 use Rattle.run_course.specs.Replacing.{Replaced, has_replaced}
 use Rattle.run_course.specs.Reporting.{StandsThere}
 use Rattle.run_course.specs.Telling.{AreTold, HasToldSo, IsTrim}
+use Rattle.run_course.proofs.Behind.{hold_on}
 use Rattle.run_course.proofs.Lines.{count-cons}
 use Rattle.run_course.proofs.Stands.{stands_on, trim_rises}
 use Rattle.run_course.proofs.Told.{stand_on, trim_on}
@@ -99,11 +101,11 @@ module _ (may : ℕ → Entry → Type 0) (floor : List Entry → ℕ → Type 0
     sent = b.sent;
   }
 
-  module _ (lines : List NamedLine) (nodes : ℕ) (c : Course) (counts : List ℕ) (looks : List (Option Looked)) (ok : CourseOk may floor shelf lines nodes c counts looks) (n : ℕ) (came : List Cause) (journal more : List Event) (when : ℕ → ℕ) (counts' : List ℕ) (looks' : List (Option Looked)) (seen : journal ≡ c.journal ++ more) (legal : IsLegal (Within may counts') floor shelf journal) where
+  module _ (lines : List NamedLine) (nodes : ℕ) (c : Course) (counts : List ℕ) (looks : List (Option Looked)) (ok : CourseOk may floor shelf lines nodes c counts looks) (n : ℕ) (came : List Cause) (journal more : List Event) (when : ℕ → ℕ) (counts' : List ℕ) (looks' : List (Option Looked)) (seen : journal ≡ c.journal ++ more) (legal : IsLegal (Within may counts') floor shelf journal) (long : length counts' ≡ 64) where
     abbrev then' : Course
     then' = advanced c n came journal when
 
-    rises : (p : ℕ) → c.tails p ≤ then'.tails p
+    pub rises : (p : ℕ) → c.tails p ≤ then'.tails p
     rises p = ⊎_elim (λ (high : c.phase < p). let a = ok.after p high in let b = tails_new c n came journal when p high in let up = tail_rises c.journal journal more seen (legal_wider (Within may counts') may floor shelf (λ who e h. h.0) journal legal) in omega arith)
         (λ (low : p ≤ c.phase). let a = tails_old c n came journal when p low in omega arith) (cases_lt c.phase p)
 
@@ -122,10 +124,12 @@ module _ (may : ℕ → Entry → Type 0) (floor : List Entry → ℕ → Type 0
         → AreTold lines looks' journal
         → ((i : ℕ) (l : NamedLine) (look : Looked) → slice_get lines i ≡ Some l → slice_get looks' i ≡ Some (Some look) → HasToldSo journal l.node look)
         → ((j : ℕ) (l : NamedLine) (trim : ℕ) → slice_get lines j ≡ Some l → slice_get looks' j ≡ Some (Some (looked.Trimmed trim)) → IsTrim lines looks' nodes journal j l trim)
+        → ReportsHold may floor shelf lines looks' journal then'.tails
         → ((i : ℕ) (l : NamedLine) → slice_get lines i ≡ Some l → c.phase < l.phase → slice_get looks' i ≡ Some None)
         → CourseOk may floor shelf lines nodes then' counts' looks'
-    advance least most size paid replaced unsealed told stand trims ahead = record {
+    advance least most size paid replaced unsealed told stand trims reports ahead = record {
       legal = legal;
+      long = long;
       began = began;
       after = λ p high. tails_new c n came journal when p high;
       rise = rise;
@@ -145,20 +149,22 @@ module _ (may : ℕ → Entry → Type 0) (floor : List Entry → ℕ → Type 0
       told = told;
       stand = stand;
       trims = trims;
+      reports = reports;
       ahead = ahead;
     }
 
   -- .. where no line came to a look of its own meanwhile
   pub advance_still : (lines : List NamedLine) (nodes : ℕ) (c : Course) (counts : List ℕ) (looks : List (Option Looked)) → CourseOk may floor shelf lines nodes c counts looks → (n : ℕ) (came : List Cause) (journal more : List Event) (when : ℕ → ℕ) (counts' : List ℕ)
-      → journal ≡ c.journal ++ more → IsLegal (Within may counts') floor shelf journal → 1 ≤ n → n ≤ nodes
+      → journal ≡ c.journal ++ more → IsLegal (Within may counts') floor shelf journal → length counts' ≡ 64 → 1 ≤ n → n ≤ nodes
       → ((P : Cause → Bool) → P cause.Store ≡ false → failed_looks (λ n. P) lines looks + count_by P came ≤ failed_looks (λ n. P) lines looks + count_by P (faults_in more))
       → (faults_in journal ≡ [] → IsUnsealed (state_of journal) (count_by has_replaced looks)) → AreTold lines looks journal
       → CourseOk may floor shelf lines nodes (advanced c n came journal when) counts' looks
-  advance_still lines nodes c counts looks ok n came journal more when counts' seen legal least most paid unsealed told =
-      advance lines nodes c counts looks ok n came journal more when counts' looks seen legal least most refl paid
+  advance_still lines nodes c counts looks ok n came journal more when counts' seen legal long least most paid unsealed told =
+      advance lines nodes c counts looks ok n came journal more when counts' looks seen legal long least most refl paid
       (replaced_on lines looks (state_of c.journal).register (state_of journal).register (length shelf) (later (Within may counts') floor shelf c.journal journal more seen legal) ok.replaced)
       unsealed told (λ i l look at come. stand_on c.journal journal stands l.node look (ok.stand i l look at come))
       (λ j l trim at come. trim_on lines looks looks nodes c.journal journal stands (trim_rises (Within may counts') floor shelf c.journal journal more seen legal) j l trim (λ i m look at come first. come) (ok.trims j l trim at come))
+      (hold_on may floor shelf lines c.journal journal more seen c.tails (advanced c n came journal when).tails (rises lines nodes c counts looks ok n came journal more when counts' looks seen legal long) looks ok.reports)
       ok.ahead
     where
       stands : (x : Content) → StandsThere c.journal x → StandsThere journal x

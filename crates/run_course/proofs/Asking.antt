@@ -1,5 +1,5 @@
 -- What the desks have asked and sent, by the lines.
-use Rattle.std.proofs.Common.{◌≡◌, subst, refl, sym, ap, ◌∙◌, ℕ, zero, suc, ◌+◌, ◌<◌, ◌≤◌, cond, Bool, true, false, List, [], ◌∷◌, Option, Some, length, arith}
+use Rattle.std.proofs.Common.{◌≡◌, refl, sym, ap, ◌∙◌, ℕ, zero, suc, ◌+◌, ◌<◌, ◌≤◌, cond, Bool, true, false, List, [], ◌∷◌, Option, Some, length, arith}
 use Rattle.std.specs.Prelude.{◌==◌, ◌&&◌, nat_lt, count_by, take, slice_get}
 use Rattle.std.proofs.lemmas.Bool.{and_parts, and_from, lt-ltb}
 use Rattle.std.proofs.lemmas.Option.{slice_get_within}
@@ -33,24 +33,21 @@ few_asked lines n s i l at few =
 
 module _ (may : ℕ → Entry → Type 0) (floor : List Entry → ℕ → Type 0) (shelf : List ℕ) (state : List Entry → SpaceMap → Type 0) (spells : List ℕ → Saved → Type 0) (lines : List NamedLine) (home : ℕ → ℕ) (nodes : ℕ) (c : Course) (counts : List ℕ) (looks : List (Option Looked)) where
   pub line_next : (n from i : ℕ) (line : NamedLine) (journal : List Event) (seat : SeatView) (desks : List Desk) → slice_get lines i ≡ Some line → line.node ≡ n
-      → IsUnderWay may floor shelf state spells lines home nodes c counts looks n from i journal seat desks → IsNext counts desks line.asks
+      → IsUnderWay may floor shelf state spells lines home nodes c counts looks n from i journal seat desks → IsNext desks line.asks
   line_next n from i line journal seat desks at own w = by line.asks refl
     where
       at_home : IsAtHome home line.node line.asks
       at_home = at_get (λ (l : NamedLine). IsAtHome home l.node l.asks) lines i line w.lines_are.at_home at
 
-      by : (a : Asks) → line.asks ≡ a → IsNext counts desks a
+      by : (a : Asks) → line.asks ≡ a → IsNext desks a
       by (asks.Logged s r command) is = λ d there.
           let h = w.worker.each s.id d there in
-          let home_is : home s.id ≡ n = sym (subst (IsAtHome home line.node) is at_home) ∙ own in
           let few = few_asked lines n s.id i line at w.lines_are.few in
           record {
-            sent = h.sent home_is;
             few = omega (arith, h.asked, few);
             rank = rank_is lines home nodes w.lines_are n i line s r command at own is ∙ ap (λ k. k + 1) (sym h.asked);
           }
-      by (asks.Look s query) is = λ d there.
-          (w.worker.each s.id d there).sent (sym (subst (IsAtHome home line.node) is at_home) ∙ own)
+      by (asks.Look s query) is = tt
       by (asks.Admin a) is = tt
 
   -- the first lines are of earlier phases

@@ -30,6 +30,7 @@ pub course_begins : (may : ℕ → Entry → Type 0) (floor : List Entry → ℕ
     → ((s : ℕ) → sent_of counts s ≤ asked_before lines s (c.phase + 1)) → CourseOk may floor shelf lines nodes c counts looks → CourseOk may floor shelf lines nodes (next_phase c) counts looks
 course_begins may floor shelf lines nodes c counts looks sent ok = record {
   legal = ok.legal;
+  long = ok.long;
   began = λ p low. by p low (cases_lt c.phase p);
   after = λ p high. ok.after p (omega (arith, high));
   rise = ok.rise;
@@ -41,6 +42,7 @@ course_begins may floor shelf lines nodes c counts looks sent ok = record {
   told = ok.told;
   stand = ok.stand;
   trims = ok.trims;
+  reports = ok.reports;
   ahead = λ i l at high. ok.ahead i l at (omega (arith, high));
 }
   where
@@ -77,10 +79,11 @@ module _ (c : Course) where
     from = h.from;
     upto = h.upto;
     free = h.free;
+    answered = h.answered;
   }
   looked_then lines cursor n d i phase s query (looked.Kept cause) (inl h) = inl (record { answered = h.answered; cause_is = h.cause_is; earlier = h.earlier })
   looked_then lines cursor n d i phase s query (looked.Kept cause) (inr h) = inr h
-  looked_then lines cursor n d i phase s query (looked.Failed cause) h = tt
+  looked_then lines cursor n d i phase s query (looked.Failed cause) h = h
   looked_then lines cursor n d i phase s query (looked.Extended x) h = h
   looked_then lines cursor n d i phase s query (looked.Reported position) h = h
   looked_then lines cursor n d i phase s query looked.Left h = h

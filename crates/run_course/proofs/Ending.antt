@@ -33,8 +33,9 @@ use Rattle.node_lines.specs.declared.lines.Looked.{Looked}
 use Rattle.node_lines.specs.Moving.{causes_of}
 use Rattle.node_lines.specs.Lines.{Stopped, failure_in}
 use Rattle.node_lines.specs.Turns.{ClosesIt, EndsTurn}
+use Rattle.node_lines.proofs.Sent.{ends_sent}
 use Rattle.node_lines.proofs.Turning.{ends_quiet, same_at, was_at}
-use Rattle.node_lines.specs.Workers.{IsOfSessions, MayRun, OwnAdds, OwnWithin, Within, WorkerOk}
+use Rattle.node_lines.specs.Workers.{IsOfSessions, MayRun, OwnAdds, OwnWithin, Within, WorkerOk, sent_by, sent_of}
 use Rattle.node_lines.proofs.Own.{all_adds}
 use Rattle.node_lines.proofs.Bounding.{acted_stays}
 use Rattle.run_laws.specs.Ended.{CameTo, rank_in, session_in}
@@ -44,13 +45,13 @@ use Rattle.run_course.specs.Course.{Course, CourseOk, TurnOf}
 use Rattle.run_course.specs.Replacing.{has_replaced}
 use Rattle.run_course.specs.Desks.{DeskAt, HasActed, IsUpTo, LoggedSo, PlayedSo, WasEnded}
 use Rattle.run_course.specs.Workers.{TurnEnded, WorkerAt}
-use Rattle.run_course.proofs.Legal.{worker_legal}
+use Rattle.run_course.proofs.Legal.{sent_here, worker_legal}
 use Rattle.run_course.proofs.Told.{TellsOn, tells_commands}
 use Rattle.run_course.proofs.Lines.{of_session}
 use Rattle.run_course.proofs.Ranks.{home_is, logs_rank, node_is_home, rank_counts, rank_later, rank_low}
 use Rattle.run_course.proofs.Advance.{advance_still, advanced, stores_counted, tails_new, turned}
 use Rattle.run_course.proofs.Unsealing.{still_unsealed}
-use Rattle.run_course.proofs.Growing.{DeskGrew, DeskOfOld, Grown, came_grows, ended_grows, grown_of, played_grows}
+use Rattle.run_course.proofs.Growing.{DeskGrew, DeskOfOld, Grown, HasActedUpTo, came_grows, ended_grows, grown_of, played_grows}
 use Rattle.run_course.proofs.Coming.{came_at, cause_came, given_among, given_then}
 use Rattle.run_course.proofs.Fronts.{front_low}
 
@@ -114,7 +115,7 @@ became mid failed d d' h = ⊎_elim
 none_some : {A : Type 0} (a : A) → None ≡ Some a → ⊥
 none_some a e = cc
 
-module _ (may : ℕ → Entry → Type 0) (floor : List Entry → ℕ → Type 0) (shelf : List ℕ) (state : List Entry → SpaceMap → Type 0) (spells : List ℕ → Saved → Type 0) (run : MayRun may floor shelf) (lines : List NamedLine) (home : ℕ → ℕ) (nodes : ℕ) (c : Course) (counts : List ℕ) (looks : List (Option Looked)) (n from to : ℕ) (failed : Option Cause) (seat seat' : SeatView) (desks desks' : List Desk) (journal : List Event) (are : AreLines lines home nodes) (least : 1 ≤ n) (most : n ≤ nodes) (over : BeginsAt lines to (c.phase + 1)) (ok : CourseOk may floor shelf lines nodes c counts looks) (worker : WorkerAt may floor shelf state spells lines home nodes c counts looks n from to c.phase seat desks) (since : OwnSince n c.journal journal) (still : Unsealed c.journal journal) (adds : OwnAdds n IsOfSessions c.journal journal) (does : EndsTurn (OwnWithin n may counts) floor shelf (node_of seat c.journal) (node_of seat' journal) desks desks' failed) (now : WorkerOk may floor shelf state spells n counts journal seat' desks') where
+module _ (may : ℕ → Entry → Type 0) (floor : List Entry → ℕ → Type 0) (shelf : List ℕ) (state : List Entry → SpaceMap → Type 0) (spells : List ℕ → Saved → Type 0) (run : MayRun may floor shelf) (lines : List NamedLine) (home : ℕ → ℕ) (nodes : ℕ) (c : Course) (counts : List ℕ) (looks : List (Option Looked)) (n from to : ℕ) (failed : Option Cause) (seat seat' : SeatView) (desks desks' : List Desk) (journal : List Event) (are : AreLines lines home nodes) (least : 1 ≤ n) (most : n ≤ nodes) (over : BeginsAt lines to (c.phase + 1)) (ok : CourseOk may floor shelf lines nodes c counts looks) (worker : WorkerAt may floor shelf state spells lines home nodes c counts looks n from to c.phase seat desks) (since : OwnSince n c.journal journal) (still : Unsealed c.journal journal) (adds : OwnAdds n IsOfSessions c.journal journal) (does : EndsTurn (OwnWithin n may (sent_by desks)) floor shelf (node_of seat c.journal) (node_of seat' journal) desks desks' failed) (now : WorkerOk may floor shelf state spells n journal seat' desks') where
   abbrev came : List Cause
   came = causes_of does.ends.moves.goes.given (failure_in failed)
 
@@ -145,7 +146,8 @@ module _ (may : ℕ → Entry → Type 0) (floor : List Entry → ℕ → Type 0
   forward = let up = does.ends.moves.goes.keeps.forward in omega (arith, up, cursor_is)
 
   within : IsLegal (Within may counts) floor shelf journal
-  within = worker_legal may floor shelf state spells n counts counts c.journal journal seat' desks' ok.legal since (λ s. omega arith) now
+  within = worker_legal may floor shelf state spells n counts counts c.journal journal seat' desks' ok.legal since (λ s. omega arith)
+      (subst (λ cs. (s : ℕ) → sent_of cs s ≤ sent_of counts s) (sym (ends_sent does.mid failed desks desks' does.closes)) (sent_here may floor shelf state spells lines home nodes c counts looks n from to c.phase seat desks are worker)) now
 
   legal : IsLegal may floor shelf journal
   legal = legal_wider (Within may counts) may floor shelf (λ who e h. h.0) journal within
@@ -156,7 +158,7 @@ module _ (may : ℕ → Entry → Type 0) (floor : List Entry → ℕ → Type 0
   -- The run
 
   course_ok : CourseOk may floor shelf lines nodes then' counts looks
-  course_ok = advance_still may floor shelf lines nodes c counts looks ok n came journal does.ends.moves.goes.spends.more when' counts seen_more within least most
+  course_ok = advance_still may floor shelf lines nodes c counts looks ok n came journal does.ends.moves.goes.spends.more when' counts seen_more within ok.long least most
       (λ P store. let e = all-events does.ends.moves.goes.spends P store in omega (arith, e))
       (still_unsealed may floor shelf counts c.journal journal (count_by has_replaced looks) within still ok.unsealed) tells.told
 
@@ -191,28 +193,6 @@ module _ (may : ℕ → Entry → Type 0) (floor : List Entry → ℕ → Type 0
   grown : Grown may floor shelf c then'
   grown = grown_of may floor shelf lines home nodes n c then' counts counts looks looks turn ok course_ok
 
-  grew : (s : ℕ) (d d' : Desk) → slice_get desks s ≡ Some d → slice_get desks' s ≡ Some d' → Became does.mid failed d d' → DeskGrew c then' s d d'
-  grew s d d' at at' b = by b.ends
-    where
-      by : Stopped does.mid failed d d' ⊎ ((d'.stopped ≡ d.stopped) × (d'.answered ≡ d.answered) × (d.answered ≡ None → d.asked ≤ length d'.answers.items)) → DeskGrew c then' s d d'
-      by (inl x) = record {
-        answered = λ a e. absurd (none_some a (sym x.first ∙ e));
-        stopped = λ a e. absurd (none_some a (sym x.first ∙ e));
-        sent = λ a e. b.sent;
-        when = λ a e. absurd (none_some a (sym x.first ∙ e));
-        first = λ a e. inr (when_first c desks desks' s d d' at at' a x.first e);
-      }
-      by (inr k) = record {
-        answered = λ a e. k.1 ∙ e;
-        stopped = λ a e. k.0;
-        sent = λ a e. b.sent;
-        when = λ a e. when_same c desks desks' s d d' at at' k.1;
-        first = λ a e. inl (sym k.1 ∙ e);
-      }
-
-  of_old : (s : ℕ) → DeskOfOld c then' desks desks' s
-  of_old s = λ d' at'. let w = was s d' at' in (w.0, w.1, grew s w.0 d' w.1 at' (became does.mid failed w.0 d' w.2))
-
   -- What has acted
 
   -- the front of the log that the node has applied
@@ -225,10 +205,46 @@ module _ (may : ℕ → Entry → Type 0) (floor : List Entry → ℕ → Type 0
       let all = (h.asked some).all front.log (front.size ∙ sym cursor_is) (subst (λ l. IsFront Holds l front.log) (sym seen_is) front.front) in
       subst (λ q. gap_from (asked_in 0 front.log) q 1 ≡ length d'.answers.items + 1) own all.all
 
+  -- what a session was answered is all that had acted in what the node had applied before
+  acted_upto : (s : ℕ) (d d' : Desk) (a : ℕ) → slice_get desks s ≡ Some d → 0 < d.asked → ClosesIt does.mid failed d d' → length d'.answers.items ≡ a → HasActedUpTo c.journal seat.node.replica.cursor s a
+  acted_upto s d d' a at some h is = λ log was upto. ⊎_elim
+      (λ (more : a + 1 < gap_from (asked_in 0 log) s 1).
+      let longer : length log ≤ length front.log = let size = front.size in omega (arith, size, upto, forward) in
+      let still = acted_stays may floor shelf c.journal does.ends.moves.goes.spends.more s (a + 1) log front.log (subst (IsLegal may floor shelf) seen_more legal) was (subst (λ j. IsFront Holds j front.log) seen_more front.front) longer more in
+      let gap = gap_is s d d' at some h in
+      absurd (omega (arith, still, gap, is)))
+      (λ (few : gap_from (asked_in 0 log) s 1 ≤ a + 1). few)
+      (cases_lt (a + 1) (gap_from (asked_in 0 log) s 1))
+
+  same_answered : (p q : ℕ) → Some p ≡ Some q → p ≡ q
+  same_answered p q f = cc
+
+  grew : (s : ℕ) (d d' : Desk) → slice_get desks s ≡ Some d → slice_get desks' s ≡ Some d' → ClosesIt does.mid failed d d' → Became does.mid failed d d' → DeskGrew c then' seat.node.replica.cursor s d d'
+  grew s d d' at at' h b = by b.ends
+    where
+      by : Stopped does.mid failed d d' ⊎ ((d'.stopped ≡ d.stopped) × (d'.answered ≡ d.answered) × (d.answered ≡ None → d.asked ≤ length d'.answers.items)) → DeskGrew c then' seat.node.replica.cursor s d d'
+      by (inl x) = record {
+        answered = λ a e. absurd (none_some a (sym x.first ∙ e));
+        stopped = λ a e. absurd (none_some a (sym x.first ∙ e));
+        sent = λ a e. b.sent;
+        when = λ a e. absurd (none_some a (sym x.first ∙ e));
+        first = λ a e. inr (when_first c desks desks' s d d' at at' a x.first e, acted_upto s d d' a at (let more = x.more in omega (arith, more)) h (same_answered (length d'.answers.items) a (sym x.answered ∙ e)));
+      }
+      by (inr k) = record {
+        answered = λ a e. k.1 ∙ e;
+        stopped = λ a e. k.0;
+        sent = λ a e. b.sent;
+        when = λ a e. when_same c desks desks' s d d' at at' k.1;
+        first = λ a e. inl (sym k.1 ∙ e);
+      }
+
+  of_old : (s : ℕ) → DeskOfOld c then' seat.node.replica.cursor desks desks' s
+  of_old s = λ d' at'. let w = was s d' at' in (w.0, w.1, grew s w.0 d' w.1 at' w.2 (became does.mid failed w.0 d' w.2))
+
   -- no more has acted than was sent
   sent_low : (s : ℕ) (d : Desk) → slice_get desks s ≡ Some d → 0 < d.asked → gap_from (asked_in 0 front.log) s 1 ≤ d.sent + 1
   sent_low s d at some =
-      let is = worker.ok.counted s d at some in
+      let is = (worker.each s d at).sent (at_home s d at some) in
       acted_sent (Within may counts) floor shelf journal front.log s d.sent within front.front (λ who e r allowed has. let low = allowed.1 s r has in omega (arith, low, is))
 
   -- what has acted as an earlier phase ended was answered
@@ -345,7 +361,7 @@ module _ (may : ℕ → Entry → Type 0) (floor : List Entry → ℕ → Type 0
           some_same p q f = cc
       ended a e (inr k) =
           let first = sym k.1 ∙ e in
-          ended_grows may floor shelf c then' grown lines n c.phase (c.phase + 1) s d d' a (omega arith) first (grew s d d' at at' b) (x.ended a first)
+          ended_grows may floor shelf c then' grown lines n c.phase (c.phase + 1) s seat.node.replica.cursor d d' a (omega arith) first (grew s d d' at at' h b) (x.ended a first)
 
   -- Lines
 
@@ -430,7 +446,7 @@ module _ (may : ℕ → Entry → Type 0) (floor : List Entry → ℕ → Type 0
     nodes_is = ap (λ (v : NodeView). v.nodes) does.forgets ∙ does.ends.moves.goes.keeps.nodes ∙ worker.nodes_is;
     order = omega arith;
     each = each;
-    quiet = λ s same. ends_quiet (OwnWithin n may counts) floor shelf (node_of seat c.journal) (node_of seat' journal) desks desks' failed does s;
+    quiet = λ s same. ends_quiet (OwnWithin n may (sent_by desks)) floor shelf (node_of seat c.journal) (node_of seat' journal) desks desks' failed does s;
     given = subst (AllByRecursion (λ (g : Given). CameTo then'.faults g.cause n c.phase)) (sym given_is) tt;
     waiting = worker.waiting;
     played = played;

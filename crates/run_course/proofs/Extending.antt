@@ -25,7 +25,7 @@ use Rattle.node_lines.specs.declared.lines.Looked.{Looked}
 use Rattle.node_lines.specs.declared.lines.Looked.TheVariants as looked
 use Rattle.node_lines.specs.Moving.{is_store}
 use Rattle.node_lines.specs.Extending.{Extends, ExtendsSo}
-use Rattle.node_lines.specs.Workers.{IsOfSessions, OwnAdds, OwnWithin, Within, WorkerOk}
+use Rattle.node_lines.specs.Workers.{IsOfSessions, OwnAdds, OwnWithin, Within, WorkerOk, sent_by}
 use Rattle.node_lines.proofs.Own.{all_adds}
 use Rattle.node_lines.specs.Chains.{made}
 use Rattle.node_lines.proofs.Lone.{lone_extension}
@@ -38,14 +38,14 @@ use Rattle.run_course.specs.Reporting.{ReportedSo}
 use Rattle.run_course.specs.Leaving.{LeftSo}
 use Rattle.run_course.specs.Telling.{HasToldSo}
 use Rattle.run_course.specs.Workers.{LineWent, WorkerAt}
-use Rattle.run_course.proofs.Legal.{worker_legal}
+use Rattle.run_course.proofs.Legal.{sent_here, worker_legal}
 use Rattle.run_course.proofs.Told.{TellsOn, looks_stay, tells_commands}
 use Rattle.run_course.proofs.Lines.{count-cons}
 use Rattle.run_course.proofs.Advance.{advanced, count-append, failed_of}
 use Rattle.run_course.proofs.Replacing.{LooksOn, count_set}
 use Rattle.run_course.proofs.Playing.{line_went}
 
-module _ (may : ℕ → Entry → Type 0) (floor : List Entry → ℕ → Type 0) (shelf : List ℕ) (state : List Entry → SpaceMap → Type 0) (spells : List ℕ → Saved → Type 0) (lines : List NamedLine) (home : ℕ → ℕ) (nodes : ℕ) (c : Course) (counts : List ℕ) (looks : List (Option Looked)) (n from i : ℕ) (line : NamedLine) (look : Looked) (seat seat' : SeatView) (desks : List Desk) (journal : List Event) (are : AreLines lines home nodes) (least : 1 ≤ n) (most : n ≤ nodes) (at : slice_get lines i ≡ Some line) (node : line.node ≡ n) (phase : line.phase ≡ c.phase) (asks_is : line.asks ≡ asks.Admin Extend) (ok : CourseOk may floor shelf lines nodes c counts looks) (worker : WorkerAt may floor shelf state spells lines home nodes c counts looks n from i c.phase seat desks) (since : OwnSince n c.journal journal) (adds : OwnAdds n IsOfSessions c.journal journal) (high : TrimsUpTo seat'.node.replica.cursor journal) (does : Extends (OwnWithin n may counts) floor shelf (node_of seat c.journal) (node_of seat' journal) look) (now : WorkerOk may floor shelf state spells n counts journal seat' desks) where
+module _ (may : ℕ → Entry → Type 0) (floor : List Entry → ℕ → Type 0) (shelf : List ℕ) (state : List Entry → SpaceMap → Type 0) (spells : List ℕ → Saved → Type 0) (lines : List NamedLine) (home : ℕ → ℕ) (nodes : ℕ) (c : Course) (counts : List ℕ) (looks : List (Option Looked)) (n from i : ℕ) (line : NamedLine) (look : Looked) (seat seat' : SeatView) (desks : List Desk) (journal : List Event) (are : AreLines lines home nodes) (least : 1 ≤ n) (most : n ≤ nodes) (at : slice_get lines i ≡ Some line) (node : line.node ≡ n) (phase : line.phase ≡ c.phase) (asks_is : line.asks ≡ asks.Admin Extend) (ok : CourseOk may floor shelf lines nodes c counts looks) (worker : WorkerAt may floor shelf state spells lines home nodes c counts looks n from i c.phase seat desks) (since : OwnSince n c.journal journal) (adds : OwnAdds n IsOfSessions c.journal journal) (high : TrimsUpTo seat'.node.replica.cursor journal) (does : Extends (OwnWithin n may (sent_by desks)) floor shelf (node_of seat c.journal) (node_of seat' journal) look) (now : WorkerOk may floor shelf state spells n journal seat' desks) where
   abbrev then' : Course
   then' = advanced c n (map (λ g. g.cause) does.moves.goes.given) journal c.when
 
@@ -105,8 +105,8 @@ module _ (may : ℕ → Entry → Type 0) (floor : List Entry → ℕ → Type 0
 
   on : LooksOn (length shelf) (state_of c.journal).register (state_of journal).register look
   on x is =
-      lone_extension (OwnWithin n may counts) floor shelf (node_of seat c.journal) (node_of seat' journal) x
-      (subst (Extends (OwnWithin n may counts) floor shelf (node_of seat c.journal) (node_of seat' journal)) is does)
+      lone_extension (OwnWithin n may (sent_by desks)) floor shelf (node_of seat c.journal) (node_of seat' journal) x
+      (subst (Extends (OwnWithin n may (sent_by desks)) floor shelf (node_of seat c.journal) (node_of seat' journal)) is does)
       (subst (λ w. OwnSince w c.journal journal) (sym worker.ok.who_is) since)
 
   own : (x : Extension) → look ≡ looked.Extended x → AsksNode line.asks
@@ -116,7 +116,7 @@ module _ (may : ℕ → Entry → Type 0) (floor : List Entry → ℕ → Type 0
   not_yet = worker.waiting i line (omega arith) at node
 
   legal : IsLegal (Within may counts) floor shelf journal
-  legal = worker_legal may floor shelf state spells n counts counts c.journal journal seat' desks ok.legal since (λ s. omega arith) now
+  legal = worker_legal may floor shelf state spells n counts counts c.journal journal seat' desks ok.legal since (λ s. omega arith) (sent_here may floor shelf state spells lines home nodes c counts looks n from i c.phase seat desks are worker) now
 
   tells : TellsOn lines (slice_set looks i (Some look)) n seat.node.replica.cursor seat'.node.replica.cursor c.journal journal
   tells =
@@ -149,8 +149,8 @@ module _ (may : ℕ → Entry → Type 0) (floor : List Entry → ℕ → Type 0
       let spends = does.moves.goes.spends in
       let was = ok.unsealed (calm_parts c.journal journal spends.more spends.seen calm).0 in
       subst (λ k. IsUnsealed (state_of journal) (count_by has_replaced looks + k)) (made_is x)
-      (lone_once (OwnWithin n may counts) floor shelf (node_of seat c.journal) (node_of seat' journal) x (count_by has_replaced looks)
-      (subst (Extends (OwnWithin n may counts) floor shelf (node_of seat c.journal) (node_of seat' journal)) is does) (subst (λ w. OwnSince w c.journal journal) (sym worker.ok.who_is) since) was calm)
+      (lone_once (OwnWithin n may (sent_by desks)) floor shelf (node_of seat c.journal) (node_of seat' journal) x (count_by has_replaced looks)
+      (subst (Extends (OwnWithin n may (sent_by desks)) floor shelf (node_of seat c.journal) (node_of seat' journal)) is does) (subst (λ w. OwnSince w c.journal journal) (sym worker.ok.who_is) since) was calm)
   by_look (looked.Reported position) is h calm = absurd h
   by_look looked.Left is h calm = absurd h
   by_look (looked.Trimmed trim) is h calm = absurd h
@@ -162,7 +162,7 @@ module _ (may : ℕ → Entry → Type 0) (floor : List Entry → ℕ → Type 0
   line_played = subst (PlayedSo lines then' c.phase seat'.node.replica.cursor n desks (slice_set looks i (Some look)) i line.phase) (sym asks_is)
       (look, set_same looks i (Some look) None (worker.waiting i line (omega arith) at node), of_node look does.extends, none_reported look does.extends, none_left look does.extends)
 
-  pub line_extended : LineWent may floor shelf state spells lines home nodes c counts counts looks (slice_set looks i (Some look)) n from (i + 1) journal seat' desks
+  pub line_extended : LineWent may floor shelf state spells lines home nodes c counts looks (slice_set looks i (Some look)) n from (i + 1) journal seat' desks
   line_extended =
-      line_went may floor shelf state spells lines home nodes c counts looks n from i line look seat seat' desks journal are least most at node phase unlogged ok worker since does.others does.moves
-      (paid_is look does.extends) on own unsealed now tells (stood look does.extends) (λ trim is. absurd (subst So is does.extends)) high line_played
+      line_went may floor shelf state spells lines home nodes c counts looks n from i line look seat seat' desks desks (λ s d there. (d, there, refl, omega arith)) journal are least most at node phase unlogged ok worker since does.others does.moves
+      (paid_is look does.extends) on own unsealed now tells (stood look does.extends) (λ trim is. absurd (subst So is does.extends)) (λ after found is. absurd (subst So is does.extends)) high line_played

@@ -15,32 +15,32 @@ use Rattle.turn_scopes.specs.Seats.{SeatView, node_of}
 use Rattle.node_lines.specs.declared.desk.Desk.{Desk}
 use Rattle.node_lines.specs.declared.lines.Looked.{Looked}
 use Rattle.node_lines.specs.Moving.{Moves}
-use Rattle.node_lines.specs.Workers.{IsOfSessions, OwnAdds, OwnWithin, Within, WorkerOk}
+use Rattle.node_lines.specs.Workers.{IsOfSessions, OwnAdds, OwnWithin, Within, WorkerOk, sent_by}
 use Rattle.node_lines.proofs.Own.{all_adds}
 use Rattle.run_laws.specs.Ended.{CameTo, session_in}
-use Rattle.run_course.specs.Script.{BeginsAt}
+use Rattle.run_course.specs.Script.{AreLines, BeginsAt}
 use Rattle.run_course.specs.Course.{Course, CourseOk, TurnOf}
 use Rattle.run_course.specs.Desks.{DeskAt, PlayedSo}
 use Rattle.run_course.specs.Replacing.{has_replaced}
 use Rattle.run_course.specs.Workers.{Rests, NodeFinished}
-use Rattle.run_course.proofs.Legal.{worker_legal}
+use Rattle.run_course.proofs.Legal.{sent_here, worker_legal}
 use Rattle.run_course.proofs.Told.{TellsOn, tells_commands}
 use Rattle.run_course.proofs.Advance.{advance_still, advanced, stores_counted, turned}
 use Rattle.run_course.proofs.Unsealing.{still_unsealed}
 use Rattle.run_course.proofs.Growing.{Grown, desk_same, ended_grows, grown_of, played_grows}
 
-module _ (may : ℕ → Entry → Type 0) (floor : List Entry → ℕ → Type 0) (shelf : List ℕ) (state : List Entry → SpaceMap → Type 0) (spells : List ℕ → Saved → Type 0) (lines : List NamedLine) (home : ℕ → ℕ) (nodes : ℕ) (c : Course) (counts : List ℕ) (looks : List (Option Looked)) (n from done : ℕ) (seat seat' : SeatView) (desks : List Desk) (journal : List Event) (least : 1 ≤ n) (most : n ≤ nodes) (begins : BeginsAt lines from done) (low : done ≤ c.phase + 1) (ok : CourseOk may floor shelf lines nodes c counts looks) (r : Rests may floor shelf state spells lines home nodes c counts looks n from done seat desks) (since : OwnSince n c.journal journal) (still : Unsealed c.journal journal) (adds : OwnAdds n IsOfSessions c.journal journal) (moves : Moves (OwnWithin n may counts) floor shelf (node_of seat c.journal) (node_of seat' journal) []) (same : seat'.node.outbox ≡ seat.node.outbox) (now : WorkerOk may floor shelf state spells n counts journal seat' desks) where
+module _ (may : ℕ → Entry → Type 0) (floor : List Entry → ℕ → Type 0) (shelf : List ℕ) (state : List Entry → SpaceMap → Type 0) (spells : List ℕ → Saved → Type 0) (lines : List NamedLine) (home : ℕ → ℕ) (nodes : ℕ) (c : Course) (counts : List ℕ) (looks : List (Option Looked)) (n from done : ℕ) (seat seat' : SeatView) (desks : List Desk) (journal : List Event) (are : AreLines lines home nodes) (least : 1 ≤ n) (most : n ≤ nodes) (begins : BeginsAt lines from done) (low : done ≤ c.phase + 1) (ok : CourseOk may floor shelf lines nodes c counts looks) (r : Rests may floor shelf state spells lines home nodes c counts looks n from done seat desks) (since : OwnSince n c.journal journal) (still : Unsealed c.journal journal) (adds : OwnAdds n IsOfSessions c.journal journal) (moves : Moves (OwnWithin n may (sent_by desks)) floor shelf (node_of seat c.journal) (node_of seat' journal) []) (same : seat'.node.outbox ≡ seat.node.outbox) (now : WorkerOk may floor shelf state spells n journal seat' desks) where
   abbrev then' : Course
   then' = advanced c n [] journal c.when
 
   legal : IsLegal (Within may counts) floor shelf journal
-  legal = worker_legal may floor shelf state spells n counts counts c.journal journal seat' desks ok.legal since (λ s. omega arith) now
+  legal = worker_legal may floor shelf state spells n counts counts c.journal journal seat' desks ok.legal since (λ s. omega arith) (sent_here may floor shelf state spells lines home nodes c counts looks n from from done seat desks are r.worker) now
 
   tells : TellsOn lines looks n seat.node.replica.cursor seat'.node.replica.cursor c.journal journal
   tells = tells_commands (Within may counts) floor shelf c.journal journal since.more since.seen legal lines looks looks n seat.node.replica.cursor seat'.node.replica.cursor (λ j x come. come) moves.goes.keeps.forward ok.told (all_adds n IsOfSessions c.journal journal since adds)
 
   course_ok : CourseOk may floor shelf lines nodes then' counts looks
-  course_ok = advance_still may floor shelf lines nodes c counts looks ok n [] journal since.more c.when counts since.seen legal least most (λ P store. omega arith)
+  course_ok = advance_still may floor shelf lines nodes c counts looks ok n [] journal since.more c.when counts since.seen legal ok.long least most (λ P store. omega arith)
       (still_unsealed may floor shelf counts c.journal journal (count_by has_replaced looks) legal still ok.unsealed) tells.told
 
   turn : TurnOf lines home n c then' counts counts looks looks
@@ -55,7 +55,7 @@ module _ (may : ℕ → Entry → Type 0) (floor : List Entry → ℕ → Type 0
       record {
         asked = x.asked;
         sent = x.sent;
-        ended = λ a e. ended_grows may floor shelf c then' grown lines n done done s d d a (omega arith) e (desk_same c then' s d refl) (x.ended a e);
+        ended = λ a e. ended_grows may floor shelf c then' grown lines n done done s seat.node.replica.cursor d d a (omega arith) e (desk_same c then' seat.node.replica.cursor s d refl) (x.ended a e);
         here = x.here;
         halted = λ k none stop. absurd (let h = (x.halted k none stop).asked in omega (arith, h));
         held = x.held;
@@ -68,7 +68,7 @@ module _ (may : ℕ → Entry → Type 0) (floor : List Entry → ℕ → Type 0
   played i l before at own =
       played_grows may floor shelf c then' grown lines done done seat.node.replica.cursor seat'.node.replica.cursor n desks desks looks looks i l.phase l.asks
       (let under = begins.before i l at before in omega (arith, under, low)) (λ over. over) moves.goes.keeps.forward refl
-      (λ d get. (d, get, desk_same c then' (session_in l.asks) d refl)) (r.worker.played i l before at own)
+      (λ d get. (d, get, desk_same c then' seat.node.replica.cursor (session_in l.asks) d refl)) (r.worker.played i l before at own)
 
   pub node_finished : NodeFinished may floor shelf state spells lines home nodes c counts looks n from done journal seat' desks
   node_finished = record {

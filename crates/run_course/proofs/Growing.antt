@@ -1,5 +1,5 @@
 -- What is known of a run stays so as it goes on.
-use Rattle.std.proofs.Common.{◌≡◌, refl, sym, ◌∙◌, subst, ◌⊎◌, inl, inr, ⊎_elim, ℕ, ◌+◌, ◌<◌, ◌≤◌, List, ◌++◌, Option, Some, None, IsSome, slice_get, Contains, arith}
+use Rattle.std.proofs.Common.{◌≡◌, refl, sym, ◌∙◌, subst, ◌⊎◌, inl, inr, ⊎_elim, ℕ, ◌+◌, ◌<◌, ◌≤◌, List, ◌++◌, Option, Some, None, IsSome, length, slice_get, Contains, arith, ap}
 use Rattle.std.proofs.lemmas.Bool.{cases_lt}
 use Rattle.std.specs.List.{AllByRecursion}
 use Rattle.delos_types.specs.declared.entry.Entry.{Entry}
@@ -7,6 +7,8 @@ use Rattle.delos_types.specs.declared.cause.Cause.{Cause}
 use Rattle.table_core.specs.declared.command.Query.{Query}
 use Rattle.table_core.specs.declared.command.Found.{Found}
 use Rattle.legal_journal.specs.declared.events.Event.{Event}
+use Rattle.engine_api.specs.Acted.{asked_in}
+use Rattle.engine_api.specs.Order.{gap_from}
 use Rattle.legal_journal.specs.Journal.{IsLegal}
 use Rattle.virtual_log.specs.Holding.{Holds}
 use Rattle.engine_api.specs.declared.content.Content.{Content}
@@ -28,7 +30,7 @@ use Rattle.run_course.specs.Script.{asked_by}
 use Rattle.run_course.specs.Course.{Course, CourseOk, TurnOf}
 use Rattle.run_course.specs.Reporting.{IsReport, ReportedSo, StandsThere}
 use Rattle.run_course.specs.Leaving.{LeftSo}
-use Rattle.run_course.specs.Desks.{HasActed, IsHalted, IsUpTo, LoggedSo, LogsIn, LookedSo, PlayedSo, SawSo, WasEnded, WasStopped}
+use Rattle.run_course.specs.Desks.{HasActed, IsHalted, IsUpTo, LoggedSo, LogsIn, LookedSo, PlayedSo, SawSo, WasEnded, WasFree, WasStopped}
 use Rattle.run_course.proofs.Stands.{front_on, stands_on}
 use Rattle.run_course.proofs.Advance.{tail_rises}
 
@@ -43,22 +45,26 @@ pub record Grown (may : ℕ → Entry → Type 0) (floor : List Entry → ℕ �
   pub tails : (p : ℕ) → p ≤ c.phase → c'.tails p ≡ c.tails p
   pub rise : (p : ℕ) → c.tails p ≤ c'.tails p
 
--- A session's desk then. Where the session was stopped in an earlier phase it stays as it was stopped; and it isn't stopped
--- now but in the present phase.
-pub record DeskGrew (c c' : Course) (s : ℕ) (d d' : Desk) : Type 0 where
+-- no more commands of the session than this have acted in the first entries of the log
+abbrev pub HasActedUpTo : List Event → ℕ → ℕ → ℕ → Type 0
+HasActedUpTo journal cursor s a = (log : List Entry) → IsFront Holds journal log → length log ≤ cursor → gap_from (asked_in 0 log) s 1 ≤ a + 1
+
+-- A session's desk then, at a node that had applied so much. Where the session was stopped in an earlier phase it stays as it was
+-- stopped; and it isn't stopped now but in the present phase, with all answered that has acted there.
+pub record DeskGrew (c c' : Course) (cursor s : ℕ) (d d' : Desk) : Type 0 where
   pub answered : (a : ℕ) → d.answered ≡ Some a → d'.answered ≡ Some a
   pub stopped : (a : ℕ) → d.answered ≡ Some a → d'.stopped ≡ d.stopped
   pub sent : (a : ℕ) → d.answered ≡ Some a → d'.sent ≡ d.sent
   pub when : (a : ℕ) → d.answered ≡ Some a → c'.when s ≡ c.when s
-  pub first : (a : ℕ) → d'.answered ≡ Some a → (d.answered ≡ Some a) ⊎ (c'.when s ≡ c.phase)
+  pub first : (a : ℕ) → d'.answered ≡ Some a → (d.answered ≡ Some a) ⊎ ((c'.when s ≡ c.phase) × HasActedUpTo c.journal cursor s a)
 
 -- the session's desk is that of before, at a later moment
-abbrev pub DeskOfOld : Course → Course → List Desk → List Desk → ℕ → Type 0
-DeskOfOld c c' desks desks' s = (d' : Desk) → slice_get desks' s ≡ Some d' → (d : Desk) × (slice_get desks s ≡ Some d) × DeskGrew c c' s d d'
+abbrev pub DeskOfOld : Course → Course → ℕ → List Desk → List Desk → ℕ → Type 0
+DeskOfOld c c' cursor desks desks' s = (d' : Desk) → slice_get desks' s ≡ Some d' → (d : Desk) × (slice_get desks s ≡ Some d) × DeskGrew c c' cursor s d d'
 
 -- a desk that isn't touched
-pub desk_same : (c c' : Course) (s : ℕ) (d : Desk) → c'.when s ≡ c.when s → DeskGrew c c' s d d
-desk_same c c' s d same = record {
+pub desk_same : (c c' : Course) (cursor s : ℕ) (d : Desk) → c'.when s ≡ c.when s → DeskGrew c c' cursor s d d
+desk_same c c' cursor s d same = record {
   answered = λ a e. e;
   stopped = λ a e. refl;
   sent = λ a e. refl;
@@ -66,8 +72,18 @@ desk_same c c' s d same = record {
   first = λ a e. inl e;
 }
 
-pub upto_grew : (c c' : Course) (s r : ℕ) (d d' : Desk) → DeskGrew c c' s d d' → IsUpTo d'.answered r → IsUpTo d.answered r
-upto_grew c c' s r d d' g h = by d.answered refl
+-- a desk at which answers were taken
+pub desk_answered : (c c' : Course) (cursor s : ℕ) (d d' : Desk) → c'.when s ≡ c.when s → d' ≡ record d { answers = d'.answers } → DeskGrew c c' cursor s d d'
+desk_answered c c' cursor s d d' same is = record {
+  answered = λ a e. ap (λ (x : Desk). x.answered) is ∙ e;
+  stopped = λ a e. ap (λ (x : Desk). x.stopped) is;
+  sent = λ a e. ap (λ (x : Desk). x.sent) is;
+  when = λ a e. same;
+  first = λ a e. inl (sym (ap (λ (x : Desk). x.answered) is) ∙ e);
+}
+
+pub upto_grew : (c c' : Course) (cursor s r : ℕ) (d d' : Desk) → DeskGrew c c' cursor s d d' → IsUpTo d'.answered r → IsUpTo d.answered r
+upto_grew c c' cursor s r d d' g h = by d.answered refl
   where
     by : (o : Option ℕ) → d.answered ≡ o → IsUpTo o r
     by None e = tt
@@ -124,15 +140,20 @@ module _ (may : ℕ → Entry → Type 0) (floor : List Entry → ℕ → Type 0
     }
 
     -- where no phase ended meanwhile but later ones
-    pub logged_grows : (done done' cursor cursor' phase s r : ℕ) (d d' : Desk) → phase ≤ c.phase → (phase < done' → phase < done) → cursor ≤ cursor' → DeskGrew c c' s d d' → LoggedSo c done cursor d phase s r → LoggedSo c' done' cursor' d' phase s r
+    pub logged_grows : (done done' cursor cursor' phase s r : ℕ) (d d' : Desk) → phase ≤ c.phase → (phase < done' → phase < done) → cursor ≤ cursor' → DeskGrew c c' cursor s d d' → LoggedSo c done cursor d phase s r → LoggedSo c' done' cursor' d' phase s r
     logged_grows done done' cursor cursor' phase s r d d' low ended up k h = record {
-      acted = λ over upto. acted_grows cursor cursor' phase s r up (h.acted (ended over) (upto_grew c c' s r d d' k upto));
+      acted = λ over upto. acted_grows cursor cursor' phase s r up (h.acted (ended over) (upto_grew c c' cursor s r d d' k upto));
       unsent = λ a e before. ⊎_elim
           (λ (was : d.answered ≡ Some a). let same = k.when a was in let sent = k.sent a was in let below = h.unsent a was (omega (arith, before, same)) in omega arith)
-          (λ (now : c'.when s ≡ c.phase). absurd (omega (arith, now, before, low))) (k.first a e);
+          (λ (now : (c'.when s ≡ c.phase) × HasActedUpTo c.journal cursor s a). absurd (let then' = now.0 in omega (arith, then', before, low))) (k.first a e);
     }
 
-    pub saw_grows : (lines : List NamedLine) (cursor cursor' : ℕ) (d d' : Desk) (i phase s : ℕ) (query : Query) (after : ℕ) (found : Found) → phase ≤ c.phase → cursor ≤ cursor' → DeskGrew c c' s d d' → SawSo lines c cursor d i phase s query after found → SawSo lines c' cursor' d' i phase s query after found
+    free_grows : (cursor : ℕ) (d d' : Desk) (phase s : ℕ) → phase ≤ c.phase → DeskGrew c c' cursor s d d' → WasFree c d phase s → WasFree c' d' phase s
+    free_grows cursor d d' phase s low k h = λ a e. ⊎_elim
+        (λ (was : d.answered ≡ Some a). let same = k.when a was in let free = h a was in omega arith)
+        (λ (now : (c'.when s ≡ c.phase) × HasActedUpTo c.journal cursor s a). let then' = now.0 in omega (arith, then', low)) (k.first a e)
+
+    pub saw_grows : (lines : List NamedLine) (cursor cursor' : ℕ) (d d' : Desk) (i phase s : ℕ) (query : Query) (after : ℕ) (found : Found) → phase ≤ c.phase → cursor ≤ cursor' → DeskGrew c c' cursor s d d' → SawSo lines c cursor d i phase s query after found → SawSo lines c' cursor' d' i phase s query after found
     saw_grows lines cursor cursor' d d' i phase s query after found low up k h = record {
       log = h.log;
       front = front_grows h.log h.front;
@@ -142,13 +163,17 @@ module _ (may : ℕ → Entry → Type 0) (floor : List Entry → ℕ → Type 0
       shows = h.shows;
       from = omega (arith, h.from, g.tails phase low);
       upto = omega (arith, h.upto, g.rise (phase + 1));
-      free = λ a e. ⊎_elim
-          (λ (was : d.answered ≡ Some a). let same = k.when a was in let free = h.free a was in omega arith)
-          (λ (now : c'.when s ≡ c.phase). omega (arith, now, low)) (k.first a e);
+      free = free_grows cursor d d' phase s low k h.free;
+      answered = λ a e. ⊎_elim
+          (λ (was : d.answered ≡ Some a). h.answered a was)
+          (λ (now : (c'.when s ≡ c.phase) × HasActedUpTo c.journal cursor s a).
+          let few = now.1 h.log h.front (let size = h.size in let within = h.within in omega (arith, size, within)) in
+          let sees = h.sees in
+          omega (arith, few, sees)) (k.first a e);
     }
 
-    pub stopped_grows : (d d' : Desk) (phase s : ℕ) (cause : Cause) → DeskGrew c c' s d d' → WasStopped c d phase s cause → WasStopped c' d' phase s cause
-    stopped_grows d d' phase s cause k h =
+    pub stopped_grows : (cursor : ℕ) (d d' : Desk) (phase s : ℕ) (cause : Cause) → DeskGrew c c' cursor s d d' → WasStopped c d phase s cause → WasStopped c' d' phase s cause
+    stopped_grows cursor d d' phase s cause k h =
         let was = some_of d.answered h.answered in
         let same = k.when was.0 was.1 in
         record {
@@ -157,11 +182,11 @@ module _ (may : ℕ → Entry → Type 0) (floor : List Entry → ℕ → Type 0
           earlier = omega (arith, h.earlier, same);
         }
 
-    pub looked_grows : (lines : List NamedLine) (cursor cursor' n : ℕ) (d d' : Desk) (i phase s : ℕ) (query : Query) (look : Looked) → phase ≤ c.phase → cursor ≤ cursor' → DeskGrew c c' s d d' → LookedSo lines c cursor n d i phase s query look → LookedSo lines c' cursor' n d' i phase s query look
+    pub looked_grows : (lines : List NamedLine) (cursor cursor' n : ℕ) (d d' : Desk) (i phase s : ℕ) (query : Query) (look : Looked) → phase ≤ c.phase → cursor ≤ cursor' → DeskGrew c c' cursor s d d' → LookedSo lines c cursor n d i phase s query look → LookedSo lines c' cursor' n d' i phase s query look
     looked_grows lines cursor cursor' n d d' i phase s query (looked.Found after found) low up k h = saw_grows lines cursor cursor' d d' i phase s query after found low up k h
-    looked_grows lines cursor cursor' n d d' i phase s query (looked.Kept cause) low up k (inl h) = inl (stopped_grows d d' phase s cause k h)
-    looked_grows lines cursor cursor' n d d' i phase s query (looked.Kept cause) low up k (inr h) = inr (h.0, came_grows cause n phase h.1)
-    looked_grows lines cursor cursor' n d d' i phase s query (looked.Failed cause) low up k h = tt
+    looked_grows lines cursor cursor' n d d' i phase s query (looked.Kept cause) low up k (inl h) = inl (stopped_grows cursor d d' phase s cause k h)
+    looked_grows lines cursor cursor' n d d' i phase s query (looked.Kept cause) low up k (inr h) = inr (h.0, came_grows cause n phase h.1, free_grows cursor d d' phase s low k h.2)
+    looked_grows lines cursor cursor' n d d' i phase s query (looked.Failed cause) low up k h = free_grows cursor d d' phase s low k h
     looked_grows lines cursor cursor' n d d' i phase s query (looked.Extended x) low up k h = h
     looked_grows lines cursor cursor' n d d' i phase s query (looked.Reported position) low up k h = h
     looked_grows lines cursor cursor' n d d' i phase s query looked.Left low up k h = h
@@ -199,7 +224,7 @@ module _ (may : ℕ → Entry → Type 0) (floor : List Entry → ℕ → Type 0
     left_grows cursor cursor' n (looked.Trimmed trim) up h = tt
 
     pub played_grows : (lines : List NamedLine) (done done' cursor cursor' n : ℕ) (desks desks' : List Desk) (looks looks' : List (Option Looked)) (i phase : ℕ) (a : Asks) → phase ≤ c.phase → (phase < done' → phase < done) → cursor ≤ cursor'
-        → slice_get looks' i ≡ slice_get looks i → DeskOfOld c c' desks desks' (session_in a) → PlayedSo lines c done cursor n desks looks i phase a → PlayedSo lines c' done' cursor' n desks' looks' i phase a
+        → slice_get looks' i ≡ slice_get looks i → DeskOfOld c c' cursor desks desks' (session_in a) → PlayedSo lines c done cursor n desks looks i phase a → PlayedSo lines c' done' cursor' n desks' looks' i phase a
     played_grows lines done done' cursor cursor' n desks desks' looks looks' i phase (asks.Logged s r command) low ended up same old h = λ d' at.
         let o = old d' at in
         logged_grows done done' cursor cursor' phase s.id r o.0 d' low ended up o.2 (h o.0 o.1)
@@ -213,8 +238,8 @@ module _ (may : ℕ → Entry → Type 0) (floor : List Entry → ℕ → Type 0
     played_grows lines done done' cursor cursor' n desks desks' looks looks' i phase (asks.Admin a) low ended up same old h = (h.0, same ∙ h.1, h.2, reported_grows cursor cursor' n phase h.0 low up h.3, left_grows cursor cursor' n h.0 up h.4)
 
     -- a session that was stopped in an earlier phase
-    pub ended_grows : (lines : List NamedLine) (n done done' s : ℕ) (d d' : Desk) (a : ℕ) → done ≤ done' → d.answered ≡ Some a → DeskGrew c c' s d d' → WasEnded lines c n done s d a → WasEnded lines c' n done' s d' a
-    ended_grows lines n done done' s d d' a up e k h =
+    pub ended_grows : (lines : List NamedLine) (n done done' s : ℕ) (cursor : ℕ) (d d' : Desk) (a : ℕ) → done ≤ done' → d.answered ≡ Some a → DeskGrew c c' cursor s d d' → WasEnded lines c n done s d a → WasEnded lines c' n done' s d' a
+    ended_grows lines n done done' s cursor d d' a up e k h =
         let same = k.when a e in
         record {
           cause = h.cause;

@@ -1,5 +1,5 @@
 -- A line had its node leave.
-use Rattle.std.proofs.Common.{◌≡◌, ◌⊎◌, subst, ℕ, ◌+◌, ◌≤◌, List, [], ◌∷◌, Option, Some, None, map, slice_get, slice_set, arith}
+use Rattle.std.proofs.Common.{◌≡◌, ◌⊎◌, ⊎_elim, subst, ℕ, ◌+◌, ◌<◌, ◌≤◌, List, [], ◌∷◌, Option, Some, None, map, slice_get, slice_set, arith}
 use Rattle.delos_types.specs.Spaces.{SpaceMap}
 use Rattle.delos_types.specs.declared.entry.Entry.{Entry}
 use Rattle.legal_journal.specs.declared.events.Event.{Event}
@@ -7,6 +7,7 @@ use Rattle.legal_journal.specs.Journal.{IsLegal}
 use Rattle.legal_journal.specs.Sealing.{Unsealed}
 use Rattle.journal_laws.specs.Changes.{Adds, TrimsUpTo}
 use Rattle.virtual_log.specs.declared.extend.Extension.{Extension}
+use Rattle.virtual_log.specs.Holding.{IsTrimmed}
 use Rattle.engine_api.specs.declared.content.Content.TheVariants as content
 use Rattle.engine_api.specs.Packing.{leave_item, packed}
 use Rattle.replica_api.specs.Replica.{Saved}
@@ -21,7 +22,9 @@ use Rattle.node_lines.specs.declared.desk.Desk.{Desk}
 use Rattle.node_lines.specs.declared.lines.Looked.{Looked}
 use Rattle.node_lines.specs.declared.lines.Looked.TheVariants as looked
 use Rattle.node_lines.specs.Leaving.{HasLeft, Leaves, LeavesSo}
-use Rattle.node_lines.specs.Workers.{IsOfSessions, LeaveAdds, OwnWithin, SaysAlone, Within, WorkerOk}
+use Rattle.node_lines.specs.Workers.{IsOfSessions, LeaveAdds, OwnWithin, SaysAlone, Within, WorkerOk, sent_by}
+use Rattle.node_lines.specs.Turns.{IsAnswered}
+use Rattle.node_lines.proofs.Leaving.{never_trimmed}
 use Rattle.node_lines.proofs.Own.{all_adds}
 use Rattle.run_course.specs.Script.{AreLines}
 use Rattle.run_course.specs.Course.{Course, CourseOk}
@@ -30,18 +33,20 @@ use Rattle.run_course.specs.Leaving.{IsLeave, LeftSo}
 use Rattle.run_course.specs.Reporting.{ReportedSo}
 use Rattle.run_course.specs.Telling.{AskedFor, HasToldSo}
 use Rattle.run_course.specs.Workers.{LineWent, WorkerAt}
-use Rattle.run_course.proofs.Legal.{worker_legal}
+use Rattle.run_course.proofs.Legal.{taken_here, worker_legal}
 use Rattle.run_course.proofs.Told.{TellsOn, looks_stay, tells_one}
 use Rattle.run_course.proofs.Advance.{advanced, failed_of}
 use Rattle.run_course.proofs.Telling.{line_told, stands_now}
 
-told_leave : (may : ℕ → Entry → Type 0) (floor : List Entry → ℕ → Type 0) (shelf : List ℕ) (old new : NodeView) → IsLegal may floor shelf new.seen → HasLeft old new → IsLeave new.seen new.replica.cursor old.replica.origin
-told_leave may floor shelf old new legal left = record {
+told_leave : (may : ℕ → Entry → Type 0) (floor : List Entry → ℕ → Type 0) (shelf : List ℕ) (old new : NodeView) → IsLegal may floor shelf new.seen → TrimsUpTo new.replica.cursor new.seen → HasLeft old new → IsLeave new.seen new.replica.cursor old.replica.origin
+told_leave may floor shelf old new legal high left = record {
   stands = stands_now may floor shelf old.who left.synced new.seen (packed old.replica.origin (leave_item old.replica.origin ∷ [])) legal left.landed (content.Leave old.replica.origin) left.says;
-  within = left.played;
+  within = ⊎_elim
+      (λ (k : left.landed.position < new.replica.cursor). k)
+      (λ (t : IsTrimmed new.seen new.replica.cursor). absurd (never_trimmed may floor shelf new.replica.cursor new.seen legal high t)) left.played;
 }
 
-module _ (may : ℕ → Entry → Type 0) (floor : List Entry → ℕ → Type 0) (shelf : List ℕ) (state : List Entry → SpaceMap → Type 0) (spells : List ℕ → Saved → Type 0) (lines : List NamedLine) (home : ℕ → ℕ) (nodes : ℕ) (c : Course) (counts : List ℕ) (looks : List (Option Looked)) (n from i : ℕ) (line : NamedLine) (look : Looked) (seat seat' : SeatView) (desks : List Desk) (journal : List Event) (are : AreLines lines home nodes) (least : 1 ≤ n) (most : n ≤ nodes) (at : slice_get lines i ≡ Some line) (node : line.node ≡ n) (phase : line.phase ≡ c.phase) (asks_is : line.asks ≡ asks.Admin Retire) (ok : CourseOk may floor shelf lines nodes c counts looks) (worker : WorkerAt may floor shelf state spells lines home nodes c counts looks n from i c.phase seat desks) (since : OwnSince n c.journal journal) (still : Unsealed c.journal journal) (adds : LeaveAdds n c.journal journal) (high : TrimsUpTo seat'.node.replica.cursor journal) (does : Leaves (OwnWithin n may counts) floor shelf (node_of seat c.journal) (node_of seat' journal) look) (now : WorkerOk may floor shelf state spells n counts journal seat' desks) where
+module _ (may : ℕ → Entry → Type 0) (floor : List Entry → ℕ → Type 0) (shelf : List ℕ) (state : List Entry → SpaceMap → Type 0) (spells : List ℕ → Saved → Type 0) (lines : List NamedLine) (home : ℕ → ℕ) (nodes : ℕ) (c : Course) (counts : List ℕ) (looks : List (Option Looked)) (n from i : ℕ) (line : NamedLine) (look : Looked) (seat seat' : SeatView) (desks desks' : List Desk) (taken : IsAnswered desks desks') (journal : List Event) (are : AreLines lines home nodes) (least : 1 ≤ n) (most : n ≤ nodes) (at : slice_get lines i ≡ Some line) (node : line.node ≡ n) (phase : line.phase ≡ c.phase) (asks_is : line.asks ≡ asks.Admin Retire) (ok : CourseOk may floor shelf lines nodes c counts looks) (worker : WorkerAt may floor shelf state spells lines home nodes c counts looks n from i c.phase seat desks) (since : OwnSince n c.journal journal) (still : Unsealed c.journal journal) (adds : LeaveAdds n c.journal journal) (high : TrimsUpTo seat'.node.replica.cursor journal) (does : Leaves (OwnWithin n may (sent_by desks)) floor shelf (node_of seat c.journal) (node_of seat' journal) look) (now : WorkerOk may floor shelf state spells n journal seat' desks') where
   abbrev then' : Course
   then' = advanced c n (map (λ g. g.cause) does.moves.goes.given) journal c.when
 
@@ -49,7 +54,7 @@ module _ (may : ℕ → Entry → Type 0) (floor : List Entry → ℕ → Type 0
   So = LeavesSo (node_of seat c.journal) (node_of seat' journal) does.others
 
   legal : IsLegal (Within may counts) floor shelf journal
-  legal = worker_legal may floor shelf state spells n counts counts c.journal journal seat' desks ok.legal since (λ s. omega arith) now
+  legal = worker_legal may floor shelf state spells n counts counts c.journal journal seat' desks' ok.legal since (λ s. omega arith) (taken_here may floor shelf state spells lines home nodes c counts looks n from i c.phase seat desks desks' are worker taken) now
 
   not_yet : slice_get looks i ≡ Some None
   not_yet = worker.waiting i line (omega arith) at node
@@ -97,7 +102,7 @@ module _ (may : ℕ → Entry → Type 0) (floor : List Entry → ℕ → Type 0
   left (looked.Extended x) h = tt
   left (looked.Reported position) h = tt
   left looked.Left h =
-      subst (IsLeave journal seat'.node.replica.cursor) worker.ok.origin (told_leave (Within may counts) floor shelf (node_of seat c.journal) (node_of seat' journal) legal h.1)
+      subst (IsLeave journal seat'.node.replica.cursor) worker.ok.origin (told_leave (Within may counts) floor shelf (node_of seat c.journal) (node_of seat' journal) legal high h.1)
   left (looked.Trimmed trim) h = tt
 
   asked : AskedFor lines looks' n Retire (λ x. Unit {0})
@@ -130,8 +135,8 @@ module _ (may : ℕ → Entry → Type 0) (floor : List Entry → ℕ → Type 0
   stood looked.Left h l = l.stands
   stood (looked.Trimmed trim) h l = tt
 
-  pub line_left : LineWent may floor shelf state spells lines home nodes c counts counts looks (slice_set looks i (Some look)) n from (i + 1) journal seat' desks
+  pub line_left : LineWent may floor shelf state spells lines home nodes c counts looks (slice_set looks i (Some look)) n from (i + 1) journal seat' desks'
   line_left =
-      line_told may floor shelf state spells lines home nodes c counts looks n from i line Retire look seat seat' desks journal are least most at node phase asks_is ok worker since still does.others does.moves now none
+      line_told may floor shelf state spells lines home nodes c counts looks n from i line Retire look seat seat' desks desks' taken journal are least most at node phase asks_is ok worker since still does.others does.moves now none
       (paid_is look does.leaves) (of_node look does.leaves) (none_reported look does.leaves) (left look does.leaves)
       tells (stood look does.leaves (left look does.leaves)) (λ trim is. absurd (subst So is does.leaves)) high

@@ -1,18 +1,28 @@
 -- What a node did by its own bounds was done by those of the whole run, where all events are its own.
-use Rattle.std.proofs.Common.{◌≡◌, sym, subst, ℕ, ◌≤◌, List, [], ◌∷◌}
+use Rattle.std.proofs.Common.{◌≡◌, sym, ap, ◌∙◌, subst, ◌⊎◌, inl, inr, ℕ, ◌<◌, ◌≤◌, List, [], ◌∷◌, ◌++◌, Option, arith}
+use Rattle.std.proofs.lemmas.Bool.{cases_lt}
 use Rattle.delos_types.specs.Spaces.{SpaceMap}
 use Rattle.delos_types.specs.declared.entry.Entry.{Entry}
 use Rattle.legal_journal.specs.declared.events.Event.{Event}
 use Rattle.legal_journal.specs.Journal.{IsLegal}
 use Rattle.replica_api.specs.Replica.{Saved}
+use Rattle.script_text.specs.declared.asks.NamedLine.{NamedLine}
 use Rattle.turn_scopes.specs.Alone.{AreOwn, OwnSince}
 use Rattle.turn_scopes.specs.Beside.{AreBeside}
 use Rattle.turn_scopes.specs.Seats.{SeatView}
 use Rattle.turn_scopes.proofs.Beside.{legal_beside}
 use Rattle.turn_scopes.proofs.Widening.{legal_wider}
 use Rattle.node_lines.specs.declared.desk.Desk.{Desk}
-use Rattle.node_lines.specs.Workers.{OwnWithin, Sends, Within, WorkerOk, sent_of}
-use Rattle.node_lines.proofs.Widening.{within-more}
+use Rattle.node_lines.specs.declared.lines.Looked.{Looked}
+use Rattle.node_lines.specs.Workers.{OwnWithin, Sends, Within, WorkerOk, sent_by, sent_of}
+use Rattle.node_lines.specs.Turns.{IsAnswered}
+use Rattle.node_lines.proofs.Sent.{sent_at, sent_within}
+use Rattle.node_lines.proofs.Widening.{own-more, within-more}
+use Rattle.run_course.specs.Script.{AreLines}
+use Rattle.run_course.specs.Course.{Course}
+use Rattle.run_course.specs.Desks.{DeskAt}
+use Rattle.run_course.specs.Workers.{WorkerAt}
+use Rattle.run_course.proofs.Ranks.{home_is}
 
 are_beside : (who : ℕ) (es : List Event) → AreOwn who es → AreBeside (λ user. user ≡ who) es
 are_beside who [] h = tt
@@ -27,10 +37,34 @@ own_legal may floor shelf who counts counts' old new legal since up now =
     (legal_wider (Within may counts) (Within may counts') floor shelf (within-more may counts counts' up) old legal)
     (subst (IsLegal (OwnWithin who may counts') floor shelf) since.seen now))
 
--- so is the journal of a worker
+-- so is the journal of a worker, whose desks sent no more than that
 pub worker_legal : (may : ℕ → Entry → Type 0) (floor : List Entry → ℕ → Type 0) (shelf : List ℕ) (state : List Entry → SpaceMap → Type 0) (spells : List ℕ → Saved → Type 0) (who : ℕ) (counts counts' : List ℕ) (old new : List Event) (seat : SeatView) (desks : List Desk)
-    → IsLegal (Within may counts) floor shelf old → OwnSince who old new → ((s : ℕ) → sent_of counts s ≤ sent_of counts' s)
-    → WorkerOk may floor shelf state spells who counts' new seat desks → IsLegal (Within may counts') floor shelf new
-worker_legal may floor shelf state spells who counts counts' old new seat desks legal since up ok =
+    → IsLegal (Within may counts) floor shelf old → OwnSince who old new → ((s : ℕ) → sent_of counts s ≤ sent_of counts' s) → ((s : ℕ) → sent_of (sent_by desks) s ≤ sent_of counts' s)
+    → WorkerOk may floor shelf state spells who new seat desks → IsLegal (Within may counts') floor shelf new
+worker_legal may floor shelf state spells who counts counts' old new seat desks legal since up here ok =
     own_legal may floor shelf who counts counts' old new legal since up
-    (legal_wider (Sends who may counts' new) (OwnWithin who may counts') floor shelf (λ user e h. h.0) new ok.ok.node.legal)
+    (legal_wider (Sends who may (sent_by desks) new) (OwnWithin who may counts') floor shelf (λ user e h. own-more who may (sent_by desks) counts' here user e h.0) new ok.ok.node.legal)
+
+-- what another did meanwhile is legal by the bounds of a worker, which bind nobody else
+pub waits_legal : (may : ℕ → Entry → Type 0) (floor : List Entry → ℕ → Type 0) (shelf : List ℕ) (state : List Entry → SpaceMap → Type 0) (spells : List ℕ → Saved → Type 0) (who user : ℕ) (counts : List ℕ) (old more : List Event) (seat : SeatView) (desks : List Desk)
+    → WorkerOk may floor shelf state spells who old seat desks → (user ≡ who → ⊥) → AreOwn user more → IsLegal (Within may counts) floor shelf (old ++ more) → IsLegal (OwnWithin who may (sent_by desks)) floor shelf (old ++ more)
+waits_legal may floor shelf state spells who user counts old more seat desks ok apart own legal =
+    legal_beside (Within may counts) (OwnWithin who may (sent_by desks)) floor floor shelf (λ other. other ≡ user) (λ other e same k. (k.0, λ is. absurd (apart (sym same ∙ is)))) (λ other same seen n k free. free) old more (are_beside user more own)
+    (legal_wider (Sends who may (sent_by desks) old) (OwnWithin who may (sent_by desks)) floor shelf (λ other e h. h.0) old ok.ok.node.legal) legal
+
+-- a node's desks sent no more than the run counts
+pub sent_here : (may : ℕ → Entry → Type 0) (floor : List Entry → ℕ → Type 0) (shelf : List ℕ) (state : List Entry → SpaceMap → Type 0) (spells : List ℕ → Saved → Type 0) (lines : List NamedLine) (home : ℕ → ℕ) (nodes : ℕ) (c : Course) (counts : List ℕ) (looks : List (Option Looked)) (n from at done : ℕ) (seat : SeatView) (desks : List Desk)
+    → AreLines lines home nodes → WorkerAt may floor shelf state spells lines home nodes c counts looks n from at done seat desks → (s : ℕ) → sent_of (sent_by desks) s ≤ sent_of counts s
+sent_here may floor shelf state spells lines home nodes c counts looks n from at done seat desks are w = sent_within desks counts (λ s d there. by s d (w.each s d there) (w.ok.each s d there).few (cases_lt 0 d.asked))
+  where
+    by : (s : ℕ) (d : Desk) → DeskAt lines home c counts n from at done s d → d.sent ≤ d.asked → (0 < d.asked) ⊎ (d.asked ≤ 0) → d.sent ≤ sent_of counts s
+    by s d k few (inl some) = let is = k.sent (home_is lines home nodes are n s at (omega (arith, some, k.asked))) in omega (arith, is)
+    by s d k few (inr none) = omega (arith, few, none)
+
+-- .. also once answers were taken at them
+pub taken_here : (may : ℕ → Entry → Type 0) (floor : List Entry → ℕ → Type 0) (shelf : List ℕ) (state : List Entry → SpaceMap → Type 0) (spells : List ℕ → Saved → Type 0) (lines : List NamedLine) (home : ℕ → ℕ) (nodes : ℕ) (c : Course) (counts : List ℕ) (looks : List (Option Looked)) (n from at done : ℕ) (seat : SeatView) (desks desks' : List Desk)
+    → AreLines lines home nodes → WorkerAt may floor shelf state spells lines home nodes c counts looks n from at done seat desks → IsAnswered desks desks' → (s : ℕ) → sent_of (sent_by desks') s ≤ sent_of counts s
+taken_here may floor shelf state spells lines home nodes c counts looks n from at done seat desks desks' are w taken = sent_within desks' counts (λ s d there.
+    let y = taken s d there in
+    let low = sent_here may floor shelf state spells lines home nodes c counts looks n from at done seat desks are w s in
+    omega (arith, low, sent_at desks s y.0 y.1, ap (λ (z : Desk). z.sent) y.2))

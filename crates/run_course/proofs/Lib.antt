@@ -1,6 +1,5 @@
 pub mod Legal
 pub mod Stands
-pub mod Saying
 pub mod Told
 pub mod Lowest
 pub mod Script
@@ -9,6 +8,7 @@ pub mod Lines
 pub mod Ranks
 pub mod Replacing
 pub mod Unsealing
+pub mod Behind
 pub mod Advance
 pub mod Growing
 pub mod Coming

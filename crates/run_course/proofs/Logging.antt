@@ -1,7 +1,8 @@
 -- A line logged a command at its node.
-use Rattle.std.proofs.Common.{◌≡◌, ◌≢◌, refl, sym, ap, ◌∙◌, subst, inl, ⊎_elim, ℕ, ◌+◌, ◌<◌, ◌≤◌, ◌==◌, Bool, true, false, List, [], Option, Some, count_by, slice_get, slice_set, Contains, arith}
+use Rattle.std.proofs.Common.{◌≡◌, ◌≢◌, refl, sym, ap, ◌∙◌, subst, inl, ⊎_elim, ℕ, ◌+◌, ◌<◌, ◌≤◌, ◌==◌, Bool, true, false, List, [], Option, Some, count_by, slice_get, slice_set, length, Contains, arith}
 use Rattle.std.proofs.lemmas.Bool.{cases_lt}
 use Rattle.std.proofs.lemmas.Bool.Decides.{nat_tests}
+use Rattle.std.proofs.lemmas.List.{length-set}
 use Rattle.delos_types.specs.Spaces.{SpaceMap}
 use Rattle.delos_types.specs.declared.entry.Entry.{Entry}
 use Rattle.delos_types.specs.declared.cause.Cause.{Cause}
@@ -22,8 +23,9 @@ use Rattle.node_lines.specs.declared.desk.Desk.{Desk}
 use Rattle.node_lines.proofs.Spending.{all-events}
 use Rattle.node_lines.specs.declared.lines.Looked.{Looked}
 use Rattle.node_lines.specs.Moving.{IsQuiet, causes_of}
-use Rattle.node_lines.specs.Workers.{IsOfSessions, Logs, OwnAdds, Within, WorkerOk, sent_of}
+use Rattle.node_lines.specs.Workers.{IsOfSessions, Logs, OwnAdds, Within, WorkerOk, sent_by, sent_of}
 use Rattle.node_lines.proofs.Own.{all_adds}
+use Rattle.node_lines.proofs.Sent.{other_sent, sent_at, sent_set, set_rises, set_sent}
 use Rattle.run_laws.specs.Ended.{IsAtHome, session_in}
 use Rattle.run_laws.proofs.Members.{among-right, contained-among}
 use Rattle.run_laws.proofs.Placing.{same_some}
@@ -32,7 +34,7 @@ use Rattle.run_course.specs.Course.{Course, CourseOk, TurnOf}
 use Rattle.run_course.specs.Desks.{DeskAt, LoggedSo, PlayedSo}
 use Rattle.run_course.specs.Replacing.{has_replaced}
 use Rattle.run_course.specs.Workers.{LineWent, WorkerAt}
-use Rattle.run_course.proofs.Legal.{worker_legal}
+use Rattle.run_course.proofs.Legal.{sent_here, worker_legal}
 use Rattle.run_course.proofs.Told.{TellsOn, tells_commands}
 use Rattle.run_course.proofs.Lines.{asked_more, asked_none, asked_one, at_get, phase_before, rank_is}
 use Rattle.run_course.proofs.Advance.{advance_still, advanced, stores_counted, turned}
@@ -40,7 +42,7 @@ use Rattle.run_course.proofs.Unsealing.{still_unsealed}
 use Rattle.run_course.proofs.Growing.{DeskGrew, DeskOfOld, Grown, desk_same, ended_grows, grown_of, halted_grows, played_grows}
 use Rattle.run_course.proofs.Coming.{came_at, given_among, given_then}
 
-module _ (may : ℕ → Entry → Type 0) (floor : List Entry → ℕ → Type 0) (shelf : List ℕ) (state : List Entry → SpaceMap → Type 0) (spells : List ℕ → Saved → Type 0) (lines : List NamedLine) (home : ℕ → ℕ) (nodes : ℕ) (c : Course) (counts counts' : List ℕ) (looks : List (Option Looked)) (n from i : ℕ) (line : NamedLine) (session : Session) (rank : ℕ) (command : Command) (seat seat' : SeatView) (desks desks' : List Desk) (journal : List Event) (are : AreLines lines home nodes) (least : 1 ≤ n) (most : n ≤ nodes) (at : slice_get lines i ≡ Some line) (node : line.node ≡ n) (phase : line.phase ≡ c.phase) (asks_is : line.asks ≡ asks.Logged session rank command) (ok : CourseOk may floor shelf lines nodes c counts looks) (worker : WorkerAt may floor shelf state spells lines home nodes c counts looks n from i c.phase seat desks) (since : OwnSince n c.journal journal) (still : Unsealed c.journal journal) (adds : OwnAdds n IsOfSessions c.journal journal) (high : TrimsUpTo seat'.node.replica.cursor journal) (logs : Logs may floor shelf counts counts' (node_of seat c.journal) (node_of seat' journal) session.id desks desks') (now : WorkerOk may floor shelf state spells n counts' journal seat' desks') where
+module _ (may : ℕ → Entry → Type 0) (floor : List Entry → ℕ → Type 0) (shelf : List ℕ) (state : List Entry → SpaceMap → Type 0) (spells : List ℕ → Saved → Type 0) (lines : List NamedLine) (home : ℕ → ℕ) (nodes : ℕ) (c : Course) (counts : List ℕ) (looks : List (Option Looked)) (n from i : ℕ) (line : NamedLine) (session : Session) (rank : ℕ) (command : Command) (seat seat' : SeatView) (desks desks' : List Desk) (journal : List Event) (are : AreLines lines home nodes) (least : 1 ≤ n) (most : n ≤ nodes) (at : slice_get lines i ≡ Some line) (node : line.node ≡ n) (phase : line.phase ≡ c.phase) (asks_is : line.asks ≡ asks.Logged session rank command) (ok : CourseOk may floor shelf lines nodes c counts looks) (worker : WorkerAt may floor shelf state spells lines home nodes c counts looks n from i c.phase seat desks) (since : OwnSince n c.journal journal) (still : Unsealed c.journal journal) (adds : OwnAdds n IsOfSessions c.journal journal) (high : TrimsUpTo seat'.node.replica.cursor journal) (logs : Logs may floor shelf (node_of seat c.journal) (node_of seat' journal) session.id desks desks') (now : WorkerOk may floor shelf state spells n journal seat' desks') where
   here : (t : ℕ) → (session.id == t) ≡ true → session.id ≡ t
   here t e = grind (arith, nat_tests, e)
 
@@ -53,26 +55,51 @@ module _ (may : ℕ → Entry → Type 0) (floor : List Entry → ℕ → Type 0
   abbrev then' : Course
   then' = advanced c n came journal c.when
 
+  -- what was sent then
+  abbrev counts' : List ℕ
+  counts' = slice_set counts session.id logs.after.sent
+
+  there : session.id < length counts
+  there = omega (arith, ok.long, (worker.ok.each session.id logs.before logs.was_at).known)
+
+  counted : (s : ℕ) → (session.id == s) ≡ false → sent_of counts' s ≡ sent_of counts s
+  counted s e = other_sent counts session.id s logs.after.sent (apart s e)
+
+  at_home : home session.id ≡ n
+  at_home = sym (subst (IsAtHome home line.node) asks_is (at_get (λ (l : NamedLine). IsAtHome home l.node l.asks) lines i line are.at_home at)) ∙ node
+
+  was : DeskAt lines home c counts n from i c.phase session.id logs.before
+  was = worker.each session.id logs.before logs.was_at
+
   no_fewer : (s : ℕ) → sent_of counts s ≤ sent_of counts' s
-  no_fewer s = by (session.id == s) refl
+  no_fewer s = set_rises counts session.id logs.after.sent (omega (arith, was.sent at_home, logs.logs.more)) s
+
+  own_sent : (s : ℕ) → sent_of (sent_by desks') s ≤ sent_of counts' s
+  own_sent s = by (session.id == s) refl
     where
-      by : (b : Bool) → (session.id == s) ≡ b → sent_of counts s ≤ sent_of counts' s
-      by true e = subst (λ t. sent_of counts t ≤ sent_of counts' t) (here s e) logs.logs.more
-      by false e = omega (arith, logs.logs.counted s e)
+      by : (b : Bool) → (session.id == s) ≡ b → sent_of (sent_by desks') s ≤ sent_of counts' s
+      by true e = omega (
+        arith,
+        sent_at desks' s logs.after (ap (λ ds. slice_get ds s) logs.is_at ∙ ap (slice_get (slice_set desks session.id logs.after)) (sym (here s e)) ∙ set_same desks session.id logs.after logs.before logs.was_at),
+        ap (sent_of counts') (sym (here s e)) ∙ set_sent counts session.id logs.after.sent there,
+      )
+      by false e = omega (
+        arith,
+        ap (λ ds. sent_of (sent_by ds) s) logs.is_at ∙ ap (λ cs. sent_of cs s) (sent_set desks session.id logs.after) ∙ other_sent (sent_by desks) session.id s logs.after.sent (apart s e),
+        counted s e,
+        sent_here may floor shelf state spells lines home nodes c counts looks n from i c.phase seat desks are worker s,
+      )
 
   legal : IsLegal (Within may counts') floor shelf journal
-  legal = worker_legal may floor shelf state spells n counts counts' c.journal journal seat' desks' ok.legal since no_fewer now
+  legal = worker_legal may floor shelf state spells n counts counts' c.journal journal seat' desks' ok.legal since no_fewer own_sent now
 
   tells : TellsOn lines looks n seat.node.replica.cursor seat'.node.replica.cursor c.journal journal
   tells = tells_commands (Within may counts') floor shelf c.journal journal logs.logs.goes.spends.more logs.logs.goes.spends.seen legal lines looks looks n seat.node.replica.cursor seat'.node.replica.cursor (λ j x come. come) logs.logs.goes.keeps.forward ok.told (all_adds n IsOfSessions c.journal journal since adds)
 
   course_ok : CourseOk may floor shelf lines nodes then' counts' looks
-  course_ok = advance_still may floor shelf lines nodes c counts looks ok n came journal logs.logs.goes.spends.more c.when counts' logs.logs.goes.spends.seen legal least most
+  course_ok = advance_still may floor shelf lines nodes c counts looks ok n came journal logs.logs.goes.spends.more c.when counts' logs.logs.goes.spends.seen legal (length-set counts session.id logs.after.sent ∙ ok.long) least most
       (λ P store. let e = all-events logs.logs.goes.spends P store in omega (arith, e))
       (still_unsealed may floor shelf counts' c.journal journal (count_by has_replaced looks) legal still ok.unsealed) tells.told
-
-  at_home : home session.id ≡ n
-  at_home = sym (subst (IsAtHome home line.node) asks_is (at_get (λ (l : NamedLine). IsAtHome home l.node l.asks) lines i line are.at_home at)) ∙ node
 
   not_here : (s : ℕ) → s ≡ n → (s == n) ≡ false → ⊥
   not_here s e f = grind (arith, nat_tests, e, f)
@@ -82,7 +109,7 @@ module _ (may : ℕ → Entry → Type 0) (floor : List Entry → ℕ → Type 0
     where
       by : (b : Bool) → (session.id == s) ≡ b → sent_of counts' s ≡ sent_of counts s
       by true e = absurd (not_here (home s) (ap home (sym (here s e)) ∙ at_home) other)
-      by false e = logs.logs.counted s e
+      by false e = counted s e
 
   turn : TurnOf lines home n c then' counts counts' looks looks
   turn = turned lines home n c came journal c.when counts counts' looks looks since (λ s other. refl) others_sent no_fewer refl (λ j l get other. refl) tells.others (λ by none. refl)
@@ -92,10 +119,7 @@ module _ (may : ℕ → Entry → Type 0) (floor : List Entry → ℕ → Type 0
 
   -- Desks
 
-  was : DeskAt lines home c counts n from i c.phase session.id logs.before
-  was = worker.each session.id logs.before logs.was_at
-
-  grew : DeskGrew c then' session.id logs.before logs.after
+  grew : DeskGrew c then' seat.node.replica.cursor session.id logs.before logs.after
   grew = record {
     answered = λ a e. logs.logs.answered ∙ e;
     stopped = λ a e. let w = was.ended a e in logs.logs.stopped w.cause w.is ∙ sym w.is;
@@ -111,12 +135,12 @@ module _ (may : ℕ → Entry → Type 0) (floor : List Entry → ℕ → Type 0
   old_desk : (t : ℕ) (d : Desk) → slice_get desks' t ≡ Some d → (session.id == t) ≡ false → slice_get desks t ≡ Some d
   old_desk t d get e = sym (set_other desks session.id t logs.after (apart t e)) ∙ ap (λ ds. slice_get ds t) (sym logs.is_at) ∙ get
 
-  of_old : (t : ℕ) → DeskOfOld c then' desks desks' t
+  of_old : (t : ℕ) → DeskOfOld c then' seat.node.replica.cursor desks desks' t
   of_old t = λ d get. by d get (session.id == t) refl
     where
-      by : (d : Desk) → slice_get desks' t ≡ Some d → (b : Bool) → (session.id == t) ≡ b → (x : Desk) × (slice_get desks t ≡ Some x) × DeskGrew c then' t x d
-      by d get true e = (logs.before, ap (slice_get desks) (sym (here t e)) ∙ logs.was_at, subst (λ s. DeskGrew c then' s logs.before d) (here t e) (subst (DeskGrew c then' session.id logs.before) (own_desk t d get e) grew))
-      by d get false e = (d, old_desk t d get e, desk_same c then' t d refl)
+      by : (d : Desk) → slice_get desks' t ≡ Some d → (b : Bool) → (session.id == t) ≡ b → (x : Desk) × (slice_get desks t ≡ Some x) × DeskGrew c then' seat.node.replica.cursor t x d
+      by d get true e = (logs.before, ap (slice_get desks) (sym (here t e)) ∙ logs.was_at, subst (λ s. DeskGrew c then' seat.node.replica.cursor s logs.before d) (here t e) (subst (DeskGrew c then' seat.node.replica.cursor session.id logs.before) (own_desk t d get e) grew))
+      by d get false e = (d, old_desk t d get e, desk_same c then' seat.node.replica.cursor t d refl)
 
   one_more : asked_by lines n session.id (i + 1) ≡ asked_by lines n session.id i + 1
   one_more = asked_one lines n i line session rank command at node asks_is
@@ -127,9 +151,9 @@ module _ (may : ℕ → Entry → Type 0) (floor : List Entry → ℕ → Type 0
   own_at : DeskAt lines home then' counts' n from (i + 1) c.phase session.id logs.after
   own_at = record {
     asked = logs.logs.asked ∙ ap (λ k. k + 1) was.asked ∙ sym one_more;
-    sent = λ own. logs.logs.sent;
+    sent = λ own. sym (set_sent counts session.id logs.after.sent there);
     ended = λ a e. let first = sym logs.logs.answered ∙ e in
-        ended_grows may floor shelf c then' grown lines n c.phase c.phase session.id logs.before logs.after a (omega arith) first grew (was.ended a first);
+        ended_grows may floor shelf c then' grown lines n c.phase c.phase session.id seat.node.replica.cursor logs.before logs.after a (omega arith) first grew (was.ended a first);
     here = λ a e. at_home;
     halted = λ k none e. ⊎_elim
         (λ (before : logs.before.stopped ≡ Some k). halted_grows may floor shelf c then' grown lines n from i (i + 1) c.phase session.id k (asked_more lines n session.id i (i + 1) (omega arith))
@@ -146,8 +170,8 @@ module _ (may : ℕ → Entry → Type 0) (floor : List Entry → ℕ → Type 0
   old_at : (t : ℕ) (d : Desk) → (session.id == t) ≡ false → DeskAt lines home c counts n from i c.phase t d → DeskAt lines home then' counts' n from (i + 1) c.phase t d
   old_at t d e x = record {
     asked = x.asked ∙ sym (none_more t e);
-    sent = λ own. x.sent own ∙ sym (logs.logs.counted t e);
-    ended = λ a first. ended_grows may floor shelf c then' grown lines n c.phase c.phase t d d a (omega arith) first (desk_same c then' t d refl) (x.ended a first);
+    sent = λ own. x.sent own ∙ sym (counted t e);
+    ended = λ a first. ended_grows may floor shelf c then' grown lines n c.phase c.phase t seat.node.replica.cursor d d a (omega arith) first (desk_same c then' seat.node.replica.cursor t d refl) (x.ended a first);
     here = x.here;
     halted = λ k none stop. halted_grows may floor shelf c then' grown lines n from i (i + 1) c.phase t k (asked_more lines n t i (i + 1) (omega arith)) (x.halted k none stop);
     held = x.held;
@@ -218,9 +242,10 @@ module _ (may : ℕ → Entry → Type 0) (floor : List Entry → ℕ → Type 0
     stores = stores_counted lines n c.phase c.faults looks looks came [] came seat.node.replica.faults seat'.node.replica.faults (λ P. let e : count_by P came + 0 ≡ count_by P came = omega arith in e) (omega arith) logs.logs.goes.spends.disk worker.stores;
   }
 
-  pub line_logged : LineWent may floor shelf state spells lines home nodes c counts counts' looks looks n from (i + 1) journal seat' desks'
+  pub line_logged : LineWent may floor shelf state spells lines home nodes c counts looks looks n from (i + 1) journal seat' desks'
   line_logged = record {
     course = then';
+    sent = counts';
     journal_is = refl;
     ok = course_ok;
     turn = turn;

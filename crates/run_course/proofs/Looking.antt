@@ -30,17 +30,17 @@ use Rattle.node_lines.specs.declared.desk.Desk.{Desk}
 use Rattle.node_lines.specs.declared.lines.Looked.{Looked}
 use Rattle.node_lines.specs.declared.lines.Looked.TheVariants as looked
 use Rattle.node_lines.specs.Lines.{Looks, LooksSo}
-use Rattle.node_lines.specs.Workers.{IsOfSessions, MayRun, OwnAdds, OwnWithin, Within, WorkerOk}
+use Rattle.node_lines.specs.Workers.{IsOfSessions, MayRun, OwnAdds, OwnWithin, Within, WorkerOk, sent_by}
 use Rattle.node_lines.proofs.Own.{all_adds}
 use Rattle.run_laws.specs.Ended.{CameTo}
 use Rattle.run_laws.proofs.Placing.{same_some}
 use Rattle.run_course.specs.Script.{AreLines, BeginsAt, asked_by}
 use Rattle.run_course.specs.Course.{Course, CourseOk}
-use Rattle.run_course.specs.Desks.{DeskAt, LogsBefore, LookedSo, PlayedSo, SawSo, WasStopped}
+use Rattle.run_course.specs.Desks.{DeskAt, LogsBefore, LookedSo, PlayedSo, SawSo, WasFree, WasStopped}
 use Rattle.run_course.specs.Replacing.{AsksNode, has_replaced}
 use Rattle.run_course.specs.Telling.{HasToldSo, IsTrim}
 use Rattle.run_course.specs.Workers.{LineWent, WorkerAt}
-use Rattle.run_course.proofs.Legal.{worker_legal}
+use Rattle.run_course.proofs.Legal.{sent_here, worker_legal}
 use Rattle.run_course.proofs.Told.{TellsOn, looks_stay, tells_commands}
 use Rattle.run_course.proofs.Lines.{asked_more, asked_there, logs_before}
 use Rattle.run_course.proofs.Advance.{advanced, failed_of, tails_new, tails_old}
@@ -51,7 +51,7 @@ use Rattle.run_course.proofs.Replacing.{LooksOn}
 use Rattle.run_course.proofs.Unsealing.{count_same, still_unsealed}
 use Rattle.run_course.proofs.Playing as playing
 
-module _ (may : ℕ → Entry → Type 0) (floor : List Entry → ℕ → Type 0) (shelf : List ℕ) (state : List Entry → SpaceMap → Type 0) (spells : List ℕ → Saved → Type 0) (run : MayRun may floor shelf) (lines : List NamedLine) (home : ℕ → ℕ) (nodes : ℕ) (c : Course) (counts : List ℕ) (looks : List (Option Looked)) (n from i : ℕ) (line : NamedLine) (session : Session) (query : Query) (desk : Desk) (look : Looked) (seat seat' : SeatView) (desks : List Desk) (journal : List Event) (are : AreLines lines home nodes) (least : 1 ≤ n) (most : n ≤ nodes) (begins : BeginsAt lines from c.phase) (at : slice_get lines i ≡ Some line) (node : line.node ≡ n) (phase : line.phase ≡ c.phase) (asks_is : line.asks ≡ asks.Look session query) (ok : CourseOk may floor shelf lines nodes c counts looks) (worker : WorkerAt may floor shelf state spells lines home nodes c counts looks n from i c.phase seat desks) (since : OwnSince n c.journal journal) (still : Unsealed c.journal journal) (adds : OwnAdds n IsOfSessions c.journal journal) (high : TrimsUpTo seat'.node.replica.cursor journal) (desk_at : slice_get desks session.id ≡ Some desk) (does : Looks (OwnWithin n may counts) floor shelf (node_of seat c.journal) (node_of seat' journal) desk query look) (now : WorkerOk may floor shelf state spells n counts journal seat' desks) where
+module _ (may : ℕ → Entry → Type 0) (floor : List Entry → ℕ → Type 0) (shelf : List ℕ) (state : List Entry → SpaceMap → Type 0) (spells : List ℕ → Saved → Type 0) (run : MayRun may floor shelf) (lines : List NamedLine) (home : ℕ → ℕ) (nodes : ℕ) (c : Course) (counts : List ℕ) (looks : List (Option Looked)) (n from i : ℕ) (line : NamedLine) (session : Session) (query : Query) (desk : Desk) (look : Looked) (seat seat' : SeatView) (desks : List Desk) (journal : List Event) (are : AreLines lines home nodes) (least : 1 ≤ n) (most : n ≤ nodes) (begins : BeginsAt lines from c.phase) (at : slice_get lines i ≡ Some line) (node : line.node ≡ n) (phase : line.phase ≡ c.phase) (asks_is : line.asks ≡ asks.Look session query) (ok : CourseOk may floor shelf lines nodes c counts looks) (worker : WorkerAt may floor shelf state spells lines home nodes c counts looks n from i c.phase seat desks) (since : OwnSince n c.journal journal) (still : Unsealed c.journal journal) (adds : OwnAdds n IsOfSessions c.journal journal) (high : TrimsUpTo seat'.node.replica.cursor journal) (desk_at : slice_get desks session.id ≡ Some desk) (does : Looks (OwnWithin n may (sent_by desks)) floor shelf (node_of seat c.journal) (node_of seat' journal) desk query look) (now : WorkerOk may floor shelf state spells n journal seat' desks) where
   abbrev came : List Cause
   came = map (λ g. g.cause) does.moves.goes.given
 
@@ -91,7 +91,7 @@ module _ (may : ℕ → Entry → Type 0) (floor : List Entry → ℕ → Type 0
   none_replaced (looked.Trimmed trim) h = absurd h
 
   legal : IsLegal (Within may counts) floor shelf journal
-  legal = worker_legal may floor shelf state spells n counts counts c.journal journal seat' desks ok.legal since (λ s. omega arith) now
+  legal = worker_legal may floor shelf state spells n counts counts c.journal journal seat' desks ok.legal since (λ s. omega arith) (sent_here may floor shelf state spells lines home nodes c counts looks n from i c.phase seat desks are worker) now
 
   tells : TellsOn lines looks' n seat.node.replica.cursor seat'.node.replica.cursor c.journal journal
   tells =
@@ -111,6 +111,14 @@ module _ (may : ℕ → Entry → Type 0) (floor : List Entry → ℕ → Type 0
   trimmed : (trim : ℕ) → look ≡ looked.Trimmed trim → IsTrim lines looks' nodes journal i line trim
   trimmed trim is = absurd (subst (LooksSo (node_of seat c.journal) (node_of seat' journal) desk query does.others) is does.looks)
 
+  -- it looked at no less than the node had applied
+  high_read : (after : ℕ) (found : Found) → look ≡ looked.Found after found → seat.node.replica.cursor ≤ after
+  high_read after found is =
+      let h : LooksSo (node_of seat c.journal) (node_of seat' journal) desk query does.others (looked.Found after found) = subst (LooksSo (node_of seat c.journal) (node_of seat' journal) desk query does.others) is does.looks in
+      let same = h.4 in
+      let up = does.moves.goes.keeps.forward in
+      omega (arith, same, up)
+
   unsealed : faults_in journal ≡ [] → IsUnsealed (state_of journal) (count_by has_replaced looks')
   unsealed calm =
       subst (IsUnsealed (state_of journal)) (sym (count_same looks i look not_yet (none_replaced look does.looks)))
@@ -120,10 +128,10 @@ module _ (may : ℕ → Entry → Type 0) (floor : List Entry → ℕ → Type 0
   unlogged s = ap (is_of s) asks_is
 
   grown : Grown may floor shelf c then'
-  grown = playing.grown may floor shelf state spells lines home nodes c counts looks n from i line look seat seat' desks journal are least most at node phase unlogged ok worker since does.others does.moves (paid_is look does.looks) on own unsealed now tells (stood look does.looks) trimmed
+  grown = playing.grown may floor shelf state spells lines home nodes c counts looks n from i line look seat seat' desks desks (λ s d there. (d, there, refl, omega arith)) journal are least most at node phase unlogged ok worker since does.others does.moves (paid_is look does.looks) on own unsealed now tells (stood look does.looks) trimmed high_read
 
   all_given : AllByRecursion (λ g. CameTo then'.faults g.cause n c.phase) seat'.node.outbox.given
-  all_given = playing.all_given may floor shelf state spells lines home nodes c counts looks n from i line look seat seat' desks journal are least most at node phase unlogged ok worker since does.others does.moves (paid_is look does.looks) on own unsealed now tells (stood look does.looks) trimmed
+  all_given = playing.all_given may floor shelf state spells lines home nodes c counts looks n from i line look seat seat' desks desks (λ s d there. (d, there, refl, omega arith)) journal are least most at node phase unlogged ok worker since does.others does.moves (paid_is look does.looks) on own unsealed now tells (stood look does.looks) trimmed high_read
 
   -- The line
 
@@ -145,6 +153,13 @@ module _ (may : ℕ → Entry → Type 0) (floor : List Entry → ℕ → Type 0
     where
       none_some : (k : Cause) → None ≡ Some k → ⊥
       none_some k e = cc
+
+  none_some : (a : ℕ) → None ≡ Some a → ⊥
+  none_some a e = cc
+
+  -- a session that isn't closed wasn't stopped in an earlier phase
+  was_free : desk.answered ≡ None → WasFree then' desk line.phase session.id
+  was_free none = λ a e. absurd (none_some a (sym none ∙ e))
 
   found_so : (after : ℕ) (found : Found) → LooksSo (node_of seat c.journal) (node_of seat' journal) desk query does.others (looked.Found after found) → SawSo lines then' seat'.node.replica.cursor desk i line.phase session.id query after found
   found_so after found h =
@@ -172,16 +187,14 @@ module _ (may : ℕ → Entry → Type 0) (floor : List Entry → ℕ → Type 0
             let below = front_low may floor shelf run.low journal shows.log (legal_wider (Within may counts) may floor shelf (λ who e a. a.0) journal legal) shows.front in
             let long = shows.size in
             omega (arith, new, below, long);
-        free = λ a e. absurd (none_some a (sym (fine.ended h.1.0) ∙ e));
+        free = was_free (fine.ended h.1.0);
+        answered = λ a e. absurd (none_some a (sym (fine.ended h.1.0) ∙ e));
       }
-    where
-      none_some : (a : ℕ) → None ≡ Some a → ⊥
-      none_some a e = cc
 
-  stopped_so : (k : Cause) → desk.stopped ≡ Some k → (o : Option ℕ) → desk.answered ≡ o → WasStopped then' desk line.phase session.id k ⊎ (LogsBefore lines i session.id line.phase × CameTo then'.faults k n line.phase)
+  stopped_so : (k : Cause) → desk.stopped ≡ Some k → (o : Option ℕ) → desk.answered ≡ o → WasStopped then' desk line.phase session.id k ⊎ (LogsBefore lines i session.id line.phase × CameTo then'.faults k n line.phase × WasFree then' desk line.phase session.id)
   stopped_so k stop None none =
       let h = own_at.halted k none stop in
-      inr (logs_then h.asked, subst (CameTo then'.faults k n) (sym phase) (came_grows may floor shelf c then' grown k n c.phase h.came))
+      inr (logs_then h.asked, subst (CameTo then'.faults k n) (sym phase) (came_grows may floor shelf c then' grown k n c.phase h.came), was_free none)
   stopped_so k stop (Some a) first =
       let w = own_at.ended a first in
       inl (record { answered = subst IsSome (sym first) refl; cause_is = stop; earlier = omega (arith, w.before, phase) })
@@ -190,9 +203,9 @@ module _ (may : ℕ → Entry → Type 0) (floor : List Entry → ℕ → Type 0
   looked_so (looked.Found after found) h = found_so after found h
   looked_so (looked.Kept k) h = ⊎_elim (λ (stop : desk.stopped ≡ Some k). stopped_so k stop desk.answered refl)
       (λ (has : (desk.stopped ≡ None) × (cause_in desk.session seat'.node.outbox.given ≡ Some k)).
-      inr (logs_then (had_asked k has.1), subst (CameTo then'.faults k n) (sym phase) (cause_came (λ x. CameTo then'.faults x n c.phase) desk.session seat'.node.outbox.given k all_given has.1)))
+      inr (logs_then (had_asked k has.1), subst (CameTo then'.faults k n) (sym phase) (cause_came (λ x. CameTo then'.faults x n c.phase) desk.session seat'.node.outbox.given k all_given has.1), was_free ((worker.ok.each session.id desk desk_at).ended has.0)))
       h.1
-  looked_so (looked.Failed k) h = tt
+  looked_so (looked.Failed k) h = was_free ((worker.ok.each session.id desk desk_at).ended h.1)
   looked_so (looked.Extended x) h = h
   looked_so (looked.Reported position) h = h
   looked_so looked.Left h = h
@@ -202,5 +215,5 @@ module _ (may : ℕ → Entry → Type 0) (floor : List Entry → ℕ → Type 0
   line_played = subst (PlayedSo lines then' c.phase seat'.node.replica.cursor n desks looks' i line.phase) (sym asks_is)
       (look, set_same looks i (Some look) None not_yet, λ d get. subst (λ x. LookedSo lines then' seat'.node.replica.cursor n x i line.phase session.id query look) (same_some desk d (sym desk_at ∙ get)) (looked_so look does.looks))
 
-  pub line_looked : LineWent may floor shelf state spells lines home nodes c counts counts looks looks' n from (i + 1) journal seat' desks
-  line_looked = playing.line_went may floor shelf state spells lines home nodes c counts looks n from i line look seat seat' desks journal are least most at node phase unlogged ok worker since does.others does.moves (paid_is look does.looks) on own unsealed now tells (stood look does.looks) trimmed high line_played
+  pub line_looked : LineWent may floor shelf state spells lines home nodes c counts looks looks' n from (i + 1) journal seat' desks
+  line_looked = playing.line_went may floor shelf state spells lines home nodes c counts looks n from i line look seat seat' desks desks (λ s d there. (d, there, refl, omega arith)) journal are least most at node phase unlogged ok worker since does.others does.moves (paid_is look does.looks) on own unsealed now tells (stood look does.looks) trimmed high_read high line_played

@@ -1,11 +1,9 @@
 -- Where a node trimmed the log, some node had reported no more than that, and hadn't left.
-use Rattle.std.proofs.Common.{◌≡◌, sym, ap, ◌∙◌, subst, inl, inr, ℕ, zero, suc, ◌≤◌, true, false, List, [], ◌∷◌, ◌++◌, length, Option, Some, slice_get, Contains, arith}
+use Rattle.std.proofs.Common.{◌≡◌, sym, ◌∙◌, subst, ℕ, ◌≤◌, true, false, List, ◌++◌, length, Option, Some, slice_get, arith}
 use Rattle.delos_types.specs.declared.entry.Entry.{Entry}
 use Rattle.legal_journal.specs.declared.events.Event.{Event}
 use Rattle.legal_journal.specs.Journal.{IsLegal, state_of, tail_of}
 use Rattle.virtual_log.specs.Holding.{Holds}
-use Rattle.journal_laws.specs.Changes.{appended}
-use Rattle.journal_laws.proofs.Changes.{held_appended}
 use Rattle.engine_api.specs.declared.content.Content.TheVariants as content
 use Rattle.engine_api.specs.Acted.{unpack_all}
 use Rattle.engine_api.specs.Members.{has_left, least_position, position_of}
@@ -16,24 +14,12 @@ use Rattle.script_text.specs.declared.asks.NamedLine.{NamedLine}
 use Rattle.node_lines.specs.declared.lines.Looked.{Looked}
 use Rattle.node_lines.specs.declared.lines.Looked.TheVariants as looked
 use Rattle.node_lines.specs.Workers.{HasNotLeft}
-use Rattle.run_laws.proofs.Members.{Among, contained-among}
+use Rattle.node_lines.proofs.Cleaning.{front_appended}
+use Rattle.node_lines.proofs.Saying.{is_member}
 use Rattle.run_course.specs.Telling.{GoesFirst, HasToldSo, IsLowest, StaysBelow}
 use Rattle.run_course.proofs.Stands.{said_in}
-use Rattle.run_course.proofs.Saying.{is_member}
-
--- an entry of a log stands at some position of it
-pub stands_at : (log : List Entry) (e : Entry) → Contains log e → (pos : ℕ) × (slice_get log pos ≡ Some e)
-stands_at log e h = one log (contained-among log e h)
-  where
-    one : (es : List Entry) → Among es e → (pos : ℕ) × (slice_get es pos ≡ Some e)
-    one [] m = absurd m
-    one (x ∷ es) (inl same) = (zero, ap {B = Option Entry} (λ y. Some y) same)
-    one (x ∷ es) (inr m) = let r = one es m in (suc r.0, r.1)
 
 module _ (may : ℕ → Entry → Type 0) (floor : List Entry → ℕ → Type 0) (shelf : List ℕ) (low : (log : List Entry) (n : ℕ) → floor log n → n ≤ length log) (old new more : List Event) (seen : new ≡ old ++ more) (legal : IsLegal may floor shelf new) (log : List Entry) (front : IsFront Holds new log) (reach : tail_of (state_of old) ≤ length log) where
-  each_appended : (e : Entry) → Contains log e → Contains (appended new) e
-  each_appended e h = let at = stands_at log e h in held_appended may floor shelf new at.0 e legal (front at.0 e at.1)
-
   -- what a line of a member came to stays below its position
   below : (node : ℕ) (look : Looked) (trim : ℕ) → has_left (unpack_all 0 log) node ≡ false → ((n : ℕ) → n ≤ position_of (unpack_all 0 log) node → n ≤ trim) → HasToldSo old node look → StaysBelow trim look
   below node (looked.Found after found) trim stays upto h = tt
@@ -63,4 +49,4 @@ module _ (may : ℕ → Entry → Type 0) (floor : List Entry → ℕ → Type 0
   }
     where
       first : IsLeast nodes (unpack_all 0 log)
-      first = least_at nodes n (unpack_all 0 log) least most (is_member new log each_appended n stays)
+      first = least_at nodes n (unpack_all 0 log) least most (is_member new log (front_appended may floor shelf new log legal front) n stays)

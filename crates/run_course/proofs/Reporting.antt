@@ -1,5 +1,5 @@
 -- A line had its node report how much of the log is clean.
-use Rattle.std.proofs.Common.{◌≡◌, ◌⊎◌, refl, ap, subst, ℕ, ◌+◌, ◌≤◌, List, [], ◌∷◌, Option, Some, None, map, slice_get, slice_set, arith}
+use Rattle.std.proofs.Common.{◌≡◌, ◌⊎◌, refl, ap, subst, ℕ, ◌+◌, ◌<◌, ◌≤◌, List, [], ◌∷◌, Option, Some, None, map, slice_get, slice_set, Contains, arith}
 use Rattle.delos_types.specs.Spaces.{SpaceMap}
 use Rattle.delos_types.specs.declared.entry.Entry.{Entry}
 use Rattle.legal_journal.specs.declared.events.Event.{Event}
@@ -8,6 +8,8 @@ use Rattle.legal_journal.specs.Sealing.{Unsealed}
 use Rattle.journal_laws.specs.Changes.{Adds, TrimsUpTo}
 use Rattle.virtual_log.specs.declared.extend.Extension.{Extension}
 use Rattle.engine_api.specs.declared.content.Content.TheVariants as content
+use Rattle.engine_api.specs.declared.content.Placed.{Placed}
+use Rattle.engine_api.specs.Items.{unpack}
 use Rattle.engine_api.specs.Packing.{alive_item, packed}
 use Rattle.replica_api.specs.Replica.{Saved}
 use Rattle.base_engine.specs.Node.{NodeView}
@@ -21,16 +23,17 @@ use Rattle.node_lines.specs.declared.desk.Desk.{Desk}
 use Rattle.node_lines.specs.declared.lines.Looked.{Looked}
 use Rattle.node_lines.specs.declared.lines.Looked.TheVariants as looked
 use Rattle.node_lines.specs.Reporting.{HasTold, Reports, ReportsSo}
-use Rattle.node_lines.specs.Workers.{IsOfSessions, OwnWithin, ReportAdds, SaysAlone, Within, WorkerOk}
-use Rattle.node_lines.proofs.Own.{all_adds}
+use Rattle.node_lines.specs.Workers.{IsOfSessions, OwnWithin, ReportAdds, SaysAlone, Within, WorkerOk, sent_by}
+use Rattle.node_lines.proofs.Own.{all_adds, own_appended}
 use Rattle.run_course.specs.Script.{AreLines}
 use Rattle.run_course.specs.Course.{Course, CourseOk}
 use Rattle.run_course.specs.Desks.{IsOfNode}
 use Rattle.run_course.specs.Leaving.{LeftSo}
 use Rattle.run_course.specs.Reporting.{IsReport, ReportedSo}
-use Rattle.run_course.specs.Telling.{AskedFor, HasToldSo, TellsAtLeast}
+use Rattle.run_course.specs.Telling.{AskedFor, HasToldSo, IsReportedBehind, TellsAtLeast, ToldSo}
 use Rattle.run_course.specs.Workers.{LineWent, WorkerAt}
-use Rattle.run_course.proofs.Legal.{worker_legal}
+use Rattle.run_course.proofs.Legal.{sent_here, worker_legal}
+use Rattle.run_course.proofs.Stands.{front_on, in_other}
 use Rattle.run_course.proofs.Told.{TellsOn, looks_stay, tells_one}
 use Rattle.run_course.proofs.Advance.{advanced, failed_of, tails_old}
 use Rattle.run_course.proofs.Telling.{held_still, line_told, stands_now}
@@ -49,7 +52,7 @@ module _ (may : ℕ → Entry → Type 0) (floor : List Entry → ℕ → Type 0
         stands = stands_now may floor shelf old.who told.synced new.seen e legal told.landed (content.Alive old.replica.origin position) told.says;
       }
 
-module _ (may : ℕ → Entry → Type 0) (floor : List Entry → ℕ → Type 0) (shelf : List ℕ) (state : List Entry → SpaceMap → Type 0) (spells : List ℕ → Saved → Type 0) (lines : List NamedLine) (home : ℕ → ℕ) (nodes : ℕ) (c : Course) (counts : List ℕ) (looks : List (Option Looked)) (n from i : ℕ) (line : NamedLine) (look : Looked) (seat seat' : SeatView) (desks : List Desk) (journal : List Event) (are : AreLines lines home nodes) (least : 1 ≤ n) (most : n ≤ nodes) (at : slice_get lines i ≡ Some line) (node : line.node ≡ n) (phase : line.phase ≡ c.phase) (asks_is : line.asks ≡ asks.Admin Alive) (ok : CourseOk may floor shelf lines nodes c counts looks) (worker : WorkerAt may floor shelf state spells lines home nodes c counts looks n from i c.phase seat desks) (since : OwnSince n c.journal journal) (still : Unsealed c.journal journal) (adds : ReportAdds n seat'.node.replica.cursor c.journal journal look) (high : TrimsUpTo seat'.node.replica.cursor journal) (does : Reports (OwnWithin n may counts) floor shelf (node_of seat c.journal) (node_of seat' journal) look) (now : WorkerOk may floor shelf state spells n counts journal seat' desks) where
+module _ (may : ℕ → Entry → Type 0) (floor : List Entry → ℕ → Type 0) (shelf : List ℕ) (state : List Entry → SpaceMap → Type 0) (spells : List ℕ → Saved → Type 0) (lines : List NamedLine) (home : ℕ → ℕ) (nodes : ℕ) (c : Course) (counts : List ℕ) (looks : List (Option Looked)) (n from i : ℕ) (line : NamedLine) (look : Looked) (seat seat' : SeatView) (desks : List Desk) (journal : List Event) (are : AreLines lines home nodes) (least : 1 ≤ n) (most : n ≤ nodes) (at : slice_get lines i ≡ Some line) (node : line.node ≡ n) (phase : line.phase ≡ c.phase) (asks_is : line.asks ≡ asks.Admin Alive) (ok : CourseOk may floor shelf lines nodes c counts looks) (worker : WorkerAt may floor shelf state spells lines home nodes c counts looks n from i c.phase seat desks) (since : OwnSince n c.journal journal) (still : Unsealed c.journal journal) (adds : ReportAdds n seat'.node.replica.cursor c.journal journal look) (high : TrimsUpTo seat'.node.replica.cursor journal) (does : Reports (OwnWithin n may (sent_by desks)) floor shelf (node_of seat c.journal) (node_of seat' journal) look) (now : WorkerOk may floor shelf state spells n journal seat' desks) where
   abbrev then' : Course
   then' = advanced c n (map (λ g. g.cause) does.moves.goes.given) journal c.when
 
@@ -57,7 +60,7 @@ module _ (may : ℕ → Entry → Type 0) (floor : List Entry → ℕ → Type 0
   So = ReportsSo (node_of seat c.journal) (node_of seat' journal) does.others
 
   legal : IsLegal (Within may counts) floor shelf journal
-  legal = worker_legal may floor shelf state spells n counts counts c.journal journal seat' desks ok.legal since (λ s. omega arith) now
+  legal = worker_legal may floor shelf state spells n counts counts c.journal journal seat' desks ok.legal since (λ s. omega arith) (sent_here may floor shelf state spells lines home nodes c counts looks n from i c.phase seat desks are worker) now
 
   not_yet : slice_get looks i ≡ Some None
   not_yet = worker.waiting i line (omega arith) at node
@@ -144,10 +147,25 @@ module _ (may : ℕ → Entry → Type 0) (floor : List Entry → ℕ → Type 0
   added : Adds (λ e. IsOfSessions e ⊎ SaysAlone (content.Alive n adds.position) e) c.journal journal
   added = all_adds n (λ e. IsOfSessions e ⊎ SaysAlone (content.Alive n adds.position) e) c.journal journal since adds.adds
 
+  abbrev more : List Event
+  more = does.moves.goes.spends.more
+
+  -- No entry below the position says so: those that did before stand behind it, and what it told now wasn't there yet.
+  none_below : (e : Entry) (p : Placed) (k : ℕ) → k < adds.position → slice_get adds.clean.log k ≡ Some e → Contains (unpack 0 e) p → p.content ≡ content.Alive n adds.position → ⊥
+  none_below e p k early stands there is =
+      let was = own_appended n c.journal e (adds.before k e p early stands there is) in
+      let told = subst (ToldSo lines looks c.journal) is (ok.told e p was there) in
+      let b = told.0 in
+      let front = front_on (Within may counts) floor shelf c.journal journal more does.moves.goes.spends.seen legal b.clean.log b.clean.front in
+      b.behind k e p early (in_other (Within may counts) floor shelf c.journal journal more does.moves.goes.spends.seen legal adds.clean.log b.clean.log adds.clean.front front k e stands (omega (arith, early, b.clean.within))) there is
+
+  behind : IsReportedBehind journal n adds.position
+  behind = record { clean = adds.clean; behind = λ k e p early stands there is. none_below e p k early stands there is }
+
   tells : TellsOn lines looks' n seat.node.replica.cursor seat'.node.replica.cursor c.journal journal
   tells =
       tells_one (Within may counts) floor shelf c.journal journal does.moves.goes.spends.more does.moves.goes.spends.seen legal lines looks looks' n seat.node.replica.cursor seat'.node.replica.cursor
-      (looks_stay looks i look not_yet) does.moves.goes.keeps.forward ok.told (content.Alive n adds.position) (adds.clean, asked) (refl, adds.low) added
+      (looks_stay looks i look not_yet) does.moves.goes.keeps.forward ok.told (content.Alive n adds.position) (behind, asked) (refl, adds.low) added
 
   stood : (x : Looked) → So x → ReportedSo journal (then'.tails line.phase) seat'.node.replica.cursor n x → HasToldSo journal n x
   stood (looked.Found after found) h r = tt
@@ -158,8 +176,8 @@ module _ (may : ℕ → Entry → Type 0) (floor : List Entry → ℕ → Type 0
   stood looked.Left h r = absurd h
   stood (looked.Trimmed trim) h r = tt
 
-  pub line_reported : LineWent may floor shelf state spells lines home nodes c counts counts looks (slice_set looks i (Some look)) n from (i + 1) journal seat' desks
+  pub line_reported : LineWent may floor shelf state spells lines home nodes c counts looks (slice_set looks i (Some look)) n from (i + 1) journal seat' desks
   line_reported =
-      line_told may floor shelf state spells lines home nodes c counts looks n from i line Alive look seat seat' desks journal are least most at node phase asks_is ok worker since still does.others does.moves now none
+      line_told may floor shelf state spells lines home nodes c counts looks n from i line Alive look seat seat' desks desks (λ s d there. (d, there, refl, omega arith)) journal are least most at node phase asks_is ok worker since still does.others does.moves now none
       (paid_is look does.tells) (of_node look does.tells) (reported look does.tells) (none_left look does.tells)
       tells (stood look does.tells (reported look does.tells)) (λ trim is. absurd (subst So is does.tells)) high

@@ -1,5 +1,5 @@
 -- What a log holds it holds at each later moment, and what it says then stands there still.
-use Rattle.std.proofs.Common.{◌≡◌, refl, sym, ap, ◌∙◌, subst, inl, inr, ℕ, ◌≤◌, List, [], ◌∷◌, ◌++◌, Option, Some, map, length, Contains, arith}
+use Rattle.std.proofs.Common.{◌≡◌, refl, sym, ap, ◌∙◌, subst, inl, inr, ℕ, ◌<◌, ◌≤◌, List, [], ◌∷◌, ◌++◌, Option, Some, map, length, slice_get, Contains, arith}
 use Rattle.delos_types.specs.declared.entry.Entry.{Entry}
 use Rattle.legal_journal.specs.declared.events.Event.{Event}
 use Rattle.legal_journal.specs.Journal.{IsLegal, state_of, tail_of, trim_of}
@@ -19,6 +19,7 @@ use Rattle.turn_scopes.proofs.Bounds.{stands_below}
 use Rattle.node_lines.specs.Measuring.{IsCleanPoint}
 use Rattle.run_laws.proofs.Members.{Among, among-get, contained-among, contains-among}
 use Rattle.run_course.specs.Reporting.{StandsThere}
+use Rattle.run_course.specs.Telling.{IsSaidBehind}
 
 -- some item says it
 pub says_one : (ps : List Placed) (c : Content) → Contains (map (λ p. p.content) ps) c → (p : Placed) × Contains ps p × (p.content ≡ c)
@@ -44,8 +45,20 @@ module _ (may : ℕ → Entry → Type 0) (floor : List Entry → ℕ → Type 0
   abbrev pub stands_on : (c : Content) → StandsThere old c → StandsThere new c
   stands_on c h = record { at = h.at; entry = h.entry; held = held_on h.at h.entry h.held; says = h.says }
 
+  -- what stands in one front stands in each other that goes so far
+  pub in_other : (a b : List Entry) → IsFront Holds new a → IsFront Holds new b → (i : ℕ) (e : Entry) → slice_get a i ≡ Some e → i < length b → slice_get b i ≡ Some e
+  in_other a b one other i e is within =
+      let x = at b i within in
+      x.is ∙ ap {B = Option Entry} (λ y. Some y) (sym (holds_agree may floor shelf new i e x.element legal (one i e is) (other i x.element x.is)))
+
   pub clean_on : (n : ℕ) → IsCleanPoint old n → IsCleanPoint new n
   clean_on n h = record { log = h.log; front = front_on h.log h.front; within = h.within; clean = h.clean }
+
+  pub behind_on : (n : ℕ) (c : Content) → IsSaidBehind old n c → IsSaidBehind new n c
+  behind_on n c h = record {
+    clean = record { log = h.clean.log; front = front_on h.clean.log h.clean.front; within = h.clean.within; clean = h.clean.clean };
+    behind = h.behind;
+  }
 
   pub trim_rises : trim_of (state_of old) ≤ trim_of (state_of new)
   trim_rises = subst (λ l. trim_of (state_of old) ≤ trim_of (state_of l)) (sym seen) (goes_on may floor shelf old more whole).trim

@@ -19,7 +19,9 @@ use Rattle.replica_api.specs.Replica.{Saved}
 use Rattle.base_engine.specs.Holding.{held_stays}
 use Rattle.base_engine.specs.Trimming.{IsAppended}
 use Rattle.base_engine.proofs.Landing.{On, on_on}
+use Rattle.table_core.specs.declared.command.Found.{Found}
 use Rattle.script_text.specs.declared.line.Admin.{Admin}
+use Rattle.script_text.specs.declared.line.Admin.TheVariants.{Extend, Alive, Retire, Trim}
 use Rattle.script_text.specs.declared.asks.NamedLine.{NamedLine}
 use Rattle.script_text.specs.declared.asks.Asks.TheVariants as asks
 use Rattle.fitting_run.specs.Lines.{is_of, logs_for}
@@ -30,7 +32,8 @@ use Rattle.node_lines.specs.declared.desk.Desk.{Desk}
 use Rattle.node_lines.specs.declared.lines.Looked.{Looked}
 use Rattle.node_lines.specs.declared.lines.Looked.TheVariants as looked
 use Rattle.node_lines.specs.Moving.{Moves}
-use Rattle.node_lines.specs.Workers.{OwnWithin, WorkerOk}
+use Rattle.node_lines.specs.Turns.{IsAnswered}
+use Rattle.node_lines.specs.Workers.{OwnWithin, WorkerOk, sent_by}
 use Rattle.run_course.specs.Script.{AreLines}
 use Rattle.run_course.specs.Course.{Course, CourseOk}
 use Rattle.run_course.specs.Desks.{IsOfNode, PlayedSo}
@@ -39,7 +42,7 @@ use Rattle.run_course.specs.Replacing.{AsksNode, has_replaced}
 use Rattle.run_course.specs.Reporting.{ReportedSo, StandsThere}
 use Rattle.run_course.specs.Telling.{HasToldSo, IsTrim}
 use Rattle.run_course.specs.Workers.{LineWent, WorkerAt}
-use Rattle.run_course.proofs.Legal.{worker_legal}
+use Rattle.run_course.proofs.Legal.{taken_here, worker_legal}
 use Rattle.run_course.proofs.Told.{TellsOn}
 use Rattle.run_course.proofs.Advance.{advanced, failed_of}
 use Rattle.run_course.proofs.Replacing.{LooksOn}
@@ -84,7 +87,14 @@ none_replaced (looked.Reported position) none = refl
 none_replaced looked.Left none = refl
 none_replaced (looked.Trimmed trim) none = refl
 
-module _ (may : ℕ → Entry → Type 0) (floor : List Entry → ℕ → Type 0) (shelf : List ℕ) (state : List Entry → SpaceMap → Type 0) (spells : List ℕ → Saved → Type 0) (lines : List NamedLine) (home : ℕ → ℕ) (nodes : ℕ) (c : Course) (counts : List ℕ) (looks : List (Option Looked)) (n from i : ℕ) (line : NamedLine) (admin : Admin) (look : Looked) (seat seat' : SeatView) (desks : List Desk) (journal : List Event) (are : AreLines lines home nodes) (least : 1 ≤ n) (most : n ≤ nodes) (at : slice_get lines i ≡ Some line) (node : line.node ≡ n) (phase : line.phase ≡ c.phase) (asks_is : line.asks ≡ asks.Admin admin) (ok : CourseOk may floor shelf lines nodes c counts looks) (worker : WorkerAt may floor shelf state spells lines home nodes c counts looks n from i c.phase seat desks) (since : OwnSince n c.journal journal) (still : Unsealed c.journal journal) (others : List Cause) (moves : Moves (OwnWithin n may counts) floor shelf (node_of seat c.journal) (node_of seat' journal) others) (now : WorkerOk may floor shelf state spells n counts journal seat' desks) where
+-- what is asked of a node itself is no read
+not_found : (a : Admin) (after : ℕ) (found : Found) → IsOfNode a (looked.Found after found) → ⊥
+not_found Extend after found h = h
+not_found Alive after found h = h
+not_found Trim after found h = h
+not_found Retire after found h = h
+
+module _ (may : ℕ → Entry → Type 0) (floor : List Entry → ℕ → Type 0) (shelf : List ℕ) (state : List Entry → SpaceMap → Type 0) (spells : List ℕ → Saved → Type 0) (lines : List NamedLine) (home : ℕ → ℕ) (nodes : ℕ) (c : Course) (counts : List ℕ) (looks : List (Option Looked)) (n from i : ℕ) (line : NamedLine) (admin : Admin) (look : Looked) (seat seat' : SeatView) (desks desks' : List Desk) (taken : IsAnswered desks desks') (journal : List Event) (are : AreLines lines home nodes) (least : 1 ≤ n) (most : n ≤ nodes) (at : slice_get lines i ≡ Some line) (node : line.node ≡ n) (phase : line.phase ≡ c.phase) (asks_is : line.asks ≡ asks.Admin admin) (ok : CourseOk may floor shelf lines nodes c counts looks) (worker : WorkerAt may floor shelf state spells lines home nodes c counts looks n from i c.phase seat desks) (since : OwnSince n c.journal journal) (still : Unsealed c.journal journal) (others : List Cause) (moves : Moves (OwnWithin n may (sent_by desks)) floor shelf (node_of seat c.journal) (node_of seat' journal) others) (now : WorkerOk may floor shelf state spells n journal seat' desks') where
   abbrev then' : Course
   then' = advanced c n (map (λ g. g.cause) moves.goes.given) journal c.when
 
@@ -105,13 +115,13 @@ module _ (may : ℕ → Entry → Type 0) (floor : List Entry → ℕ → Type 0
     unsealed : faults_in journal ≡ [] → IsUnsealed (state_of journal) (count_by has_replaced (slice_set looks i (Some look)))
     unsealed calm =
         subst (IsUnsealed (state_of journal)) (sym (count_same looks i look not_yet (none_replaced look none)))
-        (still_unsealed may floor shelf counts c.journal journal (count_by has_replaced looks) (worker_legal may floor shelf state spells n counts counts c.journal journal seat' desks ok.legal since (λ s. omega arith) now) still ok.unsealed calm)
+        (still_unsealed may floor shelf counts c.journal journal (count_by has_replaced looks) (worker_legal may floor shelf state spells n counts counts c.journal journal seat' desks' ok.legal since (λ s. omega arith) (taken_here may floor shelf state spells lines home nodes c counts looks n from i c.phase seat desks desks' are worker taken) now) still ok.unsealed calm)
 
-    line_played : PlayedSo lines then' c.phase seat'.node.replica.cursor n desks (slice_set looks i (Some look)) i line.phase line.asks
-    line_played = subst (PlayedSo lines then' c.phase seat'.node.replica.cursor n desks (slice_set looks i (Some look)) i line.phase) (sym asks_is)
+    line_played : PlayedSo lines then' c.phase seat'.node.replica.cursor n desks' (slice_set looks i (Some look)) i line.phase line.asks
+    line_played = subst (PlayedSo lines then' c.phase seat'.node.replica.cursor n desks' (slice_set looks i (Some look)) i line.phase) (sym asks_is)
         (look, set_same looks i (Some look) None not_yet, of_node, reported, left)
 
-    pub line_told : LineWent may floor shelf state spells lines home nodes c counts counts looks (slice_set looks i (Some look)) n from (i + 1) journal seat' desks
+    pub line_told : LineWent may floor shelf state spells lines home nodes c counts looks (slice_set looks i (Some look)) n from (i + 1) journal seat' desks'
     line_told =
-        line_went may floor shelf state spells lines home nodes c counts looks n from i line look seat seat' desks journal are least most at node phase unlogged ok worker since others moves paid_is on own unsealed now
-        tells stood trimmed high line_played
+        line_went may floor shelf state spells lines home nodes c counts looks n from i line look seat seat' desks desks' taken journal are least most at node phase unlogged ok worker since others moves paid_is on own unsealed now
+        tells stood trimmed (λ after found is. absurd (not_found admin after found (subst (IsOfNode admin) is of_node))) high line_played

@@ -16,13 +16,12 @@ use Rattle.script_text.specs.declared.asks.NamedLine.{NamedLine}
 use Rattle.fabric_core.proofs.Marks.{set_other}
 use Rattle.node_lines.specs.declared.lines.Looked.{Looked}
 use Rattle.node_lines.specs.declared.lines.Looked.TheVariants as looked
-use Rattle.node_lines.specs.Measuring.{IsCleanPoint}
 use Rattle.node_lines.specs.Workers.{IsCommand, IsOfSessions, ReportsUpTo, SaysAlone}
 use Rattle.run_laws.proofs.Members.{Among, all-at, among-map, contained-among}
 use Rattle.run_laws.proofs.Placing.{same_some}
 use Rattle.run_course.specs.Reporting.{StandsThere}
-use Rattle.run_course.specs.Telling.{AreTold, AskedFor, GoesFirst, HasToldSo, IsTrim, ToldSo}
-use Rattle.run_course.proofs.Stands.{clean_on}
+use Rattle.run_course.specs.Telling.{AreTold, AskedFor, GoesFirst, HasToldSo, IsSaidBehind, IsTrim, ToldSo}
+use Rattle.run_course.proofs.Stands.{behind_on}
 
 -- Entries
 
@@ -97,11 +96,11 @@ told_command lines looks journal n cursor (content.Alive node position) h = absu
 told_command lines looks journal n cursor (content.Leave node) h = absurd h
 told_command lines looks journal n cursor (content.Trim position) h = absurd h
 
-told_on : (lines : List NamedLine) (looks looks' : List (Option Looked)) (old new : List Event) → LooksStay looks looks' → ((n : ℕ) → IsCleanPoint old n → IsCleanPoint new n) → (c : Content) → ToldSo lines looks old c → ToldSo lines looks' new c
-told_on lines looks looks' old new stay clean (content.Session s r x) h = tt
-told_on lines looks looks' old new stay clean (content.Alive node n) h = (clean n h.0, asked_on lines looks looks' node _ _ stay h.1)
-told_on lines looks looks' old new stay clean (content.Leave node) h = asked_on lines looks looks' node _ _ stay h
-told_on lines looks looks' old new stay clean (content.Trim n) h = clean n h
+told_on : (lines : List NamedLine) (looks looks' : List (Option Looked)) (old new : List Event) → LooksStay looks looks' → ((n : ℕ) (c : Content) → IsSaidBehind old n c → IsSaidBehind new n c) → (c : Content) → ToldSo lines looks old c → ToldSo lines looks' new c
+told_on lines looks looks' old new stay behind (content.Session s r x) h = tt
+told_on lines looks looks' old new stay behind (content.Alive node n) h = (behind n (content.Alive node n) h.0, asked_on lines looks looks' node _ _ stay h.1)
+told_on lines looks looks' old new stay behind (content.Leave node) h = asked_on lines looks looks' node _ _ stay h
+told_on lines looks looks' old new stay behind (content.Trim n) h = behind n (content.Trim n) h
 
 -- What was told in a node's turn, or a part of it: only what lines asked it to tell.
 pub record TellsOn (lines : List NamedLine) (looks' : List (Option Looked)) (n cursor cursor' : ℕ) (old new : List Event) : Type 0 where
@@ -112,7 +111,7 @@ pub record TellsOn (lines : List NamedLine) (looks' : List (Option Looked)) (n c
 module _ (may : ℕ → Entry → Type 0) (floor : List Entry → ℕ → Type 0) (shelf : List ℕ) (old new more : List Event) (seen : new ≡ old ++ more) (legal : IsLegal may floor shelf new) (lines : List NamedLine) (looks looks' : List (Option Looked)) (n cursor cursor' : ℕ) (stay : LooksStay looks looks') (up : cursor ≤ cursor') (told : AreTold lines looks old) where
   tells_by : (P : Entry → Type 0) → ((e : Entry) (p : Placed) → P e → Contains (unpack 0 e) p → ToldSo lines looks' new p.content × SaysOf n cursor' p.content) → Adds P old new → TellsOn lines looks' n cursor cursor' old new
   tells_by P each adds = record {
-    told = λ e p at among. ⊎_elim (λ (was : Contains (appended old) e). told_on lines looks looks' old new stay (clean_on may floor shelf old new more seen legal) p.content (told e p was among)) (λ (now : P e). (each e p now among).0) (adds e at);
+    told = λ e p at among. ⊎_elim (λ (was : Contains (appended old) e). told_on lines looks looks' old new stay (behind_on may floor shelf old new more seen legal) p.content (told e p was among)) (λ (now : P e). (each e p now among).0) (adds e at);
     own = λ was e p at among position is. ⊎_elim (λ (before : Contains (appended old) e). let low = was e p before among position is in omega (arith, low, up))
         (λ (now : P e). let so = subst (SaysOf n cursor') is (each e p now among).1 in so.1) (adds e at);
     others = λ m limit other was e p at among position is. ⊎_elim (λ (before : Contains (appended old) e). was e p before among position is)

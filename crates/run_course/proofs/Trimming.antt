@@ -1,11 +1,12 @@
 -- A line had its node trim the log.
-use Rattle.std.proofs.Common.{◌≡◌, sym, ◌∙◌, subst, ◌⊎◌, inl, inr, ⊎_elim, Contains, ℕ, ◌+◌, ◌≤◌, List, [], ◌∷◌, Option, Some, None, map, slice_get, slice_set, arith}
+use Rattle.std.proofs.Common.{◌≡◌, sym, ◌∙◌, subst, ◌⊎◌, inl, inr, ⊎_elim, Contains, ℕ, ◌+◌, ◌<◌, ◌≤◌, List, [], ◌∷◌, Option, Some, None, map, slice_get, slice_set, append-nil, arith, refl}
 use Rattle.delos_types.specs.Spaces.{SpaceMap}
 use Rattle.delos_types.specs.declared.entry.Entry.{Entry}
 use Rattle.legal_journal.specs.declared.events.Event.{Event}
 use Rattle.legal_journal.specs.Journal.{IsLegal}
 use Rattle.legal_journal.specs.Sealing.{Unsealed}
 use Rattle.journal_laws.specs.Changes.{Adds, TrimsUpTo, appended}
+use Rattle.journal_laws.proofs.Changes.{held_appended}
 use Rattle.virtual_log.specs.declared.extend.Extension.{Extension}
 use Rattle.engine_api.specs.declared.content.Content.TheVariants as content
 use Rattle.engine_api.specs.declared.content.Placed.{Placed}
@@ -23,23 +24,26 @@ use Rattle.node_lines.specs.declared.desk.Desk.{Desk}
 use Rattle.node_lines.specs.declared.lines.Looked.{Looked}
 use Rattle.node_lines.specs.declared.lines.Looked.TheVariants as looked
 use Rattle.node_lines.specs.Trimming.{HasTrimmed, TrimsLog, TrimsSo}
-use Rattle.node_lines.specs.Workers.{HasNotLeft, IsCommand, IsOfSessions, MayRun, OwnWithin, SaysAlone, TrimAdds, Within, WorkerOk}
+use Rattle.node_lines.specs.Measuring.{IsCleanPoint}
+use Rattle.node_lines.specs.Workers.{HasNotLeft, IsCommand, IsOfSessions, IsReported, MayRun, OwnWithin, SaysAlone, TrimAdds, Within, WorkerOk, sent_by}
+use Rattle.node_lines.proofs.Cleaning.{clean_none}
 use Rattle.node_lines.proofs.Own.{all_adds}
 use Rattle.run_course.specs.Script.{AreLines}
 use Rattle.run_course.specs.Course.{Course, CourseOk}
 use Rattle.run_course.specs.Desks.{IsOfNode}
 use Rattle.run_course.specs.Leaving.{LeftSo}
 use Rattle.run_course.specs.Reporting.{ReportedSo}
-use Rattle.run_course.specs.Telling.{HasToldSo, IsLowest, IsTrim}
+use Rattle.run_course.specs.Telling.{HasToldSo, IsAskedBehind, IsLowest, IsTrim, ToldSo}
 use Rattle.run_course.specs.Workers.{LineWent, WorkerAt}
-use Rattle.run_course.proofs.Legal.{worker_legal}
+use Rattle.run_course.proofs.Legal.{worker_legal, sent_here}
+use Rattle.run_course.proofs.Stands.{behind_on, in_other, clean_on}
 use Rattle.run_course.proofs.Told.{TellsOn, alone_is, command_is, earlier_were, looks_stay, tells_one}
 use Rattle.run_course.proofs.Lowest.{lowest_is}
 use Rattle.run_course.proofs.Turning.{not_left}
 use Rattle.run_course.proofs.Advance.{advanced, failed_of}
 use Rattle.run_course.proofs.Telling.{line_told, stands_now}
 
-module _ (may : ℕ → Entry → Type 0) (floor : List Entry → ℕ → Type 0) (shelf : List ℕ) (state : List Entry → SpaceMap → Type 0) (spells : List ℕ → Saved → Type 0) (run : MayRun may floor shelf) (lines : List NamedLine) (home : ℕ → ℕ) (nodes : ℕ) (c : Course) (counts : List ℕ) (looks : List (Option Looked)) (n from i : ℕ) (line : NamedLine) (look : Looked) (seat seat' : SeatView) (desks : List Desk) (journal : List Event) (are : AreLines lines home nodes) (least : 1 ≤ n) (most : n ≤ nodes) (at : slice_get lines i ≡ Some line) (node : line.node ≡ n) (phase : line.phase ≡ c.phase) (asks_is : line.asks ≡ asks.Admin Trim) (ok : CourseOk may floor shelf lines nodes c counts looks) (worker : WorkerAt may floor shelf state spells lines home nodes c counts looks n from i c.phase seat desks) (since : OwnSince n c.journal journal) (still : Unsealed c.journal journal) (adds : TrimAdds n c.journal journal) (high : TrimsUpTo seat'.node.replica.cursor journal) (does : TrimsLog (OwnWithin n may counts) floor shelf (node_of seat c.journal) (node_of seat' journal) look) (now : WorkerOk may floor shelf state spells n counts journal seat' desks) where
+module _ (may : ℕ → Entry → Type 0) (floor : List Entry → ℕ → Type 0) (shelf : List ℕ) (state : List Entry → SpaceMap → Type 0) (spells : List ℕ → Saved → Type 0) (run : MayRun may floor shelf) (lines : List NamedLine) (home : ℕ → ℕ) (nodes : ℕ) (c : Course) (counts : List ℕ) (looks : List (Option Looked)) (n from i : ℕ) (line : NamedLine) (look : Looked) (seat seat' : SeatView) (desks : List Desk) (journal : List Event) (are : AreLines lines home nodes) (least : 1 ≤ n) (most : n ≤ nodes) (at : slice_get lines i ≡ Some line) (node : line.node ≡ n) (phase : line.phase ≡ c.phase) (asks_is : line.asks ≡ asks.Admin Trim) (ok : CourseOk may floor shelf lines nodes c counts looks) (worker : WorkerAt may floor shelf state spells lines home nodes c counts looks n from i c.phase seat desks) (since : OwnSince n c.journal journal) (still : Unsealed c.journal journal) (adds : TrimAdds n c.journal journal) (high : TrimsUpTo seat'.node.replica.cursor journal) (does : TrimsLog (OwnWithin n may (sent_by desks)) floor shelf (node_of seat c.journal) (node_of seat' journal) look) (now : WorkerOk may floor shelf state spells n journal seat' desks) where
   abbrev then' : Course
   then' = advanced c n (map (λ g. g.cause) does.moves.goes.given) journal c.when
 
@@ -47,7 +51,7 @@ module _ (may : ℕ → Entry → Type 0) (floor : List Entry → ℕ → Type 0
   So = TrimsSo (node_of seat c.journal) (node_of seat' journal) does.others
 
   legal : IsLegal (Within may counts) floor shelf journal
-  legal = worker_legal may floor shelf state spells n counts counts c.journal journal seat' desks ok.legal since (λ s. omega arith) now
+  legal = worker_legal may floor shelf state spells n counts counts c.journal journal seat' desks ok.legal since (λ s. omega arith) (sent_here may floor shelf state spells lines home nodes c counts looks n from i c.phase seat desks are worker) now
 
   not_yet : slice_get looks i ≡ Some None
   not_yet = worker.waiting i line (omega arith) at node
@@ -110,10 +114,42 @@ module _ (may : ℕ → Entry → Type 0) (floor : List Entry → ℕ → Type 0
   added : Adds (λ e. IsOfSessions e ⊎ SaysAlone (content.Trim adds.position) e) c.journal journal
   added = all_adds n (λ e. IsOfSessions e ⊎ SaysAlone (content.Trim adds.position) e) c.journal journal since adds.adds
 
+  none_alive : (e : Entry) (p : Placed) (k position : ℕ) → Contains (unpack 0 e) p → p.content ≡ content.Alive k position → IsOfSessions e ⊎ SaysAlone (content.Trim adds.position) e → ⊥
+  none_alive e p k position among is (inl all) = subst IsCommand is (command_is e p all among)
+  none_alive e p k position among is (inr alone) = apart (sym (alone_is (content.Trim adds.position) e p alone among) ∙ is)
+    where
+      apart : content.Trim adds.position ≡ content.Alive k position → ⊥
+      apart e = cc
+
+  -- what a node has reported was clean before
+  was_clean : (position : ℕ) → IsReported journal position → IsCleanPoint c.journal position
+  was_clean position (inl none) = subst (IsCleanPoint c.journal) (sym none) (clean_none c.journal)
+  was_clean position (inr h) =
+      let s = h.1 in
+      ⊎_elim
+      (λ (was : Contains (appended c.journal) s.entry). (subst (ToldSo lines looks c.journal) s.is (ok.told s.entry s.placed was s.among)).0.clean)
+      (λ (now' : IsOfSessions s.entry ⊎ SaysAlone (content.Trim adds.position) s.entry). absurd (none_alive s.entry s.placed h.0 position s.among s.is now'))
+      (added s.entry s.appended_is)
+
+  clean : IsCleanPoint c.journal adds.position
+  clean = was_clean adds.position adds.reported
+
+  -- No entry below the position says so: those that did before stand behind it, and what it asks for now wasn't there yet.
+  none_below : (e : Entry) (p : Placed) (k : ℕ) → k < adds.position → slice_get clean.log k ≡ Some e → Contains (unpack 0 e) p → p.content ≡ content.Trim adds.position → ⊥
+  none_below e p k early stands there is =
+      let was = held_appended (Within may counts) floor shelf c.journal k e ok.legal (clean.front k e stands) in
+      let b = subst (ToldSo lines looks c.journal) is (ok.told e p was there) in
+      b.behind k e p early (in_other (Within may counts) floor shelf c.journal c.journal [] (sym (append-nil c.journal)) ok.legal clean.log b.clean.log clean.front b.clean.front k e stands (omega (arith, early, b.clean.within))) there is
+
+  behind : IsAskedBehind journal adds.position
+  behind =
+      behind_on (Within may counts) floor shelf c.journal journal does.moves.goes.spends.more does.moves.goes.spends.seen legal adds.position (content.Trim adds.position)
+      (record { clean = clean; behind = λ k e p early stands there is. none_below e p k early stands there is })
+
   tells : TellsOn lines looks' n seat.node.replica.cursor seat'.node.replica.cursor c.journal journal
   tells =
       tells_one (Within may counts) floor shelf c.journal journal does.moves.goes.spends.more does.moves.goes.spends.seen legal lines looks looks' n seat.node.replica.cursor seat'.node.replica.cursor
-      (looks_stay looks i look not_yet) does.moves.goes.keeps.forward ok.told (content.Trim adds.position) adds.clean tt added
+      (looks_stay looks i look not_yet) does.moves.goes.keeps.forward ok.told (content.Trim adds.position) behind tt added
 
   -- the node hadn't left, and didn't
   stays : HasNotLeft n journal
@@ -144,8 +180,8 @@ module _ (may : ℕ → Entry → Type 0) (floor : List Entry → ℕ → Type 0
         stands = stands_now (Within may counts) floor shelf seat.who h.1.synced journal (packed seat.node.replica.origin (trim_item h.1.position ∷ [])) legal h.1.landed (content.Trim h.1.position) h.1.says;
       }
 
-  pub line_trimmed : LineWent may floor shelf state spells lines home nodes c counts counts looks (slice_set looks i (Some look)) n from (i + 1) journal seat' desks
+  pub line_trimmed : LineWent may floor shelf state spells lines home nodes c counts looks (slice_set looks i (Some look)) n from (i + 1) journal seat' desks
   line_trimmed =
-      line_told may floor shelf state spells lines home nodes c counts looks n from i line Trim look seat seat' desks journal are least most at node phase asks_is ok worker since still does.others does.moves now none
+      line_told may floor shelf state spells lines home nodes c counts looks n from i line Trim look seat seat' desks desks (λ s d there. (d, there, refl, omega arith)) journal are least most at node phase asks_is ok worker since still does.others does.moves now none
       (paid_is look does.trims) (of_node look does.trims) (none_reported look does.trims) (none_left look does.trims)
       tells (stood look does.trims) trimmed high

@@ -8,12 +8,11 @@ use Rattle.legal_journal.specs.declared.events.Event.{Event}
 use Rattle.legal_journal.specs.Journal.{state_of, trim_of}
 use Rattle.journal_laws.specs.Changes.{Frees, TrimsUpTo, raised}
 use Rattle.journal_laws.proofs.Changes.{raised_free, trim_raised}
-use Rattle.engine_api.specs.declared.content.Content.{Content}
 use Rattle.engine_api.specs.declared.content.Content.TheVariants as content
 use Rattle.engine_api.specs.Acted.{unpack_all}
 use Rattle.engine_api.specs.Members.{has_left, least_position, position_of}
 use Rattle.replica_api.specs.Replica.{Saved}
-use Rattle.base_engine.specs.Trimming.{FloorIs}
+use Rattle.turn_scopes.specs.Floors.{FloorIs}
 use Rattle.log_laws.proofs.Membership.{least_some, least_upto}
 use Rattle.script_text.specs.declared.line.Admin.TheVariants.{Alive, Retire}
 use Rattle.script_text.specs.declared.asks.NamedLine.{NamedLine}
@@ -24,15 +23,14 @@ use Rattle.turn_scopes.specs.Seats.{SeatView}
 use Rattle.node_lines.specs.declared.desk.Desk.{Desk}
 use Rattle.node_lines.specs.declared.lines.Looked.{Looked}
 use Rattle.node_lines.specs.declared.lines.Looked.TheVariants as looked
-use Rattle.node_lines.specs.Measuring.{AreClean, IsCleanContent}
-use Rattle.node_lines.specs.Workers.{HasNotLeft, ReportsUpTo, Within}
+use Rattle.node_lines.specs.Workers.{HasNotLeft, IsSaid, ReportsUpTo, Within}
+use Rattle.node_lines.proofs.Saying.{is_member, left_said, position_low, position_said}
 use Rattle.run_course.specs.Script.{AreLines}
 use Rattle.run_course.specs.Telling.{AreTold, AskedFor, TellsAtLeast, ToldSo}
 use Rattle.run_course.specs.Course.{Course, CourseOk}
 use Rattle.run_course.specs.Workers.{CanPlay, IsUnderWay, Rests}
 use Rattle.run_course.proofs.Lines.{at_get}
 use Rattle.run_course.proofs.Told.{no_look}
-use Rattle.run_course.proofs.Saying.{IsSaid, is_member, left_said, position_low, position_said}
 
 -- Pairs of lines
 
@@ -75,15 +73,6 @@ module _ (lines : List NamedLine) (home : ℕ → ℕ) (nodes : ℕ) (are : AreL
   -- it hasn't left
   pub not_left : HasNotLeft n journal
   not_left = λ e p sent among is. not_asked (subst (ToldSo lines looks journal) is (told e p sent among))
-
-pub cleans : (lines : List NamedLine) (looks : List (Option Looked)) (journal : List Event) → AreTold lines looks journal → AreClean journal
-cleans lines looks journal told = λ e p sent among. by p.content (told e p sent among)
-  where
-    by : (c : Content) → ToldSo lines looks journal c → IsCleanContent journal c
-    by (content.Session s r x) h = tt
-    by (content.Alive node n) h = h.0
-    by (content.Leave node) h = tt
-    by (content.Trim n) h = h
 
 module _ (may : ℕ → Entry → Type 0) (floor : List Entry → ℕ → Type 0) (shelf : List ℕ) (lines : List NamedLine) (nodes : ℕ) (c : Course) (counts : List ℕ) (looks : List (Option Looked)) where
   -- what was trimmed, each member had reported
@@ -178,6 +167,6 @@ module _ (may : ℕ → Entry → Type 0) (floor : List Entry → ℕ → Type 0
   pub can_play : (n from i : ℕ) (line : NamedLine) (journal : List Event) (seat : SeatView) (desks : List Desk) → slice_get lines i ≡ Some line → line.node ≡ n → IsUnderWay may floor shelf state spells lines home nodes c counts looks n from i journal seat desks → CanPlay n journal seat
   can_play n from i line journal seat desks at own w = record {
     high = w.high;
-    cleans = subst AreClean w.journal_is (cleans lines looks c.journal w.ok.told);
+    reports = subst (ReportsUpTo n seat.node.replica.cursor) w.journal_is w.worker.reports;
     stays = subst (HasNotLeft n) w.journal_is (not_left lines home nodes w.lines_are looks c.journal w.ok.told n i i line at own (omega arith) w.worker.waiting);
   }

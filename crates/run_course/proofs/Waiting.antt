@@ -1,7 +1,6 @@
 -- A node rests while another has its turn: what is known of it holds still.
-use Rattle.std.proofs.Common.{◌≡◌, refl, sym, ap, ◌∙◌, subst, inl, ℕ, ◌+◌, ◌<◌, ◌≤◌, ◌==◌, min, Bool, false, cond, List, [], ◌∷◌, Option, Some, count_by, take, slice_get, arith}
+use Rattle.std.proofs.Common.{◌≡◌, refl, sym, ap, ◌∙◌, subst, inl, ℕ, ◌+◌, ◌<◌, ◌≤◌, ◌==◌, min, false, cond, List, [], ◌∷◌, Option, Some, count_by, slice_get, arith}
 use Rattle.std.specs.List.{AllByRecursion}
-use Rattle.std.proofs.lemmas.Bool.{and_parts}
 use Rattle.std.proofs.lemmas.Bool.Decides.{nat_tests}
 use Rattle.std.proofs.lemmas.List.Sums.{sum_by-append, sum_by-cons}
 use Rattle.delos_types.specs.Spaces.{SpaceMap}
@@ -12,35 +11,20 @@ use Rattle.legal_journal.specs.Journal.{IsLegal}
 use Rattle.replica_api.specs.Replica.{Saved}
 use Rattle.base_engine.specs.declared.outbox.Given.{Given}
 use Rattle.script_text.specs.declared.asks.NamedLine.{NamedLine}
-use Rattle.fitting_run.specs.Lines.{logs_for}
 use Rattle.fitting_run.specs.Faults.{lacks_store}
 use Rattle.turn_scopes.specs.Seats.{SeatView, node_of}
-use Rattle.turn_scopes.proofs.Widening.{legal_wider}
 use Rattle.node_lines.specs.declared.desk.Desk.{Desk}
 use Rattle.node_lines.specs.declared.lines.Looked.{Looked}
 use Rattle.node_lines.specs.Moving.{IsQuiet}
-use Rattle.node_lines.specs.Workers.{OwnWithin, Within, WorkerOk}
+use Rattle.node_lines.specs.Workers.{Within, WorkerOk}
 use Rattle.node_lines.proofs.Staying.{worker_stays}
-use Rattle.run_laws.specs.Ended.{CameTo, Fault, IsAtHome, most_faults, session_in}
-use Rattle.run_course.specs.Script.{AreLines, BeginsAt, asked_by, failed_looks, logs_at}
+use Rattle.run_laws.specs.Ended.{CameTo, Fault, most_faults, session_in}
+use Rattle.run_course.specs.Script.{AreLines, BeginsAt, failed_looks}
 use Rattle.run_course.specs.Course.{Course, CourseOk, TurnOf}
 use Rattle.run_course.specs.Desks.{DeskAt, PlayedSo}
 use Rattle.run_course.specs.Workers.{Rests}
-use Rattle.run_course.proofs.Lines.{at_get, counted_between, of_home}
+use Rattle.run_course.proofs.Legal.{waits_legal}
 use Rattle.run_course.proofs.Growing.{DeskGrew, Grown, ended_grows, grown_of, played_grows}
-
-none_first : {A : Type 0} (p : A → Bool) (xs : List A) → count_by p (take 0 xs) ≡ 0
-none_first p [] = refl
-none_first p (x ∷ xs) = refl
-
--- a session that asked something at a node has its home there
-pub asked_has_home : (lines : List NamedLine) (home : ℕ → ℕ) (nodes n s at : ℕ) → AreLines lines home nodes → 0 < asked_by lines n s at → home s ≡ n
-asked_has_home lines home nodes n s at are some =
-    let b = counted_between (logs_at n s) lines 0 at (let none = none_first (logs_at n s) lines in omega (arith, some, none)) in
-    let logs = and_parts (b.one.node == n) (logs_for s b.one) b.counted in
-    let there = of_home home b.one.node s b.one.asks (at_get (λ (l : NamedLine). IsAtHome home l.node l.asks) lines b.at b.one are.at_home b.is) logs.1 in
-    let own : b.one.node ≡ n = grind (arith, nat_tests, logs.0) in
-    sym there ∙ own
 
 -- a store is of no other node
 store_of_other : (n m : ℕ) (k : Cause) → (n == m) ≡ false → lacks_store m n k ≡ false
@@ -65,7 +49,7 @@ module _ (may : ℕ → Entry → Type 0) (floor : List Entry → ℕ → Type 0
   grown = grown_of may floor shelf lines home nodes n c c' counts counts' looks looks' turn ok ok'
 
   -- a session that was stopped here wasn't stopped by the other
-  grew : (s : ℕ) (d : Desk) → slice_get desks s ≡ Some d → DeskGrew c c' s d d
+  grew : (s : ℕ) (d : Desk) → slice_get desks s ≡ Some d → DeskGrew c c' seat.node.replica.cursor s d d
   grew s d at = record {
     answered = λ a e. e;
     stopped = λ a e. refl;
@@ -80,17 +64,19 @@ module _ (may : ℕ → Entry → Type 0) (floor : List Entry → ℕ → Type 0
       record {
         asked = x.asked;
         sent = λ own. x.sent own ∙ sym (turn.others s (other (home s) own));
-        ended = λ a e. ended_grows may floor shelf c c' grown lines m done done s d d a (omega arith) e (grew s d at) (x.ended a e);
+        ended = λ a e. ended_grows may floor shelf c c' grown lines m done done s seat.node.replica.cursor d d a (omega arith) e (grew s d at) (x.ended a e);
         here = x.here;
         halted = λ k none stop. absurd (let h = (x.halted k none stop).asked in omega (arith, h));
         held = x.held;
       }
 
-  worker_ok : WorkerOk may floor shelf state spells m counts' c'.journal seat desks
-  worker_ok = subst (λ l. WorkerOk may floor shelf state spells m counts' l seat desks) (sym turn.seen)
-      (worker_stays may floor shelf state spells m counts counts' c.journal turn.more seat desks r.worker.ok
-      (subst (IsLegal (OwnWithin m may counts') floor shelf) turn.seen (legal_wider (Within may counts') (OwnWithin m may counts') floor shelf (λ user e h. (h.0, λ own. h.1)) c'.journal ok'.legal)) turn.no_fewer
-      (λ s d at some. let asked = (r.worker.each s d at).asked in turn.others s (other (home s) (asked_has_home lines home nodes m s from are (omega (arith, some, asked))))))
+  not_it : n ≡ m → ⊥
+  not_it e = grind (arith, nat_tests, e, apart)
+
+  worker_ok : WorkerOk may floor shelf state spells m c'.journal seat desks
+  worker_ok = subst (λ l. WorkerOk may floor shelf state spells m l seat desks) (sym turn.seen)
+      (worker_stays may floor shelf state spells m c.journal turn.more seat desks r.worker.ok
+      (waits_legal may floor shelf state spells m n counts' c.journal turn.more seat desks r.worker.ok not_it turn.own (subst (IsLegal (Within may counts') floor shelf) turn.seen ok'.legal)))
 
   quiet : (s : ℕ) → IsQuiet (node_of seat c.journal) s → IsQuiet (node_of seat c'.journal) s
   quiet s q = record { outstanding = q.outstanding; waiting = q.waiting; free = q.free }

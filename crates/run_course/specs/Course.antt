@@ -17,6 +17,7 @@ use Rattle.run_laws.specs.Ended.{Fault}
 use Rattle.run_course.specs.Script.{asked_before, failed_looks}
 use Rattle.run_course.specs.Replacing.{Replaced, has_replaced}
 use Rattle.run_course.specs.Telling.{AreTold, HasToldSo, IsTrim}
+use Rattle.run_course.specs.Behind.{ReportsHold}
 
 -- All events so far; the present phase; the tails at which phases began, of those to come the present tail; the faults that came,
 -- but for those of reads' own looks; and the phases in which sessions were stopped, of those that were.
@@ -38,10 +39,11 @@ pub record BeganAt (may : ℕ → Entry → Type 0) (floor : List Entry → ℕ 
   pub sent : (s : ℕ) → sent_of counts s ≤ asked_before lines s phase
 
 -- Of the whole run: how each phase began, each fault that came had an event of its own, what lines did to the chain, and what
--- nodes told of themselves. `counts` are the commands that were sent, by sessions; `looks` what each line's own look came to, if it
+-- nodes told of themselves. `counts` are the commands that were sent, by sessions, of which there are 64; `looks` what each line's own look came to, if it
 -- was played.
 pub record CourseOk (may : ℕ → Entry → Type 0) (floor : List Entry → ℕ → Type 0) (shelf : List ℕ) (lines : List NamedLine) (nodes : ℕ) (c : Course) (counts : List ℕ) (looks : List (Option Looked)) : Type 0 where
   pub legal : IsLegal (Within may counts) floor shelf c.journal
+  pub long : length counts ≡ 64
   pub began : (p : ℕ) → p ≤ c.phase → BeganAt may floor shelf lines c.journal (c.tails p) p
   pub after : (p : ℕ) → c.phase < p → c.tails p ≡ tail_of (state_of c.journal)
   pub rise : (p : ℕ) → c.tails p ≤ c.tails (p + 1)
@@ -54,6 +56,8 @@ pub record CourseOk (may : ℕ → Entry → Type 0) (floor : List Entry → ℕ
   -- what was told of nodes lines had them tell, and what those lines came to stands in the log
   pub told : AreTold lines looks c.journal
   pub stand : (i : ℕ) (l : NamedLine) (look : Looked) → slice_get lines i ≡ Some l → slice_get looks i ≡ Some (Some look) → HasToldSo c.journal l.node look
+  -- what comes behind a report stands at it or above
+  pub reports : ReportsHold may floor shelf lines looks c.journal c.tails
   pub trims : (j : ℕ) (l : NamedLine) (trim : ℕ) → slice_get lines j ≡ Some l → slice_get looks j ≡ Some (Some (looked.Trimmed trim)) → IsTrim lines looks nodes c.journal j l trim
   -- no line of a phase to come was played
   pub ahead : (i : ℕ) (l : NamedLine) → slice_get lines i ≡ Some l → c.phase < l.phase → slice_get looks i ≡ Some None

@@ -49,6 +49,10 @@ pub record LoggedSo (c : Course) (done cursor : ℕ) (d : Desk) (phase s r : ℕ
   pub acted : phase < done → IsUpTo d.answered r → HasActed c cursor phase s r
   pub unsent : (a : ℕ) → d.answered ≡ Some a → c.when s < phase → d.sent < r
 
+-- its session wasn't stopped in an earlier phase
+abbrev pub WasFree : Course → Desk → ℕ → ℕ → Type 0
+WasFree c d phase s = (a : ℕ) → d.answered ≡ Some a → phase ≤ c.when s
+
 -- the read saw just its session's commands so far, in its phase, in what the node has applied
 pub record SawSo (lines : List NamedLine) (c : Course) (cursor : ℕ) (d : Desk) (i phase s : ℕ) (query : Query) (after : ℕ) (found : Found) : Type 0 where
   pub log : List Entry
@@ -59,8 +63,9 @@ pub record SawSo (lines : List NamedLine) (c : Course) (cursor : ℕ) (d : Desk)
   pub shows : found ≡ find_in (table_after finmap.empty (acts_in log)) query
   pub from : c.tails phase ≤ after
   pub upto : after ≤ c.tails (phase + 1)
-  -- its session wasn't stopped in an earlier phase
-  pub free : (a : ℕ) → d.answered ≡ Some a → phase ≤ c.when s
+  pub free : WasFree c d phase s
+  -- those were answered, if its session was stopped later
+  pub answered : (a : ℕ) → d.answered ≡ Some a → count_by (logs_for s) (take i lines) ≤ a
 
 -- a session was stopped with this cause in an earlier phase
 pub record WasStopped (c : Course) (d : Desk) (phase s : ℕ) (cause : Cause) : Type 0 where
@@ -74,8 +79,8 @@ LogsBefore lines i s phase = list_any (λ l. logs_for s l && (l.phase == phase))
 
 abbrev pub LookedSo : List NamedLine → Course → ℕ → ℕ → Desk → ℕ → ℕ → ℕ → Query → Looked → Type 0
 LookedSo lines c cursor n d i phase s query (looked.Found after found) = SawSo lines c cursor d i phase s query after found
-LookedSo lines c cursor n d i phase s query (looked.Kept cause) = WasStopped c d phase s cause ⊎ (LogsBefore lines i s phase × CameTo c.faults cause n phase)
-LookedSo lines c cursor n d i phase s query (looked.Failed cause) = Unit {0}
+LookedSo lines c cursor n d i phase s query (looked.Kept cause) = WasStopped c d phase s cause ⊎ (LogsBefore lines i s phase × CameTo c.faults cause n phase × WasFree c d phase s)
+LookedSo lines c cursor n d i phase s query (looked.Failed cause) = WasFree c d phase s
 LookedSo lines c cursor n d i phase s query (looked.Extended extension) = ⊥
 LookedSo lines c cursor n d i phase s query (looked.Reported position) = ⊥
 LookedSo lines c cursor n d i phase s query looked.Left = ⊥

@@ -3,6 +3,7 @@ pub mod Replacing
 pub mod Reporting
 pub mod Leaving
 pub mod Telling
+pub mod Behind
 pub mod Course
 pub mod Desks
 pub mod Workers

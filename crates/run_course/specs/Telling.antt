@@ -36,12 +36,26 @@ TellsAtLeast n (looks_of.Reported m) = n ≤ m
 TellsAtLeast n (looks_of.Failed c) = Unit {0}
 TellsAtLeast n look = ⊥
 
--- what a node tells of itself a line asked it to tell, and each position that is told is clean
+-- so many first entries of the log are clean, and none of them says this
+pub record IsSaidBehind (journal : List Event) (n : ℕ) (c : Content) : Type 0 where
+  pub clean : IsCleanPoint journal n
+  pub behind : (i : ℕ) (e : Entry) (p : Placed) → i < n → slice_get clean.log i ≡ Some e → Contains (unpack 0 e) p → p.content ≡ c → ⊥
+
+-- .. that the node reports so many
+abbrev pub IsReportedBehind : List Event → ℕ → ℕ → Type 0
+IsReportedBehind journal node n = IsSaidBehind journal n (content.Alive node n)
+
+-- .. that a trim of so many is asked for
+abbrev pub IsAskedBehind : List Event → ℕ → Type 0
+IsAskedBehind journal n = IsSaidBehind journal n (content.Trim n)
+
+-- what a node tells of itself a line asked it to tell, and each position that is told is clean; a report stands behind what it reports,
+-- and what asks for a trim behind that
 abbrev pub ToldSo : List NamedLine → List (Option Looked) → List Event → Content → Type 0
 ToldSo lines looks journal (content.Session s r c) = Unit {0}
-ToldSo lines looks journal (content.Alive node n) = IsCleanPoint journal n × AskedFor lines looks node Alive (TellsAtLeast n)
+ToldSo lines looks journal (content.Alive node n) = IsReportedBehind journal node n × AskedFor lines looks node Alive (TellsAtLeast n)
 ToldSo lines looks journal (content.Leave node) = AskedFor lines looks node Retire (λ look. Unit {0})
-ToldSo lines looks journal (content.Trim n) = IsCleanPoint journal n
+ToldSo lines looks journal (content.Trim n) = IsAskedBehind journal n
 
 -- .. in each entry that was appended
 abbrev pub AreTold : List NamedLine → List (Option Looked) → List Event → Type 0

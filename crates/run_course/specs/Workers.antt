@@ -14,9 +14,8 @@ use Rattle.fitting_run.specs.Faults.{lacks_store}
 use Rattle.turn_scopes.specs.Seats.{SeatView, node_of}
 use Rattle.node_lines.specs.declared.desk.Desk.{Desk}
 use Rattle.node_lines.specs.declared.lines.Looked.{Looked}
-use Rattle.node_lines.specs.Measuring.{AreClean}
 use Rattle.node_lines.specs.Moving.{IsQuiet}
-use Rattle.node_lines.specs.Workers.{HasNotLeft, IsHome, ReportsUpTo, WorkerOk, sent_of}
+use Rattle.node_lines.specs.Workers.{HasNotLeft, IsHome, ReportsUpTo, WorkerOk}
 use Rattle.run_laws.specs.Ended.{CameTo, most_faults}
 use Rattle.run_course.specs.Script.{AreLines, BeginsAt, asked_by, failed_looks}
 use Rattle.legal_journal.specs.declared.events.Event.{Event}
@@ -27,7 +26,7 @@ use Rattle.run_course.specs.Desks.{DeskAt, PlayedSo}
 -- Of node n: its lines up to `at` were played, of which those of the present phase begin at `from`. The phases below `done` have
 -- ended there.
 pub record WorkerAt (may : ℕ → Entry → Type 0) (floor : List Entry → ℕ → Type 0) (shelf : List ℕ) (state : List Entry → SpaceMap → Type 0) (spells : List ℕ → Saved → Type 0) (lines : List NamedLine) (home : ℕ → ℕ) (nodes : ℕ) (c : Course) (counts : List ℕ) (looks : List (Option Looked)) (n from at done : ℕ) (seat : SeatView) (desks : List Desk) : Type 0 where
-  pub ok : WorkerOk may floor shelf state spells n counts c.journal seat desks
+  pub ok : WorkerOk may floor shelf state spells n c.journal seat desks
   pub nodes_is : seat.node.nodes ≡ nodes
   pub order : from ≤ at
   pub each : (s : ℕ) (d : Desk) → slice_get desks s ≡ Some d → DeskAt lines home c counts n from at done s d
@@ -46,13 +45,14 @@ pub record Rests (may : ℕ → Entry → Type 0) (floor : List Entry → ℕ �
   pub worker : WorkerAt may floor shelf state spells lines home nodes c counts looks n from from done seat desks
   pub none_given : seat.node.outbox.given ≡ []
 
--- The run went on by a line, at a node whose turn it is.
-pub record LineWent (may : ℕ → Entry → Type 0) (floor : List Entry → ℕ → Type 0) (shelf : List ℕ) (state : List Entry → SpaceMap → Type 0) (spells : List ℕ → Saved → Type 0) (lines : List NamedLine) (home : ℕ → ℕ) (nodes : ℕ) (c : Course) (counts counts' : List ℕ) (looks looks' : List (Option Looked)) (n from at : ℕ) (journal : List Event) (seat : SeatView) (desks : List Desk) : Type 0 where
+-- The run went on by a line, at a node whose turn it is; so much was sent then.
+pub record LineWent (may : ℕ → Entry → Type 0) (floor : List Entry → ℕ → Type 0) (shelf : List ℕ) (state : List Entry → SpaceMap → Type 0) (spells : List ℕ → Saved → Type 0) (lines : List NamedLine) (home : ℕ → ℕ) (nodes : ℕ) (c : Course) (counts : List ℕ) (looks looks' : List (Option Looked)) (n from at : ℕ) (journal : List Event) (seat : SeatView) (desks : List Desk) : Type 0 where
   pub course : Course
+  pub sent : List ℕ
   pub journal_is : course.journal ≡ journal
-  pub ok : CourseOk may floor shelf lines nodes course counts' looks'
-  pub turn : TurnOf lines home n c course counts counts' looks looks'
-  pub worker : WorkerAt may floor shelf state spells lines home nodes course counts' looks' n from at course.phase seat desks
+  pub ok : CourseOk may floor shelf lines nodes course sent looks'
+  pub turn : TurnOf lines home n c course counts sent looks looks'
+  pub worker : WorkerAt may floor shelf state spells lines home nodes course sent looks' n from at course.phase seat desks
   -- the log isn't trimmed above what it has applied
   pub high : TrimsUpTo seat.node.replica.cursor journal
 
@@ -84,12 +84,12 @@ pub record IsUnderWay (may : ℕ → Entry → Type 0) (floor : List Entry → �
   -- the log isn't trimmed above what it has applied
   pub high : TrimsUpTo seat.node.replica.cursor journal
 
--- What a node's line may rest on, as it is played: the log isn't trimmed above what the node has applied, each position that was
--- told is clean, and the node hasn't left.
+-- What a node's line may rest on, as it is played: the log isn't trimmed above what the node has applied, and the node hasn't left,
+-- and reported no more.
 pub record CanPlay (n : ℕ) (journal : List Event) (seat : SeatView) : Type 0 where
   pub high : TrimsUpTo seat.node.replica.cursor journal
-  pub cleans : AreClean journal
   pub stays : HasNotLeft n journal
+  pub reports : ReportsUpTo n seat.node.replica.cursor journal
 
 -- what the line logs, or has its node tell of itself or ask for, the node may append; of the line's session nobody else may append anything
 abbrev pub CanSend : (ℕ → Entry → Type 0) → ℕ → Asks → Type 0
@@ -101,13 +101,12 @@ CanSend may who (asks.Admin Retire) = may who (packed who (leave_item who ∷ []
 CanSend may who (asks.Admin Trim) = (position : ℕ) → position < 2 ^ 64 → may who (packed who (trim_item position ∷ []))
 
 -- at the desk of its session the command is the next
-pub record IsNextAt (counts : List ℕ) (s r : ℕ) (d : Desk) : Type 0 where
-  pub sent : d.sent ≡ sent_of counts s
+pub record IsNextAt (r : ℕ) (d : Desk) : Type 0 where
   pub few : d.asked < 20000
   pub rank : r ≡ d.asked + 1
 
--- the line is its session's next, if it has one
-abbrev pub IsNext : List ℕ → List Desk → Asks → Type 0
-IsNext counts desks (asks.Logged s r command) = (d : Desk) → slice_get desks s.id ≡ Some d → IsNextAt counts s.id r d
-IsNext counts desks (asks.Look s query) = (d : Desk) → slice_get desks s.id ≡ Some d → d.sent ≡ sent_of counts s.id
-IsNext counts desks (asks.Admin a) = Unit {0}
+-- the line is its session's next, if it logs a command
+abbrev pub IsNext : List Desk → Asks → Type 0
+IsNext desks (asks.Logged s r command) = (d : Desk) → slice_get desks s.id ≡ Some d → IsNextAt r d
+IsNext desks (asks.Look s query) = Unit {0}
+IsNext desks (asks.Admin a) = Unit {0}

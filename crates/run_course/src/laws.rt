@@ -11,7 +11,7 @@ ghost use Rattle.script_text.specs.declared.asks.Asks.TheVariants as asks;
 ghost use Rattle.legal_journal.specs.Journal.{state_of, trim_of};
 ghost use Rattle.legal_journal.specs.Sealing.{Unsealed};
 ghost use Rattle.journal_laws.specs.Changes.{TrimsUpTo};
-ghost use Rattle.base_engine.specs.Trimming.{FloorIs};
+ghost use Rattle.turn_scopes.specs.Floors.{FloorIs};
 ghost use Rattle.turn_scopes.specs.Alone.{OwnSince};
 ghost use Rattle.turn_scopes.specs.Seats.{SeatView, node_of};
 ghost use Rattle.node_lines.specs.declared.desk.Desk.{Desk};
@@ -22,8 +22,8 @@ ghost use Rattle.node_lines.specs.Reporting.{Reports};
 ghost use Rattle.node_lines.specs.Leaving.{Leaves};
 ghost use Rattle.node_lines.specs.Trimming.{TrimsLog};
 ghost use Rattle.node_lines.specs.Moving.{Moves};
-ghost use Rattle.node_lines.specs.Turns.{EndsTurn};
-ghost use Rattle.node_lines.specs.Workers.{WorkerOk, MayRun, Logs, OwnWithin, OwnAdds, IsOfSessions, ReportAdds, LeaveAdds, TrimAdds, sent_of, ReportsUpTo};
+ghost use Rattle.node_lines.specs.Turns.{EndsTurn, IsAnswered};
+ghost use Rattle.node_lines.specs.Workers.{WorkerOk, MayRun, Logs, OwnWithin, OwnAdds, IsOfSessions, ReportAdds, LeaveAdds, TrimAdds, sent_of, ReportsUpTo, sent_by};
 ghost use Rattle.run_course.specs.Script.{AreLines, BeginsAt, asked_before};
 ghost use Rattle.run_course.specs.Telling.{AskedFor, TellsAtLeast};
 ghost use Rattle.run_course.specs.Course.{Course, CourseOk, TurnOf};
@@ -52,7 +52,7 @@ pub fn a_line_is_next<P: Rules, S: Replica>()
     ensures { (lines : List NamedLine) (home : ℕ → ℕ) (nodes : ℕ) (c : Course) (counts : List ℕ) (looks : List (Option Looked)) (n from i : ℕ) (line : NamedLine) (journal : List Event) (seat : SeatView) (desks : List Desk)
         → slice_get lines i ≡ Some line → line.node ≡ n
         → IsUnderWay P.may P.floor P.shelf S.state S.spells lines home nodes c counts looks n from i journal seat desks
-        → IsNext counts desks line.asks }
+        → IsNext desks line.asks }
 {}
 
 /// As a node's turn begins, the log isn't trimmed above what it has applied: it has a line to play, so it hasn't left, and it reported
@@ -75,15 +75,15 @@ pub fn a_line_can_be_played<P: Rules, S: Replica>()
 
 /// A line logged a command at its node.
 pub fn a_command_is_logged<P: Rules, S: Replica>()
-    ensures { MayRun P.may P.floor P.shelf → (lines : List NamedLine) (home : ℕ → ℕ) (nodes : ℕ) (c : Course) (counts counts' : List ℕ) (looks : List (Option Looked)) (n from i : ℕ) (line : NamedLine) (session : Session) (rank : ℕ) (command : Command) (seat seat' : SeatView) (desks desks' : List Desk) (journal : List Event)
+    ensures { MayRun P.may P.floor P.shelf → (lines : List NamedLine) (home : ℕ → ℕ) (nodes : ℕ) (c : Course) (counts : List ℕ) (looks : List (Option Looked)) (n from i : ℕ) (line : NamedLine) (session : Session) (rank : ℕ) (command : Command) (seat seat' : SeatView) (desks desks' : List Desk) (journal : List Event)
         → AreLines lines home nodes → 1 ≤ n → n ≤ nodes → BeginsAt lines from c.phase
         → slice_get lines i ≡ Some line → line.node ≡ n → line.phase ≡ c.phase → line.asks ≡ asks.Logged session rank command
         → CourseOk P.may P.floor P.shelf lines nodes c counts looks
         → WorkerAt P.may P.floor P.shelf S.state S.spells lines home nodes c counts looks n from i c.phase seat desks
         → OwnSince n c.journal journal → Unsealed c.journal journal → OwnAdds n IsOfSessions c.journal journal → TrimsUpTo seat'.node.replica.cursor journal
-        → Logs P.may P.floor P.shelf counts counts' (node_of seat c.journal) (node_of seat' journal) session.id desks desks'
-        → WorkerOk P.may P.floor P.shelf S.state S.spells n counts' journal seat' desks'
-        → LineWent P.may P.floor P.shelf S.state S.spells lines home nodes c counts counts' looks looks n from (i + 1) journal seat' desks' }
+        → Logs P.may P.floor P.shelf (node_of seat c.journal) (node_of seat' journal) session.id desks desks'
+        → WorkerOk P.may P.floor P.shelf S.state S.spells n journal seat' desks'
+        → LineWent P.may P.floor P.shelf S.state S.spells lines home nodes c counts looks looks n from (i + 1) journal seat' desks' }
 {}
 
 /// A line looked at the table at its node.
@@ -95,9 +95,9 @@ pub fn a_read_has_looked<P: Rules, S: Replica>()
         → WorkerAt P.may P.floor P.shelf S.state S.spells lines home nodes c counts looks n from i c.phase seat desks
         → OwnSince n c.journal journal → Unsealed c.journal journal → OwnAdds n IsOfSessions c.journal journal → TrimsUpTo seat'.node.replica.cursor journal
         → slice_get desks session.id ≡ Some desk
-        → Looks (OwnWithin n P.may counts) P.floor P.shelf (node_of seat c.journal) (node_of seat' journal) desk query look
-        → WorkerOk P.may P.floor P.shelf S.state S.spells n counts journal seat' desks
-        → LineWent P.may P.floor P.shelf S.state S.spells lines home nodes c counts counts looks (slice_set looks i (Some look)) n from (i + 1) journal seat' desks }
+        → Looks (OwnWithin n P.may (sent_by desks)) P.floor P.shelf (node_of seat c.journal) (node_of seat' journal) desk query look
+        → WorkerOk P.may P.floor P.shelf S.state S.spells n journal seat' desks
+        → LineWent P.may P.floor P.shelf S.state S.spells lines home nodes c counts looks (slice_set looks i (Some look)) n from (i + 1) journal seat' desks }
 {}
 
 /// A line had its node replace the last loglet of the log.
@@ -108,9 +108,9 @@ pub fn a_node_extends<P: Rules, S: Replica>()
         → CourseOk P.may P.floor P.shelf lines nodes c counts looks
         → WorkerAt P.may P.floor P.shelf S.state S.spells lines home nodes c counts looks n from i c.phase seat desks
         → OwnSince n c.journal journal → OwnAdds n IsOfSessions c.journal journal → TrimsUpTo seat'.node.replica.cursor journal
-        → Extends (OwnWithin n P.may counts) P.floor P.shelf (node_of seat c.journal) (node_of seat' journal) look
-        → WorkerOk P.may P.floor P.shelf S.state S.spells n counts journal seat' desks
-        → LineWent P.may P.floor P.shelf S.state S.spells lines home nodes c counts counts looks (slice_set looks i (Some look)) n from (i + 1) journal seat' desks }
+        → Extends (OwnWithin n P.may (sent_by desks)) P.floor P.shelf (node_of seat c.journal) (node_of seat' journal) look
+        → WorkerOk P.may P.floor P.shelf S.state S.spells n journal seat' desks
+        → LineWent P.may P.floor P.shelf S.state S.spells lines home nodes c counts looks (slice_set looks i (Some look)) n from (i + 1) journal seat' desks }
 {}
 
 /// A line had its node report how much of the log is clean.
@@ -121,22 +121,22 @@ pub fn a_node_reports<P: Rules, S: Replica>()
         → CourseOk P.may P.floor P.shelf lines nodes c counts looks
         → WorkerAt P.may P.floor P.shelf S.state S.spells lines home nodes c counts looks n from i c.phase seat desks
         → OwnSince n c.journal journal → Unsealed c.journal journal → ReportAdds n seat'.node.replica.cursor c.journal journal look → TrimsUpTo seat'.node.replica.cursor journal
-        → Reports (OwnWithin n P.may counts) P.floor P.shelf (node_of seat c.journal) (node_of seat' journal) look
-        → WorkerOk P.may P.floor P.shelf S.state S.spells n counts journal seat' desks
-        → LineWent P.may P.floor P.shelf S.state S.spells lines home nodes c counts counts looks (slice_set looks i (Some look)) n from (i + 1) journal seat' desks }
+        → Reports (OwnWithin n P.may (sent_by desks)) P.floor P.shelf (node_of seat c.journal) (node_of seat' journal) look
+        → WorkerOk P.may P.floor P.shelf S.state S.spells n journal seat' desks
+        → LineWent P.may P.floor P.shelf S.state S.spells lines home nodes c counts looks (slice_set looks i (Some look)) n from (i + 1) journal seat' desks }
 {}
 
-/// A line had its node leave.
+/// A line had its node leave. Answers may have been taken at the desks.
 pub fn a_node_leaves<P: Rules, S: Replica>()
-    ensures { MayRun P.may P.floor P.shelf → (lines : List NamedLine) (home : ℕ → ℕ) (nodes : ℕ) (c : Course) (counts : List ℕ) (looks : List (Option Looked)) (n from i : ℕ) (line : NamedLine) (look : Looked) (seat seat' : SeatView) (desks : List Desk) (journal : List Event)
+    ensures { MayRun P.may P.floor P.shelf → (lines : List NamedLine) (home : ℕ → ℕ) (nodes : ℕ) (c : Course) (counts : List ℕ) (looks : List (Option Looked)) (n from i : ℕ) (line : NamedLine) (look : Looked) (seat seat' : SeatView) (desks desks' : List Desk) (journal : List Event)
         → AreLines lines home nodes → 1 ≤ n → n ≤ nodes → BeginsAt lines from c.phase
         → slice_get lines i ≡ Some line → line.node ≡ n → line.phase ≡ c.phase → line.asks ≡ asks.Admin Retire
         → CourseOk P.may P.floor P.shelf lines nodes c counts looks
         → WorkerAt P.may P.floor P.shelf S.state S.spells lines home nodes c counts looks n from i c.phase seat desks
-        → OwnSince n c.journal journal → Unsealed c.journal journal → LeaveAdds n c.journal journal → TrimsUpTo seat'.node.replica.cursor journal
-        → Leaves (OwnWithin n P.may counts) P.floor P.shelf (node_of seat c.journal) (node_of seat' journal) look
-        → WorkerOk P.may P.floor P.shelf S.state S.spells n counts journal seat' desks
-        → LineWent P.may P.floor P.shelf S.state S.spells lines home nodes c counts counts looks (slice_set looks i (Some look)) n from (i + 1) journal seat' desks }
+        → IsAnswered desks desks' → OwnSince n c.journal journal → Unsealed c.journal journal → LeaveAdds n c.journal journal → TrimsUpTo seat'.node.replica.cursor journal
+        → Leaves (OwnWithin n P.may (sent_by desks)) P.floor P.shelf (node_of seat c.journal) (node_of seat' journal) look
+        → WorkerOk P.may P.floor P.shelf S.state S.spells n journal seat' desks'
+        → LineWent P.may P.floor P.shelf S.state S.spells lines home nodes c counts looks (slice_set looks i (Some look)) n from (i + 1) journal seat' desks' }
 {}
 
 /// A line had its node trim the log.
@@ -147,9 +147,9 @@ pub fn a_node_trims<P: Rules, S: Replica>()
         → CourseOk P.may P.floor P.shelf lines nodes c counts looks
         → WorkerAt P.may P.floor P.shelf S.state S.spells lines home nodes c counts looks n from i c.phase seat desks
         → OwnSince n c.journal journal → Unsealed c.journal journal → TrimAdds n c.journal journal → TrimsUpTo seat'.node.replica.cursor journal
-        → TrimsLog (OwnWithin n P.may counts) P.floor P.shelf (node_of seat c.journal) (node_of seat' journal) look
-        → WorkerOk P.may P.floor P.shelf S.state S.spells n counts journal seat' desks
-        → LineWent P.may P.floor P.shelf S.state S.spells lines home nodes c counts counts looks (slice_set looks i (Some look)) n from (i + 1) journal seat' desks }
+        → TrimsLog (OwnWithin n P.may (sent_by desks)) P.floor P.shelf (node_of seat c.journal) (node_of seat' journal) look
+        → WorkerOk P.may P.floor P.shelf S.state S.spells n journal seat' desks
+        → LineWent P.may P.floor P.shelf S.state S.spells lines home nodes c counts looks (slice_set looks i (Some look)) n from (i + 1) journal seat' desks }
 {}
 
 /// The phase ended at a node, whose lines of it were played. Those of the next phase begin at `to`.
@@ -159,8 +159,8 @@ pub fn a_phase_has_ended<P: Rules, S: Replica>()
         → CourseOk P.may P.floor P.shelf lines nodes c counts looks
         → WorkerAt P.may P.floor P.shelf S.state S.spells lines home nodes c counts looks n from to c.phase seat desks
         → OwnSince n c.journal journal → Unsealed c.journal journal → OwnAdds n IsOfSessions c.journal journal
-        → EndsTurn (OwnWithin n P.may counts) P.floor P.shelf (node_of seat c.journal) (node_of seat' journal) desks desks' failed
-        → WorkerOk P.may P.floor P.shelf S.state S.spells n counts journal seat' desks'
+        → EndsTurn (OwnWithin n P.may (sent_by desks)) P.floor P.shelf (node_of seat c.journal) (node_of seat' journal) desks desks' failed
+        → WorkerOk P.may P.floor P.shelf S.state S.spells n journal seat' desks'
         → TurnEnded P.may P.floor P.shelf S.state S.spells lines home nodes c counts looks n to journal seat' desks' }
 {}
 
@@ -191,8 +191,8 @@ pub fn a_node_finishes<P: Rules, S: Replica>()
         → CourseOk P.may P.floor P.shelf lines nodes c counts looks
         → Rests P.may P.floor P.shelf S.state S.spells lines home nodes c counts looks n from done seat desks
         → OwnSince n c.journal journal → Unsealed c.journal journal → OwnAdds n IsOfSessions c.journal journal
-        → Moves (OwnWithin n P.may counts) P.floor P.shelf (node_of seat c.journal) (node_of seat' journal) [] → seat'.node.outbox ≡ seat.node.outbox
-        → WorkerOk P.may P.floor P.shelf S.state S.spells n counts journal seat' desks
+        → Moves (OwnWithin n P.may (sent_by desks)) P.floor P.shelf (node_of seat c.journal) (node_of seat' journal) [] → seat'.node.outbox ≡ seat.node.outbox
+        → WorkerOk P.may P.floor P.shelf S.state S.spells n journal seat' desks
         → NodeFinished P.may P.floor P.shelf S.state S.spells lines home nodes c counts looks n from done journal seat' desks }
 {}
 

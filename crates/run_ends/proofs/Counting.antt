@@ -167,7 +167,7 @@ full_from : (v : LogletView) → (size_of v ≡ v.room) ⊎ (v.begun ≡ v.limit
 full_from v (inl room) = or_left (size_of v == v.room) (v.begun == v.limit) (eq-eqb (size_of v) v.room room)
 full_from v (inr limit) = or_right (size_of v == v.room) (v.begun == v.limit) (eq-eqb v.begun v.limit limit)
 
-module _ (may : ℕ → Entry → Type 0) (floor : List Entry → ℕ → Type 0) (shelf : List ℕ) (told : AreCounted may floor shelf) (state : List Entry → SpaceMap → Type 0) (spells : List ℕ → Saved → Type 0) (lines : List NamedLine) (rows : List Row) (journal : List Event) (counts : List ℕ) (looks : List (Option Looked)) (log : List Entry) (workers : List WorkerEnd) (chain : Chain) (yard : Shown) (h : HasClosed may floor shelf state spells lines journal counts looks log workers) (back : IsGivenBack may floor shelf journal workers chain yard) where
+module _ (may : ℕ → Entry → Type 0) (floor : List Entry → ℕ → Type 0) (shelf : List ℕ) (told : AreCounted may floor shelf) (state : List Entry → SpaceMap → Type 0) (spells : List ℕ → Saved → Type 0) (lines : List NamedLine) (rows : List Row) (journal : List Event) (looks : List (Option Looked)) (log : List Entry) (workers : List WorkerEnd) (chain : Chain) (yard : Shown) (h : HasClosed may floor shelf state spells lines journal looks log workers) (back : IsGivenBack may floor shelf journal workers chain yard) where
   abbrev played : List Played
   played = played_of lines rows looks
 

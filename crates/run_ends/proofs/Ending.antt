@@ -1,5 +1,5 @@
 -- A run whose nodes have closed has ended.
-use Rattle.std.proofs.Common.{◌≡◌, refl, sym, ap, ◌∙◌, subst, ⊎_elim, ◌⊎◌, ℕ, suc, ◌-◌, ◌<◌, ◌≤◌, ◌==◌, ◌&&◌, true, List, [], ◌∷◌, Some, is_some, map, length, take, drop, slice_get, Option, Contains, arith, eq-eqb, take-append-drop}
+use Rattle.std.proofs.Common.{◌≡◌, refl, sym, ap, ◌∙◌, subst, ⊎_elim, ◌⊎◌, ℕ, zero, suc, ◌-◌, ◌<◌, ◌≤◌, ◌==◌, ◌&&◌, true, List, [], ◌∷◌, ◌++◌, Some, None, is_some, map, length, take, drop, slice_get, Option, Contains, arith, eq-eqb, take-append-drop}
 use Rattle.std.specs.List.{AllByRecursion}
 use Rattle.std.proofs.lemmas.Bool.{and_from}
 use Rattle.std.proofs.lemmas.List.{length-map, length-take}
@@ -8,48 +8,55 @@ use Rattle.delos_types.specs.Spaces.{SpaceMap}
 use Rattle.delos_types.specs.declared.entry.Entry.{Entry}
 use Rattle.delos_types.specs.declared.chain.Chain.{Chain}
 use Rattle.legal_journal.specs.declared.events.Event.{Event}
-use Rattle.legal_journal.specs.Journal.{log_at, state_of, tail_of, trim_of}
+use Rattle.legal_journal.specs.Journal.{IsLegal, state_of, tail_of, trim_of}
 use Rattle.legal_journal.proofs.Log.{slice_get_front}
 use Rattle.virtual_log.specs.Holding.{Holds}
-use Rattle.virtual_log.proofs.Holding.{holds_stands}
+use Rattle.delos_types.specs.declared.place.Place.{Place}
+use Rattle.journal_laws.proofs.Changes.{held_appended}
 use Rattle.engine_api.specs.declared.content.Content.{Content}
 use Rattle.engine_api.specs.declared.content.Content.TheVariants as content
-use Rattle.engine_api.specs.declared.content.Placed.{Placed}
-use Rattle.engine_api.specs.Acted.{Asked, asked_in, unpack_all}
+use Rattle.engine_api.specs.Items.{unpack}
+use Rattle.engine_api.specs.Acted.{Asked, asked_in}
 use Rattle.engine_api.specs.Order.{first_of, is_clean}
 use Rattle.replica_api.specs.Replica.{Saved}
-use Rattle.base_engine.specs.Trimming.{FloorIs}
-use Rattle.script_text.specs.declared.line.Admin.TheVariants.{Alive, Retire}
+use Rattle.turn_scopes.specs.Floors.{FloorIs}
+use Rattle.script_text.specs.declared.line.Admin.TheVariants.{Extend, Alive, Trim, Retire}
 use Rattle.script_text.specs.declared.asks.NamedLine.{NamedLine}
 use Rattle.script_text.specs.declared.asks.Asks.{Asks}
 use Rattle.script_text.specs.declared.asks.Asks.TheVariants as asks
+use Rattle.row_text.specs.declared.row.Outcome.{Outcome}
 use Rattle.row_text.specs.declared.row.Outcome.TheVariants as out
 use Rattle.fabric_core.specs.Fabric.{IsRegisterAsTold}
-use Rattle.fabric_core.specs.Log.{virtual_log, virtual_tail}
 use Rattle.fitting_run.specs.declared.told.Told.{Told}
 use Rattle.fitting_run.specs.Fits.{ChainIsRegistered}
 use Rattle.fitting_run.specs.Lines.{are_in_phase, are_ranked, is_of}
 use Rattle.fitting_run.specs.Yard.{Shown}
-use Rattle.turn_scopes.proofs.Bounds.{stands_below}
+use Rattle.turn_scopes.proofs.Widening.{legal_wider}
 use Rattle.turn_scopes.proofs.Moments.{held_sent}
 use Rattle.node_lines.specs.UnderWay.{HasRank}
 use Rattle.node_lines.proofs.Catching.{appears_in}
+use Rattle.node_lines.specs.declared.desk.Desk.{Desk}
 use Rattle.node_lines.specs.declared.lines.Looked.{Looked}
-use Rattle.node_lines.specs.Workers.{MayRun}
-use Rattle.node_lines.proofs.Bounding.{front_below}
+use Rattle.node_lines.specs.declared.lines.Looked.TheVariants as looked
+use Rattle.node_lines.specs.Workers.{MayRun, Within, sent_of}
+use Rattle.node_lines.proofs.Bounding.{front_below, tail_bounds}
 use Rattle.run_ends.specs.Rules.{AreOfLines, may_of}
 use Rattle.run_ends.proofs.Rules.{asked_by}
-use Rattle.run_laws.specs.Ended.{AllAfter, FaultsCame, IsAtHome, IsOfEarlier, IsOfLine, LineEnded, LogStands, LogsThis, Played, Replacements, RunEnded, SessionEnded, rank_in}
+use Rattle.run_laws.specs.Ended.{AllAfter, CameOf, FaultsCame, IsAtHome, IsOfEarlier, IsOfLine, LineEnded, LogStands, LogsThis, Played, Replacements, RunEnded, SaysFrom, SaysTrim, SessionEnded, StandsFrom, rank_in}
 use Rattle.run_laws.proofs.Members.{among-found, contained-among}
 use Rattle.run_course.specs.Replacing.{Replaced}
 use Rattle.run_course.specs.Reporting.{StandsThere}
-use Rattle.run_course.specs.Telling.{AskedFor, TellsAtLeast}
+use Rattle.run_course.specs.Behind.{IsUnsent}
+use Rattle.run_course.specs.Telling.{AskedFor, TellsAtLeast, ToldSo}
+use Rattle.run_course.proofs.Stands.{says_one}
 use Rattle.run_ends.specs.Closing.{HasClosed, IsGivenBack, WorkerEnd}
 use Rattle.run_ends.specs.Ends.{cursor_at, cursor_of, end_of}
-use Rattle.run_ends.specs.Rows.{AreRows, desk_for, played_of}
+use Rattle.run_ends.specs.Rows.{AreRows, Tells, desk_for, played_of}
 use Rattle.run_ends.proofs.Turns.{all_lines, lines_are, rows_are, some_at, turn_is, turn_of}
 use Rattle.run_ends.proofs.Lines.{early_line, leave_played, report_played}
-use Rattle.run_ends.proofs.Reports.{alive_is, retired_is, says_all}
+use Rattle.run_ends.proofs.Placing.{appeared_by}
+use Rattle.run_ends.proofs.Reports.{alive_is, retired_is}
+use Rattle.run_ends.proofs.Showing.{said_high, stood_from}
 use Rattle.run_ends.proofs.Trims.{clean_below, trimmed_is, trims_ended}
 use Rattle.run_ends.proofs.Replacements.{replacements}
 
@@ -70,7 +77,13 @@ logs_so (asks.Logged s r command) x h = (eq-eqb s.id x.session (sym h.0), sym h.
 logs_so (asks.Look s query) x h = absurd h
 logs_so (asks.Admin a) x h = absurd h
 
-module _ (may : ℕ → Entry → Type 0) (floor : List Entry → ℕ → Type 0) (shelf : List ℕ) (state : List Entry → SpaceMap → Type 0) (spells : List ℕ → Saved → Type 0) (run : MayRun may floor shelf) (lines : List NamedLine) (journal : List Event) (counts : List ℕ) (looks : List (Option Looked)) (log : List Entry) (workers : List WorkerEnd) (o : Told) (yard : Shown) (mine : (who : ℕ) (e : Entry) → may who e → may_of lines who e) (floor_is : FloorIs floor (length workers)) (h : HasClosed may floor shelf state spells lines journal counts looks log workers) (are : AreRows lines workers looks o.rows) (end_is : o.end ≡ length log) (back : IsGivenBack may floor shelf journal workers o.chain yard) (told : IsRegisterAsTold (state_of journal).register yard.register) (registered : ChainIsRegistered o yard.register) where
+-- an element, behind those before it
+after_at : {A : Type 0} (P : List A → A → Type 0) (before xs : List A) (j : ℕ) (x : A) → AllAfter P before xs → slice_get xs j ≡ Some x → (b : List A) × P b x
+after_at P before [] j x h at = absurd (cc)
+after_at P before (y ∷ ys) zero x h at = let same : y ≡ x = cc in (before, subst (P before) same h.0)
+after_at P before (y ∷ ys) (suc j) x h at = after_at P (before ++ y ∷ []) ys j x h.1 at
+
+module _ (may : ℕ → Entry → Type 0) (floor : List Entry → ℕ → Type 0) (shelf : List ℕ) (state : List Entry → SpaceMap → Type 0) (spells : List ℕ → Saved → Type 0) (run : MayRun may floor shelf) (lines : List NamedLine) (journal : List Event) (looks : List (Option Looked)) (log : List Entry) (workers : List WorkerEnd) (o : Told) (yard : Shown) (mine : (who : ℕ) (e : Entry) → may who e → may_of lines who e) (floor_is : FloorIs floor (length workers)) (h : HasClosed may floor shelf state spells lines journal looks log workers) (are : AreRows lines workers looks o.rows) (end_is : o.end ≡ length log) (back : IsGivenBack may floor shelf journal workers o.chain yard) (told : IsRegisterAsTold (state_of journal).register yard.register) (registered : ChainIsRegistered o yard.register) where
   abbrev played : List Played
   played = played_of lines o.rows looks
 
@@ -99,7 +112,7 @@ module _ (may : ℕ → Entry → Type 0) (floor : List Entry → ℕ → Type 0
       let within = slice_get_within (take n log) there.0 there.1 there.2 in
       let size = length-take n log in
       let before : k.line.phase < phase =
-      early_line may floor shelf state spells run lines journal counts looks log workers h k.at k.line x.session phase there.0 there.1 k.is logs.0 (first_is n there.0 there.1 there.2)
+      early_line may floor shelf state spells run lines journal looks log workers h k.at k.line x.session phase there.0 there.1 k.is logs.0 (first_is n there.0 there.1 there.2)
       (subst (λ r. HasRank x.session r there.1) (sym logs.1) there.3) (omega (arith, within, size)) in
       record {
         at = k.at;
@@ -115,46 +128,49 @@ module _ (may : ℕ → Entry → Type 0) (floor : List Entry → ℕ → Type 0
       let t = turn_of played k.at k.line (ap (λ ls. slice_get ls k.at) played_lines ∙ k.is) in
       record { at = k.at; turn = t.0; is = t.1; logs = subst (λ (l : NamedLine). LogsThis l.asks x) (sym t.2) k.logs }
 
-  -- the log that the loglets have says so
-  abbrev Says : Content → Type 0
-  Says c = Contains (map (λ (p : Placed). p.content) (unpack_all 0 (virtual_log o.chain yard.cells 0 (virtual_tail o.chain yard.cells)))) c
+  -- what stands in the log stands in theirs, where it isn't trimmed
+  stood : (c : Content) (from : ℕ) (r : StandsThere h.course.journal c) → o.chain.trim ≤ r.at → from ≤ r.at → SaysFrom o.chain yard.cells from c
+  stood c from r high up =
+      stood_from may floor shelf journal back.legal run.low o.chain yard.cells back.chain_is back.shows back.tail c from
+      (record { at = r.at; entry = r.entry; held = subst (λ j. Holds j r.at r.entry) h.journal_is r.held; says = r.says }) high up
 
-  -- what stands in the log stands in theirs
-  shown_there : (c : Content) → o.chain.trim ≡ 0 → StandsThere h.course.journal c → Says c
-  shown_there c none r =
-      let untrimmed : trim_of (state_of journal) ≡ 0 = sym (ap (λ (k : Chain). k.trim) back.chain_is) ∙ none in
-      let stands = holds_stands may floor shelf journal r.at r.entry back.legal (subst (λ j. Holds j r.at r.entry) h.journal_is r.held) in
-      let shown : log_at (state_of journal) r.at ≡ Some r.entry = ⊎_elim (λ (trimmed : r.at < trim_of (state_of journal)). absurd (omega (arith, trimmed, untrimmed))) (λ (s : log_at (state_of journal) r.at ≡ Some r.entry). s) stands in
-      let low = stands_below may floor shelf run.low journal r.at r.entry back.legal stands in
-      subst (λ k. Contains (map (λ (p : Placed). p.content) (unpack_all 0 (virtual_log k yard.cells 0 (virtual_tail k yard.cells)))) c) (sym back.chain_is)
-      (says_all (state_of journal).register.chain yard.cells r.at r.entry c (omega (arith, low, back.tail)) (back.shows r.at (omega (arith, untrimmed)) ∙ shown) r.says)
+  legal_then : IsLegal (Within may h.counts) floor shelf h.course.journal
+  legal_then = h.ok.legal
+
+  -- a report stands no lower than what it reports
+  told_high : (node n : ℕ) (r : StandsThere h.course.journal (content.Alive node n)) → n ≤ r.at
+  told_high node n r =
+      let q = says_one (unpack 0 r.entry) (content.Alive node n) r.says in
+      let sent = held_appended (Within may h.counts) floor shelf h.course.journal r.at r.entry legal_then r.held in
+      said_high (Within may h.counts) floor shelf h.course.journal legal_then n (content.Alive node n) (subst (ToldSo lines looks h.course.journal) q.2 (h.ok.told r.entry q.0 sent q.1)).0 r
 
   -- each report that a row tells stands in the log
-  reported : (i : ℕ) (t : Played) (clean : ℕ) → slice_get played i ≡ Some t → t.row.outcome ≡ out.Alive clean → o.chain.trim ≡ 0 → Says (content.Alive t.line.node clean)
-  reported i t clean at is none =
+  reported : (i : ℕ) (t : Played) (clean : ℕ) → slice_get played i ≡ Some t → t.row.outcome ≡ out.Alive clean → o.chain.trim ≤ clean → SaysFrom o.chain yard.cells clean (content.Alive t.line.node clean)
+  reported i t clean at is low =
       let k = turn_is lines o.rows looks i t at in
       let row = are.each i k.line k.look k.row k.line_at k.look_at k.row_at in
       let alive = alive_is (desk_for workers k.line.node k.line.asks) k.look k.line.asks k.row.outcome clean row.tells (sym (ap (λ (y : Played). y.row.outcome) k.is) ∙ is) in
-      let r = report_played may floor shelf state spells run lines journal counts looks log workers h i k.line k.line_at Alive alive.0 clean (k.look_at ∙ ap Some alive.1) in
-      subst (λ n. Says (content.Alive n clean)) (sym (ap (λ (y : Played). y.line.node) k.is)) (shown_there (content.Alive k.line.node clean) none r.stands)
+      let r = report_played may floor shelf state spells run lines journal looks log workers h i k.line k.line_at Alive alive.0 clean (k.look_at ∙ ap Some alive.1) in
+      let high = told_high k.line.node clean r.stands in
+      subst (λ n. SaysFrom o.chain yard.cells clean (content.Alive n clean)) (sym (ap (λ (y : Played). y.line.node) k.is)) (stood (content.Alive k.line.node clean) clean r.stands (omega (arith, low, high)) high)
 
   -- and so does each leave
-  left : (i : ℕ) (t : Played) → slice_get played i ≡ Some t → t.row.outcome ≡ out.Retired → o.chain.trim ≡ 0 → Says (content.Leave t.line.node)
+  left : (i : ℕ) (t : Played) → slice_get played i ≡ Some t → t.row.outcome ≡ out.Retired → o.chain.trim ≡ 0 → SaysFrom o.chain yard.cells 0 (content.Leave t.line.node)
   left i t at is none =
       let k = turn_is lines o.rows looks i t at in
       let row = are.each i k.line k.look k.row k.line_at k.look_at k.row_at in
       let retired = retired_is (desk_for workers k.line.node k.line.asks) k.look k.line.asks k.row.outcome row.tells (sym (ap (λ (y : Played). y.row.outcome) k.is) ∙ is) in
-      let r = leave_played may floor shelf state spells run lines journal counts looks log workers h i k.line k.line_at Retire retired.0 (k.look_at ∙ ap Some retired.1) in
-      subst (λ n. Says (content.Leave n)) (sym (ap (λ (y : Played). y.line.node) k.is)) (shown_there (content.Leave k.line.node) none r.stands)
+      let r = leave_played may floor shelf state spells run lines journal looks log workers h i k.line k.line_at Retire retired.0 (k.look_at ∙ ap Some retired.1) in
+      subst (λ n. SaysFrom o.chain yard.cells 0 (content.Leave n)) (sym (ap (λ (y : Played). y.line.node) k.is)) (stood (content.Leave k.line.node) 0 r.stands (omega (arith, none)) (omega arith))
 
   -- and that a trim was asked for
-  asked : (j : ℕ) (t : Played) (trim : ℕ) → slice_get played j ≡ Some t → t.row.outcome ≡ out.Trimmed trim → o.chain.trim ≡ 0 → (position : ℕ) × Says (content.Trim position)
+  asked : (j : ℕ) (t : Played) (trim : ℕ) → slice_get played j ≡ Some t → t.row.outcome ≡ out.Trimmed trim → o.chain.trim ≡ 0 → SaysTrim o.chain yard.cells 0
   asked j t trim at is none =
       let k = turn_is lines o.rows looks j t at in
       let row = are.each j k.line k.look k.row k.line_at k.look_at k.row_at in
       let so = trimmed_is (desk_for workers k.line.node k.line.asks) k.look k.line.asks k.row.outcome trim row.tells (sym (ap (λ (y : Played). y.row.outcome) k.is) ∙ is) in
       let r = h.ok.trims j k.line trim k.line_at (k.look_at ∙ ap Some so.1) in
-      (r.position, shown_there (content.Trim r.position) none r.stands)
+      record { position = r.position; above = omega arith; says = stood (content.Trim r.position) 0 r.stands (omega (arith, none)) (omega arith) }
 
   below : length log ≤ tail_of (state_of journal)
   below = front_below may floor shelf run.low journal log back.legal h.front
@@ -169,6 +185,59 @@ module _ (may : ℕ → Entry → Type 0) (floor : List Entry → ℕ → Type 0
   module _ (stands : length log ≤ tail_of (state_of journal) → trim_of (state_of journal) ≤ length log → is_clean (λ s. 1) (asked_in 0 (take (trim_of (state_of journal)) log)) ≡ true → LogStands log (state_of journal).register.chain yard.cells) (lines_ended : AllAfter (LineEnded log h.course.tails h.course.faults (end_of lines workers h.home h.course.when)) [] played) (sessions_ended : (s : ℕ) → SessionEnded played h.course.faults h.home s (end_of lines workers h.home h.course.when s)) (came : FaultsCame played h.course.faults yard)
       (let_go : (k : ℕ) → 1 ≤ k → k ≤ length workers → (trim_of (state_of h.course.journal) ≡ 0) ⊎ (AskedFor lines looks k Retire (λ look. Unit {0}) ⊎ AskedFor lines looks k Alive (TellsAtLeast (trim_of (state_of h.course.journal)))))
       (kept : (trim_of (state_of h.course.journal) ≡ 0) ⊎ ((k : ℕ) × (1 ≤ k) × (k ≤ length workers) × (trim_of (state_of h.course.journal) ≤ cursor_of workers k))) where
+    -- what a line tells that comes behind a report of its node
+    behind : (i j : ℕ) (l m : NamedLine) (clean : ℕ) → slice_get lines i ≡ Some l → slice_get lines j ≡ Some m → i < j → l.node ≡ m.node → slice_get looks i ≡ Some (Some (looked.Reported clean))
+        → (look : Option Looked) → slice_get looks j ≡ Some look → (d : Option Desk) → (b : List Played) (u : Played) (a : Asks) (x : Outcome) → m.asks ≡ a → Tells d look a x → CameOf log h.course.tails h.course.faults (end_of lines workers h.home h.course.when) b u a x → StandsFrom clean x
+    behind i j l m clean at there low same told look came d b u (asks.Logged s r command) (out.Placed place reply late) is t k =
+        let w = h.ok.reports.each i l clean at told in
+        let above : sent_of w.counts s.id < r = subst (IsUnsent w.counts) is (w.unsent j m low there (sym same)) in
+        let y = appeared_by log s.id r (omega (arith, above)) k.act k.found in
+        let early = legal_wider (Within may w.counts) may floor shelf (λ who e q. q.0) w.early w.legal in
+        let reach = front_below may floor shelf run.low w.early w.clean.log early w.clean.front in
+        let within = w.clean.within in
+        let whole = w.seen in
+        let held : Holds (w.early ++ w.more) y.0 y.1 = subst (λ q. Holds q y.0 y.1) whole (subst (λ q. Holds q y.0 y.1) (sym h.journal_is) (h.front y.0 y.1 y.2)) in
+        let legal : IsLegal may floor shelf (w.early ++ w.more) = subst (IsLegal may floor shelf) whole (legal_wider (Within may h.counts) may floor shelf (λ who e q. q.0) h.course.journal h.ok.legal) in
+        let high = tail_bounds may floor shelf run.low w.counts w.early w.more s.id r y.0 y.1 w.legal legal held y.3 above in
+        let up = y.4 in
+        subst (λ (p : Place). clean ≤ p.pos) (sym k.place_is) (omega (arith, reach, within, high, up))
+    behind i j l m clean at there low same told look came d b u (asks.Logged s r command) (out.Open cause) is t k = tt
+    behind i j l m clean at there low same told look came d b u (asks.Logged s r command) x is t k = absurd k
+    behind i j l m clean at there low same told look came (Some d) b u (asks.Look s query) (out.Read after found) is t k = h.ok.reports.reads i j l m clean after found at there low same told (came ∙ ap Some t)
+    behind i j l m clean at there low same told look came None b u (asks.Look s query) (out.Read after found) is t k = absurd t
+    behind i j l m clean at there low same told look came d b u (asks.Look s query) (out.Open cause) is t k = tt
+    behind i j l m clean at there low same told look came d b u (asks.Look s query) x is t k = absurd k
+    behind i j l m clean at there low same told look came d b u (asks.Admin Extend) (out.Placed place reply late) is t k = absurd k
+    behind i j l m clean at there low same told look came d b u (asks.Admin Alive) (out.Placed place reply late) is t k = absurd k
+    behind i j l m clean at there low same told look came d b u (asks.Admin Trim) (out.Placed place reply late) is t k = absurd k
+    behind i j l m clean at there low same told look came d b u (asks.Admin Retire) (out.Placed place reply late) is t k = absurd k
+    behind i j l m clean at there low same told look came d b u (asks.Admin Extend) (out.Read after found) is t k = absurd k
+    behind i j l m clean at there low same told look came d b u (asks.Admin Alive) (out.Read after found) is t k = absurd k
+    behind i j l m clean at there low same told look came d b u (asks.Admin Trim) (out.Read after found) is t k = absurd k
+    behind i j l m clean at there low same told look came d b u (asks.Admin Retire) (out.Read after found) is t k = absurd k
+    behind i j l m clean at there low same told look came d b u (asks.Admin a) (out.Extended version start) is t k = tt
+    behind i j l m clean at there low same told look came d b u (asks.Admin a) (out.Moved version) is t k = tt
+    behind i j l m clean at there low same told look came d b u (asks.Admin a) out.NoSpare is t k = tt
+    behind i j l m clean at there low same told look came d b u (asks.Admin a) (out.Alive n) is t k = tt
+    behind i j l m clean at there low same told look came d b u (asks.Admin a) (out.Trimmed trim) is t k = tt
+    behind i j l m clean at there low same told look came d b u (asks.Admin a) out.Retired is t k = tt
+    behind i j l m clean at there low same told look came d b u (asks.Admin a) (out.Open cause) is t k = tt
+
+    above : (i j : ℕ) (t u : Played) (clean : ℕ) → slice_get played i ≡ Some t → slice_get played j ≡ Some u → i < j → t.line.node ≡ u.line.node → t.row.outcome ≡ out.Alive clean → StandsFrom clean u.row.outcome
+    above i j t u clean at there low same is =
+        let k = turn_is lines o.rows looks i t at in
+        let row = are.each i k.line k.look k.row k.line_at k.look_at k.row_at in
+        let alive = alive_is (desk_for workers k.line.node k.line.asks) k.look k.line.asks k.row.outcome clean row.tells (sym (ap (λ (y : Played). y.row.outcome) k.is) ∙ is) in
+        let m = turn_is lines o.rows looks j u there in
+        let other = are.each j m.line m.look m.row m.line_at m.look_at m.row_at in
+        let ended = after_at (LineEnded log h.course.tails h.course.faults (end_of lines workers h.home h.course.when)) [] played j u lines_ended there in
+        let line_is : u.line ≡ m.line = ap (λ (y : Played). y.line) m.is in
+        let outcome_is : u.row.outcome ≡ m.row.outcome = ap (λ (y : Played). y.row.outcome) m.is in
+        let tells : Tells (desk_for workers m.line.node m.line.asks) m.look u.line.asks u.row.outcome =
+        subst (λ x. Tells (desk_for workers m.line.node m.line.asks) m.look u.line.asks x) (sym outcome_is) (subst (λ (x : NamedLine). Tells (desk_for workers m.line.node m.line.asks) m.look x.asks m.row.outcome) (sym line_is) other.tells) in
+        behind i j k.line m.line clean k.line_at m.line_at low (sym (ap (λ (y : Played). y.line.node) k.is) ∙ same ∙ ap (λ (x : NamedLine). x.node) line_is) (k.look_at ∙ ap Some alive.1) m.look m.look_at (desk_for workers m.line.node m.line.asks) ended.0 u u.line.asks u.row.outcome
+        (sym (ap (λ (x : NamedLine). x.asks) line_is)) tells ended.1.came
+
     -- some node has played the log as far as it is trimmed
     short : o.chain.trim ≤ length log
     short =
@@ -203,7 +272,7 @@ module _ (may : ℕ → Entry → Type 0) (floor : List Entry → ℕ → Type 0
           (let same = ap (λ (k : Chain). k.trim) back.chain_is in
           let low = short in
           stands below (omega (arith, same, low))
-          (subst (λ n. is_clean (λ s. 1) (asked_in 0 (take n log)) ≡ true) same (clean_below may floor shelf state spells run lines journal counts looks log workers o yard mine floor_is h are back short)));
+          (subst (λ n. is_clean (λ s. 1) (asked_in 0 (take n log)) ≡ true) same (clean_below may floor shelf state spells run lines journal looks log workers o yard mine floor_is h are back short)));
       sent = sent;
       early = early;
       lines = lines_ended;
@@ -211,7 +280,8 @@ module _ (may : ℕ → Entry → Type 0) (floor : List Entry → ℕ → Type 0
       replacements = replaced;
       reported = reported;
       left = left;
-      trims = trims_ended may floor shelf state spells run lines journal counts looks log workers o yard mine floor_is h are back let_go back.nodes (let low = short in omega (arith, low, end_is)) asked;
+      above = above;
+      trims = trims_ended may floor shelf state spells run lines journal looks log workers o yard mine floor_is h are back let_go back.nodes (let low = short in omega (arith, low, end_is)) asked;
       came = came;
       registered = registered;
     }

@@ -9,6 +9,7 @@ pub mod Trims
 pub mod Ending
 pub mod Reading
 mod Standing
+mod Showing
 mod Fronts
 pub mod Contents
 pub mod Rules

@@ -4,6 +4,7 @@ use Rattle.std.specs.List.{AllByRecursion, list_any}
 use Rattle.std.specs.FinMap as finmap
 use Rattle.std.proofs.lemmas.Bool.{and_from, and_parts, cases_lt}
 use Rattle.std.proofs.lemmas.Bool.Decides.{nat_tests}
+use Rattle.std.proofs.lemmas.List.{length-take}
 use Rattle.std.proofs.lemmas.List.Sums.{count_by-le-length}
 use Rattle.std.proofs.lemmas.Option.{slice_get_within}
 use Rattle.delos_types.specs.Spaces.{SpaceMap}
@@ -26,13 +27,14 @@ use Rattle.replica_api.specs.Replica.{Saved}
 use Rattle.base_engine.specs.Reading.{IsFront}
 use Rattle.script_text.specs.declared.line.Admin.{Admin}
 use Rattle.script_text.specs.declared.line.Admin.TheVariants.{Extend, Alive, Retire, Trim}
+use Rattle.script_text.specs.declared.line.Session.{Session}
 use Rattle.script_text.specs.declared.asks.NamedLine.{NamedLine}
 use Rattle.script_text.specs.declared.asks.Asks.{Asks}
 use Rattle.script_text.specs.declared.asks.Asks.TheVariants as asks
 use Rattle.row_text.specs.declared.row.Row.{Row}
 use Rattle.row_text.specs.declared.row.Outcome.{Outcome}
 use Rattle.row_text.specs.declared.row.Outcome.TheVariants as out
-use Rattle.fitting_run.specs.Answered.{is_open, session_asking}
+use Rattle.fitting_run.specs.Answered.{session_asking}
 use Rattle.fitting_run.specs.Lines.{is_of, logs_for}
 use Rattle.fitting_run.specs.Outcomes.{answers, is_row_of}
 use Rattle.turn_scopes.proofs.Widening.{legal_wider}
@@ -52,7 +54,8 @@ use Rattle.run_laws.proofs.Placing.{is_rank}
 use Rattle.run_course.specs.Script.{asked_before, asked_by, failure_of_look, logs_at}
 use Rattle.run_course.specs.Reporting.{IsReport, ReportedSo}
 use Rattle.run_course.specs.Leaving.{IsLeave, LeftSo}
-use Rattle.run_course.specs.Desks.{HasActed, IsOfNode, IsUpTo, LoggedSo, LogsBefore, LookedSo, PlayedSo, SawSo, WasStopped}
+use Rattle.run_course.specs.Desks.{HasActed, IsOfNode, IsUpTo, LoggedSo, LogsBefore, LookedSo, PlayedSo, SawSo, WasFree, WasStopped}
+use Rattle.run_course.proofs.Fronts.{front_low}
 use Rattle.run_course.proofs.Lines.{asked_home, at_get, count-cons, phase_before}
 use Rattle.run_course.proofs.Ranks.{node_is_home, rank_counts, rank_low}
 use Rattle.run_ends.specs.Closing.{HasClosed, WorkerEnd}
@@ -121,24 +124,24 @@ answers_so d look a o t = absurd t
 same_some : {A : Type 0} (x y : A) → Some x ≡ Some y → x ≡ y
 same_some x y e = cc
 
-module _ (may : ℕ → Entry → Type 0) (floor : List Entry → ℕ → Type 0) (shelf : List ℕ) (state : List Entry → SpaceMap → Type 0) (spells : List ℕ → Saved → Type 0) (run : MayRun may floor shelf) (lines : List NamedLine) (journal : List Event) (counts : List ℕ) (looks : List (Option Looked)) (log : List Entry) (workers : List WorkerEnd) (h : HasClosed may floor shelf state spells lines journal counts looks log workers) where
+module _ (may : ℕ → Entry → Type 0) (floor : List Entry → ℕ → Type 0) (shelf : List ℕ) (state : List Entry → SpaceMap → Type 0) (spells : List ℕ → Saved → Type 0) (run : MayRun may floor shelf) (lines : List NamedLine) (journal : List Event) (looks : List (Option Looked)) (log : List Entry) (workers : List WorkerEnd) (h : HasClosed may floor shelf state spells lines journal looks log workers) where
   abbrev Home : ℕ → Type 0
-  Home s = AtHome may floor shelf state spells lines journal counts looks log workers h s
+  Home s = AtHome may floor shelf state spells lines journal looks log workers h s
 
   abbrev Seat : (s : ℕ) → Home s → Type 0
-  Seat s n = HasDesk may floor shelf state spells lines journal counts looks log workers h s n
+  Seat s n = HasDesk may floor shelf state spells lines journal looks log workers h s n
 
   abbrev ends : ℕ → SessionEnd
-  ends s = the_end may floor shelf state spells lines journal counts looks log workers h s
+  ends s = the_end may floor shelf state spells lines journal looks log workers h s
 
   abbrev end_so : ℕ → Desk → SessionEnd
-  end_so s d = ends_so may floor shelf state spells lines journal counts looks log workers h s d
+  end_so s d = ends_so may floor shelf state spells lines journal looks log workers h s d
 
   first_stop : (s : ℕ) (n : Home s) (d : Seat s n) (k : Cause) → d.was.stopped ≡ Some k → (a : ℕ) × (d.was.answered ≡ Some a)
-  first_stop s n d k stop = stopped_first may floor shelf state spells lines journal counts looks log workers h s n d k stop
+  first_stop s n d k stop = stopped_first may floor shelf state spells lines journal looks log workers h s n d k stop
 
   legal : IsLegal may floor shelf h.course.journal
-  legal = legal_wider (Within may counts) may floor shelf (λ who e k. k.0) h.course.journal h.ok.legal
+  legal = legal_wider (Within may h.counts) may floor shelf (λ who e k. k.0) h.course.journal h.ok.legal
 
   -- the log as far as it was played is a front of what is held
   front : IsFront Holds h.course.journal log
@@ -286,7 +289,7 @@ module _ (may : ℕ → Entry → Type 0) (floor : List Entry → ℕ → Type 0
             let unsent = so.unsent first.0 first.1 earlier in
             let sent = d.stands.sent refl in
             let low = acts_low log s r least so_kept.act found in
-            let most = acted_sent (Within may counts) floor shelf h.course.journal log s (sent_of counts s) h.ok.legal front (λ who e q allowed has. allowed.1 s q has) in
+            let most = acted_sent (Within may h.counts) floor shelf h.course.journal log s (sent_of h.counts s) h.ok.legal front (λ who e q allowed has. allowed.1 s q has) in
             omega (arith, unsent, sent, low, most)
 
       -- its row tells that it is open
@@ -351,10 +354,10 @@ module _ (may : ℕ → Entry → Type 0) (floor : List Entry → ℕ → Type 0
       known = let low = at_get (λ (m : NamedLine). session_in m.asks ≤ 63) lines i l h.lines_are.known line_at in let same = ap session_in is in omega (arith, low, same)
 
       home_of : Home (session_in a)
-      home_of = at_home may floor shelf state spells lines journal counts looks log workers h (session_in a)
+      home_of = at_home may floor shelf state spells lines journal looks log workers h (session_in a)
 
       seat_of : Seat (session_in a) home_of
-      seat_of = has_desk may floor shelf state spells lines journal counts looks log workers h (session_in a) home_of known
+      seat_of = has_desk may floor shelf state spells lines journal looks log workers h (session_in a) home_of known
 
       module _ (some : IsSome (session_asking a)) where
         node_is : l.node ≡ h.home (session_in a)
@@ -457,7 +460,16 @@ module _ (may : ℕ → Entry → Type 0) (floor : List Entry → ℕ → Type 0
         any_map (λ (t : Played). t.line) (λ l. logs_for s l && (l.phase == phase)) (take i played) ∙ ap (list_any (λ l. logs_for s l && (l.phase == phase))) (first_lines i)
 
     module _ (i : ℕ) (l : NamedLine) (s : ℕ) (query : Query) (n : Home s) (d : Seat s n) where
-      saw : (after : ℕ) (found : Found) → SawSo lines h.course n.worker.seat.node.replica.cursor d.was i l.phase s query after found → HasLooked log h.course.tails (take i played) l.phase s query after found
+      -- what it saw was answered
+      answered_so : (o : Option ℕ) → ((a : ℕ) → o ≡ Some a → count_by (logs_for s) (take i lines) ≤ a) → count_by (λ t. logs_for s t.line) (take i played) ≤ answered_of lines o
+      answered_so None few =
+          let same = count_first i s in
+          let most = count_by-le-length (logs_for s) (take i lines) in
+          let size = length-take i lines in
+          omega (arith, same, most, size)
+      answered_so (Some a) few = let same = count_first i s in let low = few a refl in omega (arith, same, low)
+
+      saw : (after : ℕ) (found : Found) → SawSo lines h.course n.worker.seat.node.replica.cursor d.was i l.phase s query after found → HasLooked log h.course.tails (end_so s d.was) (take i played) l.phase s query after found
       saw after found k =
           let b = begins_so s n k.log k.front (let a = k.within in let e = k.size in omega (arith, a, e)) in
           let front_is : k.log ≡ take after log = b.1 ∙ ap (λ m. take m log) k.size in
@@ -468,9 +480,10 @@ module _ (may : ℕ → Entry → Type 0) (floor : List Entry → ℕ → Type 0
             sees = ap (λ x. gap_from (asked_in 0 x) s 1) (sym front_is) ∙ k.sees ∙ ap (λ m. m + 1) (sym (count_first i s));
             from = k.from;
             upto = k.upto;
+            answered = answered_so d.was.answered (λ a is. k.answered a is);
           }
 
-      kept : (row : Row) (look : Option Looked) (cause : Cause) → WasStopped h.course d.was l.phase s cause ⊎ (LogsBefore lines i s l.phase × CameTo h.course.faults cause (h.home s) l.phase) → l.node ≡ h.home s
+      kept : (row : Row) (look : Option Looked) (cause : Cause) → WasStopped h.course d.was l.phase s cause ⊎ (LogsBefore lines i s l.phase × CameTo h.course.faults cause (h.home s) l.phase × WasFree h.course d.was l.phase s) → l.node ≡ h.home s
           → IsUnread h.course.faults (end_so s d.was) (take i played) (record { line = l; row = row; paid = failure_of_look look }) s cause
       kept row look cause (inl k) own = inr (inl (k.cause_is, k.earlier))
       kept row look cause (inr k) own = inr (inr (any_first i s l.phase ∙ k.0, subst (λ m. CameTo h.course.faults cause m l.phase) (sym own) k.1))
@@ -513,8 +526,8 @@ module _ (may : ℕ → Entry → Type 0) (floor : List Entry → ℕ → Type 0
       came (asks.Look s query) is (out.Read after found) so t =
           let x = d (asks.Look s query) is in
           let same : so.0 ≡ looked.Found after found = same_some so.0 (looked.Found after found) (same_some (Some so.0) (Some (looked.Found after found)) (sym so.1 ∙ look_at ∙ ap Some t)) in
-          saw i l s.id query (n (asks.Look s query) is) x after found
-          (subst (LookedSo lines h.course (n (asks.Look s query) is).worker.seat.node.replica.cursor (h.home s.id) x.was i l.phase s.id query) same (so.2 x.was x.was_there))
+          subst (λ e. HasLooked log h.course.tails e (take i played) l.phase s.id query after found) (sym x.ends)
+          (saw i l s.id query (n (asks.Look s query) is) x after found (subst (LookedSo lines h.course (n (asks.Look s query) is).worker.seat.node.replica.cursor (h.home s.id) x.was i l.phase s.id query) same (so.2 x.was x.was_there)))
       came (asks.Look s query) is (out.Open cause) so (inl t) =
           let x = d (asks.Look s query) is in
           let same : so.0 ≡ looked.Kept cause = same_some so.0 (looked.Kept cause) (same_some (Some so.0) (Some (looked.Kept cause)) (sym so.1 ∙ look_at ∙ ap Some t)) in
@@ -532,28 +545,41 @@ module _ (may : ℕ → Entry → Type 0) (floor : List Entry → ℕ → Type 0
       missed_so (asks.Look s query) is so = tt
       missed_so (asks.Admin a) is so = tt
 
-      some_cause : (o : Option Cause) → IsSome o → (k : Cause) × (o ≡ Some k)
-      some_cause None some = absurd (cc)
-      some_cause (Some k) some = (k, refl)
+      -- what its look came to is known
+      looked_so : (s : Session) (query : Query) (is : l.asks ≡ asks.Look s query) → PlayedSo lines h.course h.course.phase (n (asks.Look s query) is).worker.seat.node.replica.cursor (h.home s.id) (n (asks.Look s query) is).closed.was looks i l.phase (asks.Look s query)
+          → (x : Looked) → look ≡ Some x → LookedSo lines h.course (n (asks.Look s query) is).worker.seat.node.replica.cursor (h.home s.id) (d (asks.Look s query) is).was i l.phase s.id query x
+      looked_so s query is so x t =
+          let y = d (asks.Look s query) is in
+          let same : so.0 ≡ x = same_some so.0 x (same_some (Some so.0) (Some x) (sym so.1 ∙ look_at ∙ ap Some t)) in
+          subst (LookedSo lines h.course (n (asks.Look s query) is).worker.seat.node.replica.cursor (h.home s.id) y.was i l.phase s.id query) same (so.2 y.was y.was_there)
+
+      -- a session that was stopped in an earlier phase wasn't free
+      not_free : (s : Session) (query : Query) (is : l.asks ≡ asks.Look s query) (k : Cause) → (d (asks.Look s query) is).was.stopped ≡ Some k → WasFree h.course (d (asks.Look s query) is).was l.phase s.id → h.course.when s.id < l.phase → ⊥
+      not_free s query is k stop free earlier =
+          let first = first_stop s.id (n (asks.Look s query) is) (d (asks.Look s query) is) k stop in
+          let late = free first.0 first.1 in
+          omega (arith, late, earlier)
 
       stopped_so : (a : Asks) (is : l.asks ≡ a) (o : Outcome) → PlayedSo lines h.course h.course.phase (n a is).worker.seat.node.replica.cursor (h.home (session_in a)) (n a is).closed.was looks i l.phase a → Tells (Some (d a is).now) look a o
-          → IsSome (d a is).was.stopped → h.course.when (session_in a) < l.phase → is_open o ≡ true
-      stopped_so (asks.Logged s r command) is (out.Placed place reply late) so t some earlier =
+          → (k : Cause) → (d a is).was.stopped ≡ Some k → h.course.when (session_in a) < l.phase → o ≡ out.Open k
+      stopped_so (asks.Logged s r command) is (out.Placed place reply late) so t k stop earlier =
           let x = d (asks.Logged s r command) is in
-          let k = some_cause x.was.stopped some in
-          absurd (not_stopped i l s.id r (n (asks.Logged s r command) is) x line_at (ap (is_of s.id) is ∙ eq-eqb s.id s.id refl) (ap rank_in is) (so x.was x.was_there) told place reply late t k.0 k.1 earlier)
-      stopped_so (asks.Logged s r command) is (out.Open cause) so t some earlier = refl
-      stopped_so (asks.Look s query) is (out.Read after found) so t some earlier =
+          absurd (not_stopped i l s.id r (n (asks.Logged s r command) is) x line_at (ap (is_of s.id) is ∙ eq-eqb s.id s.id refl) (ap rank_in is) (so x.was x.was_there) told place reply late t k stop earlier)
+      stopped_so (asks.Logged s r command) is (out.Open cause) so t k stop earlier =
+          let x = d (asks.Logged s r command) is in
+          ap out.Open (same_some cause k (sym t.1 ∙ ap (λ (y : Desk). y.stopped) x.rest ∙ stop))
+      stopped_so (asks.Look s query) is (out.Read after found) so t k stop earlier =
           let x = d (asks.Look s query) is in
-          let k = some_cause x.was.stopped some in
-          let first = first_stop s.id (n (asks.Look s query) is) x k.0 k.1 in
-          let same : so.0 ≡ looked.Found after found = same_some so.0 (looked.Found after found) (same_some (Some so.0) (Some (looked.Found after found)) (sym so.1 ∙ look_at ∙ ap Some t)) in
-          let seen : SawSo lines h.course (n (asks.Look s query) is).worker.seat.node.replica.cursor x.was i l.phase s.id query after found =
-          subst (LookedSo lines h.course (n (asks.Look s query) is).worker.seat.node.replica.cursor (h.home s.id) x.was i l.phase s.id query) same (so.2 x.was x.was_there) in
-          let free = seen.free first.0 first.1 in
-          absurd (omega (arith, free, earlier))
-      stopped_so (asks.Look s query) is (out.Open cause) so t some earlier = refl
-      stopped_so a is o so t some earlier = absurd t
+          let seen : SawSo lines h.course (n (asks.Look s query) is).worker.seat.node.replica.cursor x.was i l.phase s.id query after found = looked_so s query is so (looked.Found after found) t in
+          absurd (not_free s query is k stop seen.free earlier)
+      stopped_so (asks.Look s query) is (out.Open cause) so (inl t) k stop earlier =
+          let x = d (asks.Look s query) is in
+          ⊎_elim
+          (λ (w : WasStopped h.course x.was l.phase s.id cause). ap out.Open (same_some cause k (sym w.cause_is ∙ stop)))
+          (λ (w : LogsBefore lines i s.id l.phase × CameTo h.course.faults cause (h.home s.id) l.phase × WasFree h.course x.was l.phase s.id). absurd (not_free s query is k stop w.2 earlier))
+          (looked_so s query is so (looked.Kept cause) t)
+      stopped_so (asks.Look s query) is (out.Open cause) so (inr t) k stop earlier = absurd (not_free s query is k stop (looked_so s query is so (looked.Failed cause) t) earlier)
+      stopped_so a is o so t k stop earlier = absurd t
 
       -- a line of a session
       ended_there : IsSome (session_asking l.asks) → LineEnded log h.course.tails h.course.faults ends (take i played) turn
@@ -564,7 +590,7 @@ module _ (may : ℕ → Entry → Type 0) (floor : List Entry → ℕ → Type 0
             row = row_is;
             came = came l.asks refl row.outcome so told;
             missed = missed_so l.asks refl so;
-            stopped = λ own. subst (λ e. IsSome e.stopped → e.when < l.phase → is_open row.outcome ≡ true) (sym (d l.asks refl).ends) (stopped_so l.asks refl row.outcome so told);
+            stopped = λ own. subst (λ e. (k : Cause) → e.stopped ≡ Some k → e.when < l.phase → row.outcome ≡ out.Open k) (sym (d l.asks refl).ends) (stopped_so l.asks refl row.outcome so told);
           }
 
       -- a line that asks its node itself
@@ -572,6 +598,11 @@ module _ (may : ℕ → Entry → Type 0) (floor : List Entry → ℕ → Type 0
         reported : (clean : ℕ) → look ≡ Some (looked.Reported clean) → HasReported log h.course.tails l.phase clean
         reported clean t =
             has_reported may floor shelf h.course.journal log h.course.tails l.phase l.node clean legal front (report_played i l line_at admin is clean (look_at ∙ ap Some t))
+            (let w = h.ok.reports.each i l clean line_at (look_at ∙ ap Some t) in
+            let reach = front_low may floor shelf run.low w.early w.clean.log (legal_wider (Within may w.counts) may floor shelf (λ who e k. k.0) w.early w.legal) w.clean.front in
+            let within = w.clean.within in
+            let tail = w.tail in
+            omega (arith, reach, within, tail))
 
         node_came : (a : Admin) (o : Outcome) → Tells None look (asks.Admin a) o → CameOf log h.course.tails h.course.faults ends (take i played) turn (asks.Admin a) o
         node_came Extend (out.Extended version start) t = tt

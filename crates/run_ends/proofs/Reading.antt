@@ -127,9 +127,9 @@ zero-apart j = by (0 == j + 1) refl
     by false e = e
     by true e = absurd (grind (arith, nat_tests, e))
 
-module _ (may : ℕ → Entry → Type 0) (floor : List Entry → ℕ → Type 0) (shelf : List ℕ) (state : List Entry → SpaceMap → Type 0) (spells : List ℕ → Saved → Type 0) (lines : List NamedLine) (journal more : List Event) (counts : List ℕ) (looks : List (Option Looked)) (log : List Entry) (workers : List WorkerEnd) (h : HasClosed may floor shelf state spells lines journal counts looks log workers) (own : AreOwn 0 more) (reads : AreReads more) (legal : IsLegal may floor shelf (journal ++ more)) where
-  within : IsLegal (Within may counts) floor shelf (journal ++ more)
-  within = reads_legal (Within may counts) may floor shelf journal more reads (subst (IsLegal (Within may counts) floor shelf) h.journal_is h.ok.legal) legal
+module _ (may : ℕ → Entry → Type 0) (floor : List Entry → ℕ → Type 0) (shelf : List ℕ) (state : List Entry → SpaceMap → Type 0) (spells : List ℕ → Saved → Type 0) (lines : List NamedLine) (journal more : List Event) (looks : List (Option Looked)) (log : List Entry) (workers : List WorkerEnd) (h : HasClosed may floor shelf state spells lines journal looks log workers) (own : AreOwn 0 more) (reads : AreReads more) (legal : IsLegal may floor shelf (journal ++ more)) where
+  within : IsLegal (Within may h.counts) floor shelf (journal ++ more)
+  within = reads_legal (Within may h.counts) may floor shelf journal more reads (subst (IsLegal (Within may h.counts) floor shelf) h.journal_is h.ok.legal) legal
 
   seen : journal ++ more ≡ h.course.journal ++ more
   seen = ap (λ l. l ++ more) (sym h.journal_is)
@@ -142,16 +142,16 @@ module _ (may : ℕ → Entry → Type 0) (floor : List Entry → ℕ → Type 0
 
   tells : TellsOn lines looks 0 0 0 h.course.journal (journal ++ more)
   tells =
-      tells_commands (Within may counts) floor shelf h.course.journal (journal ++ more) more seen within lines looks looks 0 0 0 (λ i look at. at) (omega arith) h.ok.told
+      tells_commands (Within may h.counts) floor shelf h.course.journal (journal ++ more) more seen within lines looks looks 0 0 0 (λ i look at. at) (omega arith) h.ok.told
       (subst (Adds IsOfSessions h.course.journal) (sym seen) (adds_none IsOfSessions h.course.journal more (appended_none more reads)))
 
-  ok : CourseOk may floor shelf lines (length workers) then' counts looks
-  ok = advance_still may floor shelf lines (length workers) h.course counts looks h.ok 1 [] (journal ++ more) more h.course.when counts seen within (omega arith) some (λ P store. omega arith)
+  ok : CourseOk may floor shelf lines (length workers) then' h.counts looks
+  ok = advance_still may floor shelf lines (length workers) h.course h.counts looks h.ok 1 [] (journal ++ more) more h.course.when h.counts seen within h.ok.long (omega arith) some (λ P store. omega arith)
       (reads_unsealed may floor shelf journal more (count_by has_replaced looks) legal reads (subst (λ es. faults_in es ≡ [] → IsUnsealed (state_of es) (count_by has_replaced looks)) h.journal_is h.ok.unsealed))
       tells.told
 
-  turn : TurnOf lines h.home 0 h.course then' counts counts looks looks
-  turn = turned lines h.home 0 h.course [] (journal ++ more) h.course.when counts counts looks looks (record { more = more; seen = seen; own = own }) (λ s other. refl) (λ s other. refl) (λ s. omega arith) refl (λ i l at other. refl) (λ m cursor other. tells.others m cursor other) (λ by none. refl)
+  turn : TurnOf lines h.home 0 h.course then' h.counts h.counts looks looks
+  turn = turned lines h.home 0 h.course [] (journal ++ more) h.course.when h.counts h.counts looks looks (record { more = more; seen = seen; own = own }) (λ s other. refl) (λ s other. refl) (λ s. omega arith) refl (λ i l at other. refl) (λ m cursor other. tells.others m cursor other) (λ by none. refl)
 
   begins : BeginsAt lines (length lines) h.course.phase
   begins = record {
@@ -159,10 +159,11 @@ module _ (may : ℕ → Entry → Type 0) (floor : List Entry → ℕ → Type 0
     behind = λ i l at high. absurd (let inside = slice_get_within lines i l at in omega (arith, inside, high));
   }
 
-  pub closed_on : HasClosed may floor shelf state spells lines (journal ++ more) counts looks log workers
+  pub closed_on : HasClosed may floor shelf state spells lines (journal ++ more) looks log workers
   closed_on = record {
     home = h.home;
     course = then';
+    counts = h.counts;
     journal_is = refl;
     lines_are = h.lines_are;
     ok = ok;
@@ -172,7 +173,7 @@ module _ (may : ℕ → Entry → Type 0) (floor : List Entry → ℕ → Type 0
         let x = h.each j w at in
         record {
           was = x.was;
-          rests = rests_on may floor shelf state spells lines h.home (length workers) h.course then' counts counts looks looks 0 (j + 1) (length lines) h.course.phase w.seat x.was h.lines_are (zero-apart j) begins (omega arith) h.ok turn ok x.rests;
+          rests = rests_on may floor shelf state spells lines h.home (length workers) h.course then' h.counts h.counts looks looks 0 (j + 1) (length lines) h.course.phase w.seat x.was h.lines_are (zero-apart j) begins (omega arith) h.ok turn ok x.rests;
           size = x.size;
           short = x.short;
           each = x.each;

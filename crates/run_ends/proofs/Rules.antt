@@ -26,7 +26,7 @@ use Rattle.run_laws.proofs.Members.{all-at, found-among}
 use Rattle.node_lines.specs.Workers.{IsHome, MayRun}
 use Rattle.run_course.specs.Script.{AreLines}
 use Rattle.run_course.proofs.Lines.{at_get}
-use Rattle.base_engine.specs.Trimming.{MayTrim, FloorIs}
+use Rattle.turn_scopes.specs.Floors.{MayTrim, FloorIs}
 use Rattle.run_ends.specs.Rules.{HasLine, LogsRank, IsLineOf, may_of, AreOfLines, IsAskedBy}
 use Rattle.run_ends.proofs.Contents.{all-contained, unpack_all-has, to_packed, one, joined, appearances-has}
 use Rattle.run_ends.proofs.Views.{IsNumber, view, view_number, view_unpack}

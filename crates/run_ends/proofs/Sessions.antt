@@ -19,7 +19,7 @@ use Rattle.run_ends.specs.Rows.{AreRows, played_of}
 use Rattle.run_ends.specs.Ends.{answered_of, desk_in, end_at, end_of}
 use Rattle.run_ends.proofs.Turns.{lines_are, some_at, turn_of}
 
-module _ (may : ℕ → Entry → Type 0) (floor : List Entry → ℕ → Type 0) (shelf : List ℕ) (state : List Entry → SpaceMap → Type 0) (spells : List ℕ → Saved → Type 0) (lines : List NamedLine) (journal : List Event) (counts : List ℕ) (looks : List (Option Looked)) (log : List Entry) (workers : List WorkerEnd) (h : HasClosed may floor shelf state spells lines journal counts looks log workers) where
+module _ (may : ℕ → Entry → Type 0) (floor : List Entry → ℕ → Type 0) (shelf : List ℕ) (state : List Entry → SpaceMap → Type 0) (spells : List ℕ → Saved → Type 0) (lines : List NamedLine) (journal : List Event) (looks : List (Option Looked)) (log : List Entry) (workers : List WorkerEnd) (h : HasClosed may floor shelf state spells lines journal looks log workers) where
   -- the end of a session that was so stopped, or not
   abbrev pub ends_so : ℕ → Desk → SessionEnd
   ends_so s d = record { stopped = d.stopped; when = h.course.when s; answered = answered_of lines d.answered }
@@ -31,7 +31,7 @@ module _ (may : ℕ → Entry → Type 0) (floor : List Entry → ℕ → Type 0
   pub record AtHome (s : ℕ) : Type 0 where
     pub worker : WorkerEnd
     pub at : slice_get workers (h.home s - 1) ≡ Some worker
-    pub closed : WorkerClosed may floor shelf state spells lines h.home (length workers) h.course counts looks log (h.home s) worker
+    pub closed : WorkerClosed may floor shelf state spells lines h.home (length workers) h.course h.counts looks log (h.home s) worker
 
   pub at_home : (s : ℕ) → AtHome s
   at_home s =
@@ -42,7 +42,7 @@ module _ (may : ℕ → Entry → Type 0) (floor : List Entry → ℕ → Type 0
       record {
         worker = w.0;
         at = w.1;
-        closed = subst (λ n. WorkerClosed may floor shelf state spells lines h.home (length workers) h.course counts looks log n w.0) same (h.each (h.home s - 1) w.0 w.1);
+        closed = subst (λ n. WorkerClosed may floor shelf state spells lines h.home (length workers) h.course h.counts looks log n w.0) same (h.each (h.home s - 1) w.0 w.1);
       }
 
   -- a session's desk there, before and after its node closed
@@ -54,7 +54,7 @@ module _ (may : ℕ → Entry → Type 0) (floor : List Entry → ℕ → Type 0
     pub rest : now ≡ record was { answers = now.answers }
     pub all : 0 < was.asked → AreAllAnswers log s now.answers.items
     pub ends : the_end s ≡ ends_so s was
-    pub stands : DeskAt lines h.home h.course counts (h.home s) (length lines) (length lines) h.course.phase s was
+    pub stands : DeskAt lines h.home h.course h.counts (h.home s) (length lines) (length lines) h.course.phase s was
 
   end_is : (s : ℕ) (n : AtHome s) (o : Option Desk) → slice_get n.worker.desks s ≡ o → the_end s ≡ end_at lines (h.course.when s) o
   end_is s n o is = ap (λ w. end_at lines (h.course.when s) (desk_in w s)) n.at ∙ ap (end_at lines (h.course.when s)) is

@@ -1,22 +1,25 @@
 -- How far nodes trimmed the log, once the run has ended.
-use Rattle.std.proofs.Common.{◌≡◌, ◌≢◌, refl, sym, ap, ◌∙◌, subst, inl, inr, ◌⊎◌, ⊎_elim, ℕ, zero, suc, ◌<◌, ◌≤◌, true, List, [], ◌∷◌, Option, Some, None, map, length, take, slice_get, Contains, arith}
+use Rattle.std.proofs.Common.{◌≡◌, ◌≢◌, refl, sym, ap, ◌∙◌, subst, inl, inr, ◌⊎◌, ⊎_elim, ℕ, zero, suc, ◌<◌, ◌≤◌, Bool, true, false, List, [], ◌∷◌, Option, Some, None, map, length, take, slice_get, Contains, arith}
+use Rattle.std.proofs.lemmas.Bool.{cases_lt}
 use Rattle.delos_types.specs.Spaces.{SpaceMap}
 use Rattle.delos_types.specs.declared.entry.Entry.{Entry}
+use Rattle.delos_types.specs.declared.chain.Chain.{Chain}
 use Rattle.legal_journal.specs.declared.events.Event.{Event}
-use Rattle.legal_journal.specs.Journal.{state_of, trim_of}
+use Rattle.legal_journal.specs.Journal.{log_at, state_of, trim_of}
+use Rattle.legal_journal.proofs.Legal.{sound}
 use Rattle.journal_laws.specs.Changes.{appended, raised, Frees}
 use Rattle.journal_laws.proofs.Changes.{appended_may, raised_free, trim_raised}
+use Rattle.engine_api.specs.declared.content.Content.{Content}
 use Rattle.engine_api.specs.declared.content.Content.TheVariants as content
 use Rattle.engine_api.specs.declared.content.Placed.{Placed}
 use Rattle.engine_api.specs.Acted.{asked_in, unpack_all}
 use Rattle.engine_api.specs.Items.{unpack}
-use Rattle.engine_api.specs.Members.{trim_point}
+use Rattle.engine_api.specs.Members.{has_left, least_position, position_of, trim_point}
 use Rattle.engine_api.specs.Order.{is_clean}
-use Rattle.fabric_core.specs.Log.{virtual_log, virtual_tail}
 use Rattle.replica_api.specs.Replica.{Saved}
-use Rattle.base_engine.specs.Trimming.{FloorIs}
+use Rattle.turn_scopes.specs.Floors.{FloorIs}
 use Rattle.base_engine.proofs.Showing.{shows_all}
-use Rattle.log_laws.proofs.Membership.{point_says, unpack_says}
+use Rattle.log_laws.proofs.Membership.{least_some, least_upto, left_says, point_says, position_says, unpack_says}
 use Rattle.script_text.specs.declared.line.Admin.TheVariants.{Extend, Alive, Retire, Trim}
 use Rattle.script_text.specs.declared.asks.NamedLine.{NamedLine}
 use Rattle.script_text.specs.declared.asks.Asks.{Asks}
@@ -29,15 +32,19 @@ use Rattle.fitting_run.specs.Yard.{Shown}
 use Rattle.node_lines.specs.declared.desk.Desk.{Desk}
 use Rattle.node_lines.specs.declared.lines.Looked.{Looked}
 use Rattle.node_lines.specs.declared.lines.Looked.TheVariants as looked
+use Rattle.node_lines.specs.Measuring.{IsCleanPoint}
 use Rattle.node_lines.specs.Workers.{MayRun}
+use Rattle.node_lines.proofs.Cleaning.{at_index, clean_none, same_beginning}
 use Rattle.run_ends.specs.Rules.{HasAsked, IsLineOf, may_of}
 use Rattle.run_ends.proofs.Contents.{all-contained}
-use Rattle.run_laws.specs.Ended.{IsKnown, LineTrimmed, LetsGo, Played, ReportsAbove, SomeTurn, TellsUpto, TrimsEnded}
-use Rattle.run_course.specs.Telling.{AskedFor, GoesFirst, IsTrim, TellsAtLeast}
+use Rattle.run_laws.specs.Ended.{IsKnown, IsToLeave, LineTrimmed, LetsGo, Played, ReportsAbove, SaysFrom, SaysReport, SaysTrim, SomeTurn, TellsUpto, TrimsEnded}
+use Rattle.run_laws.proofs.Members.{among-map, contained-among, contains-among}
+use Rattle.run_course.specs.Telling.{AreTold, AskedFor, GoesFirst, IsSaidBehind, IsTrim, TellsAtLeast, ToldSo}
 use Rattle.run_ends.specs.Closing.{HasClosed, IsGivenBack, WorkerEnd}
 use Rattle.run_ends.specs.Rows.{AreRows, Tells, desk_for, played_of}
 use Rattle.run_ends.proofs.Turns.{lines_are, turn_is, turn_of}
 use Rattle.run_ends.proofs.Reports.{alive_is, retired_is}
+use Rattle.run_ends.proofs.Showing.{shown_from}
 
 -- Rows
 
@@ -91,25 +98,18 @@ tells_upto trim out.NoSpare low stays = tt
 tells_upto trim (out.Trimmed n) low stays = tt
 tells_upto trim (out.Open cause) low stays = tt
 
+contains-mapped : (ps : List Placed) (p : Placed) → Contains ps p → Contains (map (λ q. q.content) ps) p.content
+contains-mapped ps p h = contains-among (map (λ (q : Placed). q.content) ps) p.content (among-map (λ (q : Placed). q.content) ps p (contained-among ps p h))
+
 same_some : {A : Type 0} (x y : A) → Some x ≡ Some y → x ≡ y
 same_some x y e = cc
 
--- Fronts
+some_in : (l : List Entry) (i : ℕ) → i < length l → (e : Entry) × (slice_get l i ≡ Some e)
+some_in [] i low = absurd (omega (arith, low))
+some_in (x ∷ xs) zero low = (x, refl)
+some_in (x ∷ xs) (suc i) low = some_in xs i (omega (arith, low))
 
-take_same : (n : ℕ) (xs ys : List Entry) → n ≤ length xs → n ≤ length ys → ((i : ℕ) → i < n → slice_get xs i ≡ slice_get ys i) → take n xs ≡ take n ys
-take_same zero xs ys a b same = none xs ∙ sym (none ys)
-  where
-    none : (l : List Entry) → take 0 l ≡ []
-    none [] = refl
-    none (z ∷ zs) = refl
-take_same (suc n) [] ys a b same = absurd (omega (arith, a))
-take_same (suc n) (x ∷ xs) [] a b same = absurd (omega (arith, b))
-take_same (suc n) (x ∷ xs) (y ∷ ys) a b same =
-    let head : x ≡ y = same_some x y (same 0 (omega arith)) in
-    let rest = take_same n xs ys (omega (arith, a)) (omega (arith, b)) (λ i low. same (suc i) (omega (arith, low))) in
-    ap (λ z. z ∷ take n xs) head ∙ ap (λ l. y ∷ l) rest
-
-module _ (may : ℕ → Entry → Type 0) (floor : List Entry → ℕ → Type 0) (shelf : List ℕ) (state : List Entry → SpaceMap → Type 0) (spells : List ℕ → Saved → Type 0) (run : MayRun may floor shelf) (lines : List NamedLine) (journal : List Event) (counts : List ℕ) (looks : List (Option Looked)) (log : List Entry) (workers : List WorkerEnd) (o : Told) (yard : Shown) (mine : (who : ℕ) (e : Entry) → may who e → may_of lines who e) (floor_is : FloorIs floor (length workers)) (h : HasClosed may floor shelf state spells lines journal counts looks log workers) (are : AreRows lines workers looks o.rows) (back : IsGivenBack may floor shelf journal workers o.chain yard) where
+module _ (may : ℕ → Entry → Type 0) (floor : List Entry → ℕ → Type 0) (shelf : List ℕ) (state : List Entry → SpaceMap → Type 0) (spells : List ℕ → Saved → Type 0) (run : MayRun may floor shelf) (lines : List NamedLine) (journal : List Event) (looks : List (Option Looked)) (log : List Entry) (workers : List WorkerEnd) (o : Told) (yard : Shown) (mine : (who : ℕ) (e : Entry) → may who e → may_of lines who e) (floor_is : FloorIs floor (length workers)) (h : HasClosed may floor shelf state spells lines journal looks log workers) (are : AreRows lines workers looks o.rows) (back : IsGivenBack may floor shelf journal workers o.chain yard) where
   abbrev played : List Played
   played = played_of lines o.rows looks
 
@@ -131,27 +131,132 @@ module _ (may : ℕ → Entry → Type 0) (floor : List Entry → ℕ → Type 0
       let sent = appended_may may floor shelf journal e back.legal has in
       (sent.0, all-contained (λ (p : Placed). IsLineOf lines sent.0 p.content) (unpack 0 e) q (mine sent.0 e sent.1).items says)
 
+  told_now : AreTold lines looks journal
+  told_now = subst (AreTold lines looks) h.journal_is h.ok.told
+
+  -- Where the log was trimmed it was to the lesser of the trim point and the least position of a member, and both are clean
+
+  module _ (f : Frees floor journal o.chain.trim) where
+    abbrev says : List Placed
+    says = unpack_all 0 f.log
+
+    abbrev nodes : ℕ
+    nodes = length workers
+
+    -- what is said of a position isn't said below it
+    said_above : (e : Entry) (q : Placed) (n : ℕ) (c : Content) (there : Contains f.log e) → Contains (unpack 0 e) q → q.content ≡ c → IsSaidBehind journal n c → n ≤ there.0
+    said_above e q n c there among so b = ⊎_elim
+        (λ (low : there.0 < n).
+        let i = there.0 in
+        let within = b.clean.within in
+        let x = some_in b.clean.log i (omega (arith, low, within)) in
+        let shown = f.shows i there.1 ∙ at_index f.log i e there.1 there.2 in
+        let same : Some x.0 ≡ Some e = sym (shows_all may floor shelf run.low journal i x.0 back.legal (b.clean.front i x.0 x.1)) ∙ shown in
+        absurd (b.behind i e q low (x.1 ∙ same) among so))
+        (λ (high : n ≤ there.0). high)
+        (cases_lt there.0 n)
+
+    -- what is reported in the log that was shown is clean, and isn't above where it stands
+    reports_so : (p : Placed) (node n : ℕ) → Contains says p → p.content ≡ content.Alive node n → IsCleanPoint journal n × (n ≤ length f.log)
+    reports_so p node n has is =
+        let e = unpack_says f.log p has in
+        let b = (subst (ToldSo lines looks journal) (e.4 ∙ is) (told_now e.0 e.2 (f.each e.0 e.1) e.3)).0 in
+        let high = said_above e.0 e.2 n (content.Alive node n) e.1 e.3 (e.4 ∙ is) b in
+        let low = e.1.1 in
+        (b.clean, omega (arith, high, low))
+
+    -- what is said there of a position that isn't trimmed the loglets say
+    said_shown : (p : Placed) (n : ℕ) (c : Content) → Contains says p → p.content ≡ c → (ToldSo lines looks journal c → IsSaidBehind journal n c) → o.chain.trim ≤ n → SaysFrom o.chain yard.cells o.chain.trim c
+    said_shown p n c has is behind up =
+        let e = unpack_says f.log p has in
+        let high = said_above e.0 e.2 n c e.1 e.3 (e.4 ∙ is) (behind (subst (ToldSo lines looks journal) (e.4 ∙ is) (told_now e.0 e.2 (f.each e.0 e.1) e.3))) in
+        let i = e.1.0 in
+        let shown = f.shows i e.1.1 ∙ at_index f.log i e.0 e.1.1 e.1.2 in
+        let here : o.chain.trim ≤ i = omega (arith, high, up) in
+        let untrimmed : trim_of (state_of journal) ≤ i = subst (λ (k : Chain). k.trim ≤ i) back.chain_is here in
+        shown_from may floor shelf journal back.legal run.low o.chain yard.cells back.chain_is back.shows back.tail c i o.chain.trim e.0
+        (⊎_elim (λ (trimmed : i < trim_of (state_of journal)). absurd (omega (arith, trimmed, untrimmed))) (λ (s : log_at (state_of journal) i ≡ Some e.0). s) ((sound may floor shelf journal back.legal).was_shown i e.0 shown))
+        (subst (Contains (map (λ (x : Placed). x.content) (unpack 0 e.0))) (e.4 ∙ is) (contains-mapped (unpack 0 e.0) e.2 e.3)) here here
+
+    -- so is the least position of a member
+    least_so : IsCleanPoint journal (least_position nodes says) × (least_position nodes says ≤ length f.log)
+    least_so = ⊎_elim some (λ (none : least_position nodes says ≤ 0). nothing (omega (arith, none))) (cases_lt 0 (least_position nodes says))
+      where
+        nothing : least_position nodes says ≡ 0 → IsCleanPoint journal (least_position nodes says) × (least_position nodes says ≤ length f.log)
+        nothing none = (subst (IsCleanPoint journal) (sym none) (clean_none journal), omega (arith, none))
+
+        some : 0 < least_position nodes says → IsCleanPoint journal (least_position nodes says) × (least_position nodes says ≤ length f.log)
+        some up =
+            let first = least_some nodes says up in
+            ⊎_elim
+            (λ (none : position_of says first.node ≡ 0). nothing (first.is ∙ none))
+            (λ (q : (p : Placed) × Contains says p × (p.content ≡ content.Alive first.node (position_of says first.node))).
+            let so = reports_so q.0 first.node (position_of says first.node) q.1 q.2 in
+            (subst (IsCleanPoint journal) (sym first.is) so.0, omega (arith, so.1, first.is)))
+            (position_says says first.node)
+
+    -- .. and the trim point
+    point_clean : IsCleanPoint journal (trim_point says)
+    point_clean = ⊎_elim
+        (λ (none : trim_point says ≡ 0). subst (IsCleanPoint journal) (sym none) (clean_none journal))
+        (λ (q : (p : Placed) × Contains says p × (p.content ≡ content.Trim (trim_point says))).
+        let e = unpack_says f.log q.0 q.1 in
+        (subst (ToldSo lines looks journal) (e.4 ∙ q.2) (told_now e.0 e.2 (f.each e.0 e.1) e.3)).clean)
+        (point_says says)
+
+    -- the log from the trim on has that as much was asked for
+    trim_rests : o.chain.trim ≢ 0 → SaysTrim o.chain yard.cells o.chain.trim
+    trim_rests some =
+        let m = floor_is.only f.log o.chain.trim f.free in
+        let point = m.point in
+        ⊎_elim
+        (λ (none : trim_point says ≡ 0). let zero_is : o.chain.trim ≡ 0 = omega (arith, point, none) in absurd (some zero_is))
+        (λ (q : (p : Placed) × Contains says p × (p.content ≡ content.Trim (trim_point says))).
+        record { position = trim_point says; above = point; says = said_shown q.0 (trim_point says) (content.Trim (trim_point says)) q.1 q.2 (λ told. told) point })
+        (point_says says)
+
+    -- and that each node reported as much that isn't to leave
+    trim_kept : (node : ℕ) → 1 ≤ node → node ≤ nodes → o.chain.trim ≢ 0 → AskedFor lines looks node Retire (λ look. Unit {0}) ⊎ SaysReport o.chain yard.cells o.chain.trim node
+    trim_kept node low high some = by (has_left says node) refl
+      where
+        by : (b : Bool) → has_left says node ≡ b → AskedFor lines looks node Retire (λ look. Unit {0}) ⊎ SaysReport o.chain yard.cells o.chain.trim node
+        by true left =
+            let q = left_says says node left in
+            let e = unpack_says f.log q.0 q.1 in
+            inl (subst (ToldSo lines looks journal) (e.4 ∙ q.2) (told_now e.0 e.2 (f.each e.0 e.1) e.3))
+        by false stays =
+            let m = floor_is.only f.log o.chain.trim f.free in
+            let free = m.least in
+            let upto = least_upto nodes node says low high stays in
+            let above : o.chain.trim ≤ position_of says node = omega (arith, free, upto) in
+            ⊎_elim
+            (λ (none : position_of says node ≡ 0). let zero_is : o.chain.trim ≡ 0 = omega (arith, above, none) in absurd (some zero_is))
+            (λ (q : (p : Placed) × Contains says p × (p.content ≡ content.Alive node (position_of says node))).
+            inr (record { position = position_of says node; above = above; says = said_shown q.0 (position_of says node) (content.Alive node (position_of says node)) q.1 q.2 (λ told. told.0) above }))
+            (position_says says node)
+
+    trim_clean : IsCleanPoint journal o.chain.trim
+    trim_clean =
+        let m = floor_is.only f.log o.chain.trim f.free in
+        let low = least_so.1 in
+        ⊎_elim
+        (λ (less : trim_point says < least_position nodes says).
+        let same : trim_point says ≡ o.chain.trim = omega (arith, m.point, m.whole, low, less) in
+        subst (IsCleanPoint journal) same point_clean)
+        (λ (less : least_position nodes says ≤ trim_point says).
+        let same : least_position nodes says ≡ o.chain.trim = omega (arith, m.least, m.whole, low, less) in
+        subst (IsCleanPoint journal) same least_so.0)
+        (cases_lt (trim_point says) (least_position nodes says))
+
   -- what was trimmed was clean
   pub clean_below : o.chain.trim ≤ length log → is_clean (λ s. 1) (asked_in 0 (take o.chain.trim log)) ≡ true
-  clean_below short = ⊎_elim (λ (none : o.chain.trim ≡ 0). subst (λ n. is_clean (λ s. 1) (asked_in 0 (take n log)) ≡ true) (sym none) (none_clean log)) by freed
+  clean_below short = ⊎_elim
+      (λ (none : o.chain.trim ≡ 0). by (subst (IsCleanPoint journal) (sym none) (clean_none journal)))
+      (λ (f : Frees floor journal o.chain.trim). by (trim_clean f))
+      freed
     where
-      none_clean : (l : List Entry) → is_clean (λ s. 1) (asked_in 0 (take 0 l)) ≡ true
-      none_clean [] = refl
-      none_clean (e ∷ es) = refl
-
-      some_in : (l : List Entry) (i : ℕ) → i < length l → (e : Entry) × (slice_get l i ≡ Some e)
-      some_in [] i low = absurd (omega (arith, low))
-      some_in (x ∷ xs) zero low = (x, refl)
-      some_in (x ∷ xs) (suc i) low = some_in xs i (omega (arith, low))
-
-      by : Frees floor journal o.chain.trim → is_clean (λ s. 1) (asked_in 0 (take o.chain.trim log)) ≡ true
-      by f =
-          let m = floor_is.only f.log o.chain.trim f.free in
-          let within = m.within in
-          let same = take_same o.chain.trim f.log log within short (λ i low.
-          let e = some_in log i (omega (arith, low, short)) in
-          sym (f.shows i (omega (arith, low, within))) ∙ shows_all may floor shelf run.low journal i e.0 back.legal (h.front i e.0 e.1) ∙ sym e.1) in
-          subst (λ l. is_clean (λ s. 1) (asked_in 0 l) ≡ true) same m.clean
+      by : IsCleanPoint journal o.chain.trim → is_clean (λ s. 1) (asked_in 0 (take o.chain.trim log)) ≡ true
+      by p = ap (λ l. is_clean (λ s. 1) (asked_in 0 l)) (same_beginning may floor shelf journal log p.log o.chain.trim back.legal h.front p.front short p.within) ∙ p.clean
 
   -- Lines and their rows
 
@@ -274,8 +379,15 @@ module _ (may : ℕ → Entry → Type 0) (floor : List Entry → ℕ → Type 0
                 absurd (cc)
             by at t is node_is asked look tells up = absurd up
 
+    kept : Frees floor journal o.chain.trim → (node : ℕ) → 1 ≤ node → node ≤ length workers → o.chain.trim ≢ 0 → SomeTurn played (IsToLeave node) ⊎ SaysReport o.chain yard.cells o.chain.trim node
+    unfolding turn_for
+    kept f node low high some = ⊎_elim
+        (λ (leaves : AskedFor lines looks node Retire (λ look. Unit {0})). let t = turn_for node Retire (λ look. Unit {0}) leaves in inl (record { at = t.0; turn = t.1; is = t.2; so = record { node_is = t.3; asks = t.4 } }))
+        (λ (says : SaysReport o.chain yard.cells o.chain.trim node). inr says)
+        (trim_kept f node low high some)
+
     pub trims_ended : length yard.disks ≡ length workers → o.chain.trim ≤ o.end
-        → ((j : ℕ) (t : Played) (trim : ℕ) → slice_get played j ≡ Some t → t.row.outcome ≡ out.Trimmed trim → o.chain.trim ≡ 0 → (position : ℕ) × Contains (map (λ (p : Placed). p.content) (unpack_all 0 (virtual_log o.chain yard.cells 0 (virtual_tail o.chain yard.cells)))) (content.Trim position))
+        → ((j : ℕ) (t : Played) (trim : ℕ) → slice_get played j ≡ Some t → t.row.outcome ≡ out.Trimmed trim → o.chain.trim ≡ 0 → SaysTrim o.chain yard.cells 0)
         → TrimsEnded played (length yard.disks) o.chain yard.cells o.end
     trims_ended nodes short stands = record {
       each = λ j t trim at is. trim_of_row j t trim at is nodes;
@@ -283,4 +395,6 @@ module _ (may : ℕ → Entry → Type 0) (floor : List Entry → ℕ → Type 0
       asked = λ some. record { trims = trim_line some; each = λ node low high. lets_go some node low (omega (arith, high, nodes)) };
       reached = λ node low high known. reached node low (omega (arith, high, nodes)) known;
       stand = stands;
+      rests = λ some. ⊎_elim (λ (none : o.chain.trim ≡ 0). absurd (some none)) (λ (f : Frees floor journal o.chain.trim). trim_rests f some) freed;
+      kept = λ node low high some. ⊎_elim (λ (none : o.chain.trim ≡ 0). absurd (some none)) (λ (f : Frees floor journal o.chain.trim). kept f node low (omega (arith, high, nodes)) some) freed;
     }

@@ -42,9 +42,10 @@ pub record WorkerClosed (may : ℕ → Entry → Type 0) (floor : List Entry →
   pub size : length w.desks ≡ length was
   pub each : (s : ℕ) (d : Desk) → slice_get was s ≡ Some d → DeskClosed log s d w.desks
 
-pub record HasClosed (may : ℕ → Entry → Type 0) (floor : List Entry → ℕ → Type 0) (shelf : List ℕ) (state : List Entry → SpaceMap → Type 0) (spells : List ℕ → Saved → Type 0) (lines : List NamedLine) (journal : List Event) (counts : List ℕ) (looks : List (Option Looked)) (log : List Entry) (workers : List WorkerEnd) : Type 0 where
+pub record HasClosed (may : ℕ → Entry → Type 0) (floor : List Entry → ℕ → Type 0) (shelf : List ℕ) (state : List Entry → SpaceMap → Type 0) (spells : List ℕ → Saved → Type 0) (lines : List NamedLine) (journal : List Event) (looks : List (Option Looked)) (log : List Entry) (workers : List WorkerEnd) : Type 0 where
   pub home : ℕ → ℕ
   pub course : Course
+  pub counts : List ℕ
   pub journal_is : course.journal ≡ journal
   pub lines_are : AreLines lines home (length workers)
   pub ok : CourseOk may floor shelf lines (length workers) course counts looks

@@ -5,7 +5,7 @@ ghost use Rattle.table_core.specs.declared.command.Command.{Command};
 ghost use Rattle.table_core.specs.Spelling.{IsSpellable, command_length};
 ghost use Rattle.engine_api.specs.Packing.{packed, session_item, alive_item, leave_item, trim_item};
 ghost use Rattle.engine_api.specs.Acted.{Asked, asked_in};
-ghost use Rattle.base_engine.specs.Trimming.{MayTrim, FloorIs};
+ghost use Rattle.turn_scopes.specs.Floors.{MayTrim, FloorIs};
 ghost use Rattle.node_lines.specs.Workers.{IsHome, MayRun};
 ghost use Rattle.run_course.specs.Script.{AreLines};
 ghost use Rattle.script_text.specs.declared.asks.NamedLine.{NamedLine};

@@ -105,6 +105,15 @@ any-at f p (y ∷ ys) x m e = elim m [
   | inr later ↦ or_right (p (f y)) (list_any p (map f ys)) (any-at f p ys x later e)
 ]
 
+-- an element that passes, where some does
+pub any-mapped : {A B : Type 0} (f : A → B) (p : B → Bool) (xs : List A) → list_any p (map f xs) ≡ true → (x : A) × Among xs x × (p (f x) ≡ true)
+any-mapped f p [] e = absurd (both_ways false refl e)
+any-mapped {A} f p (x ∷ xs) e =
+    elim (p (f x)) as (λ t. p (f x) ≡ t → (t || list_any p (map f xs)) ≡ true → (y : A) × Among (x ∷ xs) y × (p (f y) ≡ true)) [
+      | true ↦ λ is k. (x, inl refl, is)
+      | false ↦ λ is k. let later = any-mapped f p xs k in (later.0, inr later.1, later.2)
+    ] refl e
+
 -- where some element passes a test
 pub record Passes {A : Type 0} (p : A → Bool) (xs : List A) : Type 0 where
   pub one : A

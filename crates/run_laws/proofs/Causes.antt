@@ -50,6 +50,15 @@ cause-had log tails faults ends before t (asks.Look s q) o k h is e = absurd h
 cause-had log tails faults ends before t (asks.Admin a) (out.Open j) k h is e = inl (h ∙ e)
 cause-had log tails faults ends before t (asks.Admin a) o k h is e = absurd (no_cause k e)
 
+-- a logged row that is open tells why its session was stopped
+pub logged-stop : (log : List Entry) (tails : ℕ → ℕ) (faults : List Fault) (ends : ℕ → SessionEnd) (before : List Played) (t : Played) (a : Asks) (o : Outcome) (k : Cause)
+    → CameOf log tails faults ends before t a o → logs a ≡ true → cause_of o ≡ Some k → (ends (session_in a)).stopped ≡ Some k
+logged-stop log tails faults ends before t (asks.Logged s r c) (out.Open j) k h l e = h.stopped ∙ e
+logged-stop log tails faults ends before t (asks.Logged s r c) (out.Placed place reply late) k h l e = absurd (no_cause k e)
+logged-stop log tails faults ends before t (asks.Logged s r c) o k h l e = absurd h
+logged-stop log tails faults ends before t (asks.Look s q) o k h l e = absurd (both_ways false refl l)
+logged-stop log tails faults ends before t (asks.Admin a) o k h l e = absurd (both_ways false refl l)
+
 -- only a logged row is late
 late-logged : (log : List Entry) (tails : ℕ → ℕ) (faults : List Fault) (ends : ℕ → SessionEnd) (before : List Played) (t : Played) (a : Asks) (o : Outcome)
     → CameOf log tails faults ends before t a o → is_late o ≡ true → (logs a ≡ true) × (is_open o ≡ false)
@@ -75,7 +84,7 @@ logged-session (asks.Logged s r c) l = refl
 logged-session (asks.Look s q) l = refl
 logged-session (asks.Admin a) l = absurd (both_ways false refl l)
 
-some-of : (o : Option Cause) → IsSome o → (k : Cause) × (o ≡ Some k)
+pub some-of : (o : Option Cause) → IsSome o → (k : Cause) × (o ≡ Some k)
 some-of None h = absurd (both_ways false refl h)
 some-of (Some k) h = (k, refl)
 
@@ -134,4 +143,4 @@ module _ (played : List Played) (o : Told) (yard : Shown) (e : RunEnded played o
       let broken : is_broken (tell t) ≡ true = rw l.1 late in
       let st = broken-stopped played o yard e t m l.0 broken in
       let k = some-of (e.ends s).stopped st.0 in
-      (k.0, broken-came before t h l.0 broken (λ early. both_ways (is_open t.row.outcome) l.1 (h.1.stopped (logged-session t.line.asks l.0) st.0 early)) k.0 k.1)
+      (k.0, broken-came before t h l.0 broken (λ early. both_ways (is_open t.row.outcome) l.1 (ap is_open (h.1.stopped (logged-session t.line.asks l.0) k.0 k.1 early))) k.0 k.1)

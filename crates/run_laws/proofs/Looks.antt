@@ -1,12 +1,13 @@
 -- Reads are current: each shows the table after what acts below where it looked, and sees of its session what was asked before.
-use Rattle.std.proofs.Common.{◌≡◌, sym, ap, ◌∙◌, subst, ℕ, ◌+◌, ◌≤◌, true, List, [], ◌∷◌, ◌++◌, length, map, take, nat_lt, nat_le, ◌&&◌, arith, le-leb, lt-ltb, le-ltb, ltb-false}
-use Rattle.std.proofs.lemmas.Bool.{and_from}
+use Rattle.std.proofs.Common.{◌≡◌, refl, sym, ap, ◌∙◌, subst, ℕ, ◌+◌, ◌≤◌, true, false, not, ◌&&◌, List, [], ◌∷◌, ◌++◌, Option, Some, None, is_some, length, map, take, nat_lt, nat_le, arith, le-leb, lt-ltb, le-ltb, ltb-false}
+use Rattle.std.proofs.lemmas.Bool.{and_from, and_parts, both_ways, not-true}
 use Rattle.delos_types.specs.declared.entry.Entry.{Entry}
 use Rattle.delos_types.specs.declared.place.Place.{Place}
 use Rattle.engine_api.specs.declared.act.Act.{Act}
 use Rattle.engine_api.specs.Acted.{asked_in}
 use Rattle.engine_api.specs.Order.{gap_from}
 use Rattle.log_laws.specs.State.{acts_in}
+use Rattle.script_text.specs.declared.line.Admin.TheVariants.{Extend, Alive, Trim, Retire}
 use Rattle.script_text.specs.declared.asks.Asks.{Asks}
 use Rattle.script_text.specs.declared.asks.Asks.TheVariants as asks
 use Rattle.row_text.specs.declared.row.Outcome.{Outcome}
@@ -14,9 +15,9 @@ use Rattle.row_text.specs.declared.row.Outcome.TheVariants as out
 use Rattle.fitting_run.specs.declared.answered.Answered.{Answered}
 use Rattle.fitting_run.specs.declared.told.Told.{Told}
 use Rattle.fitting_run.specs.Acts.{placed_acts}
-use Rattle.fitting_run.specs.Answered.{looked_at, on_read, on_time, place_on_time, same_session}
+use Rattle.fitting_run.specs.Answered.{is_logged, is_placed_on_time, logs, looked_at, on_read, on_time, place_on_time, same_session}
 use Rattle.fitting_run.specs.Fits.{told_of}
-use Rattle.fitting_run.specs.Reads.{ReadsAreCurrent, Shows, looks_in_order}
+use Rattle.fitting_run.specs.Reads.{ReadsAreCurrent, Shows, is_kept_open, looks_in_order}
 use Rattle.fitting_run.specs.Yard.{Shown}
 use Rattle.run_laws.specs.Ended.{CameOf, Fault, Played, RunEnded, SessionEnd, rank_in, session_in}
 use Rattle.run_laws.proofs.Answering.{IsOnTime, its-act, logged_by, logged-more, logged-own, one-session}
@@ -35,6 +36,34 @@ shows-table log tails faults ends before t told (asks.Look s q) (out.Open cause)
 shows-table log tails faults ends before t told (asks.Look s q) o acts h = absurd h
 shows-table log tails faults ends before t told (asks.Logged s r c) o acts h = tt
 shows-table log tails faults ends before t told (asks.Admin a) o acts h = tt
+
+nothing : {A : Type 0} (x : A) → None ≡ Some x → ⊥
+nothing x e = cc
+
+-- what a read saw is answered by its phase's end
+read-answered : (log : List Entry) (tails : ℕ → ℕ) (faults : List Fault) (ends : ℕ → SessionEnd) (before : List Played) (t : Played) (a : Asks) (o : Outcome) (after : ℕ)
+    → CameOf log tails faults ends before t a o → looked_at o ≡ Some after → logged_by (session_in a) before ≤ (ends (session_in a)).answered
+read-answered log tails faults ends before t (asks.Look s q) (out.Read at found) after h e = h.answered
+read-answered log tails faults ends before t (asks.Look s q) (out.Open cause) after h e = absurd (nothing after e)
+read-answered log tails faults ends before t (asks.Look s q) o after h e = absurd h
+read-answered log tails faults ends before t (asks.Logged s r c) (out.Placed place reply late) after h e = absurd (nothing after e)
+read-answered log tails faults ends before t (asks.Logged s r c) (out.Open cause) after h e = absurd (nothing after e)
+read-answered log tails faults ends before t (asks.Logged s r c) o after h e = absurd h
+read-answered log tails faults ends before t (asks.Admin Extend) (out.Read at found) after h e = absurd h
+read-answered log tails faults ends before t (asks.Admin Alive) (out.Read at found) after h e = absurd h
+read-answered log tails faults ends before t (asks.Admin Trim) (out.Read at found) after h e = absurd h
+read-answered log tails faults ends before t (asks.Admin Retire) (out.Read at found) after h e = absurd h
+read-answered log tails faults ends before t (asks.Admin a) o after h e = absurd (nothing after e)
+
+-- a command whose rank is answered is placed in its phase
+answered-on_time : (log : List Entry) (tails : ℕ → ℕ) (faults : List Fault) (ends : ℕ → SessionEnd) (before : List Played) (t : Played) (a : Asks) (o : Outcome)
+    → CameOf log tails faults ends before t a o → logs a ≡ true → rank_in a ≤ (ends (session_in a)).answered → is_some (place_on_time o) ≡ true
+answered-on_time log tails faults ends before t (asks.Logged s r c) (out.Placed place reply late) h l low =
+    subst (λ b. is_some (place_on_time (out.Placed place reply b)) ≡ true) (sym (h.late_is ∙ le-ltb (ends s.id).answered r low)) refl
+answered-on_time log tails faults ends before t (asks.Logged s r c) (out.Open cause) h l low = absurd (let above = h.above in omega (arith, above, low))
+answered-on_time log tails faults ends before t (asks.Logged s r c) o h l low = absurd h
+answered-on_time log tails faults ends before t (asks.Look s q) o h l low = absurd (both_ways false refl l)
+answered-on_time log tails faults ends before t (asks.Admin a) o h l low = absurd (both_ways false refl l)
 
 module _ (played : List Played) (o : Told) (yard : Shown) (e : RunEnded played o yard) where
   -- whether the act of a line stands below a position, told by the first rank that is missing there
@@ -80,6 +109,27 @@ module _ (played : List Played) (o : Told) (yard : Shown) (e : RunEnded played o
       (λ after is. where_some-from (place_on_time u.row.outcome) (λ q. nat_le after q.pos)
       (λ q it. sees-no_later b t mid u k session after q (turn-looked played o yard e b t h after is) (turn-on_time played o yard e (b ++ t ∷ mid) u k q it)))))
 
+  -- a read that was answered saw each earlier command of its session, which is answered in its phase
+  kept-open : (b : List Played) (t : Played) (mid : List Played) (u : Played) → Turn played o yard e b t → Turn played o yard e (b ++ t ∷ mid) u → is_kept_open (tell t) (tell u) ≡ true
+  kept-open b t mid u h k =
+      let session = same_session (tell t) (tell u) in
+      let timely = is_placed_on_time (tell t) in
+      implies-from (session && is_logged (tell t) && not timely) (not (is_some (looked_at u.row.outcome))) (λ all.
+      let two = and_parts (session && is_logged (tell t)) (not timely) all in
+      let one = and_parts session (is_logged (tell t)) two.0 in
+      by one.0 one.1 two.1 (looked_at u.row.outcome) refl)
+    where
+      by : same_session (tell t) (tell u) ≡ true → is_logged (tell t) ≡ true → not (is_placed_on_time (tell t)) ≡ true → (seen : Option ℕ) → looked_at u.row.outcome ≡ seen → not (is_some seen) ≡ true
+      by same logged missed None is = refl
+      by same logged missed (Some after) is =
+          let s = one-session t.line.asks u.line.asks same in
+          let few = read-answered e.log e.tails e.faults e.ends (b ++ t ∷ mid) u u.line.asks u.row.outcome after k.0.1.came is in
+          let more = logged-own (session_in u.line.asks) b t mid s logged in
+          let rank = h.1 logged in
+          let ends : (e.ends (session_in t.line.asks)).answered ≡ (e.ends (session_in u.line.asks)).answered = ap (λ n. (e.ends n).answered) s in
+          let timely = answered-on_time e.log e.tails e.faults e.ends b t t.line.asks t.row.outcome h.0.1.came logged (omega (arith, few, more, rank, ends)) in
+          absurd (both_ways (is_placed_on_time (tell t)) (not-true _ missed) timely)
+
   told-current : ReadsAreCurrent (map tell played) o.end
   told-current = record {
     within = all-test tell (λ a. on_read a.row.outcome (λ after. nat_le after o.end)) played
@@ -91,6 +141,8 @@ module _ (played : List Played) (o : Told) (yard : Shown) (e : RunEnded played o
         (λ b t h. shows-table e.log e.tails e.faults e.ends b t (map tell played) t.line.asks t.row.outcome (placed-are_acts played o yard e) h.0.1.came) (all_turns played o yard e));
     order = each_pair-from tell looks_in_order played
         (pairs-behind (Turn played o yard e) (λ t u. looks_in_order (tell t) (tell u) ≡ true) [] played looks-ordered (all_turns played o yard e));
+    kept = each_pair-from tell is_kept_open played
+        (pairs-behind (Turn played o yard e) (λ t u. is_kept_open (tell t) (tell u) ≡ true) [] played kept-open (all_turns played o yard e));
   }
 
 pub reads-current : (played : List Played) (o : Told) (yard : Shown) → RunEnded played o yard → ReadsAreCurrent (told_of (map (λ t. t.line) played) o) o.end

@@ -1,24 +1,26 @@
 -- One row for each line, and the order of sessions and barriers.
-use Rattle.std.proofs.Common.{◌≡◌, sym, ap, ◌∙◌, subst, inl, inr, ℕ, zero, suc, ◌+◌, ◌<◌, ◌≤◌, true, false, not, Some, IsSome, List, [], ◌∷◌, ◌++◌, length, map, nat_lt, nat_le, ◌==◌, ◌&&◌, arith, le-leb, lt-ltb, ltb-true, eq-eqb}
-use Rattle.std.specs.List.{AllByRecursion, list_all}
+use Rattle.std.proofs.Common.{◌≡◌, refl, sym, ap, ◌∙◌, subst, inl, inr, ℕ, zero, suc, ◌+◌, ◌<◌, ◌≤◌, Bool, true, false, not, Some, IsSome, List, [], ◌∷◌, ◌++◌, length, map, nat_lt, nat_le, ◌==◌, ◌&&◌, ◌||◌, arith, le-leb, lt-ltb, ltb-true, eq-eqb}
+use Rattle.std.specs.List.{AllByRecursion, list_all, list_any}
 use Rattle.std.proofs.lemmas.Bool.{and_from, and_parts, cases_lt, not-true, or_left, or_right}
 use Rattle.std.proofs.lemmas.List.{length-map}
 use Rattle.delos_types.specs.declared.entry.Entry.{Entry}
 use Rattle.delos_types.specs.declared.place.Place.{Place}
+use Rattle.delos_types.specs.declared.cause.Cause.{Cause}
+use Rattle.delos_types.specs.declared.cause.Cause.TheVariants as cause
 use Rattle.engine_api.specs.declared.act.Act.{Act}
 use Rattle.log_laws.specs.State.{acts_in}
 use Rattle.fitting_run.specs.declared.told.Told.{Told}
-use Rattle.fitting_run.specs.Answered.{before_barrier, is_logged, is_open, is_placed_on_time, looked_at, on_read, on_time, place_le, place_on_time, same_session, session_asking}
-use Rattle.fitting_run.specs.Faults.{is_broken}
+use Rattle.fitting_run.specs.Answered.{before_barrier, cause_of, same_cause, is_logged, is_open, is_placed_on_time, looked_at, on_read, on_time, place_le, place_on_time, same_session, session_asking}
+use Rattle.fitting_run.specs.Faults.{is_broken, stops}
 use Rattle.fitting_run.specs.Fits.{told_of}
-use Rattle.fitting_run.specs.Outcomes.{KeepsSessionOrder, OneRowEach, is_above, is_not_below, is_passed, is_row_of, is_stopped_by, keeps_barrier, keeps_barriers, rises}
+use Rattle.fitting_run.specs.Outcomes.{KeepsSessionOrder, OneRowEach, is_above, is_not_below, is_passed, is_row_of, is_stopped_by, keeps_barrier, keeps_barriers, rises, shares_cause, tells_why}
 use Rattle.fitting_run.specs.Yard.{Shown}
 use Rattle.log_laws.specs.Order.{ActsBefore}
 use Rattle.log_laws.proofs.Acting.{in_order}
 use Rattle.run_laws.specs.Ended.{AllAfter, Played, RunEnded, session_in}
 use Rattle.run_laws.proofs.Answering.{IsLook, IsOnTime, IsRanked, all_ranked, has-session, its-act, logged_by, logged-own, looked, not-on_time, on-time, one-session}
-use Rattle.run_laws.proofs.Behind.{after-both, after-each, pairs-behind}
-use Rattle.run_laws.proofs.Causes.{Ended}
+use Rattle.run_laws.proofs.Behind.{after-both, after-each, any-mapped, pairs-behind}
+use Rattle.run_laws.proofs.Causes.{Ended, logged-stop, some-of}
 use Rattle.run_laws.proofs.Members.{Among, all-at, all-test}
 use Rattle.run_laws.proofs.Occasions.{all_ended}
 use Rattle.run_laws.proofs.Pairs.{pair-at, pairs-any, pairs-both}
@@ -55,6 +57,14 @@ higher-place_le log a b m n session rank =
         | inr behind ↦ absurd (let less = behind.1 (sym session) in omega (arith, rank, less))
       ]
     ]
+
+-- Causes
+
+cause-itself : (c : Cause) → same_cause c c ≡ true
+cause-itself (cause.NoQuorum l u) = and_from (l == l) (u == u) (eq-eqb l l refl) (eq-eqb u u refl)
+cause-itself (cause.Full l) = eq-eqb l l refl
+cause-itself cause.Meta = refl
+cause-itself cause.Store = refl
 
 -- Tails
 
@@ -121,7 +131,7 @@ module _ (played : List Played) (o : Told) (yard : Shown) (e : RunEnded played o
   all_opened : AllByRecursion (λ t. (phase : ℕ) → IsSome (session_asking t.line.asks) → IsStopped (e.ends (session_in t.line.asks)) phase → phase < t.line.phase → is_open t.row.outcome ≡ true) played
   all_opened =
       after-each Turn (λ t. (phase : ℕ) → IsSome (session_asking t.line.asks) → IsStopped (e.ends (session_in t.line.asks)) phase → phase < t.line.phase → is_open t.row.outcome ≡ true) [] played
-      (λ b t h phase some stopped early. h.0.1.stopped some stopped.0 (let upto = stopped.1 in omega (arith, upto, early))) all_turns
+      (λ b t h phase some stopped early. let k = some-of (e.ends (session_in t.line.asks)).stopped stopped.0 in ap is_open (h.0.1.stopped some k.0 k.1 (let upto = stopped.1 in omega (arith, upto, early)))) all_turns
 
   stays-stopped : (t u : Played) → Among played t → Among played u → is_stopped_by (tell t) (tell u) ≡ true
   stays-stopped t u m n =
@@ -136,10 +146,57 @@ module _ (played : List Played) (o : Told) (yard : Shown) (e : RunEnded played o
       all-at (λ (v : Played). (phase : ℕ) → IsSome (session_asking v.line.asks) → IsStopped (e.ends (session_in v.line.asks)) phase → phase < v.line.phase → is_open v.row.outcome ≡ true) played u all_opened n t.line.phase
       (has-session t.line.asks u.line.asks two.0) (subst (λ s. IsStopped (e.ends s) t.line.phase) (one-session t.line.asks u.line.asks two.0) stopped) (ltb-true t.line.phase u.line.phase two.1))
 
+  -- a row that tells why its session was stopped tells the cause of that
+  abbrev TellsStop : Played → Type 0
+  TellsStop t = (k : Cause) → tells_why (map tell played) (tell t) ≡ true → cause_of t.row.outcome ≡ Some k → (e.ends (session_in t.line.asks)).stopped ≡ Some k
+
+  -- .. where its session was stopped by a row of an earlier phase
+  stop-told : (b : List Played) (t : Played) → Turn b t → (k : Cause) → list_any (stops (tell t)) (map tell played) ≡ true → cause_of t.row.outcome ≡ Some k → (e.ends (session_in t.line.asks)).stopped ≡ Some k
+  stop-told b t h k some is =
+      let v = any-mapped tell (stops (tell t)) played some in
+      let session = same_session (tell v.0) (tell t) in
+      let early = before_barrier (tell v.0) (tell t) in
+      let all = and_parts (session && early && is_logged (tell v.0)) (is_broken (tell v.0)) v.2 in
+      let three = and_parts (session && early) (is_logged (tell v.0)) all.0 in
+      let two = and_parts session early three.0 in
+      let s = session_in t.line.asks in
+      let st : IsStopped (e.ends s) v.0.line.phase = subst (λ n. IsStopped (e.ends n) v.0.line.phase) (one-session v.0.line.asks t.line.asks two.0) (broken-stopped played o yard e v.0 v.1 three.1 all.1) in
+      let c = some-of (e.ends s).stopped st.0 in
+      let upto = st.1 in
+      let low = ltb-true v.0.line.phase t.line.phase two.1 in
+      let open_is = h.0.1.stopped (has-session v.0.line.asks t.line.asks two.0) c.0 c.1 (omega (arith, upto, low)) in
+      c.1 ∙ ap cause_of (sym open_is) ∙ is
+
+  all_tell : AllByRecursion TellsStop played
+  all_tell = after-each Turn TellsStop [] played (λ b t h k why is. by b t h k (is_logged (tell t)) refl why is) all_turns
+    where
+      by : (b : List Played) (t : Played) → Turn b t → (k : Cause) (logged : Bool) → is_logged (tell t) ≡ logged → (is_logged (tell t) || list_any (stops (tell t)) (map tell played)) ≡ true → cause_of t.row.outcome ≡ Some k
+          → (e.ends (session_in t.line.asks)).stopped ≡ Some k
+      by b t h k true logged why is = logged-stop e.log e.tails e.faults e.ends b t t.line.asks t.row.outcome k h.0.1.came logged is
+      by b t h k false logged why is = stop-told b t h k (subst (λ x. (x || list_any (stops (tell t)) (map tell played)) ≡ true) logged why) is
+
+  shares : (t u : Played) → Among played t → Among played u → shares_cause (map tell played) (tell t) (tell u) ≡ true
+  shares t u m n =
+      let session = same_session (tell t) (tell u) in
+      let first = tells_why (map tell played) (tell t) in
+      let second = tells_why (map tell played) (tell u) in
+      implies-from (session && first && second) _ (λ all.
+      let two = and_parts (session && first) second all in
+      let one = and_parts session first two.0 in
+      where_some-from (cause_of t.row.outcome) _ (λ c is.
+      where_some-from (cause_of u.row.outcome) (same_cause c) (λ d it.
+      let here = all-at TellsStop played t all_tell m c one.1 is in
+      let there = all-at TellsStop played u all_tell n d two.1 it in
+      subst (λ x. same_cause c x ≡ true) (one_cause c d (sym here ∙ ap (λ s. (e.ends s).stopped) (one-session t.line.asks u.line.asks one.0) ∙ there)) (cause-itself c))))
+    where
+      one_cause : (c d : Cause) → Some c ≡ Some d → c ≡ d
+      one_cause c d e = cc
+
   told-session_order : KeepsSessionOrder (map tell played)
   told-session_order = record {
     places = each_pair-from tell rises played (pairs-behind Turn (λ t u. rises (tell t) (tell u) ≡ true) [] played turns-rise all_turns);
     stopped = each_pair-from tell is_stopped_by played (pairs-any (λ t u. is_stopped_by (tell t) (tell u) ≡ true) played stays-stopped);
+    causes = each_pair-from tell (shares_cause (map tell played)) played (pairs-any (λ t u. shares_cause (map tell played) (tell t) (tell u) ≡ true) played shares);
   }
 
   -- The order of phases

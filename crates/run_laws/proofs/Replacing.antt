@@ -29,7 +29,7 @@ pub all-places : {A : Type 0} (P : A → Type 0) (xs : List A) → ((i : ℕ) (x
 all-places P [] f = tt
 all-places P (x ∷ xs) f = (f zero x refl, all-places P xs (λ i y is. f (suc i) y is))
 
-pairs-places : {A : Type 0} (R : A → A → Type 0) (xs : List A) → ((i j : ℕ) (x y : A) → slice_get xs i ≡ Some x → slice_get xs j ≡ Some y → i < j → R x y) → EachPair R xs
+pub pairs-places : {A : Type 0} (R : A → A → Type 0) (xs : List A) → ((i j : ℕ) (x y : A) → slice_get xs i ≡ Some x → slice_get xs j ≡ Some y → i < j → R x y) → EachPair R xs
 pairs-places R [] f = tt
 pairs-places R (x ∷ xs) f = (
   all-places (R x) xs (λ j y is. f zero (suc j) x y refl is (omega arith)),

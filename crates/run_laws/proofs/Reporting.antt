@@ -2,17 +2,19 @@
 -- that nodes leave.
 use Rattle.std.proofs.Common.{◌≡◌, refl, sym, ap, ◌∙◌, subst, inl, inr, ℕ, suc, ◌+◌, ◌<◌, ◌≤◌, Bool, true, false, ◌&&◌, ◌==◌, List, [], ◌∷◌, Option, Some, None, length, map, take, is_some, slice_get, nat_lt, nat_le, arith, le-leb, lt-ltb, ltb-true, eq-eqb, eqb-true, length-take-le}
 use Rattle.std.specs.List.{AllByRecursion, list_all, list_any}
-use Rattle.std.proofs.lemmas.Bool.{and_from, and_parts, both_ways, or_left, or_right}
+use Rattle.std.proofs.lemmas.Bool.{and_from, and_parts, both_ways, leb-true, or_left, or_right}
 use Rattle.std.proofs.lemmas.List.{take-take}
 use Rattle.delos_types.specs.declared.entry.Entry.{Entry}
 use Rattle.delos_types.specs.declared.place.Place.{Place}
 use Rattle.engine_api.specs.declared.act.Act.{Act}
+use Rattle.engine_api.specs.declared.content.Content.{Content}
 use Rattle.engine_api.specs.declared.content.Content.TheVariants as content
 use Rattle.engine_api.specs.declared.content.Placed.{Placed}
-use Rattle.engine_api.specs.Acted.{Asked, asked_in, unpack_all}
-use Rattle.engine_api.specs.Members.{clean_at, clean_position, is_leave_of, has_left}
+use Rattle.engine_api.specs.Acted.{Asked, asked_in}
+use Rattle.engine_api.specs.Members.{clean_at, clean_position, is_leave_of}
 use Rattle.engine_api.specs.Order.{gap_from, is_clean}
-use Rattle.fabric_core.specs.Log.{virtual_tail, virtual_log}
+use Rattle.loglet_api.specs.View.{LogletView}
+use Rattle.delos_types.specs.declared.chain.Chain.{Chain}
 use Rattle.script_text.specs.declared.line.Admin.TheVariants.{Extend, Alive, Trim, Retire}
 use Rattle.script_text.specs.declared.asks.Asks.{Asks}
 use Rattle.script_text.specs.declared.asks.Asks.TheVariants as asks
@@ -22,19 +24,21 @@ use Rattle.fitting_run.specs.declared.answered.Answered.{Answered}
 use Rattle.fitting_run.specs.declared.told.Told.{Told}
 use Rattle.fitting_run.specs.Answered.{before_barrier, is_logged, is_placed_on_time, logs, on_time, place_on_time}
 use Rattle.fitting_run.specs.Fits.{told_of}
-use Rattle.fitting_run.specs.Reports.{ReportsStand, has_leave, is_done, is_retired, is_within, lies_below, reported, reports_all, says_alive, stands_in_log}
+use Rattle.fitting_run.specs.Reports.{ReportsStand, has_leave, is_alive_at, is_done, is_from, is_retired, is_within, items_of, lies_below, reported, reports_all, stands_in_log, stays_above}
 use Rattle.fitting_run.specs.Tests.{◌⇒◌}
+use Rattle.fitting_run.specs.Replacements.{is_behind}
 use Rattle.fitting_run.specs.Yard.{Shown}
 use Rattle.log_laws.proofs.Pairs.{all-imply}
-use Rattle.run_laws.specs.Ended.{CameOf, Fault, HasReported, IsOfEarlier, LogsThis, Played, RunEnded, SessionEnd, rank_in, session_in}
+use Rattle.run_laws.specs.Ended.{CameOf, Fault, HasReported, IsOfEarlier, LogsThis, Played, RunEnded, SaysFrom, SessionEnd, StandsFrom, rank_in, session_in}
 use Rattle.run_laws.proofs.Answering.{its-act}
 use Rattle.run_laws.proofs.Behind.{after-each}
 use Rattle.run_laws.proofs.Clean.{clean-most, clean-within}
 use Rattle.run_laws.proofs.Fronts.{below-gap}
 use Rattle.run_laws.proofs.Members.{Among, all-at, all-of, all-test, among-get, among-map, contained-among, contains-among}
 use Rattle.run_laws.proofs.Orders.{OnTime, Turn, all_turns, tails-rise, turn-on_time}
+use Rattle.run_laws.proofs.Replacing.{behind-is, pairs-places}
 use Rattle.run_laws.proofs.Telling.{tell, told-is}
-use Rattle.run_laws.proofs.Tests.{implies-from, where_some-from}
+use Rattle.run_laws.proofs.Tests.{each_pair-from, implies-from, where_some-from}
 
 -- Rows and items
 
@@ -77,23 +81,66 @@ test-all : {A : Type 0} (p : A → Bool) (xs : List A) → ((x : A) → Among xs
 test-all p [] f = refl
 test-all p (x ∷ xs) f = and_from (p x) (list_all p xs) (f x (inl refl)) (test-all p xs (λ y m. f y (inr m)))
 
-has-item : (node d : ℕ) (ps : List Placed) → Among (map (λ p. p.content) ps) (content.Alive node d) → list_any (λ p. says_alive node d p.content) ps ≡ true
-has-item node d [] m = absurd m
-has-item node d (p ∷ ps) m =
-    let first = says_alive node d p.content in
-    let rest = list_any (λ (q : Placed). says_alive node d q.content) ps in
+-- some item passes a test that one of them passes
+pub any-item : (p : Placed → Bool) (ps : List Placed) (x : Placed) → Among ps x → p x ≡ true → list_any p ps ≡ true
+any-item p [] x m is = absurd m
+any-item p (y ∷ ps) x m is =
     elim m [
-      | inl same ↦ or_left first rest (ap (says_alive node d) same ∙ and_from (node == node) (d == d) (eq-eqb node node refl) (eq-eqb d d refl))
-      | inr later ↦ or_right first rest (has-item node d ps later)
+      | inl same ↦ or_left (p y) (list_any p ps) (ap p same ∙ is)
+      | inr later ↦ or_right (p y) (list_any p ps) (any-item p ps x later is)
     ]
 
-has-leave_item : (node : ℕ) (ps : List Placed) → Among (map (λ p. p.content) ps) (content.Leave node) → has_left ps node ≡ true
-has-leave_item node [] m = absurd m
-has-leave_item node (p ∷ ps) m =
-    elim m [
-      | inl same ↦ or_left (is_leave_of node p.content) (has_left ps node) (ap (is_leave_of node) same ∙ eq-eqb node node refl)
-      | inr later ↦ or_right (is_leave_of node p.content) (has_left ps node) (has-leave_item node ps later)
-    ]
+-- what the log says, some item of it says
+pub says-item : (chain : Chain) (cells : List LogletView) (from : ℕ) (c : Content) (test : Content → Bool) → SaysFrom chain cells from c → test c ≡ true → list_any (λ p. test p.content && nat_le from p.place.pos) (items_of chain cells) ≡ true
+says-item chain cells from c test h is =
+    any-item (λ (p : Placed). test p.content && nat_le from p.place.pos) (items_of chain cells) h.placed (contained-among (items_of chain cells) h.placed h.among)
+    (and_from (test h.placed.content) (nat_le from h.placed.place.pos) (ap test h.content_is ∙ is) (le-leb from h.placed.place.pos h.above))
+
+pub says-some : (chain : Chain) (cells : List LogletView) (from : ℕ) (c : Content) (test : Content → Bool) → SaysFrom chain cells from c → test c ≡ true → list_any (λ p. test p.content) (items_of chain cells) ≡ true
+says-some chain cells from c test h is =
+    any-item (λ (p : Placed). test p.content) (items_of chain cells) h.placed (contained-among (items_of chain cells) h.placed h.among) (ap test h.content_is ∙ is)
+
+-- what a row says stands there
+stands-test : (n : ℕ) (o : Outcome) → StandsFrom n o → is_from n o ≡ true
+stands-test n (out.Placed place reply late) h = le-leb n place.pos h
+stands-test n (out.Read after found) h = le-leb n after h
+stands-test n o h = refl
+
+stands-below : (n m : ℕ) (o : Outcome) → n ≤ m → StandsFrom m o → StandsFrom n o
+stands-below n m (out.Placed place reply late) low h = omega (arith, low, h)
+stands-below n m (out.Read after found) low h = omega (arith, low, h)
+stands-below n m (out.Extended version start) low h = tt
+stands-below n m (out.Moved version) low h = tt
+stands-below n m out.NoSpare low h = tt
+stands-below n m (out.Alive clean) low h = tt
+stands-below n m (out.Trimmed trim) low h = tt
+stands-below n m out.Retired low h = tt
+stands-below n m (out.Open cause) low h = tt
+
+-- what a row says doesn't stand below the tail at which its phase began
+came-from : (log : List Entry) (tails : ℕ → ℕ) (faults : List Fault) (ends : ℕ → SessionEnd) (before : List Played) (t : Played) (a : Asks) (o : Outcome)
+    → CameOf log tails faults ends before t a o → StandsFrom (tails t.line.phase) o
+came-from log tails faults ends before t (asks.Logged s r c) (out.Placed place reply late) h = subst (λ (p : Place). tails t.line.phase ≤ p.pos) (sym h.place_is) h.from
+came-from log tails faults ends before t (asks.Logged s r c) (out.Open cause) h = tt
+came-from log tails faults ends before t (asks.Logged s r c) o h = absurd h
+came-from log tails faults ends before t (asks.Look s q) (out.Read after found) h = h.from
+came-from log tails faults ends before t (asks.Look s q) (out.Open cause) h = tt
+came-from log tails faults ends before t (asks.Look s q) o h = absurd h
+came-from log tails faults ends before t (asks.Admin Extend) (out.Placed place reply late) h = absurd h
+came-from log tails faults ends before t (asks.Admin Alive) (out.Placed place reply late) h = absurd h
+came-from log tails faults ends before t (asks.Admin Trim) (out.Placed place reply late) h = absurd h
+came-from log tails faults ends before t (asks.Admin Retire) (out.Placed place reply late) h = absurd h
+came-from log tails faults ends before t (asks.Admin Extend) (out.Read after found) h = absurd h
+came-from log tails faults ends before t (asks.Admin Alive) (out.Read after found) h = absurd h
+came-from log tails faults ends before t (asks.Admin Trim) (out.Read after found) h = absurd h
+came-from log tails faults ends before t (asks.Admin Retire) (out.Read after found) h = absurd h
+came-from log tails faults ends before t (asks.Admin a) (out.Extended version start) h = tt
+came-from log tails faults ends before t (asks.Admin a) (out.Moved version) h = tt
+came-from log tails faults ends before t (asks.Admin a) out.NoSpare h = tt
+came-from log tails faults ends before t (asks.Admin a) (out.Alive clean) h = tt
+came-from log tails faults ends before t (asks.Admin a) (out.Trimmed trim) h = tt
+came-from log tails faults ends before t (asks.Admin a) out.Retired h = tt
+came-from log tails faults ends before t (asks.Admin a) (out.Open cause) h = tt
 
 is-left : (o : Outcome) → is_retired o ≡ true → o ≡ out.Retired
 is-left out.Retired e = refl
@@ -217,40 +264,62 @@ module _ (played : List Played) (o : Told) (yard : Shown) (e : RunEnded played o
       where_some-from (reported t.row.outcome) (λ d. list_all (is_done (tell t)) (map tell played) ⇒ list_all (lies_below (tell t) d) (map tell played)) (λ d is.
       implies-from (list_all (is_done (tell t)) (map tell played)) (list_all (lies_below (tell t) d) (map tell played)) (λ done. all_below t done d (h d is)))
 
-  -- where nothing is trimmed, the log has the report
-  in-log : (t : Played) → Among played t → stands_in_log o.chain yard.cells (tell t) ≡ true
+  -- What comes behind a report
+
+  abbrev Stands : Played → Type 0
+  Stands t = StandsFrom (e.tails t.line.phase) t.row.outcome
+
+  all_stand : AllByRecursion Stands played
+  all_stand = after-each (Turn played o yard e) Stands [] played (λ b t h. came-from e.log e.tails e.faults e.ends b t t.line.asks t.row.outcome h.0.1.came) (all_turns played o yard e)
+
+  -- a report isn't above the tail at which the next phase begins
+  reports-low : (t : Played) (d : ℕ) → HasReported e.log e.tails t.line.phase d → d ≤ e.tails (t.line.phase + 1)
+  reports-low t d h = h.by
+
+  stays-above : (i j : ℕ) (t u : Played) → slice_get played i ≡ Some t → slice_get played j ≡ Some u → i < j → stays_above (tell t) (tell u) ≡ true
+  stays-above i j t u at there low =
+      implies-from (is_behind (tell t) (tell u)) _ (λ behind.
+      where_some-from (reported t.row.outcome) (λ d. is_from d u.row.outcome) (λ d is. stands-test d u.row.outcome (elim (behind-is (tell t) (tell u) behind) [
+        | inl early ↦
+            let h = all-at Reports played t all_reported (among-get played i t at) d is in
+            let rise : e.tails (t.line.phase + 1) ≤ e.tails u.line.phase = tails-rise e.tails e.rise (t.line.phase + 1) u.line.phase (omega (arith, early)) in
+            let under = reports-low t d h in
+            stands-below d (e.tails u.line.phase) u.row.outcome (omega (arith, rise, under)) (all-at Stands played u all_stand (among-get played j u there))
+        | inr same ↦ e.above i j t u d at there low same (is-alive t.row.outcome d is)
+      ])))
+
+  -- where the log isn't trimmed above it, it has the report
+  in-log : (t : Played) → Among played t → stands_in_log o.chain.trim (items_of o.chain yard.cells) (tell t) ≡ true
   in-log t m =
       where_some-from (reported t.row.outcome) _ (λ d is.
-      implies-from (o.chain.trim == 0) _ (λ none.
-      let trim : o.chain.trim ≡ 0 = eqb-true o.chain.trim 0 none in
+      implies-from (nat_le o.chain.trim d) _ (λ low.
       let place = among-at played t m in
-      let log = λ (n : ℕ). unpack_all n (virtual_log o.chain yard.cells n (virtual_tail o.chain yard.cells)) in
-      let stands = e.reported place.0 t d place.1 (is-alive t.row.outcome d is) trim in
-      subst (λ n. list_any (λ (p : Placed). says_alive t.line.node d p.content) (log n) ≡ true) (sym trim)
-      (has-item t.line.node d (log 0) (contained-among (map (λ (p : Placed). p.content) (log 0)) (content.Alive t.line.node d) stands))))
+      let stands = e.reported place.0 t d place.1 (is-alive t.row.outcome d is) (leb-true o.chain.trim d low) in
+      says-item o.chain yard.cells d (content.Alive t.line.node d) (is_alive_at t.line.node d) stands
+      (and_from (t.line.node == t.line.node) (d == d) (eq-eqb t.line.node t.line.node refl) (eq-eqb d d refl))))
 
   -- and that the node leaves
-  left-in-log : (t : Played) → Among played t → has_leave o.chain yard.cells (tell t) ≡ true
+  left-in-log : (t : Played) → Among played t → has_leave o.chain.trim (items_of o.chain yard.cells) (tell t) ≡ true
   left-in-log t m =
       implies-from (is_retired t.row.outcome) _ (λ is.
       implies-from (o.chain.trim == 0) _ (λ none.
       let trim : o.chain.trim ≡ 0 = eqb-true o.chain.trim 0 none in
       let place = among-at played t m in
-      let log = λ (n : ℕ). unpack_all n (virtual_log o.chain yard.cells n (virtual_tail o.chain yard.cells)) in
-      let stands = e.left place.0 t place.1 (is-left t.row.outcome is) trim in
-      subst (λ n. has_left (log n) t.line.node ≡ true) (sym trim)
-      (has-leave_item t.line.node (log 0) (contained-among (map (λ (p : Placed). p.content) (log 0)) (content.Leave t.line.node) stands))))
+      says-some o.chain yard.cells 0 (content.Leave t.line.node) (is_leave_of t.line.node) (e.left place.0 t place.1 (is-left t.row.outcome is) trim) (eq-eqb t.line.node t.line.node refl)))
 
   each-reports : (test : Answered → Bool) → ((t : Played) → Reports t → test (tell t) ≡ true) → list_all test (map tell played) ≡ true
   each-reports test f = all-test tell test played (all-imply Reports (λ t. test (tell t) ≡ true) played f all_reported)
 
-  told-stand : ReportsStand (map tell played) o.chain yard.cells o.end
+  told-stand : ReportsStand (map tell played) o.chain.trim (items_of o.chain yard.cells) o.end
   told-stand = record {
     within = each-reports (is_within o.end) within-end;
     all = each-reports (reports_all (map tell played)) covers;
-    stand = all-test tell (stands_in_log o.chain yard.cells) played (all-of (λ (t : Played). stands_in_log o.chain yard.cells (tell t) ≡ true) played in-log);
-    left = all-test tell (has_leave o.chain yard.cells) played (all-of (λ (t : Played). has_leave o.chain yard.cells (tell t) ≡ true) played left-in-log);
+    above = each_pair-from tell stays_above played (pairs-places (λ t u. stays_above (tell t) (tell u) ≡ true) played stays-above);
+    stand = all-test tell (stands_in_log o.chain.trim (items_of o.chain yard.cells)) played
+        (all-of (λ (t : Played). stands_in_log o.chain.trim (items_of o.chain yard.cells) (tell t) ≡ true) played in-log);
+    left = all-test tell (has_leave o.chain.trim (items_of o.chain yard.cells)) played
+        (all-of (λ (t : Played). has_leave o.chain.trim (items_of o.chain yard.cells) (tell t) ≡ true) played left-in-log);
   }
 
-pub reports-stand : (played : List Played) (o : Told) (yard : Shown) → RunEnded played o yard → ReportsStand (told_of (map (λ t. t.line) played) o) o.chain yard.cells o.end
-reports-stand played o yard e = subst (λ told. ReportsStand told o.chain yard.cells o.end) (sym (told-is played o e.rows)) (told-stand played o yard e)
+pub reports-stand : (played : List Played) (o : Told) (yard : Shown) → RunEnded played o yard → ReportsStand (told_of (map (λ t. t.line) played) o) o.chain.trim (items_of o.chain yard.cells) o.end
+reports-stand played o yard e = subst (λ told. ReportsStand told o.chain.trim (items_of o.chain yard.cells) o.end) (sym (told-is played o e.rows)) (told-stand played o yard e)

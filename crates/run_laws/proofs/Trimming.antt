@@ -1,17 +1,14 @@
 -- Trims: how far lines trimmed the log, and how far it is trimmed at the end.
-use Rattle.std.proofs.Common.{◌≡◌, refl, sym, ap, ◌∙◌, subst, inl, inr, ◌⊎◌, ℕ, zero, suc, ◌+◌, ◌<◌, ◌≤◌, Bool, true, false, not, ◌&&◌, ◌||◌, ◌==◌, if◌then◌else◌, List, [], ◌∷◌, ◌++◌, Option, Some, None, length, map, is_some, slice_get, nat_le, append_assoc, arith, le-leb, eq-eqb, eqb-true}
+use Rattle.std.proofs.Common.{◌≡◌, ◌≢◌, refl, sym, ap, ◌∙◌, subst, inl, inr, ◌⊎◌, ℕ, zero, suc, ◌+◌, ◌<◌, ◌≤◌, Bool, true, false, not, ◌&&◌, ◌||◌, ◌==◌, if◌then◌else◌, List, [], ◌∷◌, ◌++◌, Option, Some, None, length, map, is_some, slice_get, nat_le, append_assoc, arith, le-leb, eq-eqb, eqb-true}
 use Rattle.std.specs.Prelude.{filter_map}
 use Rattle.std.specs.List.{AllByRecursion, cons_option, list_all, list_any}
 use Rattle.std.proofs.lemmas.Bool.{and_from, and_parts, both_ways, cases_lt, or_left, or_right}
 use Rattle.std.proofs.lemmas.List.{map-append}
 use Rattle.std.proofs.lemmas.Option.{slice_get_within}
-use Rattle.engine_api.specs.declared.content.Content.{Content}
 use Rattle.engine_api.specs.declared.content.Content.TheVariants as content
 use Rattle.engine_api.specs.declared.content.Placed.{Placed}
-use Rattle.engine_api.specs.Acted.{unpack_all}
 use Rattle.engine_api.specs.Members.{greatest, trim_asked}
 use Rattle.engine_api.specs.Order.{numbers}
-use Rattle.fabric_core.specs.Log.{virtual_tail, virtual_log}
 use Rattle.script_text.specs.declared.line.Admin.TheVariants.{Alive, Retire}
 use Rattle.script_text.specs.declared.asks.Asks.{Asks}
 use Rattle.script_text.specs.declared.asks.Asks.TheVariants as asks
@@ -24,15 +21,15 @@ use Rattle.fitting_run.specs.Answered.{is_open}
 use Rattle.fitting_run.specs.Fits.{told_of}
 use Rattle.fitting_run.specs.Lines.{asks_to_leave}
 use Rattle.fitting_run.specs.Replacements.{is_behind}
-use Rattle.fitting_run.specs.Reports.{is_retired, reported}
-use Rattle.fitting_run.specs.Tests.{each_after}
-use Rattle.fitting_run.specs.Trims.{TrimsStand, asks_to_report, asks_to_trim, has_trim, is_asked_for, is_held, is_to_leave, is_to_let_go, is_to_report, is_upto, known_to, leaves, leaves_open, most_reported, needs_above, reaches_a_report, reported_by, trimmed}
+use Rattle.fitting_run.specs.Reports.{is_retired, items_of, reported}
+use Rattle.fitting_run.specs.Tests.{each_after, some_is}
+use Rattle.fitting_run.specs.Trims.{TrimsStand, asks_from, asks_to_report, asks_to_trim, has_trim, is_asked_for, is_held, is_to_leave, is_to_let_go, is_to_report, is_upto, known_to, leaves, leaves_open, lets_go, most_reported, needs_above, reaches_a_report, reported_by, reports_from, rests_on_log, trimmed}
 use Rattle.fitting_run.specs.Yard.{Shown}
-use Rattle.run_laws.specs.Ended.{AsksForTrim, IsKnown, LetsGo, LineTrimmed, Played, ReportsAbove, RunEnded, SomeTurn, TellsUpto, TrimsEnded}
+use Rattle.run_laws.specs.Ended.{AsksForTrim, IsKnown, IsToLeave, LetsGo, LineTrimmed, Played, ReportsAbove, RunEnded, SaysReport, SaysTrim, SomeTurn, TellsUpto, TrimsEnded}
 use Rattle.run_laws.proofs.Behind.{any-at}
-use Rattle.run_laws.proofs.Members.{Among, all-filter, all-test, among-get, among-map, contained-among}
+use Rattle.run_laws.proofs.Members.{Among, all-filter, all-test, among-get, among-map}
 use Rattle.run_laws.proofs.Replacing.{all-places, behind-is}
-use Rattle.run_laws.proofs.Reporting.{is-alive, nothing}
+use Rattle.run_laws.proofs.Reporting.{is-alive, nothing, says-some}
 use Rattle.run_laws.proofs.Telling.{tell, told-is}
 use Rattle.run_laws.proofs.Tests.{implies-from, where_some-from}
 
@@ -140,16 +137,6 @@ none-of p (y ∷ ys) h x m is =
       ]
     ] refl h
 
-has-trim_item : (position : ℕ) (ps : List Placed) → Among (map (λ p. p.content) ps) (content.Trim position) → list_any (λ p. is_some (trim_asked p.content)) ps ≡ true
-has-trim_item position [] m = absurd m
-has-trim_item position (p ∷ ps) m =
-    let first = is_some (trim_asked p.content) in
-    let rest = list_any (λ (q : Placed). is_some (trim_asked q.content)) ps in
-    elim m [
-      | inl same ↦ or_left first rest (ap (λ (c : Content). is_some (trim_asked c)) same)
-      | inr later ↦ or_right first rest (has-trim_item position ps later)
-    ]
-
 -- The place of an element behind others
 
 get-front : {A : Type 0} (xs ys : List A) (i : ℕ) (x : A) → slice_get xs i ≡ Some x → slice_get (xs ++ ys) i ≡ Some x
@@ -200,6 +187,9 @@ module _ (played : List Played) (nodes : ℕ) (o : Told) (yard : Shown) (h : Tri
 
   abbrev lines : List NamedLine
   lines = map (λ t. t.line) played
+
+  abbrev items : List Placed
+  items = items_of o.chain yard.cells
 
   -- what a node reported is known, and it isn't to leave
   known : (node : ℕ) → not (list_any (is_to_leave node) lines) ≡ true → not (list_any (leaves_open node) (map tell played)) ≡ true → IsKnown played node
@@ -257,29 +247,55 @@ module _ (played : List Played) (nodes : ℕ) (o : Told) (yard : Shown) (h : Tri
   asked-for false e = or_right (o.chain.trim == 0) (some_trims && all_let_go) (lines-ask (h.asked (λ none. both_ways (o.chain.trim == 0) e (eq-eqb o.chain.trim 0 none))))
 
   -- where nothing is trimmed, the log has that a trim was asked for
-  in-log : (i : ℕ) (t : Played) → slice_get played i ≡ Some t → has_trim o.chain yard.cells (tell t) ≡ true
+  in-log : (i : ℕ) (t : Played) → slice_get played i ≡ Some t → has_trim o.chain.trim items (tell t) ≡ true
   in-log i t at =
       implies-from (is_some (trimmed t.row.outcome)) _ (λ is.
       implies-from (o.chain.trim == 0) _ (λ none.
       let trim : o.chain.trim ≡ 0 = eqb-true o.chain.trim 0 none in
       let tells = tells_trim t.row.outcome is in
-      let log = λ (n : ℕ). unpack_all n (virtual_log o.chain yard.cells n (virtual_tail o.chain yard.cells)) in
       let stands = h.stand i t tells.0 at tells.1 trim in
-      subst (λ n. list_any (λ (p : Placed). is_some (trim_asked p.content)) (log n) ≡ true) (sym trim)
-      (has-trim_item stands.0 (log 0) (contained-among (map (λ (p : Placed). p.content) (log 0)) (content.Trim stands.0) stands.1))))
+      says-some o.chain yard.cells 0 (content.Trim stands.position) (λ c. is_some (trim_asked c)) stands.says refl))
 
-  trims-stand_told : TrimsStand lines (map tell played) nodes o.chain yard.cells o.end
+  -- where something is, the log has from there on that as much was asked for
+  abbrev some_asks : Bool
+  some_asks = list_any (λ p. asks_from o.chain.trim p.content) items
+
+  asks-so : SaysTrim o.chain yard.cells o.chain.trim → some_asks ≡ true
+  asks-so k = says-some o.chain yard.cells o.chain.trim (content.Trim k.position) (asks_from o.chain.trim) k.says (le-leb o.chain.trim k.position k.above)
+
+  -- and that each node reported as much that isn't to leave
+  goes-so : (node : ℕ) → SomeTurn played (IsToLeave node) ⊎ SaysReport o.chain yard.cells o.chain.trim node → lets_go lines o.chain.trim items node ≡ true
+  goes-so node (inl k) =
+      or_left (list_any (is_to_leave node) lines) (list_any (λ p. reports_from node o.chain.trim p.content) items)
+      (any-at (λ (t : Played). t.line) (is_to_leave node) played k.turn (among-get played k.at k.turn k.is) (is-asked k.turn.line.asks node k.turn.line.node asks_to_leave k.so.node_is (ap asks_to_leave k.so.asks)))
+  goes-so node (inr k) =
+      or_right (list_any (is_to_leave node) lines) (list_any (λ p. reports_from node o.chain.trim p.content) items)
+      (says-some o.chain yard.cells o.chain.trim (content.Alive node k.position) (reports_from node o.chain.trim) k.says (reports-so node k.position (node == node) refl (le-leb o.chain.trim k.position k.above)))
+    where
+      reports-so : (node position : ℕ) (b : Bool) → (node == node) ≡ b → nat_le o.chain.trim position ≡ true → some_is (if node == node then Some position else None) (nat_le o.chain.trim) ≡ true
+      reports-so node position b e above = subst (λ t. some_is (if t then Some position else None) (nat_le o.chain.trim) ≡ true) (sym (eq-eqb node node refl)) above
+
+  rests-so : (b : Bool) → (o.chain.trim == 0) ≡ b → rests_on_log lines nodes o.chain.trim items ≡ true
+  rests-so true e = or_left (o.chain.trim == 0) (some_asks && list_all (lets_go lines o.chain.trim items) (numbers 1 nodes)) e
+  rests-so false e =
+      let some : o.chain.trim ≢ 0 = λ none. both_ways (o.chain.trim == 0) e (eq-eqb o.chain.trim 0 none) in
+      or_right (o.chain.trim == 0) (some_asks && list_all (lets_go lines o.chain.trim items) (numbers 1 nodes))
+      (and_from some_asks (list_all (lets_go lines o.chain.trim items) (numbers 1 nodes)) (asks-so (h.rests some))
+      (all-numbers (lets_go lines o.chain.trim items) 1 nodes (λ node low high. goes-so node (h.kept node low (omega (arith, high)) some))))
+
+  trims-stand_told : TrimsStand lines (map tell played) nodes o.chain.trim items o.end
   trims-stand_told = record {
     upto = all-test tell (is_upto o.chain.trim) played (all-places (λ (t : Played). is_upto o.chain.trim (tell t) ≡ true) played upto-end);
     reach = walk (reaches_a_report nodes) [] played reaches;
     held = all-numbers (is_held lines (map tell played) o.chain.trim) 1 nodes holds;
     within = h.within;
     asked = asked-for (o.chain.trim == 0) refl;
-    stand = all-test tell (has_trim o.chain yard.cells) played (all-places (λ (t : Played). has_trim o.chain yard.cells (tell t) ≡ true) played in-log);
+    stand = all-test tell (has_trim o.chain.trim items) played (all-places (λ (t : Played). has_trim o.chain.trim items (tell t) ≡ true) played in-log);
+    rests = rests-so (o.chain.trim == 0) refl;
   }
 
 pub trims-stand : (played : List Played) (o : Told) (yard : Shown) → RunEnded played o yard
-    → TrimsStand (map (λ t. t.line) played) (told_of (map (λ t. t.line) played) o) (length yard.disks) o.chain yard.cells o.end
+    → TrimsStand (map (λ t. t.line) played) (told_of (map (λ t. t.line) played) o) (length yard.disks) o.chain.trim (items_of o.chain yard.cells) o.end
 trims-stand played o yard e =
-    subst (λ told. TrimsStand (map (λ (t : Played). t.line) played) told (length yard.disks) o.chain yard.cells o.end) (sym (told-is played o e.rows))
+    subst (λ told. TrimsStand (map (λ (t : Played). t.line) played) told (length yard.disks) o.chain.trim (items_of o.chain yard.cells) o.end) (sym (told-is played o e.rows))
     (trims-stand_told played (length yard.disks) o yard e.trims)

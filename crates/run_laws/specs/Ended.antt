@@ -12,8 +12,10 @@ use Rattle.table_core.specs.declared.command.Reply.{Reply}
 use Rattle.table_core.specs.Find.{find_in}
 use Rattle.loglet_api.specs.View.{LogletView}
 use Rattle.engine_api.specs.declared.act.Act.{Act}
+use Rattle.engine_api.specs.declared.content.Content.{Content}
 use Rattle.engine_api.specs.declared.content.Content.TheVariants as content
-use Rattle.engine_api.specs.Acted.{Asked, asked_in, table_after, unpack_all}
+use Rattle.engine_api.specs.declared.content.Placed.{Placed}
+use Rattle.engine_api.specs.Acted.{Asked, asked_in, table_after}
 use Rattle.engine_api.specs.Members.{clean_position}
 use Rattle.engine_api.specs.Order.{gap_from, is_clean}
 use Rattle.log_laws.specs.State.{acts_in}
@@ -32,6 +34,7 @@ use Rattle.fitting_run.specs.Answered.{is_open, session_asking}
 use Rattle.fitting_run.specs.Outcomes.{is_row_of}
 use Rattle.fitting_run.specs.Lines.{logs_for, are_ranked, are_in_phase}
 use Rattle.fitting_run.specs.Replacements.{version_made, begins_at}
+use Rattle.fitting_run.specs.Reports.{items_of}
 use Rattle.fitting_run.specs.Yard.{Shown}
 use Rattle.fitting_run.specs.Faults.{stands, lacks_of, faults_of, disk_faults, lacks_quorum, finds_full, lacks_register, lacks_store}
 use Rattle.fitting_run.specs.Fits.{ChainIsRegistered}
@@ -107,19 +110,21 @@ pub record IsLeft (log : List Entry) (e : SessionEnd) (s r : ℕ) (cause : Cause
   pub stopped : e.stopped ≡ Some cause
   pub above : e.answered < r
 
--- a read looked at the table after just the commands of its session so far
-pub record HasLooked (log : List Entry) (tails : ℕ → ℕ) (before : List Played) (phase s : ℕ) (query : Query) (after : ℕ) (found : Found) : Type 0 where
+-- a read looked at the table after just the commands of its session so far, which are answered by the end of its phase
+pub record HasLooked (log : List Entry) (tails : ℕ → ℕ) (e : SessionEnd) (before : List Played) (phase s : ℕ) (query : Query) (after : ℕ) (found : Found) : Type 0 where
   pub within : after ≤ length log
   pub shows : found ≡ find_in (table_after finmap.empty (acts_below after (acts_in log))) query
   pub sees : gap_from (asked_in 0 (take after log)) s 1 ≡ count_by (λ t. logs_for s t.line) before + 1
   pub from : tails phase ≤ after
   pub upto : after ≤ tails (phase + 1)
+  pub answered : count_by (λ t. logs_for s t.line) before ≤ e.answered
 
--- so many entries are clean of a front of the log that reaches the phase's first tail
+-- so many entries are clean of a front of the log that reaches the phase's first tail, and no more than reach the next one's
 pub record HasReported (log : List Entry) (tails : ℕ → ℕ) (phase clean : ℕ) : Type 0 where
   pub upto : ℕ
   pub within : upto ≤ length log
   pub from : tails phase ≤ upto
+  pub by : clean ≤ tails (phase + 1)
   pub is : clean ≡ clean_position (take upto log)
 
 -- a fault of this cause came to the node in the phase
@@ -144,7 +149,7 @@ IsUnread faults e before t s cause =
 abbrev pub CameOf : List Entry → (ℕ → ℕ) → List Fault → (ℕ → SessionEnd) → List Played → Played → Asks → Outcome → Type 0
 CameOf log tails faults ends before t (asks.Logged s r c) (out.Placed place reply late) = IsPlaced log tails (ends s.id) t.line.phase s.id r place reply late
 CameOf log tails faults ends before t (asks.Logged s r c) (out.Open cause) = IsLeft log (ends s.id) s.id r cause
-CameOf log tails faults ends before t (asks.Look s q) (out.Read after found) = HasLooked log tails before t.line.phase s.id q after found
+CameOf log tails faults ends before t (asks.Look s q) (out.Read after found) = HasLooked log tails (ends s.id) before t.line.phase s.id q after found
 CameOf log tails faults ends before t (asks.Look s q) (out.Open cause) = IsUnread faults (ends s.id) before t s.id cause
 CameOf log tails faults ends before t (asks.Admin a) (out.Open cause) = t.paid ≡ Some cause
 CameOf log tails faults ends before t (asks.Admin Alive) (out.Alive clean) = HasReported log tails t.line.phase clean
@@ -172,8 +177,8 @@ pub record LineEnded (log : List Entry) (tails : ℕ → ℕ) (faults : List Fau
   pub row : is_row_of (record { line = t.line; row = t.row }) ≡ true
   pub came : CameOf log tails faults ends before t t.line.asks t.row.outcome
   pub missed : IsStoppedBy (ends (session_in t.line.asks)) t.line.phase t.line.asks
-  -- nothing is tried after the phase in which its session was stopped
-  pub stopped : IsSome (session_asking t.line.asks) → IsSome (ends (session_in t.line.asks)).stopped → (ends (session_in t.line.asks)).when < t.line.phase → is_open t.row.outcome ≡ true
+  -- nothing is tried after the phase in which its session was stopped: its cause is told
+  pub stopped : IsSome (session_asking t.line.asks) → (cause : Cause) → (ends (session_in t.line.asks)).stopped ≡ Some cause → (ends (session_in t.line.asks)).when < t.line.phase → t.row.outcome ≡ out.Open cause
 
 -- each element, behind those before it
 abbrev pub AllAfter : {A : Type 0} → (List A → A → Type 0) → List A → List A → Type 0
@@ -237,6 +242,12 @@ pub record Replacements (played : List Played) (version : ℕ) (chain : Chain) (
 
 -- Trims
 
+-- what the row says stands at this position or above
+abbrev pub StandsFrom : ℕ → Outcome → Type 0
+StandsFrom n (out.Placed place reply late) = n ≤ place.pos
+StandsFrom n (out.Read after found) = n ≤ after
+StandsFrom n answered = Unit {0}
+
 -- a played line that is so, with its row
 pub record SomeTurn (played : List Played) (P : Played → Type 0) : Type 0 where
   pub at : ℕ
@@ -282,6 +293,30 @@ pub record IsKnown (played : List Played) (node : ℕ) : Type 0 where
   pub stays : (i : ℕ) (t : Played) → slice_get played i ≡ Some t → t.line.node ≡ node → t.line.asks ≢ asks.Admin Retire
   pub closed : (i : ℕ) (t : Played) → slice_get played i ≡ Some t → t.line.node ≡ node → t.line.asks ≡ asks.Admin Alive → is_open t.row.outcome ≡ false
 
+-- the log that the loglets have says this, at this position or above, where it isn't trimmed
+pub record SaysFrom (chain : Chain) (cells : List LogletView) (from : ℕ) (c : Content) : Type 0 where
+  pub placed : Placed
+  pub among : Contains (items_of chain cells) placed
+  pub content_is : placed.content ≡ c
+  pub above : from ≤ placed.place.pos
+
+-- it says that a trim was asked for that goes so far, or further
+pub record SaysTrim (chain : Chain) (cells : List LogletView) (trim : ℕ) : Type 0 where
+  pub position : ℕ
+  pub above : trim ≤ position
+  pub says : SaysFrom chain cells trim (content.Trim position)
+
+-- .. and that the node reported so much, or more
+pub record SaysReport (chain : Chain) (cells : List LogletView) (trim node : ℕ) : Type 0 where
+  pub position : ℕ
+  pub above : trim ≤ position
+  pub says : SaysFrom chain cells trim (content.Alive node position)
+
+-- a line asks the node to leave
+pub record IsToLeave (node : ℕ) (t : Played) : Type 0 where
+  pub node_is : t.line.node ≡ node
+  pub asks : t.line.asks ≡ asks.Admin Retire
+
 -- How far lines trimmed the log, and how far it is trimmed at the end. The nodes are 1 to `nodes`.
 pub record TrimsEnded (played : List Played) (nodes : ℕ) (chain : Chain) (cells : List LogletView) (end : ℕ) : Type 0 where
   pub each : (j : ℕ) (t : Played) (trim : ℕ) → slice_get played j ≡ Some t → t.row.outcome ≡ out.Trimmed trim → LineTrimmed played nodes chain.trim j t trim
@@ -290,7 +325,11 @@ pub record TrimsEnded (played : List Played) (nodes : ℕ) (chain : Chain) (cell
   pub reached : (node : ℕ) → 1 ≤ node → node ≤ nodes → IsKnown played node → (chain.trim ≡ 0) ⊎ SomeTurn played (ReportsAbove node chain.trim)
   -- where nothing is trimmed, the log that the loglets have says that a trim was asked for
   pub stand : (j : ℕ) (t : Played) (trim : ℕ) → slice_get played j ≡ Some t → t.row.outcome ≡ out.Trimmed trim → chain.trim ≡ 0
-      → (position : ℕ) × Contains (map (λ p. p.content) (unpack_all 0 (virtual_log chain cells 0 (virtual_tail chain cells)))) (content.Trim position)
+      → SaysTrim chain cells 0
+  -- where something is, the log that they have from there on says that as much was asked for
+  pub rests : chain.trim ≢ 0 → SaysTrim chain cells chain.trim
+  -- and that each node reported as much that isn't to leave
+  pub kept : (node : ℕ) → 1 ≤ node → node ≤ nodes → chain.trim ≢ 0 → SomeTurn played (IsToLeave node) ⊎ SaysReport chain cells chain.trim node
 
 -- Faults
 
@@ -345,12 +384,12 @@ pub record RunEnded (played : List Played) (o : Told) (yard : Shown) : Type 0 wh
   -- and where it stood there when a phase began, of an earlier phase
   pub early : (phase : ℕ) (x : Asked) → Contains (asked_in 0 (take (tails phase) log)) x → IsOfEarlier played phase x
   pub lines : AllAfter (LineEnded log tails faults ends) [] played
-  -- where nothing is trimmed, each report of a node stands in the log that the loglets have
-  pub reported : (i : ℕ) (t : Played) (clean : ℕ) → slice_get played i ≡ Some t → t.row.outcome ≡ out.Alive clean → o.chain.trim ≡ 0
-      → Contains (map (λ p. p.content) (unpack_all 0 (virtual_log o.chain yard.cells 0 (virtual_tail o.chain yard.cells)))) (content.Alive t.line.node clean)
-  -- and so does each leave
-  pub left : (i : ℕ) (t : Played) → slice_get played i ≡ Some t → t.row.outcome ≡ out.Retired → o.chain.trim ≡ 0
-      → Contains (map (λ p. p.content) (unpack_all 0 (virtual_log o.chain yard.cells 0 (virtual_tail o.chain yard.cells)))) (content.Leave t.line.node)
+  -- where the log isn't trimmed above it, each report of a node stands in the log that the loglets have, no lower than that
+  pub reported : (i : ℕ) (t : Played) (clean : ℕ) → slice_get played i ≡ Some t → t.row.outcome ≡ out.Alive clean → o.chain.trim ≤ clean → SaysFrom o.chain yard.cells clean (content.Alive t.line.node clean)
+  -- where nothing is trimmed, so does each leave
+  pub left : (i : ℕ) (t : Played) → slice_get played i ≡ Some t → t.row.outcome ≡ out.Retired → o.chain.trim ≡ 0 → SaysFrom o.chain yard.cells 0 (content.Leave t.line.node)
+  -- what a node's later lines tell stands at its report or above
+  pub above : (i j : ℕ) (t u : Played) (clean : ℕ) → slice_get played i ≡ Some t → slice_get played j ≡ Some u → i < j → t.line.node ≡ u.line.node → t.row.outcome ≡ out.Alive clean → StandsFrom clean u.row.outcome
   pub trims : TrimsEnded played (length yard.disks) o.chain yard.cells o.end
   pub sessions : (s : ℕ) → SessionEnded played faults home s (ends s)
   pub replacements : Replacements played o.version o.chain (length yard.cells)

@@ -9,7 +9,7 @@ use Rattle.engine_api.specs.declared.content.Placed.{Placed}
 use Rattle.engine_api.specs.Acted.{unpack_all}
 use Rattle.engine_api.specs.Members.{has_left, position_of}
 use Rattle.log_laws.proofs.Membership.{left_says, position_says, unpack_says, least_upto}
-use Rattle.base_engine.specs.Trimming.{FloorIs}
+use Rattle.turn_scopes.specs.Floors.{FloorIs}
 use Rattle.journal_laws.proofs.Changes.{appended_may, shown_appended}
 use Rattle.turn_scopes.specs.Beside.{OthersTrim}
 use Rattle.turn_scopes.specs.Telling.{UpTo, TellsUpTo}

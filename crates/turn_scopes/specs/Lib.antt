@@ -1,4 +1,5 @@
 pub mod Alone
 pub mod Beside
+pub mod Floors
 pub mod Seats
 pub mod Telling

@@ -1,8 +1,9 @@
 //! Scripts with rows that answer their lines, and which rules of a fitting run the rows break.
-use crate::rows::row_in;
+use crate::rows::{item_in, row_in};
 use crate::words::{number_in, words_of};
 use anyhow::{Context, bail, ensure};
 use delos_types::chain::Segment;
+use engine_api::content::Placed;
 use fitting_run::answered::Answered;
 use row_text::row::Row;
 use script_text::asks::{NamedLine, named_lines};
@@ -22,6 +23,8 @@ pub(crate) struct End {
     pub(crate) segments: Vec<Segment>,
     /// How many loglets the shelf has.
     pub(crate) shelf: usize,
+    /// What the log has from the trim on, but for commands.
+    pub(crate) items: Vec<Placed>,
 }
 
 /// The lines of a script, what they are answered, and the end of the run.
@@ -78,6 +81,7 @@ fn take_end(end: &mut End, words: &[&str]) -> anyhow::Result<()> {
         ["trim", number] => end.trim = number_in(number)?,
         ["version", number] => end.version = number_in(number)?,
         ["shelf", number] => end.shelf = number.parse::<usize>()?,
+        ["has", place, says @ ..] => end.items.push(item_in(place, says)?)?,
         ["seg", id, "from", start, "open"] => end.segments.push(segment_in(id, start, None)?)?,
         ["seg", id, "from", start, "to", stop] => {
             let stop = number_in(stop)?;
@@ -106,6 +110,7 @@ fn rows_and_end(alloc: Global, told: &[&str]) -> anyhow::Result<(Vec<Phased>, En
         version: 1,
         segments: Vec::new(alloc),
         shelf: 1,
+        items: Vec::new(alloc),
     };
     for line in told {
         let words = words_of(alloc, line)?;

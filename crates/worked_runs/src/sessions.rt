@@ -2,7 +2,8 @@
 use crate::fits::{read_shown, show_rules};
 use fitting_run::answered::Answered;
 use fitting_run::fitting::{
-    are_rows_of, keeps_barriers, places_dont_fall, reads_keep_order, stays_stopped,
+    are_rows_of, causes_are_kept, keeps_barriers, places_dont_fall, reads_are_kept_open,
+    reads_keep_order, stays_stopped,
 };
 
 /// Prints which rules these rows break.
@@ -14,8 +15,16 @@ pub(crate) fn judge(rt: &HostRuntime, told: &[Answered]) -> anyhow::Result<()> {
             ("the places of a session don't fall", places_dont_fall(told)),
             ("a session that stopped stays so", stays_stopped(told)),
             (
+                "a session that stopped tells one cause",
+                causes_are_kept(told),
+            ),
+            (
                 "reads keep the order of their session",
                 reads_keep_order(told),
+            ),
+            (
+                "no read is answered behind a command that isn't",
+                reads_are_kept_open(told),
             ),
             ("barriers are kept", keeps_barriers(told)),
         ],

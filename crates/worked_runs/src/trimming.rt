@@ -2,7 +2,10 @@
 use crate::fits::{read_shown, show_rules};
 use anyhow::ensure;
 use fitting_run::fitting::are_rows_of;
-use fitting_run::trimming::{trim_is_asked_for, trim_is_held, trims_are_upto, trims_reach_reports};
+use fitting_run::trimming::{
+    trim_is_asked_for, trim_is_held, trim_rests_on_log, trims_are_upto, trims_reach_reports,
+    trims_stand,
+};
 
 /// Prints which rules the rows of a case break.
 pub(crate) fn show_trims(rt: &HostRuntime, input: &[&str]) -> anyhow::Result<()> {
@@ -11,6 +14,7 @@ pub(crate) fn show_trims(rt: &HostRuntime, input: &[&str]) -> anyhow::Result<()>
     let told = shown.told.as_slice();
     let nodes = shown.end.nodes;
     let trim = shown.end.trim;
+    let items = shown.end.items.as_slice();
     ensure!(nodes <= 8, "too many nodes");
     show_rules(
         rt,
@@ -31,6 +35,14 @@ pub(crate) fn show_trims(rt: &HostRuntime, input: &[&str]) -> anyhow::Result<()>
             (
                 "the trim is asked for",
                 trim_is_asked_for(lines, nodes, trim),
+            ),
+            (
+                "what asks for a trim stands in the log",
+                trims_stand(told, trim, items),
+            ),
+            (
+                "the trim rests on the log",
+                trim_rests_on_log(lines, nodes, trim, items),
             ),
         ],
     )

@@ -1,5 +1,5 @@
-use Rattle.std.proofs.Common.{◌≡◌, [], length, map, sym, ap, ◌∙◌, subst, arith}
-use Rattle.std.proofs.lemmas.List.{length-map}
+use Rattle.std.proofs.Common.{◌≡◌, ℕ, [], length, map, replicate, sym, ap, ◌∙◌, subst, arith}
+use Rattle.std.proofs.lemmas.List.{length-map, length-replicate}
 use Rattle.legal_journal.specs.Journal.{IsLegal}
 use Rattle.node_lines.specs.Workers.{Sends}
 use Rattle.run_course.specs.Script.{AreLines}
@@ -8,7 +8,7 @@ use Rattle.crew_making.specs.Apart.{AreAsTold}
 use Rattle.crew_making.specs.Fresh.{AreFreshFrom, AreNewWorkers}
 use Rattle.fabric_core.specs.Fabric.{FabricView}
 use Rattle.crew_making.proofs.Fresh.{fresh_from}
-use Rattle.node_opening.proofs.Lists.{as_long, shown_same}
+use Rattle.node_opening.proofs.Lists.{all_zero, as_long, shown_same}
 use Rattle.crew_making.proofs.Resting.{crew_rests, new_stands}
 use Rattle.crew_making.proofs.make.make_crew.Goals as goal
 
@@ -34,15 +34,14 @@ returns-in-Ok-new-clause-rests g c =
     let r = g.S.Replica in
     let a = c.args in
     let q = c.seat_all-workers in
-    let n = c.no_counts-counts in
     let size = as_long (λ b. b.replica) (λ n. n.replica) c.in-Ok-prepare_all.berths.items a.nodes.now.items c.in-Ok-prepare_all.ensures.replicas in
     let size' = as_long (λ w. w.seat.node.replica) (λ b. r.shows b.replica) q.result.items c.in-Ok-prepare_all.berths.items q.ensures.replicas in
     let shelf = sym (ap length c.requires.shelf) ∙ (length-map (map g.L.Loglet.view a.cells.items) (λ v. v.servers) ∙ length-map a.cells.items g.L.Loglet.view) in
     let legal : IsLegal p.may p.floor p.shelf [] = record { least = omega (arith, shelf, c.requires.least); most = omega (arith, shelf, c.requires.most); steps = tt } in
-    subst (λ j. CrewRests p.may p.floor p.shelf r.state r.spells a.lines.now 0 0 j n.result c.in-Ok.looks.items (λ w. w.seat) (λ w. w.desks.items) q.result.items) (sym (ap (λ (f : FabricView). f.journal) c.in-Ok-new.ensures.ok))
-    (crew_rests p.may p.floor p.shelf a.lines.now n.result c.in-Ok.looks.items n.ensures.none c.in-Ok.ensures.size c.in-Ok.ensures.none r.state r.spells c.requires.lines.0 (λ w. w.seat) (λ w. w.desks.items) q.result.items
-    (subst (AreLines a.lines.now c.requires.lines.0) (sym (size' ∙ size)) c.requires.lines.1) n.ensures.long legal
-    (subst (λ k. AreNewWorkers (λ who. Sends who p.may n.result []) p.floor p.shelf r.state r.spells k (λ w. w.seat) (λ w. w.desks.items) q.result.items) (sym size') q.ensures.workers))
+    subst (λ j. CrewRests p.may p.floor p.shelf r.state r.spells a.lines.now 0 0 j c.in-Ok.looks.items (λ w. w.seat) (λ w. w.desks.items) q.result.items) (sym (ap (λ (f : FabricView). f.journal) c.in-Ok-new.ensures.ok))
+    (crew_rests p.may p.floor p.shelf a.lines.now (replicate 64 0) c.in-Ok.looks.items (all_zero 64) (length-replicate {A = ℕ} 64 0) c.in-Ok.ensures.size c.in-Ok.ensures.none r.state r.spells c.requires.lines.0 (λ w. w.seat) (λ w. w.desks.items) q.result.items
+    (subst (AreLines a.lines.now c.requires.lines.0) (sym (size' ∙ size)) c.requires.lines.1) legal
+    (subst (λ k. AreNewWorkers (λ who. Sends who p.may [] []) p.floor p.shelf r.state r.spells k (λ w. w.seat) (λ w. w.desks.items) q.result.items) (sym size') q.ensures.workers))
 
 pub returns-in-Ok-new-clause-stands : goal.returns-in-Ok-new-clause-stands
 returns-in-Ok-new-clause-stands g c =
@@ -50,7 +49,7 @@ returns-in-Ok-new-clause-stands g c =
     let r = g.S.Replica in
     let q = c.seat_all-workers in
     subst (λ j. CrewStands p.may p.floor p.shelf r.state r.spells j (λ w. w.seat) q.result.items) (sym (ap (λ (f : FabricView). f.journal) c.in-Ok-new.ensures.ok))
-    (new_stands p.may p.floor p.shelf r.state r.spells c.no_counts-counts.result (length c.in-Ok-prepare_all.berths.items) (λ w. w.seat) (λ w. w.desks.items) q.result.items q.ensures.workers)
+    (new_stands p.may p.floor p.shelf r.state r.spells (length c.in-Ok-prepare_all.berths.items) (λ w. w.seat) (λ w. w.desks.items) q.result.items q.ensures.workers)
 
 pub returns-in-Ok-new-clause-replicas : goal.returns-in-Ok-new-clause-replicas
 returns-in-Ok-new-clause-replicas g c =

@@ -13,9 +13,9 @@ invariant-loop-k g l = record {
   left : length l.berths.items + l.k ≡ l.nodes;
   done : length l.workers.items ≡ l.k;
   room : l.nodes ≤ vec_capacity l.workers;
-  workers : AreNewWorkers (λ n. Sends n g.K.Terms.may l.counts []) g.K.Terms.floor g.K.Terms.shelf g.S.Replica.state g.S.Replica.spells l.nodes (λ w. w.seat) (λ w. w.desks.items) l.workers.items;
+  workers : AreNewWorkers (λ n. Sends n g.K.Terms.may [] []) g.K.Terms.floor g.K.Terms.shelf g.S.Replica.state g.S.Replica.spells l.nodes (λ w. w.seat) (λ w. w.desks.items) l.workers.items;
   same : map (λ w. w.seat.node.replica) l.workers.items ++ map (λ b. g.S.Replica.shows b.replica) l.berths.items ≡ map (λ b. g.S.Replica.shows b.replica) l.initial.berths.items;
 }
 
 abbrev pub ghosts-seat_within : goal.ghosts-seat_within
-ghosts-seat_within g a = record { who = a.who; sends = Sends a.who g.K.Terms.may a._counts.now []; seals = λ _. ⊥; floor = g.K.Terms.floor; since = [] }
+ghosts-seat_within g a = record { who = a.who; sends = Sends a.who g.K.Terms.may [] []; seals = λ _. ⊥; floor = g.K.Terms.floor; since = [] }

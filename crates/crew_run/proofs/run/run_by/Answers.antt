@@ -1,5 +1,5 @@
 use Rattle.std.proofs.Common.{◌∙◌, sym, ap, subst, length, map, arith}
-use Rattle.base_engine.specs.Trimming.{FloorIs}
+use Rattle.turn_scopes.specs.Floors.{FloorIs}
 use Rattle.crew_run.specs.Telling.{FitsGivenBack}
 use Rattle.crew_run.specs.Running.{RunTold}
 use Rattle.crew_run.proofs.Running.{as_many, if_ok, run_told, same_shelf}

@@ -1,5 +1,5 @@
 use Rattle.std.proofs.Common.{length, map}
-use Rattle.base_engine.specs.Trimming.{MayTrim}
+use Rattle.turn_scopes.specs.Floors.{MayTrim}
 use Rattle.run_ends.specs.Rules.{may_of}
 use Rattle.crew_run.proofs.run.run_lines.Given as goal
 

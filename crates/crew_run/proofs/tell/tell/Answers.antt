@@ -1,5 +1,5 @@
 use Rattle.std.proofs.Common.{sym, ◌∙◌, subst}
-use Rattle.base_engine.specs.Trimming.{FloorIs}
+use Rattle.turn_scopes.specs.Floors.{FloorIs}
 use Rattle.crew_run.proofs.tell.tell.Goals as goal
 
 pub close-crew-requires-clause-floor : goal.close-crew-requires-clause-floor

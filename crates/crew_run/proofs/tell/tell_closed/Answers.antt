@@ -15,7 +15,7 @@ use Rattle.run_ends.specs.Closing.{WorkerEnd, HasClosed, IsGivenBack}
 use Rattle.run_ends.specs.Rows.{played_of}
 use Rattle.run_ends.specs.Rows.{AreRows, CanTell}
 use Rattle.fitting_run.specs.Fits.{Fits}
-use Rattle.base_engine.specs.Trimming.{FloorIs}
+use Rattle.turn_scopes.specs.Floors.{FloorIs}
 use Rattle.run_closing.specs.Finishing.{SeesAll}
 use Rattle.crew_run.proofs.Lone.{all_lone}
 use Rattle.crew_run.proofs.Telling.{stands_on, own_more, reads_asked}
@@ -30,7 +30,7 @@ rows_of-rows-requires g c =
     record {
       tellable = subst (λ l. CanTell c.args.lines.now (map (λ x. record { seat = x.seat; desks = x.desks.items }) l) c.as_slice-2.result.now) (sym c.as_slice.ensures.value)
           (subst (λ l. CanTell c.args.lines.now ends l) (sym c.as_slice-2.ensures.value)
-          (c.what_closed_can_be_told.ensures c.requires.run c.args.lines.now w.fabric.journal w.counts w.looks.items h.0 ends h.2));
+          (c.what_closed_can_be_told.ensures c.requires.run c.args.lines.now w.fabric.journal w.looks.items h.0 ends h.2));
     }
 
 pub returns-in-Ok-Ok-clause-told : goal.returns-in-Ok-Ok-clause-told
@@ -48,14 +48,14 @@ returns-in-Ok-Ok-clause-told g c =
     let asks = on_ok _ c.in-Ok-Ok.is-0 q.ensures.asks in
     let last = in_ok _ c.in-Ok-Ok.is-0 q.ensures.last in
     let legal = q.ensures.legal in
-    let closed = subst (λ l. HasClosed p.may p.floor p.shelf r.state r.spells lines l w.counts w.looks.items h.0 ends) (sym asks.seen)
-    (c.reads_change_nothing.ensures lines early asks.more w.counts w.looks.items h.0 ends h.2 (own_more 0 early new q.ensures.since asks) (reads_asked asks.more asks.calls) (subst (λ l. IsLegal p.may p.floor p.shelf l) asks.seen legal)) in
+    let closed = subst (λ l. HasClosed p.may p.floor p.shelf r.state r.spells lines l w.looks.items h.0 ends) (sym asks.seen)
+    (c.reads_change_nothing.ensures lines early asks.more w.looks.items h.0 ends h.2 (own_more 0 early new q.ensures.since asks) (reads_asked asks.more asks.calls) (subst (λ l. IsLegal p.may p.floor p.shelf l) asks.seen legal)) in
     let rows = in_ok _ c.in-Ok-Ok.is-1 c.rows_of-rows.ensures.rows in
     let rows' = subst (λ l. AreRows lines (map (λ x. record { seat = x.seat; desks = x.desks.items }) l) w.looks.items c.in-Ok-Ok.rows) c.as_slice.ensures.value (subst (λ l. AreRows lines (map (λ x. record { seat = x.seat; desks = x.desks.items }) c.as_slice.result.now) l c.in-Ok-Ok.rows) c.as_slice-2.ensures.value rows) in
     let long : length ends ≡ length w.workers.items = length-map w.workers.items (λ x. record { seat = x.seat; desks = x.desks.items }) in
     let rule = subst (FloorIs p.floor) (sym long) c.requires.floor in
     let ended : (yard : Shown) → IsGivenBack p.may p.floor p.shelf new ends o.chain yard → IsRegisterAsTold (journal.state_of new).register yard.register → (map (λ t. t.line) (played_of lines o.rows w.looks.items) ≡ lines) × RunEnded (played_of lines o.rows w.looks.items) o yard = λ yard back told.
-    c.what_closed_has_ended.ensures c.requires.run lines new w.counts w.looks.items h.0 ends o yard c.requires.may rule closed rows' (sym h.1) back told
+    c.what_closed_has_ended.ensures c.requires.run lines new w.looks.items h.0 ends o yard c.requires.may rule closed rows' (sym h.1) back told
     (c.the_chain_is_registered.ensures early c.in-Ok-Ok.last q.result.fabric yard.register o legal asks last c.journal-told.ensures.register c.journal-told.ensures.register_runs told back.register_runs refl refl refl) in
     record {
       chain = last.told;
@@ -66,7 +66,7 @@ returns-in-Ok-Ok-clause-told g c =
           (subst (λ l. IsGivenBack p.may p.floor p.shelf l ends o.chain yard) asks.seen back) quiet;
       extended = λ yard back quiet.
           subst (λ (k : Chain). GoesTo k (count_by (λ r. is_some (version_made r.outcome)) o.rows)) (sym last.told)
-          (c.each_segment_is_told.ensures lines o.rows new w.counts w.looks.items h.0 ends closed rows' (c.a_calm_journal_tells_no_fault.ensures new ends o.chain yard back quiet));
+          (c.each_segment_is_told.ensures lines o.rows new w.looks.items h.0 ends closed rows' (c.a_calm_journal_tells_no_fault.ensures new ends o.chain yard back quiet));
       lone = λ yard back told. let e = ended yard back told in
           subst (λ rs. list_all (λ r. not (is_some (version_found r.outcome))) rs ≡ true) (sym e.1.rows) (all_lone o.version o.chain (length yard.cells) (played_of lines o.rows w.looks.items) e.1.replacements.each);
       fits = λ yard back told. let e = ended yard back told in subst (λ l. Fits l o yard) e.0 (c.what_ended_fits.ensures (played_of lines o.rows w.looks.items) o yard e.1);

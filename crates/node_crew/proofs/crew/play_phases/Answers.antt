@@ -3,7 +3,7 @@ use Rattle.std.specs.Prelude.{slice_get}
 use Rattle.std.proofs.lemmas.Bool.{cases_lt}
 use Rattle.std.proofs.lemmas.Option.{slice_get_read}
 use Rattle.script_text.specs.declared.asks.NamedLine.{NamedLine}
-use Rattle.base_engine.specs.Trimming.{FloorIs}
+use Rattle.turn_scopes.specs.Floors.{FloorIs}
 use Rattle.node_crew.specs.Crews.{EndsPhase, CrewAt, CrewRests}
 use Rattle.node_crew.proofs.Crews.{crew_begins, crew_comes, crew_ends}
 use Rattle.node_workers.proofs.Ok.{on_ok}
@@ -25,8 +25,8 @@ play_phase-now-requires-clause-now g c =
     let line = c.index-lines-from.result in
     let at : slice_get lines l.from ≡ Some line = slice_get_read lines (length lines) l.from line refl c.loop-from-test.true c.index-lines-from.is in
     let ends : EndsPhase lines l.from c.end_of_phase-to.result line.phase = subst (λ (x : NamedLine). EndsPhase lines l.from c.end_of_phase-to.result x.phase) (sym c.index-lines-from.is) c.end_of_phase-to.ensures.ends in
-    crew_begins p.may p.floor p.shelf r.state r.spells lines (λ w. w.seat) (λ w. w.desks.items) w.workers.items l.from c.end_of_phase-to.result line.phase w.fabric.journal w.counts w.looks.items c.end_of_phase-to.ensures.range.0 ends
-    (crew_comes p.may p.floor p.shelf r.state r.spells lines (λ w. w.seat) (λ w. w.desks.items) w.workers.items l.from l.invariant.rests.0 w.fabric.journal w.counts w.looks.items line at l.invariant.rests.1)
+    crew_begins p.may p.floor p.shelf r.state r.spells lines (λ w. w.seat) (λ w. w.desks.items) w.workers.items l.from c.end_of_phase-to.result line.phase w.fabric.journal w.looks.items c.end_of_phase-to.ensures.range.0 ends
+    (crew_comes p.may p.floor p.shelf r.state r.spells lines (λ w. w.seat) (λ w. w.desks.items) w.workers.items l.from l.invariant.rests.0 w.fabric.journal w.looks.items line at l.invariant.rests.1)
 
 pub loop-from-smaller : goal.loop-from-smaller
 loop-from-smaller g c =
@@ -53,11 +53,11 @@ loop-from-preserved g c =
     let w = q.result.crew in
     let to = c.end_of_phase-to.result in
     let at = on_ok _ c.in-Ok.is q.ensures.goes in
-    let all = subst (λ k. CrewAt p.may p.floor p.shelf r.state r.spells lines l.from to k w.fabric.journal w.counts w.looks.items (λ w. w.seat) (λ w. w.desks.items) w.workers.items) (sym q.ensures.size) at in
+    let all = subst (λ k. CrewAt p.may p.floor p.shelf r.state r.spells lines l.from to k w.fabric.journal w.looks.items (λ w. w.seat) (λ w. w.desks.items) w.workers.items) (sym q.ensures.size) at in
     record {
       high = c.end_of_phase-to.ensures.range.1;
       size = q.ensures.size ∙ l.invariant.size;
-      rests = (all.course.phase + 1, crew_ends p.may p.floor p.shelf r.state r.spells lines (λ w. w.seat) (λ w. w.desks.items) w.workers.items l.from to w.fabric.journal w.counts w.looks.items all);
+      rests = (all.course.phase + 1, crew_ends p.may p.floor p.shelf r.state r.spells lines (λ w. w.seat) (λ w. w.desks.items) w.workers.items l.from to w.fabric.journal w.looks.items all);
       stands = q.ensures.stands;
     }
 
@@ -69,4 +69,4 @@ returns-clause-played g c =
     let l = c.loop-from in
     let w = l.crew in
     let over : l.from ≡ length lines = omega (arith, l.invariant.high, c.loop-from-test.false) in
-    (l.invariant.rests.0, subst (λ k. CrewRests p.may p.floor p.shelf r.state r.spells lines k l.invariant.rests.0 w.fabric.journal w.counts w.looks.items (λ w. w.seat) (λ w. w.desks.items) w.workers.items) over l.invariant.rests.1)
+    (l.invariant.rests.0, subst (λ k. CrewRests p.may p.floor p.shelf r.state r.spells lines k l.invariant.rests.0 w.fabric.journal w.looks.items (λ w. w.seat) (λ w. w.desks.items) w.workers.items) over l.invariant.rests.1)

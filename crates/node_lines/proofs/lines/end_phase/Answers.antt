@@ -23,11 +23,11 @@ returns-in-At g c =
       last = subst (λ s. Moves p.may p.floor p.shelf then' new (failure_of s)) c.in-At.is c.in_ok-sync.ensures.moves;
       above = found.0;
       at = found.1;
-      keeps = c.requires.keeps;
     } in
     record {
       ends = ends_at p.may p.floor p.shelf c.requires.floor old first then' new c.in-At.field-0 e
           (ap (λ (o : OutboxView). o.entries) c.in_ok-sync.ensures.outbox ∙ c.in_ok-settle.ensures.none)
+          (ap (λ (o : OutboxView). o.unsettled) c.in_ok-sync.ensures.outbox ∙ c.in_ok-settle.ensures.unsettled)
           (c.in_ok-sync.ensures.kept ∙ kept)
           (ap (λ (r : ReplicaView). r.cursor) (c.in_ok-settle.ensures.replica ∙ c.in_ok-pack.ensures.replica))
           (c.in_ok-sync.ensures.exact c.in-At.field-0 c.in-At.is);
@@ -48,6 +48,7 @@ returns-in-Failed g c =
         moves = moves-both p.may p.floor p.shelf c.requires.floor old then' new [] (c.in-Failed.cause ∷ [])
             (moves-both p.may p.floor p.shelf c.requires.floor old first then' [] [] c.in_ok-pack.ensures.moves c.in_ok-settle.ensures.moves) last;
         none = ap (λ (o : OutboxView). o.entries) c.in_ok-sync.ensures.outbox ∙ c.in_ok-settle.ensures.none;
+        unsettled = ap (λ (o : OutboxView). o.unsettled) c.in_ok-sync.ensures.outbox ∙ c.in_ok-settle.ensures.unsettled;
         kept = c.in_ok-sync.ensures.kept ∙ kept;
         acted = λ f. absurd (cc);
         exact = λ f. absurd (cc);

@@ -45,9 +45,8 @@ returns-in-At-clause-looks g c =
       last = subst (λ s. Moves p.may p.floor p.shelf then' new (failure_of s)) c.in-At.is c.in_ok-cause.ensures.moves;
       above = found.0;
       at = found.1;
-      keeps = c.requires.keeps;
     } in
-    looks_at p.may p.floor p.shelf c.requires.floor old first then' new c.in-At.after e r.state d c.args.query.now c.in_ok-found-in-At.found c.requires.state c.requires.desk
+    looks_at p.may p.floor p.shelf c.requires.floor old first then' new c.in-At.after e c.requires.keeps r.state d c.args.query.now c.in_ok-found-in-At.found c.requires.state c.requires.desk
     (c.in-None.ensures.stopped refl)
     (subst (λ (o : OutboxView). cause_in d.session o.given ≡ None) (sym c.in_ok-cause.ensures.outbox) (c.in-None.ensures.given refl))
     c.requires.bound c.in_ok-cause.ensures.follows.now c.in_ok-found-in-At.ensures.found

@@ -42,7 +42,6 @@ returns-in-At g c =
       last = subst (λ s. Moves p.may p.floor p.shelf then' new (failure_of s)) c.in-At.is c.in_ok-cause.ensures.moves;
       above = found.0;
       at = found.1;
-      keeps = c.requires.keeps;
     } in
     record {
       measures = record {
@@ -51,7 +50,7 @@ returns-in-At g c =
         unsettled = ap (λ (o : OutboxView). o.unsettled) c.in_ok-cause.ensures.outbox ∙ c.in_ok-settle.ensures.unsettled;
         kept = c.in_ok-cause.ensures.kept ∙ kept;
         measured = λ n same.
-            let at = stands_at p.may p.floor p.shelf c.requires.floor old first then' new c.in-At.field-0 e g.R.Replica.state c.requires.state c.in_ok-cause.ensures.follows.now in
+            let at = stands_at p.may p.floor p.shelf c.requires.floor old first then' new c.in-At.field-0 e c.requires.keeps g.R.Replica.state c.requires.state c.in_ok-cause.ensures.follows.now in
             record { at = at; is = same_number _ n same ∙ (c.cursor.ensures.cursor ∙ sym at.size) };
       };
     }

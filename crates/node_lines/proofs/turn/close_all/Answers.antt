@@ -4,7 +4,8 @@ use Rattle.std.proofs.lemmas.List.{length-set}
 use Rattle.std.proofs.lemmas.Option.{slice_get-get_or, slice_get_within}
 use Rattle.node_lines.specs.Desks.{DeskOk, IsBound}
 use Rattle.node_lines.specs.Lines.{HasActedTo}
-use Rattle.node_lines.proofs.Closing.{closed_more}
+use Rattle.node_lines.specs.Turns.{ClosesIt}
+use Rattle.node_lines.proofs.Closing.{put_ok, put_done, put_left}
 use Rattle.node_lines.proofs.turn.close_all.Goals as goal
 
 pub close_it-requires-clause-desk : goal.close_it-requires-clause-desk
@@ -38,17 +39,19 @@ pub loop-desk-preserved : goal.loop-desk-preserved
 loop-desk-preserved g c =
     let xs = c.loop-desk.desks in
     let i = c.loop-desk.desk-index in
+    let n = c.args.node.now in
+    let old = c.args.desks.now in
+    let D = ClosesIt n c.args.failed in
     let d = slice_index_or xs i c.desk-item.result in
     let low : i < length xs = omega (arith, c.loop-desk-test.true) in
     let at : slice_get xs i ≡ Some d = slice_get-get_or xs i c.desk-item.result low in
-    let ok = c.loop-desk.invariant.ok i d at in
-    let more = closed_more c.args.node.now c.args.failed c.args.desks.now xs i d c.close_it.new.desk at c.loop-desk.invariant.ok c.loop-desk.invariant.done c.loop-desk.invariant.left
-    (subst (λ s. DeskOk c.args.node.now s c.close_it.new.desk) ok.session c.in_ok-close_it.ensures.desk) c.in_ok-close_it.ensures.closes in
+    let was = c.loop-desk.invariant in
+    let fine = subst (λ s. DeskOk n s c.close_it.new.desk) (was.ok i d at).session c.in_ok-close_it.ensures.desk in
     record {
-      len = length-set xs i c.close_it.new.desk ∙ c.loop-desk.invariant.len;
-      ok = more.0;
-      done = more.1;
-      left = more.2;
+      len = length-set xs i c.close_it.new.desk ∙ was.len;
+      ok = put_ok n D old xs i d c.close_it.new.desk at was.left was.ok fine;
+      done = put_done n D old xs i d c.close_it.new.desk at was.left was.done c.in_ok-close_it.ensures.closes;
+      left = put_left n D old xs i d c.close_it.new.desk at was.left;
     }
 
 pub returns-clause-closes : goal.returns-clause-closes
@@ -56,5 +59,6 @@ returns-clause-closes g c = record {
   size = c.loop-desk.invariant.len;
   each = λ s d at.
       let low = slice_get_within c.args.desks.now s d at in
-      c.loop-desk.invariant.done s d (omega (arith, low, c.loop-desk-test.false, c.loop-desk.invariant.len)) at;
+      let one = c.loop-desk.invariant.done s d (omega (arith, low, c.loop-desk-test.false, c.loop-desk.invariant.len)) at in
+      record { desk = one.0; is = one.1; closes = one.2 };
 }

@@ -1,10 +1,11 @@
-use Rattle.std.proofs.Common.{◌≡◌, subst, None}
+use Rattle.std.proofs.Common.{◌≡◌, sym, subst, ⊎_elim, None}
 use Rattle.base_engine.specs.Settling.{cause_in}
 use Rattle.node_lines.specs.Lines.{failure_in}
-use Rattle.node_lines.specs.Turns.{ClosesIt}
+use Rattle.node_lines.specs.Desks.{KeepsFrom}
+use Rattle.node_lines.specs.Turns.{AllAnswered, ClosesIt}
 use Rattle.node_lines.proofs.Moving.{none-before}
 use Rattle.node_lines.proofs.Desks.{desk_moves}
-use Rattle.node_lines.proofs.Turning.{desk_forgotten, was_at, same_at}
+use Rattle.node_lines.proofs.Turning.{answered_acted, desk_forgotten, kept_acted, was_at, same_at}
 use Rattle.node_lines.proofs.turn.end_turn.Goals as goal
 
 pub close_all-requires-clause-desks : goal.close_all-requires-clause-desks
@@ -21,7 +22,12 @@ close_all-requires-clause-found g c = λ none s d at free.
     let ok = c.requires.desks s d at in
     let cause : cause_in s m.outbox.given ≡ None = subst (λ q. cause_in q m.outbox.given ≡ None) ok.session free.1 in
     let before = none-before p.may p.floor p.shelf c.requires.floor n m (failure_in c.in_ok-failed.failed) s e.moves.goes cause in
-    e.acted none s d.sent cause (ok.given free.0 before).1
+    ⊎_elim
+    (λ (keeps : KeepsFrom p.may p.floor p.shelf n.replica.cursor). kept_acted p.may p.floor p.shelf n m c.in_ok-failed.failed e keeps none s d.sent cause (ok.given free.0 before).1)
+    (λ (all : AllAnswered n c.args.desks.now).
+    let there = desk_moves p.may p.floor p.shelf c.requires.floor n m (failure_in c.in_ok-failed.failed) s d e.moves ok in
+    answered_acted p.may p.floor p.shelf m s d e.moves.goes.keeps.later.legal there (all s d at (free.0, subst (λ q. cause_in q n.outbox.given ≡ None) (sym ok.session) before)))
+    c.requires.keeps
 
 pub returns : goal.returns
 returns g c =

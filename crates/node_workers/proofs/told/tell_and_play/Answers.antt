@@ -11,16 +11,16 @@ use Rattle.node_workers.proofs.Ok.{in_ok, on_ok, ok_then}
 use Rattle.node_workers.proofs.told.tell_and_play.Goals as goal
 
 pub in_turn-requires-clause-seat : goal.in_turn-requires-clause-seat
-in_turn-requires-clause-seat g c = (on_ok _ c.in-Ok.is c.tell-seat.ensures.done).ok
+in_turn-requires-clause-seat g c = on_ok _ c.in-Ok.is c.tell-seat.ensures.ok
 
-pub in_turn-requires-clause-high : goal.in_turn-requires-clause-high
-in_turn-requires-clause-high g c = (on_ok _ c.in-Ok.is c.tell-seat.ensures.done).high
+pub returns-in-Some-clause-ok : goal.returns-in-Some-clause-ok
+returns-in-Some-clause-ok g c = on_ok _ c.in-Ok.is c.tell-seat.ensures.ok
 
-pub in_turn-requires-clause-keeps : goal.in_turn-requires-clause-keeps
-in_turn-requires-clause-keeps g c = (on_ok _ c.in-Ok.is c.tell-seat.ensures.done).keeps
+pub returns-in-Some-clause-kept : goal.returns-in-Some-clause-kept
+returns-in-Some-clause-kept g c = λ stays. on_ok _ c.in-Ok.is (c.tell-seat.ensures.kept stays)
 
-pub returns-in-Some-clause-done : goal.returns-in-Some-clause-done
-returns-in-Some-clause-done g c = on_ok _ c.in-Ok.is c.tell-seat.ensures.done
+pub returns-clause-kept : goal.returns-clause-kept
+returns-clause-kept g c = λ stays. c.in_turn.ensures.kept (on_ok _ c.in-Ok.is (c.tell-seat.ensures.kept stays))
 
 pub returns-in-Some-clause-adds : goal.returns-in-Some-clause-adds
 returns-in-Some-clause-adds g c = on_ok _ c.in-Ok.is c.tell-seat.ensures.adds
@@ -29,7 +29,7 @@ pub returns-in-Some-clause-did : goal.returns-in-Some-clause-did
 returns-in-Some-clause-did g c =
     let p = g.A.Law.Rules in
     let told = in_ok _ c.in-Ok.is c.tell-seat.ensures.did in
-    inl (record { cause = c.in-Some.cause; is = refl; tells = subst (λ f. Tells (OwnWithin c.args.seat.who p.may c.args.counts.now) p.floor p.shelf (node_of c.args.seat (g.A.Access.seen c.args.access)) (node_of c.tell-seat.result.part (g.A.Access.seen c.tell-seat.result.access)) c.args.item f) c.in-Some.is told })
+    inl (record { cause = c.in-Some.cause; is = refl; tells = subst (λ f. Tells (OwnWithin c.args.seat.who p.may g.E.Sent.counts) p.floor p.shelf (node_of c.args.seat (g.A.Access.seen c.args.access)) (node_of c.tell-seat.result.part (g.A.Access.seen c.tell-seat.result.access)) c.args.item f) c.in-Some.is told })
 
 pub returns-clause-adds : goal.returns-clause-adds
 returns-clause-adds g c =
@@ -46,7 +46,7 @@ returns-clause-did g c =
     let now = node_of c.in_turn.result.part (g.A.Access.seen c.in_turn.result.access) in
     let told = in_ok _ c.in-Ok.is c.tell-seat.ensures.did in
     ok_then c.in_turn.result.answer c.in_turn.ensures.did
-    (λ x h. inr (record { told = mid; tells = subst (λ f. Tells (OwnWithin c.args.seat.who p.may c.args.counts.now) p.floor p.shelf (node_of c.args.seat (g.A.Access.seen c.args.access)) mid c.args.item f) c.in_default.is told; plays = subst (λ w. PlaysKnown (OwnWithin w p.may c.args.counts.now) p.floor p.shelf mid now x) c.tell-seat.ensures.left.who h.0; reached = h.1 }))
+    (λ x h. inr (record { told = mid; tells = subst (λ f. Tells (OwnWithin c.args.seat.who p.may g.E.Sent.counts) p.floor p.shelf (node_of c.args.seat (g.A.Access.seen c.args.access)) mid c.args.item f) c.in_default.is told; plays = subst (λ w. PlaysKnown (OwnWithin w p.may g.E.Sent.counts) p.floor p.shelf mid now x) c.tell-seat.ensures.left.who h }))
 
 pub returns-clause-left : goal.returns-clause-left
 returns-clause-left g c = left_both c.tell-seat.ensures.left c.in_turn.ensures.left

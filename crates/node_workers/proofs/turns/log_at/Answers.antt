@@ -1,5 +1,5 @@
 use Rattle.std.proofs.Common.{◌≡◌, sym, ap, ◌∙◌, subst, ⊎_elim, ◌+◌, ◌^◌, ◌<◌, ◌≤◌, [], ◌∷◌, ◌++◌, Some, None, arith}
-use Rattle.std.specs.Prelude.{All}
+use Rattle.std.specs.Prelude.{All, slice_set}
 use Rattle.std.proofs.lemmas.List.Elements.{All-push}
 use Rattle.engine_api.specs.Items.{content_of}
 use Rattle.engine_api.specs.Packing.{packed, session_item}
@@ -7,7 +7,7 @@ use Rattle.engine_api.proofs.Packed.{content_of-session, proposable-session}
 use Rattle.base_engine.specs.Settling.{cause_in}
 use Rattle.node_lines.specs.declared.desk.Desk.{Desk}
 use Rattle.node_lines.specs.UnderWay.{HasRank, rank_under}
-use Rattle.turn_scopes.specs.Seats.{node_of}
+use Rattle.turn_scopes.specs.Seats.{SeatOk, node_of}
 use Rattle.node_lines.specs.Moving.{HandsIn}
 use Rattle.node_lines.specs.Desks.{DeskOk}
 use Rattle.node_lines.specs.Lines.{Readies}
@@ -15,9 +15,10 @@ use Rattle.node_lines.proofs.Moving.{rank_elsewhere}
 use Rattle.node_lines.proofs.Sessions.{own_under}
 use Rattle.node_lines.specs.Workers.{OwnWithin, Sends, OwnAdds, IsOfSession, IsOfSessions, LogsIt, sent_of}
 use Rattle.node_lines.proofs.Own.{own_adds_trans}
+use Rattle.node_lines.proofs.Sent.{set_rises, set_sent, still_sent}
 use Rattle.node_workers.proofs.Joining.{sends-next, session-command, within-one}
-use Rattle.node_workers.proofs.Logging.{OneMore, counts-rise, kept_logs, handed_logs}
-use Rattle.node_workers.proofs.Ok.{in_ok, on_ok, ok_then}
+use Rattle.node_workers.proofs.Logging.{kept_logs, handed_logs}
+use Rattle.node_workers.proofs.Ok.{in_ok, on_ok, ok_pair, ok_then}
 use Rattle.node_workers.proofs.Stepping.{seat_counted, left_both}
 use Rattle.node_workers.proofs.Working.{none-waits}
 use Rattle.node_workers.proofs.turns.log_at.Goals as goal
@@ -26,8 +27,8 @@ pub in_turn-seat-requires-clause-can : goal.in_turn-seat-requires-clause-can
 in_turn-seat-requires-clause-can g c =
     let d = c.args.desk.now in
     let ok = c.requires.desk in
-    let sent = c.requires.sent ∙ ap (sent_of c.args.counts.now) (sym ok.session) in (
-      c.requires.kept,
+    let sent = c.requires.sent ∙ ap (sent_of g.E.Sent.counts) (sym ok.session) in (
+      c.requires.packs,
       subst (λ k. DeskOk (node_of c.args.seat (g.A.Access.seen c.args.access)) k d) (sym ok.session) ok,
       λ user e k allowed has.
           let own = c.requires.home user k e allowed.0.0 (subst (λ s. HasRank s k e) ok.session has) in
@@ -35,8 +36,20 @@ in_turn-seat-requires-clause-can g c =
       omega (arith, c.requires.few),
     )
 
-pub returns-then-not-is_ready-clause-done : goal.returns-then-not-is_ready-clause-done
-returns-then-not-is_ready-clause-done g c = on_ok _ c.in-Ok.is c.in_turn-seat.ensures.done
+pub returns-then-not-is_ready-clause-ok : goal.returns-then-not-is_ready-clause-ok
+returns-then-not-is_ready-clause-ok g c =
+    let p = g.A.Law.Rules in
+    let r = g.S.Replica in
+    let back = c.in_turn-seat.result in
+    let d = c.in_turn-seat.new.on in
+    let s = c.args.session in
+    let counts = g.E.Sent.counts in
+    let same : slice_set counts s c.keep.new.desk.sent ≡ counts = ap (λ (x : Desk). slice_set counts s x.sent) c.keep.ensures
+    ∙ still_sent counts s d.sent (ap (λ (x : Desk). x.sent) (in_ok _ c.in-Ok.is c.in_turn-seat.ensures.did).0.desk ∙ c.requires.sent) in
+    subst (λ cs. SeatOk (Sends back.part.who p.may cs (g.A.Access.seen back.access)) p.floor p.shelf r.state r.spells (g.A.Access.seen back.access) back.part) (sym same) (on_ok _ c.in-Ok.is c.in_turn-seat.ensures.ok)
+
+pub returns-then-not-is_ready-clause-kept : goal.returns-then-not-is_ready-clause-kept
+returns-then-not-is_ready-clause-kept g c = on_ok _ c.in-Ok.is (c.in_turn-seat.ensures.kept c.requires.kept)
 
 pub returns-then-not-is_ready-clause-adds : goal.returns-then-not-is_ready-clause-adds
 returns-then-not-is_ready-clause-adds g c = on_ok _ c.in-Ok.is c.in_turn-seat.ensures.adds
@@ -51,25 +64,23 @@ returns-then-not-is_ready-clause-logs g c =
     let mid = node_of c.in_turn-seat.result.part (g.A.Access.seen c.in_turn-seat.result.access) in
     let d = c.in_turn-seat.new.on in
     let s = c.args.session in
-    let counts = c.args.counts.now in
+    let counts = g.E.Sent.counts in
     let r = (in_ok _ c.in-Ok.is c.in_turn-seat.ensures.did).0 in
-    subst (λ (x : Desk). LogsIt p.may p.floor p.shelf counts counts old mid s c.args.desk.now x) (sym c.keep.ensures)
-    (kept_logs p.may p.floor p.shelf c.requires.run.low counts old mid s c.args.desk.now d (subst (λ b. Readies (OwnWithin c.args.seat.who p.may counts) p.floor p.shelf old mid c.args.desk.now d b) c.if-not-is_ready.true r) c.requires.sent)
+    let now : Desk = record d { asked = d.asked + 1 } in
+    subst (λ (x : Desk). LogsIt p.may p.floor p.shelf (slice_set counts s x.sent) old mid s c.args.desk.now x) (sym c.keep.ensures)
+    (subst (λ cs. LogsIt p.may p.floor p.shelf cs old mid s c.args.desk.now now) (sym (still_sent counts s d.sent (ap (λ (x : Desk). x.sent) r.desk ∙ c.requires.sent)))
+    (kept_logs p.may p.floor p.shelf c.requires.run.low counts old mid s c.args.desk.now d (subst (λ b. Readies (OwnWithin c.args.seat.who p.may counts) p.floor p.shelf old mid c.args.desk.now d b) c.if-not-is_ready.true r)))
 
 pub in_turn-requires-clause-seat : goal.in_turn-requires-clause-seat
 in_turn-requires-clause-seat g c =
     let p = g.A.Law.Rules in
     let r = g.S.Replica in
-    let counts = c.args.counts.now in
-    let counts' = c.count.new.counts in
-    let one : OneMore counts counts' c.args.session = record { own = c.count.ensures.own; others = c.count.ensures.others } in
-    seat_counted c.in_turn-seat.result.part.who p.may p.floor p.shelf r.state r.spells counts counts' (g.A.Access.seen c.in_turn-seat.result.access) c.in_turn-seat.result.part (counts-rise counts counts' c.args.session one) (on_ok _ c.in-Ok.is c.in_turn-seat.ensures.done).ok
-
-pub in_turn-requires-clause-keeps : goal.in_turn-requires-clause-keeps
-in_turn-requires-clause-keeps g c = (on_ok _ c.in-Ok.is c.in_turn-seat.ensures.done).keeps
-
-pub in_turn-requires-clause-high : goal.in_turn-requires-clause-high
-in_turn-requires-clause-high g c = (on_ok _ c.in-Ok.is c.in_turn-seat.ensures.done).high
+    let counts = g.E.Sent.counts in
+    let d = c.in_turn-seat.new.on in
+    let back = c.in_turn-seat.result in
+    let is = (in_ok _ c.in-Ok.is c.in_turn-seat.ensures.did).0.desk in
+    let sent : d.sent ≡ sent_of counts d.session = ap (λ (x : Desk). x.sent) is ∙ c.requires.sent ∙ ap (sent_of counts) (sym (ap (λ (x : Desk). x.session) is ∙ c.requires.desk.session)) in
+    seat_counted back.part.who p.may p.floor p.shelf r.state r.spells counts (slice_set counts d.session (d.sent + 1)) (g.A.Access.seen back.access) back.part (set_rises counts d.session (d.sent + 1) (omega (arith, sent))) (on_ok _ c.in-Ok.is c.in_turn-seat.ensures.ok)
 
 pub in_turn-requires-clause-can : goal.in_turn-requires-clause-can
 in_turn-requires-clause-can g c =
@@ -80,7 +91,7 @@ in_turn-requires-clause-can g c =
     let mid = node_of seat journal in
     let d = c.in_turn-seat.new.on in
     let cmd = c.args.command.now in
-    let counts' = c.count.new.counts in
+    let counts' = slice_set g.E.Sent.counts d.session (d.sent + 1) in
     let did = in_ok _ c.in-Ok.is c.in_turn-seat.ensures.did in
     let r = did.0 in
     let ok = did.1 in
@@ -92,7 +103,7 @@ in_turn-requires-clause-can g c =
     let sent : d.sent ≡ was.sent = ap (λ (x : Desk). x.sent) r.desk in
     let stands : DeskOk mid d.session d = subst (λ k. DeskOk mid k d) (sym own_s) ok in
     let all : d.sent ≡ d.asked = (ok.given free.0 (subst (λ q. cause_in q mid.outbox.given ≡ None) own_s free.1)).0 in
-    let counted : d.sent + 1 ≡ sent_of counts' d.session = ap (λ n. n + 1) (sent ∙ c.requires.sent) ∙ (sym c.count.ensures.own ∙ ap (sent_of counts') (sym named)) in
+    let counted : d.sent + 1 ≡ sent_of counts' d.session = sym (set_sent g.E.Sent.counts d.session (d.sent + 1) (omega (arith, named, c.requires.wide))) in
     let n = d.sent + 1 in
     let item = session_item d.session n cmd in
     let small : n < 2 ^ 64 = omega (arith, c.requires.few, asked, all) in
@@ -106,7 +117,7 @@ in_turn-requires-clause-can g c =
     let origin : seat.node.replica.origin ≡ seat.who = keeps.origin ∙ (c.requires.origin ∙ sym keeps.who) in
     let waits = subst (All IsOfSession) (sym did.2) c.requires.waits in
     record {
-      kept = r.moves.goes.packs c.requires.kept;
+      kept = r.moves.goes.packs c.requires.packs;
       stands = stands;
       stopped = free.0;
       given = free.1;
@@ -118,7 +129,7 @@ in_turn-requires-clause-can g c =
       spelled = c.requires.spelled;
       short = c.requires.short;
       own = subst (λ o. Sends seat.who p.may counts' journal seat.who (packed o (seat.node.replica.kept ++ item ∷ []))) (sym origin)
-          (sends-next p.may counts' journal seat.who seat.node.replica.kept item (c.requires.run.join seat.who) (r.moves.goes.packs c.requires.kept) waits
+          (sends-next p.may counts' journal seat.who seat.node.replica.kept item (c.requires.run.join seat.who) (r.moves.goes.packs c.requires.packs) waits
           (λ waiting. subst (λ o. OwnWithin seat.who p.may counts' seat.who (packed o seat.node.replica.kept)) origin ((in_turn-requires-clause-seat g c).node.waiting waiting).0)
           fine (session-command d.session n cmd stands.known some small c.requires.spelled) own);
     }
@@ -159,13 +170,31 @@ returns-clause-logs g c =
     let was = c.args.desk.now in
     let d = c.in_turn-seat.new.on in
     let s = c.args.session in
-    let counts = c.args.counts.now in
-    let counts' = c.count.new.counts in
+    let counts = g.E.Sent.counts in
+    let counts' = slice_set counts d.session (d.sent + 1) in
     let r = (in_ok _ c.in-Ok.is c.in_turn-seat.ensures.did).0 in
     let named : d.session ≡ s = ap (λ (x : Desk). x.session) r.desk ∙ c.requires.desk.session in
+    let is = c.in_turn.new.on in
+    let sent : d.sent ≡ sent_of counts d.session = ap (λ (x : Desk). x.sent) r.desk ∙ c.requires.sent ∙ ap (sent_of counts) (sym named) in
     ok_then c.in_turn.result.answer c.in_turn.ensures.did
-    (λ x h. handed_logs p.may p.floor p.shelf c.requires.run.low counts counts' old mid new s was d c.in_turn.new.on (record { own = c.count.ensures.own; others = c.count.ensures.others })
-    (subst (λ b. Readies (OwnWithin c.args.seat.who p.may counts) p.floor p.shelf old mid was d b) c.if-not-is_ready.false r) (subst (λ q. HandsIn (OwnWithin c.in_turn-seat.result.part.who p.may counts') p.floor p.shelf mid new q d.sent) named h.hands) c.requires.sent h.counts)
+    (λ x h. subst (λ cs. LogsIt p.may p.floor p.shelf cs old new s was is) (ap (λ k. slice_set counts k (d.sent + 1)) named ∙ ap (λ (y : Desk). slice_set counts s y.sent) (sym h.counts))
+    (handed_logs p.may p.floor p.shelf c.requires.run.low counts counts' old mid new s was d is (set_rises counts d.session (d.sent + 1) (omega (arith, sent)))
+    (subst (λ b. Readies (OwnWithin c.args.seat.who p.may counts) p.floor p.shelf old mid was d b) c.if-not-is_ready.false r) (subst (λ q. HandsIn (OwnWithin c.in_turn-seat.result.part.who p.may counts') p.floor p.shelf mid new q d.sent) named h.hands) h.counts))
+
+pub returns-clause-ok : goal.returns-clause-ok
+returns-clause-ok g c =
+    let p = g.A.Law.Rules in
+    let r = g.S.Replica in
+    let back = c.in_turn.result in
+    let counts = g.E.Sent.counts in
+    let d = c.in_turn-seat.new.on in
+    let s = c.args.session in
+    let named : d.session ≡ s = ap (λ (x : Desk). x.session) (in_ok _ c.in-Ok.is c.in_turn-seat.ensures.did).0.desk ∙ c.requires.desk.session in
+    ok_then back.answer (ok_pair _ _ back.answer c.in_turn.ensures.ok c.in_turn.ensures.did)
+    (λ x h. subst (λ cs. SeatOk (Sends back.part.who p.may cs (g.A.Access.seen back.access)) p.floor p.shelf r.state r.spells (g.A.Access.seen back.access) back.part) (ap (λ k. slice_set counts k (d.sent + 1)) named ∙ ap (λ (y : Desk). slice_set counts s y.sent) (sym h.1.counts)) h.0)
 
 pub returns-clause-left : goal.returns-clause-left
 returns-clause-left g c = left_both c.in_turn-seat.ensures.left c.in_turn.ensures.left
+
+pub returns-clause-kept : goal.returns-clause-kept
+returns-clause-kept g c = c.in_turn.ensures.kept (on_ok _ c.in-Ok.is (c.in_turn-seat.ensures.kept c.requires.kept))

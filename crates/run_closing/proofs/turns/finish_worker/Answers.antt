@@ -1,19 +1,19 @@
-use Rattle.std.proofs.Common.{◌≡◌, [], sym, ◌∙◌, subst}
+use Rattle.std.proofs.Common.{◌≡◌, [], refl, sym, ◌∙◌, subst}
 use Rattle.std.specs.Prelude.{All}
 use Rattle.turn_scopes.specs.Beside.{Since, SealsByRight}
 use Rattle.turn_scopes.specs.Seats.{SeatOk, node_of}
 use Rattle.turn_scopes.proofs.Alone.{narrows_alone}
-use Rattle.node_lines.specs.Workers.{OwnWithin, Sends, IsOfSession}
+use Rattle.node_lines.specs.Workers.{OwnWithin, Sends, IsOfSession, WorkerOk, sent_by}
 use Rattle.node_workers.proofs.Ok.{ok_then, ok_pair}
 use Rattle.node_lines.proofs.Widening.{seat_wider, moves_wider, grows-since}
 use Rattle.node_lines.proofs.Scoping.{sends_grow, adds_sends}
 use Rattle.node_workers.proofs.Working.{worker_moves}
 use Rattle.run_closing.proofs.turns.finish_worker.Goals as goal
 
-pub finish_within-seat-requires-clause-narrows : goal.finish_within-seat-requires-clause-narrows
-finish_within-seat-requires-clause-narrows g c =
+pub finish_within-requires-clause-narrows : goal.finish_within-requires-clause-narrows
+finish_within-requires-clause-narrows g c =
     let p = g.A.Law.Rules in
-    narrows_alone p.may (Sends c.args.worker.seat.who p.may c.args.counts.now (g.A.Access.seen c.args.access)) p.floor p.floor p.shelf (g.A.Access.beside (g.A.Access.who c.args.access)) c.requires.alone
+    narrows_alone p.may (Sends c.args.worker.seat.who p.may (sent_by c.args.worker.desks.items) (g.A.Access.seen c.args.access)) p.floor p.floor p.shelf (g.A.Access.beside (g.A.Access.who c.args.access)) c.requires.alone
     (λ who e h. h.0.0) (λ log n h. h)
 
 pub returns-clause-worker : goal.returns-clause-worker
@@ -21,48 +21,48 @@ returns-clause-worker g c =
     let p = g.A.Law.Rules in
     let r = g.S.Replica in
     let a = c.args.worker.seat in
-    let back = c.finish_within-seat.result in
-    let b = back.part in
+    let back = c.finish_within.result in
+    let b = back.part.seat in
     let was = g.A.Access.seen c.args.access in
     let now = g.A.Access.seen back.access in
-    let counts = c.args.counts.now in
-    let e = c.finish_within-seat.ensures in
+    let counts = sent_by c.args.worker.desks.items in
+    let e = c.finish_within.ensures in
     let who : b.who ≡ a.who = e.sits ∙ (e.who ∙ sym c.requires.who) in
     let grows = grows-since b.who (g.A.Access.beside b.who) was now e.since in
     ok_then back.answer (ok_pair _ _ back.answer e.moves e.kept)
-    (λ x h. worker_moves p.may p.floor p.shelf c.requires.run r.state r.spells a.who counts was now a b c.args.worker.desks.items [] c.requires.worker
+    (λ x h. subst (λ ds. WorkerOk p.may p.floor p.shelf r.state r.spells a.who now b ds.items) (sym e.desks) (worker_moves p.may p.floor p.shelf c.requires.run r.state r.spells a.who counts was now a b c.args.worker.desks.items [] refl c.requires.worker
     (subst (λ w. SeatOk (Sends w p.may counts now) p.floor p.shelf r.state r.spells now b) (sym who)
     (seat_wider (Sends a.who p.may counts was) (Sends a.who p.may counts now) p.floor p.floor p.shelf (λ user y k. sends_grow a.who p.may counts was now grows user y k) (λ log n k. k) r.state r.spells now b e.seat))
     (subst (All IsOfSession) (sym h.1) c.requires.worker.waits)
-    (moves_wider (Sends a.who p.may counts was) (OwnWithin a.who p.may counts) p.floor p.floor p.shelf (λ user y k. k.0) (λ log n k. k) (node_of a was) (node_of b now) [] h.0))
+    (moves_wider (Sends a.who p.may counts was) (OwnWithin a.who p.may counts) p.floor p.floor p.shelf (λ user y k. k.0) (λ log n k. k) (node_of a was) (node_of b now) [] h.0)))
 
 pub returns-clause-moves : goal.returns-clause-moves
 returns-clause-moves g c =
     let p = g.A.Law.Rules in
     let a = c.args.worker.seat in
-    let back = c.finish_within-seat.result in
+    let back = c.finish_within.result in
     let was = g.A.Access.seen c.args.access in
     let now = g.A.Access.seen back.access in
-    let counts = c.args.counts.now in
-    ok_then back.answer c.finish_within-seat.ensures.moves
-    (λ x h. moves_wider (Sends a.who p.may counts was) (OwnWithin a.who p.may counts) p.floor p.floor p.shelf (λ user y k. k.0) (λ log n k. k) (node_of a was) (node_of back.part now) [] h)
+    let counts = sent_by c.args.worker.desks.items in
+    ok_then back.answer c.finish_within.ensures.moves
+    (λ x h. moves_wider (Sends a.who p.may counts was) (OwnWithin a.who p.may counts) p.floor p.floor p.shelf (λ user y k. k.0) (λ log n k. k) (node_of a was) (node_of back.part.seat now) [] h)
 
 pub returns-clause-adds : goal.returns-clause-adds
 returns-clause-adds g c =
     let p = g.A.Law.Rules in
-    adds_sends c.args.worker.seat.who p.may c.args.counts.now p.floor p.shelf (g.A.Access.seen c.args.access) (g.A.Access.seen c.finish_within-seat.result.access) c.finish_within-seat.ensures.seat.node.legal
+    adds_sends c.args.worker.seat.who p.may (sent_by c.args.worker.desks.items) p.floor p.shelf (g.A.Access.seen c.args.access) (g.A.Access.seen c.finish_within.result.access) c.finish_within.ensures.seat.node.legal
 
 pub returns-clause-left : goal.returns-clause-left
 returns-clause-left g c =
     let p = g.A.Law.Rules in
     let r = g.S.Replica in
-    let e = c.finish_within-seat.ensures in
-    let b = c.finish_within-seat.result.part in
+    let e = c.finish_within.ensures in
+    let b = c.finish_within.result.part.seat in
     let was = g.A.Access.seen c.args.access in
-    let now = g.A.Access.seen c.finish_within-seat.result.access in
+    let now = g.A.Access.seen c.finish_within.result.access in
     let who : b.who ≡ c.args.worker.seat.who = e.sits ∙ (e.who ∙ sym c.requires.who) in
     record {
-      stands = seat_wider (Sends c.args.worker.seat.who p.may c.args.counts.now was) p.may p.floor p.floor p.shelf (λ user x k. k.0.0) (λ log n k. k) r.state r.spells now b e.seat;
+      stands = seat_wider (Sends c.args.worker.seat.who p.may (sent_by c.args.worker.desks.items) was) p.may p.floor p.floor p.shelf (λ user x k. k.0.0) (λ log n k. k) r.state r.spells now b e.seat;
       who = who;
       since = subst (λ w. Since w (g.A.Access.beside w) was now) who e.since;
       seals = subst (λ w. SealsByRight ⊥ w was now) who e.right;

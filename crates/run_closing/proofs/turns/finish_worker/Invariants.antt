@@ -1,7 +1,7 @@
-use Rattle.node_lines.specs.Workers.{Sends}
+use Rattle.node_lines.specs.Workers.{Sends, sent_by}
 use Rattle.run_closing.proofs.turns.finish_worker.Given as goal
 
 abbrev pub ghosts-finish_within : goal.ghosts-finish_within
 ghosts-finish_within g a =
     let seen = g.A.Access.seen a.access in
-    record { who = g.A.Access.who a.access; sends = Sends a.seat.who g.A.Law.Rules.may a._counts.now seen; seals = λ _. ⊥; floor = g.A.Law.Rules.floor; since = seen }
+    record { who = g.A.Access.who a.access; sends = Sends a.worker.seat.who g.A.Law.Rules.may (sent_by a.worker.desks.items) seen; seals = λ _. ⊥; floor = g.A.Law.Rules.floor; since = seen }

@@ -6,15 +6,15 @@ use Rattle.node_lines.specs.Workers.{ReportsUpTo}
 use Rattle.run_ends.proofs.ends.what_closed_has_ended.Goals as goal
 
 pub returns : goal.returns
-returns g c = let p = g.P.Rules in let replica = g.S.Replica in λ run lines journal counts looks log workers o yard mine floor_is h are end back told registered. (
-  played_lines p.may p.floor p.shelf replica.state replica.spells run lines journal counts looks log workers o yard mine floor_is h are end back told registered,
-  run_ended p.may p.floor p.shelf replica.state replica.spells run lines journal counts looks log workers o yard mine floor_is h are end back told registered
+returns g c = let p = g.P.Rules in let replica = g.S.Replica in λ run lines journal looks log workers o yard mine floor_is h are end back told registered. (
+  played_lines p.may p.floor p.shelf replica.state replica.spells run lines journal looks log workers o yard mine floor_is h are end back told registered,
+  run_ended p.may p.floor p.shelf replica.state replica.spells run lines journal looks log workers o yard mine floor_is h are end back told registered
       (λ below reached clean. c.the_log_stands.ensures journal log yard.cells back.legal h.front below reached back.shows back.tail clean)
-      (c.each_line_has_ended.ensures run lines o.rows journal counts looks log workers h are)
-      (λ s. c.each_session_has_ended.ensures run lines o.rows journal counts looks log workers s h are)
-      (c.the_faults_were_counted.ensures run lines o.rows journal counts looks log workers o yard h are back)
-      (λ k low high. c.what_is_trimmed_was_told.ensures.each lines (length workers) h.course counts looks k floor_is h.ok low high)
-      (c.what_is_trimmed_was_told.ensures.some lines (length workers) h.course counts looks (cursor_of workers) floor_is h.ok (λ k low high.
+      (c.each_line_has_ended.ensures run lines o.rows journal looks log workers h are)
+      (λ s. c.each_session_has_ended.ensures run lines o.rows journal looks log workers s h are)
+      (c.the_faults_were_counted.ensures run lines o.rows journal looks log workers o yard h are back)
+      (λ k low high. c.what_is_trimmed_was_told.ensures.each lines (length workers) h.course h.counts looks k floor_is h.ok low high)
+      (c.what_is_trimmed_was_told.ensures.some lines (length workers) h.course h.counts looks (cursor_of workers) floor_is h.ok (λ k low high.
       let w = some_at workers (k - 1) (omega (arith, low, high)) in
       let same : k ≡ k - 1 + 1 = omega (arith, low) in
       let reports = (h.each (k - 1) w.0 w.1).rests.worker.reports in

@@ -3,11 +3,10 @@ use Rattle.engine_api.specs.declared.content.Content.TheVariants as content
 use Rattle.engine_api.specs.Items.{content_of}
 use Rattle.engine_api.specs.Members.{clean_position}
 use Rattle.engine_api.specs.Packing.{packed, alive_item}
-use Rattle.turn_scopes.specs.Seats.{node_of}
+use Rattle.turn_scopes.specs.Seats.{SeatOk, node_of}
 use Rattle.node_lines.specs.declared.lines.Looked.TheVariants as looked
 use Rattle.node_lines.specs.Reporting.{IsPlain, Tells, Reports}
-use Rattle.node_lines.specs.Workers.{OwnWithin, OwnAdds, IsOfSessions, ReportAdds}
-use Rattle.node_lines.specs.Steps.{IsDone}
+use Rattle.node_lines.specs.Workers.{OwnWithin, OwnAdds, IsKept, IsOfSessions, ReportAdds, Sends}
 use Rattle.node_lines.proofs.Assembling.{reports_unmeasured}
 use Rattle.node_workers.proofs.Joining.{says-one}
 use Rattle.node_workers.proofs.Stepping.{left_both}
@@ -15,8 +14,11 @@ use Rattle.node_workers.proofs.Ok.{on_ok, in_ok_at, ok_pair, ok_comes}
 use Rattle.node_workers.proofs.Telling.{measured_low, may_say, reports, report_adds, report_adds_none}
 use Rattle.node_workers.proofs.admin.ReportLineOwnLine.go.Goals as goal
 
-pub returns-in-Failed-clause-done : goal.returns-in-Failed-clause-done
-returns-in-Failed-clause-done g c = on_ok _ c.in-Ok.is c.in_turn-seat.ensures.done
+pub returns-in-Failed-clause-ok : goal.returns-in-Failed-clause-ok
+returns-in-Failed-clause-ok g c = on_ok _ c.in-Ok.is c.in_turn-seat.ensures.ok
+
+pub returns-in-Failed-clause-kept : goal.returns-in-Failed-clause-kept
+returns-in-Failed-clause-kept g c = on_ok _ c.in-Ok.is (c.in_turn-seat.ensures.kept c.requires.kept)
 
 pub returns-in-Failed-clause-adds : goal.returns-in-Failed-clause-adds
 returns-in-Failed-clause-adds g c =
@@ -26,24 +28,12 @@ returns-in-Failed-clause-adds g c =
 pub returns-in-Failed-clause-did : goal.returns-in-Failed-clause-did
 returns-in-Failed-clause-did g c =
     let p = g.A.Law.Rules in
-    reports_unmeasured (OwnWithin c.args.seat.who p.may c.args.counts.now) p.floor p.shelf c.requires.run.low clean_position (node_of c.args.seat (g.A.Access.seen c.args.access))
+    reports_unmeasured (OwnWithin c.args.seat.who p.may g.E.Sent.counts) p.floor p.shelf c.requires.run.low clean_position (node_of c.args.seat (g.A.Access.seen c.args.access))
     (node_of c.in_turn-seat.result.part (g.A.Access.seen c.in_turn-seat.result.access)) c.in-Failed.cause
     (in_ok_at _ c.in-Ok.is c.in-Failed.is c.in_turn-seat.ensures.did)
 
 pub tell-seat-requires-clause-seat : goal.tell-seat-requires-clause-seat
-tell-seat-requires-clause-seat g c = (on_ok _ c.in-Ok.is c.in_turn-seat.ensures.done).ok
-
-pub tell-seat-requires-clause-high : goal.tell-seat-requires-clause-high
-tell-seat-requires-clause-high g c = (on_ok _ c.in-Ok.is c.in_turn-seat.ensures.done).high
-
-pub tell-seat-requires-clause-keeps : goal.tell-seat-requires-clause-keeps
-tell-seat-requires-clause-keeps g c = (on_ok _ c.in-Ok.is c.in_turn-seat.ensures.done).keeps
-
-pub tell-seat-requires-clause-low : goal.tell-seat-requires-clause-low
-tell-seat-requires-clause-low g c = λ user there what says.
-    let p = g.A.Law.Rules in
-    measured_low (OwnWithin c.args.seat.who p.may c.args.counts.now) p.floor p.shelf (node_of c.args.seat (g.A.Access.seen c.args.access)) (node_of c.in_turn-seat.result.part (g.A.Access.seen c.in_turn-seat.result.access)) c.in-At.position
-    c.args.self.number (content_of c.in-Ok-alive_item.value) (in_ok_at _ c.in-Ok.is c.in-At.is c.in_turn-seat.ensures.did) c.in-Ok-alive_item.ensures.says what says
+tell-seat-requires-clause-seat g c = on_ok _ c.in-Ok.is c.in_turn-seat.ensures.ok
 
 pub tell-seat-requires-clause-can : goal.tell-seat-requires-clause-can
 tell-seat-requires-clause-can g c =
@@ -59,7 +49,7 @@ tell-seat-requires-clause-can g c =
       none = m.none;
       unsettled = m.unsettled;
       kept = m.kept;
-      own = may_say g.A.Law.Rules.may c.args.counts.now a.who b.who b.node.replica.origin c.in-Ok-alive_item.value (alive_item a.who c.in-At.position) k.who
+      own = may_say g.A.Law.Rules.may g.E.Sent.counts a.who b.who b.node.replica.origin c.in-Ok-alive_item.value (alive_item a.who c.in-At.position) k.who
           (k.origin ∙ c.requires.origin) (made.item ∙ ap (λ n. alive_item n c.in-At.position) (sym c.requires.can.0)) made.proposable plain
           (c.requires.can.1 c.in-At.position (let small : c.in-At.position < 2 ^ 64 = omega arith in small));
     }
@@ -68,7 +58,7 @@ pub returns-clause-did : goal.returns-clause-did
 returns-clause-did g c =
     let p = g.A.Law.Rules in
     let made = c.in-Ok-alive_item.ensures in
-    let counts = c.args.counts.now in
+    let counts = g.E.Sent.counts in
     let old = node_of c.args.seat (g.A.Access.seen c.args.access) in
     let mid = node_of c.in_turn-seat.result.part (g.A.Access.seen c.in_turn-seat.result.access) in
     let now = node_of c.tell-seat.result.part (g.A.Access.seen c.tell-seat.result.access) in
@@ -83,7 +73,7 @@ returns-clause-adds g c =
     let p = g.A.Law.Rules in
     let a = c.args.seat in
     let b = c.in_turn-seat.result.part in
-    let counts = c.args.counts.now in
+    let counts = g.E.Sent.counts in
     let was = g.A.Access.seen c.args.access in
     let seen = g.A.Access.seen c.in_turn-seat.result.access in
     let now = g.A.Access.seen c.tell-seat.result.access in
@@ -95,19 +85,32 @@ returns-clause-adds g c =
     let told = packed b.node.replica.origin (item ∷ []) in
     let same = c.in_turn-seat.ensures.left.who in
     ok_comes (ReportAdds a.who c.tell-seat.result.part.node.replica.cursor was now) c.tell-seat.result.answer c.came_to.ensures (ok_pair _ _ c.tell-seat.result.answer c.tell-seat.ensures.did c.tell-seat.ensures.adds)
-    (λ failed h. report_adds (OwnWithin a.who p.may counts) p.floor p.shelf c.requires.run.low old mid new a.who c.in-At.position told failed (in_ok_at _ c.in-Ok.is c.in-At.is c.in_turn-seat.ensures.did)
+    (λ failed h. report_adds (OwnWithin a.who p.may counts) p.floor p.shelf c.requires.run.low p.may c.requires.run (λ user e k. k.0) old mid new a.who c.in-At.position told failed (in_ok_at _ c.in-Ok.is c.in-At.is c.in_turn-seat.ensures.did)
     (subst (λ w. Tells (OwnWithin w p.may counts) p.floor p.shelf mid new item failed) same h.0).moves
     (on_ok _ c.in-Ok.is c.in_turn-seat.ensures.adds) (subst (λ w. OwnAdds w (λ e. IsOfSessions e ⊎ (e ≡ told)) seen now) same h.1)
     (says-one b.node.replica.origin item (content.Alive a.who c.in-At.position) made.proposable
     (made.says ∙ ap (λ n. Some (content.Alive n c.in-At.position)) (sym c.requires.can.0))))
 
-pub returns-clause-done : goal.returns-clause-done
-returns-clause-done g c =
+pub returns-clause-ok : goal.returns-clause-ok
+returns-clause-ok g c =
     let p = g.A.Law.Rules in
     let r = g.S.Replica in
     let back = c.tell-seat.result in
-    ok_comes (λ _. IsDone p.may p.floor p.shelf r.state r.spells g.A.Access.beside c.args.counts.now (g.A.Access.seen back.access) back.part) back.answer c.came_to.ensures c.tell-seat.ensures.done
-    (λ x h. h)
+    let now = g.A.Access.seen back.access in
+    ok_comes (λ _. SeatOk (Sends back.part.who p.may g.E.Sent.counts now) p.floor p.shelf r.state r.spells now back.part) back.answer c.came_to.ensures c.tell-seat.ensures.ok (λ x h. h)
+
+pub returns-clause-kept : goal.returns-clause-kept
+returns-clause-kept g c =
+    let p = g.A.Law.Rules in
+    let back = c.tell-seat.result in
+    let mid = c.in_turn-seat.result.part in
+    ok_comes (λ _. IsKept g.A.Access.beside p.floor back.part (g.A.Access.seen back.access)) back.answer c.came_to.ensures
+    (c.tell-seat.ensures.kept (record {
+      kept = on_ok _ c.in-Ok.is (c.in_turn-seat.ensures.kept c.requires.kept);
+      low = λ user there what says.
+          measured_low (OwnWithin c.args.seat.who p.may g.E.Sent.counts) p.floor p.shelf (node_of c.args.seat (g.A.Access.seen c.args.access)) (node_of mid (g.A.Access.seen c.in_turn-seat.result.access)) c.in-At.position
+          c.args.self.number (content_of c.in-Ok-alive_item.value) (in_ok_at _ c.in-Ok.is c.in-At.is c.in_turn-seat.ensures.did) c.in-Ok-alive_item.ensures.says what says;
+    })) (λ x h. h)
 
 pub returns-clause-left : goal.returns-clause-left
 returns-clause-left g c = left_both c.in_turn-seat.ensures.left c.tell-seat.ensures.left

@@ -1,24 +1,16 @@
 -- What entries say that were appended: who told of itself that it left, or how much it needs no more.
-use Rattle.std.proofs.Common.{◌≡◌, refl, ◌∙◌, ◌⊎◌, inl, inr, ⊎_elim, ℕ, ◌≤◌, Bool, true, false, List, Contains, arith}
+use Rattle.std.proofs.Common.{◌≡◌, refl, sym, ◌∙◌, subst, ◌⊎◌, inl, inr, ⊎_elim, ℕ, ◌<◌, ◌≤◌, Bool, true, false, List, Contains, arith}
+use Rattle.std.proofs.lemmas.Bool.{cases_lt}
 use Rattle.delos_types.specs.declared.entry.Entry.{Entry}
 use Rattle.legal_journal.specs.declared.events.Event.{Event}
 use Rattle.journal_laws.specs.Changes.{appended}
 use Rattle.engine_api.specs.declared.content.Content.{Content}
 use Rattle.engine_api.specs.declared.content.Content.TheVariants as content
 use Rattle.engine_api.specs.declared.content.Placed.{Placed}
-use Rattle.engine_api.specs.Items.{unpack}
 use Rattle.engine_api.specs.Acted.{unpack_all}
-use Rattle.engine_api.specs.Members.{has_left, position_of}
-use Rattle.log_laws.proofs.Membership.{left_says, position_says, unpack_says}
-use Rattle.node_lines.specs.Workers.{HasNotLeft, ReportsUpTo}
-
--- an entry that was appended says it
-pub record IsSaid (seen : List Event) (c : Content) : Type 0 where
-  pub entry : Entry
-  pub appended_is : Contains (appended seen) entry
-  pub placed : Placed
-  pub among : Contains (unpack 0 entry) placed
-  pub is : placed.content ≡ c
+use Rattle.engine_api.specs.Members.{has_left, least_position, position_of}
+use Rattle.log_laws.proofs.Membership.{least_some, left_says, position_says, unpack_says}
+use Rattle.node_lines.specs.Workers.{HasNotLeft, IsReported, IsSaid, ReportsUpTo}
 
 module _ (seen : List Event) (log : List Entry) (each : (e : Entry) → Contains log e → Contains (appended seen) e) where
   said : (p : Placed) (c : Content) → Contains (unpack_all 0 log) p → p.content ≡ c → IsSaid seen c
@@ -47,3 +39,15 @@ module _ (seen : List Event) (log : List Entry) (each : (e : Entry) → Contains
   position_low k cursor upto = ⊎_elim (λ (none : position_of (unpack_all 0 log) k ≡ 0). omega (arith, none))
       (λ (s : IsSaid seen (content.Alive k (position_of (unpack_all 0 log) k))). upto s.entry s.placed s.appended_is s.among (position_of (unpack_all 0 log) k) s.is)
       (position_said k)
+
+  -- .. and the least position of a member some node reported, or it is none
+  pub least_said : (nodes : ℕ) → IsReported seen (least_position nodes (unpack_all 0 log))
+  least_said nodes = ⊎_elim
+      (λ (some : 0 < least_position nodes (unpack_all 0 log)).
+      let first = least_some nodes (unpack_all 0 log) some in
+      ⊎_elim
+      (λ (none : position_of (unpack_all 0 log) first.node ≡ 0). inl (first.is ∙ none))
+      (λ (s : IsSaid seen (content.Alive first.node (position_of (unpack_all 0 log) first.node))). inr (first.node, subst (λ n. IsSaid seen (content.Alive first.node n)) (sym first.is) s))
+      (position_said first.node))
+      (λ (none : least_position nodes (unpack_all 0 log) ≤ 0). inl (omega (arith, none)))
+      (cases_lt 0 (least_position nodes (unpack_all 0 log)))
