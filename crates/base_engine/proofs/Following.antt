@@ -7,6 +7,7 @@ use Rattle.delos_types.specs.Spaces.{SpaceMap}
 use Rattle.delos_types.specs.declared.entry.Entry.{Entry}
 use Rattle.disk_model.specs.Crash.{AnyCrash}
 use Rattle.disk_model.specs.CrashLaws.{stays, joined, weaker}
+use Rattle.legal_journal.specs.Law.{Law}
 use Rattle.legal_journal.specs.declared.events.Event.{Event}
 use Rattle.legal_journal.specs.Journal.{IsLegal}
 use Rattle.virtual_log.specs.Turning.{Later, FirstTurn, IsAbove}
@@ -167,11 +168,11 @@ module _ (holds : List Event → ℕ → Entry → Type 0) (state : List Entry �
 
 -- As the journal goes on
 
-module _ (may : ℕ → Entry → Type 0) (floor : List Entry → ℕ → Type 0) (shelf : List ℕ) (holds : List Event → ℕ → Entry → Type 0) (state : List Entry → SpaceMap → Type 0) (spells : List ℕ → Saved → Type 0) (holding : Stays may floor shelf holds) where
-  held_later : (old new : List Event) (pos : ℕ) (e : Entry) → Later may floor shelf old new → holds old pos e → holds new pos e
-  held_later old new pos e later h = subst (λ es. holds es pos e) (sym later.seen) (holding old later.more pos e (subst (IsLegal may floor shelf) later.seen later.legal) h)
+module _ (law : Law) (holds : List Event → ℕ → Entry → Type 0) (state : List Entry → SpaceMap → Type 0) (spells : List ℕ → Saved → Type 0) (holding : Stays law holds) where
+  held_later : (old new : List Event) (pos : ℕ) (e : Entry) → Later law old new → holds old pos e → holds new pos e
+  held_later old new pos e later h = subst (λ es. holds es pos e) (sym later.seen) (holding old later.more pos e (subst (IsLegal law) later.seen later.legal) h)
 
-  state_later : (old new : List Event) (s : Saved) → Later may floor shelf old new → IsStateAt holds state old s → IsStateAt holds state new s
+  state_later : (old new : List Event) (s : Saved) → Later law old new → IsStateAt holds state old s → IsStateAt holds state new s
   state_later old new s later h = record {
     log = h.log;
     size = h.size;
@@ -179,7 +180,7 @@ module _ (may : ℕ → Entry → Type 0) (floor : List Entry → ℕ → Type 0
     led = h.led;
   }
 
-  pub follows_later : (old new : List Event) (v : ReplicaView) → Later may floor shelf old new → Follows holds state spells old v → Follows holds state spells new v
+  pub follows_later : (old new : List Event) (v : ReplicaView) → Later law old new → Follows holds state spells old v → Follows holds state spells new v
   follows_later old new v later h = record {
     now = state_later old new (saved_in v) later h.now;
     asked = λ s is. let k = h.asked s is in record { entry = k.entry; held = held_later old new v.cursor k.entry later k.held; led = k.led; next = k.next };
@@ -187,14 +188,14 @@ module _ (may : ℕ → Entry → Type 0) (floor : List Entry → ℕ → Type 0
   }
 
   -- it went on, and went on again
-  pub goes_after : (old new : List Event) (a b c : Saved) → Later may floor shelf old new → GoesOn holds state old a b → GoesOn holds state new b c → GoesOn holds state new a c
+  pub goes_after : (old new : List Event) (a b c : Saved) → Later law old new → GoesOn holds state old a b → GoesOn holds state new b c → GoesOn holds state new a c
   goes_after old new a b c later f g =
       goes_on holds state spells new a b c
       (record { entries = f.entries; size = f.size; held = λ k e at. held_later old new (a.cursor + k) e later (f.held k e at); led = f.led })
       g
 
   -- one run after another
-  pub crash_on : (old new : List Event) (a b v : ReplicaView) → Later may floor shelf old new → a.cursor ≤ b.cursor
+  pub crash_on : (old new : List Event) (a b v : ReplicaView) → Later law old new → a.cursor ≤ b.cursor
       → AnyCrash a.disk b.disk (SpellsOne spells (IsFound holds state old a.cursor))
       → AnyCrash b.disk v.disk (SpellsOne spells (IsFound holds state new b.cursor))
       → AnyCrash a.disk v.disk (SpellsOne spells (IsFound holds state new a.cursor))
@@ -204,23 +205,23 @@ module _ (may : ℕ → Entry → Type 0) (floor : List Entry → ℕ → Type 0
       (weaker b.disk v.disk _ _ (λ image h. (h.0, h.1, record { at = h.2.at; forward = omega (arith, h.2.forward) })) back)
 
   -- only what waits changed
-  pub follows_rest : (old new : List Event) (v w : ReplicaView) → Later may floor shelf old new → w ≡ record v { kept = w.kept } → Follows holds state spells old v → Follows holds state spells new w
+  pub follows_rest : (old new : List Event) (v w : ReplicaView) → Later law old new → w ≡ record v { kept = w.kept } → Follows holds state spells old v → Follows holds state spells new w
   follows_rest old new v w later is h =
       let k = follows_later old new v later h in
       subst (λ x. Follows holds state spells new x) (sym is) record { now = k.now; asked = k.asked; survives = k.survives }
 
-  pub crash_rest : (old new : List Event) (a b w : ReplicaView) → Later may floor shelf old new → w ≡ record b { kept = w.kept }
+  pub crash_rest : (old new : List Event) (a b w : ReplicaView) → Later law old new → w ≡ record b { kept = w.kept }
       → AnyCrash a.disk b.disk (SpellsOne spells (IsFound holds state old a.cursor))
       → AnyCrash a.disk w.disk (SpellsOne spells (IsFound holds state new a.cursor))
   crash_rest old new a b w later is h =
       subst (λ (x : ReplicaView). AnyCrash a.disk x.disk (SpellsOne spells (IsFound holds state new a.cursor))) (sym is)
       (weaker a.disk b.disk _ _ (λ image k. (k.0, k.1, record { at = state_later old new k.0 later k.2.at; forward = k.2.forward })) h)
 
-  pub trimmed_later : (old new : List Event) (pos : ℕ) → Later may floor shelf old new → IsTrimmed old pos → IsTrimmed new pos
+  pub trimmed_later : (old new : List Event) (pos : ℕ) → Later law old new → IsTrimmed old pos → IsTrimmed new pos
   trimmed_later old new pos later h = record {
     version = h.version;
     chain = h.chain;
-    given = (later_continues may floor shelf old new later).given h.version h.chain h.given;
+    given = (later_continues law old new later).given h.version h.chain h.given;
     below = h.below;
   }
 
@@ -270,8 +271,8 @@ pub known_more : (a b : ℕ) (v : ReplicaView) → a ≤ b → IsKnown a v → I
 known_more a b v le h = record { now = omega (arith, h.now); asked = λ s is. omega (arith, h.asked s is) }
 
 -- a position that was above stays so
-pub above_later : (may : ℕ → Entry → Type 0) (floor : List Entry → ℕ → Type 0) (shelf : List ℕ) (who pos : ℕ) (old mid new : List Event) → IsAbove who old pos mid → Later may floor shelf mid new → IsAbove who old pos new
-above_later may floor shelf who pos old mid new h later = record {
+pub above_later : (law : Law) (who pos : ℕ) (old mid new : List Event) → IsAbove who old pos mid → Later law mid new → IsAbove who old pos new
+above_later law who pos old mid new h later = record {
   first = record {
     others = f.others;
     apart = f.apart;

@@ -4,6 +4,7 @@ use Rattle.std.specs.Prelude.{slice_index_or, remove, All}
 use Rattle.std.proofs.lemmas.List.{append_assoc, append-nil}
 use Rattle.delos_types.specs.declared.entry.Entry.{Entry}
 use Rattle.delos_types.specs.declared.cause.Cause.{Cause}
+use Rattle.legal_journal.specs.Law.{Law}
 use Rattle.legal_journal.specs.declared.events.Event.{Event}
 use Rattle.virtual_log.specs.Turning.{Later}
 use Rattle.base_engine.specs.declared.outbox.Given.{Given}
@@ -99,8 +100,8 @@ settled_on holds who old mid new was is h on = record {
 pub no_more : (es : List Event) → (more : List Event) × (es ≡ es ++ more)
 no_more es = ([], sym (append-nil es))
 
-pub more_of : (may : ℕ → Entry → Type 0) (floor : List Entry → ℕ → Type 0) (shelf : List ℕ) (old new : List Event) → Later may floor shelf old new → (more : List Event) × (new ≡ old ++ more)
-more_of may floor shelf old new l = (l.more, l.seen)
+pub more_of : (law : Law) (old new : List Event) → Later law old new → (more : List Event) × (new ≡ old ++ more)
+more_of law old new l = (l.more, l.seen)
 
 -- the head and the rest
 pub head_rest : (es rest : List Entry) (e : Entry) → 0 < length es → e ≡ slice_index_or es 0 e → rest ≡ remove es 0 → es ≡ e ∷ rest
@@ -124,8 +125,8 @@ first_landed (Some cause) pos = refl
 pub settled_one : (holds : List Event → ℕ → Entry → Type 0) (who : ℕ) (old new : List Event) (was is : OutboxView) → Carried holds who old was new is → Settled holds who old was new is
 settled_one holds who old new was is h = settled_then holds who old new new was is is (one_more holds who old old new was was is (none_yet holds who old was) h) refl (no_more new)
 
-pub settled_none : (holds : List Event → ℕ → Entry → Type 0) (may : ℕ → Entry → Type 0) (floor : List Entry → ℕ → Type 0) (shelf : List ℕ) (who : ℕ) (old new : List Event) (was is : OutboxView) → is ≡ was → Later may floor shelf old new → Settled holds who old was new is
-settled_none holds may floor shelf who old new was is same l = settled_then holds who old old new was was is (none_yet holds who old was) same (more_of may floor shelf old new l)
+pub settled_none : (holds : List Event → ℕ → Entry → Type 0) (law : Law) (who : ℕ) (old new : List Event) (was is : OutboxView) → is ≡ was → Later law old new → Settled holds who old was new is
+settled_none holds law who old new was is same l = settled_then holds who old old new was was is (none_yet holds who old was) same (more_of law old new l)
 
 pub settled_given : (holds : List Event → ℕ → Entry → Type 0) (who : ℕ) (old new : List Event) (was is : OutboxView) (given : List Given) → Settled holds who old was new is → given ≡ is.given → Settled holds who old was new (record { entries = is.entries; given = given; unsettled = is.unsettled })
 settled_given holds who old new was is given h same = record {

@@ -5,6 +5,7 @@ use Rattle.std.proofs.lemmas.Bool.Decides.{nat_tests}
 use Rattle.delos_types.specs.declared.entry.Entry.{Entry}
 use Rattle.delos_types.specs.declared.chain.Chain.{Chain}
 use Rattle.chain_map.specs.Chain.{no_segment, first_chain}
+use Rattle.legal_journal.specs.Law.{Law}
 use Rattle.legal_journal.specs.declared.events.Event.{Event}
 use Rattle.legal_journal.specs.Moves.{Move, RegisterMove, OnCell, OnRegister, Nothing, Never, Gives, Conflicts, Writes, Faults, Fails, Mends, move}
 use Rattle.legal_journal.specs.Shown.{entry_in, end_of, is_within}
@@ -74,9 +75,9 @@ has_now cells w pos e ok h = record {
   entry = (log_from (reach w.cells) (entries w.cells) w.register.chain pos e h).1;
 }
 
-module _ (may : ℕ → Entry → Type 0) (floor : List Entry → ℕ → Type 0) (cells : ℕ) (low : (log : List Entry) (n : ℕ) → floor log n → n ≤ length log) where
+module _ (law : Law) (low : (log : List Entry) (n : ℕ) → law.floor log n → n ≤ length log) where
   -- a chain that may be written is trimmed no further than what was shown
-  follows_low : (w : State) (c : Chain) → Filled w → MayFollow w floor cells w.register.chain c → (pos : ℕ) → pos < c.trim → (e : Entry) × (w.shown pos ≡ Some e)
+  follows_low : (w : State) (c : Chain) → Filled w → MayFollow w law.floor (length law.shelf) w.register.chain c → (pos : ℕ) → pos < c.trim → (e : Entry) × (w.shown pos ≡ Some e)
   follows_low w c f (inl x) pos h = f.low pos (omega (arith, h, ap (λ (k : Chain). k.trim) x.is))
   follows_low w c f (inr x) pos h =
       let free = x.1 in
@@ -89,7 +90,7 @@ module _ (may : ℕ → Entry → Type 0) (floor : List Entry → ℕ → Type 0
   current_low w v c f (inr x) pos h = f.asked c x.1 pos h
 
   -- how a move of the register leaves the trim and a write that faulted
-  register_low : (w : State) (m : RegisterMove) → Filled w → RegisterAllowed w floor cells m → (pos : ℕ) → pos < (register_after w.register m).chain.trim → (e : Entry) × (w.shown pos ≡ Some e)
+  register_low : (w : State) (m : RegisterMove) → Filled w → RegisterAllowed w law.floor (length law.shelf) m → (pos : ℕ) → pos < (register_after w.register m).chain.trim → (e : Entry) × (w.shown pos ≡ Some e)
   register_low w (Gives v c) f a pos h = current_low w v c f a.1 pos h
   register_low w (Conflicts x v c) f a pos h = current_low w v c f a.1 pos h
   register_low w (Writes x c v) f a pos h = follows_low w c f a.2 pos h
@@ -97,62 +98,62 @@ module _ (may : ℕ → Entry → Type 0) (floor : List Entry → ℕ → Type 0
   register_low w Fails f a pos h = f.low pos h
   register_low w (Mends b) f a pos h = f.low pos h
 
-  register_asked : (w : State) (m : RegisterMove) → Filled w → RegisterAllowed w floor cells m → (c : Chain) → (register_after w.register m).asked ≡ Some c → (pos : ℕ) → pos < c.trim → (e : Entry) × (w.shown pos ≡ Some e)
+  register_asked : (w : State) (m : RegisterMove) → Filled w → RegisterAllowed w law.floor (length law.shelf) m → (c : Chain) → (register_after w.register m).asked ≡ Some c → (pos : ℕ) → pos < c.trim → (e : Entry) × (w.shown pos ≡ Some e)
   register_asked w (Gives v k) f a c is pos h = absurd (cc)
   register_asked w (Conflicts x v k) f a c is pos h = absurd (cc)
   register_asked w (Writes x k v) f a c is pos h = absurd (cc)
-  register_asked w (Faults x k) f a c is pos h = let same : k ≡ c = cc in follows_low w c f (subst (MayFollow w floor cells w.register.chain) same a.2) pos h
+  register_asked w (Faults x k) f a c is pos h = let same : k ≡ c = cc in follows_low w c f (subst (MayFollow w law.floor (length law.shelf) w.register.chain) same a.2) pos h
   register_asked w Fails f a c is pos h = f.asked c is pos h
   register_asked w (Mends b) f a c is pos h = f.asked c is pos h
 
-  step_filled : (w : State) (who : ℕ) (m : Move) → StateOk cells w → Filled w → IsAllowed w may floor cells who m → Filled (after w who m)
+  step_filled : (w : State) (who : ℕ) (m : Move) → StateOk (length law.shelf) w → Filled w → IsAllowed w law who m → Filled (after w who m)
   step_filled w who (OnCell i m) ok f a =
-      let on = step_ok may floor cells w who (OnCell i m) ok a in
+      let on = step_ok law w who (OnCell i m) ok a in
       let new = after w who (OnCell i m) in
       record {
         low = λ pos h. some_still (log_at new pos) (w.shown pos) (f.low pos h);
         asked = λ c is pos h. some_still (log_at new pos) (w.shown pos) (f.asked c is pos h);
         now = λ pos e h. ap (λ o. now_or_before o (w.shown pos)) h;
-        held = λ pos e h. ⊎_elim (λ k. has_now cells new pos e on.0 k) (λ k. has_later cells w new pos e ok on.1 (f.held pos e k)) (one_of (log_at new pos) (w.shown pos) e h);
+        held = λ pos e h. ⊎_elim (λ k. has_now (length law.shelf) new pos e on.0 k) (λ k. has_later (length law.shelf) w new pos e ok on.1 (f.held pos e k)) (one_of (log_at new pos) (w.shown pos) e h);
       }
   step_filled w who (OnRegister m) ok f a =
-      let on = step_ok may floor cells w who (OnRegister m) ok a in
+      let on = step_ok law w who (OnRegister m) ok a in
       let new = after w who (OnRegister m) in
       record {
         low = λ pos h. some_still (log_at new pos) (w.shown pos) (register_low w m f a pos h);
         asked = λ c is pos h. some_still (log_at new pos) (w.shown pos) (register_asked w m f a c is pos h);
         now = λ pos e h. ap (λ o. now_or_before o (w.shown pos)) h;
-        held = λ pos e h. ⊎_elim (λ k. has_now cells new pos e on.0 k) (λ k. has_later cells w new pos e ok on.1 (f.held pos e k)) (one_of (log_at new pos) (w.shown pos) e h);
+        held = λ pos e h. ⊎_elim (λ k. has_now (length law.shelf) new pos e on.0 k) (λ k. has_later (length law.shelf) w new pos e ok on.1 (f.held pos e k)) (one_of (log_at new pos) (w.shown pos) e h);
       }
   step_filled w who Nothing ok f a = f
   step_filled w who Never ok f a = absurd a
 
-filled_on : (may : ℕ → Entry → Type 0) (floor : List Entry → ℕ → Type 0) (shelf : List ℕ) (low : (log : List Entry) (n : ℕ) → floor log n → n ≤ length log) (w : State) (es : List Event) → StateOk (length shelf) w → Filled w → IsLegalFrom w may floor shelf es → Filled (after_all w es)
-filled_on may floor shelf low w [] ok f h = f
-filled_on may floor shelf low w (e ∷ es) ok f h =
-    filled_on may floor shelf low (after w e.who (move e)) es (step_ok may floor (length shelf) w e.who (move e) ok h.0.allowed).0 (step_filled may floor (length shelf) low w e.who (move e) ok f h.0.allowed) h.1
+filled_on : (law : Law) (low : (log : List Entry) (n : ℕ) → law.floor log n → n ≤ length log) (w : State) (es : List Event) → StateOk (length law.shelf) w → Filled w → IsLegalFrom w law es → Filled (after_all w es)
+filled_on law low w [] ok f h = f
+filled_on law low w (e ∷ es) ok f h =
+    filled_on law low (after w e.who (move e)) es (step_ok law w e.who (move e) ok h.0.allowed).0 (step_filled law low w e.who (move e) ok f h.0.allowed) h.1
 
 -- what is held is shown, or was before it was trimmed
-pub shows_all : (may : ℕ → Entry → Type 0) (floor : List Entry → ℕ → Type 0) (shelf : List ℕ) → ((log : List Entry) (n : ℕ) → floor log n → n ≤ length log) → ShowsAll may floor shelf Holds
-shows_all may floor shelf low = λ seen pos e legal h.
+pub shows_all : (law : Law) → ((log : List Entry) (n : ℕ) → law.floor log n → n ≤ length log) → ShowsAll law Holds
+shows_all law low = λ seen pos e legal h.
     let w = state_of seen in
-    let f = filled_on may floor shelf low start seen (start_ok (length shelf) legal.least legal.most) start_filled legal.steps in
+    let f = filled_on law low start seen (start_ok (length law.shelf) legal.least legal.most) start_filled legal.steps in
     let before : pos < trim_of w → w.shown pos ≡ Some e = λ under.
     let x = f.low pos under in
     let k = f.held pos x.0 x.1 in
     let held : Holds seen pos x.0 = record { version = k.version; chain = k.chain; given = k.given; entry = k.entry } in
-    x.1 ∙ ap (λ y. Some y) (holds_agree may floor shelf seen pos x.0 e legal held h) in
-    ⊎_elim before (λ at. f.now pos e at) (holds_stands may floor shelf seen pos e legal h)
+    x.1 ∙ ap (λ y. Some y) (holds_agree law seen pos x.0 e legal held h) in
+    ⊎_elim before (λ at. f.now pos e at) (holds_stands law seen pos e legal h)
 
 -- each position below the tail is held
-pub held_below : (may : ℕ → Entry → Type 0) (floor : List Entry → ℕ → Type 0) (shelf : List ℕ) → ((log : List Entry) (n : ℕ) → floor log n → n ≤ length log) → (seen : List Event) (pos : ℕ) → IsLegal may floor shelf seen → pos < tail_of (state_of seen) → (e : Entry) × Holds seen pos e
-held_below may floor shelf low seen pos legal below = by_test (nat_lt pos (trim_of w)) refl
+pub held_below : (law : Law) → ((log : List Entry) (n : ℕ) → law.floor log n → n ≤ length log) → (seen : List Event) (pos : ℕ) → IsLegal law seen → pos < tail_of (state_of seen) → (e : Entry) × Holds seen pos e
+held_below law low seen pos legal below = by_test (nat_lt pos (trim_of w)) refl
   where
     w : State
     w = state_of seen
 
     f : Filled w
-    f = filled_on may floor shelf low start seen (start_ok (length shelf) legal.least legal.most) start_filled legal.steps
+    f = filled_on law low start seen (start_ok (length law.shelf) legal.least legal.most) start_filled legal.steps
 
     here : (e : Entry) → w.shown pos ≡ Some e → (x : Entry) × Holds seen pos x
     here e h = let k = f.held pos e h in (e, record { version = k.version; chain = k.chain; given = k.given; entry = k.entry })
@@ -163,4 +164,4 @@ held_below may floor shelf low seen pos legal below = by_test (nat_lt pos (trim_
 
     by_test : (b : Bool) → nat_lt pos (trim_of w) ≡ b → (x : Entry) × Holds seen pos x
     by_test true t = let x = f.low pos (grind (arith, nat_tests)) in here x.0 x.1
-    by_test false t = some (log_at w pos) refl (whole (length shelf) w pos (sound may floor shelf seen legal) (grind (arith, nat_tests)) below)
+    by_test false t = some (log_at w pos) refl (whole (length law.shelf) w pos (sound law seen legal) (grind (arith, nat_tests)) below)

@@ -1,6 +1,6 @@
 -- The tail of the log, as entries are read.
 use Rattle.std.proofs.Common.{ℕ, ◌≤◌, List, refl, ◌∙◌, arith}
-use Rattle.delos_types.specs.declared.entry.Entry.{Entry}
+use Rattle.legal_journal.specs.Law.{Law}
 use Rattle.legal_journal.specs.declared.events.Event.{Event}
 use Rattle.legal_journal.specs.Journal.{state_of, tail_of}
 use Rattle.virtual_log.specs.Turning.{OnlyOwn, Later}
@@ -12,12 +12,12 @@ use Rattle.base_engine.specs.Following.{KeepsTail, EndsBy}
 pub keeps_same : (who pos : ℕ) (a : List Event) → KeepsTail who pos a a
 keeps_same who pos a low alone = refl
 
-module _ (may : ℕ → Entry → Type 0) (floor : List Entry → ℕ → Type 0) (shelf : List ℕ) (who pos : ℕ) (a b c : List Event) (first : Later may floor shelf a b) (second : Later may floor shelf b c) where
+module _ (law : Law) (who pos : ℕ) (a b c : List Event) (first : Later law a b) (second : Later law b c) where
   -- it stays over two steps, of which the second starts no lower
   pub keeps_on : (next : ℕ) → pos ≤ next → KeepsTail who pos a b → KeepsTail who next b c → KeepsTail who pos a c
   keeps_on next up f g low alone =
       let parts = own_split who a b c first.more second.more first.seen second.seen alone in
-      let on = later_continues may floor shelf b c second in
+      let on = later_continues law b c second in
       g (omega (arith, low, up)) parts.1 ∙ f (omega (arith, low, on.trim)) parts.0
 
   -- a tail that was found stays the log's

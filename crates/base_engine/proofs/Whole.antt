@@ -5,6 +5,7 @@ use Rattle.delos_types.specs.Spaces.{SpaceMap}
 use Rattle.delos_types.specs.declared.entry.Entry.{Entry}
 use Rattle.delos_types.specs.declared.item.Item.{Item}
 use Rattle.engine_api.specs.Packing.{packed}
+use Rattle.legal_journal.specs.Law.{Law}
 use Rattle.legal_journal.specs.declared.events.Event.{Event}
 use Rattle.legal_journal.specs.Journal.{IsLegal}
 use Rattle.replica_api.specs.Replica.{Saved, ReplicaView, Survives, Queues, Flushes}
@@ -13,24 +14,24 @@ use Rattle.base_engine.specs.Following.{Follows, IsKnown}
 use Rattle.base_engine.specs.Settling.{MaySend}
 use Rattle.base_engine.specs.Node.{NodeView, NodeOk}
 
-module _ (may : ℕ → Entry → Type 0) (floor : List Entry → ℕ → Type 0) (shelf : List ℕ) (holds : List Event → ℕ → Entry → Type 0) (state : List Entry → SpaceMap → Type 0) (spells : List ℕ → Saved → Type 0) where
+module _ (law : Law) (holds : List Event → ℕ → Entry → Type 0) (state : List Entry → SpaceMap → Type 0) (spells : List ℕ → Saved → Type 0) where
   -- its entries and what waits are as they were
-  pub ok_same : (old new : NodeView) → NodeOk may floor shelf holds state spells old → IsLegal may floor shelf new.seen → new.who ≡ old.who → Follows holds state spells new.seen new.replica → IsKnown new.known new.replica
-      → new.outbox.entries ≡ old.outbox.entries → new.replica.kept ≡ old.replica.kept → new.replica.origin ≡ old.replica.origin → new.nodes ≡ old.nodes → NodeOk may floor shelf holds state spells new
+  pub ok_same : (old new : NodeView) → NodeOk law holds state spells old → IsLegal law new.seen → new.who ≡ old.who → Follows holds state spells new.seen new.replica → IsKnown new.known new.replica
+      → new.outbox.entries ≡ old.outbox.entries → new.replica.kept ≡ old.replica.kept → new.replica.origin ≡ old.replica.origin → new.nodes ≡ old.nodes → NodeOk law holds state spells new
   ok_same old new ok legal who follows bounded entries kept origin nodes = record {
     eight = subst (λ n. n ≤ 8) (sym nodes) ok.eight;
     legal = legal;
     follows = follows;
     bounded = bounded;
-    own = subst (λ w. All (λ e. MaySend may w e) new.outbox.entries) (sym who) (subst (λ es. All (λ e. MaySend may old.who e) es) (sym entries) ok.own);
+    own = subst (λ w. All (λ e. MaySend law.may w e) new.outbox.entries) (sym who) (subst (λ es. All (λ e. MaySend law.may old.who e) es) (sym entries) ok.own);
     few = subst (λ es. length es ≤ 4) (sym entries) ok.few;
-    waiting = λ some. subst (λ w. may w (packed new.replica.origin new.replica.kept)) (sym who)
-        (subst (λ o. may old.who (packed o new.replica.kept)) (sym origin)
-        (subst (λ k. may old.who (packed old.replica.origin k)) (sym kept) (ok.waiting (λ none. some (kept ∙ none)))));
+    waiting = λ some. subst (λ w. law.may w (packed new.replica.origin new.replica.kept)) (sym who)
+        (subst (λ o. law.may old.who (packed o new.replica.kept)) (sym origin)
+        (subst (λ k. law.may old.who (packed old.replica.origin k)) (sym kept) (ok.waiting (λ none. some (kept ∙ none)))));
   }
 
-  pub ok_waiting : (old new : NodeView) → new.nodes ≤ 8 → IsLegal may floor shelf new.seen → Follows holds state spells new.seen new.replica → IsKnown new.known new.replica → All (λ e. MaySend may new.who e) new.outbox.entries → length new.outbox.entries ≤ 4
-      → new.who ≡ old.who → new.replica.origin ≡ old.replica.origin → (new.replica.kept ≢ [] → may old.who (packed old.replica.origin new.replica.kept)) → NodeOk may floor shelf holds state spells new
+  pub ok_waiting : (old new : NodeView) → new.nodes ≤ 8 → IsLegal law new.seen → Follows holds state spells new.seen new.replica → IsKnown new.known new.replica → All (λ e. MaySend law.may new.who e) new.outbox.entries → length new.outbox.entries ≤ 4
+      → new.who ≡ old.who → new.replica.origin ≡ old.replica.origin → (new.replica.kept ≢ [] → law.may old.who (packed old.replica.origin new.replica.kept)) → NodeOk law holds state spells new
   ok_waiting old new eight legal follows bounded own few who origin waiting = record {
     eight = eight;
     legal = legal;
@@ -38,7 +39,7 @@ module _ (may : ℕ → Entry → Type 0) (floor : List Entry → ℕ → Type 0
     bounded = bounded;
     own = own;
     few = few;
-    waiting = λ some. subst (λ w. may w (packed new.replica.origin new.replica.kept)) (sym who) (subst (λ o. may old.who (packed o new.replica.kept)) (sym origin) (waiting some));
+    waiting = λ some. subst (λ w. law.may w (packed new.replica.origin new.replica.kept)) (sym who) (subst (λ o. law.may old.who (packed o new.replica.kept)) (sym origin) (waiting some));
   }
 
 pub front_none : (holds : List Event → ℕ → Entry → Type 0) (seen : List Event) → IsFront holds seen []

@@ -3,6 +3,7 @@ use Rattle.std.specs.Prelude.{◌≡◌, ◌≢◌, ℕ, ◌≤◌, List, [], le
 use Rattle.delos_types.specs.Spaces.{SpaceMap}
 use Rattle.delos_types.specs.declared.entry.Entry.{Entry}
 use Rattle.engine_api.specs.Packing.{packed}
+use Rattle.legal_journal.specs.Law.{Law}
 use Rattle.legal_journal.specs.declared.events.Event.{Event}
 use Rattle.legal_journal.specs.Journal.{IsLegal}
 use Rattle.virtual_log.specs.Turning.{Later}
@@ -29,20 +30,20 @@ pub record RestedView : Type 0 where
 abbrev pub awake : RestedView → ℕ → List Event → ℕ → NodeView
 awake r who seen known = record { who = who; nodes = r.nodes; seen = seen; known = known; replica = r.replica; outbox = r.outbox }
 
-pub record NodeOk (may : ℕ → Entry → Type 0) (floor : List Entry → ℕ → Type 0) (shelf : List ℕ) (holds : List Event → ℕ → Entry → Type 0) (state : List Entry → SpaceMap → Type 0) (spells : List ℕ → Saved → Type 0) (n : NodeView) : Type 0 where
+pub record NodeOk (law : Law) (holds : List Event → ℕ → Entry → Type 0) (state : List Entry → SpaceMap → Type 0) (spells : List ℕ → Saved → Type 0) (n : NodeView) : Type 0 where
   pub eight : n.nodes ≤ 8
-  pub legal : IsLegal may floor shelf n.seen
+  pub legal : IsLegal law n.seen
   pub follows : Follows holds state spells n.seen n.replica
   pub bounded : IsKnown n.known n.replica
-  pub own : All (λ e. MaySend may n.who e) n.outbox.entries
+  pub own : All (λ e. MaySend law.may n.who e) n.outbox.entries
   pub few : length n.outbox.entries ≤ 4
-  pub waiting : n.replica.kept ≢ [] → may n.who (packed n.replica.origin n.replica.kept)
+  pub waiting : n.replica.kept ≢ [] → law.may n.who (packed n.replica.origin n.replica.kept)
 
 -- What each call keeps: who it is, what was seen, and that neither the cursor nor the count of faults falls.
-pub record Keeps (may : ℕ → Entry → Type 0) (floor : List Entry → ℕ → Type 0) (shelf : List ℕ) (old new : NodeView) : Type 0 where
+pub record Keeps (law : Law) (old new : NodeView) : Type 0 where
   pub who : new.who ≡ old.who
   pub nodes : new.nodes ≡ old.nodes
   pub origin : new.replica.origin ≡ old.replica.origin
-  pub later : Later may floor shelf old.seen new.seen
+  pub later : Later law old.seen new.seen
   pub forward : old.replica.cursor ≤ new.replica.cursor
   pub counts : old.replica.faults ≤ new.replica.faults

@@ -1,13 +1,13 @@
 -- Up to where a node trims its log.
-use Rattle.std.specs.Prelude.{◌≡◌, ℕ, ◌≤◌, Bool, true, not, List, ◌++◌, length, Contains, map, filter, min, Some}
+use Rattle.std.specs.Prelude.{◌≡◌, ℕ, Bool, not, List, ◌++◌, length, Contains, map, filter, min, Some}
 use Rattle.delos_types.specs.Spaces.{SpaceMap}
 use Rattle.delos_types.specs.declared.entry.Entry.{Entry}
 use Rattle.delos_types.specs.declared.item.Item.{Item}
-use Rattle.engine_api.specs.Acted.{unpack_all}
-use Rattle.engine_api.specs.Members.{least, least_position, trim_point, clean_at}
+use Rattle.engine_api.specs.Members.{least}
 use Rattle.engine_api.specs.Order.{numbers}
 use Rattle.engine_api.specs.Packing.{packed, trim_item}
 use Rattle.engine_steps.specs.Layout as layout
+use Rattle.legal_journal.specs.Law.{Law}
 use Rattle.legal_journal.specs.declared.events.Event.{Event}
 use Rattle.legal_journal.specs.Journal.{state_of, IsLegal}
 use Rattle.virtual_log.specs.Truncating.{IsPrefixTrimmed}
@@ -28,23 +28,10 @@ least_of nodes m = least (map (layout.reported_of m) (filter (is_member_in m) (n
 abbrev pub IsFloor : (List Entry → SpaceMap → Type 0) → (List Entry → ℕ → Type 0) → ℕ → Type 0
 IsFloor state floor nodes = (log : List Entry) (m : SpaceMap) → state log m → floor log (min (length log) (min (layout.trim_of m) (least_of nodes m)))
 
--- The first n of these entries are clean, and nobody needs them again: a trim of so many was asked for, and each member
--- reported so many.
-pub record MayTrim (nodes : ℕ) (log : List Entry) (n : ℕ) : Type 0 where
-  pub within : n ≤ length log
-  pub point : n ≤ trim_point (unpack_all 0 log)
-  pub least : n ≤ least_position nodes (unpack_all 0 log)
-  pub clean : clean_at log n ≡ true
-
--- so many entries may be trimmed, and no others
-pub record FloorIs (floor : List Entry → ℕ → Type 0) (nodes : ℕ) : Type 0 where
-  pub only : (log : List Entry) (n : ℕ) → floor log n → MayTrim nodes log n
-  pub free : (log : List Entry) (n : ℕ) → MayTrim nodes log n → floor log n
-
 -- by each legal journal, the log shows what it holds, or did before it was trimmed
-abbrev pub ShowsAll : (ℕ → Entry → Type 0) → (List Entry → ℕ → Type 0) → List ℕ → (List Event → ℕ → Entry → Type 0) → Type 0
-ShowsAll may floor shelf holds =
-    (seen : List Event) (pos : ℕ) (e : Entry) → IsLegal may floor shelf seen → holds seen pos e → (state_of seen).shown pos ≡ Some e
+abbrev pub ShowsAll : Law → (List Event → ℕ → Entry → Type 0) → Type 0
+ShowsAll law holds =
+    (seen : List Event) (pos : ℕ) (e : Entry) → IsLegal law seen → holds seen pos e → (state_of seen).shown pos ≡ Some e
 
 -- up to where the log is trimmed: the lesser of the trim point and the least position of a member, and no further than
 -- the entries that were applied

@@ -64,14 +64,14 @@ impl<L: SharedLog, R: Replica> Model for Node<L, R> {
 
     ghost view = { λ n. record { who = L.who n.log; nodes = n.nodes; seen = L.seen n.log; known = L.reaches n.log; replica = R.shows n.replica; outbox = view_of n.outbox } };
 
-    ghost invariant = { λ n. NodeOk L.Law.may L.Law.floor L.Law.shelf L.holds R.state R.spells (record { who = L.who n.log; nodes = n.nodes; seen = L.seen n.log; known = L.reaches n.log; replica = R.shows n.replica; outbox = view_of n.outbox }) };
+    ghost invariant = { λ n. NodeOk L.Law.law L.holds R.state R.spells (record { who = L.who n.log; nodes = n.nodes; seen = L.seen n.log; known = L.reaches n.log; replica = R.shows n.replica; outbox = view_of n.outbox }) };
 }
 
 impl<L: SharedLog, R: Replica> Node<L, R> {
     /// One of so many nodes, whose replica has applied nothing. Makes no event, and takes no memory.
     pub fn new(alloc: Global, nodes: u8, log: L, replica: R) -> Self
         requires nodes { nodes ≤ 8 }
-        requires legal { IsLegal L.Law.may L.Law.floor L.Law.shelf (L.seen log) }
+        requires legal { IsLegal L.Law.law (L.seen log) }
         requires empty { R.state [] (R.shows replica).contents }
         requires start { (R.shows replica).cursor ≡ 0 }
         requires none_asked { (R.shows replica).asked ≡ None }
@@ -166,7 +166,7 @@ impl<L: SharedLog, R: Replica> Node<L, R> {
     /// Whether a node has left, in the state of the log's first `cursor` entries.
     pub fn has_left(&self, node: NodeId) -> Result<bool, AllocError>
         ensures left { IfOk result (λ left. left ≡ layout.has_left_in self.now.replica.contents node) }
-        ensures legal { IsLegal L.Law.may L.Law.floor L.Law.shelf self.now.seen }
+        ensures legal { IsLegal L.Law.law self.now.seen }
         ensures follows { Follows L.holds R.state R.spells self.now.seen self.now.replica }
     {
         self.replica.has_left(node)
@@ -183,7 +183,7 @@ impl<L: SharedLog, R: Replica> Node<L, R> {
 
     /// Finds a tail of the log, plays up to it, and answers it.
     pub fn sync(&mut self) -> Result<u64, Fault>
-        ensures keeps { Keeps L.Law.may L.Law.floor L.Law.shelf self.old self.new }
+        ensures keeps { Keeps L.Law.law self.old self.new }
         ensures follows { Follows L.holds R.state R.spells self.new.seen self.new.replica }
         ensures synced { IfOk result (λ tail. IsAbove self.old.who self.old.seen tail self.new.seen) }
         ensures cursor { IfOk result (λ tail. IsAt tail self.new.replica self.new.seen) }
@@ -214,7 +214,7 @@ impl<L: SharedLog, R: Replica> Node<L, R> {
     /// with word 0, where there is an entry to apply.
     pub fn play(&mut self, to: u64) -> Result<(), Fault>
         requires { to ≤ self.old.known }
-        ensures keeps { Keeps L.Law.may L.Law.floor L.Law.shelf self.old self.new }
+        ensures keeps { Keeps L.Law.law self.old self.new }
         ensures follows { Follows L.holds R.state R.spells self.new.seen self.new.replica }
         ensures reaches { OnOk result (Reaches to self.old.replica self.new.replica self.new.seen) }
         ensures within { self.new.replica.cursor ≤ max self.old.replica.cursor to }
@@ -240,8 +240,8 @@ impl<L: SharedLog, R: Replica> Node<L, R> {
     /// Proposes an item.
     pub fn propose(&mut self, item: Item) -> Result<(), Fault>
         requires item { IsProposable item }
-        requires own { L.Law.may self.old.who (packed self.old.replica.origin (self.old.replica.kept ++ item ∷ [])) }
-        ensures keeps { Keeps L.Law.may L.Law.floor L.Law.shelf self.old self.new }
+        requires own { L.Law.law.may self.old.who (packed self.old.replica.origin (self.old.replica.kept ++ item ∷ [])) }
+        ensures keeps { Keeps L.Law.law self.old self.new }
         ensures follows { Follows L.holds R.state R.spells self.new.seen self.new.replica }
         ensures proposed { OnOk result (Proposed L.holds self.old.who self.old.seen self.old.outbox self.old.replica item self.new.seen self.new.outbox self.new.replica) }
         ensures refused { IfErr result (λ f. Refused L.holds self.old.who self.old.seen self.old.outbox item f self.new.seen self.new.outbox) }
@@ -271,7 +271,7 @@ impl<L: SharedLog, R: Replica> Node<L, R> {
 
     /// What waits is packed, and is outstanding then.
     pub fn flush(&mut self) -> Result<(), AllocError>
-        ensures keeps { Keeps L.Law.may L.Law.floor L.Law.shelf self.old self.new }
+        ensures keeps { Keeps L.Law.law self.old self.new }
         ensures sent { OnOk result (Sent L.holds self.old.who self.old.seen self.old.outbox (λ packed. Flushes self.old.replica.origin self.old.replica.kept packed self.new.replica.kept) self.new.seen self.new.outbox) }
         ensures rest { self.new.replica ≡ record self.old.replica { kept = self.new.replica.kept } }
         ensures unsent { OnErr result (Settled L.holds self.old.who self.old.seen self.old.outbox self.new.seen self.new.outbox) }
@@ -288,7 +288,7 @@ impl<L: SharedLog, R: Replica> Node<L, R> {
     /// Carries all outstanding entries to their end, one after another, and answers the first cause since the last
     /// settling.
     pub fn settle_all(&mut self) -> Result<(), Fault>
-        ensures keeps { Keeps L.Law.may L.Law.floor L.Law.shelf self.old self.new }
+        ensures keeps { Keeps L.Law.law self.old self.new }
         ensures replica { self.new.replica ≡ self.old.replica }
         ensures calm { OnOk result (Answers L.holds self.old.who self.old.seen self.old.outbox None self.new.seen self.new.outbox) }
 
@@ -315,7 +315,7 @@ impl<L: SharedLog, R: Replica> Node<L, R> {
 
     /// Opens the store again, where it is down. The word chooses what a stopped commit left.
     pub fn recover(&mut self, word: u64) -> Result<(), Fault>
-        ensures keeps { Keeps L.Law.may L.Law.floor L.Law.shelf self.old self.new }
+        ensures keeps { Keeps L.Law.law self.old self.new }
         ensures follows { Follows L.holds R.state R.spells self.new.seen self.new.replica }
         ensures near { self.new.replica.cursor ≤ self.old.replica.cursor + 1 }
         ensures goes_on { GoesOn L.holds R.state self.new.seen (saved_in self.old.replica) (saved_in self.new.replica) }
@@ -350,9 +350,9 @@ impl<L: SharedLog, R: Replica> Node<L, R> {
     /// `NoSpare`, and nothing is sealed. It is for those alone who may seal.
     pub fn extend(&mut self) -> Result<Extension, Fault>
         requires right { L.Law.seals self.old.who }
-        ensures keeps { Keeps L.Law.may L.Law.floor L.Law.shelf self.old self.new }
+        ensures keeps { Keeps L.Law.law self.old self.new }
         ensures follows { Follows L.holds R.state R.spells self.new.seen self.new.replica }
-        ensures extension { IfOk result (IsExtendedBy (length L.Law.shelf) self.old.who self.old.seen self.old.known self.new.known self.new.seen) }
+        ensures extension { IfOk result (IsExtendedBy (length L.Law.law.shelf) self.old.who self.old.seen self.old.known self.new.known self.new.seen) }
 
         // Whatever comes of it, it begins no Seal, or one of the loglet that its first look had as the last one.
         ensures seals { SealsLast self.old.who self.old.seen self.new.seen }
@@ -370,12 +370,12 @@ impl<L: SharedLog, R: Replica> Node<L, R> {
     /// member's position, nor past what was applied. Answers the trim.
     pub fn trim_now(&mut self) -> Result<u64, Fault>
         // The log's rules allow a trim up to the trim point, but not past the least position of a member.
-        requires floor { IsFloor R.state L.Law.floor self.old.nodes }
-        requires own { (position : ℕ) → position < 2 ^ 64 → L.Law.may self.old.who (packed self.old.replica.origin (self.old.replica.kept ++ trim_item position ∷ [])) }
+        requires floor { IsFloor R.state L.Law.law.floor self.old.nodes }
+        requires own { (position : ℕ) → position < 2 ^ 64 → L.Law.law.may self.old.who (packed self.old.replica.origin (self.old.replica.kept ++ trim_item position ∷ [])) }
 
         // By the log's rules it shows what it holds, or did before it was trimmed.
-        requires shown { ShowsAll L.Law.may L.Law.floor L.Law.shelf L.holds }
-        ensures keeps { Keeps L.Law.may L.Law.floor L.Law.shelf self.old self.new }
+        requires shown { ShowsAll L.Law.law L.holds }
+        ensures keeps { Keeps L.Law.law self.old self.new }
         ensures follows { Follows L.holds R.state R.spells self.new.seen self.new.replica }
         ensures trims { IfOk result (Trims L.holds R.state self.old.nodes self.old.who self.old.replica.origin self.old.seen self.new.seen self.new.replica self.new.known) }
 
@@ -405,11 +405,11 @@ impl<L: SharedLog, R: Replica> Node<L, R> {
     ///
     /// Cost: two reads of the space for each node and one more, and a trim of each loglet.
     pub fn trim_applied(&mut self) -> Result<u64, Fault>
-        requires shown { ShowsAll L.Law.may L.Law.floor L.Law.shelf L.holds }
+        requires shown { ShowsAll L.Law.law L.holds }
 
         // So much of what was applied the log's rules let go.
-        requires free { (log : List Entry) → IsFront L.holds self.old.seen log → length log ≡ self.old.replica.cursor → L.Law.floor log (trim_to self.old.nodes self.old.replica) }
-        ensures keeps { Keeps L.Law.may L.Law.floor L.Law.shelf self.old self.new }
+        requires free { (log : List Entry) → IsFront L.holds self.old.seen log → length log ≡ self.old.replica.cursor → L.Law.law.floor log (trim_to self.old.nodes self.old.replica) }
+        ensures keeps { Keeps L.Law.law self.old self.new }
         ensures follows { Follows L.holds R.state R.spells self.new.seen self.new.replica }
         ensures replica { self.new.replica ≡ self.old.replica }
         ensures outbox { self.new.outbox ≡ self.old.outbox }
@@ -426,7 +426,7 @@ impl<L: SharedLog, R: Replica> Node<L, R> {
         ensures who { L.who result.1 ≡ self.who }
         ensures seen { L.seen result.1 ≡ self.seen }
         ensures known { L.reaches result.1 ≡ self.known }
-        ensures ok { NodeOk L.Law.may L.Law.floor L.Law.shelf L.holds R.state R.spells self }
+        ensures ok { NodeOk L.Law.law L.holds R.state R.spells self }
     {
         let Node {
             alloc,

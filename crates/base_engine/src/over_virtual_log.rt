@@ -50,11 +50,11 @@ impl<T: Turns, C: Chooser> SharedLog for VirtualLog<T, C> {
         VirtualLog::prefix_trim(self, n)
     }
 
-    ghost stays = { held_stays T.Law.may T.Law.floor T.Law.shelf };
+    ghost stays = { held_stays T.Law.law };
 }
 
 /// Where the rules allow no trim past the entries that they are asked of, a virtual log shows what it holds, or did before
 /// it was trimmed. Does nothing: its contract is the law.
 pub fn what_is_held_is_shown<P: Rules>()
-    ensures { ((log : List Entry) (n : ℕ) → P.floor log n → n ≤ length log) → ShowsAll P.may P.floor P.shelf Holds }
+    ensures { ((log : List Entry) (n : ℕ) → P.law.floor log n → n ≤ length log) → ShowsAll P.law Holds }
 {}

@@ -32,12 +32,12 @@ pub fn apply_next<L: SharedLog, R: Replica>(
     replica: &mut R,
     to: u64,
 ) -> Result<Played, Fault>
-    requires legal { IsLegal L.Law.may L.Law.floor L.Law.shelf (L.seen log.old) }
+    requires legal { IsLegal L.Law.law (L.seen log.old) }
     requires follows { Follows L.holds R.state R.spells (L.seen log.old) (R.shows replica.old) }
     requires below { (R.shows replica.old).cursor < to }
     requires within { to ≤ L.reaches log.old }
     requires bounded { IsKnown (L.reaches log.old) (R.shows replica.old) }
-    ensures later { Later L.Law.may L.Law.floor L.Law.shelf (L.seen log.old) (L.seen log.new) }
+    ensures later { Later L.Law.law (L.seen log.old) (L.seen log.new) }
     ensures who { L.who log.new ≡ L.who log.old }
     ensures known { L.reaches log.new ≡ L.reaches log.old }
     ensures follows { Follows L.holds R.state R.spells (L.seen log.new) (R.shows replica.new) }
@@ -142,11 +142,11 @@ pub fn restore<L: SharedLog, R: Replica>(_log: &L, replica: &mut R, word: u64) -
 ///
 /// Cost: one read of the log and one commit for each entry.
 pub fn play<L: SharedLog, R: Replica>(log: &mut L, replica: &mut R, to: u64) -> Result<(), Fault>
-    requires legal { IsLegal L.Law.may L.Law.floor L.Law.shelf (L.seen log.old) }
+    requires legal { IsLegal L.Law.law (L.seen log.old) }
     requires follows { Follows L.holds R.state R.spells (L.seen log.old) (R.shows replica.old) }
     requires within { to ≤ L.reaches log.old }
     requires bounded { IsKnown (L.reaches log.old) (R.shows replica.old) }
-    ensures later { Later L.Law.may L.Law.floor L.Law.shelf (L.seen log.old) (L.seen log.new) }
+    ensures later { Later L.Law.law (L.seen log.old) (L.seen log.new) }
     ensures who { L.who log.new ≡ L.who log.old }
     ensures known { L.reaches log.new ≡ L.reaches log.old }
     ensures follows { Follows L.holds R.state R.spells (L.seen log.new) (R.shows replica.new) }
@@ -187,10 +187,10 @@ pub fn play<L: SharedLog, R: Replica>(log: &mut L, replica: &mut R, to: u64) -> 
 
 /// Finds a tail of the log, and plays up to it.
 pub fn sync<L: SharedLog, R: Replica>(log: &mut L, replica: &mut R) -> Result<u64, Fault>
-    requires legal { IsLegal L.Law.may L.Law.floor L.Law.shelf (L.seen log.old) }
+    requires legal { IsLegal L.Law.law (L.seen log.old) }
     requires follows { Follows L.holds R.state R.spells (L.seen log.old) (R.shows replica.old) }
     requires bounded { IsKnown (L.reaches log.old) (R.shows replica.old) }
-    ensures later { Later L.Law.may L.Law.floor L.Law.shelf (L.seen log.old) (L.seen log.new) }
+    ensures later { Later L.Law.law (L.seen log.old) (L.seen log.new) }
     ensures who { L.who log.new ≡ L.who log.old }
     ensures known { L.reaches log.old ≤ L.reaches log.new }
     ensures follows { Follows L.holds R.state R.spells (L.seen log.new) (R.shows replica.new) }

@@ -1,5 +1,5 @@
 //! Items go down through the engines, and the entries that come out become outstanding.
-ghost use Rattle.std.specs.Prelude.{◌≡◌, ◌≢◌, ◌<◌, ◌≤◌, ◌+◌, ◌↔◌, ℕ, true, [], ◌∷◌, ◌++◌, All, length, IfOk, IfErr, OnOk, OnErr, vec_len, vec_capacity};
+ghost use Rattle.std.specs.Prelude.{◌≡◌, ◌≢◌, ◌<◌, ◌≤◌, ◌+◌, ◌↔◌, true, [], ◌∷◌, ◌++◌, All, length, IfOk, IfErr, OnOk, OnErr, vec_len, vec_capacity};
 ghost use Rattle.disk_model.specs.Crash.{AnyCrash};
 ghost use Rattle.engine_api.specs.Packing.{IsProposable, packed};
 ghost use Rattle.engine_steps.specs.Layout as layout;
@@ -32,14 +32,14 @@ fn leave_three<L: SharedLog>(
     log: &mut L,
     outbox: &mut Outbox,
 ) -> Result<(), AllocError>
-    requires legal { IsLegal L.Law.may L.Law.floor L.Law.shelf (L.seen log.old) }
-    requires may { All (λ e. MaySend L.Law.may (L.who log.old) e) outbox.old.entries.items }
+    requires legal { IsLegal L.Law.law (L.seen log.old) }
+    requires may { All (λ e. MaySend L.Law.law.may (L.who log.old) e) outbox.old.entries.items }
     requires few { length outbox.old.entries.items ≤ 4 }
-    ensures later { Later L.Law.may L.Law.floor L.Law.shelf (L.seen log.old) (L.seen log.new) }
+    ensures later { Later L.Law.law (L.seen log.old) (L.seen log.new) }
     ensures who { L.who log.new ≡ L.who log.old }
     ensures known { L.reaches log.old ≤ L.reaches log.new }
     ensures settled { Settled L.holds (L.who log.old) (L.seen log.old) (view_of outbox.old) (L.seen log.new) (view_of outbox.new) }
-    ensures may { All (λ e. MaySend L.Law.may (L.who log.new) e) outbox.new.entries.items }
+    ensures may { All (λ e. MaySend L.Law.law.may (L.who log.new) e) outbox.new.entries.items }
     ensures few { length outbox.new.entries.items ≤ 4 }
     ensures room { OnOk result (length outbox.new.entries.items ≤ 3) }
 {
@@ -58,14 +58,14 @@ fn make_room<L: SharedLog>(
     log: &mut L,
     outbox: &mut Outbox,
 ) -> Result<(), AllocError>
-    requires legal { IsLegal L.Law.may L.Law.floor L.Law.shelf (L.seen log.old) }
-    requires may { All (λ e. MaySend L.Law.may (L.who log.old) e) outbox.old.entries.items }
+    requires legal { IsLegal L.Law.law (L.seen log.old) }
+    requires may { All (λ e. MaySend L.Law.law.may (L.who log.old) e) outbox.old.entries.items }
     requires few { length outbox.old.entries.items ≤ 4 }
-    ensures later { Later L.Law.may L.Law.floor L.Law.shelf (L.seen log.old) (L.seen log.new) }
+    ensures later { Later L.Law.law (L.seen log.old) (L.seen log.new) }
     ensures who { L.who log.new ≡ L.who log.old }
     ensures known { L.reaches log.old ≤ L.reaches log.new }
     ensures settled { Settled L.holds (L.who log.old) (L.seen log.old) (view_of outbox.old) (L.seen log.new) (view_of outbox.new) }
-    ensures may { All (λ e. MaySend L.Law.may (L.who log.new) e) outbox.new.entries.items }
+    ensures may { All (λ e. MaySend L.Law.law.may (L.who log.new) e) outbox.new.entries.items }
     ensures few { length outbox.new.entries.items ≤ 4 }
     ensures room { OnOk result (length outbox.new.entries.items ≤ 3) }
     ensures space { OnOk result (vec_len outbox.new.entries < vec_capacity outbox.new.entries) }
@@ -85,19 +85,19 @@ fn send<L: SharedLog, R: Replica>(
     outbox: &mut Outbox,
     item: Item,
 ) -> Result<(), AllocError>
-    requires legal { IsLegal L.Law.may L.Law.floor L.Law.shelf (L.seen log.old) }
-    requires may { All (λ e. MaySend L.Law.may (L.who log.old) e) outbox.old.entries.items }
+    requires legal { IsLegal L.Law.law (L.seen log.old) }
+    requires may { All (λ e. MaySend L.Law.law.may (L.who log.old) e) outbox.old.entries.items }
     requires few { length outbox.old.entries.items ≤ 4 }
     requires item { IsProposable item }
-    requires own { L.Law.may (L.who log.old) (packed (R.shows replica.old).origin ((R.shows replica.old).kept ++ item ∷ [])) }
-    ensures later { Later L.Law.may L.Law.floor L.Law.shelf (L.seen log.old) (L.seen log.new) }
+    requires own { L.Law.law.may (L.who log.old) (packed (R.shows replica.old).origin ((R.shows replica.old).kept ++ item ∷ [])) }
+    ensures later { Later L.Law.law (L.seen log.old) (L.seen log.new) }
     ensures who { L.who log.new ≡ L.who log.old }
     ensures known { L.reaches log.old ≤ L.reaches log.new }
     ensures sent { OnOk result (Sent L.holds (L.who log.old) (L.seen log.old) (view_of outbox.old) (λ packed. Queues (R.shows replica.old).origin (R.shows replica.old).kept item packed (R.shows replica.new).kept) (L.seen log.new) (view_of outbox.new)) }
     ensures rest { R.shows replica.new ≡ record (R.shows replica.old) { kept = (R.shows replica.new).kept } }
     ensures unsent { OnErr result (Settled L.holds (L.who log.old) (L.seen log.old) (view_of outbox.old) (L.seen log.new) (view_of outbox.new)) }
     ensures same { OnErr result (R.shows replica.new ≡ R.shows replica.old) }
-    ensures may { All (λ e. MaySend L.Law.may (L.who log.new) e) outbox.new.entries.items }
+    ensures may { All (λ e. MaySend L.Law.law.may (L.who log.new) e) outbox.new.entries.items }
     ensures few { length outbox.new.entries.items ≤ 4 }
 {
     make_room(alloc, log, outbox)?;
@@ -117,19 +117,19 @@ pub fn flush<L: SharedLog, R: Replica>(
     replica: &mut R,
     outbox: &mut Outbox,
 ) -> Result<(), AllocError>
-    requires legal { IsLegal L.Law.may L.Law.floor L.Law.shelf (L.seen log.old) }
-    requires may { All (λ e. MaySend L.Law.may (L.who log.old) e) outbox.old.entries.items }
+    requires legal { IsLegal L.Law.law (L.seen log.old) }
+    requires may { All (λ e. MaySend L.Law.law.may (L.who log.old) e) outbox.old.entries.items }
     requires few { length outbox.old.entries.items ≤ 4 }
-    requires own { (R.shows replica.old).kept ≢ [] → L.Law.may (L.who log.old) (packed (R.shows replica.old).origin (R.shows replica.old).kept) }
-    ensures later { Later L.Law.may L.Law.floor L.Law.shelf (L.seen log.old) (L.seen log.new) }
+    requires own { (R.shows replica.old).kept ≢ [] → L.Law.law.may (L.who log.old) (packed (R.shows replica.old).origin (R.shows replica.old).kept) }
+    ensures later { Later L.Law.law (L.seen log.old) (L.seen log.new) }
     ensures who { L.who log.new ≡ L.who log.old }
     ensures known { L.reaches log.old ≤ L.reaches log.new }
     ensures sent { OnOk result (Sent L.holds (L.who log.old) (L.seen log.old) (view_of outbox.old) (λ packed. Flushes (R.shows replica.old).origin (R.shows replica.old).kept packed (R.shows replica.new).kept) (L.seen log.new) (view_of outbox.new)) }
     ensures rest { R.shows replica.new ≡ record (R.shows replica.old) { kept = (R.shows replica.new).kept } }
     ensures unsent { OnErr result (Settled L.holds (L.who log.old) (L.seen log.old) (view_of outbox.old) (L.seen log.new) (view_of outbox.new)) }
-    ensures waiting { (R.shows replica.new).kept ≢ [] → L.Law.may (L.who log.old) (packed (R.shows replica.old).origin (R.shows replica.new).kept) }
+    ensures waiting { (R.shows replica.new).kept ≢ [] → L.Law.law.may (L.who log.old) (packed (R.shows replica.old).origin (R.shows replica.new).kept) }
     ensures same { OnErr result (R.shows replica.new ≡ R.shows replica.old) }
-    ensures may { All (λ e. MaySend L.Law.may (L.who log.new) e) outbox.new.entries.items }
+    ensures may { All (λ e. MaySend L.Law.law.may (L.who log.new) e) outbox.new.entries.items }
     ensures few { length outbox.new.entries.items ≤ 4 }
 {
     match make_room(alloc, log, outbox) {
@@ -173,15 +173,15 @@ fn catch_up<L: SharedLog, R: Replica>(
     outbox: &mut Outbox,
     session: SessionId,
 ) -> Result<(), Fault>
-    requires legal { IsLegal L.Law.may L.Law.floor L.Law.shelf (L.seen log.old) }
-    requires may { All (λ e. MaySend L.Law.may (L.who log.old) e) outbox.old.entries.items }
+    requires legal { IsLegal L.Law.law (L.seen log.old) }
+    requires may { All (λ e. MaySend L.Law.law.may (L.who log.old) e) outbox.old.entries.items }
     requires few { length outbox.old.entries.items ≤ 4 }
     requires follows { Follows L.holds R.state R.spells (L.seen log.old) (R.shows replica.old) }
     requires bounded { IsKnown (L.reaches log.old) (R.shows replica.old) }
-    ensures later { Later L.Law.may L.Law.floor L.Law.shelf (L.seen log.old) (L.seen log.new) }
+    ensures later { Later L.Law.law (L.seen log.old) (L.seen log.new) }
     ensures who { L.who log.new ≡ L.who log.old }
     ensures known { L.reaches log.old ≤ L.reaches log.new }
-    ensures may { All (λ e. MaySend L.Law.may (L.who log.new) e) outbox.new.entries.items }
+    ensures may { All (λ e. MaySend L.Law.law.may (L.who log.new) e) outbox.new.entries.items }
     ensures few { length outbox.new.entries.items ≤ 4 }
     ensures follows { Follows L.holds R.state R.spells (L.seen log.new) (R.shows replica.new) }
     ensures bounded { IsKnown (L.reaches log.new) (R.shows replica.new) }
@@ -221,15 +221,15 @@ fn is_ready<L: SharedLog, R: Replica>(
     outbox: &mut Outbox,
     item: &Item,
 ) -> Result<bool, Fault>
-    requires legal { IsLegal L.Law.may L.Law.floor L.Law.shelf (L.seen log.old) }
-    requires may { All (λ e. MaySend L.Law.may (L.who log.old) e) outbox.old.entries.items }
+    requires legal { IsLegal L.Law.law (L.seen log.old) }
+    requires may { All (λ e. MaySend L.Law.law.may (L.who log.old) e) outbox.old.entries.items }
     requires few { length outbox.old.entries.items ≤ 4 }
     requires follows { Follows L.holds R.state R.spells (L.seen log.old) (R.shows replica.old) }
     requires bounded { IsKnown (L.reaches log.old) (R.shows replica.old) }
-    ensures later { Later L.Law.may L.Law.floor L.Law.shelf (L.seen log.old) (L.seen log.new) }
+    ensures later { Later L.Law.law (L.seen log.old) (L.seen log.new) }
     ensures who { L.who log.new ≡ L.who log.old }
     ensures known { L.reaches log.old ≤ L.reaches log.new }
-    ensures may { All (λ e. MaySend L.Law.may (L.who log.new) e) outbox.new.entries.items }
+    ensures may { All (λ e. MaySend L.Law.law.may (L.who log.new) e) outbox.new.entries.items }
     ensures few { length outbox.new.entries.items ≤ 4 }
     ensures follows { Follows L.holds R.state R.spells (L.seen log.new) (R.shows replica.new) }
     ensures bounded { IsKnown (L.reaches log.new) (R.shows replica.new) }
@@ -276,18 +276,18 @@ pub fn propose<L: SharedLog, R: Replica>(
     outbox: &mut Outbox,
     item: Item,
 ) -> Result<(), Fault>
-    requires legal { IsLegal L.Law.may L.Law.floor L.Law.shelf (L.seen log.old) }
-    requires may { All (λ e. MaySend L.Law.may (L.who log.old) e) outbox.old.entries.items }
+    requires legal { IsLegal L.Law.law (L.seen log.old) }
+    requires may { All (λ e. MaySend L.Law.law.may (L.who log.old) e) outbox.old.entries.items }
     requires few { length outbox.old.entries.items ≤ 4 }
     requires follows { Follows L.holds R.state R.spells (L.seen log.old) (R.shows replica.old) }
     requires bounded { IsKnown (L.reaches log.old) (R.shows replica.old) }
     requires item { IsProposable item }
-    requires own { L.Law.may (L.who log.old) (packed (R.shows replica.old).origin ((R.shows replica.old).kept ++ item ∷ [])) }
-    requires waits { (R.shows replica.old).kept ≢ [] → L.Law.may (L.who log.old) (packed (R.shows replica.old).origin (R.shows replica.old).kept) }
-    ensures later { Later L.Law.may L.Law.floor L.Law.shelf (L.seen log.old) (L.seen log.new) }
+    requires own { L.Law.law.may (L.who log.old) (packed (R.shows replica.old).origin ((R.shows replica.old).kept ++ item ∷ [])) }
+    requires waits { (R.shows replica.old).kept ≢ [] → L.Law.law.may (L.who log.old) (packed (R.shows replica.old).origin (R.shows replica.old).kept) }
+    ensures later { Later L.Law.law (L.seen log.old) (L.seen log.new) }
     ensures who { L.who log.new ≡ L.who log.old }
     ensures known { L.reaches log.old ≤ L.reaches log.new }
-    ensures may { All (λ e. MaySend L.Law.may (L.who log.new) e) outbox.new.entries.items }
+    ensures may { All (λ e. MaySend L.Law.law.may (L.who log.new) e) outbox.new.entries.items }
     ensures few { length outbox.new.entries.items ≤ 4 }
     ensures follows { Follows L.holds R.state R.spells (L.seen log.new) (R.shows replica.new) }
     ensures bounded { IsKnown (L.reaches log.new) (R.shows replica.new) }
@@ -301,7 +301,7 @@ pub fn propose<L: SharedLog, R: Replica>(
 
     // An item that is near as it is proposed goes down, and nothing is played.
     ensures near { IsNear (R.shows replica.old).contents item → OnOk result (Sent L.holds (L.who log.old) (L.seen log.old) (view_of outbox.old) (λ packed. Queues (R.shows replica.old).origin (R.shows replica.old).kept item packed (R.shows replica.new).kept) (L.seen log.new) (view_of outbox.new)) × IfErr result (λ f. f ≡ Fault.Memory) × (R.shows replica.new ≡ record (R.shows replica.old) { kept = (R.shows replica.new).kept }) }
-    ensures waiting { (R.shows replica.new).kept ≢ [] → L.Law.may (L.who log.old) (packed (R.shows replica.old).origin (R.shows replica.new).kept) }
+    ensures waiting { (R.shows replica.new).kept ≢ [] → L.Law.law.may (L.who log.old) (packed (R.shows replica.old).origin (R.shows replica.new).kept) }
     ensures same { OnErr result ((R.shows replica.new).kept ≡ (R.shows replica.old).kept) }
     ensures arming { LeavesArming 0 (R.shows replica.old) (R.shows replica.new) }
     ensures twice { IfErr result (λ f. StoreTwice (R.shows replica.old) f (R.shows replica.new)) }

@@ -74,7 +74,7 @@ fn next_pair<R: Replica>(
 fn text_behind(text: &Bytes) -> Result<Bytes, AllocError>
     ensures { IfOk result (λ next. next ≡ text.now ++ 0 ∷ []) }
 {
-    let mut bytes = text.clone()?.into_vec();
-    bytes.push(0)?;
-    Ok(Bytes::from_vec(bytes))
+    let mut next = text.clone()?;
+    next.extend_from_slice(&[0])?;
+    Ok(next)
 }

@@ -1,5 +1,5 @@
 //! Outstanding entries are carried to their end, one after another.
-ghost use Rattle.std.specs.Prelude.{◌≡◌, ◌<◌, ◌≤◌, ◌+◌, ℕ, [], ◌++◌, All, length, drop, None, IfErr, OnOk, OnErr, vec_len, vec_capacity};
+ghost use Rattle.std.specs.Prelude.{◌≡◌, ◌<◌, ◌≤◌, ◌+◌, [], ◌++◌, All, length, drop, None, IfErr, OnOk, OnErr, vec_len, vec_capacity};
 ghost use Rattle.delos_types.specs.declared.cause.Cause.{Cause};
 ghost use Rattle.legal_journal.specs.Journal.{IsLegal};
 ghost use Rattle.virtual_log.specs.Turning.{Later};
@@ -18,16 +18,16 @@ pub fn carry_oldest<L: SharedLog>(
     log: &mut L,
     outbox: &mut Outbox,
 ) -> Result<(), AllocError>
-    requires legal { IsLegal L.Law.may L.Law.floor L.Law.shelf (L.seen log.old) }
+    requires legal { IsLegal L.Law.law (L.seen log.old) }
     requires some { 0 < length outbox.old.entries.items }
-    requires may { All (λ e. MaySend L.Law.may (L.who log.old) e) outbox.old.entries.items }
-    ensures later { Later L.Law.may L.Law.floor L.Law.shelf (L.seen log.old) (L.seen log.new) }
+    requires may { All (λ e. MaySend L.Law.law.may (L.who log.old) e) outbox.old.entries.items }
+    ensures later { Later L.Law.law (L.seen log.old) (L.seen log.new) }
     ensures who { L.who log.new ≡ L.who log.old }
     ensures known { L.reaches log.old ≤ L.reaches log.new }
     ensures carried { OnOk result (Carried L.holds (L.who log.old) (L.seen log.old) (view_of outbox.old) (L.seen log.new) (view_of outbox.new)) }
     ensures landed { OnOk result (outbox.new.unsettled ≡ None → LandsOldest L.holds (L.who log.old) (L.seen log.old) outbox.old.entries.items (L.seen log.new) outbox.new.entries.items (L.reaches log.new)) }
     ensures same { OnErr result (view_of outbox.new ≡ view_of outbox.old) }
-    ensures may { All (λ e. MaySend L.Law.may (L.who log.new) e) outbox.new.entries.items }
+    ensures may { All (λ e. MaySend L.Law.law.may (L.who log.new) e) outbox.new.entries.items }
 {
     let sessions = sessions_of(alloc, &outbox.entries[0])?;
     outbox.given.reserve(1)?;
@@ -80,15 +80,15 @@ pub fn carry_all<L: SharedLog>(
     log: &mut L,
     outbox: &mut Outbox,
 ) -> Result<(), AllocError>
-    requires may { All (λ e. MaySend L.Law.may (L.who log.old) e) outbox.old.entries.items }
-    requires legal { IsLegal L.Law.may L.Law.floor L.Law.shelf (L.seen log.old) }
-    ensures later { Later L.Law.may L.Law.floor L.Law.shelf (L.seen log.old) (L.seen log.new) }
+    requires may { All (λ e. MaySend L.Law.law.may (L.who log.old) e) outbox.old.entries.items }
+    requires legal { IsLegal L.Law.law (L.seen log.old) }
+    ensures later { Later L.Law.law (L.seen log.old) (L.seen log.new) }
     ensures who { L.who log.new ≡ L.who log.old }
     ensures known { L.reaches log.old ≤ L.reaches log.new }
     ensures settled { Settled L.holds (L.who log.old) (L.seen log.old) (view_of outbox.old) (L.seen log.new) (view_of outbox.new) }
     ensures landed { OnOk result (outbox.new.unsettled ≡ None → Lands L.holds (L.who log.old) (L.seen log.old) outbox.old.entries.items (L.seen log.new) (L.reaches log.new)) }
     ensures none { OnOk result (outbox.new.entries.items ≡ []) }
-    ensures may { All (λ e. MaySend L.Law.may (L.who log.new) e) outbox.new.entries.items }
+    ensures may { All (λ e. MaySend L.Law.law.may (L.who log.new) e) outbox.new.entries.items }
 {
     'entry: while !outbox.entries.is_empty() {
         carry_oldest(alloc, log, outbox)?;
@@ -102,16 +102,16 @@ pub fn settle_all<L: SharedLog>(
     log: &mut L,
     outbox: &mut Outbox,
 ) -> Result<(), Fault>
-    requires may { All (λ e. MaySend L.Law.may (L.who log.old) e) outbox.old.entries.items }
+    requires may { All (λ e. MaySend L.Law.law.may (L.who log.old) e) outbox.old.entries.items }
     requires few { length outbox.old.entries.items ≤ 4 }
-    requires legal { IsLegal L.Law.may L.Law.floor L.Law.shelf (L.seen log.old) }
-    ensures later { Later L.Law.may L.Law.floor L.Law.shelf (L.seen log.old) (L.seen log.new) }
+    requires legal { IsLegal L.Law.law (L.seen log.old) }
+    ensures later { Later L.Law.law (L.seen log.old) (L.seen log.new) }
     ensures who { L.who log.new ≡ L.who log.old }
     ensures known { L.reaches log.old ≤ L.reaches log.new }
     ensures calm { OnOk result (Answers L.holds (L.who log.old) (L.seen log.old) (view_of outbox.old) None (L.seen log.new) (view_of outbox.new)) }
     ensures landed { OnOk result (Lands L.holds (L.who log.old) (L.seen log.old) outbox.old.entries.items (L.seen log.new) (L.reaches log.new)) }
     ensures failing { IfErr result (λ f. Failing L.holds (L.who log.old) (L.seen log.old) (view_of outbox.old) f (L.seen log.new) (view_of outbox.new)) }
-    ensures may { All (λ e. MaySend L.Law.may (L.who log.new) e) outbox.new.entries.items }
+    ensures may { All (λ e. MaySend L.Law.law.may (L.who log.new) e) outbox.new.entries.items }
     ensures few { length outbox.new.entries.items ≤ 4 }
 {
     match carry_all(alloc, log, outbox) {

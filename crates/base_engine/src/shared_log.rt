@@ -41,9 +41,9 @@ pub trait SharedLog {
 
     /// Appends an entry, and answers its position.
     fn append(&mut self, entry: &Entry) -> Result<u64, Fault>
-        requires may { Self.Law.may (who self.old) entry.now }
+        requires may { Self.Law.law.may (who self.old) entry.now }
         requires spelled { IsSpellable entry.now }
-        ensures later { Later Self.Law.may Self.Law.floor Self.Law.shelf (seen self.old) (seen self.new) }
+        ensures later { Later Self.Law.law (seen self.old) (seen self.new) }
         ensures who { who self.new ≡ who self.old }
         ensures stands { IfOk result (λ pos. Stands (state_of (seen self.new)) pos entry.now) }
         ensures held { IfOk result (λ pos. holds (seen self.new) pos entry.now) }
@@ -54,7 +54,7 @@ pub trait SharedLog {
 
     /// A tail of the log.
     fn check_tail(&mut self) -> Result<u64, Fault>
-        ensures later { Later Self.Law.may Self.Law.floor Self.Law.shelf (seen self.old) (seen self.new) }
+        ensures later { Later Self.Law.law (seen self.old) (seen self.new) }
         ensures who { who self.new ≡ who self.old }
         ensures within { IfOk result (λ tail. tail ≤ tail_of (state_of (seen self.new))) }
         ensures above { IfOk result (λ tail. IsAbove (who self.old) (seen self.old) tail (seen self.new)) }
@@ -70,7 +70,7 @@ pub trait SharedLog {
 
     /// The first entry from position `least` on that isn't trimmed, below `most` and below what is known.
     fn read_next(&mut self, least: u64, most: u64) -> Result<Next, Fault>
-        ensures later { Later Self.Law.may Self.Law.floor Self.Law.shelf (seen self.old) (seen self.new) }
+        ensures later { Later Self.Law.law (seen self.old) (seen self.new) }
         ensures who { who self.new ≡ who self.old }
         ensures known { reaches self.new ≡ reaches self.old }
         ensures next { IfOk result (Reads holds (seen self.new) least (min most (reaches self.old))) }
@@ -81,9 +81,9 @@ pub trait SharedLog {
     /// loglet, `NoSpare`, and nothing is sealed. It is for those alone who may seal.
     fn extend(&mut self) -> Result<Extension, Fault>
         requires right { Self.Law.seals (who self.old) }
-        ensures later { Later Self.Law.may Self.Law.floor Self.Law.shelf (seen self.old) (seen self.new) }
+        ensures later { Later Self.Law.law (seen self.old) (seen self.new) }
         ensures who { who self.new ≡ who self.old }
-        ensures extension { IfOk result (IsExtendedBy (length Self.Law.shelf) (who self.old) (seen self.old) (reaches self.old) (reaches self.new) (seen self.new)) }
+        ensures extension { IfOk result (IsExtendedBy (length Self.Law.law.shelf) (who self.old) (seen self.old) (reaches self.old) (reaches self.new) (seen self.new)) }
 
         // Whatever comes of it, it begins no Seal, or one of the loglet that its first look had as the last one.
         ensures seals { SealsLast (who self.old) (seen self.old) (seen self.new) }
@@ -94,13 +94,13 @@ pub trait SharedLog {
     /// the trim.
     fn prefix_trim(&mut self, n: u64) -> Result<u64, Fault>
         requires known { n ≤ reaches self.old }
-        requires free { IsFree (state_of (seen self.old)).shown Self.Law.floor n }
-        ensures later { Later Self.Law.may Self.Law.floor Self.Law.shelf (seen self.old) (seen self.new) }
+        requires free { IsFree (state_of (seen self.old)).shown Self.Law.law.floor n }
+        ensures later { Later Self.Law.law (seen self.old) (seen self.new) }
         ensures who { who self.new ≡ who self.old }
         ensures known { reaches self.new ≡ reaches self.old }
         ensures trimmed { IfOk result (λ trim. IsPrefixTrimmed (who self.old) (seen self.old) n trim (seen self.new)) }
         ensures err { IfErr result (λ fault. HasCause (who self.old) (seen self.old) fault (seen self.new)) };
 
     /// What it holds it holds for good.
-    ghost stays: { Stays Self.Law.may Self.Law.floor Self.Law.shelf holds };
+    ghost stays: { Stays Self.Law.law holds };
 }

@@ -67,10 +67,10 @@ fn find_least<L: SharedLog, R: Replica>(
     nodes: u8,
 ) -> Result<u64, Fault>
     requires nodes { nodes ≤ 8 }
-    requires legal { IsLegal L.Law.may L.Law.floor L.Law.shelf (L.seen log.old) }
+    requires legal { IsLegal L.Law.law (L.seen log.old) }
     requires follows { Follows L.holds R.state R.spells (L.seen log.old) (R.shows replica.old) }
     requires bounded { IsKnown (L.reaches log.old) (R.shows replica.old) }
-    ensures later { Later L.Law.may L.Law.floor L.Law.shelf (L.seen log.old) (L.seen log.new) }
+    ensures later { Later L.Law.law (L.seen log.old) (L.seen log.new) }
     ensures who { L.who log.new ≡ L.who log.old }
     ensures known { L.reaches log.old ≤ L.reaches log.new }
     ensures follows { Follows L.holds R.state R.spells (L.seen log.new) (R.shows replica.new) }
@@ -103,19 +103,19 @@ fn push_through<L: SharedLog, R: Replica>(
     outbox: &mut Outbox,
     item: Item,
 ) -> Result<(), Fault>
-    requires legal { IsLegal L.Law.may L.Law.floor L.Law.shelf (L.seen log.old) }
-    requires may { All (λ e. MaySend L.Law.may (L.who log.old) e) outbox.old.entries.items }
+    requires legal { IsLegal L.Law.law (L.seen log.old) }
+    requires may { All (λ e. MaySend L.Law.law.may (L.who log.old) e) outbox.old.entries.items }
     requires few { length outbox.old.entries.items ≤ 4 }
     requires follows { Follows L.holds R.state R.spells (L.seen log.old) (R.shows replica.old) }
     requires bounded { IsKnown (L.reaches log.old) (R.shows replica.old) }
     requires item { IsProposable item }
     requires plain { under 2 item ≡ None }
-    requires own { L.Law.may (L.who log.old) (packed (R.shows replica.old).origin ((R.shows replica.old).kept ++ item ∷ [])) }
-    requires waits { (R.shows replica.old).kept ≢ [] → L.Law.may (L.who log.old) (packed (R.shows replica.old).origin (R.shows replica.old).kept) }
-    ensures later { Later L.Law.may L.Law.floor L.Law.shelf (L.seen log.old) (L.seen log.new) }
+    requires own { L.Law.law.may (L.who log.old) (packed (R.shows replica.old).origin ((R.shows replica.old).kept ++ item ∷ [])) }
+    requires waits { (R.shows replica.old).kept ≢ [] → L.Law.law.may (L.who log.old) (packed (R.shows replica.old).origin (R.shows replica.old).kept) }
+    ensures later { Later L.Law.law (L.seen log.old) (L.seen log.new) }
     ensures who { L.who log.new ≡ L.who log.old }
     ensures known { L.reaches log.old ≤ L.reaches log.new }
-    ensures may { All (λ e. MaySend L.Law.may (L.who log.new) e) outbox.new.entries.items }
+    ensures may { All (λ e. MaySend L.Law.law.may (L.who log.new) e) outbox.new.entries.items }
     ensures few { length outbox.new.entries.items ≤ 4 }
     ensures follows { Follows L.holds R.state R.spells (L.seen log.new) (R.shows replica.new) }
     ensures bounded { IsKnown (L.reaches log.new) (R.shows replica.new) }
@@ -123,7 +123,7 @@ fn push_through<L: SharedLog, R: Replica>(
     ensures counts { (R.shows replica.old).faults ≤ (R.shows replica.new).faults }
     ensures origin { (R.shows replica.new).origin ≡ (R.shows replica.old).origin }
     ensures arming { LeavesArming 0 (R.shows replica.old) (R.shows replica.new) }
-    ensures waiting { (R.shows replica.new).kept ≢ [] → L.Law.may (L.who log.old) (packed (R.shows replica.old).origin (R.shows replica.new).kept) }
+    ensures waiting { (R.shows replica.new).kept ≢ [] → L.Law.law.may (L.who log.old) (packed (R.shows replica.old).origin (R.shows replica.new).kept) }
     ensures any_crash { AnyCrash (R.shows replica.old).disk (R.shows replica.new).disk (SpellsOne R.spells (IsFound L.holds R.state (L.seen log.new) (R.shows replica.old).cursor)) }
     ensures landed { OnOk result (HasLanded L.holds (L.who log.old) (R.shows replica.old).origin (L.seen log.old) item (L.seen log.new)) }
     ensures blames { (view_of outbox.old).unsettled ≡ None → IfErr result (λ f. Blames (L.who log.old) (L.seen log.old) (R.shows replica.old).faults f (L.seen log.new) (R.shows replica.new).faults) }
@@ -161,12 +161,12 @@ pub fn trim_applied<L: SharedLog, R: Replica>(
     nodes: u8,
 ) -> Result<u64, Fault>
     requires nodes { nodes ≤ 8 }
-    requires shown { ShowsAll L.Law.may L.Law.floor L.Law.shelf L.holds }
-    requires legal { IsLegal L.Law.may L.Law.floor L.Law.shelf (L.seen log.old) }
+    requires shown { ShowsAll L.Law.law L.holds }
+    requires legal { IsLegal L.Law.law (L.seen log.old) }
     requires follows { Follows L.holds R.state R.spells (L.seen log.old) (R.shows replica.now) }
     requires bounded { IsKnown (L.reaches log.old) (R.shows replica.now) }
-    requires free { (front : List Entry) → IsFront L.holds (L.seen log.old) front → length front ≡ (R.shows replica.now).cursor → L.Law.floor front (trim_to nodes (R.shows replica.now)) }
-    ensures later { Later L.Law.may L.Law.floor L.Law.shelf (L.seen log.old) (L.seen log.new) }
+    requires free { (front : List Entry) → IsFront L.holds (L.seen log.old) front → length front ≡ (R.shows replica.now).cursor → L.Law.law.floor front (trim_to nodes (R.shows replica.now)) }
+    ensures later { Later L.Law.law (L.seen log.old) (L.seen log.new) }
     ensures who { L.who log.new ≡ L.who log.old }
     ensures known { L.reaches log.new ≡ L.reaches log.old }
     ensures blames { IfErr result (λ f. (faults faults' : ℕ) → Blames (L.who log.old) (L.seen log.old) faults f (L.seen log.new) faults') }
@@ -190,12 +190,12 @@ fn trim_below<L: SharedLog, R: Replica>(
     nodes: u8,
 ) -> Result<u64, Fault>
     requires nodes { nodes ≤ 8 }
-    requires floor { IsFloor R.state L.Law.floor nodes }
-    requires shown { ShowsAll L.Law.may L.Law.floor L.Law.shelf L.holds }
-    requires legal { IsLegal L.Law.may L.Law.floor L.Law.shelf (L.seen log.old) }
+    requires floor { IsFloor R.state L.Law.law.floor nodes }
+    requires shown { ShowsAll L.Law.law L.holds }
+    requires legal { IsLegal L.Law.law (L.seen log.old) }
     requires follows { Follows L.holds R.state R.spells (L.seen log.old) (R.shows replica.old) }
     requires bounded { IsKnown (L.reaches log.old) (R.shows replica.old) }
-    ensures later { Later L.Law.may L.Law.floor L.Law.shelf (L.seen log.old) (L.seen log.new) }
+    ensures later { Later L.Law.law (L.seen log.old) (L.seen log.new) }
     ensures who { L.who log.new ≡ L.who log.old }
     ensures known { L.reaches log.new ≡ L.reaches log.old }
     ensures follows { Follows L.holds R.state R.spells (L.seen log.new) (R.shows replica.new) }
@@ -234,19 +234,19 @@ pub fn trim_now<L: SharedLog, R: Replica>(
     nodes: u8,
 ) -> Result<u64, Fault>
     requires nodes { nodes ≤ 8 }
-    requires floor { IsFloor R.state L.Law.floor nodes }
-    requires shown { ShowsAll L.Law.may L.Law.floor L.Law.shelf L.holds }
-    requires legal { IsLegal L.Law.may L.Law.floor L.Law.shelf (L.seen log.old) }
-    requires may { All (λ e. MaySend L.Law.may (L.who log.old) e) outbox.old.entries.items }
+    requires floor { IsFloor R.state L.Law.law.floor nodes }
+    requires shown { ShowsAll L.Law.law L.holds }
+    requires legal { IsLegal L.Law.law (L.seen log.old) }
+    requires may { All (λ e. MaySend L.Law.law.may (L.who log.old) e) outbox.old.entries.items }
     requires few { length outbox.old.entries.items ≤ 4 }
     requires follows { Follows L.holds R.state R.spells (L.seen log.old) (R.shows replica.old) }
     requires bounded { IsKnown (L.reaches log.old) (R.shows replica.old) }
-    requires own { (position : ℕ) → position < 2 ^ 64 → L.Law.may (L.who log.old) (packed (R.shows replica.old).origin ((R.shows replica.old).kept ++ trim_item position ∷ [])) }
-    requires waits { (R.shows replica.old).kept ≢ [] → L.Law.may (L.who log.old) (packed (R.shows replica.old).origin (R.shows replica.old).kept) }
-    ensures later { Later L.Law.may L.Law.floor L.Law.shelf (L.seen log.old) (L.seen log.new) }
+    requires own { (position : ℕ) → position < 2 ^ 64 → L.Law.law.may (L.who log.old) (packed (R.shows replica.old).origin ((R.shows replica.old).kept ++ trim_item position ∷ [])) }
+    requires waits { (R.shows replica.old).kept ≢ [] → L.Law.law.may (L.who log.old) (packed (R.shows replica.old).origin (R.shows replica.old).kept) }
+    ensures later { Later L.Law.law (L.seen log.old) (L.seen log.new) }
     ensures who { L.who log.new ≡ L.who log.old }
     ensures known { L.reaches log.old ≤ L.reaches log.new }
-    ensures may { All (λ e. MaySend L.Law.may (L.who log.new) e) outbox.new.entries.items }
+    ensures may { All (λ e. MaySend L.Law.law.may (L.who log.new) e) outbox.new.entries.items }
     ensures few { length outbox.new.entries.items ≤ 4 }
     ensures follows { Follows L.holds R.state R.spells (L.seen log.new) (R.shows replica.new) }
     ensures bounded { IsKnown (L.reaches log.new) (R.shows replica.new) }
@@ -254,7 +254,7 @@ pub fn trim_now<L: SharedLog, R: Replica>(
     ensures counts { (R.shows replica.old).faults ≤ (R.shows replica.new).faults }
     ensures origin { (R.shows replica.new).origin ≡ (R.shows replica.old).origin }
     ensures arming { LeavesArming 0 (R.shows replica.old) (R.shows replica.new) }
-    ensures waiting { (R.shows replica.new).kept ≢ [] → L.Law.may (L.who log.old) (packed (R.shows replica.old).origin (R.shows replica.new).kept) }
+    ensures waiting { (R.shows replica.new).kept ≢ [] → L.Law.law.may (L.who log.old) (packed (R.shows replica.old).origin (R.shows replica.new).kept) }
     ensures any_crash { AnyCrash (R.shows replica.old).disk (R.shows replica.new).disk (SpellsOne R.spells (IsFound L.holds R.state (L.seen log.new) (R.shows replica.old).cursor)) }
     ensures trims { IfOk result (Trims L.holds R.state nodes (L.who log.old) (R.shows replica.old).origin (L.seen log.old) (L.seen log.new) (R.shows replica.new) (L.reaches log.new)) }
     ensures blames { (view_of outbox.old).unsettled ≡ None → IfErr result (λ f. Blames (L.who log.old) (L.seen log.old) (R.shows replica.old).faults f (L.seen log.new) (R.shows replica.new).faults) }
@@ -281,11 +281,11 @@ pub fn trim_now<L: SharedLog, R: Replica>(
 /// Lets the log go on in its next loglet, if it has one. It is for those alone who may seal.
 pub fn extend<L: SharedLog>(log: &mut L) -> Result<Extension, Fault>
     requires right { L.Law.seals (L.who log.old) }
-    ensures later { Later L.Law.may L.Law.floor L.Law.shelf (L.seen log.old) (L.seen log.new) }
+    ensures later { Later L.Law.law (L.seen log.old) (L.seen log.new) }
     ensures who { L.who log.new ≡ L.who log.old }
     ensures known { L.reaches log.old ≤ L.reaches log.new }
     ensures seals { SealsLast (L.who log.old) (L.seen log.old) (L.seen log.new) }
-    ensures extension { IfOk result (IsExtendedBy (length L.Law.shelf) (L.who log.old) (L.seen log.old) (L.reaches log.old) (L.reaches log.new) (L.seen log.new)) }
+    ensures extension { IfOk result (IsExtendedBy (length L.Law.law.shelf) (L.who log.old) (L.seen log.old) (L.reaches log.old) (L.reaches log.new) (L.seen log.new)) }
     ensures blames { IfErr result (λ f. (faults faults' : ℕ) → Blames (L.who log.old) (L.seen log.old) faults f (L.seen log.new) faults') }
 {
     match log.extend() {

@@ -1,6 +1,6 @@
 -- Before any event.
-use Rattle.std.proofs.Common.{refl, inl, ℕ, [], List}
-use Rattle.delos_types.specs.declared.entry.Entry.{Entry}
+use Rattle.std.proofs.Common.{refl, inl, ℕ, []}
+use Rattle.legal_journal.specs.Law.{Law}
 use Rattle.legal_journal.specs.declared.events.FabricCall.{FabricCall}
 use Rattle.legal_journal.specs.declared.events.FabricCall.TheVariants.{Begin, Carry, Forget, ReadChain, WriteChain, Stop, Mend, Stray, StopMeta, MendMeta}
 use Rattle.legal_journal.specs.declared.events.FabricAnswer.TheVariants.{Memory}
@@ -20,5 +20,5 @@ own_none who (StopMeta n) = refl
 own_none who (MendMeta word) = refl
 
 -- a call without a fabric
-pub no_turn : (may : ℕ → Entry → Type 0) (floor : List Entry → ℕ → Type 0) (shelf : List ℕ) (who : ℕ) (call : FabricCall) → IsLegal may floor shelf [] → IsTurn may floor shelf who [] call Memory []
-no_turn may floor shelf who call legal = record { others = []; own = []; apart = tt; event = own_none who call; seen = refl; legal = legal }
+pub no_turn : (law : Law) (who : ℕ) (call : FabricCall) → IsLegal law [] → IsTurn law who [] call Memory []
+no_turn law who call legal = record { others = []; own = []; apart = tt; event = own_none who call; seen = refl; legal = legal }

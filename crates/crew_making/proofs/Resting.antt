@@ -6,6 +6,7 @@ use Rattle.std.specs.List.{AllByRecursion}
 use Rattle.delos_types.specs.Spaces.{SpaceMap}
 use Rattle.delos_types.specs.declared.entry.Entry.{Entry}
 use Rattle.delos_types.specs.declared.cause.Cause.{Cause}
+use Rattle.legal_journal.specs.Law.{Law}
 use Rattle.legal_journal.specs.declared.events.Event.{Event}
 use Rattle.legal_journal.specs.Journal.{IsLegal, state_of, tail_of}
 use Rattle.journal_laws.specs.Unsealed.{IsUnsealed}
@@ -106,8 +107,8 @@ first_course = record { journal = []; phase = 0; tails = λ _. tail_of (state_of
 some_none : {A : Type 0} (x : Option A) (a : A) → x ≡ None → x ≡ Some a → ⊥
 some_none x a h k = absurd (cc)
 
-module _ (may : ℕ → Entry → Type 0) (floor : List Entry → ℕ → Type 0) (shelf : List ℕ) (lines : List NamedLine) (counts : List ℕ) (looks : List (Option Looked)) (none_sent : (s : ℕ) → sent_of counts s ≡ 0) (long : length counts ≡ 64) (size : length looks ≡ length lines) (none : AllByRecursion (λ look. look ≡ None) looks) where
-  course_ok : (nodes : ℕ) → IsLegal may floor shelf [] → CourseOk may floor shelf lines nodes first_course counts looks
+module _ (law : Law) (lines : List NamedLine) (counts : List ℕ) (looks : List (Option Looked)) (none_sent : (s : ℕ) → sent_of counts s ≡ 0) (long : length counts ≡ 64) (size : length looks ≡ length lines) (none : AllByRecursion (λ look. look ≡ None) looks) where
+  course_ok : (nodes : ℕ) → IsLegal law [] → CourseOk law lines nodes first_course counts looks
   course_ok nodes legal = record {
     legal = within;
     long = long;
@@ -125,7 +126,7 @@ module _ (may : ℕ → Entry → Type 0) (floor : List Entry → ℕ → Type 0
     size = size;
     events = λ P store. let calm = nothing_failed (λ n. P) lines looks none in omega (arith, calm);
     nodes_are = tt;
-    replaced = replaced_none lines looks (state_of []).register (length shelf) (λ i look at. at_get (λ look. look ≡ None) looks i look none at);
+    replaced = replaced_none lines looks (state_of []).register (length law.shelf) (λ i look at. at_get (λ look. look ≡ None) looks i look none at);
     unsealed = λ calm. subst (IsUnsealed (state_of [])) (sym (none_counted looks (λ i look at. at_get (λ look. look ≡ None) looks i look none at))) begins_unsealed;
     told = λ e p has says. absurd (none_in e has);
     stand = λ i l look at seen. absurd (not_looked i l look at seen);
@@ -140,17 +141,17 @@ module _ (may : ℕ → Entry → Type 0) (floor : List Entry → ℕ → Type 0
       not_looked : (i : ℕ) (l : NamedLine) (look : Looked) → slice_get lines i ≡ Some l → slice_get looks i ≡ Some (Some look) → ⊥
       not_looked i l look at seen = let t : Some None ≡ Some (Some look) = sym (none_there lines looks i l size none at) ∙ seen in cc
 
-      within : IsLegal (Within may counts) floor shelf []
+      within : IsLegal (record law { may = Within law.may counts }) []
       within = record { least = legal.least; most = legal.most; steps = tt }
 
   module _ (state : List Entry → SpaceMap → Type 0) (spells : List ℕ → Saved → Type 0) (home : ℕ → ℕ) where
-    worker_rests : (nodes n : ℕ) (seat : SeatView) (desks : List Desk) → IsNewWorker (Sends n may [] []) floor shelf state spells nodes n seat desks → Rests may floor shelf state spells lines home nodes first_course counts looks n 0 0 seat desks
+    worker_rests : (nodes n : ℕ) (seat : SeatView) (desks : List Desk) → IsNewWorker (record law { may = Sends n law.may [] [] }) state spells nodes n seat desks → Rests law state spells lines home nodes first_course counts looks n 0 0 seat desks
     worker_rests nodes n seat desks w = record {
       worker = record {
         ok = record {
           who_is = w.waits.who_is;
           origin = w.waits.replica.origin_is;
-          ok = seat_wider (Sends n may [] []) (Sends n may (sent_by desks) []) floor floor shelf (λ user e k. sends_more n may [] (sent_by desks) [] (λ s. omega arith) user e k) (λ log m k. k) state spells [] seat w.waits.ok;
+          ok = seat_wider (record law { may = Sends n law.may [] [] }) (record law { may = Sends n law.may (sent_by desks) [] }) (record { may = λ user e k. sends_more n law.may [] (sent_by desks) [] (λ s. omega arith) user e k; floor = λ log m k. k; shelf = refl }) state spells [] seat w.waits.ok;
           packs = subst CanPack (sym kept) (record { each = λ k d low. absurd (omega (arith, low)); few = omega arith });
           waits = subst (All IsOfSession) (sym kept) (λ k d low. absurd (omega (arith, low)));
           size = w.desks_are.size;
@@ -186,8 +187,8 @@ module _ (may : ℕ → Entry → Type 0) (floor : List Entry → ℕ → Type 0
           held = λ cause _ is. absurd (some_none d.stopped cause h.goes_on is);
         }
 
-    pub crew_rests : {A : Type 0} (seat : A → SeatView) (desks : A → List Desk) (workers : List A) → AreLines lines home (length workers) → IsLegal may floor shelf []
-        → AreNewWorkers (λ n. Sends n may [] []) floor shelf state spells (length workers) seat desks workers → CrewRests may floor shelf state spells lines 0 0 [] looks seat desks workers
+    pub crew_rests : {A : Type 0} (seat : A → SeatView) (desks : A → List Desk) (workers : List A) → AreLines lines home (length workers) → IsLegal law []
+        → AreNewWorkers (λ n. record law { may = Sends n law.may [] [] }) state spells (length workers) seat desks workers → CrewRests law state spells lines 0 0 [] looks seat desks workers
     crew_rests seat desks workers are legal new = record {
       home = home;
       course = first_course;
@@ -204,6 +205,6 @@ module _ (may : ℕ → Entry → Type 0) (floor : List Entry → ℕ → Type 0
           record { at = 0; one = first.0; is = first.1; upto = omega (arith, none) };
     }
 
-pub new_stands : {A : Type 0} (may : ℕ → Entry → Type 0) (floor : List Entry → ℕ → Type 0) (shelf : List ℕ) (state : List Entry → SpaceMap → Type 0) (spells : List ℕ → Saved → Type 0) (nodes : ℕ) (seat : A → SeatView) (desks : A → List Desk) (workers : List A)
-    → AreNewWorkers (λ n. Sends n may [] []) floor shelf state spells nodes seat desks workers → CrewStands may floor shelf state spells [] seat workers
-new_stands may floor shelf state spells nodes seat desks workers new = λ j w at. seat_allowed may floor shelf (j + 1) [] state spells [] (seat w) (new j w at).waits.ok
+pub new_stands : {A : Type 0} (law : Law) (state : List Entry → SpaceMap → Type 0) (spells : List ℕ → Saved → Type 0) (nodes : ℕ) (seat : A → SeatView) (desks : A → List Desk) (workers : List A)
+    → AreNewWorkers (λ n. record law { may = Sends n law.may [] [] }) state spells nodes seat desks workers → CrewStands law state spells [] seat workers
+new_stands law state spells nodes seat desks workers new = λ j w at. seat_allowed law (j + 1) [] state spells [] (seat w) (new j w at).waits.ok

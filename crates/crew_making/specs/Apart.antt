@@ -1,8 +1,8 @@
 -- What comes back as a run is taken apart.
 use Rattle.std.specs.Prelude.{◌≡◌, ℕ, ◌≤◌, List, map, slice_get, Some}
-use Rattle.delos_types.specs.declared.entry.Entry.{Entry}
 use Rattle.loglet_api.specs.View.{LogletView}
 use Rattle.register_api.specs.View.{RegisterView}
+use Rattle.legal_journal.specs.Law.{Law}
 use Rattle.legal_journal.specs.declared.events.Event.{Event}
 use Rattle.legal_journal.specs.Journal.{IsLegal, state_of, log_at, trim_of, tail_of}
 use Rattle.fabric_core.specs.Log.{virtual_log_at, virtual_tail}
@@ -11,9 +11,9 @@ use Rattle.fabric_core.specs.Fabric.{IsRegisterAsTold}
 
 -- The loglets and their register are as the journal tells: its events are a run of each from a fresh one, and what they show
 -- is what it tells.
-pub record AreAsTold (may : ℕ → Entry → Type 0) (floor : List Entry → ℕ → Type 0) (shelf : List ℕ) (journal : List Event) (cells : List LogletView) (register : RegisterView) : Type 0 where
-  pub legal : IsLegal may floor shelf journal
-  pub shelf_is : map (λ v. v.servers) cells ≡ shelf
+pub record AreAsTold (law : Law) (journal : List Event) (cells : List LogletView) (register : RegisterView) : Type 0 where
+  pub legal : IsLegal law journal
+  pub shelf_is : map (λ v. v.servers) cells ≡ law.shelf
   pub runs : (i : ℕ) (v : LogletView) → slice_get cells i ≡ Some v → HasRun i journal v
   pub register_runs : HasRegisterRun journal register
   pub register_is : IsRegisterAsTold (state_of journal).register register

@@ -3,6 +3,7 @@ use Rattle.std.specs.Prelude.{◌≡◌, ℕ, ◌+◌, List, [], ◌∷◌, leng
 use Rattle.delos_types.specs.Spaces.{SpaceMap}
 use Rattle.delos_types.specs.declared.entry.Entry.{Entry}
 use Rattle.chain_map.specs.Chain.{first_chain}
+use Rattle.legal_journal.specs.Law.{Law}
 use Rattle.virtual_log.specs.Log as log
 use Rattle.replica_api.specs.Replica.{Saved, ReplicaView}
 use Rattle.replica_api.specs.Fresh.{IsFreshReplica}
@@ -40,18 +41,18 @@ AreFreshFrom state spells n [] = Unit {0}
 AreFreshFrom state spells n (v ∷ vs) = IsFreshReplica state spells n v × AreFreshFrom state spells (n + 1) vs
 
 -- one of so many nodes that waits for its first turn: it has sent nothing, and may take the fabric before any event
-pub record IsNewSeat (may : ℕ → Entry → Type 0) (floor : List Entry → ℕ → Type 0) (shelf : List ℕ) (state : List Entry → SpaceMap → Type 0) (spells : List ℕ → Saved → Type 0) (nodes who : ℕ) (seat : SeatView) : Type 0 where
+pub record IsNewSeat (law : Law) (state : List Entry → SpaceMap → Type 0) (spells : List ℕ → Saved → Type 0) (nodes who : ℕ) (seat : SeatView) : Type 0 where
   pub who_is : seat.who ≡ who
   pub nodes_is : seat.node.nodes ≡ nodes
   pub replica : IsFreshReplica state spells who seat.node.replica
   pub outbox : seat.node.outbox ≡ record { entries = []; given = []; unsettled = None }
-  pub ok : SeatOk may floor shelf state spells [] seat
+  pub ok : SeatOk law state spells [] seat
 
 -- a node, and the desks of the sessions
-pub record IsNewWorker (may : ℕ → Entry → Type 0) (floor : List Entry → ℕ → Type 0) (shelf : List ℕ) (state : List Entry → SpaceMap → Type 0) (spells : List ℕ → Saved → Type 0) (nodes who : ℕ) (seat : SeatView) (desks : List Desk) : Type 0 where
-  pub waits : IsNewSeat may floor shelf state spells nodes who seat
+pub record IsNewWorker (law : Law) (state : List Entry → SpaceMap → Type 0) (spells : List ℕ → Saved → Type 0) (nodes who : ℕ) (seat : SeatView) (desks : List Desk) : Type 0 where
+  pub waits : IsNewSeat law state spells nodes who seat
   pub desks_are : AreFreshDesks desks
 
 -- all of so many nodes, numbered from 1, each by its own scope
-abbrev pub AreNewWorkers : {A : Type 0} → (ℕ → ℕ → Entry → Type 0) → (List Entry → ℕ → Type 0) → List ℕ → (List Entry → SpaceMap → Type 0) → (List ℕ → Saved → Type 0) → ℕ → (A → SeatView) → (A → List Desk) → List A → Type 0
-AreNewWorkers {A} sends floor shelf state spells nodes seat desks workers = (j : ℕ) (w : A) → slice_get workers j ≡ Some w → IsNewWorker (sends (j + 1)) floor shelf state spells nodes (j + 1) (seat w) (desks w)
+abbrev pub AreNewWorkers : {A : Type 0} → (ℕ → Law) → (List Entry → SpaceMap → Type 0) → (List ℕ → Saved → Type 0) → ℕ → (A → SeatView) → (A → List Desk) → List A → Type 0
+AreNewWorkers {A} law state spells nodes seat desks workers = (j : ℕ) (w : A) → slice_get workers j ≡ Some w → IsNewWorker (law (j + 1)) state spells nodes (j + 1) (seat w) (desks w)

@@ -52,10 +52,10 @@ fn prepare<K: Terms, S: Replica, C: Chooser>(
     node: OpenNode<S, C>,
     shelf_len: u32,
 ) -> Result<Berth<S, C>, OpenNode<S, C>>
-    requires legal { IsLegal K.may K.floor K.shelf [] }
-    requires shelf { shelf_len ≡ length K.shelf }
+    requires legal { IsLegal K.law [] }
+    requires shelf { shelf_len ≡ length K.law.shelf }
     ensures replica { IfOk result (λ b. b.replica ≡ node.replica) }
-    ensures log { IfOk result (λ b. IsFreshLog (length K.shelf) b.log) }
+    ensures log { IfOk result (λ b. IsFreshLog (length K.law.shelf) b.log) }
     ensures desks { IfOk result (λ b. AreFreshDesks b.desks.items) }
     ensures err { IfErr result (λ n. n.replica ≡ node.replica) }
 {
@@ -83,8 +83,8 @@ fn prepare<K: Terms, S: Replica, C: Chooser>(
 
 /// The parts again.
 fn leave<K: Terms, S: Replica, C: Chooser>(berth: Berth<S, C>) -> OpenNode<S, C>
-    requires legal { IsLegal K.may K.floor K.shelf [] }
-    requires log { IsFreshLog (length K.shelf) berth.log }
+    requires legal { IsLegal K.law [] }
+    requires log { IsFreshLog (length K.law.shelf) berth.log }
     ensures { result.replica ≡ berth.replica }
 {
     let Berth {
@@ -116,8 +116,8 @@ pub fn leave_all<K: Terms, S: Replica, C: Chooser>(
     berths: Vec<Berth<S, C>>,
     nodes: &mut Vec<OpenNode<S, C>>,
 )
-    requires legal { IsLegal K.may K.floor K.shelf [] }
-    requires logs { AllByRecursion (λ b. IsFreshLog (length K.shelf) b.log) berths.items }
+    requires legal { IsLegal K.law [] }
+    requires logs { AllByRecursion (λ b. IsFreshLog (length K.law.shelf) b.log) berths.items }
     requires room { length berths.items + length nodes.old.items ≤ vec_capacity nodes.old }
     ensures nodes { map (λ n. n.replica) nodes.new.items ≡ map (λ b. b.replica) berths.items ++ map (λ n. n.replica) nodes.old.items }
     ensures room { vec_capacity nodes.old ≤ vec_capacity nodes.new }
@@ -136,11 +136,11 @@ pub fn prepare_all<K: Terms, S: Replica, C: Chooser>(
     nodes: &mut Vec<OpenNode<S, C>>,
     shelf_len: u32,
 ) -> Result<Vec<Berth<S, C>>, AllocError>
-    requires legal { IsLegal K.may K.floor K.shelf [] }
-    requires shelf { shelf_len ≡ length K.shelf }
+    requires legal { IsLegal K.law [] }
+    requires shelf { shelf_len ≡ length K.law.shelf }
     requires eight { length nodes.old.items ≤ 8 }
     ensures replicas { IfOk result (λ berths. map (λ b. b.replica) berths.items ≡ map (λ n. n.replica) nodes.old.items) }
-    ensures logs { IfOk result (λ berths. AllByRecursion (λ b. IsFreshLog (length K.shelf) b.log) berths.items) }
+    ensures logs { IfOk result (λ berths. AllByRecursion (λ b. IsFreshLog (length K.law.shelf) b.log) berths.items) }
     ensures desks { IfOk result (λ berths. AllByRecursion (λ b. AreFreshDesks b.desks.items) berths.items) }
     ensures taken { OnOk result (nodes.new.items ≡ []) }
     ensures err { OnErr result (map (λ n. n.replica) nodes.new.items ≡ map (λ n. n.replica) nodes.old.items) }

@@ -22,12 +22,12 @@ impl<P: Rules> Model for Early<P> {
 
     ghost view = { λ e. e.who };
 
-    ghost invariant = { λ e. IsLegal P.may P.floor P.shelf [] };
+    ghost invariant = { λ e. IsLegal P.law [] };
 }
 
 impl<P: Rules> Early<P> {
     pub fn new(who: u32) -> Self
-        requires legal { IsLegal P.may P.floor P.shelf [] }
+        requires legal { IsLegal P.law [] }
         ensures { result ≡ who }
     {
         Early {

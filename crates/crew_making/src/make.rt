@@ -41,10 +41,10 @@ fn seat_within<K: Terms, Q: Scope, S: Replica, C: Chooser>(
     replica: S,
 ) -> Seat<S, C>
     requires eight { nodes ≤ 8 }
-    requires legal { IsLegal K.may K.floor K.shelf [] }
-    requires log { IsFreshLog (length K.shelf) log }
+    requires legal { IsLegal Q.law [] }
+    requires log { IsFreshLog (length Q.law.shelf) log }
     requires fresh { IsFreshReplica S.state S.spells who (S.shows replica) }
-    ensures seat { IsNewSeat Q.sends Q.floor K.shelf S.state S.spells nodes who result }
+    ensures seat { IsNewSeat Q.law S.state S.spells nodes who result }
     ensures replica { result.node.replica ≡ S.shows replica }
 {
     let log = log.wake(Early::<Within<By<K>, Q>>::new(who));
@@ -60,12 +60,12 @@ fn seat_all<K: Terms, S: Replica, C: Chooser>(
     workers: Vec<Worker<S, C>>,
 ) -> Vec<Worker<S, C>>
     requires eight { length berths.items ≤ 8 }
-    requires legal { IsLegal K.may K.floor K.shelf [] }
-    requires logs { AllByRecursion (λ b. IsFreshLog (length K.shelf) b.log) berths.items }
+    requires legal { IsLegal K.law [] }
+    requires logs { AllByRecursion (λ b. IsFreshLog (length K.law.shelf) b.log) berths.items }
     requires desks { AllByRecursion (λ b. AreFreshDesks b.desks.items) berths.items }
     requires fresh { AreFreshFrom S.state S.spells 1 (map (λ b. S.shows b.replica) berths.items) }
     requires room { (workers.items ≡ []) × (length berths.items ≤ vec_capacity workers) }
-    ensures workers { AreNewWorkers (λ n. Sends n K.may [] []) K.floor K.shelf S.state S.spells (length berths.items) (λ w. w.seat) (λ w. w.desks.items) result.items }
+    ensures workers { AreNewWorkers (λ n. record K.law { may = Sends n K.law.may [] [] }) S.state S.spells (length berths.items) (λ w. w.seat) (λ w. w.desks.items) result.items }
     ensures replicas { map (λ w. w.seat.node.replica) result.items ≡ map (λ b. S.shows b.replica) berths.items }
 {
     let nodes = berths.len() as u8;
@@ -106,7 +106,7 @@ pub fn make_crew<L: Loglet, R: Register, K: Terms, S: Replica, C: Chooser>(
 ) -> Result<Crew<L, R, K, S, C>, Parts<L, R>>
     requires least { 0 < length cells.items }
     requires most { length cells.items ≤ 64 }
-    requires shelf { map (λ v. v.servers) (map L.view cells.items) ≡ K.shelf }
+    requires shelf { map (λ v. v.servers) (map L.view cells.items) ≡ K.law.shelf }
     requires kinds { map (λ v. v.kind) (map L.view cells.items) ≡ K.kinds }
     requires fresh { All (λ l. IsFresh (L.view l)) cells.items }
     requires sound { All (λ l. IsSound (L.view l)) cells.items }
@@ -114,10 +114,10 @@ pub fn make_crew<L: Loglet, R: Register, K: Terms, S: Replica, C: Chooser>(
     requires eight { length nodes.old.items ≤ 8 }
     requires nodes { (j : ℕ) (n : OpenNode S C) → slice_get nodes.old.items j ≡ Some n → IsFreshReplica S.state S.spells (j + 1) (S.shows n.replica) }
     requires lines { (home : ℕ → ℕ) × AreLines lines.now home (length nodes.old.items) }
-    ensures rests { IfOk result (λ crew. CrewRests K.may K.floor K.shelf S.state S.spells lines.now 0 0 crew.fabric.journal crew.looks.items (λ w. w.seat) (λ w. w.desks.items) crew.workers.items) }
-    ensures stands { IfOk result (λ crew. CrewStands K.may K.floor K.shelf S.state S.spells crew.fabric.journal (λ w. w.seat) crew.workers.items) }
+    ensures rests { IfOk result (λ crew. CrewRests K.law S.state S.spells lines.now 0 0 crew.fabric.journal crew.looks.items (λ w. w.seat) (λ w. w.desks.items) crew.workers.items) }
+    ensures stands { IfOk result (λ crew. CrewStands K.law S.state S.spells crew.fabric.journal (λ w. w.seat) crew.workers.items) }
     ensures none { IfOk result (λ crew. crew.fabric.journal ≡ []) }
-    ensures told { IfOk result (λ crew. AreAsTold K.may K.floor K.shelf [] crew.fabric.cells crew.fabric.register) }
+    ensures told { IfOk result (λ crew. AreAsTold K.law [] crew.fabric.cells crew.fabric.register) }
 
     // The loglets, their servers and the register are those that were handed in.
     ensures cells { IfOk result (λ crew. crew.fabric.cells ≡ map L.view cells.items) }

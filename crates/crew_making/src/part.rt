@@ -32,8 +32,8 @@ fn part_within<A: Access, Q: Scope, S: Replica, C: Chooser>(
     seat: Seat<S, C>,
 ) -> Apart<A, S, C>
     requires who { seat.who ≡ A.who access }
-    requires narrows { Narrows A.Law.may Q.sends A.Law.floor Q.floor A.Law.shelf (A.beside (A.who access)) }
-    requires seat { SeatOk Q.sends Q.floor A.Law.shelf S.state S.spells (A.seen access) seat }
+    requires narrows { Narrows Q.law A.Law.law (A.beside (A.who access)) }
+    requires seat { SeatOk Q.law S.state S.spells (A.seen access) seat }
     requires whose { Q.who ≡ A.who access }
     requires since { Q.since ≡ A.seen access }
     ensures replica { S.shows result.node.replica ≡ seat.node.replica }
@@ -57,10 +57,10 @@ pub fn part_crew<L: Loglet, R: Register, K: Terms, S: Replica, C: Chooser>(
     crew: Crew<L, R, K, S, C>,
     nodes: &mut Vec<OpenNode<S, C>>,
 ) -> Parts<L, R>
-    requires stands { CrewStands K.may K.floor K.shelf S.state S.spells crew.fabric.journal (λ w. w.seat) crew.workers.items }
+    requires stands { CrewStands K.law S.state S.spells crew.fabric.journal (λ w. w.seat) crew.workers.items }
     requires none { nodes.old.items ≡ [] }
     requires room { length crew.workers.items ≤ vec_capacity nodes.old }
-    ensures told { AreAsTold K.may K.floor K.shelf crew.fabric.journal (map L.view result.cells.items) (R.view result.register) }
+    ensures told { AreAsTold K.law crew.fabric.journal (map L.view result.cells.items) (R.view result.register) }
     ensures kinds { map (λ v. v.kind) (map L.view result.cells.items) ≡ K.kinds }
     ensures nodes { map (λ n. S.shows n.replica) nodes.new.items ≡ map (λ w. w.seat.node.replica) crew.workers.items }
 {

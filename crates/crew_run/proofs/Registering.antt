@@ -1,8 +1,8 @@
 -- The chain that was read last is told of any register that is as the journal tells.
 use Rattle.std.proofs.Common.{◌≡◌, refl, sym, ap, ◌∙◌, subst, ◌⊎◌, inl, inr, ℕ, ◌+◌, true, false, List, [], ◌∷◌, ◌++◌, Some, None, arith, append_assoc}
-use Rattle.delos_types.specs.declared.entry.Entry.{Entry}
 use Rattle.chain_map.specs.Chain.{is_chain}
 use Rattle.register_api.specs.View.{RegisterView}
+use Rattle.legal_journal.specs.Law.{Law}
 use Rattle.legal_journal.specs.declared.events.Event.{Event}
 use Rattle.legal_journal.specs.declared.events.FabricCall.{FabricCall}
 use Rattle.legal_journal.specs.declared.events.FabricCall.TheVariants.{ReadChain, MendMeta}
@@ -48,27 +48,27 @@ ends-asked : (es : List Event) → AskedOnce (calls_of es) → EndsBy ReadChain 
 ends-asked es (inl h) = ends-one es ReadChain h
 ends-asked es (inr h) = ends-three es ReadChain (MendMeta 0) ReadChain h
 
-module _ (may : ℕ → Entry → Type 0) (floor : List Entry → ℕ → Type 0) (shelf : List ℕ) where
+module _ (law : Law) where
   -- after a read that was answered, no write is in doubt
-  read_settles : (w : State) (cells who : ℕ) (answer : FabricAnswer) → IsAllowed w may floor cells who (move_of ReadChain answer) → (after w who (move_of ReadChain answer)).register.down ≡ false → (after w who (move_of ReadChain answer)).register.asked ≡ None
-  read_settles w cells who (At v c) h up = refl
-  read_settles w cells who Down h up = absurd (let t : true ≡ false = sym h ∙ up in cc)
-  read_settles w cells who answer h up = absurd h
+  read_settles : (w : State) (who : ℕ) (answer : FabricAnswer) → IsAllowed w law who (move_of ReadChain answer) → (after w who (move_of ReadChain answer)).register.down ≡ false → (after w who (move_of ReadChain answer)).register.asked ≡ None
+  read_settles w who (At v c) h up = refl
+  read_settles w who Down h up = absurd (let t : true ≡ false = sym h ∙ up in cc)
+  read_settles w who answer h up = absurd h
 
-  call_settles : (w : State) (cells who : ℕ) (call : FabricCall) (answer : FabricAnswer) → call ≡ ReadChain → IsAllowed w may floor cells who (move_of call answer) → (after w who (move_of call answer)).register.down ≡ false → (after w who (move_of call answer)).register.asked ≡ None
-  call_settles w cells who call answer is h up =
+  call_settles : (w : State) (who : ℕ) (call : FabricCall) (answer : FabricAnswer) → call ≡ ReadChain → IsAllowed w law who (move_of call answer) → (after w who (move_of call answer)).register.down ≡ false → (after w who (move_of call answer)).register.asked ≡ None
+  call_settles w who call answer is h up =
       subst (λ k. (after w who (move_of k answer)).register.asked ≡ None) (sym is)
-      (read_settles w cells who answer (subst (λ k. IsAllowed w may floor cells who (move_of k answer)) is h) (subst (λ k. (after w who (move_of k answer)).register.down ≡ false) is up))
+      (read_settles w who answer (subst (λ k. IsAllowed w law who (move_of k answer)) is h) (subst (λ k. (after w who (move_of k answer)).register.down ≡ false) is up))
 
-  pub asked_none : (early journal : List Event) → IsLegal may floor shelf journal → AsksOnce early journal → (state_of journal).register.down ≡ false → (state_of journal).register.asked ≡ None
+  pub asked_none : (early journal : List Event) → IsLegal law journal → AsksOnce early journal → (state_of journal).register.down ≡ false → (state_of journal).register.asked ≡ None
   asked_none early journal legal a up =
       let e = ends-asked a.more a.calls in
       let whole : journal ≡ (early ++ e.before) ++ e.event ∷ [] = a.seen ∙ (ap (λ l. early ++ l) e.is ∙ sym (append_assoc early e.before (e.event ∷ []))) in
-      let steps = IsLegalFrom-split may floor shelf start (early ++ e.before) (e.event ∷ []) (subst (IsLegal may floor shelf) whole legal).steps in
+      let steps = IsLegalFrom-split law start (early ++ e.before) (e.event ∷ []) (subst (IsLegal law) whole legal).steps in
       let state : state_of journal ≡ after (state_of (early ++ e.before)) e.event.who (move e.event) = ap state_of whole ∙ after_all-append start (early ++ e.before) (e.event ∷ []) in
-      ap (λ (w : State). w.register.asked) state ∙ call_settles (state_of (early ++ e.before)) _ e.event.who e.event.call e.event.answer e.call_is steps.1.0.allowed (sym (ap (λ (w : State). w.register.down) state) ∙ up)
+      ap (λ (w : State). w.register.asked) state ∙ call_settles (state_of (early ++ e.before)) e.event.who e.event.call e.event.answer e.call_is steps.1.0.allowed (sym (ap (λ (w : State). w.register.down) state) ∙ up)
 
-  pub registered : (early : List Event) (l : LastChain) (f : FabricView) (v : RegisterView) (o : Told) → IsLegal may floor shelf f.journal → AsksOnce early f.journal → IsLast l f → IsRegisterAsTold (state_of f.journal).register f.register
+  pub registered : (early : List Event) (l : LastChain) (f : FabricView) (v : RegisterView) (o : Told) → IsLegal law f.journal → AsksOnce early f.journal → IsLast l f → IsRegisterAsTold (state_of f.journal).register f.register
       → HasRegisterRun f.journal f.register → IsRegisterAsTold (state_of f.journal).register v → HasRegisterRun f.journal v → o.version ≡ l.version → o.chain ≡ l.chain → o.down ≡ l.down → ChainIsRegistered o v
   registered early l f v o legal asks last mine ran told run version chain down = record {
     joins = ap is_chain chain ∙ last.joins;

@@ -6,13 +6,13 @@ use Rattle.std.proofs.lemmas.Bool.{cases_lt}
 use Rattle.std.proofs.lemmas.List.{length-map}
 use Rattle.std.proofs.lemmas.List.Sums.{count_by-le-length}
 use Rattle.std.proofs.lemmas.Option.{slice_get-map, get_or_from_slice_get}
-use Rattle.delos_types.specs.declared.entry.Entry.{Entry}
 use Rattle.delos_types.specs.declared.chain.Segment.{Segment}
 use Rattle.delos_types.specs.declared.chain.Chain.{Chain}
 use Rattle.loglet_api.specs.View.{LogletView}
 use Rattle.register_api.specs.View.{RegisterView}
 use Rattle.table_core.specs.declared.command.Command.{Command}
 use Rattle.table_core.specs.Spelling.{IsSpellable, command_length}
+use Rattle.legal_journal.specs.Law.{Law}
 use Rattle.legal_journal.specs.declared.events.Event.{Event}
 use Rattle.legal_journal.specs.Journal.{IsLegal, state_of}
 use Rattle.legal_journal.proofs.Log.{HasStart}
@@ -51,12 +51,12 @@ ids_low starts cells low [] h k d lt = absurd (omega (arith, lt))
 ids_low starts cells low (x ∷ xs) h zero d lt = low x.id x.start (h x.id x.start (inl (refl, refl)))
 ids_low starts cells low (x ∷ xs) h (suc k) d lt = ids_low starts cells low xs (λ i s at. h i s (inr at)) k d (omega (arith, lt))
 
-pub shelved : (may : ℕ → Entry → Type 0) (floor : List Entry → ℕ → Type 0) (shelf : List ℕ) (journal : List Event) → IsLegal may floor shelf journal
-    → (k : ℕ) (d : Segment) → k < length (state_of journal).register.chain.segments → (slice_index_or (state_of journal).register.chain.segments k d).id < length shelf
-shelved may floor shelf journal legal =
+pub shelved : (law : Law) (journal : List Event) → IsLegal law journal
+    → (k : ℕ) (d : Segment) → k < length (state_of journal).register.chain.segments → (slice_index_or (state_of journal).register.chain.segments k d).id < length law.shelf
+shelved law journal legal =
     let w = state_of journal in
-    let ok = sound may floor shelf journal legal in
-    ids_low w.starts (length shelf) (λ i s at. omega (arith, ok.ids i s at, ok.shelf)) w.register.chain.segments (current (length shelf) w ok).start
+    let ok = sound law journal legal in
+    ids_low w.starts (length law.shelf) (λ i s at. omega (arith, ok.ids i s at, ok.shelf)) w.register.chain.segments (current (length law.shelf) w ok).start
 
 -- Each node's disk counted its replica's faults
 
@@ -125,15 +125,15 @@ pub if_ok : {A E : Type 0} (P Q : A → Type 0) → ((x : A) → P x → Q x) �
 if_ok P Q h (Ok x) k = h x k
 if_ok P Q h (Err e) k = tt
 
-pub run_told : {A B : Type 0} (may : ℕ → Entry → Type 0) (floor : List Entry → ℕ → Type 0) (shelf : List ℕ) (lines : List NamedLine) (journal : List Event) (seat : B → SeatView) (desks : B → List Desk) (shows : A → ReplicaView) (nodes : List A) (workers : List B) (cells : List LogletView) (register : RegisterView) (o : Told)
-    → AreAsTold may floor shelf journal cells register → map shows nodes ≡ map (λ w. (seat w).node.replica) workers
-    → FitsGivenBack may floor shelf lines journal (map (λ w. record { seat = seat w; desks = desks w }) workers) o
+pub run_told : {A B : Type 0} (law : Law) (lines : List NamedLine) (journal : List Event) (seat : B → SeatView) (desks : B → List Desk) (shows : A → ReplicaView) (nodes : List A) (workers : List B) (cells : List LogletView) (register : RegisterView) (o : Told)
+    → AreAsTold law journal cells register → map shows nodes ≡ map (λ w. (seat w).node.replica) workers
+    → FitsGivenBack law lines journal (map (λ w. record { seat = seat w; desks = desks w }) workers) o
     → RunTold lines (record { cells = cells; register = register; disks = map (λ n. (shows n).faults) nodes }) o
-run_told {A} {B} may floor shelf lines journal seat desks shows nodes workers cells register o told same h =
+run_told {A} {B} law lines journal seat desks shows nodes workers cells register o told same h =
     let mk : B → WorkerEnd = λ w. record { seat = seat w; desks = desks w } in
     let yard : Shown = record { cells = cells; register = register; disks = map (λ n. (shows n).faults) nodes } in
-    let size : length shelf ≡ length cells = sym (ap length told.shelf_is) ∙ length-map cells (λ (v : LogletView). v.servers) in
-    let back : IsGivenBack may floor shelf journal (map mk workers) o.chain yard = record {
+    let size : length law.shelf ≡ length cells = sym (ap length told.shelf_is) ∙ length-map cells (λ (v : LogletView). v.servers) in
+    let back : IsGivenBack law journal (map mk workers) o.chain yard = record {
       legal = told.legal;
       shelf_is = told.shelf_is;
       runs = told.runs;
@@ -151,7 +151,7 @@ run_told {A} {B} may floor shelf lines journal seat desks shows nodes workers ce
       extended = λ calm. h.extended yard back calm;
       lone = h.lone yard back told.register_is;
       shelved = subst (λ (c : Chain). (k : ℕ) (d : Segment) → k < length c.segments → (slice_index_or c.segments k d).id < length cells) (sym h.chain)
-          (λ k d lt. let low = shelved may floor shelf journal told.legal k d lt in omega (arith, low, size));
+          (λ k d lt. let low = shelved law journal told.legal k d lt in omega (arith, low, size));
     }
   where
     counted : (j : ℕ) (e : WorkerEnd) (x : Option B) → slice_get workers j ≡ x → option_map (λ w. record { seat = seat w; desks = desks w }) x ≡ Some e

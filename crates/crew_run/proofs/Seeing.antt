@@ -11,6 +11,7 @@ use Rattle.delos_types.specs.declared.cause.Cause.TheVariants as cause
 use Rattle.delos_types.specs.declared.chain.Chain.{Chain}
 use Rattle.loglet_api.specs.View.{LogletView}
 use Rattle.loglet_api.specs.declared.call.Answer.TheVariants as answers
+use Rattle.legal_journal.specs.Law.{Law}
 use Rattle.legal_journal.specs.declared.events.Event.{Event}
 use Rattle.legal_journal.specs.declared.events.FabricCall.{FabricCall}
 use Rattle.legal_journal.specs.declared.events.FabricCall.TheVariants.{Begin, Carry, Forget, ReadChain, WriteChain, Stop, Mend, Stray, StopMeta, MendMeta}
@@ -120,12 +121,12 @@ first_none : (xs ys : List Cause) → xs ++ ys ≡ [] → xs ≡ []
 first_none [] ys e = refl
 first_none (x ∷ xs) ys e = absurd (cc)
 
-module _ (may : ℕ → Entry → Type 0) (floor : List Entry → ℕ → Type 0) (shelf : List ℕ) (told : AreCounted may floor shelf) where
-  module _ (journal : List Event) (workers : List WorkerEnd) (chain : Chain) (yard : Shown) (back : IsGivenBack may floor shelf journal workers chain yard) (calm : IsCalm yard) where
-    same_length : length yard.cells ≡ length shelf
+module _ (law : Law) (told : AreCounted law) where
+  module _ (journal : List Event) (workers : List WorkerEnd) (chain : Chain) (yard : Shown) (back : IsGivenBack law journal workers chain yard) (calm : IsCalm yard) where
+    same_length : length yard.cells ≡ length law.shelf
     same_length = sym (length-map yard.cells (λ v. v.servers)) ∙ ap length back.shelf_is
 
-    cell_there : (i : ℕ) → i < length shelf → (v : LogletView) × (slice_get yard.cells i ≡ Some v)
+    cell_there : (i : ℕ) → i < length law.shelf → (v : LogletView) × (slice_get yard.cells i ≡ Some v)
     cell_there i low = elim ((slice_get_cases yard.cells i).1) [
       | inl some ↦ (some.0, some.2)
       | inr none ↦ absurd (let high = none.0 in omega (arith, low, high, same_length))
@@ -160,15 +161,15 @@ module _ (may : ℕ → Entry → Type 0) (floor : List Entry → ℕ → Type 0
     disk_calm : (j : ℕ) (w : WorkerEnd) → slice_get workers j ≡ Some w → w.seat.node.replica.faults ≡ 0
     disk_calm j w at = let few = back.disks j w at in let low = disk_below yard.disks (j + 1 - 1) in omega (arith, few, low, calm)
 
-  pub seen_all : ((seen : List Event) (log : List Entry) → IsLegal may floor shelf seen → IsFront Holds seen log → length log ≤ tail_of (state_of seen)) → (journal more : List Event) (workers : List WorkerEnd) (log : List Entry) (chain : Chain) (yard : Shown) → SeesAll journal (λ (w : WorkerEnd). w.seat) workers (length log) → IsFront Holds journal log
-      → AreReads more → IsGivenBack may floor shelf (journal ++ more) workers chain yard → IsCalm yard → length log ≡ virtual_tail chain yard.cells
+  pub seen_all : ((seen : List Event) (log : List Entry) → IsLegal law seen → IsFront Holds seen log → length log ≤ tail_of (state_of seen)) → (journal more : List Event) (workers : List WorkerEnd) (log : List Entry) (chain : Chain) (yard : Shown) → SeesAll journal (λ (w : WorkerEnd). w.seat) workers (length log) → IsFront Holds journal log
+      → AreReads more → IsGivenBack law (journal ++ more) workers chain yard → IsCalm yard → length log ≡ virtual_tail chain yard.cells
   seen_all within journal more workers log chain yard sees front reads back calm =
-      let legal = legal_front may floor shelf journal more back.legal in
-      let parts = IsLegalFrom-split may floor shelf start journal more back.legal.steps in
+      let legal = legal_front law journal more back.legal in
+      let parts = IsLegalFrom-split law start journal more back.legal.steps in
       let none = first_none (faults_in journal) (faults_in more) (sym (filter_map-append (λ (e : Event). fault_of e.answer e.call) journal more) ∙ none_told (journal ++ more) workers chain yard back calm) in
       let top = sees (record { told = none; disks = disk_calm (journal ++ more) workers chain yard back calm }) in
       let settled = asked_none start journal refl (ap (count_by (λ k. true)) none) in
-      let same = same_tail (state_of journal) (after_all (state_of journal) more) (reads_keep may floor shelf (state_of journal) more settled reads parts.1) in
+      let same = same_tail (state_of journal) (after_all (state_of journal) more) (reads_keep law (state_of journal) more settled reads parts.1) in
       let tail : tail_of (state_of (journal ++ more)) ≡ tail_of (state_of journal) = ap tail_of (after_all-append start journal more) ∙ same in
       let below = within journal log legal front in
       let end : virtual_tail chain yard.cells ≡ tail_of (state_of (journal ++ more)) = ap (λ c. virtual_tail c yard.cells) back.chain_is ∙ back.tail in

@@ -2,6 +2,7 @@
 use Rattle.std.proofs.Common.{◌≡◌, sym, ◌∙◌, subst, inl, inr, ℕ, List, [], ◌∷◌, ◌++◌}
 use Rattle.delos_types.specs.Spaces.{SpaceMap}
 use Rattle.delos_types.specs.declared.entry.Entry.{Entry}
+use Rattle.legal_journal.specs.Law.{Law}
 use Rattle.legal_journal.specs.declared.events.Event.{Event}
 use Rattle.legal_journal.specs.declared.events.FabricCall.{FabricCall}
 use Rattle.legal_journal.specs.declared.events.FabricCall.TheVariants.{ReadChain, MendMeta}
@@ -15,11 +16,11 @@ use Rattle.run_ends.specs.Reads.{AreReads}
 use Rattle.last_chain.specs.Last.{AsksOnce, AskedOnce, calls_of}
 
 -- each node can take the fabric still
-pub stands_on : {A : Type 0} (may : ℕ → Entry → Type 0) (floor : List Entry → ℕ → Type 0) (shelf : List ℕ) (state : List Entry → SpaceMap → Type 0) (spells : List ℕ → Saved → Type 0) (who : ℕ) (early new : List Event) (seat : A → SeatView) (workers : List A)
-    → OwnSince who early new → IsLegal may floor shelf new → CrewStands may floor shelf state spells early seat workers → CrewStands may floor shelf state spells new seat workers
-stands_on may floor shelf state spells who early new seat workers since legal h = λ j w at.
-    subst (λ l. SeatOk may floor shelf state spells l (seat w)) (sym since.seen)
-    (seat_later may floor shelf early since.more (subst (IsLegal may floor shelf) since.seen legal) state spells (seat w) (h j w at))
+pub stands_on : {A : Type 0} (law : Law) (state : List Entry → SpaceMap → Type 0) (spells : List ℕ → Saved → Type 0) (who : ℕ) (early new : List Event) (seat : A → SeatView) (workers : List A)
+    → OwnSince who early new → IsLegal law new → CrewStands law state spells early seat workers → CrewStands law state spells new seat workers
+stands_on law state spells who early new seat workers since legal h = λ j w at.
+    subst (λ l. SeatOk law state spells l (seat w)) (sym since.seen)
+    (seat_later law early since.more (subst (IsLegal law) since.seen legal) state spells (seat w) (h j w at))
 
 tail_same : (x : Event) (xs ys : List Event) → x ∷ xs ≡ x ∷ ys → xs ≡ ys
 tail_same x xs ys h = cc

@@ -30,7 +30,7 @@ use run_ends::shown::a_front_is_below_the_tail;
 
 /// The chain that was read last is what any register gave that is as the journal tells.
 pub fn the_chain_is_registered<P: Rules>()
-    ensures { (early : List Event) (l : LastChain) (f : FabricView) (v : RegisterView) (o : Told) → IsLegal P.may P.floor P.shelf f.journal → AsksOnce early f.journal → IsLast l f
+    ensures { (early : List Event) (l : LastChain) (f : FabricView) (v : RegisterView) (o : Told) → IsLegal P.law f.journal → AsksOnce early f.journal → IsLast l f
         → IsRegisterAsTold (state_of f.journal).register f.register → HasRegisterRun f.journal f.register
         → IsRegisterAsTold (state_of f.journal).register v → HasRegisterRun f.journal v
         → o.version ≡ l.version → o.chain ≡ l.chain → o.down ≡ l.down → ChainIsRegistered o v }
@@ -38,7 +38,7 @@ pub fn the_chain_is_registered<P: Rules>()
 
 /// Where no fault was counted in the yard that comes back, the journal tells none.
 pub fn a_calm_journal_tells_no_fault<P: Rules>()
-    ensures { (journal : List Event) (workers : List WorkerEnd) (chain : Chain) (yard : Shown) → IsGivenBack P.may P.floor P.shelf journal workers chain yard → IsCalm yard
+    ensures { (journal : List Event) (workers : List WorkerEnd) (chain : Chain) (yard : Shown) → IsGivenBack P.law journal workers chain yard → IsCalm yard
         → faults_in journal ≡ [] }
 {
     lacks_are_counted();
@@ -51,9 +51,9 @@ pub fn a_calm_journal_tells_no_fault<P: Rules>()
 /// Where no fault was counted in the yard that comes back, what was played as the nodes closed is the whole log, and a read of the
 /// chain since lets it end there still.
 pub fn a_calm_run_has_seen_all<P: Rules>()
-    ensures { ((log : List Entry) (n : ℕ) → P.floor log n → n ≤ length log) → (journal more : List Event) (workers : List WorkerEnd) (log : List Entry) (chain : Chain) (yard : Shown)
+    ensures { ((log : List Entry) (n : ℕ) → P.law.floor log n → n ≤ length log) → (journal more : List Event) (workers : List WorkerEnd) (log : List Entry) (chain : Chain) (yard : Shown)
         → SeesAll journal (λ (w : WorkerEnd). w.seat) workers (length log) → IsFront Holds journal log → AreReads more
-        → IsGivenBack P.may P.floor P.shelf (journal ++ more) workers chain yard → IsCalm yard → length log ≡ virtual_tail chain yard.cells }
+        → IsGivenBack P.law (journal ++ more) workers chain yard → IsCalm yard → length log ≡ virtual_tail chain yard.cells }
 {
     lacks_are_counted();
     a_lack_has_a_fault();

@@ -1,12 +1,10 @@
 //! A run over loglets, a register and nodes that are handed in, and come back whatever comes of it.
-ghost use Rattle.std.specs.Prelude.{◌≡◌, ◌<◌, ◌≤◌, ◌+◌, ℕ, All, List, length, map, slice_get, IfOk, Some};
+ghost use Rattle.std.specs.Prelude.{◌≡◌, ◌<◌, ◌≤◌, ◌+◌, ℕ, All, length, map, slice_get, IfOk, Some};
 ghost use Rattle.std.specs.List.{AllByRecursion};
-ghost use Rattle.delos_types.specs.Spaces.{SpaceMap};
 ghost use Rattle.delos_types.specs.declared.entry.Entry.{Entry};
 ghost use Rattle.loglet_api.specs.View.{IsFresh};
 ghost use Rattle.loglet_api.specs.Sound.{IsSound};
 ghost use Rattle.register_api.specs.View as view;
-ghost use Rattle.log_laws.specs.State.{IsStateOf};
 ghost use Rattle.turn_scopes.specs.Floors.{FloorIs};
 ghost use Rattle.fitting_run.specs.Lines.{CanLog};
 ghost use Rattle.node_lines.specs.Workers.{MayRun};
@@ -51,14 +49,13 @@ fn run_by<L: Loglet, R: Register, K: Terms, S: Replica, C: Chooser>(
     nodes: Vec<OpenNode<S, C>>,
     lines: &[NamedLine],
 ) -> Ran<L, R, S, C>
-    requires run { MayRun K.may K.floor K.shelf }
-    requires state { (log : List Entry) (m : SpaceMap) → S.state log m → IsStateOf log m }
-    requires may { (who : ℕ) (e : Entry) → K.may who e → may_of lines.now who e }
-    requires floor { FloorIs K.floor (length nodes.items) }
-    requires sends { MaySendAll K.may lines.now }
+    requires run { MayRun K.law }
+    requires may { (who : ℕ) (e : Entry) → K.law.may who e → may_of lines.now who e }
+    requires floor { FloorIs K.law.floor (length nodes.items) }
+    requires sends { MaySendAll K.law.may lines.now }
     requires least { 0 < length cells.items }
     requires most { length cells.items ≤ 64 }
-    requires shelf { map (λ v. v.servers) (map L.view cells.items) ≡ K.shelf }
+    requires shelf { map (λ v. v.servers) (map L.view cells.items) ≡ K.law.shelf }
     requires kinds { map (λ v. v.kind) (map L.view cells.items) ≡ K.kinds }
     requires fresh { All (λ l. IsFresh (L.view l)) cells.items }
     requires sound { All (λ l. IsSound (L.view l)) cells.items }
@@ -117,7 +114,6 @@ pub fn run_lines<L: Loglet, R: Register, S: Replica, C: Chooser>(
     nodes: Vec<OpenNode<S, C>>,
     lines: &[NamedLine],
 ) -> Ran<L, R, S, C>
-    requires state { (log : List Entry) (m : SpaceMap) → S.state log m → IsStateOf log m }
     requires least { 0 < length cells.items }
     requires most { length cells.items ≤ 64 }
     requires fresh { All (λ l. IsFresh (L.view l)) cells.items }

@@ -1,8 +1,6 @@
 //! The lines of a run are played, its nodes close, and its rows are told.
 ghost use Rattle.std.specs.Prelude.{◌≡◌, ◌≤◌, ℕ, List, length, map, IfOk};
-ghost use Rattle.delos_types.specs.Spaces.{SpaceMap};
 ghost use Rattle.delos_types.specs.declared.entry.Entry.{Entry};
-ghost use Rattle.log_laws.specs.State.{IsStateOf};
 ghost use Rattle.turn_scopes.specs.Floors.{FloorIs};
 ghost use Rattle.node_lines.specs.Workers.{MayRun};
 ghost use Rattle.run_ends.specs.Rules.{may_of};
@@ -48,14 +46,14 @@ fn tell_closed<L: Loglet, R: Register, K: Terms, S: Replica, C: Chooser>(
     lines: &[NamedLine],
     end: u64,
 ) -> Ended<L, R, K, S, C>
-    requires run { MayRun K.may K.floor K.shelf }
-    requires may { (who : ℕ) (e : Entry) → K.may who e → may_of lines.now who e }
-    requires floor { FloorIs K.floor (length crew.workers.items) }
-    requires closed { (log : List Entry) × (length log ≡ end) × HasClosed K.may K.floor K.shelf S.state S.spells lines.now crew.fabric.journal crew.looks.items log (map (λ w. record { seat = w.seat; desks = w.desks.items }) crew.workers.items) }
+    requires run { MayRun K.law }
+    requires may { (who : ℕ) (e : Entry) → K.law.may who e → may_of lines.now who e }
+    requires floor { FloorIs K.law.floor (length crew.workers.items) }
+    requires closed { (log : List Entry) × (length log ≡ end) × HasClosed K.law S.state S.spells lines.now crew.fabric.journal crew.looks.items log (map (λ w. record { seat = w.seat; desks = w.desks.items }) crew.workers.items) }
     requires sees { SeesAll crew.fabric.journal (λ (w : WorkerEnd). w.seat) (map (λ w. record { seat = w.seat; desks = w.desks.items }) crew.workers.items) end }
-    requires stands { CrewStands K.may K.floor K.shelf S.state S.spells crew.fabric.journal (λ w. w.seat) crew.workers.items }
-    ensures told { IfOk result.told (FitsGivenBack K.may K.floor K.shelf lines.now result.crew.fabric.journal (map (λ w. record { seat = w.seat; desks = w.desks.items }) result.crew.workers.items)) }
-    ensures stands { CrewStands K.may K.floor K.shelf S.state S.spells result.crew.fabric.journal (λ w. w.seat) result.crew.workers.items }
+    requires stands { CrewStands K.law S.state S.spells crew.fabric.journal (λ w. w.seat) crew.workers.items }
+    ensures told { IfOk result.told (FitsGivenBack K.law lines.now result.crew.fabric.journal (map (λ w. record { seat = w.seat; desks = w.desks.items }) result.crew.workers.items)) }
+    ensures stands { CrewStands K.law S.state S.spells result.crew.fabric.journal (λ w. w.seat) result.crew.workers.items }
     ensures size { length result.crew.workers.items ≡ length crew.workers.items }
 {
     what_closed_can_be_told::<By<K>, S>();
@@ -108,16 +106,15 @@ pub fn tell<L: Loglet, R: Register, K: Terms, S: Replica, C: Chooser>(
     crew: Crew<L, R, K, S, C>,
     lines: &[NamedLine],
 ) -> Ended<L, R, K, S, C>
-    requires run { MayRun K.may K.floor K.shelf }
-    requires state { (log : List Entry) (m : SpaceMap) → S.state log m → IsStateOf log m }
-    requires may { (who : ℕ) (e : Entry) → K.may who e → may_of lines.now who e }
-    requires floor { FloorIs K.floor (length crew.workers.items) }
-    requires sends { MaySendAll K.may lines.now }
+    requires run { MayRun K.law }
+    requires may { (who : ℕ) (e : Entry) → K.law.may who e → may_of lines.now who e }
+    requires floor { FloorIs K.law.floor (length crew.workers.items) }
+    requires sends { MaySendAll K.law.may lines.now }
     requires eight { length crew.workers.items ≤ 8 }
-    requires fresh { CrewRests K.may K.floor K.shelf S.state S.spells lines.now 0 0 crew.fabric.journal crew.looks.items (λ w. w.seat) (λ w. w.desks.items) crew.workers.items }
-    requires stands { CrewStands K.may K.floor K.shelf S.state S.spells crew.fabric.journal (λ w. w.seat) crew.workers.items }
-    ensures told { IfOk result.told (FitsGivenBack K.may K.floor K.shelf lines.now result.crew.fabric.journal (map (λ w. record { seat = w.seat; desks = w.desks.items }) result.crew.workers.items)) }
-    ensures stands { CrewStands K.may K.floor K.shelf S.state S.spells result.crew.fabric.journal (λ w. w.seat) result.crew.workers.items }
+    requires fresh { CrewRests K.law S.state S.spells lines.now 0 0 crew.fabric.journal crew.looks.items (λ w. w.seat) (λ w. w.desks.items) crew.workers.items }
+    requires stands { CrewStands K.law S.state S.spells crew.fabric.journal (λ w. w.seat) crew.workers.items }
+    ensures told { IfOk result.told (FitsGivenBack K.law lines.now result.crew.fabric.journal (map (λ w. record { seat = w.seat; desks = w.desks.items }) result.crew.workers.items)) }
+    ensures stands { CrewStands K.law S.state S.spells result.crew.fabric.journal (λ w. w.seat) result.crew.workers.items }
     ensures size { length result.crew.workers.items ≡ length crew.workers.items }
 {
     let Played { crew, answer } = play_phases(alloc, crew, lines);

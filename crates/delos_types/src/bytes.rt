@@ -1,19 +1,24 @@
 //! A text of bytes that owns them and can be compared. Contracts see it as a list.
-ghost use Rattle.std.specs.Prelude.{◌≡◌, ℕ, List, length, IfOk, IsTrue, ◌↔◌, [], refl, Some};
+ghost use Rattle.std.specs.Prelude.{◌≡◌, ℕ, List, ◌++◌, length, IfOk, OnOk, OnErr, IsTrue, ◌↔◌, [], refl, Some};
 ghost use Rattle.std.specs.Cmp.Lexicographic.{pointwise, slice_cmp, nat_list_eq_equiv, nat_list_cmp_total, texts_ties, texts_po};
 ghost use Rattle.std.specs.Cmp.{partial_equiv_from_equiv};
 ghost use Rattle.std.specs.Prelude.{nat_eq};
 ghost use Rattle.std.specs.Ordering.{nat_cmp};
 
+use smallvec::SmallVec;
 use std::alloc::{AllocError, Global};
 use std::cmp::Ordering;
 use std::fmt;
 use std::marker::Model;
 
-/// A text of bytes, ordered as texts are: by the first byte in which two differ.
+/// How many bytes are kept in place.
+const IN_PLACE: usize = 32;
+
+/// A text of bytes, ordered as texts are: by the first byte in which two differ. One of at most 32 bytes, as most keys,
+/// values, headers and replies are, takes no memory beside the value.
 #[derive(Drop)]
 pub struct Bytes {
-    items: Vec<u8>,
+    items: SmallVec<u8, IN_PLACE>,
 }
 
 impl Model for Bytes {
@@ -28,15 +33,17 @@ impl Bytes {
         ensures { result ≡ [] }
     {
         Bytes {
-            items: Vec::new(alloc),
+            items: SmallVec::new(alloc),
         }
     }
 
-    /// The text of these bytes, which are not copied.
+    /// The text of these bytes. They are not copied, unless they fit in place.
     pub fn from_vec(items: Vec<u8>) -> Bytes
         ensures { result ≡ items.items }
     {
-        Bytes { items }
+        Bytes {
+            items: SmallVec::from_vec(items),
+        }
     }
 
     /// A copy of these bytes.
@@ -44,16 +51,16 @@ impl Bytes {
         ensures { IfOk result (λ made. made ≡ bytes.now) }
     {
         Ok(Bytes {
-            items: Vec::from_slice(alloc, bytes)?,
+            items: SmallVec::from_slice(alloc, bytes)?,
         })
     }
 
-    /// The bytes, which are not copied.
-    pub fn into_vec(self) -> Vec<u8>
-        ensures { result.items ≡ self }
+    /// Adds these bytes at the end.
+    pub fn extend_from_slice(&mut self, bytes: &[u8]) -> Result<(), AllocError>
+        ensures ok { OnOk result (self.new ≡ self.old ++ bytes.now) }
+        ensures err { OnErr result (self.new ≡ self.old) }
     {
-        let Bytes { items } = self;
-        items
+        self.items.extend_from_slice(bytes)
     }
 
     pub fn as_slice(&self) -> &[u8]
@@ -79,8 +86,7 @@ impl Clone for Bytes {
     ghost is_clone = { λ x y. y ≡ x };
 
     fn clone(&self) -> Result<Bytes, AllocError> {
-        let items = self.items.clone()?;
-        Ok(Bytes { items })
+        Bytes::from_slice(*self.items.allocator(), self.as_slice())
     }
 }
 

@@ -5,7 +5,7 @@ ghost use Rattle.std.specs.Option.{option_copied};
 ghost use Rattle.delos_types.specs.Numbers.{u64_of, u64_bytes};
 ghost use Rattle.engine_steps.specs.Layout as layout;
 
-use delos_types::big_endian::{put_u16, put_u64, split_u16, split_u64};
+use delos_types::big_endian::{split_u16, split_u64};
 use delos_types::bytes::Bytes;
 use delos_types::numbers::{NodeId, Rank, SessionId};
 use delos_types::place::Place;
@@ -55,8 +55,8 @@ pub fn set(space: &mut dyn Space, kind: u8, key: &[u8], value: &[u8]) -> Result<
 }
 
 /// Sets a value to a number in eight bytes.
+#[tactic(auto, unfolding(delos_types::specs::Numbers::u64_bytes))]
 pub fn set_number(
-    alloc: Global,
     space: &mut dyn Space,
     kind: u8,
     key: &[u8],
@@ -67,62 +67,47 @@ pub fn set_number(
     ensures err { OnErr result (contents space.new ≡ contents space.old) }
     ensures beginning { beginning space.new ≡ beginning space.old }
 {
-    let mut bytes = Vec::with_capacity(alloc, 8)?;
-    put_u64(&mut bytes, number)?;
-    set(space, kind, key, bytes.as_slice())
+    set(space, kind, key, &number.to_be_bytes())
 }
 
 /// Where the last rank of a session that acted is kept.
 #[tactic(auto, unfolding(delos_types::specs::Numbers::u16_bytes))]
-pub fn last_key(alloc: Global, session: SessionId) -> Result<Vec<u8>, AllocError>
-    ensures key { IfOk result (λ key. key.items ≡ layout.last_key session) }
-    ensures short { IfOk result (λ key. length key.items < 2 ^ 16) }
+pub fn last_key(session: SessionId) -> [u8; 3]
+    ensures { result ≡ layout.last_key session }
 {
-    let mut key = Vec::with_capacity(alloc, 3)?;
-    key.push(LAST)?;
-    put_u16(&mut key, session.number())?;
-    Ok(key)
+    let s = session.number().to_be_bytes();
+    [LAST, s[0], s[1]]
 }
 
 /// Where the reply of a rank is kept, until the rank 64 above it was answered.
 #[tactic(auto, unfolding(delos_types::specs::Numbers::u16_bytes))]
-pub fn reply_key(alloc: Global, session: SessionId, rank: Rank) -> Result<Vec<u8>, AllocError>
-    ensures key { IfOk result (λ key. key.items ≡ layout.reply_key session rank) }
-    ensures short { IfOk result (λ key. length key.items < 2 ^ 16) }
+pub fn reply_key(session: SessionId, rank: Rank) -> [u8; 4]
+    ensures { result ≡ layout.reply_key session rank }
 {
-    let mut key = Vec::with_capacity(alloc, 4)?;
-    key.push(REPLY)?;
-    put_u16(&mut key, session.number())?;
-    key.push((rank.number() % 64) as u8)?;
-    Ok(key)
+    let s = session.number().to_be_bytes();
+    [REPLY, s[0], s[1], (rank.number() % 64) as u8]
 }
 
 /// Where the payload of a rank is kept that waits for an earlier one.
 #[tactic(auto, unfolding(delos_types::specs::Numbers::u16_bytes, delos_types::specs::Numbers::u64_bytes))]
-pub fn held_key(alloc: Global, session: SessionId, rank: u64) -> Result<Vec<u8>, AllocError>
-    ensures key { IfOk result (λ key. key.items ≡ layout.held_key session rank) }
-    ensures short { IfOk result (λ key. length key.items < 2 ^ 16) }
+pub fn held_key(session: SessionId, rank: u64) -> [u8; 11]
+    ensures { result ≡ layout.held_key session rank }
 {
-    let mut key = Vec::with_capacity(alloc, 11)?;
-    key.push(HELD)?;
-    put_u16(&mut key, session.number())?;
-    put_u64(&mut key, rank)?;
-    Ok(key)
+    let s = session.number().to_be_bytes();
+    let r = rank.to_be_bytes();
+    [
+        HELD, s[0], s[1], r[0], r[1], r[2], r[3], r[4], r[5], r[6], r[7],
+    ]
 }
 
 /// A slot of replies: the rank, where it acted, and its reply.
-pub fn slot_text(
-    alloc: Global,
-    place: Place,
-    rank: Rank,
-    reply: &[u8],
-) -> Result<Vec<u8>, AllocError>
-    ensures { IfOk result (λ slot. slot.items ≡ layout.slot_text place rank reply.now) }
+#[tactic(auto, unfolding(delos_types::specs::Numbers::u16_bytes, delos_types::specs::Numbers::u64_bytes))]
+pub fn slot_text(alloc: Global, place: Place, rank: Rank, reply: &[u8]) -> Result<Bytes, AllocError>
+    ensures { IfOk result (λ slot. slot ≡ layout.slot_text place rank reply.now) }
 {
-    let mut slot = Vec::with_capacity(alloc, 18 + reply.len())?;
-    put_u64(&mut slot, rank.number())?;
-    put_u64(&mut slot, place.pos)?;
-    put_u16(&mut slot, place.sub)?;
+    let mut slot = Bytes::from_slice(alloc, &rank.number().to_be_bytes())?;
+    slot.extend_from_slice(&place.pos.to_be_bytes())?;
+    slot.extend_from_slice(&place.sub.to_be_bytes())?;
     slot.extend_from_slice(reply)?;
     Ok(slot)
 }
@@ -149,26 +134,21 @@ fn whole_u64(bytes: &[u8]) -> Option<u64>
 }
 
 /// The last rank of a session that acted, 0 where none did.
-pub fn last_rank(alloc: Global, space: &dyn Space, session: SessionId) -> Result<u64, AllocError>
+pub fn last_rank(space: &dyn Space, session: SessionId) -> Result<u64, AllocError>
     ensures { IfOk result (λ rank. rank ≡ layout.last_of (contents space.now) session) }
 {
-    let key = last_key(alloc, session)?;
-    let stored = space.get(SESSION, key.as_slice())?;
+    let key = last_key(session);
+    let stored = space.get(SESSION, &key)?;
     Ok(number_at(stored.as_ref()))
 }
 
 /// The payload of a rank that waits for an earlier one.
 #[tactic(auto, using(crate::proofs::Held::held_of_fits))]
-pub fn held(
-    alloc: Global,
-    space: &dyn Space,
-    session: SessionId,
-    rank: u64,
-) -> Result<Option<Bytes>, AllocError>
+pub fn held(space: &dyn Space, session: SessionId, rank: u64) -> Result<Option<Bytes>, AllocError>
     ensures { IfOk result (λ payload. payload ≡ layout.held_of (contents space.now) session rank) }
 {
-    let key = held_key(alloc, session, rank)?;
-    let payload = space.get(SESSION, key.as_slice())?;
+    let key = held_key(session, rank);
+    let payload = space.get(SESSION, &key)?;
     Ok(payload)
 }
 
@@ -203,8 +183,8 @@ pub fn reply_of(
 ) -> Result<Option<Kept>, AllocError>
     ensures { IfOk result (λ kept. kept ≡ layout.reply_of (contents space.now) session rank) }
 {
-    let key = reply_key(alloc, session, rank)?;
-    match space.get(SESSION, key.as_slice())? {
+    let key = reply_key(session, rank);
+    match space.get(SESSION, &key)? {
         None => Ok(None),
         Some(slot) => slot_read(alloc, rank, slot.as_slice()),
     }

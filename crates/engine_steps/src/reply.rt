@@ -44,8 +44,7 @@ fn was_bytes(alloc: Global, value: &Bytes) -> Result<Bytes, AllocError>
 fn number_bytes(alloc: Global, number: i64) -> Result<Bytes, AllocError>
     ensures { IfOk result (λ bytes. bytes ≡ replies.reply_bytes (Reply.Number number)) }
 {
-    let mut bytes = Vec::with_capacity(alloc, 9)?;
-    bytes.push(4)?;
+    let mut bytes = Bytes::from_slice(alloc, &[4])?;
     bytes.extend_from_slice(&number.to_be_bytes())?;
-    Ok(Bytes::from_vec(bytes))
+    Ok(bytes)
 }

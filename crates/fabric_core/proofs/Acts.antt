@@ -3,11 +3,11 @@ use Rattle.std.proofs.Common.{◌≡◌, ◌≢◌, ℕ, List, [], length, set, 
 use Rattle.std.specs.Prelude.{slice_get, MatchBool, ◌==◌}
 use Rattle.std.proofs.lemmas.Bool.Decides.{nat_tests}
 use Rattle.std.proofs.lemmas.List.{length-set}
-use Rattle.delos_types.specs.declared.entry.Entry.{Entry}
 use Rattle.loglet_api.specs.declared.call.Kind.{Kind}
 use Rattle.loglet_api.specs.View.{LogletView}
 use Rattle.loglet_api.specs.Run.{LogletRun}
 use Rattle.loglet_api.specs.Servers.{ServersView, ServesAll}
+use Rattle.legal_journal.specs.Law.{Law}
 use Rattle.legal_journal.specs.declared.events.FabricCall.{FabricCall}
 use Rattle.legal_journal.specs.declared.events.FabricAnswer.{FabricAnswer}
 use Rattle.fabric_core.specs.Runs.{LogletSteps, StepsOf, RegisterDoes, is_on, is_on_register}
@@ -16,8 +16,8 @@ use Rattle.fabric_core.proofs.Ran.{off_register}
 use Rattle.fabric_core.proofs.Marks.{set_same, set_other}
 
 -- what holds of a fabric speaks of no server
-pub any_serving : (may : ℕ → Entry → Type 0) (floor : List Entry → ℕ → Type 0) (shelf : List ℕ) {kinds : List Kind} (f : FabricView) (marks : List (List Bool)) (serving : List ServersView) → FabricOk may floor shelf kinds f marks → FabricOk may floor shelf kinds (record f { serving = serving }) marks
-any_serving may floor shelf f marks serving ok = record {
+pub any_serving : (law : Law) {kinds : List Kind} (f : FabricView) (marks : List (List Bool)) (serving : List ServersView) → FabricOk law kinds f marks → FabricOk law kinds (record f { serving = serving }) marks
+any_serving law f marks serving ok = record {
   legal = ok.legal;
   shelf_is = ok.shelf_is;
   kinds_are = ok.kinds_are;

@@ -1,8 +1,7 @@
 -- A fabric goes on after an event of one of its cells.
-use Rattle.std.proofs.Common.{◌≡◌, ◌≢◌, ℕ, zero, suc, List, [], ◌∷◌, ◌++◌, length, map, set, Option, Some, None, Bool, true, false, refl, sym, ap, ◌∙◌, subst, ⊎_elim, arith}
+use Rattle.std.proofs.Common.{◌≡◌, ◌≢◌, ℕ, zero, suc, List, [], ◌∷◌, ◌++◌, map, set, Option, Some, None, Bool, true, false, refl, sym, ap, ◌∙◌, subst, ⊎_elim, arith}
 use Rattle.std.specs.Prelude.{slice_get, slice_set, ◌==◌, MatchBool}
 use Rattle.std.proofs.lemmas.Bool.Decides.{nat_tests}
-use Rattle.delos_types.specs.declared.entry.Entry.{Entry}
 use Rattle.loglet_api.specs.declared.call.Op.{Op}
 use Rattle.loglet_api.specs.declared.call.Answer.{Answer}
 use Rattle.loglet_api.specs.declared.call.LogletCall.TheVariants as call
@@ -17,6 +16,7 @@ use Rattle.loglet_api.specs.Step.{LogletStep}
 use Rattle.loglet_api.specs.Run.{LogletRun}
 use Rattle.loglet_api.specs.Servers.{ServersView}
 use Rattle.loglet_api.proofs.Keeps.{run_keeps}
+use Rattle.legal_journal.specs.Law.{Law}
 use Rattle.legal_journal.specs.declared.events.Event.{Event}
 use Rattle.legal_journal.specs.declared.events.FabricCall.{FabricCall}
 use Rattle.legal_journal.specs.declared.events.FabricCall.TheVariants.{Begin, Carry, Forget, Stop, Mend, Stray}
@@ -85,19 +85,19 @@ map_same g [] i a b h k = refl
 map_same g (y ∷ ys) zero a b h k = let same : y ≡ b = cc in ap (λ n. n ∷ map g ys) (k ∙ ap g (sym same))
 map_same g (y ∷ ys) (suc i) a b h k = ap (λ l. g y ∷ l) (map_same g ys i a b h k)
 
-module _ (may : ℕ → Entry → Type 0) (floor : List Entry → ℕ → Type 0) (shelf : List ℕ) where
-  pub legal_more : (j : List Event) (e : Event) → IsLegal may floor shelf j → MayHappen (state_of j) may floor shelf e → IsLegal may floor shelf (j ++ e ∷ [])
-  legal_more j e h a = record { least = h.least; most = h.most; steps = IsLegalFrom-join may floor shelf start j (e ∷ []) h.steps (a, tt) }
+module _ (law : Law) where
+  pub legal_more : (j : List Event) (e : Event) → IsLegal law j → MayHappen (state_of j) law e → IsLegal law (j ++ e ∷ [])
+  legal_more j e h a = record { least = h.least; most = h.most; steps = IsLegalFrom-join law start j (e ∷ []) h.steps (a, tt) }
 
   pub state_more : (j : List Event) (e : Event) → state_of (j ++ e ∷ []) ≡ after (state_of j) e.who (move e)
   state_more j e = after_all-append start j (e ∷ [])
 
-  module _ {kinds : List Kind} (f : FabricView) (marks : List (List Bool)) (ok : FabricOk may floor shelf kinds f marks) (i : ℕ) (v : LogletView) (held : ServersView) (here : List Bool) (at : slice_get f.cells i ≡ Some v) (marked_at : slice_get marks i ≡ Some here) where
+  module _ {kinds : List Kind} (f : FabricView) (marks : List (List Bool)) (ok : FabricOk law kinds f marks) (i : ℕ) (v : LogletView) (held : ServersView) (here : List Bool) (at : slice_get f.cells i ≡ Some v) (marked_at : slice_get marks i ≡ Some here) where
     here_is : (j : ℕ) → (j == j) ≡ true
     here_is j = grind (arith, nat_tests)
 
     -- one cell takes its steps, and all else stays
-    on_cell : (e : Event) → MayHappen (state_of f.journal) may floor shelf e → (c : CellState) → ((j : ℕ) → (after (state_of f.journal) e.who (move e)).cells j ≡ put (state_of f.journal).cells i c j) → (after (state_of f.journal) e.who (move e)).register ≡ (state_of f.journal).register → ((j : ℕ) → is_on j e.call ≡ (j == i)) → (now : LogletView) (there : List Bool) → IsAsTold c now → AreMarked c there → now.servers ≡ v.servers → (steps : LogletSteps) → StepsOf e.call e.answer steps → LogletRun v steps now → FabricOk may floor shelf kinds (record { cells = slice_set f.cells i now; serving = f.serving; register = f.register; journal = f.journal ++ e ∷ [] }) (slice_set marks i there)
+    on_cell : (e : Event) → MayHappen (state_of f.journal) law e → (c : CellState) → ((j : ℕ) → (after (state_of f.journal) e.who (move e)).cells j ≡ put (state_of f.journal).cells i c j) → (after (state_of f.journal) e.who (move e)).register ≡ (state_of f.journal).register → ((j : ℕ) → is_on j e.call ≡ (j == i)) → (now : LogletView) (there : List Bool) → IsAsTold c now → AreMarked c there → now.servers ≡ v.servers → (steps : LogletSteps) → StepsOf e.call e.answer steps → LogletRun v steps now → FabricOk law kinds (record { cells = slice_set f.cells i now; serving = f.serving; register = f.register; journal = f.journal ++ e ∷ [] }) (slice_set marks i there)
     on_cell e can c cells_are register_is on now there told marked servers steps are run =
         let w = state_of f.journal in
         let next = state_more f.journal e in record {
@@ -152,7 +152,7 @@ module _ (may : ℕ → Entry → Type 0) (floor : List Entry → ℕ → Type 0
 
     -- what the fabric is after an event of the cell
     abbrev pub IsAfter : CellView → Type 0
-    IsAfter new = FabricOk may floor shelf kinds (record { cells = slice_set f.cells i new.loglet; serving = f.serving; register = f.register; journal = new.journal }) (slice_set marks i new.marks)
+    IsAfter new = FabricOk law kinds (record { cells = slice_set f.cells i new.loglet; serving = f.serving; register = f.register; journal = new.journal }) (slice_set marks i new.marks)
 
     same_cells : (j : ℕ) → (state_of f.journal).cells j ≡ put (state_of f.journal).cells i ((state_of f.journal).cells i) j
     same_cells j = put_cases (λ (y : CellState). (state_of f.journal).cells j ≡ y) (state_of f.journal).cells i ((state_of f.journal).cells i) j (λ e. ap (state_of f.journal).cells e) (λ _. refl)
@@ -164,7 +164,7 @@ module _ (may : ℕ → Entry → Type 0) (floor : List Entry → ℕ → Type 0
     recorded : (new : CellView) (e : Event) → new.journal ≡ f.journal ++ e ∷ [] → IsAfter (record { loglet = new.loglet; serving = new.serving; marks = new.marks; journal = f.journal ++ e ∷ [] }) → IsAfter new
     recorded new e is h = subst (λ j. IsAfter (record { loglet = new.loglet; serving = new.serving; marks = new.marks; journal = j })) (sym is) h
 
-    pub begin_kept : (who : ℕ) (op : Op) (a : FabricAnswer) (new : CellView) → MayCall (state_of f.journal) may floor shelf who (Begin i op) → Happens (record { loglet = v; serving = held; marks = here; journal = f.journal }) who (Begin i op) a new → IsAfter new
+    pub begin_kept : (who : ℕ) (op : Op) (a : FabricAnswer) (new : CellView) → MayCall (state_of f.journal) law who (Begin i op) → Happens (record { loglet = v; serving = held; marks = here; journal = f.journal }) who (Begin i op) a new → IsAfter new
     begin_kept who op (Begun t) new can h =
         let e : Event = record { who = who; call = Begin i op; answer = Begun t } in
         let s = only (call.Begin op) (answer.Begun t) new.loglet (subst (λ x. LogletRun v x new.loglet) h.are h.run) in
@@ -191,7 +191,7 @@ module _ (may : ℕ → Entry → Type 0) (floor : List Entry → ℕ → Type 0
     own who t r owner e = record { is_open = e; own = owner r e }
 
     -- the operation is answered, from a view that tells the same
-    answered_from : (who t word : ℕ) (a : Answer) (mid : LogletView) (new : CellView) → MayCall (state_of f.journal) may floor shelf who (Carry i t word) → Happens (record { loglet = v; serving = held; marks = here; journal = f.journal }) who (Carry i t word) (Done a) new → IsAsTold ((state_of f.journal).cells i) mid → mid.servers ≡ v.servers → LogletStep mid (call.Take t) (answer.Taken (Some a)) new.loglet → IsAfter new
+    answered_from : (who t word : ℕ) (a : Answer) (mid : LogletView) (new : CellView) → MayCall (state_of f.journal) law who (Carry i t word) → Happens (record { loglet = v; serving = held; marks = here; journal = f.journal }) who (Carry i t word) (Done a) new → IsAsTold ((state_of f.journal).cells i) mid → mid.servers ≡ v.servers → LogletStep mid (call.Take t) (answer.Taken (Some a)) new.loglet → IsAfter new
     answered_from who t word a mid new can h m servers s =
         let e : Event = record { who = who; call = Carry i t word; answer = Done a } in
         let c = (state_of f.journal).cells i in
@@ -205,13 +205,13 @@ module _ (may : ℕ → Entry → Type 0) (floor : List Entry → ℕ → Type 0
         (ap (λ (x : LogletView). x.servers) s.does.rest ∙ servers) h.steps h.are h.run)
 
     -- the operation is closed without its answer
-    dropped_from : (who t word : ℕ) (mid : LogletView) (c : FabricCall) (a : FabricAnswer) (new : CellView) → move_of c a ≡ OnCell i (Drops t) → Exists shelf c → IsOwner (state_of f.journal) who i t → ((j : ℕ) → is_on j c ≡ (j == i)) → marks_after here c a ≡ slice_set here t false → Happens (record { loglet = v; serving = held; marks = here; journal = f.journal }) who c a new → IsAsTold ((state_of f.journal).cells i) mid → mid.servers ≡ v.servers → LogletStep mid (call.Forget t) answer.Forgotten new.loglet → IsAfter new
+    dropped_from : (who t word : ℕ) (mid : LogletView) (c : FabricCall) (a : FabricAnswer) (new : CellView) → move_of c a ≡ OnCell i (Drops t) → Exists law.shelf c → IsOwner (state_of f.journal) who i t → ((j : ℕ) → is_on j c ≡ (j == i)) → marks_after here c a ≡ slice_set here t false → Happens (record { loglet = v; serving = held; marks = here; journal = f.journal }) who c a new → IsAsTold ((state_of f.journal).cells i) mid → mid.servers ≡ v.servers → LogletStep mid (call.Forget t) answer.Forgotten new.loglet → IsAfter new
     dropped_from who t word mid fc a new drops there owner on marks_are h m servers s =
         let e : Event = record { who = who; call = fc; answer = a } in
         let c = (state_of f.journal).cells i in
         let k = dropped_as_told c mid m who t new.loglet s.can s.does s.after in
         recorded new e h.recorded
-        (on_cell e (record { there = there; allowed = subst (λ x. IsAllowed (state_of f.journal) may floor (length shelf) who x) (sym drops) (k.running, own who t k.running owner k.is_open) })
+        (on_cell e (record { there = there; allowed = subst (λ x. IsAllowed (state_of f.journal) law who x) (sym drops) (k.running, own who t k.running owner k.is_open) })
         (cell_after who c (Drops t))
         (λ j. ap (λ x. (after (state_of f.journal) who x).cells j) drops)
         (ap (λ x. (after (state_of f.journal) who x).register) drops) on new.loglet new.marks k.told
@@ -219,14 +219,14 @@ module _ (may : ℕ → Entry → Type 0) (floor : List Entry → ℕ → Type 0
         (ap (λ (x : LogletView). x.servers) s.does.rest ∙ servers) h.steps h.are h.run)
 
     -- the ticket isn't open, and the loglet isn't called
-    missed_by : (who t : ℕ) (c : FabricCall) (a : FabricAnswer) (new : CellView) → move_of c a ≡ OnCell i (Misses t) → Exists shelf c → ((j : ℕ) → is_on j c ≡ (j == i)) → marks_after here c a ≡ here → slice_get here t ≢ Some true → (h : Happens (record { loglet = v; serving = held; marks = here; journal = f.journal }) who c a new) → h.steps ≡ [] → IsAfter new
+    missed_by : (who t : ℕ) (c : FabricCall) (a : FabricAnswer) (new : CellView) → move_of c a ≡ OnCell i (Misses t) → Exists law.shelf c → ((j : ℕ) → is_on j c ≡ (j == i)) → marks_after here c a ≡ here → slice_get here t ≢ Some true → (h : Happens (record { loglet = v; serving = held; marks = here; journal = f.journal }) who c a new) → h.steps ≡ [] → IsAfter new
     missed_by who t fc a new misses there on marks_are not_open h none =
         let e : Event = record { who = who; call = fc; answer = a } in
         let c = (state_of f.journal).cells i in
         let same : new.loglet ≡ v = subst (λ x. LogletRun v x new.loglet) none h.run in
         let closed = unmarked (c.told.ops t) (slice_get here t) (marked_now.each t) not_open in
         recorded new e h.recorded
-        (on_cell e (record { there = there; allowed = subst (λ x. IsAllowed (state_of f.journal) may floor (length shelf) who x) (sym misses) closed })
+        (on_cell e (record { there = there; allowed = subst (λ x. IsAllowed (state_of f.journal) law who x) (sym misses) closed })
         c
         (λ j. ap (λ x. (after (state_of f.journal) who x).cells j) misses)
         (ap (λ x. (after (state_of f.journal) who x).register) misses) on new.loglet new.marks (subst (IsAsTold c) (sym same) told_now)
@@ -239,7 +239,7 @@ module _ (may : ℕ → Entry → Type 0) (floor : List Entry → ℕ → Type 0
         let c = (state_of f.journal).cells i in
         moved_as_told c v told_now c mid refl s.does.moves s.after (moved_left c v told_now mid s.does.moves s.after)
 
-    pub carry_kept : (who t word : ℕ) (a : FabricAnswer) (new : CellView) → MayCall (state_of f.journal) may floor shelf who (Carry i t word) → Happens (record { loglet = v; serving = held; marks = here; journal = f.journal }) who (Carry i t word) a new → IsAfter new
+    pub carry_kept : (who t word : ℕ) (a : FabricAnswer) (new : CellView) → MayCall (state_of f.journal) law who (Carry i t word) → Happens (record { loglet = v; serving = held; marks = here; journal = f.journal }) who (Carry i t word) a new → IsAfter new
     carry_kept who t word Going new can h =
         let e : Event = record { who = who; call = Carry i t word; answer = Going } in
         let c = (state_of f.journal).cells i in
@@ -275,7 +275,7 @@ module _ (may : ℕ → Entry → Type 0) (floor : List Entry → ℕ → Type 0
     carry_kept who t word NoTicket new can h = missed_by who t (Carry i t word) NoTicket new refl can.there (λ j. refl) refl h.missed h h.are
     carry_kept who t word a new can h = absurd h.are
 
-    pub forget_kept : (who t : ℕ) (a : FabricAnswer) (new : CellView) → MayCall (state_of f.journal) may floor shelf who (Forget i t) → Happens (record { loglet = v; serving = held; marks = here; journal = f.journal }) who (Forget i t) a new → IsAfter new
+    pub forget_kept : (who t : ℕ) (a : FabricAnswer) (new : CellView) → MayCall (state_of f.journal) law who (Forget i t) → Happens (record { loglet = v; serving = held; marks = here; journal = f.journal }) who (Forget i t) a new → IsAfter new
     forget_kept who t Gone new can h =
         dropped_from who t 0 v (Forget i t) Gone new refl can.there can.asks (λ j. refl) refl h told_now refl (only (call.Forget t) answer.Forgotten new.loglet (subst (λ y. LogletRun v y new.loglet) h.are h.run))
     forget_kept who t NoTicket new can h = missed_by who t (Forget i t) NoTicket new refl can.there (λ j. refl) refl h.missed h h.are
@@ -283,19 +283,19 @@ module _ (may : ℕ → Entry → Type 0) (floor : List Entry → ℕ → Type 0
 
     -- Events that open and close no ticket.
 
-    served : (who : ℕ) (c : FabricCall) (a : FabricAnswer) (now : LogletView) (holds : ServersView) (journal : List Event) → MayHappen (state_of f.journal) may floor shelf (record { who = who; call = c; answer = a }) → ((j : ℕ) → (after (state_of f.journal) who (move_of c a)).cells j ≡ (state_of f.journal).cells j) → (after (state_of f.journal) who (move_of c a)).register ≡ (state_of f.journal).register → ((j : ℕ) → is_on j c ≡ (j == i)) → Serves (record { loglet = v; serving = held }) f.journal who c a (record { loglet = now; serving = holds }) journal → IsAsTold ((state_of f.journal).cells i) now → now.servers ≡ v.servers → IsAfter (record { loglet = now; serving = holds; marks = here; journal = journal })
+    served : (who : ℕ) (c : FabricCall) (a : FabricAnswer) (now : LogletView) (holds : ServersView) (journal : List Event) → MayHappen (state_of f.journal) law (record { who = who; call = c; answer = a }) → ((j : ℕ) → (after (state_of f.journal) who (move_of c a)).cells j ≡ (state_of f.journal).cells j) → (after (state_of f.journal) who (move_of c a)).register ≡ (state_of f.journal).register → ((j : ℕ) → is_on j c ≡ (j == i)) → Serves (record { loglet = v; serving = held }) f.journal who c a (record { loglet = now; serving = holds }) journal → IsAsTold ((state_of f.journal).cells i) now → now.servers ≡ v.servers → IsAfter (record { loglet = now; serving = holds; marks = here; journal = journal })
     served who c a now holds journal can cells register on h told servers =
         recorded (record { loglet = now; serving = holds; marks = here; journal = journal }) (record { who = who; call = c; answer = a }) h.recorded
         (on_cell (record { who = who; call = c; answer = a }) can ((state_of f.journal).cells i) (λ j. cells j ∙ same_cells j) register on now here told marked_now servers h.steps h.are h.run)
 
-    pub stop_kept : (who server n : ℕ) (a : FabricAnswer) (now : LogletView) (holds : ServersView) (journal : List Event) → MayCall (state_of f.journal) may floor shelf who (Stop i server n) → Serves (record { loglet = v; serving = held }) f.journal who (Stop i server n) a (record { loglet = now; serving = holds }) journal → IsAfter (record { loglet = now; serving = holds; marks = here; journal = journal })
+    pub stop_kept : (who server n : ℕ) (a : FabricAnswer) (now : LogletView) (holds : ServersView) (journal : List Event) → MayCall (state_of f.journal) law who (Stop i server n) → Serves (record { loglet = v; serving = held }) f.journal who (Stop i server n) a (record { loglet = now; serving = holds }) journal → IsAfter (record { loglet = now; serving = holds; marks = here; journal = journal })
     stop_kept who server n (Set true) now holds journal can h =
         let s = only (call.Stop server n) answer.Stopped now (subst (λ x. LogletRun v x now) h.are h.run) in
         served who (Stop i server n) (Set true) now holds journal (record { there = can.there; allowed = tt }) (λ j. refl) refl (λ j. refl) h
         (subst (IsAsTold ((state_of f.journal).cells i)) (sym s.does) told_now) (ap (λ (x : LogletView). x.servers) s.does)
     stop_kept who server n a now holds journal can h = absurd h.are
 
-    pub mend_kept : (who server word : ℕ) (a : FabricAnswer) (now : LogletView) (holds : ServersView) (journal : List Event) → MayCall (state_of f.journal) may floor shelf who (Mend i server word) → Serves (record { loglet = v; serving = held }) f.journal who (Mend i server word) a (record { loglet = now; serving = holds }) journal → IsAfter (record { loglet = now; serving = holds; marks = here; journal = journal })
+    pub mend_kept : (who server word : ℕ) (a : FabricAnswer) (now : LogletView) (holds : ServersView) (journal : List Event) → MayCall (state_of f.journal) law who (Mend i server word) → Serves (record { loglet = v; serving = held }) f.journal who (Mend i server word) a (record { loglet = now; serving = holds }) journal → IsAfter (record { loglet = now; serving = holds; marks = here; journal = journal })
     mend_kept who server word (Set b) now holds journal can h =
         let c = (state_of f.journal).cells i in
         let s = only (call.Restart server word) (answer.Restarted b) now (subst (λ x. LogletRun v x now) h.are h.run) in
@@ -304,7 +304,7 @@ module _ (may : ℕ → Entry → Type 0) (floor : List Entry → ℕ → Type 0
         (ap (λ (x : LogletView). x.servers) s.does.moves.rest)
     mend_kept who server word a now holds journal can h = absurd h.are
 
-    pub stray_kept : (who word : ℕ) (a : FabricAnswer) (now : LogletView) (holds : ServersView) (journal : List Event) → MayCall (state_of f.journal) may floor shelf who (Stray i word) → Serves (record { loglet = v; serving = held }) f.journal who (Stray i word) a (record { loglet = now; serving = holds }) journal → IsAfter (record { loglet = now; serving = holds; marks = here; journal = journal })
+    pub stray_kept : (who word : ℕ) (a : FabricAnswer) (now : LogletView) (holds : ServersView) (journal : List Event) → MayCall (state_of f.journal) law who (Stray i word) → Serves (record { loglet = v; serving = held }) f.journal who (Stray i word) a (record { loglet = now; serving = holds }) journal → IsAfter (record { loglet = now; serving = holds; marks = here; journal = journal })
     stray_kept who word (Set true) now holds journal can h =
         let c = (state_of f.journal).cells i in
         let s = only (call.Stray word) answer.Strayed now (subst (λ x. LogletRun v x now) h.are h.run) in

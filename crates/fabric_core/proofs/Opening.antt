@@ -4,11 +4,11 @@ use Rattle.std.specs.Prelude.{slice_get, All}
 use Rattle.std.proofs.lemmas.List.{length-map}
 use Rattle.std.proofs.lemmas.List.Elements.{All-head, All-tail}
 use Rattle.std.proofs.lemmas.Option.{slice_get_within}
-use Rattle.delos_types.specs.declared.entry.Entry.{Entry}
 use Rattle.loglet_api.specs.declared.call.Kind.{Kind}
 use Rattle.loglet_api.specs.View.{LogletView, operation_at, IsFresh}
 use Rattle.loglet_api.specs.Sound.{IsSound}
 use Rattle.loglet_api.specs.Servers.{ServersView}
+use Rattle.legal_journal.specs.Law.{Law}
 use Rattle.legal_journal.specs.Journal.{fresh_cell}
 use Rattle.register_api.specs.View.{RegisterView}
 use Rattle.register_api.specs.View as register_view
@@ -43,9 +43,9 @@ fresh_as_told v f sound = record {
 no_mark : (t : ℕ) → slice_get {X = Bool} [] t ≢ Some true
 no_mark t e = absurd (cc)
 
-pub opened : (may : ℕ → Entry → Type 0) (floor : List Entry → ℕ → Type 0) (shelf : List ℕ) {kinds : List Kind} {A B : Type 0} (view : A → LogletView) (serving : A → ServersView) (items : B → List Bool) (cells : List A) (marks : List B) (register : RegisterView) → 0 < length cells → length cells ≤ 64 → map (λ v. v.servers) (map view cells) ≡ shelf → map (λ v. v.kind) (map view cells) ≡ kinds → All (λ l. IsFresh (view l)) cells → All (λ l. IsSound (view l)) cells → register_view.IsFresh register → length marks ≡ length cells → All (λ m. items m ≡ []) marks → FabricOk may floor shelf kinds (record { cells = map view cells; serving = map serving cells; register = register; journal = [] }) (map items marks)
-opened may floor shelf view serving items cells marks register least most shelf_is kinds_are fresh sound r count none =
-    let size : length shelf ≡ length cells = sym (ap length shelf_is) ∙ (length-map (map view cells) (λ (v : LogletView). v.servers) ∙ length-map cells view) in record {
+pub opened : (law : Law) {kinds : List Kind} {A B : Type 0} (view : A → LogletView) (serving : A → ServersView) (items : B → List Bool) (cells : List A) (marks : List B) (register : RegisterView) → 0 < length cells → length cells ≤ 64 → map (λ v. v.servers) (map view cells) ≡ law.shelf → map (λ v. v.kind) (map view cells) ≡ kinds → All (λ l. IsFresh (view l)) cells → All (λ l. IsSound (view l)) cells → register_view.IsFresh register → length marks ≡ length cells → All (λ m. items m ≡ []) marks → FabricOk law kinds (record { cells = map view cells; serving = map serving cells; register = register; journal = [] }) (map items marks)
+opened law view serving items cells marks register least most shelf_is kinds_are fresh sound r count none =
+    let size : length law.shelf ≡ length cells = sym (ap length shelf_is) ∙ (length-map (map view cells) (λ (v : LogletView). v.servers) ∙ length-map cells view) in record {
       legal = record { least = omega arith; most = omega arith; steps = tt };
       shelf_is = shelf_is;
       kinds_are = kinds_are;

@@ -2,10 +2,10 @@
 use Rattle.std.proofs.Common.{◌≡◌, inl, inr, ℕ, ◌+◌, ◌<◌, ◌^◌, List, [], ◌∷◌, ◌++◌, length, Bool, true, false, refl, sym, ap, ◌∙◌, subst, ⊎_elim, arith}
 use Rattle.std.proofs.lemmas.List.{length-append}
 use Rattle.loglet_api.specs.declared.call.Kind.{Kind}
-use Rattle.delos_types.specs.declared.entry.Entry.{Entry}
 use Rattle.delos_types.specs.declared.chain.Chain.{Chain}
 use Rattle.chain_map.specs.Chain.{is_chain}
 use Rattle.register_api.specs.View.{RegisterView}
+use Rattle.legal_journal.specs.Law.{Law}
 use Rattle.legal_journal.specs.declared.events.Event.{Event}
 use Rattle.legal_journal.specs.declared.events.FabricCall.{FabricCall}
 use Rattle.legal_journal.specs.declared.events.FabricCall.TheVariants.{ReadChain, WriteChain, StopMeta, MendMeta}
@@ -25,15 +25,15 @@ use Rattle.fabric_core.proofs.Registers.{counted, current_is, given_told, writte
 use Rattle.fabric_core.proofs.Kept.{legal_more, state_more, has_run_same}
 use Rattle.fabric_core.proofs.Shelf.{adds_none}
 
-module _ (may : ℕ → Entry → Type 0) (floor : List Entry → ℕ → Type 0) (shelf : List ℕ) {kinds : List Kind} (f : FabricView) (marks : List (List Bool)) (ok : FabricOk may floor shelf kinds f marks) where
-  state_ok : StateOk (length shelf) (state_of f.journal)
-  state_ok = sound may floor shelf f.journal ok.legal
+module _ (law : Law) {kinds : List Kind} (f : FabricView) (marks : List (List Bool)) (ok : FabricOk law kinds f marks) where
+  state_ok : StateOk (length law.shelf) (state_of f.journal)
+  state_ok = sound law f.journal ok.legal
 
   -- the event is of no cell
-  off_cells : (e : Event) → MayHappen (state_of f.journal) may floor shelf e → ((j : ℕ) → (after (state_of f.journal) e.who (move e)).cells j ≡ (state_of f.journal).cells j) → ((j : ℕ) → is_on j e.call ≡ false) → is_on_register e.call ≡ true → (r : RegisterView) → RegisterDoes f.register e.call e.answer r → IsRegisterAsTold (after (state_of f.journal) e.who (move e)).register r → FabricOk may floor shelf kinds (record { cells = f.cells; serving = f.serving; register = r; journal = f.journal ++ e ∷ [] }) marks
+  off_cells : (e : Event) → MayHappen (state_of f.journal) law e → ((j : ℕ) → (after (state_of f.journal) e.who (move e)).cells j ≡ (state_of f.journal).cells j) → ((j : ℕ) → is_on j e.call ≡ false) → is_on_register e.call ≡ true → (r : RegisterView) → RegisterDoes f.register e.call e.answer r → IsRegisterAsTold (after (state_of f.journal) e.who (move e)).register r → FabricOk law kinds (record { cells = f.cells; serving = f.serving; register = r; journal = f.journal ++ e ∷ [] }) marks
   off_cells e can same off on r does register =
-      let next = state_more may floor shelf f.journal e in record {
-        legal = legal_more may floor shelf f.journal e ok.legal can;
+      let next = state_more law f.journal e in record {
+        legal = legal_more law f.journal e ok.legal can;
         shelf_is = ok.shelf_is;
         kinds_are = ok.kinds_are;
         cells = λ j x g.
@@ -50,14 +50,14 @@ module _ (may : ℕ → Entry → Type 0) (floor : List Entry → ℕ → Type 0
       }
 
   pub record Goes (who : ℕ) (call : FabricCall) (answer : FabricAnswer) (r : RegisterView) (journal : List Event) : Type 0 where
-    pub now : FabricOk may floor shelf kinds (record { cells = f.cells; serving = f.serving; register = r; journal = journal }) marks
-    pub keeps : Keeps may floor shelf f who call answer (record { cells = f.cells; serving = f.serving; register = r; journal = journal })
+    pub now : FabricOk law kinds (record { cells = f.cells; serving = f.serving; register = r; journal = journal }) marks
+    pub keeps : Keeps law f who call answer (record { cells = f.cells; serving = f.serving; register = r; journal = journal })
 
   -- one event is recorded
-  acted : (who : ℕ) (call : FabricCall) (answer : FabricAnswer) (r : RegisterView) (journal : List Event) → MayHappen (state_of f.journal) may floor shelf (record { who = who; call = call; answer = answer }) → ((j : ℕ) → (after (state_of f.journal) who (move_of call answer)).cells j ≡ (state_of f.journal).cells j) → ((j : ℕ) → is_on j call ≡ false) → is_on_register call ≡ true → OwnEvents who call answer (record { who = who; call = call; answer = answer } ∷ []) → RegisterActs f.register f.journal who call answer r journal → IsRegisterAsTold (after (state_of f.journal) who (move_of call answer)).register r → Goes who call answer r journal
+  acted : (who : ℕ) (call : FabricCall) (answer : FabricAnswer) (r : RegisterView) (journal : List Event) → MayHappen (state_of f.journal) law (record { who = who; call = call; answer = answer }) → ((j : ℕ) → (after (state_of f.journal) who (move_of call answer)).cells j ≡ (state_of f.journal).cells j) → ((j : ℕ) → is_on j call ≡ false) → is_on_register call ≡ true → OwnEvents who call answer (record { who = who; call = call; answer = answer } ∷ []) → RegisterActs f.register f.journal who call answer r journal → IsRegisterAsTold (after (state_of f.journal) who (move_of call answer)).register r → Goes who call answer r journal
   acted who call answer r journal can same off on own h told =
       let e : Event = record { who = who; call = call; answer = answer } in
-      let all : FabricOk may floor shelf kinds (record { cells = f.cells; serving = f.serving; register = r; journal = journal }) marks = subst (λ j. FabricOk may floor shelf kinds (record { cells = f.cells; serving = f.serving; register = r; journal = j }) marks) (sym h.recorded) (off_cells e can same off on r h.does told) in record {
+      let all : FabricOk law kinds (record { cells = f.cells; serving = f.serving; register = r; journal = journal }) marks = subst (λ j. FabricOk law kinds (record { cells = f.cells; serving = f.serving; register = r; journal = j }) marks) (sym h.recorded) (off_cells e can same off on r h.does told) in record {
         now = all;
         keeps = record {
           adds = record { own = e ∷ []; event = own; added = h.recorded };
@@ -71,7 +71,7 @@ module _ (may : ℕ → Entry → Type 0) (floor : List Entry → ℕ → Type 0
   unheard : (who : ℕ) (call : FabricCall) (answer : FabricAnswer) (r : RegisterView) (journal : List Event) → answer ≡ Memory → r ≡ f.register → journal ≡ f.journal → Goes who call answer r journal
   unheard who call answer r journal memory same is =
       let unchanged : ◌≡◌ {A = FabricView} (record { cells = f.cells; serving = f.serving; register = r; journal = journal }) f = ap (λ x. record { cells = f.cells; serving = f.serving; register = x; journal = journal }) same ∙ ap (λ x. record { cells = f.cells; serving = f.serving; register = f.register; journal = x }) is in
-      let all = subst (λ (x : FabricView). FabricOk may floor shelf kinds x marks) (sym unchanged) ok in record {
+      let all = subst (λ (x : FabricView). FabricOk law kinds x marks) (sym unchanged) ok in record {
         now = all;
         keeps = record {
           adds = adds_none who call f.journal journal answer memory is;
@@ -101,18 +101,18 @@ module _ (may : ℕ → Entry → Type 0) (floor : List Entry → ℕ → Type 0
       (λ (x : (answer ≡ Memory) × (r ≡ f.register) × (journal ≡ f.journal)). unheard who ReadChain answer r journal x.0 x.1 x.2)
       h
 
-  pub may_write : (who x : ℕ) (c : Chain) → MayCall (state_of f.journal) may floor shelf who (WriteChain x c) → is_chain c ≡ true
-  may_write who x c can = may_stand (length shelf) (state_of f.journal) state_ok x can.asks.0 can.asks.1 floor c can.asks.2
+  pub may_write : (who x : ℕ) (c : Chain) → MayCall (state_of f.journal) law who (WriteChain x c) → is_chain c ≡ true
+  may_write who x c can = may_stand (length law.shelf) (state_of f.journal) state_ok x can.asks.0 can.asks.1 law.floor c can.asks.2
 
   pub version_small : f.register.version < 2 ^ 48
-  version_small = small_version (length shelf) (state_of f.journal) f.register state_ok ok.register
+  version_small = small_version (length law.shelf) (state_of f.journal) f.register state_ok ok.register
 
-  write_acts : (who x : ℕ) (c : Chain) (answer : FabricAnswer) (r : RegisterView) (journal : List Event) → MayCall (state_of f.journal) may floor shelf who (WriteChain x c) → RegisterActs f.register f.journal who (WriteChain x c) answer r journal → Goes who (WriteChain x c) answer r journal
+  write_acts : (who x : ℕ) (c : Chain) (answer : FabricAnswer) (r : RegisterView) (journal : List Event) → MayCall (state_of f.journal) law who (WriteChain x c) → RegisterActs f.register f.journal who (WriteChain x c) answer r journal → Goes who (WriteChain x c) answer r journal
   write_acts who x c (Written n) r journal can h =
       let w = state_of f.journal in
-      let k = expected (length shelf) w state_ok x can.asks.0 can.asks.1 f.register ok.register h.does.expected_is in
+      let k = expected (length law.shelf) w state_ok x can.asks.0 can.asks.1 f.register ok.register h.does.expected_is in
       acted who (WriteChain x c) (Written n) r journal
-      (record { there = tt; allowed = (up h.does.up, k.version, subst (λ (o : Chain). MayFollow w floor (length shelf) o c) k.old_is can.asks.2, h.does.version_is ∙ ap (λ m. m + 1) (sym h.does.expected_is)) })
+      (record { there = tt; allowed = (up h.does.up, k.version, subst (λ (o : Chain). MayFollow w law.floor (length law.shelf) o c) k.old_is can.asks.2, h.does.version_is ∙ ap (λ m. m + 1) (sym h.does.expected_is)) })
       (λ j. refl) (λ j. refl) refl refl h (written_told w.register f.register ok.register x c n r h.sound h.does)
   write_acts who x c (Conflict n d) r journal can h =
       let w = state_of f.journal in
@@ -121,16 +121,16 @@ module _ (may : ℕ → Entry → Type 0) (floor : List Entry → ℕ → Type 0
       (λ j. refl) (λ j. refl) refl refl h (given_told w.register f.register ok.register n d r h.sound h.does.0)
   write_acts who x c MetaFault r journal can h =
       let w = state_of f.journal in
-      let k = expected (length shelf) w state_ok x can.asks.0 can.asks.1 f.register ok.register h.does.expected_is in
+      let k = expected (length law.shelf) w state_ok x can.asks.0 can.asks.1 f.register ok.register h.does.expected_is in
       acted who (WriteChain x c) MetaFault r journal
-      (record { there = tt; allowed = (up h.does.up, k.version, subst (λ (o : Chain). MayFollow w floor (length shelf) o c) k.old_is can.asks.2) })
+      (record { there = tt; allowed = (up h.does.up, k.version, subst (λ (o : Chain). MayFollow w law.floor (length law.shelf) o c) k.old_is can.asks.2) })
       (λ j. refl) (λ j. refl) refl refl h (failed_told w.register f.register ok.register x c r k.standing k.chain h.does)
   write_acts who x c Down r journal can h =
       acted who (WriteChain x c) Down r journal (record { there = tt; allowed = sym ok.register.down ∙ h.does.was })
       (λ j. refl) (λ j. refl) refl refl h (counted (state_of f.journal).register f.register ok.register r _ h.does.counted)
   write_acts who x c answer r journal can h = absurd h.does
 
-  pub write_goes : (who x : ℕ) (c : Chain) (answer : FabricAnswer) (r : RegisterView) (journal : List Event) → MayCall (state_of f.journal) may floor shelf who (WriteChain x c) → RegisterApplies f.register f.journal who (WriteChain x c) answer r journal → Goes who (WriteChain x c) answer r journal
+  pub write_goes : (who x : ℕ) (c : Chain) (answer : FabricAnswer) (r : RegisterView) (journal : List Event) → MayCall (state_of f.journal) law who (WriteChain x c) → RegisterApplies f.register f.journal who (WriteChain x c) answer r journal → Goes who (WriteChain x c) answer r journal
   write_goes who x c answer r journal can h = ⊎_elim
       (λ (y : RegisterActs f.register f.journal who (WriteChain x c) answer r journal). write_acts who x c answer r journal can y)
       (λ (y : (answer ≡ Memory) × (r ≡ f.register) × (journal ≡ f.journal)). unheard who (WriteChain x c) answer r journal y.0 y.1 y.2)

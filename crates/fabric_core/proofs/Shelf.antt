@@ -3,11 +3,11 @@ use Rattle.std.proofs.Common.{◌≡◌, inl, inr, ℕ, zero, suc, ◌<◌, List
 use Rattle.std.specs.Prelude.{slice_get, ◌==◌}
 use Rattle.std.proofs.lemmas.List.{length-append, length-map}
 use Rattle.std.proofs.lemmas.Option.{slice_get_within}
-use Rattle.delos_types.specs.declared.entry.Entry.{Entry}
 use Rattle.loglet_api.specs.declared.call.Kind.{Kind}
 use Rattle.loglet_api.specs.View.{LogletView, Operation, operation_at, IsOpen}
 use Rattle.loglet_api.specs.Servers.{ServersView}
 use Rattle.loglet_api.specs.declared.call.Op.{Op}
+use Rattle.legal_journal.specs.Law.{Law}
 use Rattle.legal_journal.specs.declared.events.Event.{Event}
 use Rattle.legal_journal.specs.declared.events.FabricCall.{FabricCall}
 use Rattle.legal_journal.specs.declared.events.FabricCall.TheVariants.{Begin, Carry, Forget, ReadChain, WriteChain, Stop, Mend, Stray, StopMeta, MendMeta}
@@ -86,7 +86,7 @@ marked_open (Some r) None m h k e = absurd e
 marked_open (Some r) (Some o) m h k e = refl
 
 -- a cell of the shelf is there, and has its marks
-module _ (may : ℕ → Entry → Type 0) (floor : List Entry → ℕ → Type 0) (shelf : List ℕ) {kinds : List Kind} {A B : Type 0} (view : A → LogletView) (serving : A → ServersView) (items : B → List Bool) (cells : List A) (marks : List B) (register : RegisterView) (journal : List Event) (ok : FabricOk may floor shelf kinds (record { cells = map view cells; serving = map serving cells; register = register; journal = journal }) (map items marks)) (i : ℕ) (low : i < length shelf) where
+module _ (law : Law) {kinds : List Kind} {A B : Type 0} (view : A → LogletView) (serving : A → ServersView) (items : B → List Bool) (cells : List A) (marks : List B) (register : RegisterView) (journal : List Event) (ok : FabricOk law kinds (record { cells = map view cells; serving = map serving cells; register = register; journal = journal }) (map items marks)) (i : ℕ) (low : i < length law.shelf) where
   pub cell_within : i < length cells
   cell_within = omega (arith, ap length ok.shelf_is, length-map (map view cells) (λ (v : LogletView). v.servers), length-map cells view)
 
@@ -96,7 +96,7 @@ module _ (may : ℕ → Entry → Type 0) (floor : List Entry → ℕ → Type 0
       let k = ok.cells i d.0 d.1 in
       omega (arith, slice_get_within (map items marks) i k.here k.is, length-map marks items)
 
-module _ (may : ℕ → Entry → Type 0) (floor : List Entry → ℕ → Type 0) (shelf : List ℕ) {kinds : List Kind} {A B : Type 0} (view : A → LogletView) (serving : A → ServersView) (items : B → List Bool) (cells : List A) (marks : List B) (register : RegisterView) (journal : List Event) (ok : FabricOk may floor shelf kinds (record { cells = map view cells; serving = map serving cells; register = register; journal = journal }) (map items marks)) (i : ℕ) (a : A) (b : B) (at : slice_get cells i ≡ Some a) (marked : slice_get marks i ≡ Some b) (a' : A) (b' : B) (journal' : List Event) where
+module _ (law : Law) {kinds : List Kind} {A B : Type 0} (view : A → LogletView) (serving : A → ServersView) (items : B → List Bool) (cells : List A) (marks : List B) (register : RegisterView) (journal : List Event) (ok : FabricOk law kinds (record { cells = map view cells; serving = map serving cells; register = register; journal = journal }) (map items marks)) (i : ℕ) (a : A) (b : B) (at : slice_get cells i ≡ Some a) (marked : slice_get marks i ≡ Some b) (a' : A) (b' : B) (journal' : List Event) where
   -- a marked ticket is open
   pub open_where_marked : (t : ℕ) → slice_get (items b) t ≡ Some true → IsOpen (view a) t
   open_where_marked t h =
@@ -120,15 +120,15 @@ module _ (may : ℕ → Entry → Type 0) (floor : List Entry → ℕ → Type 0
   cell_new = record { loglet = view a'; serving = serving a'; marks = items b'; journal = journal' }
 
   pub record Goes (who : ℕ) (call : FabricCall) (answer : FabricAnswer) : Type 0 where
-    pub now : FabricOk may floor shelf kinds new (map items (set marks i b'))
-    pub keeps : Keeps may floor shelf old who call answer new
+    pub now : FabricOk law kinds new (map items (set marks i b'))
+    pub keeps : Keeps law old who call answer new
 
-  happened : (who : ℕ) (call : FabricCall) (answer : FabricAnswer) → ((steps : LogletSteps) → StepsOf call answer steps → OwnEvents who call answer (record { who = who; call = call; answer = answer } ∷ [])) → ((j : ℕ) → is_on j call ≡ (j == i)) → Happens cell_old who call answer cell_new → IsAfter may floor shelf old (map items marks) ok i (view a) (serving a) (items b) (map_get view cells i a at) (map_get items marks i b marked) cell_new → Goes who call answer
+  happened : (who : ℕ) (call : FabricCall) (answer : FabricAnswer) → ((steps : LogletSteps) → StepsOf call answer steps → OwnEvents who call answer (record { who = who; call = call; answer = answer } ∷ [])) → ((j : ℕ) → is_on j call ≡ (j == i)) → Happens cell_old who call answer cell_new → IsAfter law old (map items marks) ok i (view a) (serving a) (items b) (map_get view cells i a at) (map_get items marks i b marked) cell_new → Goes who call answer
   happened who call answer own on h after =
-      let now : FabricOk may floor shelf kinds new (map items (set marks i b')) =
-      subst (λ (cs : List LogletView). FabricOk may floor shelf kinds (record { cells = cs; serving = map serving (set cells i a'); register = register; journal = journal' }) (map items (set marks i b'))) (sym (map_set view cells i a'))
-      (subst (λ (ms : List (List Bool)). FabricOk may floor shelf kinds (record { cells = set (map view cells) i (view a'); serving = map serving (set cells i a'); register = register; journal = journal' }) ms) (sym (map_set items marks i b'))
-      (any_serving may floor shelf _ _ (map serving (set cells i a')) after)) in
+      let now : FabricOk law kinds new (map items (set marks i b')) =
+      subst (λ (cs : List LogletView). FabricOk law kinds (record { cells = cs; serving = map serving (set cells i a'); register = register; journal = journal' }) (map items (set marks i b'))) (sym (map_set view cells i a'))
+      (subst (λ (ms : List (List Bool)). FabricOk law kinds (record { cells = set (map view cells) i (view a'); serving = map serving (set cells i a'); register = register; journal = journal' }) ms) (sym (map_set items marks i b'))
+      (any_serving law _ _ (map serving (set cells i a')) after)) in
       let e : Event = record { who = who; call = call; answer = answer } in record {
         now = now;
         keeps = record {
@@ -152,32 +152,32 @@ module _ (may : ℕ → Entry → Type 0) (floor : List Entry → ℕ → Type 0
       let same : new ≡ old = ap (λ cs. record { cells = cs; serving = map serving (set cells i a'); register = register; journal = journal' }) cells_are
       ∙ (ap (λ ss. record { cells = map view cells; serving = ss; register = register; journal = journal' }) serving_are
       ∙ ap (λ j. record { cells = map view cells; serving = map serving cells; register = register; journal = j }) journal_is) in
-      let now : FabricOk may floor shelf kinds new (map items (set marks i b')) = subst (λ (f : FabricView). FabricOk may floor shelf kinds f (map items (set marks i b'))) (sym same) (subst (FabricOk may floor shelf kinds old) (sym marks_are) ok) in record {
+      let now : FabricOk law kinds new (map items (set marks i b')) = subst (λ (f : FabricView). FabricOk law kinds f (map items (set marks i b'))) (sym same) (subst (FabricOk law kinds old) (sym marks_are) ok) in record {
         now = now;
         keeps = record { adds = adds_none who call journal journal' answer h.0 journal_is; legal = now.legal; same = λ _. same; acts = inl same };
       }
 
-  pub begun : (who : ℕ) (op : Op) (answer : FabricAnswer) → MayCall (state_of journal) may floor shelf who (Begin i op) → Applies cell_old who (Begin i op) answer cell_new → Goes who (Begin i op) answer
+  pub begun : (who : ℕ) (op : Op) (answer : FabricAnswer) → MayCall (state_of journal) law who (Begin i op) → Applies cell_old who (Begin i op) answer cell_new → Goes who (Begin i op) answer
   begun who op answer can h =
       ⊎_elim
       (λ (x : Happens cell_old who (Begin i op) answer cell_new). happened who (Begin i op) answer (own_begin who i op answer) (λ j. refl) x
-      (begin_kept may floor shelf old (map items marks) ok i (view a) (serving a) (items b) (map_get view cells i a at) (map_get items marks i b marked) who op answer cell_new can x))
+      (begin_kept law old (map items marks) ok i (view a) (serving a) (items b) (map_get view cells i a at) (map_get items marks i b marked) who op answer cell_new can x))
       (λ (x : (answer ≡ Memory) × (cell_new ≡ cell_old)). unchanged who (Begin i op) answer x)
       h
 
-  pub carried : (who t word : ℕ) (answer : FabricAnswer) → MayCall (state_of journal) may floor shelf who (Carry i t word) → Applies cell_old who (Carry i t word) answer cell_new → Goes who (Carry i t word) answer
+  pub carried : (who t word : ℕ) (answer : FabricAnswer) → MayCall (state_of journal) law who (Carry i t word) → Applies cell_old who (Carry i t word) answer cell_new → Goes who (Carry i t word) answer
   carried who t word answer can h =
       ⊎_elim
       (λ (x : Happens cell_old who (Carry i t word) answer cell_new). happened who (Carry i t word) answer (own_carry who i t word answer) (λ j. refl) x
-      (carry_kept may floor shelf old (map items marks) ok i (view a) (serving a) (items b) (map_get view cells i a at) (map_get items marks i b marked) who t word answer cell_new can x))
+      (carry_kept law old (map items marks) ok i (view a) (serving a) (items b) (map_get view cells i a at) (map_get items marks i b marked) who t word answer cell_new can x))
       (λ (x : (answer ≡ Memory) × (cell_new ≡ cell_old)). unchanged who (Carry i t word) answer x)
       h
 
-  pub forgotten : (who t : ℕ) (answer : FabricAnswer) → MayCall (state_of journal) may floor shelf who (Forget i t) → Applies cell_old who (Forget i t) answer cell_new → Goes who (Forget i t) answer
+  pub forgotten : (who t : ℕ) (answer : FabricAnswer) → MayCall (state_of journal) law who (Forget i t) → Applies cell_old who (Forget i t) answer cell_new → Goes who (Forget i t) answer
   forgotten who t answer can h =
       ⊎_elim
       (λ (x : Happens cell_old who (Forget i t) answer cell_new). happened who (Forget i t) answer (own_forget who i t answer) (λ j. refl) x
-      (forget_kept may floor shelf old (map items marks) ok i (view a) (serving a) (items b) (map_get view cells i a at) (map_get items marks i b marked) who t answer cell_new can x))
+      (forget_kept law old (map items marks) ok i (view a) (serving a) (items b) (map_get view cells i a at) (map_get items marks i b marked) who t answer cell_new can x))
       (λ (x : (answer ≡ Memory) × (cell_new ≡ cell_old)). unchanged who (Forget i t) answer x)
       h
 
@@ -194,9 +194,9 @@ own_stray who i word (Set true) steps h = refl
 own_stray who i word a steps h = absurd h
 
 -- an event of a cell's servers, which opens and closes no ticket
-module _ (may : ℕ → Entry → Type 0) (floor : List Entry → ℕ → Type 0) (shelf : List ℕ) {kinds : List Kind} {A B : Type 0} (view : A → LogletView) (serving : A → ServersView) (items : B → List Bool) (cells : List A) (marks : List B) (register : RegisterView) (journal : List Event) (ok : FabricOk may floor shelf kinds (record { cells = map view cells; serving = map serving cells; register = register; journal = journal }) (map items marks)) (i : ℕ) (low : i < length shelf) (a : A) (at : slice_get cells i ≡ Some a) (a' : A) (journal' : List Event) where
+module _ (law : Law) {kinds : List Kind} {A B : Type 0} (view : A → LogletView) (serving : A → ServersView) (items : B → List Bool) (cells : List A) (marks : List B) (register : RegisterView) (journal : List Event) (ok : FabricOk law kinds (record { cells = map view cells; serving = map serving cells; register = register; journal = journal }) (map items marks)) (i : ℕ) (low : i < length law.shelf) (a : A) (at : slice_get cells i ≡ Some a) (a' : A) (journal' : List Event) where
   mark : (b : B) × (slice_get marks i ≡ Some b)
-  mark = some_at marks i (marks_within may floor shelf view serving items cells marks register journal ok i low)
+  mark = some_at marks i (marks_within law view serving items cells marks register journal ok i low)
 
   abbrev worked_old : Worked
   worked_old = record { loglet = view a; serving = serving a }
@@ -211,20 +211,20 @@ module _ (may : ℕ → Entry → Type 0) (floor : List Entry → ℕ → Type 0
   served_cells = record { cells = map view (set cells i a'); serving = map serving (set cells i a'); register = register; journal = journal' }
 
   pub record Served (who : ℕ) (call : FabricCall) (answer : FabricAnswer) : Type 0 where
-    pub now : FabricOk may floor shelf kinds served_cells (map items marks)
-    pub keeps : Keeps may floor shelf before who call answer served_cells
+    pub now : FabricOk law kinds served_cells (map items marks)
+    pub keeps : Keeps law before who call answer served_cells
 
-  serves : (who : ℕ) (call : FabricCall) (answer : FabricAnswer) → ((steps : LogletSteps) → StepsOf call answer steps → OwnEvents who call answer (record { who = who; call = call; answer = answer } ∷ [])) → ((j : ℕ) → is_on j call ≡ (j == i)) → (Serves worked_old journal who call answer worked_new journal' → IsAfter may floor shelf before (map items marks) ok i (view a) (serving a) (items mark.0) (map_get view cells i a at) (map_get items marks i mark.0 mark.1) (record { loglet = view a'; serving = serving a'; marks = items mark.0; journal = journal' })) → ServerApplies worked_old journal who call answer worked_new journal' → Served who call answer
+  serves : (who : ℕ) (call : FabricCall) (answer : FabricAnswer) → ((steps : LogletSteps) → StepsOf call answer steps → OwnEvents who call answer (record { who = who; call = call; answer = answer } ∷ [])) → ((j : ℕ) → is_on j call ≡ (j == i)) → (Serves worked_old journal who call answer worked_new journal' → IsAfter law before (map items marks) ok i (view a) (serving a) (items mark.0) (map_get view cells i a at) (map_get items marks i mark.0 mark.1) (record { loglet = view a'; serving = serving a'; marks = items mark.0; journal = journal' })) → ServerApplies worked_old journal who call answer worked_new journal' → Served who call answer
   serves who call answer own on after h = ⊎_elim happened unchanged h
     where
       happened : Serves worked_old journal who call answer worked_new journal' → Served who call answer
       happened x =
-          let k : FabricOk may floor shelf kinds (record { cells = set (map view cells) i (view a'); serving = map serving (set cells i a'); register = register; journal = journal' }) (set (map items marks) i (items mark.0)) =
-          any_serving may floor shelf _ _ (map serving (set cells i a')) (after x) in
+          let k : FabricOk law kinds (record { cells = set (map view cells) i (view a'); serving = map serving (set cells i a'); register = register; journal = journal' }) (set (map items marks) i (items mark.0)) =
+          any_serving law _ _ (map serving (set cells i a')) (after x) in
           let same : set (map items marks) i (items mark.0) ≡ map items marks = set_back (map items marks) i (items mark.0) (map_get items marks i mark.0 mark.1) in
-          let now : FabricOk may floor shelf kinds served_cells (map items marks) =
-          subst (λ (cs : List LogletView). FabricOk may floor shelf kinds (record { cells = cs; serving = map serving (set cells i a'); register = register; journal = journal' }) (map items marks)) (sym (map_set view cells i a'))
-          (subst (FabricOk may floor shelf kinds (record { cells = set (map view cells) i (view a'); serving = map serving (set cells i a'); register = register; journal = journal' })) same k) in
+          let now : FabricOk law kinds served_cells (map items marks) =
+          subst (λ (cs : List LogletView). FabricOk law kinds (record { cells = cs; serving = map serving (set cells i a'); register = register; journal = journal' }) (map items marks)) (sym (map_set view cells i a'))
+          (subst (FabricOk law kinds (record { cells = set (map view cells) i (view a'); serving = map serving (set cells i a'); register = register; journal = journal' })) same k) in
           let e : Event = record { who = who; call = call; answer = answer } in record {
             now = now;
             keeps = record {
@@ -245,28 +245,28 @@ module _ (may : ℕ → Entry → Type 0) (floor : List Entry → ℕ → Type 0
           let same : served_cells ≡ before = ap (λ cs. record { cells = cs; serving = map serving (set cells i a'); register = register; journal = journal' }) cells_are
           ∙ (ap (λ ss. record { cells = map view cells; serving = ss; register = register; journal = journal' }) serving_are
           ∙ ap (λ j. record { cells = map view cells; serving = map serving cells; register = register; journal = j }) x.2) in
-          let now : FabricOk may floor shelf kinds served_cells (map items marks) = subst (λ (f : FabricView). FabricOk may floor shelf kinds f (map items marks)) (sym same) ok in record {
+          let now : FabricOk law kinds served_cells (map items marks) = subst (λ (f : FabricView). FabricOk law kinds f (map items marks)) (sym same) ok in record {
             now = now;
             keeps = record { adds = adds_none who call journal journal' answer x.0 x.2; legal = now.legal; same = λ _. same; acts = inl same };
           }
 
-  pub stopped : (who server n : ℕ) (answer : FabricAnswer) → MayCall (state_of journal) may floor shelf who (Stop i server n) → ServerApplies worked_old journal who (Stop i server n) answer worked_new journal' → Served who (Stop i server n) answer
+  pub stopped : (who server n : ℕ) (answer : FabricAnswer) → MayCall (state_of journal) law who (Stop i server n) → ServerApplies worked_old journal who (Stop i server n) answer worked_new journal' → Served who (Stop i server n) answer
   stopped who server n answer can h =
       serves who (Stop i server n) answer (own_stop who i server n answer) (λ j. refl)
-      (stop_kept may floor shelf before (map items marks) ok i (view a) (serving a) (items mark.0) (map_get view cells i a at) (map_get items marks i mark.0 mark.1) who server n answer (view a') (serving a') journal' can) h
+      (stop_kept law before (map items marks) ok i (view a) (serving a) (items mark.0) (map_get view cells i a at) (map_get items marks i mark.0 mark.1) who server n answer (view a') (serving a') journal' can) h
 
-  pub mended : (who server word : ℕ) (answer : FabricAnswer) → MayCall (state_of journal) may floor shelf who (Mend i server word) → ServerApplies worked_old journal who (Mend i server word) answer worked_new journal' → Served who (Mend i server word) answer
+  pub mended : (who server word : ℕ) (answer : FabricAnswer) → MayCall (state_of journal) law who (Mend i server word) → ServerApplies worked_old journal who (Mend i server word) answer worked_new journal' → Served who (Mend i server word) answer
   mended who server word answer can h =
       serves who (Mend i server word) answer (own_mend who i server word answer) (λ j. refl)
-      (mend_kept may floor shelf before (map items marks) ok i (view a) (serving a) (items mark.0) (map_get view cells i a at) (map_get items marks i mark.0 mark.1) who server word answer (view a') (serving a') journal' can) h
+      (mend_kept law before (map items marks) ok i (view a) (serving a) (items mark.0) (map_get view cells i a at) (map_get items marks i mark.0 mark.1) who server word answer (view a') (serving a') journal' can) h
 
-  pub strayed : (who word : ℕ) (answer : FabricAnswer) → MayCall (state_of journal) may floor shelf who (Stray i word) → ServerApplies worked_old journal who (Stray i word) answer worked_new journal' → Served who (Stray i word) answer
+  pub strayed : (who word : ℕ) (answer : FabricAnswer) → MayCall (state_of journal) law who (Stray i word) → ServerApplies worked_old journal who (Stray i word) answer worked_new journal' → Served who (Stray i word) answer
   strayed who word answer can h =
       serves who (Stray i word) answer (own_stray who i word answer) (λ j. refl)
-      (stray_kept may floor shelf before (map items marks) ok i (view a) (serving a) (items mark.0) (map_get view cells i a at) (map_get items marks i mark.0 mark.1) who word answer (view a') (serving a') journal' can) h
+      (stray_kept law before (map items marks) ok i (view a) (serving a) (items mark.0) (map_get view cells i a at) (map_get items marks i mark.0 mark.1) who word answer (view a') (serving a') journal' can) h
 
   -- the cell has this server
-  pub server_within : (server : ℕ) → (n : ℕ) → slice_get shelf i ≡ Some n → server < n → server < (view a).servers
+  pub server_within : (server : ℕ) → (n : ℕ) → slice_get law.shelf i ≡ Some n → server < n → server < (view a).servers
   server_within server n is h =
       let counts = map_get (λ (v : LogletView). v.servers) (map view cells) i (view a) (map_get view cells i a at) in
       let both : Some n ≡ Some (view a).servers = sym is ∙ (ap (λ (l : List ℕ). slice_get l i) (sym ok.shelf_is) ∙ counts) in

@@ -9,6 +9,7 @@ use Rattle.delos_types.specs.declared.chain.Segment.{Segment}
 use Rattle.chain_map.specs.Chain.{last_segment}
 use Rattle.loglet_api.specs.declared.call.Kind.{Kind}
 use Rattle.loglet_api.specs.View.{LogletView}
+use Rattle.legal_journal.specs.Law.{Law}
 use Rattle.legal_journal.specs.Shown as shown
 use Rattle.legal_journal.specs.Journal.{State, state_of, log_at, trim_of, tail_of, reach, entries, ends}
 use Rattle.legal_journal.proofs.Log.{IsIn, HasStart-in, last_starts}
@@ -78,9 +79,9 @@ module _ (views : List LogletView) (w : State) (pos : ℕ) where
           ∙ (rest
           ∙ sym (ap (λ t. cond t (slice_get (entries w.cells s.id) (pos - s.start)) (shown.entry_in (reach w.cells) (entries w.cells) ss pos)) b))
 
-module _ (may : ℕ → Entry → Type 0) (floor : List Entry → ℕ → Type 0) (shelf : List ℕ) {kinds : List Kind} (f : FabricView) (marks : List (List Bool)) (ok : FabricOk may floor shelf kinds f marks) where
-  state_ok : StateOk (length shelf) (state_of f.journal)
-  state_ok = sound may floor shelf f.journal ok.legal
+module _ (law : Law) {kinds : List Kind} (f : FabricView) (marks : List (List Bool)) (ok : FabricOk law kinds f marks) where
+  state_ok : StateOk (length law.shelf) (state_of f.journal)
+  state_ok = sound law f.journal ok.legal
 
   cell_at : (id start pos : ℕ) → trim_of (state_of f.journal) ≤ pos → (state_of f.journal).starts id ≡ Some start → CellAt f.cells (state_of f.journal) id start pos
   cell_at id start pos low at =

@@ -1,6 +1,5 @@
 -- What a fabric shows, and what holds of it.
 use Rattle.std.specs.Prelude.{◌≡◌, ◌≢◌, ◌⊎◌, ℕ, ◌+◌, ◌≤◌, Bool, true, MatchBool, List, [], ◌++◌, length, map, slice_get, Option, Some, None}
-use Rattle.delos_types.specs.declared.entry.Entry.{Entry}
 use Rattle.delos_types.specs.declared.chain.Chain.{Chain}
 use Rattle.loglet_api.specs.declared.call.Kind.{Kind}
 use Rattle.loglet_api.specs.View.{LogletView, Operation, operation_at}
@@ -9,6 +8,7 @@ use Rattle.loglet_api.specs.Step.{task_of}
 use Rattle.loglet_api.specs.Keeps.{work_of}
 use Rattle.loglet_api.specs.Run.{LogletRun}
 use Rattle.loglet_api.specs.Servers.{ServersView, ServesAll}
+use Rattle.legal_journal.specs.Law.{Law}
 use Rattle.legal_journal.specs.declared.events.FabricCall.{FabricCall}
 use Rattle.legal_journal.specs.declared.events.FabricAnswer.{FabricAnswer}
 use Rattle.legal_journal.specs.declared.events.Event.{Event}
@@ -76,9 +76,9 @@ pub record CellOk (w : State) (i : ℕ) (journal : List Event) (v : LogletView) 
   pub ran : HasRun i journal v
 
 -- the journal is legal, each loglet's events are a run of it, and all is as the journal tells
-pub record FabricOk (may : ℕ → Entry → Type 0) (floor : List Entry → ℕ → Type 0) (shelf : List ℕ) (kinds : List Kind) (f : FabricView) (marks : List (List Bool)) : Type 0 where
-  pub legal : IsLegal may floor shelf f.journal
-  pub shelf_is : map (λ v. v.servers) f.cells ≡ shelf
+pub record FabricOk (law : Law) (kinds : List Kind) (f : FabricView) (marks : List (List Bool)) : Type 0 where
+  pub legal : IsLegal law f.journal
+  pub shelf_is : map (λ v. v.servers) f.cells ≡ law.shelf
   pub kinds_are : map (λ v. v.kind) f.cells ≡ kinds
   pub cells : (i : ℕ) (v : LogletView) → slice_get f.cells i ≡ Some v → CellOk (state_of f.journal) i f.journal v (slice_get marks i)
   pub register : IsRegisterAsTold (state_of f.journal).register f.register
@@ -107,8 +107,8 @@ pub record Acts (old : FabricView) (call : FabricCall) (answer : FabricAnswer) (
 
 -- A call adds its event, the journal stays legal, and what the event tells is what was done, from the state before; with
 -- Memory nothing changes, but as a Carry's event tells.
-pub record Keeps (may : ℕ → Entry → Type 0) (floor : List Entry → ℕ → Type 0) (shelf : List ℕ) (old : FabricView) (who : ℕ) (call : FabricCall) (answer : FabricAnswer) (new : FabricView) : Type 0 where
+pub record Keeps (law : Law) (old : FabricView) (who : ℕ) (call : FabricCall) (answer : FabricAnswer) (new : FabricView) : Type 0 where
   pub adds : Adds old.journal who call answer new.journal
-  pub legal : IsLegal may floor shelf new.journal
+  pub legal : IsLegal law new.journal
   pub same : new.journal ≡ old.journal → new ≡ old
   pub acts : (new ≡ old) ⊎ Acts old call answer new

@@ -1,5 +1,5 @@
 //! A shelf of loglets, the register of their chain, and the journal of all events.
-ghost use Rattle.std.specs.Prelude.{◌≡◌, ℕ, ◌<◌, ◌≤◌, [], List, length, map, slice_get, All, false, IfOk, IfErr, Some};
+ghost use Rattle.std.specs.Prelude.{◌≡◌, ℕ, ◌<◌, ◌≤◌, [], length, map, slice_get, All, false, IfOk, IfErr, Some};
 ghost use Rattle.chain_map.specs.Chain.{first_chain};
 ghost use Rattle.loglet_api.specs.View.{LogletView, IsFresh};
 ghost use Rattle.loglet_api.specs.Sound.{IsSound};
@@ -44,7 +44,7 @@ impl<L: Loglet, R: Register, P: Rules> Model for Fabric<L, R, P> {
 
     ghost view = { λ f. record { cells = map L.view f.cells.items; serving = map L.serving f.cells.items; register = R.view f.register; journal = f.journal.items } };
 
-    ghost invariant = { λ f. FabricOk P.may P.floor P.shelf P.kinds (record { cells = map L.view f.cells.items; serving = map L.serving f.cells.items; register = R.view f.register; journal = f.journal.items })
+    ghost invariant = { λ f. FabricOk P.law P.kinds (record { cells = map L.view f.cells.items; serving = map L.serving f.cells.items; register = R.view f.register; journal = f.journal.items })
         (map (λ m. m.items) f.marks.items) };
 }
 
@@ -73,7 +73,7 @@ impl<L: Loglet, R: Register, P: Rules> Fabric<L, R, P> {
     pub fn new(alloc: Global, cells: Vec<L>, register: R) -> Result<Self, Parts<L, R>>
         requires least { 0 < length cells.items }
         requires most { length cells.items ≤ 64 }
-        requires shelf { map (λ v. v.servers) (map L.view cells.items) ≡ P.shelf }
+        requires shelf { map (λ v. v.servers) (map L.view cells.items) ≡ P.law.shelf }
         requires kinds { map (λ v. v.kind) (map L.view cells.items) ≡ P.kinds }
         requires fresh { All (λ l. IsFresh (L.view l)) cells.items }
         requires sound { All (λ l. IsSound (L.view l)) cells.items }
@@ -114,9 +114,9 @@ impl<L: Loglet, R: Register, P: Rules> Fabric<L, R, P> {
     /// The journal of all events so far. It is legal, and of each cell it is a run of its loglet.
     pub fn journal(&self) -> &[Event]
         ensures value { result.now ≡ self.now.journal }
-        ensures legal { IsLegal P.may P.floor P.shelf self.now.journal }
+        ensures legal { IsLegal P.law self.now.journal }
         ensures runs { (i : ℕ) (v : LogletView) → slice_get self.now.cells i ≡ Some v → HasRun i self.now.journal v }
-        ensures shelf { map (λ v. v.servers) self.now.cells ≡ P.shelf }
+        ensures shelf { map (λ v. v.servers) self.now.cells ≡ P.law.shelf }
         ensures kinds { map (λ v. v.kind) self.now.cells ≡ P.kinds }
 
         // The register's events are a run of it, and what it shows is what the journal tells.
@@ -132,8 +132,8 @@ impl<L: Loglet, R: Register, P: Rules> Fabric<L, R, P> {
     }
 
     fn begin(&mut self, who: u32, cell: u32, op: Op) -> FabricAnswer
-        requires { MayCall (state_of self.old.journal) P.may P.floor P.shelf who (FabricCall.Begin cell op) }
-        ensures { Keeps P.may P.floor P.shelf self.old who (FabricCall.Begin cell op) result self.new }
+        requires { MayCall (state_of self.old.journal) P.law who (FabricCall.Begin cell op) }
+        ensures { Keeps P.law self.old who (FabricCall.Begin cell op) result self.new }
     {
         let i = cell as usize;
         begin_in(
@@ -147,8 +147,8 @@ impl<L: Loglet, R: Register, P: Rules> Fabric<L, R, P> {
     }
 
     fn carry(&mut self, who: u32, cell: u32, ticket: Ticket, word: u64) -> FabricAnswer
-        requires { MayCall (state_of self.old.journal) P.may P.floor P.shelf who (FabricCall.Carry cell ticket word) }
-        ensures { Keeps P.may P.floor P.shelf self.old who (FabricCall.Carry cell ticket word) result self.new }
+        requires { MayCall (state_of self.old.journal) P.law who (FabricCall.Carry cell ticket word) }
+        ensures { Keeps P.law self.old who (FabricCall.Carry cell ticket word) result self.new }
     {
         let i = cell as usize;
         carry_in(
@@ -163,8 +163,8 @@ impl<L: Loglet, R: Register, P: Rules> Fabric<L, R, P> {
     }
 
     fn forget(&mut self, who: u32, cell: u32, ticket: Ticket) -> FabricAnswer
-        requires { MayCall (state_of self.old.journal) P.may P.floor P.shelf who (FabricCall.Forget cell ticket) }
-        ensures { Keeps P.may P.floor P.shelf self.old who (FabricCall.Forget cell ticket) result self.new }
+        requires { MayCall (state_of self.old.journal) P.law who (FabricCall.Forget cell ticket) }
+        ensures { Keeps P.law self.old who (FabricCall.Forget cell ticket) result self.new }
     {
         let i = cell as usize;
         forget_in(
@@ -178,14 +178,14 @@ impl<L: Loglet, R: Register, P: Rules> Fabric<L, R, P> {
     }
 
     fn read_chain(&mut self, who: u32) -> FabricAnswer
-        ensures { Keeps P.may P.floor P.shelf self.old who FabricCall.ReadChain result self.new }
+        ensures { Keeps P.law self.old who FabricCall.ReadChain result self.new }
     {
         read_in(self.alloc, &mut self.register, &mut self.journal, who)
     }
 
     fn write_chain(&mut self, who: u32, expected: u64, chain: Chain) -> FabricAnswer
-        requires { MayCall (state_of self.old.journal) P.may P.floor P.shelf who (FabricCall.WriteChain expected chain) }
-        ensures { Keeps P.may P.floor P.shelf self.old who (FabricCall.WriteChain expected chain) result self.new }
+        requires { MayCall (state_of self.old.journal) P.law who (FabricCall.WriteChain expected chain) }
+        ensures { Keeps P.law self.old who (FabricCall.WriteChain expected chain) result self.new }
     {
         write_in(
             self.alloc,
@@ -198,37 +198,37 @@ impl<L: Loglet, R: Register, P: Rules> Fabric<L, R, P> {
     }
 
     fn stop(&mut self, who: u32, cell: u32, server: u32, after: u64) -> FabricAnswer
-        requires { MayCall (state_of self.old.journal) P.may P.floor P.shelf who (FabricCall.Stop cell server after) }
-        ensures { Keeps P.may P.floor P.shelf self.old who (FabricCall.Stop cell server after) result self.new }
+        requires { MayCall (state_of self.old.journal) P.law who (FabricCall.Stop cell server after) }
+        ensures { Keeps P.law self.old who (FabricCall.Stop cell server after) result self.new }
     {
         let loglet = &mut self.cells[cell as usize];
         stop_in(loglet, &mut self.journal, who, cell, server, after)
     }
 
     fn mend(&mut self, who: u32, cell: u32, server: u32, word: u64) -> FabricAnswer
-        requires { MayCall (state_of self.old.journal) P.may P.floor P.shelf who (FabricCall.Mend cell server word) }
-        ensures { Keeps P.may P.floor P.shelf self.old who (FabricCall.Mend cell server word) result self.new }
+        requires { MayCall (state_of self.old.journal) P.law who (FabricCall.Mend cell server word) }
+        ensures { Keeps P.law self.old who (FabricCall.Mend cell server word) result self.new }
     {
         let loglet = &mut self.cells[cell as usize];
         mend_in(loglet, &mut self.journal, who, cell, server, word)
     }
 
     fn stray(&mut self, who: u32, cell: u32, word: u64) -> FabricAnswer
-        requires { MayCall (state_of self.old.journal) P.may P.floor P.shelf who (FabricCall.Stray cell word) }
-        ensures { Keeps P.may P.floor P.shelf self.old who (FabricCall.Stray cell word) result self.new }
+        requires { MayCall (state_of self.old.journal) P.law who (FabricCall.Stray cell word) }
+        ensures { Keeps P.law self.old who (FabricCall.Stray cell word) result self.new }
     {
         let loglet = &mut self.cells[cell as usize];
         stray_in(loglet, &mut self.journal, who, cell, word)
     }
 
     fn stop_meta(&mut self, who: u32, after: u64) -> FabricAnswer
-        ensures { Keeps P.may P.floor P.shelf self.old who (FabricCall.StopMeta after) result self.new }
+        ensures { Keeps P.law self.old who (FabricCall.StopMeta after) result self.new }
     {
         arm_in(&mut self.register, &mut self.journal, who, after)
     }
 
     fn mend_meta(&mut self, who: u32, word: u64) -> FabricAnswer
-        ensures { Keeps P.may P.floor P.shelf self.old who (FabricCall.MendMeta word) result self.new }
+        ensures { Keeps P.law self.old who (FabricCall.MendMeta word) result self.new }
     {
         reopen_in(&mut self.register, &mut self.journal, who, word)
     }
@@ -238,8 +238,8 @@ impl<L: Loglet, R: Register, P: Rules> Fabric<L, R, P> {
     /// Cost: that of the loglet's or the register's calls, and O(1) beside them, amortized. A chain
     /// that the register gives is copied, of 64 segments at most.
     pub fn apply(&mut self, who: u32, call: FabricCall) -> FabricAnswer
-        requires { MayCall (state_of self.old.journal) P.may P.floor P.shelf who call }
-        ensures { Keeps P.may P.floor P.shelf self.old who call result self.new }
+        requires { MayCall (state_of self.old.journal) P.law who call }
+        ensures { Keeps P.law self.old who call result self.new }
     {
         match call {
             FabricCall::Begin(cell, op) => return self.begin(who, cell, op),

@@ -9,7 +9,7 @@ use Rattle.quorum_cell.specs.declared.message.Ask.{Ask}
 use Rattle.quorum_cell.specs.declared.message.Ask.TheVariants.{Store, Seal, Tail, Trim}
 use Rattle.quorum_cell.specs.Servers.{Server, length_of, writes, wrote, restarted}
 use Rattle.server_records.specs.declared.record.Record.{Record}
-use Rattle.server_records.specs.declared.record.Record.TheVariants.{Stored, Sealed, Trimmed}
+use Rattle.server_records.specs.declared.record.Record.TheVariants.{Stored, Sealed, Trimmed, Compacted}
 use Rattle.server_records.specs.Reading.{record_of}
 use Rattle.server_records.specs.Spelled.{empty_server, server_of}
 use Rattle.file_loglet.specs.declared.extent.Change.{Change}
@@ -27,12 +27,13 @@ pub record Held : Type 0 where
 abbrev pub is_armed : Held → Bool
 is_armed h = nat_lt 0 h.disk.armed
 
--- the request for which a record is written
+-- the request for which a record is written; for what a compaction begins with there is none
 abbrev pub ask_by : Option Record → Ask
 ask_by None = Tail
 ask_by (Some (Stored p e)) = Store p e
 ask_by (Some Sealed) = Seal
 ask_by (Some (Trimmed n)) = Trim n
+ask_by (Some (Compacted base sealed_at)) = Tail
 
 abbrev pub ask_of : List ℕ → Ask
 ask_of bytes = ask_by (record_of bytes)

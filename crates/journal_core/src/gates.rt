@@ -1,5 +1,5 @@
 //! Gates and records in the bytes of a disk, wherever they lie: for journals that share a disk with something else.
-ghost use Rattle.std.specs.Prelude.{◌≡◌, ◌≢◌, ◌+◌, ◌^◌, ◌<◌, ◌≤◌, ℕ, Some, None, true, false, [], length, take, drop, slice_index, IfOk, IfSome, OnOk, OnErr, IsErrOf, MatchOption};
+ghost use Rattle.std.specs.Prelude.{◌≡◌, ◌≢◌, ◌+◌, ◌^◌, ◌<◌, ◌≤◌, ℕ, Some, None, true, false, [], length, take, drop, slice_index, slice_index_or, IfOk, IfSome, OnOk, OnErr, IsErrOf, MatchOption};
 ghost use Rattle.disk_model.specs.Disk.{reads, Rose};
 ghost use Rattle.journal_core.specs.Records.{first_record, records_of, payloads};
 ghost use Rattle.journal_core.specs.Layout.{IsEnd, framed};
@@ -59,12 +59,66 @@ pub fn read_records<D: Disk>(
     Ok((found, end))
 }
 
-/// The record at a place, if there is one: its gate is open, and it and the next gate lie whole in the disk.
-pub(crate) fn read_record<D: Disk>(
+/// How many records there are from a base on, and how many bytes behind it they end. `Failed` comes only where the disk's
+/// faults rose.
+///
+/// Cost: two reads of nine bytes in all for each record, and one or two more. It takes no memory.
+pub fn count_records<D: Disk>(disk: &mut D, base: u64) -> Result<(usize, u64), Failed>
+    requires inside { base ≤ length (reads (D.view disk.old)) }
+    requires fits { base + 1 < 2 ^ 64 }
+    ensures counted { IfOk result (λ r. r.0 ≡ length (records_of (drop base (reads (D.view disk.old))))) }
+    ensures few { IfOk result (λ r. r.0 ≤ r.1) }
+    ensures ends { IfOk result (λ r. IsEnd r.1 (drop base (reads (D.view disk.old)))) }
+    ensures fits { IfOk result (λ r. base + r.1 + 1 < 2 ^ 64) }
+    ensures same { (D.view disk.new).timeline ≡ (D.view disk.old).timeline }
+    ensures failed { OnErr result (Rose (D.view disk.old).faults (D.view disk.new).faults) }
+    ensures faults { (D.view disk.old).faults ≤ (D.view disk.new).faults }
+    ensures no_fault { OnOk result ((D.view disk.new).faults ≡ (D.view disk.old).faults) }
+    ensures state { ((D.view disk.new).stopped ≡ (D.view disk.old).stopped) × ((D.view disk.new).armed ≡ (D.view disk.old).armed) }
+{
+    let mut count = 0;
+    let mut end = 0;
+    while let Some(size) = size_at(disk, base + end)? {
+        end += OVERHEAD + size;
+        count += 1;
+    }
+    Ok((count, end))
+}
+
+/// The i-th record from a base on, from 0 on. `Disk` comes only where the disk's faults rose.
+///
+/// Cost: two reads of nine bytes in all for each record before it, and three for it.
+pub fn record_at<D: Disk>(
     alloc: Global,
     disk: &mut D,
-    at: u64,
-) -> Result<Option<Vec<u8>>, Fault>
+    base: u64,
+    i: usize,
+) -> Result<Vec<u8>, Fault>
+    requires inside { base ≤ length (reads (D.view disk.old)) }
+    requires there { i < length (records_of (drop base (reads (D.view disk.old)))) }
+    ensures record { IfOk result (λ v. v.items ≡ slice_index_or (records_of (drop base (reads (D.view disk.old)))) i []) }
+    ensures same { (D.view disk.new).timeline ≡ (D.view disk.old).timeline }
+    ensures failed { IsErrOf result Fault.Disk → Rose (D.view disk.old).faults (D.view disk.new).faults }
+    ensures faults { (D.view disk.old).faults ≤ (D.view disk.new).faults }
+    ensures no_fault { OnOk result ((D.view disk.new).faults ≡ (D.view disk.old).faults) }
+    ensures no_fault_memory { IsErrOf result Fault.Memory → (D.view disk.new).faults ≡ (D.view disk.old).faults }
+    ensures state { ((D.view disk.new).stopped ≡ (D.view disk.old).stopped) × ((D.view disk.new).armed ≡ (D.view disk.old).armed) }
+{
+    let mut place = base;
+    for _before in 0..i {
+        match size_at(disk, place)? {
+            Some(size) => place += OVERHEAD + size,
+            None => unreachable!(),
+        }
+    }
+    match read_record(alloc, disk, place)? {
+        Some(payload) => Ok(payload),
+        None => unreachable!(),
+    }
+}
+
+// The record at a place, if there is one: its gate is open, and it and the next gate lie whole in the disk.
+fn read_record<D: Disk>(alloc: Global, disk: &mut D, at: u64) -> Result<Option<Vec<u8>>, Fault>
     requires { at ≤ length (reads (D.view disk.old)) }
     ensures some { IfOk result (λ o. MatchOption o (first_record (drop at (reads (D.view disk.old))) ≡ None) (λ v. first_record (drop at (reads (D.view disk.old))) ≡ Some v.items)) }
     ensures inside { IfOk result (λ o. IfSome o (λ v. at + (10 + length v.items) ≤ length (reads (D.view disk.old)))) }
@@ -83,9 +137,9 @@ pub(crate) fn read_record<D: Disk>(
     Ok(Some(payload))
 }
 
-/// How long the payload of the record at a place is, if there is one: its gate is open, and it and the next gate lie
-/// whole in the disk.
-pub(crate) fn size_at<D: Disk>(disk: &mut D, at: u64) -> Result<Option<u64>, Failed>
+// How long the payload of the record at a place is, if there is one: its gate is open, and it and the next gate lie
+// whole in the disk.
+fn size_at<D: Disk>(disk: &mut D, at: u64) -> Result<Option<u64>, Failed>
     requires { at ≤ length (reads (D.view disk.old)) }
     ensures some { IfOk result (λ o. MatchOption o (first_record (drop at (reads (D.view disk.old))) ≡ None) (λ n. first_record (drop at (reads (D.view disk.old))) ≡ Some (take n (drop (at + 9) (reads (D.view disk.old)))))) }
     ensures inside { IfOk result (λ o. IfSome o (λ n. at + (10 + n) ≤ length (reads (D.view disk.old)))) }

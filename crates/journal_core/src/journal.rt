@@ -4,9 +4,9 @@ ghost use Rattle.disk_model.specs.Disk.{DiskView, reads, IsSynced, Rose};
 ghost use Rattle.journal_core.specs.Records.{records_of, payloads};
 ghost use Rattle.journal_core.specs.Journal.{View, MayFind, LeavesRecords, AnyCrashLeaves, Survives};
 
-use crate::gates::{OVERHEAD, read_records};
+use crate::gates::{OVERHEAD, read_records, record_at};
 use crate::layout::add;
-use crate::open::{close_end, record_at, scan};
+use crate::open::{close_end, scan};
 use crate::{AppendFault, Fault, Refused};
 use disk_model::Disk;
 use std::alloc::Global;
@@ -226,7 +226,7 @@ impl<D: Disk> Journal<D> {
         ensures no_fault_memory { IsErrOf result Fault.Memory → self.new.disk.faults ≡ self.old.disk.faults }
         ensures survives { Survives self.new }
     {
-        record_at(self.alloc, &mut self.disk, i)
+        record_at(self.alloc, &mut self.disk, 0, i)
     }
 
     /// The disk failed in some call since the last reopening that succeeded: no record is added until one does.

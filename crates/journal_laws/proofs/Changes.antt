@@ -4,6 +4,7 @@ use Rattle.std.specs.Prelude.{Contains}
 use Rattle.std.proofs.lemmas.List.Elements.{Contains-append_cases, Contains-append_left, Contains-append_right, filter_map-append}
 use Rattle.delos_types.specs.declared.entry.Entry.{Entry}
 use Rattle.delos_types.specs.declared.chain.Chain.{Chain}
+use Rattle.legal_journal.specs.Law.{Law}
 use Rattle.legal_journal.specs.declared.events.Event.{Event}
 use Rattle.legal_journal.specs.Journal.{IsLegal, Shows, state_of, trim_of}
 use Rattle.virtual_log.specs.Holding.{Holds, IsTrimmed}
@@ -67,45 +68,45 @@ upto_front m a b f = λ n h. f n (raised_stays a b n h)
 
 -- By its rules
 
-module _ (may : ℕ → Entry → Type 0) (floor : List Entry → ℕ → Type 0) (shelf : List ℕ) where
+module _ (law : Law) where
   -- what was appended was somebody's to append
-  pub appended_may : (events : List Event) (e : Entry) → IsLegal may floor shelf events → Contains (appended events) e → (who : ℕ) × may who e
-  appended_may events e legal h = entries.appended_sent may floor shelf events e legal h
+  pub appended_may : (events : List Event) (e : Entry) → IsLegal law events → Contains (appended events) e → (who : ℕ) × law.may who e
+  appended_may events e legal h = entries.appended_sent law events e legal h
 
   -- what a log holds was somebody's to append
-  pub held_may : (seen : List Event) (pos : ℕ) (e : Entry) → IsLegal may floor shelf seen → Holds seen pos e → (who : ℕ) × may who e
-  held_may seen pos e legal h = entries.held_sent may floor shelf seen pos e legal h
+  pub held_may : (seen : List Event) (pos : ℕ) (e : Entry) → IsLegal law seen → Holds seen pos e → (who : ℕ) × law.may who e
+  held_may seen pos e legal h = entries.held_sent law seen pos e legal h
 
 -- By other rules
 
 -- the other rules may ask what the log shows where it is trimmed
-pub legal_by_shown : (may may' : ℕ → Entry → Type 0) (floor floor' : List Entry → ℕ → Type 0) (shelf : List ℕ) (events : List Event) → IsLegal may floor shelf events
-    → ((who : ℕ) (e : Entry) → Contains (appended events) e → may who e → may' who e)
-    → ((log : List Entry) (n : ℕ) → Contains (raised events) n → Shows (state_of events).shown log → floor log n → floor' log n)
-    → IsLegal may' floor' shelf events
-legal_by_shown may may' floor floor' shelf events legal f g = other_legal may may' floor floor' shelf events legal f g
+pub legal_by_shown : (law : Law) (may' : ℕ → Entry → Type 0) (floor' : List Entry → ℕ → Type 0) (events : List Event) → IsLegal law events
+    → ((who : ℕ) (e : Entry) → Contains (appended events) e → law.may who e → may' who e)
+    → ((log : List Entry) (n : ℕ) → Contains (raised events) n → Shows (state_of events).shown log → law.floor log n → floor' log n)
+    → IsLegal (record law { may = may'; floor = floor' }) events
+legal_by_shown law may' floor' events legal f g = other_legal law may' floor' events legal f g
 
-pub legal_by : (may may' : ℕ → Entry → Type 0) (floor floor' : List Entry → ℕ → Type 0) (shelf : List ℕ) (events : List Event) → IsLegal may floor shelf events
-    → ((who : ℕ) (e : Entry) → Contains (appended events) e → may who e → may' who e)
-    → ((log : List Entry) (n : ℕ) → Contains (raised events) n → floor log n → floor' log n)
-    → IsLegal may' floor' shelf events
-legal_by may may' floor floor' shelf events legal f g = other_legal may may' floor floor' shelf events legal f (λ log n h _ free. g log n h free)
+pub legal_by : (law : Law) (may' : ℕ → Entry → Type 0) (floor' : List Entry → ℕ → Type 0) (events : List Event) → IsLegal law events
+    → ((who : ℕ) (e : Entry) → Contains (appended events) e → law.may who e → may' who e)
+    → ((log : List Entry) (n : ℕ) → Contains (raised events) n → law.floor log n → floor' log n)
+    → IsLegal (record law { may = may'; floor = floor' }) events
+legal_by law may' floor' events legal f g = other_legal law may' floor' events legal f (λ log n h _ free. g log n h free)
 
-module _ (may : ℕ → Entry → Type 0) (floor : List Entry → ℕ → Type 0) (shelf : List ℕ) where
+module _ (law : Law) where
   -- it is legal by rules that allow each entry that was appended, and no other
-  by_appended : (seen : List Event) → IsLegal may floor shelf seen → IsLegal (λ who e. Contains (appended seen) e) floor shelf seen
-  by_appended seen legal = legal_by may (λ who e. Contains (appended seen) e) floor floor shelf seen legal (λ who e h _. h) (λ log n _ free. free)
+  by_appended : (seen : List Event) → IsLegal law seen → IsLegal (record law { may = λ who e. Contains (appended seen) e }) seen
+  by_appended seen legal = legal_by law (λ who e. Contains (appended seen) e) law.floor seen legal (λ who e h _. h) (λ log n _ free. free)
 
   -- what a log holds was appended
-  pub held_appended : (seen : List Event) (pos : ℕ) (e : Entry) → IsLegal may floor shelf seen → Holds seen pos e → Contains (appended seen) e
-  held_appended seen pos e legal h = (entries.held_sent (λ who x. Contains (appended seen) x) floor shelf seen pos e (by_appended seen legal) h).1
+  pub held_appended : (seen : List Event) (pos : ℕ) (e : Entry) → IsLegal law seen → Holds seen pos e → Contains (appended seen) e
+  held_appended seen pos e legal h = (entries.held_sent (record law { may = λ who x. Contains (appended seen) x }) seen pos e (by_appended seen legal) h).1
 
   -- what it shows, or did, was appended
-  pub shown_appended : (seen : List Event) (pos : ℕ) (e : Entry) → IsLegal may floor shelf seen → (state_of seen).shown pos ≡ Some e → Contains (appended seen) e
-  shown_appended seen pos e legal h = (entries.shown_sent (λ who x. Contains (appended seen) x) floor shelf seen pos e (by_appended seen legal) h).1
+  pub shown_appended : (seen : List Event) (pos : ℕ) (e : Entry) → IsLegal law seen → (state_of seen).shown pos ≡ Some e → Contains (appended seen) e
+  shown_appended seen pos e legal h = (entries.shown_sent (record law { may = λ who x. Contains (appended seen) x }) seen pos e (by_appended seen legal) h).1
 
   -- a log that is shown lets it be trimmed so
-  frees : (seen : List Event) (n : ℕ) (log : List Entry) → IsLegal may floor shelf seen → Shows (state_of seen).shown log → floor log n → Frees floor seen n
+  frees : (seen : List Event) (n : ℕ) (log : List Entry) → IsLegal law seen → Shows (state_of seen).shown log → law.floor log n → Frees law.floor seen n
   frees seen n log legal shows free = record {
     log = log;
     shows = shows;
@@ -114,39 +115,39 @@ module _ (may : ℕ → Entry → Type 0) (floor : List Entry → ℕ → Type 0
   }
 
   -- a trim that was written, or may have been, is none, or the log may be trimmed so
-  pub raised_free : (seen : List Event) (n : ℕ) → IsLegal may floor shelf seen → Contains (raised seen) n → (n ≡ 0) ⊎ Frees floor seen n
+  pub raised_free : (seen : List Event) (n : ℕ) → IsLegal law seen → Contains (raised seen) n → (n ≡ 0) ⊎ Frees law.floor seen n
   raised_free seen n legal h =
-      raised_such (Frees floor seen) may shelf seen n
-      (legal_by_shown may may floor (such (Frees floor seen)) shelf seen legal (λ who e _ k. k) (λ log m _ shows free. frees seen m log legal shows free)) h
+      raised_such (Frees law.floor seen) law seen n
+      (legal_by_shown law law.may (such (Frees law.floor seen)) seen legal (λ who e _ k. k) (λ log m _ shows free. frees seen m log legal shows free)) h
 
   -- it is legal by rules that let the log be trimmed where it was, and nowhere else
-  by_raised : (seen : List Event) → IsLegal may floor shelf seen → IsLegal may (such (Contains (raised seen))) shelf seen
-  by_raised seen legal = legal_by may may floor (such (Contains (raised seen))) shelf seen legal (λ who e _ k. k) (λ log n h _. h)
+  by_raised : (seen : List Event) → IsLegal law seen → IsLegal (record law { floor = such (Contains (raised seen)) }) seen
+  by_raised seen legal = legal_by law law.may (such (Contains (raised seen))) seen legal (λ who e _ k. k) (λ log n h _. h)
 
   -- the trim of a chain that the register gave is none, or was written
-  pub given_raised : (seen : List Event) (version : ℕ) (chain : Chain) → IsLegal may floor shelf seen → (state_of seen).register.given version ≡ Some chain → (chain.trim ≡ 0) ⊎ Contains (raised seen) chain.trim
-  given_raised seen version chain legal h = given_such (Contains (raised seen)) may shelf seen version chain (by_raised seen legal) h
+  pub given_raised : (seen : List Event) (version : ℕ) (chain : Chain) → IsLegal law seen → (state_of seen).register.given version ≡ Some chain → (chain.trim ≡ 0) ⊎ Contains (raised seen) chain.trim
+  given_raised seen version chain legal h = given_such (Contains (raised seen)) law seen version chain (by_raised seen legal) h
 
   -- so is that of the log
-  pub trim_raised : (seen : List Event) → IsLegal may floor shelf seen → (trim_of (state_of seen) ≡ 0) ⊎ Contains (raised seen) (trim_of (state_of seen))
-  trim_raised seen legal = trim_such (Contains (raised seen)) may shelf seen (by_raised seen legal)
+  pub trim_raised : (seen : List Event) → IsLegal law seen → (trim_of (state_of seen) ≡ 0) ⊎ Contains (raised seen) (trim_of (state_of seen))
+  trim_raised seen legal = trim_such (Contains (raised seen)) law seen (by_raised seen legal)
 
   -- and a trim above a position that is trimmed was written
-  pub trimmed_raised : (seen : List Event) (pos : ℕ) → IsLegal may floor shelf seen → IsTrimmed seen pos → (n : ℕ) × Contains (raised seen) n × (pos < n)
+  pub trimmed_raised : (seen : List Event) (pos : ℕ) → IsLegal law seen → IsTrimmed seen pos → (n : ℕ) × Contains (raised seen) n × (pos < n)
   trimmed_raised seen pos legal t =
       ⊎_elim
       (λ (none : t.chain.trim ≡ 0). absurd (omega (arith, none, t.below)))
       (λ (h : Contains (raised seen) t.chain.trim). (t.chain.trim, h, t.below))
       (given_raised seen t.version t.chain legal t.given)
 
-  module _ (m : ℕ) (low : (log : List Entry) (n : ℕ) → floor log n → n ≤ m) where
+  module _ (m : ℕ) (low : (log : List Entry) (n : ℕ) → law.floor log n → n ≤ m) where
     -- where the rules let no log be trimmed above m, nothing is
-    pub upto_low : (seen : List Event) → IsLegal may floor shelf seen → TrimsUpTo m seen
+    pub upto_low : (seen : List Event) → IsLegal law seen → TrimsUpTo m seen
     upto_low seen legal = λ n h.
         ⊎_elim
         (λ (none : n ≡ 0). omega (arith, none))
-        (λ (free : Frees floor seen n). low free.log n free.free)
+        (λ (free : Frees law.floor seen n). low free.log n free.free)
         (raised_free seen n legal h)
 
-    pub below_low : (seen : List Event) (pos : ℕ) → IsLegal may floor shelf seen → IsTrimmed seen pos → pos + 1 ≤ m
+    pub below_low : (seen : List Event) (pos : ℕ) → IsLegal law seen → IsTrimmed seen pos → pos + 1 ≤ m
     below_low seen pos legal t = let x = trimmed_raised seen pos legal t in let upto = upto_low seen legal x.0 x.1 in omega (arith, x.2, upto)

@@ -2,9 +2,9 @@
 use Rattle.std.proofs.Common.{◌≡◌, refl, ap, ◌∙◌, subst, ℕ, ◌<◌, List, [], ◌∷◌, length, Some}
 use Rattle.std.specs.Prelude.{All, Contains}
 use Rattle.std.proofs.lemmas.List.Elements.{All-contains}
-use Rattle.delos_types.specs.declared.entry.Entry.{Entry}
 use Rattle.delos_types.specs.declared.cause.Cause.{Cause}
 use Rattle.delos_types.specs.declared.cause.Cause.TheVariants as cause
+use Rattle.legal_journal.specs.Law.{Law}
 use Rattle.legal_journal.specs.declared.events.Event.{Event}
 use Rattle.legal_journal.specs.Moves.{move}
 use Rattle.legal_journal.specs.Journal.{State, Exists, IsLegalFrom, IsLegal, start, after}
@@ -21,12 +21,12 @@ there shelf e c exists tells = record {
   full = λ i is. subst (Exists shelf) (full_at i e.answer e.call (tells ∙ ap (λ x. Some x) is)).called exists;
 }
 
-all_there : (may : ℕ → Entry → Type 0) (floor : List Entry → ℕ → Type 0) (shelf : List ℕ) (w : State) (events : List Event) → IsLegalFrom w may floor shelf events → All (IsThere shelf) (faults_in events)
-all_there may floor shelf w [] h = all-none (IsThere shelf)
-all_there may floor shelf w (e ∷ es) h = all-more (IsThere shelf) e es (λ c tells. there shelf e c h.0.there tells) (all_there may floor shelf (after w e.who (move e)) es h.1)
+all_there : (law : Law) (w : State) (events : List Event) → IsLegalFrom w law events → All (IsThere law.shelf) (faults_in events)
+all_there law w [] h = all-none (IsThere law.shelf)
+all_there law w (e ∷ es) h = all-more (IsThere law.shelf) e es (λ c tells. there law.shelf e c h.0.there tells) (all_there law (after w e.who (move e)) es h.1)
 
-pub lack_there : (may : ℕ → Entry → Type 0) (floor : List Entry → ℕ → Type 0) (shelf : List ℕ) (i unreached : ℕ) (events : List Event) → IsLegal may floor shelf events → Contains (faults_in events) (cause.NoQuorum i unreached) → i < length shelf
-lack_there may floor shelf i u events legal has = (All-contains (IsThere shelf) (faults_in events) (cause.NoQuorum i u) (all_there may floor shelf start events legal.steps) has).lack i u refl
+pub lack_there : (law : Law) (i unreached : ℕ) (events : List Event) → IsLegal law events → Contains (faults_in events) (cause.NoQuorum i unreached) → i < length law.shelf
+lack_there law i u events legal has = (All-contains (IsThere law.shelf) (faults_in events) (cause.NoQuorum i u) (all_there law start events legal.steps) has).lack i u refl
 
-pub full_there : (may : ℕ → Entry → Type 0) (floor : List Entry → ℕ → Type 0) (shelf : List ℕ) (i : ℕ) (events : List Event) → IsLegal may floor shelf events → Contains (faults_in events) (cause.Full i) → i < length shelf
-full_there may floor shelf i events legal has = (All-contains (IsThere shelf) (faults_in events) (cause.Full i) (all_there may floor shelf start events legal.steps) has).full i refl
+pub full_there : (law : Law) (i : ℕ) (events : List Event) → IsLegal law events → Contains (faults_in events) (cause.Full i) → i < length law.shelf
+full_there law i events legal has = (All-contains (IsThere law.shelf) (faults_in events) (cause.Full i) (all_there law start events legal.steps) has).full i refl

@@ -6,12 +6,12 @@ use Rattle.std.proofs.lemmas.Bool.{cases_lt}
 use Rattle.std.proofs.lemmas.Bool.Decides.{nat_tests}
 use Rattle.std.proofs.lemmas.List.Elements.{Contains-append_left, Contains-append_right, Contains-push}
 use Rattle.std.proofs.lemmas.List.Sums.{sum_by-cons}
-use Rattle.delos_types.specs.declared.entry.Entry.{Entry}
 use Rattle.delos_types.specs.declared.chain.Segment.{Segment}
 use Rattle.delos_types.specs.declared.chain.Chain.{Chain}
 use Rattle.chain_map.specs.Chain.{last_id, last_of_segments}
 use Rattle.chain_map.specs.Step.{extended_segments}
 use Rattle.loglet_api.specs.declared.call.Op.TheVariants.{Seal}
+use Rattle.legal_journal.specs.Law.{Law}
 use Rattle.legal_journal.specs.declared.events.Event.{Event}
 use Rattle.legal_journal.specs.declared.events.FabricCall.{FabricCall}
 use Rattle.legal_journal.specs.declared.events.FabricCall.TheVariants.{Begin}
@@ -76,7 +76,7 @@ listed i (e ∷ es) h = by (is_seal_on i e.call) refl (λ k. listed i es k)
 abbrev HasStarts : State → Type 0
 HasStarts w = (i : ℕ) → i ≤ last_id w.register.chain → (s : ℕ) × (w.starts i ≡ Some s)
 
-module _ (cells : ℕ) (w : State) (ok : StateOk cells w) (floor : List Entry → ℕ → Type 0) where
+module _ (law : Law) (w : State) (ok : StateOk (length law.shelf) w) where
   by_extended : (ss : List Segment) (at : ℕ) → ss ≡ extended_segments w.register.chain.segments at → (last_of_segments ss).id ≤ last_id w.register.chain + 1
   by_extended ss at is =
       let last : (last_of_segments ss).id ≡ last_id w.register.chain + 1 = ap (λ (xs : List Segment). (last_of_segments xs).id) is ∙ ap (λ (s : Segment). s.id) (last_of_segments-extended_segments (ends w.cells) ok.id ok.from w.register.chain.segments at ok.joined) in
@@ -86,7 +86,7 @@ module _ (cells : ℕ) (w : State) (ok : StateOk cells w) (floor : List Entry �
   by_kept c n is = omega (arith, is)
 
   -- a write takes the chain one loglet further at most
-  followed : (c : Chain) → MayFollow w floor cells w.register.chain c → last_id c ≤ last_id w.register.chain + 1
+  followed : (c : Chain) → MayFollow w law.floor (length law.shelf) w.register.chain c → last_id c ≤ last_id w.register.chain + 1
   followed c (inl x) = by_extended c.segments x.at (ap (λ (d : Chain). d.segments) x.is)
   followed c (inr x) = by_kept c x.0.trim
       (ap (λ (d : Chain). last_id d) x.0.is ∙ ap (λ (s : Segment). s.id) (rest_of (ends w.cells) x.0.trim ok.id ok.from w.register.chain.segments ok.joined).last)
@@ -98,7 +98,7 @@ module _ (cells : ℕ) (w : State) (ok : StateOk cells w) (floor : List Entry �
       (λ r. by_kept c c.trim (ap (λ (ss : List Segment). (last_of_segments ss).id) r.segments ∙ ap (λ (s : Segment). s.id) (rest_of (ends w.cells) c.trim ok.id ok.from w.register.chain.segments ok.joined).last))
       (ok.asked c x.1)
 
-  one_further : (m : RegisterMove) → RegisterAllowed w floor cells m → last_id (register_after w.register m).chain ≤ last_id w.register.chain + 1
+  one_further : (m : RegisterMove) → RegisterAllowed w law.floor (length law.shelf) m → last_id (register_after w.register m).chain ≤ last_id w.register.chain + 1
   one_further (Gives v c) h = told v c h.1
   one_further (Conflicts x v c) h = told v c h.1
   one_further (Writes x c v) h = followed c h.2
@@ -106,11 +106,11 @@ module _ (cells : ℕ) (w : State) (ok : StateOk cells w) (floor : List Entry �
   one_further Fails h = omega arith
   one_further (Mends b) h = omega arith
 
-  by_move : (may : ℕ → Entry → Type 0) (who : ℕ) (m : Move) → IsAllowed w may floor cells who m → HasStarts w → HasStarts (after w who m)
-  by_move may who (OnCell i m) h s = s
-  by_move may who Nothing h s = s
-  by_move may who Never h s = absurd h
-  by_move may who (OnRegister m) h s = λ i upto.
+  by_move : (who : ℕ) (m : Move) → IsAllowed w law who m → HasStarts w → HasStarts (after w who m)
+  by_move who (OnCell i m) h s = s
+  by_move who Nothing h s = s
+  by_move who Never h s = absurd h
+  by_move who (OnRegister m) h s = λ i upto.
       put_cases (λ (o : Option ℕ). (n : ℕ) × (o ≡ Some n)) w.starts (last_of_segments (register_after w.register m).chain.segments).id (Some (last_of_segments (register_after w.register m).chain.segments).start) i
       (λ same. ((last_of_segments (register_after w.register m).chain.segments).start, refl))
       (λ other. s i (⊎_elim
@@ -118,28 +118,28 @@ module _ (cells : ℕ) (w : State) (ok : StateOk cells w) (floor : List Entry �
       (λ (high : (last_of_segments (register_after w.register m).chain.segments).id ≤ i). absurd (other (omega (arith, upto, high))))
       (cases_lt i (last_of_segments (register_after w.register m).chain.segments).id)))
 
-module _ (may : ℕ → Entry → Type 0) (floor : List Entry → ℕ → Type 0) (shelf : List ℕ) where
-  from : (w : State) (es : List Event) → StateOk (length shelf) w → IsLegalFrom w may floor shelf es → HasStarts w → HasStarts (after_all w es)
+module _ (law : Law) where
+  from : (w : State) (es : List Event) → StateOk (length law.shelf) w → IsLegalFrom w law es → HasStarts w → HasStarts (after_all w es)
   from w [] ok h s = s
   from w (e ∷ es) ok h s =
-      from (after w e.who (move e)) es (step_ok may floor (length shelf) w e.who (move e) ok h.0.allowed).0 h.1
-      (by_move (length shelf) w ok floor may e.who (move e) h.0.allowed s)
+      from (after w e.who (move e)) es (step_ok law w e.who (move e) ok h.0.allowed).0 h.1
+      (by_move law w ok e.who (move e) h.0.allowed s)
 
   at_start : HasStarts start
   at_start zero upto = (0, refl)
   at_start (suc i) upto = absurd (omega (arith, upto))
 
   -- a loglet below the last one answered a sealed tail, so a Seal was begun on it
-  asked : (es : List Event) (i : ℕ) → IsLegal may floor shelf es → i < last_id (state_of es).register.chain → 0 < count_by (begins_seal_on i) es
+  asked : (es : List Event) (i : ℕ) → IsLegal law es → i < last_id (state_of es).register.chain → 0 < count_by (begins_seal_on i) es
   asked es i legal below =
-      let ok = sound may floor shelf es legal in
-      let starts = from start es (start_ok (length shelf) legal.least legal.most) legal.steps at_start in
+      let ok = sound law es legal in
+      let starts = from start es (start_ok (length law.shelf) legal.least legal.most) legal.steps at_start in
       let here = starts i (omega (arith, below)) in
       let end = ok.order i (last_id (state_of es).register.chain) here.0 _ below here.1 ok.last in
-      omega (arith, tail_asked may floor shelf es i end.0 legal end.1, seals_after start i es)
+      omega (arith, tail_asked law es i end.0 legal end.1, seals_after start i es)
 
-  pub is_sealed : (es : List Event) (i : ℕ) → IsLegal may floor shelf es → i < last_id (state_of es).register.chain → Contains (seals_in es) i
+  pub is_sealed : (es : List Event) (i : ℕ) → IsLegal law es → i < last_id (state_of es).register.chain → Contains (seals_in es) i
   is_sealed es i legal below = listed i es (asked es i legal below)
 
-  pub as_far : (es : List Event) → IsLegal may floor shelf es → last_id (state_of es).register.chain ≤ count_by begins_seal es
+  pub as_far : (es : List Event) → IsLegal law es → last_id (state_of es).register.chain ≤ count_by begins_seal es
   as_far es legal = omega (arith, as_long (last_id (state_of es).register.chain) (seals_in es) (λ i below. is_sealed es i legal below), one_each es)

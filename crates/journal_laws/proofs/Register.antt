@@ -1,11 +1,11 @@
 -- The register counted each write in which it failed, and each call while it was down.
-use Rattle.std.proofs.Common.{◌≡◌, refl, sym, ap, ◌∙◌, subst, inl, inr, ℕ, ◌+◌, ◌-◌, ◌^◌, ◌≤◌, min, Bool, true, false, List, [], ◌∷◌, length, Option, None, Some, arith}
+use Rattle.std.proofs.Common.{◌≡◌, refl, sym, ap, ◌∙◌, subst, inl, inr, ℕ, ◌+◌, ◌-◌, ◌^◌, ◌≤◌, min, Bool, true, false, List, [], ◌∷◌, Option, None, Some, arith}
 use Rattle.std.specs.Prelude.{MatchBool, count_by, filter}
-use Rattle.delos_types.specs.declared.entry.Entry.{Entry}
 use Rattle.delos_types.specs.declared.chain.Chain.{Chain}
 use Rattle.loglet_api.specs.declared.call.Answer.TheVariants as answers
 use Rattle.register_api.specs.View.{RegisterView}
 use Rattle.register_api.specs.Calls.{Rose, IsDown, reopened}
+use Rattle.legal_journal.specs.Law.{Law}
 use Rattle.legal_journal.specs.declared.events.Event.{Event}
 use Rattle.legal_journal.specs.declared.events.FabricCall.{FabricCall}
 use Rattle.legal_journal.specs.declared.events.FabricCall.TheVariants.{Begin, Carry, Forget, ReadChain, WriteChain, Stop, Mend, Stray, StopMeta, MendMeta}
@@ -92,19 +92,19 @@ off_none fabric.Full (Begin i op) off may = refl
 off_none (fabric.Done (answers.NoQuorum u)) (Carry i t word) off may = refl
 off_none a c off may = refl
 
-all_own : (may : ℕ → Entry → Type 0) (floor : List Entry → ℕ → Type 0) (shelf : List ℕ) (w : State) (events : List Event) → IsLegalFrom w may floor shelf events → count_by is_meta (faults_in events) ≡ count_by is_meta (faults_in (own events))
-all_own may floor shelf w [] h = refl
-all_own may floor shelf w (e ∷ es) h = by (all_own may floor shelf (after w e.who (move e)) es h.1) (is_on_register e.call) refl
+all_own : (law : Law) (w : State) (events : List Event) → IsLegalFrom w law events → count_by is_meta (faults_in events) ≡ count_by is_meta (faults_in (own events))
+all_own law w [] h = refl
+all_own law w (e ∷ es) h = by (all_own law (after w e.who (move e)) es h.1) (is_on_register e.call) refl
   where
     by : count_by is_meta (faults_in es) ≡ count_by is_meta (faults_in (own es)) → (b : Bool) → is_on_register e.call ≡ b → count_by is_meta (faults_in (e ∷ es)) ≡ count_by is_meta (faults_in (own (e ∷ es)))
     by rest true on = rw on (count-more is_meta e es ∙ ap (λ n. weight is_meta (fault_of e.answer e.call) + n) rest ∙ sym (count-more is_meta e (own es)))
     by rest false off =
-        let none = off_none e.answer e.call off (λ never. subst (λ m. IsAllowed w may floor (length shelf) e.who m) never h.0.allowed) in
+        let none = off_none e.answer e.call off (λ never. subst (λ m. IsAllowed w law e.who m) never h.0.allowed) in
         let more = count-more is_meta e es in
         rw off (omega (arith, none, more, rest))
 
-pub all_counted : (may : ℕ → Entry → Type 0) (floor : List Entry → ℕ → Type 0) (shelf : List ℕ) (events : List Event) (now : RegisterView) → IsLegal may floor shelf events → HasRegisterRun events now → min (count_by is_meta (faults_in events)) (2 ^ 64 - 1) ≤ now.faults
-all_counted may floor shelf events now legal h =
+pub all_counted : (law : Law) (events : List Event) (now : RegisterView) → IsLegal law events → HasRegisterRun events now → min (count_by is_meta (faults_in events)) (2 ^ 64 - 1) ≤ now.faults
+all_counted law events now legal h =
     let k = own_counted events now h in
-    let e = all_own may floor shelf start events legal.steps in
+    let e = all_own law start events legal.steps in
     omega (arith, k, e)

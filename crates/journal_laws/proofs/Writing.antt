@@ -1,9 +1,9 @@
 -- A refused write, and two that stand.
 use Rattle.std.proofs.Common.{◌≡◌, refl, sym, ap, ◌∙◌, subst, ⊎_elim, ℕ, ◌<◌, ◌≤◌, List, [], ◌∷◌, ◌++◌, Some, arith, append_assoc}
 use Rattle.std.proofs.lemmas.Bool.{cases_lt}
-use Rattle.delos_types.specs.declared.entry.Entry.{Entry}
 use Rattle.delos_types.specs.declared.chain.Chain.{Chain}
 use Rattle.chain_map.specs.Chain.{last_id}
+use Rattle.legal_journal.specs.Law.{Law}
 use Rattle.legal_journal.specs.declared.events.Event.{Event}
 use Rattle.legal_journal.specs.declared.events.FabricCall.TheVariants.{WriteChain}
 use Rattle.legal_journal.specs.declared.events.FabricAnswer.TheVariants.{Written, Conflict}
@@ -13,13 +13,13 @@ use Rattle.legal_journal.proofs.Legal.{sound, legal_front, goes_on}
 use Rattle.legal_journal.proofs.Taken.{took}
 use Rattle.journal_laws.specs.Versions.{IsFurther}
 
-module _ (may : ℕ → Entry → Type 0) (floor : List Entry → ℕ → Type 0) (shelf : List ℕ) where
+module _ (law : Law) where
   -- a later journal
-  on : (early more late : List Event) → late ≡ early ++ more → IsLegal may floor shelf late → Continues (state_of early) (state_of late)
-  on early more late is legal = subst (λ (es : List Event). Continues (state_of early) (state_of es)) (sym is) (goes_on may floor shelf early more (subst (IsLegal may floor shelf) is legal))
+  on : (early more late : List Event) → late ≡ early ++ more → IsLegal law late → Continues (state_of early) (state_of late)
+  on early more late is legal = subst (λ (es : List Event). Continues (state_of early) (state_of es)) (sym is) (goes_on law early more (subst (IsLegal law) is legal))
 
   pub refused : (who expected version : ℕ) (asked chain : Chain) (looked before after : List Event)
-      → IsLegal may floor shelf ((looked ++ before) ++ record { who = who; call = WriteChain expected asked; answer = Conflict version chain } ∷ after)
+      → IsLegal law ((looked ++ before) ++ record { who = who; call = WriteChain expected asked; answer = Conflict version chain } ∷ after)
       → last_id (state_of looked).register.chain < last_id chain
       → IsFurther (state_of looked).register (state_of ((looked ++ before) ++ record { who = who; call = WriteChain expected asked; answer = Conflict version chain } ∷ after)).register version
   refused who expected version asked chain looked before after legal behind =
@@ -27,12 +27,12 @@ module _ (may : ℕ → Entry → Type 0) (floor : List Entry → ℕ → Type 0
       let wrote : List Event = (looked ++ before) ++ e ∷ [] in
       let new : List Event = (looked ++ before) ++ e ∷ after in
       let seen : new ≡ wrote ++ after = sym (append_assoc (looked ++ before) (e ∷ []) after) in
-      let front = legal_front may floor shelf wrote after (subst (IsLegal may floor shelf) seen legal) in
+      let front = legal_front law wrote after (subst (IsLegal law) seen legal) in
       let step : wrote ≡ looked ++ (before ++ e ∷ []) = append_assoc looked before (e ∷ []) in
-      let k = took may floor shelf looked before e wrote front refl in
+      let k = took law looked before e wrote front refl in
       let to_new = on wrote after new seen legal in
       let to_wrote = on looked (before ++ e ∷ []) wrote step front in
-      let early = legal_front may floor shelf looked (before ++ e ∷ []) (subst (IsLegal may floor shelf) step front) in
+      let early = legal_front law looked (before ++ e ∷ []) (subst (IsLegal law) step front) in
       let version_is : (state_of wrote).register.version ≡ version = ap (λ (y : State). y.register.version) k.now in
       let chain_is : (state_of wrote).register.chain ≡ chain = ap (λ (y : State). y.register.chain) k.now in
       let high : last_id (state_of looked).register.chain < last_id (state_of wrote).register.chain = omega (arith, behind, ap last_id chain_is) in
@@ -41,8 +41,8 @@ module _ (may : ℕ → Entry → Type 0) (floor : List Entry → ℕ → Type 0
             (λ (h : (state_of looked).register.version < version). h)
             (λ (h : version ≤ (state_of looked).register.version). absurd (
             let same : (state_of looked).register.version ≡ (state_of wrote).register.version = omega (arith, h, version_is, to_wrote.version) in
-            let was = to_wrote.given (state_of looked).register.version (state_of looked).register.chain (sound may floor shelf looked early).given in
-            let both : Some (state_of looked).register.chain ≡ Some (state_of wrote).register.chain = sym was ∙ (ap (state_of wrote).register.given same ∙ (sound may floor shelf wrote front).given) in
+            let was = to_wrote.given (state_of looked).register.version (state_of looked).register.chain (sound law looked early).given in
+            let both : Some (state_of looked).register.chain ≡ Some (state_of wrote).register.chain = sym was ∙ (ap (state_of wrote).register.given same ∙ (sound law wrote front).given) in
             let one : (state_of looked).register.chain ≡ (state_of wrote).register.chain = cc in
             omega (arith, high, ap last_id one)))
             (cases_lt (state_of looked).register.version version);
@@ -51,7 +51,7 @@ module _ (may : ℕ → Entry → Type 0) (floor : List Entry → ℕ → Type 0
       }
 
   pub differ : (who by expected wanted version second : ℕ) (c d : Chain) (before between after : List Event)
-      → IsLegal may floor shelf ((before ++ record { who = who; call = WriteChain expected c; answer = Written version } ∷ between) ++ record { who = by; call = WriteChain wanted d; answer = Written second } ∷ after)
+      → IsLegal law ((before ++ record { who = who; call = WriteChain expected c; answer = Written version } ∷ between) ++ record { who = by; call = WriteChain wanted d; answer = Written second } ∷ after)
       → version < second
   differ who by expected wanted version second c d before between after legal =
       let e : Event = record { who = who; call = WriteChain expected c; answer = Written version } in
@@ -60,12 +60,12 @@ module _ (may : ℕ → Entry → Type 0) (floor : List Entry → ℕ → Type 0
       let early : List Event = before ++ e ∷ between in
       let wrote : List Event = early ++ f ∷ [] in
       let seen : early ++ f ∷ after ≡ wrote ++ after = sym (append_assoc early (f ∷ []) after) in
-      let front = legal_front may floor shelf wrote after (subst (IsLegal may floor shelf) seen legal) in
-      let early_legal = legal_front may floor shelf early (f ∷ []) front in
+      let front = legal_front law wrote after (subst (IsLegal law) seen legal) in
+      let early_legal = legal_front law early (f ∷ []) front in
       let split : early ≡ first ++ between = sym (append_assoc before (e ∷ []) between) in
-      let first_legal = legal_front may floor shelf first between (subst (IsLegal may floor shelf) split early_legal) in
-      let a = took may floor shelf before [] e first first_legal (none before e) in
-      let b = took may floor shelf early [] f wrote front (none early f) in
+      let first_legal = legal_front law first between (subst (IsLegal law) split early_legal) in
+      let a = took law before [] e first first_legal (none before e) in
+      let b = took law early [] f wrote front (none early f) in
       let first_is : (state_of first).register.version ≡ version = ap (λ (y : State). y.register.version) a.now in
       let goes = on first between early split early_legal in
       omega (arith, first_is, goes.version, b.before.version, b.allowed.1, b.allowed.3)

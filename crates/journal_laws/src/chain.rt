@@ -16,7 +16,7 @@ pub fn seals_are_counted()
 
 /// A sealed tail is answered only where a Seal was begun on the loglet.
 pub fn a_sealed_tail_was_asked<P: Rules>()
-    ensures { (events : List Event) (i tail : ℕ) → IsLegal P.may P.floor P.shelf events → Contains (ends (state_of events).cells i) tail
+    ensures { (events : List Event) (i tail : ℕ) → IsLegal P.law events → Contains (ends (state_of events).cells i) tail
         → 0 < ((state_of events).cells i).told.seals }
 {}
 
@@ -27,7 +27,7 @@ pub fn a_run_begins_unsealed()
 
 /// Where no Seal is begun and no fault comes, the chain goes on in no other loglet.
 pub fn a_chain_stays<P: Rules>()
-    ensures { (early more : List Event) (n : ℕ) → IsLegal P.may P.floor P.shelf (early ++ more) → IsUnsealed (state_of early) n
+    ensures { (early more : List Event) (n : ℕ) → IsLegal P.law (early ++ more) → IsUnsealed (state_of early) n
         → count_by begins_seal more ≡ 0 → faults_in more ≡ []
         → IsUnsealed (state_of (early ++ more)) n }
 {}
@@ -35,7 +35,7 @@ pub fn a_chain_stays<P: Rules>()
 /// Where no Seal is begun behind the last loglet, no fault comes, and the last loglet isn't the same: the chain goes on in the next one,
 /// and no further.
 pub fn a_chain_goes_on_once<P: Rules>()
-    ensures { (early more : List Event) (n : ℕ) → IsLegal P.may P.floor P.shelf (early ++ more) → IsUnsealed (state_of early) n
+    ensures { (early more : List Event) (n : ℕ) → IsLegal P.law (early ++ more) → IsUnsealed (state_of early) n
         → ((i : ℕ) → n < i → count_by (begins_seal_on i) more ≡ 0) → faults_in more ≡ []
         → last_id (state_of (early ++ more)).register.chain ≢ n
         → IsUnsealed (state_of (early ++ more)) (n + 1) }

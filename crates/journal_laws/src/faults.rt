@@ -45,14 +45,14 @@ pub fn a_register_counts_its_faults()
 
 /// In a legal journal no call but a register's is answered so, so these are all that the journal tells.
 pub fn register_faults_are_counted<P: Rules>()
-    ensures { (events : List Event) (now : RegisterView) → IsLegal P.may P.floor P.shelf events → HasRegisterRun events now
+    ensures { (events : List Event) (now : RegisterView) → IsLegal P.law events → HasRegisterRun events now
         → min (count_by is_meta (faults_in events)) (2 ^ 64 - 1) ≤ now.faults }
 {}
 
 /// A loglet that a fault of a legal journal names is in the shelf.
 pub fn a_fault_names_a_cell<P: Rules>()
-    ensures lack { (i unreached : ℕ) (events : List Event) → IsLegal P.may P.floor P.shelf events
-        → Contains (faults_in events) (cause.NoQuorum i unreached) → i < length P.shelf }
-    ensures full { (i : ℕ) (events : List Event) → IsLegal P.may P.floor P.shelf events
-        → Contains (faults_in events) (cause.Full i) → i < length P.shelf }
+    ensures lack { (i unreached : ℕ) (events : List Event) → IsLegal P.law events
+        → Contains (faults_in events) (cause.NoQuorum i unreached) → i < length P.law.shelf }
+    ensures full { (i : ℕ) (events : List Event) → IsLegal P.law events
+        → Contains (faults_in events) (cause.Full i) → i < length P.law.shelf }
 {}

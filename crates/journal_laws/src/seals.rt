@@ -11,9 +11,9 @@ use legal_journal::rules::Rules;
 /// The Seals that were begun stand in a list with one element for each. Each loglet below the last one of the chain is in it, so the last
 /// id is at most their number.
 pub fn a_chain_goes_as_far_as_seals<P: Rules>()
-    ensures each { (events : List Event) (id : ℕ) → IsLegal P.may P.floor P.shelf events → id < last_id (state_of events).register.chain → Contains (seals_in events) id }
+    ensures each { (events : List Event) (id : ℕ) → IsLegal P.law events → id < last_id (state_of events).register.chain → Contains (seals_in events) id }
     ensures one_each { (events : List Event) → length (seals_in events) ≡ count_by begins_seal events }
-    ensures most { (events : List Event) → IsLegal P.may P.floor P.shelf events → last_id (state_of events).register.chain ≤ count_by begins_seal events }
+    ensures most { (events : List Event) → IsLegal P.law events → last_id (state_of events).register.chain ≤ count_by begins_seal events }
 {}
 
 /// A list that has each number below n has at least n elements.

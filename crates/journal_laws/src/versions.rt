@@ -11,7 +11,7 @@ use legal_journal::rules::Rules;
 /// Of two chains that were written, by whomever, the later has the higher version.
 pub fn later_writes_have_higher_versions<P: Rules>()
     ensures { (who other expected wanted version second : ℕ) (chain next : Chain) (before between after : List Event)
-        → IsLegal P.may P.floor P.shelf ((before ++ write who expected chain version ∷ between) ++ write other wanted next second ∷ after)
+        → IsLegal P.law ((before ++ write who expected chain version ∷ between) ++ write other wanted next second ∷ after)
         → version < second }
 {}
 
@@ -19,7 +19,7 @@ pub fn later_writes_have_higher_versions<P: Rules>()
 /// chain has a higher version than the one of that moment, and the last id has risen since.
 pub fn a_refusal_goes_further<P: Rules>()
     ensures { (who expected version : ℕ) (asked chain : Chain) (looked before after : List Event)
-        → IsLegal P.may P.floor P.shelf ((looked ++ before) ++ refusal who expected asked version chain ∷ after)
+        → IsLegal P.law ((looked ++ before) ++ refusal who expected asked version chain ∷ after)
         → last_id (state_of looked).register.chain < last_id chain
         → IsFurther (state_of looked).register (state_of ((looked ++ before) ++ refusal who expected asked version chain ∷ after)).register version }
 {}

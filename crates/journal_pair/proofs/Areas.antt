@@ -61,6 +61,10 @@ short_unready bytes short = elim (cases_lt (base_of bytes) 18) [
   | inr high ↦ past_unready bytes (omega (arith, short, high))
 ]
 
+-- a disk of no bytes has no records
+pub no_bytes : records_of [] ≡ []
+no_bytes = unready_records [] (short_unready [] (omega arith))
+
 -- but for byte 0 both are the same
 pub still_unready : (old c : List ℕ) → get_or old 0 0 ≡ 1 → is_ready old ≡ false → drop 1 c ≡ drop 1 old → length c ≡ length old → is_ready c ≡ false
 still_unready old c first unready same long = elim (cases_eq (get_or c 0 0) 1) [

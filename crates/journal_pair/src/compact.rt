@@ -1,5 +1,6 @@
 //! Records in the place of others.
-ghost use Rattle.std.specs.Prelude.{◌≡◌, ◌≢◌, ◌⊎◌, ◌+◌, ◌-◌, ◌^◌, ◌<◌, ◌≤◌, ℕ, true, false, not, [], length, nat_lt, IfOk, OnOk, IsErrOf};
+ghost use Rattle.std.specs.Prelude.{◌≡◌, ◌≢◌, ◌⊎◌, ◌+◌, ◌-◌, ◌^◌, ◌<◌, ◌≤◌, ℕ, true, false, not, [], length, nat_lt, Vec, IfOk, OnOk, IsErrOf};
+ghost use Rattle.std.specs.declared.alloc.Global.{Global};
 ghost use Rattle.disk_model.specs.Disk.{reads, IsSynced, Rose};
 ghost use Rattle.disk_model.specs.Crash.{AnyCrash};
 ghost use Rattle.journal_core.specs.Records.{payloads};
@@ -11,12 +12,65 @@ use crate::cut::cut_synced;
 use crate::header::{SELECTOR, selector, write_slot};
 use disk_model::{Disk, WriteFault, write_synced};
 use journal_core::Fault;
-use journal_core::gates::{CLOSED, OPEN};
+use journal_core::gates::{CLOSED, OPEN, read_records};
 use std::alloc::{AllocError, Global};
+
+/// Why records weren't put in the place of others.
+pub(crate) enum Unplaced {
+    /// Out of memory.
+    Memory,
+    /// The disk failed before anything was written.
+    Unwritten,
+    /// It failed in a write. These were there before.
+    Torn(Vec<Vec<u8>>),
+}
+
+// Puts these records in the place of all that are there: at most four writes. Those of before are read first, since the
+// disk may fail when they are cut already.
+pub(crate) fn replace<D: Disk>(
+    alloc: Global,
+    disk: &mut D,
+    area: Area,
+    records: &[Vec<u8>],
+) -> Result<Area, Unplaced>
+    requires fits { area.base + area.len + 1 < 2 ^ 64 }
+    requires stands { Stands (records_of (reads (D.view disk.old))) area (reads (D.view disk.old)) }
+    requires synced { IsSynced (D.view disk.old) }
+    ensures ok { IfOk result (λ next. Stands (payloads records.now) next (reads (D.view disk.new))) }
+    ensures fits { IfOk result (λ next. next.base + next.len + 1 < 2 ^ 64) }
+    ensures any_crash { AnyCrash (D.view disk.old).timeline (D.view disk.new).timeline (λ bytes. (records_of bytes ≡ records_of (reads (D.view disk.old))) ⊎ (records_of bytes ≡ payloads records.now)) }
+    ensures memory { IsErrOf result Unplaced.Memory → Stands (records_of (reads (D.view disk.old))) area (reads (D.view disk.new)) }
+    ensures unwritten { IsErrOf result Unplaced.Unwritten → (D.view disk.new).timeline ≡ (D.view disk.old).timeline }
+    ensures before { (before : Vec (Vec ℕ Global) Global) → IsErrOf result (Unplaced.Torn before) → payloads before.items ≡ records_of (reads (D.view disk.old)) }
+    ensures synced { OnOk result (IsSynced (D.view disk.new)) }
+    ensures memory_synced { IsErrOf result Unplaced.Memory → IsSynced (D.view disk.new) }
+    ensures failed_unwritten { IsErrOf result Unplaced.Unwritten → Rose (D.view disk.old).faults (D.view disk.new).faults }
+    ensures failed { (before : Vec (Vec ℕ Global) Global) → IsErrOf result (Unplaced.Torn before) → Rose (D.view disk.old).faults (D.view disk.new).faults }
+    ensures faults { (D.view disk.old).faults ≤ (D.view disk.new).faults }
+    ensures no_fault { OnOk result ((D.view disk.new).faults ≡ (D.view disk.old).faults) }
+    ensures no_fault_memory { IsErrOf result Unplaced.Memory → (D.view disk.new).faults ≡ (D.view disk.old).faults }
+    ensures armed { (D.view disk.new).armed ≤ (D.view disk.old).armed }
+    ensures within { (D.view disk.old).armed ≤ (D.view disk.new).armed + 4 }
+    ensures ok_armed { OnOk result (nat_lt 0 (D.view disk.new).armed ≡ nat_lt 0 (D.view disk.old).armed) }
+    ensures memory_armed { IsErrOf result Unplaced.Memory → nat_lt 0 (D.view disk.new).armed ≡ nat_lt 0 (D.view disk.old).armed }
+    ensures running { OnOk result ((D.view disk.new).stopped ≡ false) }
+    ensures memory_running { (D.view disk.old).stopped ≡ false → IsErrOf result Unplaced.Memory → (D.view disk.new).stopped ≡ false }
+{
+    let before = match read_records(alloc, disk, area.base) {
+        Ok((before, _)) => before,
+        Err(Fault::Memory) => return Err(Unplaced::Memory),
+        Err(Fault::Disk) => return Err(Unplaced::Unwritten),
+    };
+    match select_other(alloc, disk, area, records) {
+        Ok(next) => Ok(next),
+        Err(Fault::Memory) => Err(Unplaced::Memory),
+        Err(Fault::Disk) => Err(Unplaced::Torn(before)),
+    }
+}
 
 // Lays these records into an area of their own, and then selects it: so a crash leaves the area of before whole, or the
 // new one. At most four writes.
-pub(crate) fn replace<D: Disk>(
+fn select_other<D: Disk>(
     alloc: Global,
     disk: &mut D,
     area: Area,

@@ -1,4 +1,4 @@
-//! A journal over two areas: records on a disk, and in memory beside it.
+//! A journal over two areas: records on a disk, and in memory beside it how many they are.
 ghost use Rattle.std.specs.Prelude.{◌≡◌, ◌≢◌, ◌⊎◌, ◌+◌, ◌-◌, ◌^◌, ◌<◌, ◌≤◌, ◌↔◌, ℕ, Some, None, [], ◌∷◌, ◌++◌, length, nat_lt, true, false, if◌then◌else◌, IfOk, IfErr, OnOk, OnErr, IsErrOf, slice_index_or};
 ghost use Rattle.disk_model.specs.Disk.{DiskView, reads, IsSynced, Rose};
 ghost use Rattle.journal_core.specs.Records.{payloads};
@@ -6,9 +6,9 @@ ghost use Rattle.journal_pair.specs.Records.{records_of};
 ghost use Rattle.journal_pair.specs.Journal.{View, MayFind, LeavesRecords, AnyCrashLeaves, Survives};
 
 use crate::area::{Area, FIRST};
-use crate::compact::replace;
+use crate::compact::{Unplaced, replace};
 use crate::layout::add;
-use crate::open::find;
+use crate::open::{find, find_count, record_of};
 use crate::torn::Torn;
 use disk_model::Disk;
 use journal_core::{AppendFault, Fault, Refused};
@@ -21,14 +21,14 @@ use std::marker::Model;
 /// Contracts see it as a `View`: its `records`; the `other` ones, of the call in which the disk failed, which a crash may
 /// leave in their place; whether it is `shut`; and its `disk`.
 ///
-/// Memory: each record is kept in memory too, its bytes and some 24 more, so that the records show even where the disk
-/// fails. A compaction frees what it replaces.
+/// Memory: constant. The records are kept on the disk alone; those of before and the given ones also in memory where the
+/// disk failed in a compaction, until a reopening succeeds, and the record of an append in which it failed.
 #[derive(Drop)]
 pub struct JournalPair<D: Disk> {
     alloc: Global,
     disk: D,
-    // The records on the disk.
-    found: Vec<Vec<u8>>,
+    // How many records there are.
+    count: usize,
     // Where they lie on the disk.
     area: Area,
     torn: Option<Torn>,
@@ -36,34 +36,44 @@ pub struct JournalPair<D: Disk> {
 }
 
 impl<D: Disk> Model for JournalPair<D> {
-    ghost use Rattle.journal_core.specs.Records.{payloads};
+    ghost use Rattle.disk_model.specs.Disk.{reads};
     ghost use Rattle.journal_pair.specs.Journal.{View};
-    ghost use Rattle.journal_pair.specs.Kept.{other_of, IsKept};
+    ghost use Rattle.journal_pair.specs.Kept.{other_of, records_in, IsKept};
 
     ghost Value = { View };
 
-    ghost view = { λ j. record { records = payloads j.found.items; other = other_of (payloads j.found.items) j.torn; shut = j.shut; disk = D.view j.disk } };
+    ghost view = { λ j. record { records = records_in j.count j.torn (reads (D.view j.disk)); other = other_of (records_in j.count j.torn (reads (D.view j.disk))) j.torn; shut = j.shut; disk = D.view j.disk } };
 
-    ghost invariant = { λ j. IsKept (payloads j.found.items) j.torn j.area j.shut (D.view j.disk).stopped (D.view j.disk).timeline };
+    ghost invariant = { λ j. IsKept j.count j.torn j.area j.shut (D.view j.disk).stopped (D.view j.disk).timeline };
+}
+
+/// A journal just opened, and its records, which it doesn't keep.
+#[derive(Drop)]
+pub struct Opened<D: Disk> {
+    /// The journal.
+    pub journal: JournalPair<D>,
+    /// Its records, the first of them first.
+    pub records: Vec<Vec<u8>>,
 }
 
 impl<D: Disk> JournalPair<D> {
-    /// Opens a disk on which nothing is pending: its journal has the records of the disk's selected area, and none where
-    /// the disk isn't ready, which it is made then. A refusal hands the disk back. A crash inside leaves the same records.
+    /// Opens a disk on which nothing is pending: its journal has the records of the disk's selected area, which are handed
+    /// out, and none where the disk isn't ready, which it is made then. A refusal hands the disk back. A crash inside leaves the same records.
     ///
     /// Cost: three reads a record and three more, and at most four writes.
-    pub fn open_on(alloc: Global, mut disk: D) -> Result<JournalPair<D>, Refused<D>>
+    pub fn open_on(alloc: Global, mut disk: D) -> Result<Opened<D>, Refused<D>>
         requires { IsSynced (D.view disk) }
-        ensures records { IfOk result (λ j. j.records ≡ records_of (reads (D.view disk))) }
-        ensures opened { IfOk result (λ j. (j.other ≡ None) × (j.shut ≡ false)) }
-        ensures survives { IfOk result Survives }
-        ensures any_crash { IfOk result (λ j. AnyCrashLeaves (D.view disk) j.disk (λ found. found ≡ records_of (reads (D.view disk)))) }
-        ensures no_fault { IfOk result (λ j. j.disk.faults ≡ (D.view disk).faults) }
-        ensures armed { IfOk result (λ j. j.disk.armed ≤ (D.view disk).armed) }
+        ensures records { IfOk result (λ o. o.journal.records ≡ records_of (reads (D.view disk))) }
+        ensures handed { IfOk result (λ o. payloads o.records.items ≡ o.journal.records) }
+        ensures opened { IfOk result (λ o. (o.journal.other ≡ None) × (o.journal.shut ≡ false)) }
+        ensures survives { IfOk result (λ o. Survives o.journal) }
+        ensures any_crash { IfOk result (λ o. AnyCrashLeaves (D.view disk) o.journal.disk (λ found. found ≡ records_of (reads (D.view disk)))) }
+        ensures no_fault { IfOk result (λ o. o.journal.disk.faults ≡ (D.view disk).faults) }
+        ensures armed { IfOk result (λ o. o.journal.disk.armed ≤ (D.view disk).armed) }
 
         // At most four writes were made: it is armed where it was, and one that fails may have reached the armed write.
-        ensures four_writes { IfOk result (λ j. (D.view disk).armed ≤ j.disk.armed + 4) }
-        ensures still_armed { IfOk result (λ j. nat_lt 0 j.disk.armed ≡ nat_lt 0 (D.view disk).armed) }
+        ensures four_writes { IfOk result (λ o. (D.view disk).armed ≤ o.journal.disk.armed + 4) }
+        ensures still_armed { IfOk result (λ o. nat_lt 0 o.journal.disk.armed ≡ nat_lt 0 (D.view disk).armed) }
         ensures four_writes_refused { IfErr result (λ e. (D.view disk).armed ≤ (D.view e.disk).armed + 4) }
 
         // A disk that is handed back has the same records, and failed where that is said.
@@ -73,17 +83,19 @@ impl<D: Disk> JournalPair<D> {
         ensures faults_refused { IfErr result (λ e. (D.view disk).faults ≤ (D.view e.disk).faults) }
         ensures armed_refused { IfErr result (λ e. (D.view e.disk).armed ≤ (D.view disk).armed) }
     {
-        match find(alloc, &mut disk) {
-            Ok((found, area)) => Ok(JournalPair {
-                alloc,
-                disk,
-                found,
-                area,
-                torn: None,
-                shut: false,
-            }),
-            Err(fault) => Err(Refused { fault, disk }),
-        }
+        let (records, area) = match find(alloc, &mut disk) {
+            Ok(found) => found,
+            Err(fault) => return Err(Refused { fault, disk }),
+        };
+        let journal = JournalPair {
+            alloc,
+            disk,
+            count: records.len(),
+            area,
+            torn: None,
+            shut: false,
+        };
+        Ok(Opened { journal, records })
     }
 
     /// The journal of a disk without records that couldn't be opened: it has none, and is shut until a reopening succeeds.
@@ -96,7 +108,7 @@ impl<D: Disk> JournalPair<D> {
         JournalPair {
             alloc,
             disk,
-            found: Vec::new(alloc),
+            count: 0,
             area: FIRST,
             torn: None,
             shut: true,
@@ -109,7 +121,7 @@ impl<D: Disk> JournalPair<D> {
     /// without. After `Memory` nothing changed but that the disk may have been written to behind the records. `Shut`
     /// comes just where the journal is shut, and changes nothing.
     ///
-    /// Cost: O(payload), amortized: two writes and two syncs, and no read or copy of what is there.
+    /// Cost: O(payload): two writes and two syncs, and no read or copy of what is there.
     pub fn append(&mut self, payload: &[u8]) -> Result<(), AppendFault>
         ensures ok { OnOk result (self.new ≡ record { records = self.old.records ++ payload.now ∷ []; other = None; shut = false; disk = self.new.disk }) }
         ensures durable { OnOk result (LeavesRecords self.new.disk (λ found. found ≡ self.new.records)) }
@@ -134,11 +146,10 @@ impl<D: Disk> JournalPair<D> {
             return Err(AppendFault::Shut);
         }
         let kept = payload.to_vec(self.alloc)?;
-        self.found.reserve(1)?;
         match add(self.alloc, &mut self.disk, self.area, payload) {
             Ok(area) => {
                 self.area = area;
-                self.found.push_reserved(kept);
+                self.count += 1;
                 Ok(())
             }
             Err(Fault::Memory) => Err(AppendFault::Memory),
@@ -157,8 +168,8 @@ impl<D: Disk> JournalPair<D> {
     /// mixture. After `Memory` nothing changed but that the disk may have been written to beside the records. `Shut`
     /// comes just where the journal is shut, and changes nothing.
     ///
-    /// Cost: O(payloads): at most four writes and four syncs, and no read of what is there. It takes memory for the bytes
-    /// of the given records once more.
+    /// Cost: O(payloads) of the records of before, which are read once and held until it ends, and of the given ones, whose
+    /// bytes it takes memory for once more: three reads a record of before, and at most four writes and four syncs.
     pub fn compact(&mut self, records: Vec<Vec<u8>>) -> Result<(), AppendFault>
         ensures ok { OnOk result (self.new ≡ record { records = payloads records.items; other = None; shut = false; disk = self.new.disk }) }
         ensures durable { OnOk result (LeavesRecords self.new.disk (λ found. found ≡ self.new.records)) }
@@ -185,12 +196,20 @@ impl<D: Disk> JournalPair<D> {
         match replace(self.alloc, &mut self.disk, self.area, &records) {
             Ok(area) => {
                 self.area = area;
-                self.found = records;
+                self.count = records.len();
                 Ok(())
             }
-            Err(Fault::Memory) => Err(AppendFault::Memory),
-            Err(Fault::Disk) => {
-                self.torn = Some(Torn::Given(records));
+            Err(Unplaced::Memory) => Err(AppendFault::Memory),
+            Err(Unplaced::Unwritten) => {
+                self.torn = Some(Torn::Unwritten(records));
+                self.shut = true;
+                Err(AppendFault::Disk)
+            }
+            Err(Unplaced::Torn(before)) => {
+                self.torn = Some(Torn::Given {
+                    before,
+                    given: records,
+                });
                 self.shut = true;
                 Err(AppendFault::Disk)
             }
@@ -201,7 +220,7 @@ impl<D: Disk> JournalPair<D> {
     /// where the disk failed in an `append` or a `compact`.
     ///
     /// After `Disk` the journal is shut, and shows what it showed; after `Memory` it shows that and is shut or not as
-    /// before. Cost: as `open_on`.
+    /// before. Cost: two reads of nine bytes in all for each record and four more, and at most four writes.
     pub fn reopen(&mut self, word: u64) -> Result<(), Fault>
         ensures ok { OnOk result ((self.new ≡ record { records = self.new.records; other = None; shut = false; disk = self.new.disk }) × MayFind self.old self.new.records) }
         ensures durable { OnOk result (LeavesRecords self.new.disk (λ found. found ≡ self.new.records)) }
@@ -225,9 +244,9 @@ impl<D: Disk> JournalPair<D> {
             self.shut = true;
             return Err(Fault::Disk);
         }
-        match find(self.alloc, &mut self.disk) {
-            Ok((found, area)) => {
-                self.found = found;
+        match find_count(&mut self.disk) {
+            Ok((count, area)) => {
+                self.count = count;
                 self.area = area;
                 self.torn = None;
                 self.shut = false;
@@ -246,15 +265,27 @@ impl<D: Disk> JournalPair<D> {
         ensures count { result ≡ length self.now.records }
         ensures survives { Survives self.now }
     {
-        self.found.len()
+        self.count
     }
 
-    /// The i-th record, from 0 on, in constant time.
-    pub fn get(&self, i: usize) -> &[u8]
-        requires { i < length self.now.records }
-        ensures { result.now ≡ slice_index_or self.now.records i [] }
+    /// The i-th record, from 0 on, read from the disk, or from memory where the disk failed in a compaction. It changes
+    /// nothing but the count of the disk's faults, and doesn't shut the journal.
+    ///
+    /// Cost: two reads, two of nine bytes in all for each record before it, and three for it.
+    pub fn get(&mut self, i: usize) -> Result<Vec<u8>, Fault>
+        requires { i < length self.old.records }
+        ensures record { IfOk result (λ v. v.items ≡ slice_index_or self.old.records i []) }
+        ensures same { self.new ≡ record self.old { disk = record self.old.disk { faults = self.new.disk.faults } } }
+        ensures failed { IsErrOf result Fault.Disk → Rose self.old.disk.faults self.new.disk.faults }
+        ensures no_fault { OnOk result (self.new.disk.faults ≡ self.old.disk.faults) }
+        ensures no_fault_memory { IsErrOf result Fault.Memory → self.new.disk.faults ≡ self.old.disk.faults }
+        ensures survives { Survives self.new }
     {
-        &self.found[i]
+        if let Some(Torn::Given { before, given: _ }) = &self.torn {
+            let record = before[i].to_vec(self.alloc)?;
+            return Ok(record);
+        }
+        record_of(self.alloc, &mut self.disk, i)
     }
 
     /// The disk failed in some call since the last reopening that succeeded: no record is added until one does.
@@ -288,7 +319,7 @@ impl<D: Disk> JournalPair<D> {
         let JournalPair {
             alloc: _,
             disk,
-            found: _,
+            count: _,
             area: _,
             torn: _,
             shut: _,

@@ -1,9 +1,9 @@
 -- The chain is asked for, and the register opened again.
 use Rattle.std.proofs.Common.{◌≡◌, ◌⊎◌, inl, inr, ⊎_elim, refl, sym, ap, ◌∙◌, subst, append_assoc, append-nil, ℕ, ◌+◌, cond, Bool, true, false, List, [], ◌∷◌, ◌++◌, length, Some, None, arith}
 use Rattle.std.proofs.lemmas.List.Sums.{sum_by_push}
-use Rattle.delos_types.specs.declared.entry.Entry.{Entry}
 use Rattle.delos_types.specs.declared.chain.Chain.{Chain}
 use Rattle.chain_map.specs.Chain.{is_chain}
+use Rattle.legal_journal.specs.Law.{Law}
 use Rattle.legal_journal.specs.declared.events.FabricCall.{FabricCall}
 use Rattle.legal_journal.specs.declared.events.FabricCall.TheVariants.{Carry, ReadChain, MendMeta}
 use Rattle.legal_journal.specs.declared.events.FabricAnswer.{FabricAnswer}
@@ -94,18 +94,18 @@ asks_three who a b c d h k l =
 
 -- What the register gave.
 
-module _ (may : ℕ → Entry → Type 0) (floor : List Entry → ℕ → Type 0) (shelf : List ℕ) where
-  joined : (journal : List Event) → IsLegal may floor shelf journal → is_chain (state_of journal).register.chain ≡ true
+module _ (law : Law) where
+  joined : (journal : List Event) → IsLegal law journal → is_chain (state_of journal).register.chain ≡ true
   joined journal legal =
-      let ok = sound may floor shelf journal legal in
-      chain_ok (length shelf) (state_of journal) (state_of journal).register.version (state_of journal).register.chain ok ok.given
+      let ok = sound law journal legal in
+      chain_ok (length law.shelf) (state_of journal) (state_of journal).register.version (state_of journal).register.chain ok ok.given
 
   -- it is up then
   pub up_then : (who v : ℕ) (c : Chain) (old new : FabricView) → Adds old.journal who ReadChain (At v c) new.journal → IsRegisterAsTold (state_of new.journal).register new.register → new.register.down ≡ false
   up_then who v c old new adds told =
       told.down ∙ ap (λ (w : State). w.register.down) (told_after who ReadChain (At v c) old.journal new.journal (adds.added ∙ ap (λ l. old.journal ++ l) adds.event))
 
-  pub gave : (who v : ℕ) (c : Chain) (old new : FabricView) → Adds old.journal who ReadChain (At v c) new.journal → IsLegal may floor shelf new.journal → IsRegisterAsTold (state_of new.journal).register new.register
+  pub gave : (who v : ℕ) (c : Chain) (old new : FabricView) → Adds old.journal who ReadChain (At v c) new.journal → IsLegal law new.journal → IsRegisterAsTold (state_of new.journal).register new.register
       → IsLast (record { version = v; chain = c; down = false }) new
   gave who v c old new adds legal told =
       let r : (state_of new.journal).register ≡ known (state_of old.journal).register v c =
@@ -124,12 +124,12 @@ module _ (may : ℕ → Entry → Type 0) (floor : List Entry → ℕ → Type 0
         told = sym (ap (λ (x : RegisterState). x.chain) r);
       }
 
-  pub stays_down : (who : ℕ) (old new : FabricView) → Adds old.journal who ReadChain Down new.journal → IsLegal may floor shelf new.journal
+  pub stays_down : (who : ℕ) (old new : FabricView) → Adds old.journal who ReadChain Down new.journal → IsLegal law new.journal
       → IsRegisterAsTold (state_of old.journal).register old.register → IsRegisterAsTold (state_of new.journal).register new.register → StaysDown old new
   stays_down who old new adds legal before told =
       let e : Event = record { who = who; call = ReadChain; answer = Down } in
       let added : new.journal ≡ old.journal ++ e ∷ [] = adds.added ∙ ap (λ l. old.journal ++ l) adds.event in
-      let parts = IsLegalFrom-split may floor shelf start old.journal (e ∷ []) (subst (IsLegal may floor shelf) added legal).steps in
+      let parts = IsLegalFrom-split law start old.journal (e ∷ []) (subst (IsLegal law) added legal).steps in
       let was : (state_of old.journal).register.down ≡ true = parts.1.0.allowed in
       let same : (state_of new.journal).register ≡ (state_of old.journal).register = ap (λ (w : State). w.register) (told_after who ReadChain Down old.journal new.journal added) in
       record { was = before.down ∙ was; now = told.down ∙ (ap (λ (x : RegisterState). x.down) same ∙ was) }
@@ -148,7 +148,7 @@ module _ (may : ℕ → Entry → Type 0) (floor : List Entry → ℕ → Type 0
       λ d. omega (arith, k)
 
   -- what a register that is down gave last is found in the journal
-  pub found : (v : ℕ) (c : Chain) (f : FabricView) → f.register.down ≡ true → Opened f → (v, c) ≡ given_last f.journal → IsLegal may floor shelf f.journal → HasRegisterRun f.journal f.register
+  pub found : (v : ℕ) (c : Chain) (f : FabricView) → f.register.down ≡ true → Opened f → (v, c) ≡ given_last f.journal → IsLegal law f.journal → HasRegisterRun f.journal f.register
       → IsRegisterAsTold (state_of f.journal).register f.register → IsLast (record { version = v; chain = c; down = true }) f
   found v c f down failed given legal ran told =
       let k = knows_last f.journal in

@@ -82,7 +82,7 @@ fn ask<L: Loglet, R: Register, P: Rules>(
     fabric: &mut Fabric<L, R, P>,
     who: u32,
 ) -> Result<Option<LastChain>, AllocError>
-    ensures legal { IsLegal P.may P.floor P.shelf fabric.new.journal }
+    ensures legal { IsLegal P.law fabric.new.journal }
     ensures watches { Watches who fabric.old.journal fabric.new.journal }
     ensures makes { OnOk result (Makes who FabricCall.ReadChain fabric.old.journal fabric.new.journal) }
     ensures asked { IfOk result (λ last. Asked fabric.old last fabric.new) }
@@ -108,7 +108,7 @@ fn reopen<L: Loglet, R: Register, P: Rules>(
     fabric: &mut Fabric<L, R, P>,
     who: u32,
 ) -> Result<(), AllocError>
-    ensures legal { IsLegal P.may P.floor P.shelf fabric.new.journal }
+    ensures legal { IsLegal P.law fabric.new.journal }
     ensures watches { Watches who fabric.old.journal fabric.new.journal }
     ensures makes { OnOk result (Makes who (FabricCall.MendMeta 0) fabric.old.journal fabric.new.journal) }
     ensures opened { OnOk result (Opened fabric.new) }
@@ -129,7 +129,7 @@ pub fn open_if_down<L: Loglet, R: Register, P: Rules>(
     fabric: &mut Fabric<L, R, P>,
     who: u32,
 ) -> Result<(), AllocError>
-    ensures legal { IsLegal P.may P.floor P.shelf fabric.new.journal }
+    ensures legal { IsLegal P.law fabric.new.journal }
     ensures watches { Watches who fabric.old.journal fabric.new.journal }
     ensures opens { OnOk result (OpensOnce fabric.old fabric.new) }
 {
@@ -162,7 +162,7 @@ fn read<L: Loglet, R: Register, P: Rules>(
     who: u32,
     fabric: &mut Fabric<L, R, P>,
 ) -> Result<LastChain, AllocError>
-    ensures legal { IsLegal P.may P.floor P.shelf fabric.new.journal }
+    ensures legal { IsLegal P.law fabric.new.journal }
     ensures watches { Watches who fabric.old.journal fabric.new.journal }
     ensures asks { OnOk result (AsksOnce fabric.old.journal fabric.new.journal) }
     ensures last { IfOk result (λ last. IsLast last fabric.new) }
@@ -186,7 +186,7 @@ pub fn read_last<L: Loglet, R: Register, P: Rules>(
     who: u32,
     fabric: Fabric<L, R, P>,
 ) -> Last<L, R, P>
-    ensures legal { IsLegal P.may P.floor P.shelf result.fabric.journal }
+    ensures legal { IsLegal P.law result.fabric.journal }
     ensures since { OwnSince who fabric.journal result.fabric.journal }
 
     // What the journal tells of the loglets stays.

@@ -4,6 +4,7 @@ use Rattle.std.specs.Prelude.{slice_get, ◌==◌, nat_lt}
 use Rattle.std.proofs.lemmas.Bool.Decides.{nat_tests}
 use Rattle.delos_types.specs.declared.entry.Entry.{Entry}
 use Rattle.delos_types.specs.declared.chain.Segment.{Segment}
+use Rattle.legal_journal.specs.Law.{Law}
 use Rattle.legal_journal.specs.declared.events.Event.{Event}
 use Rattle.chain_map.specs.Chain.{last_of_segments, no_segment, first_chain}
 use Rattle.legal_journal.specs.Shown.{entry_in, end_of, is_within}
@@ -86,38 +87,38 @@ start_ok cells h most = record {
   was_shown = λ pos e k. absurd (cc);
 }
 
-pub legal_ok : (may : ℕ → Entry → Type 0) (floor : List Entry → ℕ → Type 0) (shelf : List ℕ) (w : State) (es : List Event) → StateOk (length shelf) w → IsLegalFrom w may floor shelf es → StateOk (length shelf) (after_all w es) × Continues w (after_all w es)
-legal_ok may floor shelf w [] ok h = (ok, continues_refl w)
-legal_ok may floor shelf w (e ∷ es) ok h =
-    let one = step_ok may floor (length shelf) w e.who (move e) ok h.0.allowed in
-    let all = legal_ok may floor shelf (after w e.who (move e)) es one.0 h.1 in
+pub legal_ok : (law : Law) (w : State) (es : List Event) → StateOk (length law.shelf) w → IsLegalFrom w law es → StateOk (length law.shelf) (after_all w es) × Continues w (after_all w es)
+legal_ok law w [] ok h = (ok, continues_refl w)
+legal_ok law w (e ∷ es) ok h =
+    let one = step_ok law w e.who (move e) ok h.0.allowed in
+    let all = legal_ok law (after w e.who (move e)) es one.0 h.1 in
     (all.0, continues_trans w (after w e.who (move e)) (after_all (after w e.who (move e)) es) one.1 all.1)
 
 pub after_all-append : (w : State) (xs ys : List Event) → after_all w (xs ++ ys) ≡ after_all (after_all w xs) ys
 after_all-append w [] ys = refl
 after_all-append w (x ∷ xs) ys = after_all-append (after w x.who (move x)) xs ys
 
-pub IsLegalFrom-split : (may : ℕ → Entry → Type 0) (floor : List Entry → ℕ → Type 0) (shelf : List ℕ) (w : State) (xs ys : List Event) → IsLegalFrom w may floor shelf (xs ++ ys) → IsLegalFrom w may floor shelf xs × IsLegalFrom (after_all w xs) may floor shelf ys
-IsLegalFrom-split may floor shelf w [] ys h = (tt, h)
-IsLegalFrom-split may floor shelf w (x ∷ xs) ys h =
-    let r = IsLegalFrom-split may floor shelf (after w x.who (move x)) xs ys h.1 in ((h.0, r.0), r.1)
+pub IsLegalFrom-split : (law : Law) (w : State) (xs ys : List Event) → IsLegalFrom w law (xs ++ ys) → IsLegalFrom w law xs × IsLegalFrom (after_all w xs) law ys
+IsLegalFrom-split law w [] ys h = (tt, h)
+IsLegalFrom-split law w (x ∷ xs) ys h =
+    let r = IsLegalFrom-split law (after w x.who (move x)) xs ys h.1 in ((h.0, r.0), r.1)
 
-pub IsLegalFrom-join : (may : ℕ → Entry → Type 0) (floor : List Entry → ℕ → Type 0) (shelf : List ℕ) (w : State) (xs ys : List Event) → IsLegalFrom w may floor shelf xs → IsLegalFrom (after_all w xs) may floor shelf ys → IsLegalFrom w may floor shelf (xs ++ ys)
-IsLegalFrom-join may floor shelf w [] ys h k = k
-IsLegalFrom-join may floor shelf w (x ∷ xs) ys h k = (h.0, IsLegalFrom-join may floor shelf (after w x.who (move x)) xs ys h.1 k)
+pub IsLegalFrom-join : (law : Law) (w : State) (xs ys : List Event) → IsLegalFrom w law xs → IsLegalFrom (after_all w xs) law ys → IsLegalFrom w law (xs ++ ys)
+IsLegalFrom-join law w [] ys h k = k
+IsLegalFrom-join law w (x ∷ xs) ys h k = (h.0, IsLegalFrom-join law (after w x.who (move x)) xs ys h.1 k)
 
-pub sound : (may : ℕ → Entry → Type 0) (floor : List Entry → ℕ → Type 0) (shelf : List ℕ) (es : List Event) → IsLegal may floor shelf es → StateOk (length shelf) (state_of es)
-sound may floor shelf es h = (legal_ok may floor shelf start es (start_ok (length shelf) h.least h.most) h.steps).0
+pub sound : (law : Law) (es : List Event) → IsLegal law es → StateOk (length law.shelf) (state_of es)
+sound law es h = (legal_ok law start es (start_ok (length law.shelf) h.least h.most) h.steps).0
 
-pub legal_front : (may : ℕ → Entry → Type 0) (floor : List Entry → ℕ → Type 0) (shelf : List ℕ) (xs ys : List Event) → IsLegal may floor shelf (xs ++ ys) → IsLegal may floor shelf xs
-legal_front may floor shelf xs ys h = record { least = h.least; most = h.most; steps = (IsLegalFrom-split may floor shelf start xs ys h.steps).0 }
+pub legal_front : (law : Law) (xs ys : List Event) → IsLegal law (xs ++ ys) → IsLegal law xs
+legal_front law xs ys h = record { least = h.least; most = h.most; steps = (IsLegalFrom-split law start xs ys h.steps).0 }
 
 -- The log goes on from any moment of a legal journal to any later one.
-pub goes_on : (may : ℕ → Entry → Type 0) (floor : List Entry → ℕ → Type 0) (shelf : List ℕ) (xs ys : List Event) → IsLegal may floor shelf (xs ++ ys) → Continues (state_of xs) (state_of (xs ++ ys))
-goes_on may floor shelf xs ys h =
-    let parts = IsLegalFrom-split may floor shelf start xs ys h.steps in
-    let ok = sound may floor shelf xs (legal_front may floor shelf xs ys h) in
-    subst (λ (w : State). Continues (state_of xs) w) (sym (after_all-append start xs ys)) (legal_ok may floor shelf (state_of xs) ys ok parts.1).1
+pub goes_on : (law : Law) (xs ys : List Event) → IsLegal law (xs ++ ys) → Continues (state_of xs) (state_of (xs ++ ys))
+goes_on law xs ys h =
+    let parts = IsLegalFrom-split law start xs ys h.steps in
+    let ok = sound law xs (legal_front law xs ys h) in
+    subst (λ (w : State). Continues (state_of xs) w) (sym (after_all-append start xs ys)) (legal_ok law (state_of xs) ys ok parts.1).1
 
 pub agrees : (a b : State) (pos : ℕ) (e f : Entry) → Continues a b → log_at a pos ≡ Some e → log_at b pos ≡ Some f → e ≡ f
 agrees a b pos e f c h k =

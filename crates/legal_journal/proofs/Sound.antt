@@ -1,5 +1,5 @@
 -- What holds after every legal journal, and how one allowed move goes on from there.
-use Rattle.std.proofs.Common.{◌≡◌, ◌≢◌, ◌⊎◌, inl, inr, ℕ, ◌+◌, ◌*◌, ◌<◌, ◌≤◌, ◌^◌, List, [], ◌∷◌, ◌++◌, Option, Some, None, Bool, true, false, cond, refl, sym, ap, ◌∙◌, subst, ⊎_elim, arith}
+use Rattle.std.proofs.Common.{◌≡◌, ◌≢◌, ◌⊎◌, inl, inr, ℕ, ◌+◌, ◌*◌, ◌<◌, ◌≤◌, ◌^◌, List, [], ◌∷◌, ◌++◌, Option, Some, None, Bool, true, false, cond, refl, sym, ap, ◌∙◌, subst, ⊎_elim, arith, length}
 use Rattle.std.specs.Prelude.{◌==◌, nat_lt, Contains, not}
 use Rattle.std.proofs.lemmas.Bool.Decides.{nat_tests}
 use Rattle.delos_types.specs.declared.entry.Entry.{Entry}
@@ -7,6 +7,7 @@ use Rattle.delos_types.specs.declared.chain.Segment.{Segment}
 use Rattle.delos_types.specs.declared.chain.Chain.{Chain}
 use Rattle.chain_map.specs.Chain.{last_of_segments}
 use Rattle.chain_map.specs.Step.{extended_segments}
+use Rattle.legal_journal.specs.Law.{Law}
 use Rattle.legal_journal.specs.Shown.{entry_of, entry_in, end_of}
 use Rattle.legal_journal.specs.Told.{put, cut_begun}
 use Rattle.legal_journal.specs.Journal.{CellState, RegisterState, State, make, answered_by, log_of, log_at, trim_of, tail_of, last_segment, reach, entries, ends, now_or_before, Extends, Raises, known, register_after, cell_after, after, start, IsCurrent, MayFollow, CellAllowed, RegisterAllowed, IsAllowed}
@@ -602,19 +603,19 @@ continues_refl w = record {
 }
 
 -- Each allowed move keeps what holds, and the log goes on.
-pub step_ok : (may : ℕ → Entry → Type 0) (floor : List Entry → ℕ → Type 0) (cells : ℕ) (w : State) (who : ℕ) (m : Move) → StateOk cells w → IsAllowed w may floor cells who m → StateOk cells (after w who m) × Continues w (after w who m)
-step_ok may floor cells w who (OnCell i m) ok a =
+pub step_ok : (law : Law) (w : State) (who : ℕ) (m : Move) → StateOk (length law.shelf) w → IsAllowed w law who m → StateOk (length law.shelf) (after w who m) × Continues w (after w who m)
+step_ok law w who (OnCell i m) ok a =
     let new = cell_after who (w.cells i) m in
-    cells_ok cells w (put w.cells i new) ok
+    cells_ok (length law.shelf) w (put w.cells i new) ok
     (λ j. put_cases (λ (x : CellState). CellOk x × Goes (w.cells j) x) w.cells i new j
-    (λ e. subst (λ k. CellOk new × Goes (w.cells k) new) (sym e) (move_ok cells w ok may who i m a))
+    (λ e. subst (λ k. CellOk new × Goes (w.cells k) new) (sym e) (move_ok (length law.shelf) w ok law.may who i m a))
     (λ _. (ok.cell j, goes_refl (w.cells j))))
-    (λ j. put_cases (λ (x : CellState). 0 < x.told.seals → j + 1 < cells) w.cells i new j
-    (λ e h. let far = seals_of cells w ok may who i m a h in omega arith)
+    (λ j. put_cases (λ (x : CellState). 0 < x.told.seals → j + 1 < length law.shelf) w.cells i new j
+    (λ e h. let far = seals_of (length law.shelf) w ok law.may who i m a h in omega arith)
     (λ _ h. ok.spare j h))
     (λ j. put_cases (λ (x : CellState). CutBelow w.starts (trim_of w) j x.told.cut) w.cells i new j
-    (λ e. subst (λ k. CutBelow w.starts (trim_of w) k new.told.cut) (sym e) (cuts_of cells w ok may who i m a))
+    (λ e. subst (λ k. CutBelow w.starts (trim_of w) k new.told.cut) (sym e) (cuts_of (length law.shelf) w ok law.may who i m a))
     (λ _. ok.cuts j))
-step_ok may floor cells w who (OnRegister m) ok a = turns_ok cells w ok floor who m a
-step_ok may floor cells w who Nothing ok a = (ok, continues_refl w)
-step_ok may floor cells w who Never ok a = absurd a
+step_ok law w who (OnRegister m) ok a = turns_ok (length law.shelf) w ok law.floor who m a
+step_ok law w who Nothing ok a = (ok, continues_refl w)
+step_ok law w who Never ok a = absurd a

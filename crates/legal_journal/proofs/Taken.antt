@@ -1,6 +1,7 @@
 -- What a turn brings.
 use Rattle.std.proofs.Common.{◌≡◌, ◌≢◌, ℕ, List, [], ◌∷◌, ◌++◌, length, Some, None, refl, sym, ap, ◌∙◌, subst, arith}
 use Rattle.delos_types.specs.declared.entry.Entry.{Entry}
+use Rattle.legal_journal.specs.Law.{Law}
 use Rattle.legal_journal.specs.Told.{Running}
 use Rattle.legal_journal.specs.declared.events.Event.{Event}
 use Rattle.legal_journal.specs.Moves.{CellMove, Begins, Carries, Answers, Drops, Misses, Move, OnCell, OnRegister, Nothing, Never, move}
@@ -44,48 +45,48 @@ module _ (w : State) (may : ℕ → Entry → Type 0) (cells who by j t : ℕ) (
   }
   own_move (Misses u) a = record { own = own; carried = refl }
 
-own_step : (w : State) (may : ℕ → Entry → Type 0) (floor : List Entry → ℕ → Type 0) (cells who by i t : ℕ) (r : Running) (m : Move) → by ≢ who → StateOk cells w → IsOwn (w.cells i) who t r → IsAllowed w may floor cells by m → Keeps ((after w by m).cells i) who t ((w.cells i).carried t) r
-own_step w may floor cells who by i t r (OnCell j m) apart ok own a =
+own_step : (w : State) (law : Law) (who by i t : ℕ) (r : Running) (m : Move) → by ≢ who → StateOk (length law.shelf) w → IsOwn (w.cells i) who t r → IsAllowed w law by m → Keeps ((after w by m).cells i) who t ((w.cells i).carried t) r
+own_step w law who by i t r (OnCell j m) apart ok own a =
     put_cases (λ (c : CellState). Keeps c who t ((w.cells i).carried t) r) w.cells j (cell_after by (w.cells j) m) i
     (λ e. let at : IsOwn (w.cells j) who t r = subst (λ k. IsOwn (w.cells k) who t r) e own in
-    subst (λ k. Keeps (cell_after by (w.cells j) m) who t ((w.cells k).carried t) r) (sym e) (own_move w may cells who by j t r apart (ok.cell j) at m a))
+    subst (λ k. Keeps (cell_after by (w.cells j) m) who t ((w.cells k).carried t) r) (sym e) (own_move w law.may (length law.shelf) who by j t r apart (ok.cell j) at m a))
     (λ _. record { own = own; carried = refl })
-own_step w may floor cells who by i t r (OnRegister m) apart ok own a = record { own = own; carried = refl }
-own_step w may floor cells who by i t r Nothing apart ok own a = record { own = own; carried = refl }
-own_step w may floor cells who by i t r Never apart ok own a = absurd a
+own_step w law who by i t r (OnRegister m) apart ok own a = record { own = own; carried = refl }
+own_step w law who by i t r Nothing apart ok own a = record { own = own; carried = refl }
+own_step w law who by i t r Never apart ok own a = absurd a
 
 -- events of others leave an own ticket open, and don't count
-pub own_stays : (w : State) (may : ℕ → Entry → Type 0) (floor : List Entry → ℕ → Type 0) (shelf : List ℕ) (who i t : ℕ) (r : Running) (es : List Event) → AreOthers who es → StateOk (length shelf) w → IsLegalFrom w may floor shelf es → IsOwn (w.cells i) who t r → Keeps ((after_all w es).cells i) who t ((w.cells i).carried t) r
-own_stays w may floor shelf who i t r [] apart ok legal own = record { own = own; carried = refl }
-own_stays w may floor shelf who i t r (e ∷ es) apart ok legal own =
-    let one = own_step w may floor (length shelf) who e.who i t r (move e) apart.0 ok own legal.0.allowed in
-    let rest = own_stays (after w e.who (move e)) may floor shelf who i t r es apart.1 (step_ok may floor (length shelf) w e.who (move e) ok legal.0.allowed).0 legal.1 one.own in
+pub own_stays : (w : State) (law : Law) (who i t : ℕ) (r : Running) (es : List Event) → AreOthers who es → StateOk (length law.shelf) w → IsLegalFrom w law es → IsOwn (w.cells i) who t r → Keeps ((after_all w es).cells i) who t ((w.cells i).carried t) r
+own_stays w law who i t r [] apart ok legal own = record { own = own; carried = refl }
+own_stays w law who i t r (e ∷ es) apart ok legal own =
+    let one = own_step w law who e.who i t r (move e) apart.0 ok own legal.0.allowed in
+    let rest = own_stays (after w e.who (move e)) law who i t r es apart.1 (step_ok law w e.who (move e) ok legal.0.allowed).0 legal.1 one.own in
     record { own = rest.own; carried = rest.carried ∙ one.carried }
 
 -- a turn with one own event: the moment before it, and what the event does there
-pub record Took (may : ℕ → Entry → Type 0) (floor : List Entry → ℕ → Type 0) (shelf : List ℕ) (old others : List Event) (e : Event) (new : List Event) : Type 0 where
-  pub ok : StateOk (length shelf) (state_of (old ++ others))
+pub record Took (law : Law) (old others : List Event) (e : Event) (new : List Event) : Type 0 where
+  pub ok : StateOk (length law.shelf) (state_of (old ++ others))
   pub before : Continues (state_of old) (state_of (old ++ others))
-  pub legal_others : IsLegalFrom (state_of old) may floor shelf others
-  pub allowed : IsAllowed (state_of (old ++ others)) may floor (length shelf) e.who (move e)
+  pub legal_others : IsLegalFrom (state_of old) law others
+  pub allowed : IsAllowed (state_of (old ++ others)) law e.who (move e)
   pub now : state_of new ≡ after (state_of (old ++ others)) e.who (move e)
-  pub now_ok : StateOk (length shelf) (state_of new)
+  pub now_ok : StateOk (length law.shelf) (state_of new)
   pub goes : Continues (state_of (old ++ others)) (state_of new)
 
-pub took : (may : ℕ → Entry → Type 0) (floor : List Entry → ℕ → Type 0) (shelf : List ℕ) (old others : List Event) (e : Event) (new : List Event) → IsLegal may floor shelf new → new ≡ (old ++ others) ++ e ∷ [] → Took may floor shelf old others e new
-took may floor shelf old others e new legal is =
-    let whole : IsLegal may floor shelf ((old ++ others) ++ e ∷ []) = subst (IsLegal may floor shelf) is legal in
-    let front = legal_front may floor shelf (old ++ others) (e ∷ []) whole in
-    let parts = IsLegalFrom-split may floor shelf start (old ++ others) (e ∷ []) whole.steps in
+pub took : (law : Law) (old others : List Event) (e : Event) (new : List Event) → IsLegal law new → new ≡ (old ++ others) ++ e ∷ [] → Took law old others e new
+took law old others e new legal is =
+    let whole : IsLegal law ((old ++ others) ++ e ∷ []) = subst (IsLegal law) is legal in
+    let front = legal_front law (old ++ others) (e ∷ []) whole in
+    let parts = IsLegalFrom-split law start (old ++ others) (e ∷ []) whole.steps in
     let w = state_of (old ++ others) in
     let now : state_of new ≡ after w e.who (move e) = ap state_of is ∙ after_all-append start (old ++ others) (e ∷ []) in
-    let ok = sound may floor shelf (old ++ others) front in
-    let step = step_ok may floor (length shelf) w e.who (move e) ok parts.1.0.allowed in record {
+    let ok = sound law (old ++ others) front in
+    let step = step_ok law w e.who (move e) ok parts.1.0.allowed in record {
       ok = ok;
-      before = goes_on may floor shelf old others front;
-      legal_others = (IsLegalFrom-split may floor shelf start old others front.steps).1;
+      before = goes_on law old others front;
+      legal_others = (IsLegalFrom-split law start old others front.steps).1;
       allowed = parts.1.0.allowed;
       now = now;
-      now_ok = subst (StateOk (length shelf)) (sym now) step.0;
+      now_ok = subst (StateOk (length law.shelf)) (sym now) step.0;
       goes = subst (λ (x : State). Continues w x) (sym now) step.1;
     }

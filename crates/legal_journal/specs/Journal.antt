@@ -14,6 +14,7 @@ use Rattle.loglet_api.specs.Step.{entries_of}
 use Rattle.legal_journal.specs.declared.events.FabricCall.{FabricCall}
 use Rattle.legal_journal.specs.declared.events.FabricCall.TheVariants.{Begin, Carry, Forget, ReadChain, WriteChain, Stop, Mend, Stray, StopMeta, MendMeta}
 use Rattle.legal_journal.specs.declared.events.Event.{Event}
+use Rattle.legal_journal.specs.Law.{Law}
 use Rattle.legal_journal.specs.Told.{Told, Running, put, untold, begun, answered, forgotten, size_of, MayAnswer}
 use Rattle.legal_journal.specs.Shown.{end_of, entry_of}
 use Rattle.legal_journal.specs.Moves.{CellMove, Begins, Carries, Answers, Drops, Misses, RegisterMove, Gives, Conflicts, Writes, Faults, Fails, Mends, Move, OnCell, OnRegister, Nothing, Never, move}
@@ -267,11 +268,11 @@ RegisterAllowed w floor cells (Faults x c) =
 RegisterAllowed w floor cells Fails = w.register.down ≡ true
 RegisterAllowed w floor cells (Mends b) = Unit {0}
 
-abbrev pub IsAllowed : State → (ℕ → Entry → Type 0) → (List Entry → ℕ → Type 0) → ℕ → ℕ → Move → Type 0
-IsAllowed w may floor cells who (OnCell i m) = CellAllowed w may cells who i m
-IsAllowed w may floor cells who (OnRegister m) = RegisterAllowed w floor cells m
-IsAllowed w may floor cells who Nothing = Unit {0}
-IsAllowed w may floor cells who Never = ⊥
+abbrev pub IsAllowed : State → Law → ℕ → Move → Type 0
+IsAllowed w law who (OnCell i m) = CellAllowed w law.may (length law.shelf) who i m
+IsAllowed w law who (OnRegister m) = RegisterAllowed w law.floor (length law.shelf) m
+IsAllowed w law who Nothing = Unit {0}
+IsAllowed w law who Never = ⊥
 
 -- the cell has this server
 abbrev pub HasServer : List ℕ → ℕ → ℕ → Type 0
@@ -291,18 +292,17 @@ Exists shelf (StopMeta n) = Unit {0}
 Exists shelf (MendMeta word) = Unit {0}
 
 -- the event may follow
-pub record MayHappen (w : State) (may : ℕ → Entry → Type 0) (floor : List Entry → ℕ → Type 0) (shelf : List ℕ) (e : Event) : Type 0 where
-  pub there : Exists shelf e.call
-  pub allowed : IsAllowed w may floor (length shelf) e.who (move e)
+pub record MayHappen (w : State) (law : Law) (e : Event) : Type 0 where
+  pub there : Exists law.shelf e.call
+  pub allowed : IsAllowed w law e.who (move e)
 
 -- each event may follow those before it
-abbrev pub IsLegalFrom : State → (ℕ → Entry → Type 0) → (List Entry → ℕ → Type 0) → List ℕ → List Event → Type 0
-IsLegalFrom w may floor shelf [] = Unit {0}
-IsLegalFrom w may floor shelf (e ∷ es) =
-    MayHappen w may floor shelf e × IsLegalFrom (after w e.who (move e)) may floor shelf es
+abbrev pub IsLegalFrom : State → Law → List Event → Type 0
+IsLegalFrom w law [] = Unit {0}
+IsLegalFrom w law (e ∷ es) = MayHappen w law e × IsLegalFrom (after w e.who (move e)) law es
 
 -- a journal over a shelf of 1 to 64 cells, each event of which may follow those before it
-pub record IsLegal (may : ℕ → Entry → Type 0) (floor : List Entry → ℕ → Type 0) (shelf : List ℕ) (es : List Event) : Type 0 where
-  pub least : 0 < length shelf
-  pub most : length shelf ≤ 64
-  pub steps : IsLegalFrom start may floor shelf es
+pub record IsLegal (law : Law) (es : List Event) : Type 0 where
+  pub least : 0 < length law.shelf
+  pub most : length law.shelf ≤ 64
+  pub steps : IsLegalFrom start law es

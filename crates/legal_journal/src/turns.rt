@@ -19,10 +19,10 @@ pub trait Turns {
 
     /// Makes one event, after any of others. `Memory` makes none, but as `FabricAnswer` says.
     fn turn(&mut self, call: FabricCall) -> FabricAnswer
-        requires may { MayTurn Self.Law.may Self.Law.floor Self.Law.shelf (who self.old) (seen self.old) call }
+        requires may { MayTurn Self.Law.law (who self.old) (seen self.old) call }
 
         // A Seal is begun by those alone who have the right to.
         requires right { HasRight Self.Law.seals (who self.old) call }
-        ensures turn { IsTurn Self.Law.may Self.Law.floor Self.Law.shelf (who self.old) (seen self.old) call result (seen self.new) }
+        ensures turn { IsTurn Self.Law.law (who self.old) (seen self.old) call result (seen self.new) }
         ensures who { who self.new ≡ who self.old };
 }

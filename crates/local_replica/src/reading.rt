@@ -13,15 +13,11 @@ use local_store::Store;
 use std::alloc::{AllocError, Global};
 
 /// The last rank of a session that acted, 0 where none did.
-pub(crate) fn last_rank<D: Disk>(
-    alloc: Global,
-    store: &Store<D>,
-    session: SessionId,
-) -> Result<u64, AllocError>
+pub(crate) fn last_rank<D: Disk>(store: &Store<D>, session: SessionId) -> Result<u64, AllocError>
     ensures { IfOk result (λ rank. rank ≡ layout.last_of store.now.contents session) }
 {
     let txn = store.begin()?;
-    let rank = layout::last_rank(alloc, &txn, session)?;
+    let rank = layout::last_rank(&txn, session)?;
     Ok(rank)
 }
 

@@ -76,6 +76,8 @@ impl<E: Layers, D: Disk> Replica for LocalReplica<E, D> {
 
     ghost state = { IsStateOf };
 
+    ghost state_is = { λ log m h. h };
+
     fn cursor(&self) -> u64 {
         self.store.cursor()
     }
@@ -113,7 +115,7 @@ impl<E: Layers, D: Disk> Replica for LocalReplica<E, D> {
     }
 
     fn last_rank(&self, session: SessionId) -> Result<u64, AllocError> {
-        reading::last_rank(self.alloc, &self.store, session)
+        reading::last_rank(&self.store, session)
     }
 
     fn reply_of(&self, session: SessionId, rank: Rank) -> Result<Option<Kept>, AllocError> {

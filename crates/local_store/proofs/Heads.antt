@@ -1,10 +1,11 @@
 -- Texts whose first eight bytes spell different numbers are in the order of these.
-use Rattle.std.proofs.Common.{◌≡◌, ℕ, zero, suc, ◌+◌, ◌*◌, ◌^◌, ◌<◌, ◌≤◌, List, [], ◌∷◌, refl, ap, ◌∙◌, arith, lit<, mul-le-mul_right, pow-suc}
+use Rattle.std.proofs.Common.{◌≡◌, ℕ, zero, suc, ◌+◌, ◌*◌, ◌^◌, ◌<◌, ◌≤◌, List, [], ◌∷◌, length, refl, sym, ap, ◌∙◌, arith, lit<, mul-le-mul_right, pow-suc}
 use Rattle.std.proofs.lemmas.Cmp.{by_ranked, ranked}
+use Rattle.std.specs.Cmp.{nat_cmp_is}
 use Rattle.std.specs.Cmp.Lexicographic.{slice_cmp, nat_list_cmp_total}
 use Rattle.std.specs.Ordering.{nat_cmp, ordering_then, ordering_reverse}
 use Rattle.std.specs.declared.cmp.Ordering.{Ordering}
-use Rattle.std.specs.declared.cmp.Ordering.TheVariants.{Less, Greater}
+use Rattle.std.specs.declared.cmp.Ordering.TheVariants.{Less, Equal, Greater}
 use Rattle.delos_types.specs.Numbers.{IsBytes, u64_of}
 use Rattle.local_store.specs.Heads.{HasHead}
 
@@ -60,6 +61,43 @@ less_heads (suc n) (x ∷ a) (y ∷ b) s t h =
     let rest : head n a < head n b = omega (arith, h, same) in
     ap (λ (o : Ordering). ordering_then o (slice_cmp nat_cmp a b)) is ∙ less_heads n a b (λ i. s (suc i)) (λ i. t (suc i)) rest)
     (λ is gt. absurd (above x y (256 ^ n) (head n a) (head n b) gt (head_small n b (λ i. t (suc i))) h))
+
+-- ---- texts with the same number
+
+less_or_not : (x y p h k : ℕ) → y < x → k < p → x * p + h ≡ y * p + k → ⊥
+less_or_not x y p h k lt small same =
+    let next : y + 1 ≤ x = omega (arith, lt) in
+    let far : (y + 1) * p ≤ x * p = mul-le-mul_right p next in
+    omega (arith, far, small, same)
+
+nat_cmp-suc : (m k : ℕ) → nat_cmp m k ≡ nat_cmp (suc m) (suc k)
+nat_cmp-suc m k =
+    by_ranked (m < k) (m ≡ k) (k < m) (nat_cmp m k) (ranked m k (nat_cmp m k) refl)
+    (λ is lt. is ∙ nat_cmp_is (suc m) (suc k) Less (omega (arith, lt)))
+    (λ is eq. is ∙ nat_cmp_is (suc m) (suc k) Equal (ap suc eq))
+    (λ is gt. is ∙ nat_cmp_is (suc m) (suc k) Greater (omega (arith, gt)))
+
+-- of at most n bytes: the shorter one is the lesser, since what it lacks are zeros
+same_heads : (n : ℕ) (a b : List ℕ) → IsBytes a → IsBytes b → head n a ≡ head n b → length a ≤ n → length b ≤ n → slice_cmp nat_cmp a b ≡ nat_cmp (length a) (length b)
+same_heads n [] [] s t h la lb = refl
+same_heads n [] (y ∷ b) s t h la lb = nat_cmp_is zero (suc (length b)) Less (omega arith)
+same_heads n (x ∷ a) [] s t h la lb = nat_cmp_is (suc (length a)) zero Greater (omega arith)
+same_heads zero (x ∷ a) (y ∷ b) s t h la lb = absurd (omega (arith, la))
+same_heads (suc n) (x ∷ a) (y ∷ b) s t h la lb =
+    by_ranked (x < y) (x ≡ y) (y < x) (nat_cmp x y) (ranked x y (nat_cmp x y) refl)
+    (λ is lt. absurd (less_or_not y x (256 ^ n) (head n b) (head n a) lt (head_small n a (λ i. s (suc i))) (sym h)))
+    (λ is eq.
+    let same : x * 256 ^ n ≡ y * 256 ^ n = ap (λ (k : ℕ). k * 256 ^ n) eq in
+    let rest : head n a ≡ head n b = omega (arith, h, same) in
+    let short : length a ≤ n = omega (arith, la) in
+    let other : length b ≤ n = omega (arith, lb) in
+    ap (λ (o : Ordering). ordering_then o (slice_cmp nat_cmp a b)) is ∙ same_heads n a b (λ i. s (suc i)) (λ i. t (suc i)) rest short other ∙ nat_cmp-suc (length a) (length b))
+    (λ is gt. absurd (less_or_not x y (256 ^ n) (head n a) (head n b) gt (head_small n b (λ i. t (suc i))) h))
+
+pub by_length : (a b : List ℕ) → IsBytes a → IsBytes b → u64_of a ≡ u64_of b → length a ≤ 8 → length b ≤ 8 → slice_cmp nat_cmp a b ≡ nat_cmp (length a) (length b)
+by_length a b s t same la lb = same_heads 8 a b s t (sym (u64_head a) ∙ same ∙ u64_head b) la lb
+
+-- ---- keys by their heads
 
 pub less_by_head : (a b : List ℕ) (m k : ℕ) → HasHead m a → HasHead k b → m < k → slice_cmp nat_cmp a b ≡ Less
 less_by_head a b m k first second lt =

@@ -1,5 +1,5 @@
 //! A space in memory, which a store changes and its transactions share.
-ghost use Rattle.std.specs.Prelude.{◌≡◌, ◌<◌, ◌^◌, length, [], false, OnOk, OnErr, IsSome, None};
+ghost use Rattle.std.specs.Prelude.{◌≡◌, ◌<◌, ◌^◌, if◌then◌else◌, length, [], false, OnOk, OnErr, IsSome, None};
 ghost use Rattle.std.specs.Option.{option_copied};
 ghost use Rattle.std.specs.List.{AllByRecursion};
 ghost use Rattle.std.specs.BTreeMap.{is_at};
@@ -130,9 +130,32 @@ impl Base {
         ensures short { AreShort self.new.slots.entries }
     {
         for (key, value) in changes {
-            let Ok(()) = self.set(key, value) else {
-                unreachable!()
-            };
+            self.assign(&key, value);
         }
+    }
+
+    /// A key that has a slot gets the value, or is removed, which takes no memory. Other keys keep their slots.
+    fn assign(&mut self, key: &SpaceKey, value: Option<Bytes>)
+        requires room { IsSome (slot_of self.old.slots.entries key.now) }
+        requires old { AreShort self.old.slots.entries }
+        ensures assigned { held self.new.slots.entries ≡ set_at (held self.old.slots.entries) (key_pair key.now) value }
+        ensures others { (q : SpaceKey) → is_at (key_cmp key.now) q ≡ false → slot_of self.new.slots.entries q ≡ slot_of self.old.slots.entries q }
+        ensures short { AreShort self.new.slots.entries }
+    {
+        let Some(value) = value else {
+            let _ = self.slots.remove(key);
+            return;
+        };
+        fill(&mut self.slots, key, value);
+    }
+}
+
+/// The slot of a key gets a value.
+fn fill(slots: &mut Slots, key: &SpaceKey, value: Bytes)
+    requires { IsSome (slot_of slots.old.entries key.now) }
+    ensures { (q : SpaceKey) → slot_of slots.new.entries q ≡ (if is_at (key_cmp key.now) q then Some (Some value) else slot_of slots.old.entries q) }
+{
+    if let Some(slot) = slots.get_mut(key) {
+        *slot = Some(value);
     }
 }

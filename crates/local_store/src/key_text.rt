@@ -4,12 +4,15 @@ ghost use Rattle.std.specs.Cmp.Lexicographic.{pointwise, slice_cmp, nat_list_eq_
 ghost use Rattle.std.specs.Cmp.{partial_equiv_from_equiv};
 ghost use Rattle.std.specs.Prelude.{nat_eq};
 ghost use Rattle.std.specs.Ordering.{nat_cmp};
-ghost use Rattle.delos_types.specs.Numbers.{u64_of};
+ghost use Rattle.delos_types.specs.Numbers.{u64_of, IsBytes};
 
 use smallvec::SmallVec;
 use std::alloc::{AllocError, Global};
 use std::cmp::Ordering;
 use std::marker::Model;
+
+/// How many bytes the number at the front of a key is of.
+const HEAD: usize = 8;
 
 /// The bytes of a key, ordered as texts are. A key of at most 16 bytes takes no memory beside the value, and most keys are
 /// told apart by one comparison of numbers.
@@ -89,7 +92,7 @@ impl Ord for KeyText {
 
     ghost matches_eq = { λ x y. texts_ties x y };
 
-    #[inline]
+    #[inline(always)]
     fn cmp(&self, other: &KeyText) -> Ordering {
         if self.head < other.head {
             return Ordering::Less;
@@ -97,8 +100,22 @@ impl Ord for KeyText {
         if self.head > other.head {
             return Ordering::Greater;
         }
-        self.items.as_slice().cmp(other.items.as_slice())
+        of_one_head(self.as_slice(), other.as_slice())
     }
+}
+
+/// The order of two texts whose first eight bytes spell the same number. Short ones differ in zeros at the end alone.
+#[inline(never)]
+fn of_one_head(one: &[u8], other: &[u8]) -> Ordering
+    requires heads { u64_of one.now ≡ u64_of other.now }
+    requires one_is { IsBytes one.now }
+    requires other_is { IsBytes other.now }
+    ensures { result ≡ slice_cmp nat_cmp one.now other.now }
+{
+    if one.len() <= HEAD && other.len() <= HEAD {
+        return one.len().cmp(&other.len());
+    }
+    one.cmp(other)
 }
 
 /// The first eight bytes as one number, the highest first, with zeros behind a shorter text.

@@ -2,10 +2,10 @@
 use Rattle.std.proofs.Common.{◌≡◌, ◌≢◌, ◌⊎◌, inl, inr, ℕ, List, [], ◌∷◌, ◌++◌, refl, sym, subst, arith}
 use Rattle.std.specs.List.{All, Contains}
 use Rattle.std.proofs.lemmas.List.Elements.{All-head, All-tail, All-nil, All-cons}
+use Rattle.legal_journal.specs.Law.{Law}
 use Rattle.legal_journal.specs.declared.events.FabricCall.{FabricCall}
 use Rattle.legal_journal.specs.declared.events.FabricAnswer.{FabricAnswer}
 use Rattle.legal_journal.specs.declared.events.Event.{Event}
-use Rattle.delos_types.specs.declared.entry.Entry.{Entry}
 use Rattle.legal_journal.specs.Journal.{IsLegal}
 use Rattle.legal_journal.specs.Turns.{AreOthers, OwnEvents, MayTurn, IsTurn}
 use Rattle.legal_journal.proofs.Sealing.{one_or_none}
@@ -33,10 +33,10 @@ are_others : (who : ℕ) (es : List Event) → AreBeside (λ user. user ≢ who)
 are_others who [] h = tt
 are_others who (e ∷ es) h = (h.0, are_others who es h.1)
 
-module _ (may : ℕ → Entry → Type 0) (floor : List Entry → ℕ → Type 0) (shelf : List ℕ) (who : ℕ) (old : List Event) (call : FabricCall) where
+module _ (law : Law) (who : ℕ) (old : List Event) (call : FabricCall) where
   -- beside all others, a turn may be made where one may be taken
-  pub may_take : MayTurn may floor shelf who old call → MayTake may floor shelf (λ user. user ≢ who) who old call
+  pub may_take : MayTurn law who old call → MayTake law (λ user. user ≢ who) who old call
   may_take h = record { behind = λ others between legal. h others (are_others who others between) legal }
 
-  pub is_turn : (answer : FabricAnswer) (new : List Event) → IsTaken may floor shelf (λ user. user ≢ who) who old call answer new → IsTurn may floor shelf who old call answer new
+  pub is_turn : (answer : FabricAnswer) (new : List Event) → IsTaken law (λ user. user ≢ who) who old call answer new → IsTurn law who old call answer new
   is_turn answer new t = record { others = t.others; own = t.own; apart = are_others who t.others t.between; event = t.event; seen = t.seen; legal = t.legal }

@@ -1,5 +1,5 @@
 //! The turns of one part of the lock.
-ghost use Rattle.std.specs.Prelude.{◌≡◌, ◌≢◌, ℕ, List};
+ghost use Rattle.std.specs.Prelude.{◌≡◌, ◌≢◌};
 ghost use Rattle.legal_journal.specs.declared.events.Event.{Event};
 ghost use Rattle.pass_lock.specs.Pass.{one_part, first_seen};
 

@@ -1,1 +1,3 @@
+pub mod Servers
+pub mod Compacted
 pub mod Keeping

@@ -37,5 +37,5 @@ Answers old ask DiskFault new = Stops old ask new
 Answers old ask answer new = Tells old ask answer new
 
 -- what a crash inside the call may leave: what one before it may leave, or what is held once it was answered
-abbrev pub MayFindDuring : Server → Ask → List (List ℕ) → Type 0
-MayFindDuring s ask found = MayFind s found ⊎ (server_of found ≡ Some (after_ask s ask))
+abbrev pub MayFindDuring : View → Ask → List (List ℕ) → Type 0
+MayFindDuring v ask found = MayFind v found ⊎ (server_of found ≡ Some (after_ask v.server ask))

@@ -1,53 +1,49 @@
 //! A log server over its disk.
-ghost use Rattle.std.specs.Prelude.{◌≡◌, ◌≢◌, ◌⊎◌, ◌+◌, ◌^◌, ◌<◌, ◌≤◌, ℕ, Bool, true, false, not, ◌&&◌, if◌then◌else◌, Some, None, Ok, IfOk, IfErr, OnOk, OnErr};
+ghost use Rattle.std.specs.Prelude.{◌≡◌, ◌≢◌, ◌^◌, ◌<◌, ◌≤◌, ℕ, Bool, true, false, if◌then◌else◌, Some, None, Ok, IfOk, IfErr, OnErr};
 ghost use Rattle.disk_model.specs.Disk.{DiskView, reads, IsSynced, Rose};
 ghost use Rattle.delos_types.specs.Spelling.{IsSpellable};
 ghost use Rattle.delos_types.specs.declared.entry.Entry as entry_view;
-ghost use Rattle.journal_core.specs.Records.{records_of};
-ghost use Rattle.journal_core.specs.Journal.{AnyCrashLeaves};
-ghost use Rattle.quorum_cell.specs.Servers.{length_of, is_sealed, told, told_up, told_place, writes, wrote, restarted};
-ghost use Rattle.server_records.specs.Spelled.{server_of, IsFirstBad};
+ghost use Rattle.journal_pair.specs.Records.{records_of};
+ghost use Rattle.journal_pair.specs.Journal.{AnyCrashLeaves};
+ghost use Rattle.quorum_cell.specs.Servers.{length_of, is_sealed, told, told_up, told_place, restarted};
+ghost use Rattle.server_records.specs.Spelled.{server_of};
+ghost use Rattle.kept_value.specs.View.{IsFirstBad};
 ghost use Rattle.log_server.specs.View.{View, Spares, MayFind, Survives};
 ghost use Rattle.log_server.specs.Answers.{Answers, MayFindDuring};
-ghost use Rattle.log_server.specs.Holding.{server_with, IsRecordOf, open_fault_of};
+ghost use Rattle.log_server.specs.Kind.{CanWrite, server_kind};
+ghost use Rattle.log_server.specs.Holding.{server_with};
 
-use crate::fault::{OpenFault, Refused};
 use crate::held::Held;
-use crate::replay::replay;
-use delos_types::bytes::Bytes;
 use delos_types::entry::Entry;
 use disk_model::Disk;
-use journal_core::{AppendFault, Fault, Journal, Opened};
+use kept_value::{Fault, Kept, OpenFault, Opened, Refused};
 use quorum_cell::message::{Ask, Told};
-use server_records::{sealed_record, stored_record, trimmed_record};
 use std::alloc::{AllocError, Global};
 use std::marker::Model;
 
-/// One replica of a log, over a journal on a disk.
+/// One replica of a log, kept by a journal on a disk.
 ///
 /// Contracts see it as a `View`: the server as a quorum cell has it (what it holds, whether it is up, the write inside
-/// which it stopped), and its disk. Each call answers by the server's table, the first rule that applies. After
-/// [`Told::DiskFault`] it is down, and answers [`Told::Down`], until a [`LogServer::restart`] answers true. A refusal for
-/// want of memory changes nothing that it holds.
+/// which it stopped), its disk, and whether the record of that write `stands`. Each call answers by the server's table, the
+/// first rule that applies. After [`Told::DiskFault`] it is down, and answers [`Told::Down`], until a
+/// [`LogServer::restart`] answers true. A refusal for want of memory changes nothing that it holds.
 ///
-/// Memory: each entry once, as a value. Its record stands on the disk alone.
+/// Memory: each entry from its base on once, as a value. Its record stands on the disk alone.
 #[derive(Drop)]
 pub struct LogServer<D: Disk> {
-    alloc: Global,
-    journal: Journal<D>,
+    kept: Kept<Held, D>,
     held: Held,
-    torn: Option<Ask>,
 }
 
 impl<D: Disk> Model for LogServer<D> {
     ghost use Rattle.log_server.specs.View.{View};
-    ghost use Rattle.log_server.specs.Holding.{view_of, IsKept};
+    ghost use Rattle.log_server.specs.Holding.{view_of, IsHeld};
 
     ghost Value = { View };
 
-    ghost view = { λ s. view_of s.held s.torn s.journal };
+    ghost view = { λ s. view_of s.held s.kept };
 
-    ghost invariant = { λ s. IsKept s.held s.torn s.journal };
+    ghost invariant = { λ s. IsHeld s.held s.kept };
 }
 
 impl<D: Disk> LogServer<D> {
@@ -63,31 +59,12 @@ impl<D: Disk> LogServer<D> {
         ensures faults { IfOk result (λ s. (D.view disk).faults ≤ s.disk.faults) }
 
         // The first record that is none of a server's or doesn't follow is told; a disk's fault was counted.
-        ensures bad { (index : ℕ) → IfErr result (λ e. e.fault ≡ OpenFault.BadRecord index → IsFirstBad (records_of (reads (D.view disk))) index) }
+        ensures bad { (index : ℕ) → IfErr result (λ e. e.fault ≡ OpenFault.BadRecord index → IsFirstBad server_kind (records_of (reads (D.view disk))) index) }
         ensures failed { IfErr result (λ e. e.fault ≡ OpenFault.Disk → Rose (D.view disk).faults (D.view e.disk).faults) }
         ensures any_crash_refused { IfErr result (λ e. AnyCrashLeaves (D.view disk) (D.view e.disk) (λ found. found ≡ records_of (reads (D.view disk)))) }
     {
-        let Opened { journal, records } = match Journal::open_on(alloc, disk) {
-            Ok(opened) => opened,
-            Err(refused) => {
-                return Err(Refused {
-                    fault: fault_of(refused.fault),
-                    disk: refused.disk,
-                });
-            }
-        };
-        match replay(alloc, records) {
-            Ok(held) => Ok(LogServer {
-                alloc,
-                journal,
-                held,
-                torn: None,
-            }),
-            Err(fault) => Err(Refused {
-                fault,
-                disk: journal.into_parts(),
-            }),
-        }
+        let Opened { kept, value } = Kept::open_on(alloc, disk)?;
+        Ok(LogServer { kept, held: value })
     }
 
     /// Takes an entry at a place, below 2^32, unless it is sealed.
@@ -99,7 +76,7 @@ impl<D: Disk> LogServer<D> {
         ensures answers { IfOk result (λ answer. Answers self.old (Ask.Store place entry.now) answer self.new) }
         ensures memory { OnErr result (self.new.server ≡ self.old.server) }
         ensures spared { OnErr result (Spares self.old.disk self.new.disk) }
-        ensures any_crash { AnyCrashLeaves self.old.disk self.new.disk (MayFindDuring self.old.server (Ask.Store place entry.now)) }
+        ensures any_crash { AnyCrashLeaves self.old.disk self.new.disk (MayFindDuring self.old (Ask.Store place entry.now)) }
         ensures survives { Survives self.new }
         ensures faults { self.old.disk.faults ≤ self.new.disk.faults }
     {
@@ -113,9 +90,8 @@ impl<D: Disk> LogServer<D> {
         if len != place {
             return Ok(place_told(place, len));
         }
-        let bytes = stored_record(self.alloc, place, entry)?;
         let kept = entry.clone()?;
-        self.write(Ask::Store(place, kept), &bytes, Told::Ack(len + 1))
+        self.write(Ask::Store(place, kept), Told::Ack(len + 1))
     }
 
     /// Takes no more stores from now on. Cost: constant, amortised.
@@ -123,7 +99,7 @@ impl<D: Disk> LogServer<D> {
         ensures answers { IfOk result (λ answer. Answers self.old Ask.Seal answer self.new) }
         ensures memory { OnErr result (self.new.server ≡ self.old.server) }
         ensures spared { OnErr result (Spares self.old.disk self.new.disk) }
-        ensures any_crash { AnyCrashLeaves self.old.disk self.new.disk (MayFindDuring self.old.server Ask.Seal) }
+        ensures any_crash { AnyCrashLeaves self.old.disk self.new.disk (MayFindDuring self.old Ask.Seal) }
         ensures survives { Survives self.new }
         ensures faults { self.old.disk.faults ≤ self.new.disk.faults }
     {
@@ -134,8 +110,7 @@ impl<D: Disk> LogServer<D> {
         if self.is_sealed() {
             return Ok(Told::Sealed(len));
         }
-        let bytes = sealed_record(self.alloc)?;
-        self.write(Ask::Seal, &bytes, Told::Sealed(len))
+        self.write(Ask::Seal, Told::Sealed(len))
     }
 
     /// How many entries it has or had. Takes no memory, and constant time.
@@ -163,7 +138,7 @@ impl<D: Disk> LogServer<D> {
         ensures answers { IfOk result (λ answer. Answers self.old (Ask.Repair place entry.now) answer self.new) }
         ensures memory { OnErr result (self.new.server ≡ self.old.server) }
         ensures spared { OnErr result (Spares self.old.disk self.new.disk) }
-        ensures any_crash { AnyCrashLeaves self.old.disk self.new.disk (MayFindDuring self.old.server (Ask.Repair place entry.now)) }
+        ensures any_crash { AnyCrashLeaves self.old.disk self.new.disk (MayFindDuring self.old (Ask.Repair place entry.now)) }
         ensures survives { Survives self.new }
         ensures faults { self.old.disk.faults ≤ self.new.disk.faults }
     {
@@ -177,9 +152,8 @@ impl<D: Disk> LogServer<D> {
         if place != len {
             return Ok(place_told(place, len));
         }
-        let bytes = stored_record(self.alloc, place, entry)?;
         let kept = entry.clone()?;
-        self.write(Ask::Repair(place, kept), &bytes, Told::Ack(len + 1))
+        self.write(Ask::Repair(place, kept), Told::Ack(len + 1))
     }
 
     /// The entry at a place. Cost: O(entry), which is copied.
@@ -193,15 +167,18 @@ impl<D: Disk> LogServer<D> {
         entry_told(&self.held, place)
     }
 
-    /// Lets go of the entries below a place, at most 2^32.
+    /// Lets go of the entries below a place, at most 2^32. Where the journal has more than 64 records then, it is compacted to
+    /// one for each entry that is left, behind one that says where they begin.
     ///
-    /// Cost: constant, amortised over the entries that it let go.
+    /// Where the disk fails in the compaction, each restart finds the trim done. A compaction for which memory is wanting is
+    /// left to the next trim that writes. Cost: constant, amortised over the entries that it let go; with a compaction the
+    /// bytes of those that are left, and of the records of before.
     pub fn trim(&mut self, place: u64) -> Result<Told, AllocError>
         requires { place ≤ 2 ^ 32 }
         ensures answers { IfOk result (λ answer. Answers self.old (Ask.Trim place) answer self.new) }
         ensures memory { OnErr result (self.new.server ≡ self.old.server) }
         ensures spared { OnErr result (Spares self.old.disk self.new.disk) }
-        ensures any_crash { AnyCrashLeaves self.old.disk self.new.disk (MayFindDuring self.old.server (Ask.Trim place)) }
+        ensures any_crash { AnyCrashLeaves self.old.disk self.new.disk (MayFindDuring self.old (Ask.Trim place)) }
         ensures survives { Survives self.new }
         ensures faults { self.old.disk.faults ≤ self.new.disk.faults }
     {
@@ -212,20 +189,20 @@ impl<D: Disk> LogServer<D> {
         if place <= base {
             return Ok(Told::Trimmed(base));
         }
-        let bytes = trimmed_record(self.alloc, place)?;
-        self.write(Ask::Trim(place), &bytes, Told::Trimmed(place))
+        self.write(Ask::Trim(place), Told::Trimmed(place))
     }
 
-    /// Brings the server up, with the write inside which it stopped or without, as the word may pick. True and nothing
-    /// done where it is up; false only where the disk failed, and then it stays down.
+    /// Brings the server up, with the write inside which it stopped or without, as the word may pick; with it where its
+    /// record stands. True and nothing done where it is up; false only where the disk failed, and then it stays down.
     ///
     /// Cost: one pass over the records.
     pub fn restart(&mut self, word: u64) -> Result<bool, AllocError>
         ensures up { self.old.server.up ≡ true → (result ≡ Ok true) × (self.new ≡ self.old) }
         ensures restarted { result ≡ Ok true → (kept : Bool) × (self.new.server ≡ restarted self.old.server kept self.old.server.torn) }
+        ensures stands { result ≡ Ok true → self.old.stands ≡ true → self.new.server ≡ restarted self.old.server true self.old.server.torn }
         ensures failed { result ≡ Ok false → (self.new.server ≡ self.old.server) × Rose self.old.disk.faults self.new.disk.faults }
         ensures memory { OnErr result (self.new.server ≡ self.old.server) }
-        ensures any_crash { AnyCrashLeaves self.old.disk self.new.disk (MayFind self.old.server) }
+        ensures any_crash { AnyCrashLeaves self.old.disk self.new.disk (MayFind self.old) }
         ensures survives { Survives self.new }
         ensures faults { self.old.disk.faults ≤ self.new.disk.faults }
 
@@ -237,16 +214,8 @@ impl<D: Disk> LogServer<D> {
         if self.is_up() {
             return Ok(true);
         }
-        let before = self.journal.count();
-        self.held.make_room()?;
-        match self.journal.reopen(word) {
-            Ok(()) => {
-                let torn = self.torn.take();
-                if before < self.journal.count() {
-                    self.held.hold_torn(torn);
-                }
-                Ok(true)
-            }
+        match self.kept.reopen(&mut self.held, word) {
+            Ok(()) => Ok(true),
             Err(Fault::Memory) => Err(AllocError),
             Err(Fault::Disk) => Ok(false),
         }
@@ -258,14 +227,14 @@ impl<D: Disk> LogServer<D> {
         ensures survives { Survives self.new }
         ensures arms { self.old.server.up ≡ true → self.new.disk.armed ≡ after }
     {
-        self.journal.stop(after);
+        self.kept.stop(after);
     }
 
     /// How often the disk has failed.
     pub fn disk_faults(&self) -> u64
         ensures { result ≡ self.now.disk.faults }
     {
-        self.journal.disk_faults()
+        self.kept.disk_faults()
     }
 
     /// Whether it answers anything but `Down`.
@@ -275,35 +244,25 @@ impl<D: Disk> LogServer<D> {
         ensures whole { self.now.server.up ≡ true → self.now.server.torn ≡ None }
         ensures running { self.now.server.up ≡ true → self.now.disk.stopped ≡ false }
     {
-        !self.journal.is_shut()
+        !self.kept.is_shut()
     }
 
-    /// Writes the record of a change that the table wants, and then holds the change.
-    fn write(&mut self, ask: Ask, bytes: &Bytes, answer: Told) -> Result<Told, AllocError>
+    /// Makes a change that the table wants, once its record is written.
+    fn write(&mut self, ask: Ask, answer: Told) -> Result<Told, AllocError>
         requires up { self.old.server.up ≡ true }
-        requires wanted { writes self.old.server ask ≡ true }
-        requires spelled { IsRecordOf ask bytes.now }
-        requires small { length_of (wrote self.old.server ask) ≤ 2 ^ 32 }
+        requires can { CanWrite self.old.server ask }
         requires told { answer ≡ told self.old.server ask }
         ensures answers { IfOk result (λ given. Answers self.old ask given self.new) }
         ensures memory { OnErr result (self.new.server ≡ self.old.server) }
         ensures spared { OnErr result (Spares self.old.disk self.new.disk) }
-        ensures any_crash { AnyCrashLeaves self.old.disk self.new.disk (MayFindDuring self.old.server ask) }
+        ensures any_crash { AnyCrashLeaves self.old.disk self.new.disk (MayFindDuring self.old ask) }
         ensures survives { Survives self.new }
         ensures faults { self.old.disk.faults ≤ self.new.disk.faults }
     {
-        self.held.make_room()?;
-        match self.journal.append(bytes.as_slice()) {
-            Ok(()) => {
-                self.held.hold_ask(ask);
-                Ok(answer)
-            }
-            Err(AppendFault::Disk) => {
-                self.torn = Some(ask);
-                Ok(Told::DiskFault)
-            }
-            Err(AppendFault::Memory) => Err(AllocError),
-            Err(AppendFault::Shut) => unreachable!(),
+        match self.kept.write(&mut self.held, ask) {
+            Ok(()) => Ok(answer),
+            Err(Fault::Disk) => Ok(Told::DiskFault),
+            Err(Fault::Memory) => Err(AllocError),
         }
     }
 
@@ -314,7 +273,8 @@ impl<D: Disk> LogServer<D> {
     }
 
     fn base(&self) -> u64
-        ensures { result ≡ self.now.server.base }
+        ensures value { result ≡ self.now.server.base }
+        ensures small { length_of self.now.server ≤ 2 ^ 32 }
     {
         self.held.base
     }
@@ -353,14 +313,5 @@ fn entry_told(held: &Held, place: u64) -> Result<Told, AllocError>
             Ok(Told::Got(copied))
         }
         None => Ok(Told::Short(held.len())),
-    }
-}
-
-fn fault_of(fault: Fault) -> OpenFault
-    ensures { result ≡ open_fault_of fault }
-{
-    match fault {
-        Fault::Disk => OpenFault::Disk,
-        Fault::Memory => OpenFault::Memory,
     }
 }

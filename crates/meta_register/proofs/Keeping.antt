@@ -1,9 +1,9 @@
 -- What stands and what the records spell stay together, and what a crash leaves of them.
-use Rattle.std.proofs.Common.{◌≡◌, ℕ, ◌+◌, ◌^◌, ◌<◌, ◌≤◌, ◌⊎◌, inl, inr, Bool, true, false, cond, eqb, ltb, List, [], ◌∷◌, ◌++◌, length, take, drop, slice_index_or, Option, Some, None, Result, Ok, refl, sym, ap, subst, ◌∙◌, arith}
-use Rattle.std.specs.Prelude.{option_map, ◌&&◌, not, nat_lt}
+use Rattle.std.proofs.Common.{◌≡◌, ℕ, ◌+◌, ◌<◌, ◌≤◌, inl, inr, Bool, true, false, cond, eqb, ltb, List, [], ◌∷◌, ◌++◌, length, take, drop, slice_index_or, Option, Some, None, Result, Ok, Err, refl, sym, ap, subst, ◌∙◌, arith, Vec, Global}
+use Rattle.std.specs.Prelude.{option_map, ◌&&◌, not, nat_lt, IfOk}
 use Rattle.std.specs.Option.{ForSome}
 use Rattle.std.specs.Result.{result_ok}
-use Rattle.std.proofs.lemmas.Bool.{le-ltb, ltb-false, ltb-true}
+use Rattle.std.proofs.lemmas.Bool.{le-ltb, lt-ltb, ltb-true, cases_eq, eq-eqb, ne_eqb}
 use Rattle.std.proofs.lemmas.Bool.Decides.{nat_tests}
 use Rattle.std.proofs.lemmas.List.{length-append, take_more}
 use Rattle.std.proofs.lemmas.List.Sums.{fold-append}
@@ -15,23 +15,21 @@ use Rattle.chain_map.specs.declared.fault.BadChain.{BadChain}
 use Rattle.chain_map.specs.Chain.{IsChain}
 use Rattle.chain_map.specs.Reading.{chain_read}
 use Rattle.chain_map.proofs.Spellings.{chain_again}
-use Rattle.disk_model.specs.Disk.{DiskView}
+use Rattle.disk_model.specs.Disk.{DiskView, reads}
 use Rattle.disk_model.specs.Crash.{AnyCrash}
 use Rattle.disk_model.specs.CrashLaws.{stays, weaker}
-use Rattle.journal_core.specs.Records.{records_of}
-use Rattle.journal_core.specs.Journal as journal
-use Rattle.register_api.specs.View.{RegisterView, IsSound}
+use Rattle.journal_core.specs.Records.{payloads}
+use Rattle.journal_core.proofs.Reading.{now_has}
+use Rattle.journal_pair.specs.Records.{records_of}
+use Rattle.kept_value.specs.View as value
+use Rattle.kept_value.specs.Keeping as keeping
+use Rattle.kept_value.proofs.Laws.{kept_left}
+use Rattle.register_api.specs.View.{RegisterView, IsSound, IsFresh}
 use Rattle.register_api.specs.Calls as calls
 use Rattle.meta_register.specs.declared.standing.Standing.{Standing}
-use Rattle.meta_register.specs.Records.{SpellsStanding, standing_in, standing_next, standing_after, standing_of, first_standing, IsFirstBad}
-use Rattle.meta_register.specs.View.{View, MayFind, MayFindDuring, Survives, counted}
-use Rattle.meta_register.specs.Keeping.{given_of, view_of, advanced, AreTorn, IsOlder, IsKept, settled, older_settled}
-
--- the first so many records spell what stands
-pub record StandsAfter (records : List (List ℕ)) (count : ℕ) (s : Standing) : Type 0 where
-  pub spelled : standing_of (take count records) ≡ Some s
-  pub least : 1 ≤ s.version
-  pub joined : IsChain s.chain
+use Rattle.meta_register.specs.Records.{SpellsStanding, standing_in, follows, standing_next, standing_after, standing_of, first_standing, IsFirstBad}
+use Rattle.meta_register.specs.View.{View, MayFind, MayFindDuring, Survives, counted, standing_in_view, most_records, CountsWrites}
+use Rattle.meta_register.specs.Keeping.{given_of, view_of, advanced, standing_kind, IsWhole, IsOlder, IsKept, older_after}
 
 -- ---- what is spelled is read
 
@@ -53,41 +51,107 @@ standing_again bytes s spelled =
 same_eqb : (n : ℕ) → eqb n n ≡ true
 same_eqb n = grind (arith, nat_tests)
 
+next_follows : (s : Standing) (chain : Chain) → follows s (advanced s chain) ≡ true
+next_follows s chain = elim (cases_eq s.version 1) [
+  | inl is ↦ ap (λ b. cond b (ltb 1 (s.version + 1)) (eqb (s.version + 1) (s.version + 1))) (eq-eqb s.version 1 is) ∙ lt-ltb 1 (s.version + 1) (omega (arith, is))
+  | inr isnt ↦ ap (λ b. cond b (ltb 1 (s.version + 1)) (eqb (s.version + 1) (s.version + 1))) (ne_eqb s.version 1 isnt) ∙ same_eqb (s.version + 1)
+]
+
 -- the record of the next write is the next
 pub record_follows : (s : Standing) (chain : Chain) (bytes : List ℕ) → SpellsStanding bytes (advanced s chain) → standing_after (Some s) bytes ≡ Some (advanced s chain)
 record_follows s chain bytes spelled =
-    ap (standing_next s) (standing_again bytes (advanced s chain) spelled) ∙ ap (λ t. cond t (Some (advanced s chain)) None) (same_eqb (s.version + 1))
+    ap (standing_next s) (standing_again bytes (advanced s chain) spelled) ∙ ap (λ t. cond t (Some (advanced s chain)) None) (next_follows s chain)
 
 pub standing_of-more : (records : List (List ℕ)) (bytes : List ℕ) → standing_of (records ++ bytes ∷ []) ≡ standing_after (standing_of records) bytes
 standing_of-more records bytes = fold-append standing_after (Some first_standing) records (bytes ∷ [])
 
+-- ---- a standing as a value that is kept
+
+pub spells_next : (s : Standing) (chain : Chain) (bytes : List ℕ) → SpellsStanding bytes (advanced s chain) → (records : List (List ℕ)) → standing_of records ≡ Some s → standing_of (records ++ bytes ∷ []) ≡ Some (advanced s chain)
+spells_next s chain bytes text records spelled = standing_of-more records bytes ∙ ap (λ (o : Option Standing). standing_after o bytes) spelled ∙ record_follows s chain bytes text
+
+pub ok_weaker : {T E : Type 0} (r : Result T E) (P Q : T → Type 0) → ((x : T) → P x → Q x) → IfOk r P → IfOk r Q
+ok_weaker (Ok x) P Q weaker h = weaker x h
+ok_weaker (Err e) P Q weaker h = h
+
+-- the last record alone
+pub spells_alone : (s : Standing) (chain : Chain) (bytes : List ℕ) → SpellsStanding bytes (advanced s chain) → 1 ≤ s.version → standing_of (bytes ∷ []) ≡ Some (advanced s chain)
+spells_alone s chain bytes text least =
+    ap (standing_next first_standing) (standing_again bytes (advanced s chain) text) ∙ ap (λ t. cond t (Some (advanced s chain)) None) (lt-ltb 1 (s.version + 1) (omega (arith, least)))
+
+-- the records that it is compacted to
+pub one_payload : (none all : List (Vec ℕ Global)) (last : Vec ℕ Global) → none ≡ [] → all ≡ none ++ last ∷ [] → payloads all ≡ last.items ∷ []
+one_payload none all last empty is = ap payloads (is ∙ ap (λ (vs : List (Vec ℕ Global)). vs ++ last ∷ []) empty)
+
+-- a record more, that is none of a register's, doesn't follow, or follows
+pub took_none : (s : Standing) (bytes : List ℕ) (records : List (List ℕ)) → standing_of records ≡ Some s → standing_in bytes ≡ None → standing_of (records ++ bytes ∷ []) ≡ None
+took_none s bytes records spelled none = standing_of-more records bytes ∙ ap (λ (o : Option Standing). standing_after o bytes) spelled ∙ ap (standing_next s) none
+
+pub took_other : (s next : Standing) (bytes : List ℕ) (records : List (List ℕ)) (test : Bool) → standing_of records ≡ Some s → standing_in bytes ≡ Some next → follows s next ≡ test → standing_of (records ++ bytes ∷ []) ≡ cond test (Some next) None
+took_other s next bytes records test spelled read is =
+    standing_of-more records bytes ∙ ap (λ (o : Option Standing). standing_after o bytes) spelled ∙ ap (standing_next s) read ∙ ap (λ t. cond t (Some next) None) is
+
+pub taken_whole : (s next : Standing) → IsWhole s → IsChain next.chain → follows s next ≡ true → IsWhole next
+taken_whole s next whole joined fine = record {
+  least = elim (cases_eq s.version 1) [
+    | inl is ↦ omega (arith, ltb-true 1 next.version (sym (ap (λ b. cond b (ltb 1 next.version) (eqb next.version (s.version + 1))) (eq-eqb s.version 1 is)) ∙ fine))
+    | inr isnt ↦ omega (arith, eqb_same next.version (s.version + 1) (sym (ap (λ b. cond b (ltb 1 next.version) (eqb next.version (s.version + 1))) (ne_eqb s.version 1 isnt)) ∙ fine))
+  ];
+  joined = joined;
+}
+  where
+    eqb_same : (a b : ℕ) → eqb a b ≡ true → a ≡ b
+    eqb_same a b e = grind (arith, nat_tests, e)
+
+-- the first bad record
+pub bad_of : (records : List (List ℕ)) (index : ℕ) → value.IsFirstBad standing_kind records index → IsFirstBad records index
+bad_of records index bad = record {
+  within = bad.within;
+  before = bad.before;
+  good = bad.good;
+  bad = ap (λ (o : Option Standing). standing_after o (slice_index_or records index [])) (sym bad.good)
+      ∙ sym (standing_of-more (take index records) (slice_index_or records index [])) ∙ ap standing_of (sym (take_more records index [] bad.within)) ∙ bad.bad;
+}
+
 -- ---- what a reopening may find
 
-found_by : (s : Standing) (older : Option Standing) (asked : Option Chain) (downs misses told : ℕ) (j : journal.View) (t : Option (List ℕ)) (found : List (List ℕ)) → standing_of j.records ≡ Some s → AreTorn s asked t → journal.WithOrWithout j.records t found → MayFind (view_of s older asked downs misses told j).register found
-found_by s older None downs misses told j None found spelled torn (inl without) = (false, ap standing_of without ∙ spelled)
-found_by s older None downs misses told j None found spelled torn (inr with) = absurd (none with.1)
-  where
-    none : {A : Type 0} {x : A} → None ≡ Some x → ⊥
-    none e = absurd (cc)
-found_by s older None downs misses told j (Some bytes) found spelled torn either = absurd torn
-found_by s older (Some chain) downs misses told j None found spelled torn either = absurd torn
-found_by s older (Some chain) downs misses told j (Some bytes) found spelled torn (inl without) = (false, ap standing_of without ∙ spelled)
-found_by s older (Some chain) downs misses told j (Some bytes) found spelled torn (inr with) =
-    let same : with.0 ≡ bytes = the_same bytes with.0 with.1 in
-    (true, ap standing_of (with.2 ∙ ap (λ (b : List ℕ). j.records ++ b ∷ []) same) ∙ standing_of-more j.records bytes ∙ ap (λ (o : Option Standing). standing_after o bytes) spelled ∙ torn.next)
-  where
-    the_same : (a b : List ℕ) → Some a ≡ Some b → b ≡ a
-    the_same a b e = cc
+pub shows_by : (v : RegisterView) (asked : Option Chain) (done : Bool) → value.reopened_by standing_kind (standing_in_view v) asked done ≡ standing_in_view (calls.reopened v done asked)
+shows_by v None done = refl
+shows_by v (Some chain) true = refl
+shows_by v (Some chain) false = refl
 
-pub may_find : (s : Standing) (older : Option Standing) (asked : Option Chain) (downs misses told : ℕ) (j : journal.View) → IsKept s older asked j → (found : List (List ℕ)) → journal.MayFind j found → MayFind (view_of s older asked downs misses told j).register found
-may_find s older asked downs misses told j k found either = found_by s older asked downs misses told j j.torn found k.spelled k.write either
+shows_before : (v : RegisterView) (asked : Option Chain) → standing_in_view v ≡ standing_in_view (calls.reopened v false asked)
+shows_before v None = refl
+shows_before v (Some chain) = refl
 
-pub kept_survives : (s : Standing) (older : Option Standing) (asked : Option Chain) (downs misses told : ℕ) (j : journal.View) → IsKept s older asked j → Survives (view_of s older asked downs misses told j)
-kept_survives s older asked downs misses told j k = λ image is. may_find s older asked downs misses told j k (records_of image) (k.survives.left image is)
+module _ (s : Standing) (older : Option Standing) (downs misses told : ℕ) (k : value.View Chain) where
+  abbrev here : View
+  here = view_of s older downs misses told k
 
--- the same, of what callers see
-pub seen_survives : (s : Standing) (older : Option Standing) (asked : Option Chain) (downs misses told : ℕ) (j : journal.View) (now : View) → IsKept s older asked j → view_of s older asked downs misses told j ≡ now → Survives now
-seen_survives s older asked downs misses told j now k is = subst (λ (v : View). Survives v) is (kept_survives s older asked downs misses told j k)
+  pub may_find : (found : List (List ℕ)) → value.MayFind standing_kind s k found → MayFind here.register found
+  may_find found m = (m.0, m.2 ∙ ap (λ (x : Standing). Some x) (shows_by here.register k.asked m.0))
+
+  pub kept_survives : IsKept s older k → Survives here
+  kept_survives i = λ image is. may_find (records_of image) (kept_left standing_kind s k i.kept image is)
+
+  -- a crash inside a write of a chain that was copied
+  pub during : (now : View) (chain given : Chain) (new : DiskView) → here ≡ now → given ≡ chain → AnyCrash k.journal.disk.timeline new.timeline (λ c. value.BeforeOrAfter standing_kind s given (records_of c)) →
+      AnyCrash now.disk.timeline new.timeline (λ c. MayFindDuring now.register chain (records_of c))
+  during now chain given new is same run =
+      subst (λ (v : View). AnyCrash v.disk.timeline new.timeline (λ c. MayFindDuring v.register chain (records_of c))) is
+      (weaker k.journal.disk.timeline new.timeline (λ c. value.BeforeOrAfter standing_kind s given (records_of c)) (λ c. MayFindDuring here.register chain (records_of c))
+      (λ c. elim [ inl before ↦ inl (false, before ∙ ap (λ (x : Standing). Some x) (shows_before here.register k.asked)) | inr after ↦ inr (after ∙ ap (λ (x : Chain). Some (advanced s x)) same) ]) run)
+
+  -- and inside a reopening
+  pub reopened : (now : View) (new : DiskView) → here ≡ now → AnyCrash k.journal.disk.timeline new.timeline (λ c. value.MayFind standing_kind s k (records_of c)) →
+      AnyCrash now.disk.timeline new.timeline (λ c. MayFind now.register (records_of c))
+  reopened now new is run =
+      subst (λ (v : View). AnyCrash v.disk.timeline new.timeline (λ c. MayFind v.register (records_of c))) is
+      (weaker k.journal.disk.timeline new.timeline (λ c. value.MayFind standing_kind s k (records_of c)) (λ c. MayFind here.register (records_of c)) (λ c. may_find (records_of c)) run)
+
+  -- of what callers see
+  pub seen_survives : (now : View) → IsKept s older k → here ≡ now → Survives now
+  seen_survives now i is = subst (λ (v : View). Survives v) is (kept_survives i)
 
 -- what stays is as it was
 pub stays_during : (v : View) (chain : Chain) (new : DiskView) → new.timeline ≡ v.disk.timeline → Survives v → AnyCrash v.disk.timeline new.timeline (λ c. MayFindDuring v.register chain (records_of c))
@@ -99,130 +163,46 @@ stays_found v new same left = stays v.disk.timeline new.timeline (λ c. MayFind 
 
 -- ---- what is held
 
--- a write whose record stands
-pub kept_written : (s : Standing) (older : Option Standing) (asked : Option Chain) (j : journal.View) (disk : DiskView) (chain : Chain) (bytes : List ℕ) (new : journal.View) →
-    IsKept s older asked j → j.shut ≡ false → IsChain chain → SpellsStanding bytes (advanced s chain) →
-    new ≡ record { records = j.records ++ bytes ∷ []; torn = None; shut = false; disk = disk } → journal.Survives new → IsKept (advanced s chain) None asked new
-kept_written s older asked j disk chain bytes new k running joined spelled is left =
-    let nothing : asked ≡ None = k.whole running in
-    record {
-      spelled = ap (λ (v : journal.View). standing_of v.records) is ∙ standing_of-more j.records bytes ∙ ap (λ (o : Option Standing). standing_after o bytes) k.spelled ∙ record_follows s chain bytes spelled;
-      least = omega arith;
-      joined = joined;
-      before = λ x e. absurd (cc);
-      whole = λ _. nothing;
-      write = subst (λ (t : Option Chain). AreTorn (advanced s chain) t new.torn) (sym nothing) (subst (λ (t : Option (List ℕ)). AreTorn (advanced s chain) None t) (sym (ap (λ (v : journal.View). v.torn) is)) tt);
-      survives = left;
-    }
+none_older : (s : Standing) → ForSome None (IsOlder s)
+none_older s = λ x e. absurd (cc)
 
-true_false : {P : Type 0} → true ≡ false → P
-true_false is = cc is
+pub kept_written : (now : Standing) (k : value.View Chain) → IsWhole now → keeping.IsKept standing_kind now k → IsKept now None k
+kept_written now k whole kept = record { whole = whole; before = none_older now; kept = kept }
 
--- a write in which the disk failed
-pub kept_torn : (s : Standing) (older : Option Standing) (asked : Option Chain) (j : journal.View) (disk : DiskView) (chain : Chain) (bytes : List ℕ) (new : journal.View) →
-    IsKept s older asked j → s.version < 2 ^ 48 → IsChain chain → SpellsStanding bytes (advanced s chain) →
-    new ≡ record { records = j.records; torn = Some bytes; shut = true; disk = disk } → journal.Survives new → IsKept s older (Some chain) new
-kept_torn s older asked j disk chain bytes new k small joined spelled is left = record {
-  spelled = ap (λ (v : journal.View). standing_of v.records) is ∙ k.spelled;
-  least = k.least;
-  joined = k.joined;
-  before = k.before;
-  whole = λ e. true_false (sym (ap (λ (v : journal.View). v.shut) is) ∙ e);
-  write = subst (λ (t : Option (List ℕ)). AreTorn s (Some chain) t) (sym (ap (λ (v : journal.View). v.torn) is)) (record { next = record_follows s chain bytes spelled; joined = joined; small = small });
-  survives = left;
-}
-
--- ---- a crash inside a write
-
-pub during : (s : Standing) (older : Option Standing) (asked : Option Chain) (downs misses told : ℕ) (j : journal.View) (now : View) (chain : Chain) (bytes : List ℕ) (new : DiskView) →
-    IsKept s older asked j → view_of s older asked downs misses told j ≡ now → SpellsStanding bytes (advanced s chain) →
-    AnyCrash j.disk.timeline new.timeline (λ c. journal.MayFind j (records_of c) ⊎ (records_of c ≡ j.records ++ bytes ∷ [])) →
-    AnyCrash now.disk.timeline new.timeline (λ c. MayFindDuring now.register chain (records_of c))
-during s older asked downs misses told j now chain bytes new k is spelled run =
-    let next : standing_of (j.records ++ bytes ∷ []) ≡ Some (advanced s chain) =
-    standing_of-more j.records bytes ∙ ap (λ (o : Option Standing). standing_after o bytes) k.spelled ∙ record_follows s chain bytes spelled in
-    subst (λ (v : View). AnyCrash v.disk.timeline new.timeline (λ c. MayFindDuring v.register chain (records_of c))) is
-    (weaker j.disk.timeline new.timeline (λ c. journal.MayFind j (records_of c) ⊎ (records_of c ≡ j.records ++ bytes ∷ [])) (λ c. MayFindDuring (view_of s older asked downs misses told j).register chain (records_of c))
-    (λ c. elim [ inl before ↦ inl (may_find s older asked downs misses told j k (records_of c) before) | inr with ↦ inr (ap standing_of with ∙ next) ]) run)
-
--- a crash inside a reopening
-pub reopened : (s : Standing) (older : Option Standing) (asked : Option Chain) (downs misses told : ℕ) (j : journal.View) (now : View) (new : DiskView) → IsKept s older asked j → view_of s older asked downs misses told j ≡ now →
-    AnyCrash j.disk.timeline new.timeline (λ c. journal.MayFind j (records_of c)) → AnyCrash now.disk.timeline new.timeline (λ c. MayFind now.register (records_of c))
-reopened s older asked downs misses told j now new k is run =
-    subst (λ (v : View). AnyCrash v.disk.timeline new.timeline (λ c. MayFind v.register (records_of c))) is
-    (weaker j.disk.timeline new.timeline (λ c. journal.MayFind j (records_of c)) (λ c. MayFind (view_of s older asked downs misses told j).register (records_of c)) (λ c. may_find s older asked downs misses told j k (records_of c)) run)
-
--- ---- a reopening
+pub kept_same : (s now : Standing) (older : Option Standing) (k : value.View Chain) → now ≡ s → IsWhole now → ForSome older (IsOlder s) → keeping.IsKept standing_kind now k → IsKept now older k
+kept_same s now older k is whole before kept = record { whole = whole; before = subst (λ (x : Standing). ForSome older (IsOlder x)) (sym is) before; kept = kept }
 
 for_some : {A : Type 0} (P : A → Type 0) (x : A) → P x → ForSome (Some x) P
 for_some P x holds = λ y e. let same : x ≡ y = cc in subst P same holds
 
 -- what was given before is older than what stands then
-older_advanced : (s : Standing) (older : Option Standing) (chain : Chain) → 1 ≤ s.version → IsChain s.chain → ForSome older (IsOlder s) → IsOlder (advanced s chain) (given_of s older)
-older_advanced s None chain least joined before = record { least = least; below = omega arith; joined = joined }
-older_advanced s (Some o) chain least joined before = let it = before o refl in record { least = it.least; below = omega (arith, it.below); joined = it.joined }
+older_given : (s now : Standing) (older : Option Standing) → IsWhole s → s.version < now.version → ForSome older (IsOlder s) → IsOlder now (given_of s older)
+older_given s now None whole less before = record { least = whole.least; below = less; joined = whole.joined }
+older_given s now (Some o) whole less before = let it = before o refl in record { least = it.least; below = omega (arith, it.below, less); joined = it.joined }
 
-pub kept_settled : (s : Standing) (older : Option Standing) (asked after : Option Chain) (j new : journal.View) (disk : DiskView) (before now : ℕ) →
-    IsKept s older asked j → after ≡ None → new ≡ record { records = new.records; torn = None; shut = false; disk = disk } → journal.MayFind j new.records →
-    before ≡ length j.records → now ≡ length new.records → journal.Survives new →
-    IsKept (settled s asked (ltb before now)) (older_settled s older asked (ltb before now)) after new
-kept_settled s older asked after j new disk before now k nothing is found was counts left = settle asked j.torn (ltb before now) refl k.write found
-  where
-    torn_is : new.torn ≡ None
-    torn_is = ap (λ (v : journal.View). v.torn) is
+no_less : (s now : Standing) (chain : Option Chain) (done : Bool) → now ≡ value.reopened_by standing_kind s chain done → s.version ≤ now.version
+no_less s now None done is = omega (arith, ap (λ (x : Standing). x.version) is)
+no_less s now (Some chain) true is = omega (arith, ap (λ (x : Standing). x.version) is)
+no_less s now (Some chain) false is = omega (arith, ap (λ (x : Standing). x.version) is)
 
-    write_of : (x : Standing) → AreTorn x after new.torn
-    write_of x = subst (λ (t : Option Chain). AreTorn x t new.torn) (sym nothing) (subst (λ (t : Option (List ℕ)). AreTorn x None t) (sym torn_is) tt)
+older_is : (s now : Standing) (older : Option Standing) (test : Bool) → nat_lt s.version now.version ≡ test → s.version ≤ now.version → IsWhole s → ForSome older (IsOlder s) → ForSome (older_after s older now) (IsOlder now)
+older_is s now older true less le whole before =
+    subst (λ (o : Option Standing). ForSome o (IsOlder now)) (sym (ap (λ t. cond t (Some (given_of s older)) older) less)) (for_some (IsOlder now) (given_of s older) (older_given s now older whole (ltb-true _ _ less) before))
+older_is s now older false same le whole before =
+    subst (λ (o : Option Standing). ForSome o (IsOlder now)) (sym (ap (λ t. cond t (Some (given_of s older)) older) same)) (λ o e. let it = before o e in record { least = it.least; below = omega (arith, it.below, le); joined = it.joined })
 
-    undone : standing_of new.records ≡ Some s → IsKept s older after new
-    undone spelled = record { spelled = spelled; least = k.least; joined = k.joined; before = k.before; whole = λ _. nothing; write = write_of s; survives = left }
+-- the one of before was a copy
+pub given_after : (s : Standing) (chain : Chain) (older given : Option Standing) (now : Standing) → chain ≡ s.chain → given ≡ older_after (record { version = s.version; chain = chain }) older now → given ≡ older_after s older now
+given_after s chain older given now same is = is ∙ ap (λ (x : Chain). older_after (record { version = s.version; chain = x }) older now) same
 
-    longer : (p : List ℕ) → new.records ≡ j.records ++ p ∷ [] → length new.records ≡ length j.records + 1
-    longer p e = ap length e ∙ length-append j.records (p ∷ [])
-
-    settle : (a : Option Chain) (t : Option (List ℕ)) (done : Bool) → ltb before now ≡ done → AreTorn s a t → journal.WithOrWithout j.records t new.records → IsKept (settled s a done) (older_settled s older a done) after new
-    settle None None done test torn (inl without) = undone (ap standing_of without ∙ k.spelled)
-    settle None None done test torn (inr with) = absurd (none with.1)
-      where
-        none : {A : Type 0} {x : A} → None ≡ Some x → ⊥
-        none e = absurd (cc)
-    settle None (Some bytes) done test torn either = absurd torn
-    settle (Some chain) None done test torn either = absurd torn
-    settle (Some chain) (Some bytes) true test torn (inl without) = absurd (grown (ltb-true _ _ test))
-      where
-        grown : before < now → ⊥
-        grown less = omega (arith, less, was, counts, ap length without)
-    settle (Some chain) (Some bytes) false test torn (inl without) = undone (ap standing_of without ∙ k.spelled)
-    settle (Some chain) (Some bytes) true test torn (inr with) =
-        let same : with.0 ≡ bytes = the_same bytes with.0 with.1 in
-        record {
-          spelled = ap standing_of (with.2 ∙ ap (λ (b : List ℕ). j.records ++ b ∷ []) same) ∙ standing_of-more j.records bytes ∙ ap (λ (o : Option Standing). standing_after o bytes) k.spelled ∙ torn.next;
-          least = omega arith;
-          joined = torn.joined;
-          before = for_some (IsOlder (advanced s chain)) (given_of s older) (older_advanced s older chain k.least k.joined k.before);
-          whole = λ _. nothing;
-          write = write_of (advanced s chain);
-          survives = left;
-        }
-      where
-        the_same : (a b : List ℕ) → Some a ≡ Some b → b ≡ a
-        the_same a b e = cc
-    settle (Some chain) (Some bytes) false test torn (inr with) = absurd (same_length (ltb-false _ _ test))
-      where
-        same_length : now ≤ before → ⊥
-        same_length less = omega (arith, less, was, counts, longer with.0 with.2)
-
--- a reopening that failed
-pub kept_closed : (s : Standing) (older : Option Standing) (asked : Option Chain) (j new : journal.View) (disk : DiskView) → IsKept s older asked j → new ≡ record { records = j.records; torn = j.torn; shut = true; disk = disk } → journal.Survives new → IsKept s older asked new
-kept_closed s older asked j new disk k is left = record {
-  spelled = ap (λ (v : journal.View). standing_of v.records) is ∙ k.spelled;
-  least = k.least;
-  joined = k.joined;
-  before = k.before;
-  whole = λ e. true_false (sym (ap (λ (v : journal.View). v.shut) is) ∙ e);
-  write = subst (λ (t : Option (List ℕ)). AreTorn s asked t) (sym (ap (λ (v : journal.View). v.torn) is)) k.write;
-  survives = left;
+pub kept_reopened : (s now : Standing) (older given : Option Standing) (asked : Option Chain) (done : Bool) (k : value.View Chain) → now ≡ value.reopened_by standing_kind s asked done → given ≡ older_after s older now → IsWhole s → ForSome older (IsOlder s) → IsWhole now → keeping.IsKept standing_kind now k → IsKept now given k
+kept_reopened s now older given asked done k is gives whole before after kept = record {
+  whole = after;
+  before = subst (λ (o : Option Standing). ForSome o (IsOlder now)) (sym gives) (older_is s now older (nat_lt s.version now.version) refl (no_less s now asked done is) whole before);
+  kept = kept;
 }
+
+-- ---- a reopening
 
 abbrev with_state : RegisterView → Bool → ℕ → Bool → RegisterView
 with_state v down faults armed = record v { down = down; faults = faults; armed = armed }
@@ -231,76 +211,119 @@ same_state : (v : RegisterView) (d d' : Bool) (n n' : ℕ) (a a' : Bool) → d �
 same_state v d d' n n' a a' down faults armed =
     ap (λ (b : Bool). with_state v b n a) down ∙ ap (λ (k : ℕ). with_state v d' k a) faults ∙ ap (λ (b : Bool). with_state v d' n' b) armed
 
+true_false : {P : Type 0} → true ≡ false → P
+true_false is = cc is
+
+less_more : (n : ℕ) → nat_lt n (n + 1) ≡ true
+less_more n = lt-ltb n (n + 1) (omega arith)
+
+less_same : (n : ℕ) → nat_lt n n ≡ false
+less_same n = le-ltb n n (omega arith)
+
 -- it is up again, and nothing is armed
-module _ (s : Standing) (older : Option Standing) (downs misses told word : ℕ) (j new : journal.View) (was : j.shut ≡ true) (up : new.shut ≡ false) (disarmed : new.disk.armed ≡ 0) (no_fault : new.disk.faults ≡ j.disk.faults) where
-  not_armed : (not new.shut && nat_lt 0 new.disk.armed) ≡ (not j.shut && nat_lt 0 j.disk.armed)
+module _ (s : Standing) (older : Option Standing) (downs misses told word : ℕ) (k new : value.View Chain) (was : k.journal.shut ≡ true) (up : new.journal.shut ≡ false) (calm : new.asked ≡ None) (disarmed : new.journal.disk.armed ≡ 0) (no_fault : new.journal.disk.faults ≡ k.journal.disk.faults) where
+  not_armed : (not new.journal.shut && nat_lt 0 new.journal.disk.armed) ≡ (not k.journal.shut && nat_lt 0 k.journal.disk.armed)
   not_armed =
-      ap (λ (b : Bool). not b && nat_lt 0 new.disk.armed) up ∙ ap (λ (n : ℕ). nat_lt 0 n) disarmed ∙ sym (ap (λ (b : Bool). not b && nat_lt 0 j.disk.armed) was)
+      ap (λ (b : Bool). not b && nat_lt 0 new.journal.disk.armed) up ∙ ap (λ (n : ℕ). nat_lt 0 n) disarmed ∙ sym (ap (λ (b : Bool). not b && nat_lt 0 k.journal.disk.armed) was)
 
-  abbrev Shows : Option Chain → Bool → Type 0
-  Shows asked done = (view_of (settled s asked done) (older_settled s older asked done) None downs misses word new).register ≡ record (calls.reopened (view_of s older asked downs misses told j).register done asked) { told = word }
+  -- with nothing asked for
+  abbrev plain : value.View Chain
+  plain = record new { asked = None }
 
-  pub shows_reopened : (asked : Option Chain) (done : Bool) → Shows asked done
-  shows_reopened None done =
-      same_state (record (calls.reopened (view_of s older None downs misses told j).register done None) { told = word }) _ _ _ _ _ _ up (ap (λ (n : ℕ). counted n downs) no_fault) not_armed
+  abbrev Shows : Option Chain → Bool → Standing → Option Standing → Type 0
+  Shows asked done now given =
+      (view_of now given downs misses word plain).register ≡ record (calls.reopened (view_of s older downs misses told (record k { asked = asked })).register done asked) { told = word }
+
+  same_now : (asked : Option Chain) (given : Option Standing) → given ≡ older → (done : Bool) → calls.reopened (view_of s older downs misses told (record k { asked = asked })).register done asked ≡ record (view_of s older downs misses told (record k { asked = None })).register { down = false } → Shows asked done s given
+  same_now asked given is done plain_is =
+      ap (λ (o : Option Standing). (view_of s o downs misses word plain).register) is
+      ∙ same_state (record (view_of s older downs misses word (record k { asked = None })).register { down = false }) _ _ _ _ _ _ up (ap (λ (n : ℕ). counted n downs) no_fault) not_armed
+      ∙ ap (λ (r : RegisterView). record r { told = word }) (sym plain_is)
+
+  older_same : older_after s older s ≡ older
+  older_same = ap (λ t. cond t (Some (given_of s older)) older) (less_same s.version)
+
+  shows_reopened : (asked : Option Chain) (done : Bool) → Shows asked done (value.reopened_by standing_kind s asked done) (older_after s older (value.reopened_by standing_kind s asked done))
+  shows_reopened None done = same_now None (older_after s older s) older_same done refl
+  shows_reopened (Some chain) false = same_now (Some chain) (older_after s older s) older_same false refl
   shows_reopened (Some chain) true =
-      same_state (record (calls.reopened (view_of s older (Some chain) downs misses told j).register true (Some chain)) { told = word }) _ _ _ _ _ _ up (ap (λ (n : ℕ). counted n downs) no_fault) not_armed
-  shows_reopened (Some chain) false =
-      same_state (record (calls.reopened (view_of s older (Some chain) downs misses told j).register false (Some chain)) { told = word }) _ _ _ _ _ _ up (ap (λ (n : ℕ). counted n downs) no_fault) not_armed
+      ap (λ t. (view_of (advanced s chain) (cond t (Some (given_of s older)) older) downs misses word plain).register) (less_more s.version)
+      ∙ same_state (record (calls.reopened (view_of s older downs misses told (record k { asked = Some chain })).register true (Some chain)) { told = word }) _ _ _ _ _ _ up (ap (λ (n : ℕ). counted n downs) no_fault) not_armed
 
-  pub reopens_so : (asked taken after : Option Chain) (stands : Standing) (given : Option Standing) (done : Bool) (now : View) → view_of s older asked downs misses told j ≡ now → taken ≡ asked → after ≡ None →
-      stands ≡ settled s taken done → given ≡ older_settled s older taken done → calls.Reopens now.register word (Ok true) (view_of stands given after downs misses word new).register
-  reopens_so asked taken after stands given done now is same none settles gives =
-      let shows : (view_of stands given after downs misses word new).register ≡ record (calls.reopened (view_of s older asked downs misses told j).register done asked) { told = word } =
-      ap (λ (x : Standing). (view_of x given after downs misses word new).register) (settles ∙ ap (λ (a : Option Chain). settled s a done) same)
-      ∙ ap (λ (x : Option Standing). (view_of (settled s asked done) x after downs misses word new).register) (gives ∙ ap (λ (a : Option Chain). older_settled s older a done) same)
-      ∙ ap (λ (x : Option Chain). (view_of (settled s asked done) (older_settled s older asked done) x downs misses word new).register) none
-      ∙ shows_reopened asked done in
-      subst (λ (v : View). calls.Reopens v.register word (Ok true) (view_of stands given after downs misses word new).register) is ((λ running. true_false (sym was ∙ running)), (done, shows))
+  pub reopens_so : (now : Standing) (given : Option Standing) (done : Bool) (v : View) → view_of s older downs misses told k ≡ v → now ≡ value.reopened_by standing_kind s k.asked done → given ≡ older_after s older now →
+      calls.Reopens v.register word (Ok true) (view_of now given downs misses word new).register
+  reopens_so now given done v is settles gives =
+      let none : new ≡ plain = ap (λ (a : Option Chain). record new { asked = a }) calm in
+      let shows : (view_of now given downs misses word new).register ≡ record (calls.reopened (view_of s older downs misses told k).register done k.asked) { told = word } =
+      ap (λ (n : value.View Chain). (view_of now given downs misses word n).register) none
+      ∙ ap (λ (o : Option Standing). (view_of now o downs misses word plain).register) gives
+      ∙ ap (λ (x : Standing). (view_of x (older_after s older x) downs misses word plain).register) settles
+      ∙ shows_reopened k.asked done in
+      subst (λ (w : View). calls.Reopens w.register word (Ok true) (view_of now given downs misses word new).register) is ((λ running. true_false (sym was ∙ running)), (done, shows))
 
--- ---- reading the records
+-- ---- how many writes
 
-pub bad_none : (records : List (List ℕ)) (n : ℕ) (s : Standing) (bytes : List ℕ) (read : Option Standing) → StandsAfter records n s → n < length records → bytes ≡ slice_index_or records n [] → read ≡ standing_in bytes → read ≡ None → IsFirstBad records n
-bad_none records n s bytes read first within is value none = record {
-  within = within;
-  before = s;
-  good = first.spelled;
-  bad = ap (standing_next s) (ap standing_in (sym is) ∙ sym value ∙ none);
+-- while it is up its disk has as many records as its journal
+all_there : (s : Standing) (k : value.View Chain) → keeping.IsKept standing_kind s k → k.journal.shut ≡ false → length (records_of (reads k.journal.disk)) ≡ length k.journal.records
+all_there s k kept running = ap length (now_has k.journal.disk.timeline.now _ (kept.survives.exact running))
+
+pub counts_writes : (s : Standing) (chain : Chain) (k new : value.View Chain) → keeping.IsKept standing_kind s k → k.journal.shut ≡ false →
+    (nat_lt most_records (length k.journal.records + 1) ≡ false → value.AddsOne k.journal new.journal) → k.journal.disk.armed ≤ new.journal.disk.armed + 6 → value.Spares k.journal.disk new.journal.disk →
+    CountsWrites k.journal.disk new.journal.disk
+counts_writes s chain k new kept running one six spares = record {
+  two = λ few.
+      let all = all_there s k kept running in
+      let added = one (le-ltb most_records (length k.journal.records + 1) (omega (arith, few, all))) in
+      (added.first, added.second, added.left);
+  six = six;
+  armed = spares.armed;
+  no_fault = spares.faults;
 }
 
-pub bad_next : (records : List (List ℕ)) (n : ℕ) (s next : Standing) (bytes : List ℕ) (read : Option Standing) (is_next : Bool) → StandsAfter records n s → n < length records → bytes ≡ slice_index_or records n [] → read ≡ standing_in bytes → read ≡ Some next → is_next ≡ eqb next.version (s.version + 1) → is_next ≡ false → IsFirstBad records n
-bad_next records n s next bytes read is_next first within is value some told refused = record {
-  within = within;
-  before = s;
-  good = first.spelled;
-  bad = ap (standing_next s) (ap standing_in (sym is) ∙ sym value ∙ some) ∙ ap (λ t. cond t (Some next) None) (sym told ∙ refused);
-}
+pub counts_records : (s : Standing) (older : Option Standing) (downs misses told : ℕ) (k : value.View Chain) (now : View) → IsKept s older k → view_of s older downs misses told k ≡ now →
+    (n : ℕ) → n ≡ length k.journal.records → now.register.down ≡ false → n ≡ length (records_of (reads now.disk))
+counts_records s older downs misses told k now i is n counted up =
+    let running : k.journal.shut ≡ false = ap (λ (v : View). v.register.down) is ∙ up in
+    counted ∙ sym (all_there s k i.kept running) ∙ ap (λ (v : View). length (records_of (reads v.disk))) is
 
--- the next record follows
-pub spelled_more : (records : List (List ℕ)) (n : ℕ) (s next : Standing) (bytes : List ℕ) (read : Option Standing) (is_next : Bool) → standing_of (take n records) ≡ Some s → n < length records → bytes ≡ slice_index_or records n [] → read ≡ standing_in bytes → read ≡ Some next → is_next ≡ eqb next.version (s.version + 1) → is_next ≡ true → standing_of (take (n + 1) records) ≡ Some next
-spelled_more records n s next bytes read is_next first within is value some told fine =
-    ap standing_of (take_more records n [] within ∙ ap (λ (b : List ℕ). take n records ++ b ∷ []) (sym is)) ∙ fold-append standing_after (Some first_standing) (take n records) (bytes ∷ [])
-    ∙ ap (λ (o : Option Standing). standing_after o bytes) first ∙ ap (standing_next s) (sym value ∙ some) ∙ ap (λ t. cond t (Some next) None) (sym told ∙ fine)
+-- ---- an opening of a disk without records
+
+pub opened_fresh : (s : Standing) (k : value.View Chain) (rs : List (List ℕ)) → standing_of rs ≡ Some s → rs ≡ [] → k ≡ value.calm k.journal → k.journal.shut ≡ false → k.journal.disk.faults ≡ 0 → IsFresh (view_of s None 0 0 0 k).register
+opened_fresh s k rs spelled none calm up no_fault =
+    let first : s ≡ first_standing = same_some s first_standing (sym spelled ∙ ap standing_of none) in
+    record {
+      version = ap (λ (x : Standing). x.version) first;
+      chain = ap (λ (x : Standing). x.chain) first;
+      given = ap (λ (x : Standing). x.version) first;
+      given_chain = ap (λ (x : Standing). x.chain) first;
+      asked = ap (λ (w : value.View Chain). w.asked) calm;
+      down = up;
+      faults = ap (λ (n : ℕ). counted n 0) no_fault;
+      misses = refl;
+    }
+  where
+    same_some : (x y : Standing) → Some x ≡ Some y → x ≡ y
+    same_some x y e = cc
 
 -- ---- what holds at every moment
 
-sound_of : (s : Standing) (older : Option Standing) (asked : Option Chain) (downs misses told : ℕ) (j : journal.View) (t : Option (List ℕ)) → (j.torn ≡ t) → IsKept s older asked j → IsSound (view_of s older asked downs misses told j).register
-sound_of s older asked downs misses told j t is k = record {
-  least = k.least;
-  chain = k.joined;
-  given = given_within older k.before;
-  given_chain = given_joined older k.before;
-  same = given_same older k.before;
-  asked = k.whole;
-  asked_chain = asked_joined asked j.torn k.write;
+sound_of : (s : Standing) (older : Option Standing) (downs misses told : ℕ) (k : value.View Chain) → IsKept s older k → IsSound (view_of s older downs misses told k).register
+sound_of s older downs misses told k i = record {
+  least = i.whole.least;
+  chain = i.whole.joined;
+  given = given_within older i.before;
+  given_chain = given_joined older i.before;
+  same = given_same older i.before;
+  asked = i.kept.whole;
+  asked_chain = λ chain is. (i.kept.can chain is).joined;
 }
   where
     given_within : (o : Option Standing) → ForSome o (IsOlder s) → (1 ≤ (given_of s o).version) × ((given_of s o).version ≤ s.version)
-    given_within None b = (k.least, omega arith)
+    given_within None b = (i.whole.least, omega arith)
     given_within (Some o) b = let it = b o refl in (it.least, omega (arith, it.below))
 
     given_joined : (o : Option Standing) → ForSome o (IsOlder s) → IsChain (given_of s o).chain
-    given_joined None b = k.joined
+    given_joined None b = i.whole.joined
     given_joined (Some o) b = (b o refl).joined
 
     given_same : (o : Option Standing) → ForSome o (IsOlder s) → (given_of s o).version ≡ s.version → (given_of s o).chain ≡ s.chain
@@ -310,10 +333,5 @@ sound_of s older asked downs misses told j t is k = record {
         apart : o.version < s.version → o.version ≡ s.version → ⊥
         apart less same = omega (arith, less, same)
 
-    asked_joined : (a : Option Chain) (torn : Option (List ℕ)) → AreTorn s a torn → ForSome a IsChain
-    asked_joined None torn both = λ x e. absurd (cc)
-    asked_joined (Some chain) None both = absurd both
-    asked_joined (Some chain) (Some bytes) both = λ x e. let same : chain ≡ x = cc in subst (λ (c : Chain). IsChain c) same both.joined
-
-pub seen_sound : (s : Standing) (older : Option Standing) (asked : Option Chain) (downs misses told : ℕ) (j : journal.View) (now : View) → IsKept s older asked j → view_of s older asked downs misses told j ≡ now → IsSound now.register
-seen_sound s older asked downs misses told j now k is = subst (λ (v : View). IsSound v.register) is (sound_of s older asked downs misses told j j.torn refl k)
+pub seen_sound : (s : Standing) (older : Option Standing) (downs misses told : ℕ) (k : value.View Chain) (now : View) → IsKept s older k → view_of s older downs misses told k ≡ now → IsSound now.register
+seen_sound s older downs misses told k now i is = subst (λ (v : View). IsSound v.register) is (sound_of s older downs misses told k i)

@@ -1,81 +1,72 @@
--- What a register keeps in memory, and how that and its journal belong together.
-use Rattle.std.specs.Prelude.{◌≡◌, ℕ, ◌+◌, ◌^◌, ◌<◌, ◌≤◌, ◌&&◌, not, nat_lt, Bool, false, if◌then◌else◌, List, Option, Some, None, unwrap_or}
+-- What a register keeps in memory, and how that and what keeps it belong together.
+use Rattle.std.specs.Prelude.{ℕ, ◌+◌, ◌^◌, ◌<◌, ◌≤◌, ◌&&◌, not, nat_lt, if◌then◌else◌, Option, Some, unwrap_or}
 use Rattle.std.specs.Option.{ForSome}
 use Rattle.delos_types.specs.declared.chain.Chain.{Chain}
 use Rattle.chain_map.specs.Chain.{IsChain}
-use Rattle.journal_core.specs.Journal as journal
+use Rattle.kept_value.specs.View.{Kind}
+use Rattle.kept_value.specs.View as value
+use Rattle.kept_value.specs.Keeping as keeping
 use Rattle.meta_register.specs.declared.standing.Standing.{Standing}
-use Rattle.meta_register.specs.Records.{standing_of, standing_after}
-use Rattle.meta_register.specs.View.{View, counted}
-use Rattle.journal_core.specs.declared.fault.Fault.{Fault}
-use Rattle.journal_core.specs.declared.fault.Fault.TheVariants as why
-use Rattle.meta_register.specs.declared.fault.OpenFault.{OpenFault}
-use Rattle.meta_register.specs.declared.fault.OpenFault.TheVariants.{Disk, Memory}
+use Rattle.meta_register.specs.Records.{standing_of}
+use Rattle.meta_register.specs.View.{View, counted, most_records}
 
 -- what was given last is what stands, or an older write
 abbrev pub given_of : Standing → Option Standing → Standing
 given_of s older = unwrap_or older s
 
 -- what callers see
-abbrev pub view_of : Standing → Option Standing → Option Chain → ℕ → ℕ → ℕ → journal.View → View
-view_of s older asked downs misses told j = record {
+abbrev pub view_of : Standing → Option Standing → ℕ → ℕ → ℕ → value.View Chain → View
+view_of s older downs misses told k = record {
   register = record {
     version = s.version;
     chain = s.chain;
     given = (given_of s older).version;
     given_chain = (given_of s older).chain;
-    asked = asked;
-    down = j.shut;
-    faults = counted j.disk.faults downs;
+    asked = k.asked;
+    down = k.journal.shut;
+    faults = counted k.journal.disk.faults downs;
     misses = misses;
-    armed = not j.shut && nat_lt 0 j.disk.armed;
+    armed = not k.journal.shut && nat_lt 0 k.journal.disk.armed;
     told = told;
   };
   downs = downs;
-  disk = j.disk;
+  disk = k.journal.disk;
 }
 
 -- the next chain stands
 abbrev pub advanced : Standing → Chain → Standing
 advanced s chain = record { version = s.version + 1; chain = chain }
 
--- a write whose record may stand on the disk
-pub record IsTornWrite (s : Standing) (chain : Chain) (bytes : List ℕ) : Type 0 where
-  pub next : standing_after (Some s) bytes ≡ Some (advanced s chain)
-  pub joined : IsChain chain
+-- a chain that may be written
+pub record CanWrite (s : Standing) (chain : Chain) : Type 0 where
   pub small : s.version < 2 ^ 48
+  pub joined : IsChain chain
 
--- the write in which the disk failed, as the journal kept it
-abbrev pub AreTorn : Standing → Option Chain → Option (List ℕ) → Type 0
-AreTorn s None None = Unit {0}
-AreTorn s None (Some bytes) = ⊥
-AreTorn s (Some chain) None = ⊥
-AreTorn s (Some chain) (Some bytes) = IsTornWrite s chain bytes
+-- how a standing is kept
+abbrev pub standing_kind : Kind Chain
+standing_kind = record {
+  State = Standing;
+  spelled = standing_of;
+  CanChange = CanWrite;
+  changed = advanced;
+  compacts = λ chain records. nat_lt most_records records;
+}
+
+pub record IsWhole (s : Standing) : Type 0 where
+  pub least : 1 ≤ s.version
+  pub joined : IsChain s.chain
 
 pub record IsOlder (s o : Standing) : Type 0 where
   pub least : 1 ≤ o.version
   pub below : o.version < s.version
   pub joined : IsChain o.chain
 
--- The records spell what stands, and the journal is shut where a write is torn.
-pub record IsKept (s : Standing) (older : Option Standing) (asked : Option Chain) (j : journal.View) : Type 0 where
-  pub spelled : standing_of j.records ≡ Some s
-  pub least : 1 ≤ s.version
-  pub joined : IsChain s.chain
+-- what stands, and what keeps it
+pub record IsKept (s : Standing) (older : Option Standing) (k : value.View Chain) : Type 0 where
+  pub whole : IsWhole s
   pub before : ForSome older (IsOlder s)
-  pub whole : j.shut ≡ false → asked ≡ None
-  pub write : AreTorn s asked j.torn
-  pub survives : journal.Survives j
+  pub kept : keeping.IsKept standing_kind s k
 
--- what stands after a reopening: the write in which the disk failed, if it stands
-abbrev pub settled : Standing → Option Chain → Bool → Standing
-settled s None done = s
-settled s (Some chain) done = if done then advanced s chain else s
-
-abbrev pub older_settled : Standing → Option Standing → Option Chain → Bool → Option Standing
-older_settled s older None done = older
-older_settled s older (Some chain) done = if done then Some (given_of s older) else older
-
-abbrev pub open_fault_of : Fault → OpenFault
-open_fault_of why.Disk = Disk
-open_fault_of why.Memory = Memory
+-- what was given last, where that isn't what stands now
+abbrev pub older_after : Standing → Option Standing → Standing → Option Standing
+older_after before older now = if nat_lt before.version now.version then Some (given_of before older) else older

@@ -1,6 +1,6 @@
--- The records of a register: one for each write, its version in eight bytes, the highest first, and the chain's bytes.
--- Versions follow one another; version 1, the first chain of all, isn't written.
-use Rattle.std.specs.Prelude.{◌≡◌, ℕ, ◌+◌, ◌<◌, ◌^◌, ◌==◌, nat_lt, if◌then◌else◌, List, [], ◌++◌, length, take, drop, fold, slice_index_or, Option, Some, None, option_map}
+-- The records of a register: one for a write, its version in eight bytes, the highest first, and the chain's bytes. The
+-- first may have any version from 2 on, and each later one the next; version 1, the first chain of all, isn't written.
+use Rattle.std.specs.Prelude.{◌≡◌, ℕ, ◌+◌, ◌<◌, ◌^◌, ◌==◌, nat_lt, Bool, if◌then◌else◌, List, [], ◌++◌, length, take, drop, fold, slice_index_or, Option, Some, None, option_map}
 use Rattle.std.specs.Result.{result_ok}
 use Rattle.delos_types.specs.Numbers.{u64_bytes, u64_of}
 use Rattle.chain_map.specs.Chain.{first_chain}
@@ -25,10 +25,13 @@ standing_in bytes =
     if nat_lt (length bytes) 8 then None
     else option_map (λ chain. record { version = u64_of (take 8 bytes); chain = chain }) (result_ok (chain_read (drop 8 bytes)))
 
--- a record follows where its version is the next
+-- a record follows where its version is the next, or is the first of all
+abbrev pub follows : Standing → Standing → Bool
+follows s r = if s.version == 1 then nat_lt 1 r.version else r.version == s.version + 1
+
 abbrev pub standing_next : Standing → Option Standing → Option Standing
 standing_next s None = None
-standing_next s (Some r) = if r.version == s.version + 1 then Some r else None
+standing_next s (Some r) = if follows s r then Some r else None
 
 abbrev pub standing_after : Option Standing → List ℕ → Option Standing
 standing_after None bytes = None

@@ -1,8 +1,9 @@
 -- A register as its callers see it, and what a crash leaves of it.
-use Rattle.std.specs.Prelude.{◌≡◌, ◌≢◌, ◌⊎◌, ℕ, ◌+◌, ◌-◌, ◌^◌, min, Bool, if◌then◌else◌, List, Some}
+use Rattle.std.specs.Prelude.{◌≡◌, ◌≢◌, ◌⊎◌, ℕ, ◌+◌, ◌-◌, ◌^◌, ◌<◌, ◌≤◌, min, nat_lt, Bool, if◌then◌else◌, List, length, Some}
 use Rattle.delos_types.specs.declared.chain.Chain.{Chain}
-use Rattle.disk_model.specs.Disk.{DiskView}
-use Rattle.journal_core.specs.Journal.{LeavesRecords}
+use Rattle.disk_model.specs.Disk.{DiskView, reads}
+use Rattle.journal_pair.specs.Records.{records_of}
+use Rattle.journal_pair.specs.Journal.{LeavesRecords}
 use Rattle.register_api.specs.View.{RegisterView, bumped}
 use Rattle.register_api.specs.Calls.{reopened}
 use Rattle.meta_register.specs.declared.standing.Standing.{Standing}
@@ -37,9 +38,14 @@ MayFindDuring v chain found = MayFind v found ⊎ (standing_of found ≡ Some (r
 abbrev pub downs_after : View → ℕ
 downs_after v = if v.register.down then bumped v.downs else v.downs
 
--- A good write is two of the writes that an armed disk counts, and the disk doesn't fail.
-pub record TwoWrites (old new : DiskView) : Type 0 where
-  pub first : old.armed ≢ 1
-  pub second : old.armed ≢ 2
-  pub left : new.armed ≡ old.armed - 2
+-- a write after which there are more records compacts them to the last one
+abbrev pub most_records : ℕ
+most_records = 64
+
+-- A good write is two of the writes that an armed disk counts, and where it compacts at most four more. The disk doesn't
+-- fail, and is armed or not as it was.
+pub record CountsWrites (old new : DiskView) : Type 0 where
+  pub two : length (records_of (reads old)) < most_records → (old.armed ≢ 1) × (old.armed ≢ 2) × (new.armed ≡ old.armed - 2)
+  pub six : old.armed ≤ new.armed + 6
+  pub armed : nat_lt 0 new.armed ≡ nat_lt 0 old.armed
   pub no_fault : new.faults ≡ old.faults

@@ -1,4 +1,4 @@
-//! A register of a chain over one journal on a disk: what was written survives every crash.
+//! A register of a chain over a journal of two areas on a disk: what was written survives every crash.
 //!
 //! - [`MetaRegister`]: its calls.
 //! - [`Refused`], [`OpenFault`]: why a disk wasn't opened.
@@ -7,11 +7,9 @@
 //! (a register as its callers see it, and what a crash leaves of it).
 #![tactic(auto)]
 
-mod fault;
 mod meta;
 mod records;
-mod replay;
 mod standing;
 
-pub use fault::{OpenFault, Refused};
+pub use kept_value::{OpenFault, Refused};
 pub use meta::MetaRegister;

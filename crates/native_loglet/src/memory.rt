@@ -47,6 +47,7 @@ fn replicas(alloc: Global, count: usize) -> Result<Vec<Replica<MemDisk>>, AllocE
 }
 
 /// A server on a fresh disk.
+#[tactic(auto, unfolding(journal_pair::specs::Records::records_of, journal_pair::specs::Records::is_ready))]
 fn replica(alloc: Global) -> Result<Replica<MemDisk>, AllocError>
     ensures fresh { IfOk result (λ v. v.server ≡ record no_server { up = true }) }
     ensures disk { IfOk result Survives }

@@ -1,7 +1,7 @@
 //! What an operation sends next.
-ghost use Rattle.std.specs.Prelude.{◌≡◌, ℕ, ◌+◌, ◌^◌, ◌<◌, ◌≤◌, length, get_or};
-ghost use Rattle.native_plan.specs.Members.{no_member};
-ghost use Rattle.native_plan.specs.Plans.{is_met, is_done, fill_of, errand_of, resent, Resends};
+ghost use Rattle.std.specs.Prelude.{◌≡◌, ◌&&◌, ℕ, ◌+◌, ◌^◌, ◌<◌, ◌≤◌, length, get_or};
+ghost use Rattle.native_plan.specs.Members.{no_member, is_out};
+ghost use Rattle.native_plan.specs.Plans.{is_met, is_done, fill_of, errand_of, sent_on, resent, Resends};
 
 use crate::aims::Aims;
 use crate::member::Member;
@@ -57,19 +57,34 @@ fn errand(aims: Aims, member: &Member) -> Errand
     }
 }
 
+/// Whether the message that is on its way to the server stays.
+fn stays(keep: bool, member: &Member) -> bool
+    ensures { result ≡ (keep && is_out member.now) }
+{
+    keep && member.is_out()
+}
+
+/// What server `index` is to be sent, if anything.
+fn message_for(aims: Aims, index: u64, member: &Member) -> Option<Message>
+    ensures { record member.now { losses = 0; message = result } ≡ sent_on (is_done aims.phase aims.want index member.now) (errand_of aims.phase aims.cut aims.want aims.place member.now) member.now }
+{
+    if member.unreached || is_met_by(aims, index, member) {
+        None
+    } else {
+        Some(Message::Asked(errand(aims, member)))
+    }
+}
+
 /// Sends server `index` what it is to be sent, unless a message that is kept is on its way.
 fn send(aims: Aims, keep: bool, index: u64, member: &mut Member)
     ensures { member.new ≡ resent aims.phase aims.cut aims.want aims.place keep index member.old }
 {
-    if keep && member.is_out() {
+    if stays(keep, member) {
         return;
     }
+    let message = message_for(aims, index, member);
     member.losses = 0;
-    member.message = if member.unreached || is_met_by(aims, index, member) {
-        None
-    } else {
-        Some(Message::Asked(errand(aims, member)))
-    };
+    member.message = message;
 }
 
 /// Sends each server what it is to be sent. Messages on their way are kept or given up.

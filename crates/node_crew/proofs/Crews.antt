@@ -8,6 +8,7 @@ use Rattle.std.proofs.lemmas.Option.{slice_get_within}
 use Rattle.fabric_core.proofs.Marks.{set_other, set_same}
 use Rattle.delos_types.specs.Spaces.{SpaceMap}
 use Rattle.delos_types.specs.declared.entry.Entry.{Entry}
+use Rattle.legal_journal.specs.Law.{Law}
 use Rattle.legal_journal.specs.declared.events.Event.{Event}
 use Rattle.legal_journal.specs.Journal.{IsLegal}
 use Rattle.journal_laws.specs.Changes.{TrimsUpTo}
@@ -60,23 +61,23 @@ changed xs k j old y w at is = by (cases_lt j k) (cases_lt k j)
         let same : j ≡ k = omega (arith, high, low) in
         inl (same, some refl (sym (set_same xs k y old at) ∙ (ap (slice_get (slice_set xs k y)) (sym same) ∙ is)))
 
-module _ {A : Type 0} (may : ℕ → Entry → Type 0) (floor : List Entry → ℕ → Type 0) (shelf : List ℕ) (state : List Entry → SpaceMap → Type 0) (spells : List ℕ → Saved → Type 0) (lines : List NamedLine) (seat : A → SeatView) (desks : A → List Desk) (workers : List A) where
+module _ {A : Type 0} (law : Law) (state : List Entry → SpaceMap → Type 0) (spells : List ℕ → Saved → Type 0) (lines : List NamedLine) (seat : A → SeatView) (desks : A → List Desk) (workers : List A) where
   -- whose turn it is can take the fabric
-  pub crew_stands : (from to k : ℕ) (journal : List Event) (looks : List (Option Looked)) → CrewAt may floor shelf state spells lines from to k journal looks seat desks workers → CrewStands may floor shelf state spells journal seat workers
+  pub crew_stands : (from to k : ℕ) (journal : List Event) (looks : List (Option Looked)) → CrewAt law state spells lines from to k journal looks seat desks workers → CrewStands law state spells journal seat workers
   crew_stands from to k journal looks h = λ j w at. by j w at (cases_lt j k)
     where
-      of : (n begin done : ℕ) (w : A) → Rests may floor shelf state spells lines h.home (length workers) h.course h.counts looks n begin done (seat w) (desks w) → SeatOk may floor shelf state spells journal (seat w)
-      of n begin done w r = subst (λ i. SeatOk may floor shelf state spells i (seat w)) h.journal_is (worker_stands may floor shelf state spells n h.course.journal (seat w) (desks w) r.worker.ok)
+      of : (n begin done : ℕ) (w : A) → Rests law state spells lines h.home (length workers) h.course h.counts looks n begin done (seat w) (desks w) → SeatOk law state spells journal (seat w)
+      of n begin done w r = subst (λ i. SeatOk law state spells i (seat w)) h.journal_is (worker_stands law state spells n h.course.journal (seat w) (desks w) r.worker.ok)
 
-      by : (j : ℕ) (w : A) → slice_get workers j ≡ Some w → (j < k) ⊎ (k ≤ j) → SeatOk may floor shelf state spells journal (seat w)
+      by : (j : ℕ) (w : A) → slice_get workers j ≡ Some w → (j < k) ⊎ (k ≤ j) → SeatOk law state spells journal (seat w)
       by j w at (inl low) = of (j + 1) to (h.course.phase + 1) w (h.had j w low at)
       by j w at (inr high) = of (j + 1) from h.course.phase w (h.waits j w high at)
 
   -- it is the turn of the next node, which has a line in the phase
   pub crew_plays : (from to k : ℕ) (journal : List Event) (looks : List (Option Looked)) (w : A) → slice_get workers k ≡ Some w → k < length workers
-      → FloorIs floor (length workers) → HasOne lines from (k + 1)
-      → (h : CrewAt may floor shelf state spells lines from to k journal looks seat desks workers)
-      → IsUnderWay may floor shelf state spells lines h.home (length workers) h.course h.counts looks (k + 1) from from journal (seat w) (desks w)
+      → FloorIs law.floor (length workers) → HasOne lines from (k + 1)
+      → (h : CrewAt law state spells lines from to k journal looks seat desks workers)
+      → IsUnderWay law state spells lines h.home (length workers) h.course h.counts looks (k + 1) from from journal (seat w) (desks w)
   crew_plays from to k journal looks w at there low one h = record {
     journal_is = h.journal_is;
     lines_are = h.lines_are;
@@ -86,15 +87,15 @@ module _ {A : Type 0} (may : ℕ → Entry → Type 0) (floor : List Entry → �
     ok = h.ok;
     worker = waits.worker;
     high = subst (TrimsUpTo (seat w).node.replica.cursor) h.journal_is
-        (turn_begins may floor shelf state spells lines h.home (length workers) h.course h.counts looks (k + 1) from one.at h.course.phase one.line (seat w) (desks w) low h.lines_are h.ok one.is one.node one.behind waits);
+        (turn_begins law state spells lines h.home (length workers) h.course h.counts looks (k + 1) from one.at h.course.phase one.line (seat w) (desks w) low h.lines_are h.ok one.is one.node one.behind waits);
   }
     where
-      waits : Rests may floor shelf state spells lines h.home (length workers) h.course h.counts looks (k + 1) from h.course.phase (seat w) (desks w)
+      waits : Rests law state spells lines h.home (length workers) h.course h.counts looks (k + 1) from h.course.phase (seat w) (desks w)
       waits = h.waits k w (omega arith) at
 
   -- a node without a line in the phase has had its turn
   pub crew_passed : (from to k : ℕ) (journal : List Event) (looks : List (Option Looked)) → from ≤ to → HasNone lines from to (k + 1)
-      → CrewAt may floor shelf state spells lines from to k journal looks seat desks workers → CrewAt may floor shelf state spells lines from to (k + 1) journal looks seat desks workers
+      → CrewAt law state spells lines from to k journal looks seat desks workers → CrewAt law state spells lines from to (k + 1) journal looks seat desks workers
   crew_passed from to k journal looks range none h = record {
     home = h.home;
     course = h.course;
@@ -109,21 +110,21 @@ module _ {A : Type 0} (may : ℕ → Entry → Type 0) (floor : List Entry → �
     sees = h.sees;
   }
     where
-      by : (j : ℕ) (w : A) → slice_get workers j ≡ Some w → (j < k) ⊎ (k ≤ j) → j < k + 1 → Rests may floor shelf state spells lines h.home (length workers) h.course h.counts looks (j + 1) to (h.course.phase + 1) (seat w) (desks w)
+      by : (j : ℕ) (w : A) → slice_get workers j ≡ Some w → (j < k) ⊎ (k ≤ j) → j < k + 1 → Rests law state spells lines h.home (length workers) h.course h.counts looks (j + 1) to (h.course.phase + 1) (seat w) (desks w)
       by j w at (inl low) under = h.had j w low at
       by j w at (inr high) under =
           let same : k ≡ j = omega (arith, high, under) in
           let r = h.waits j w high at in
           record {
-            worker = phase_passed may floor shelf state spells lines h.home (length workers) h.course h.counts looks (j + 1) from to (seat w) (desks w) range h.begins (subst (λ i. HasNone lines from to (i + 1)) same none) r.worker;
+            worker = phase_passed law state spells lines h.home (length workers) h.course h.counts looks (j + 1) from to (seat w) (desks w) range h.begins (subst (λ i. HasNone lines from to (i + 1)) same none) r.worker;
             none_given = r.none_given;
           }
 
   -- a node has had its turn
-  pub crew_turned : MayRun may floor shelf → (from to k : ℕ) (journal journal' : List Event) (looks looks' : List (Option Looked)) (w w' : A) → slice_get workers k ≡ Some w
-      → (h : CrewAt may floor shelf state spells lines from to k journal looks seat desks workers)
-      → TurnWent may floor shelf state spells lines h.home (length workers) h.course h.counts looks looks' (k + 1) to journal' (seat w') (desks w')
-      → CrewAt may floor shelf state spells lines from to (k + 1) journal' looks' seat desks (slice_set workers k w')
+  pub crew_turned : MayRun law → (from to k : ℕ) (journal journal' : List Event) (looks looks' : List (Option Looked)) (w w' : A) → slice_get workers k ≡ Some w
+      → (h : CrewAt law state spells lines from to k journal looks seat desks workers)
+      → TurnWent law state spells lines h.home (length workers) h.course h.counts looks looks' (k + 1) to journal' (seat w') (desks w')
+      → CrewAt law state spells lines from to (k + 1) journal' looks' seat desks (slice_set workers k w')
   crew_turned run from to k journal journal' looks looks' w w' at h t = record {
     home = h.home;
     course = t.course;
@@ -132,9 +133,9 @@ module _ {A : Type 0} (may : ℕ → Entry → Type 0) (floor : List Entry → �
     lines_are = subst (AreLines lines h.home) (sym size) h.lines_are;
     begins = subst (BeginsAt lines from) (sym t.turn.phase) h.begins;
     ends = subst (λ p. BeginsAt lines to (p + 1)) (sym t.turn.phase) h.ends;
-    ok = subst (λ n. CourseOk may floor shelf lines n t.course t.sent looks') (sym size) t.ok;
-    had = λ j x low is. subst (λ n. Rests may floor shelf state spells lines h.home n t.course t.sent looks' (j + 1) to (t.course.phase + 1) (seat x) (desks x)) (sym size) (had j x low (changed workers k j w w' x at is));
-    waits = λ j x high is. subst (λ n. Rests may floor shelf state spells lines h.home n t.course t.sent looks' (j + 1) from t.course.phase (seat x) (desks x)) (sym size) (waits j x high (changed workers k j w w' x at is));
+    ok = subst (λ n. CourseOk law lines n t.course t.sent looks') (sym size) t.ok;
+    had = λ j x low is. subst (λ n. Rests law state spells lines h.home n t.course t.sent looks' (j + 1) to (t.course.phase + 1) (seat x) (desks x)) (sym size) (had j x low (changed workers k j w w' x at is));
+    waits = λ j x high is. subst (λ n. Rests law state spells lines h.home n t.course t.sent looks' (j + 1) from t.course.phase (seat x) (desks x)) (sym size) (waits j x high (changed workers k j w w' x at is));
     sees = λ calm. record { at = k; one = w'; is = here; upto = t.sees calm.told (calm.disks k w' here) };
   }
     where
@@ -144,46 +145,46 @@ module _ {A : Type 0} (may : ℕ → Entry → Type 0) (floor : List Entry → �
       here : slice_get (slice_set workers k w') k ≡ Some w'
       here = set_same workers k w' w at
 
-      on : (j begin done : ℕ) (x : A) → j ≢ k → BeginsAt lines begin done → done ≤ h.course.phase + 1 → Rests may floor shelf state spells lines h.home (length workers) h.course h.counts looks (j + 1) begin done (seat x) (desks x)
-          → Rests may floor shelf state spells lines h.home (length workers) t.course t.sent looks' (j + 1) begin done (seat x) (desks x)
+      on : (j begin done : ℕ) (x : A) → j ≢ k → BeginsAt lines begin done → done ≤ h.course.phase + 1 → Rests law state spells lines h.home (length workers) h.course h.counts looks (j + 1) begin done (seat x) (desks x)
+          → Rests law state spells lines h.home (length workers) t.course t.sent looks' (j + 1) begin done (seat x) (desks x)
       on j begin done x other b low r =
-          rests_on may floor shelf state spells lines h.home (length workers) h.course t.course h.counts t.sent looks looks' (k + 1) (j + 1) begin done (seat x) (desks x) h.lines_are (apart j k other) b low h.ok t.turn t.ok r
+          rests_on law state spells lines h.home (length workers) h.course t.course h.counts t.sent looks looks' (k + 1) (j + 1) begin done (seat x) (desks x) h.lines_are (apart j k other) b low h.ok t.turn t.ok r
 
-      had : (j : ℕ) (x : A) → j < k + 1 → ((j ≡ k) × (w' ≡ x)) ⊎ ((j ≢ k) × (slice_get workers j ≡ Some x)) → Rests may floor shelf state spells lines h.home (length workers) t.course t.sent looks' (j + 1) to (t.course.phase + 1) (seat x) (desks x)
+      had : (j : ℕ) (x : A) → j < k + 1 → ((j ≡ k) × (w' ≡ x)) ⊎ ((j ≢ k) × (slice_get workers j ≡ Some x)) → Rests law state spells lines h.home (length workers) t.course t.sent looks' (j + 1) to (t.course.phase + 1) (seat x) (desks x)
       had j x low (inl same) =
-          subst (λ y. Rests may floor shelf state spells lines h.home (length workers) t.course t.sent looks' (j + 1) to (t.course.phase + 1) (seat y) (desks y)) same.1
-          (subst (λ i. Rests may floor shelf state spells lines h.home (length workers) t.course t.sent looks' (i + 1) to (t.course.phase + 1) (seat w') (desks w')) (sym same.0) t.rests)
+          subst (λ y. Rests law state spells lines h.home (length workers) t.course t.sent looks' (j + 1) to (t.course.phase + 1) (seat y) (desks y)) same.1
+          (subst (λ i. Rests law state spells lines h.home (length workers) t.course t.sent looks' (i + 1) to (t.course.phase + 1) (seat w') (desks w')) (sym same.0) t.rests)
       had j x low (inr other) =
           let less : j < k = by (cases_lt j k) in
-          subst (λ p. Rests may floor shelf state spells lines h.home (length workers) t.course t.sent looks' (j + 1) to (p + 1) (seat x) (desks x)) (sym t.turn.phase)
+          subst (λ p. Rests law state spells lines h.home (length workers) t.course t.sent looks' (j + 1) to (p + 1) (seat x) (desks x)) (sym t.turn.phase)
           (on j to (h.course.phase + 1) x other.0 h.ends (omega arith) (h.had j x less other.1))
         where
           by : (j < k) ⊎ (k ≤ j) → j < k
           by (inl less) = less
           by (inr high) = absurd (other.0 (omega (arith, high, low)))
 
-      waits : (j : ℕ) (x : A) → k + 1 ≤ j → ((j ≡ k) × (w' ≡ x)) ⊎ ((j ≢ k) × (slice_get workers j ≡ Some x)) → Rests may floor shelf state spells lines h.home (length workers) t.course t.sent looks' (j + 1) from t.course.phase (seat x) (desks x)
+      waits : (j : ℕ) (x : A) → k + 1 ≤ j → ((j ≡ k) × (w' ≡ x)) ⊎ ((j ≢ k) × (slice_get workers j ≡ Some x)) → Rests law state spells lines h.home (length workers) t.course t.sent looks' (j + 1) from t.course.phase (seat x) (desks x)
       waits j x high (inl same) = absurd (omega (arith, high, same.0))
       waits j x high (inr other) =
-          subst (λ p. Rests may floor shelf state spells lines h.home (length workers) t.course t.sent looks' (j + 1) from p (seat x) (desks x)) (sym t.turn.phase)
+          subst (λ p. Rests law state spells lines h.home (length workers) t.course t.sent looks' (j + 1) from p (seat x) (desks x)) (sym t.turn.phase)
           (on j from h.course.phase x other.0 h.begins (omega arith) (h.waits j x (omega (arith, high)) other.1))
 
   -- one node came to a later journal, at which the others can take the fabric too
   pub still_stands : (k : ℕ) (journal journal' : List Event) (w w' : A) → slice_get workers k ≡ Some w → Grows journal journal'
-      → CrewStands may floor shelf state spells journal seat workers → SeatOk may floor shelf state spells journal' (seat w') → CrewStands may floor shelf state spells journal' seat (slice_set workers k w')
+      → CrewStands law state spells journal seat workers → SeatOk law state spells journal' (seat w') → CrewStands law state spells journal' seat (slice_set workers k w')
   still_stands k journal journal' w w' at grows h s = λ j x is. by j x (changed workers k j w w' x at is)
     where
-      by : (j : ℕ) (x : A) → ((j ≡ k) × (w' ≡ x)) ⊎ ((j ≢ k) × (slice_get workers j ≡ Some x)) → SeatOk may floor shelf state spells journal' (seat x)
-      by j x (inl same) = subst (λ y. SeatOk may floor shelf state spells journal' (seat y)) same.1 s
+      by : (j : ℕ) (x : A) → ((j ≡ k) × (w' ≡ x)) ⊎ ((j ≢ k) × (slice_get workers j ≡ Some x)) → SeatOk law state spells journal' (seat x)
+      by j x (inl same) = subst (λ y. SeatOk law state spells journal' (seat y)) same.1 s
       by j x (inr other) =
-          subst (λ i. SeatOk may floor shelf state spells i (seat x)) (sym grows.1)
-          (seat_later may floor shelf journal grows.0 (subst (IsLegal may floor shelf) grows.1 s.node.legal) state spells (seat x) (h j x other.1))
+          subst (λ i. SeatOk law state spells i (seat x)) (sym grows.1)
+          (seat_later law journal grows.0 (subst (IsLegal law) grows.1 s.node.legal) state spells (seat x) (h j x other.1))
 
   -- Phases
 
   -- a phase begins
   pub crew_begins : (from to phase : ℕ) (journal : List Event) (looks : List (Option Looked)) → from ≤ to → EndsPhase lines from to phase
-      → CrewRests may floor shelf state spells lines from phase journal looks seat desks workers → CrewAt may floor shelf state spells lines from to 0 journal looks seat desks workers
+      → CrewRests law state spells lines from phase journal looks seat desks workers → CrewAt law state spells lines from to 0 journal looks seat desks workers
   crew_begins from to phase journal looks range e h = record {
     home = h.home;
     course = h.course;
@@ -197,7 +198,7 @@ module _ {A : Type 0} (may : ℕ → Entry → Type 0) (floor : List Entry → �
     });
     ok = h.ok;
     had = λ j w low at. absurd (omega (arith, low));
-    waits = λ j w high at. subst (λ p. Rests may floor shelf state spells lines h.home (length workers) h.course h.counts looks (j + 1) from p (seat w) (desks w)) (sym h.phase_is) (h.each j w at);
+    waits = λ j w high at. subst (λ p. Rests law state spells lines h.home (length workers) h.course h.counts looks (j + 1) from p (seat w) (desks w)) (sym h.phase_is) (h.each j w at);
     sees = h.sees;
   }
     where
@@ -218,7 +219,7 @@ module _ {A : Type 0} (may : ℕ → Entry → Type 0) (floor : List Entry → �
 
   -- a phase has ended
   pub crew_ends : (from to : ℕ) (journal : List Event) (looks : List (Option Looked))
-      → (h : CrewAt may floor shelf state spells lines from to (length workers) journal looks seat desks workers) → CrewRests may floor shelf state spells lines to (h.course.phase + 1) journal looks seat desks workers
+      → (h : CrewAt law state spells lines from to (length workers) journal looks seat desks workers) → CrewRests law state spells lines to (h.course.phase + 1) journal looks seat desks workers
   crew_ends from to journal looks h = record {
     home = h.home;
     course = next_phase h.course;
@@ -227,8 +228,8 @@ module _ {A : Type 0} (may : ℕ → Entry → Type 0) (floor : List Entry → �
     phase_is = refl;
     lines_are = h.lines_are;
     begins = h.ends;
-    ok = course_begins may floor shelf lines (length workers) h.course h.counts looks sent h.ok;
-    each = λ j w at. rests_then h.course may floor shelf state spells lines h.home (length workers) h.counts looks (j + 1) to (h.course.phase + 1) (seat w) (desks w) (h.had j w (within j w at) at);
+    ok = course_begins law lines (length workers) h.course h.counts looks sent h.ok;
+    each = λ j w at. rests_then h.course law state spells lines h.home (length workers) h.counts looks (j + 1) to (h.course.phase + 1) (seat w) (desks w) (h.had j w (within j w at) at);
     sees = h.sees;
   }
     where
@@ -244,8 +245,8 @@ module _ {A : Type 0} (may : ℕ → Entry → Type 0) (floor : List Entry → �
       by_home s n is low =
           let there : n < length workers = let most = h.lines_are.within s in omega (arith, most, is) in
           let w = worker_at workers n there in
-          sent_asked may floor shelf state spells lines h.home (length workers) h.course h.counts looks s to (h.course.phase + 1) (seat w.0) (desks w.0) h.ends low
-          (subst (λ k. Rests may floor shelf state spells lines h.home (length workers) h.course h.counts looks k to (h.course.phase + 1) (seat w.0) (desks w.0)) (sym is) (h.had n w.0 there w.1))
+          sent_asked law state spells lines h.home (length workers) h.course h.counts looks s to (h.course.phase + 1) (seat w.0) (desks w.0) h.ends low
+          (subst (λ k. Rests law state spells lines h.home (length workers) h.course h.counts looks k to (h.course.phase + 1) (seat w.0) (desks w.0)) (sym is) (h.had n w.0 there w.1))
 
       sent : (s : ℕ) → sent_of h.counts s ≤ asked_before lines s (h.course.phase + 1)
       sent s = by (cases_lt s 64) (h.home s) refl
@@ -257,7 +258,7 @@ module _ {A : Type 0} (may : ℕ → Entry → Type 0) (floor : List Entry → �
 
   -- all nodes pass by a phase without a line
   abbrev all_pass : (from phase : ℕ) (journal : List Event) (looks : List (Option Looked)) → BeginsAt lines from (phase + 1)
-      → CrewRests may floor shelf state spells lines from phase journal looks seat desks workers → CrewAt may floor shelf state spells lines from from (length workers) journal looks seat desks workers
+      → CrewRests law state spells lines from phase journal looks seat desks workers → CrewAt law state spells lines from from (length workers) journal looks seat desks workers
   all_pass from phase journal looks b h = record {
     home = h.home;
     course = h.course;
@@ -268,8 +269,8 @@ module _ {A : Type 0} (may : ℕ → Entry → Type 0) (floor : List Entry → �
     ends = subst (λ p. BeginsAt lines from (p + 1)) (sym h.phase_is) b;
     ok = h.ok;
     had = λ j w low at. record {
-      worker = phase_passed may floor shelf state spells lines h.home (length workers) h.course h.counts looks (j + 1) from from (seat w) (desks w) (omega arith) begins (λ i l more less get. absurd (omega (arith, more, less)))
-          (subst (λ p. WorkerAt may floor shelf state spells lines h.home (length workers) h.course h.counts looks (j + 1) from from p (seat w) (desks w)) (sym h.phase_is) (h.each j w at).worker);
+      worker = phase_passed law state spells lines h.home (length workers) h.course h.counts looks (j + 1) from from (seat w) (desks w) (omega arith) begins (λ i l more less get. absurd (omega (arith, more, less)))
+          (subst (λ p. WorkerAt law state spells lines h.home (length workers) h.course h.counts looks (j + 1) from from p (seat w) (desks w)) (sym h.phase_is) (h.each j w at).worker);
       none_given = (h.each j w at).none_given;
     };
     waits = λ j w high at. absurd (let inside = slice_get_within workers j w at in omega (arith, inside, high));
@@ -281,26 +282,26 @@ module _ {A : Type 0} (may : ℕ → Entry → Type 0) (floor : List Entry → �
 
   -- .. and by as many as there are
   pub crew_skips : (from n phase : ℕ) (journal : List Event) (looks : List (Option Looked)) → BeginsAt lines from (phase + n)
-      → CrewRests may floor shelf state spells lines from phase journal looks seat desks workers → CrewRests may floor shelf state spells lines from (phase + n) journal looks seat desks workers
-  crew_skips from zero phase journal looks b h = let e : phase ≡ phase + zero = omega arith in subst (λ p. CrewRests may floor shelf state spells lines from p journal looks seat desks workers) e h
+      → CrewRests law state spells lines from phase journal looks seat desks workers → CrewRests law state spells lines from (phase + n) journal looks seat desks workers
+  crew_skips from zero phase journal looks b h = let e : phase ≡ phase + zero = omega arith in subst (λ p. CrewRests law state spells lines from p journal looks seat desks workers) e h
   crew_skips from (suc n) phase journal looks b h =
       let one : BeginsAt lines from (phase + 1) = record {
         before = λ i l at low. let early = h.begins.before i l at low in omega (arith, early);
         behind = λ i l at high. let late = b.behind i l at high in omega (arith, late);
       } in
       let same : (phase + 1) + n ≡ phase + suc n = omega arith in
-      subst (λ p. CrewRests may floor shelf state spells lines from p journal looks seat desks workers) same
+      subst (λ p. CrewRests law state spells lines from p journal looks seat desks workers) same
       (crew_skips from n (phase + 1) journal looks (subst (BeginsAt lines from) (sym same) b)
-      (subst (λ p. CrewRests may floor shelf state spells lines from (p + 1) journal looks seat desks workers) h.phase_is
+      (subst (λ p. CrewRests law state spells lines from (p + 1) journal looks seat desks workers) h.phase_is
       (crew_ends from from journal looks (all_pass from phase journal looks one h))))
 
   -- the lines behind are of the first one's phase or of a later one
   pub crew_comes : (from phase : ℕ) (journal : List Event) (looks : List (Option Looked)) (line : NamedLine) → slice_get lines from ≡ Some line
-      → CrewRests may floor shelf state spells lines from phase journal looks seat desks workers → CrewRests may floor shelf state spells lines from line.phase journal looks seat desks workers
+      → CrewRests law state spells lines from phase journal looks seat desks workers → CrewRests law state spells lines from line.phase journal looks seat desks workers
   crew_comes from phase journal looks line at h =
       let up = h.begins.behind from line at (omega arith) in
       let is : phase + (line.phase - phase) ≡ line.phase = omega (arith, up) in
-      subst (λ p. CrewRests may floor shelf state spells lines from p journal looks seat desks workers) is
+      subst (λ p. CrewRests law state spells lines from p journal looks seat desks workers) is
       (crew_skips from (line.phase - phase) phase journal looks (subst (BeginsAt lines from) (sym is) (record {
         before = λ i l get low. let early = h.begins.before i l get low in omega (arith, early, up);
         behind = λ i l get high. phase_before lines h.home (length workers) h.lines_are from i line l at get high;

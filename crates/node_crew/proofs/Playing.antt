@@ -3,6 +3,7 @@ use Rattle.std.proofs.Common.{◌≡◌, refl, sym, ap, subst, ℕ, ◌+◌, ◌
 use Rattle.std.specs.Prelude.{◌==◌, slice_get}
 use Rattle.delos_types.specs.Spaces.{SpaceMap}
 use Rattle.delos_types.specs.declared.entry.Entry.{Entry}
+use Rattle.legal_journal.specs.Law.{Law}
 use Rattle.legal_journal.specs.declared.events.Event.{Event}
 use Rattle.replica_api.specs.Replica.{Saved}
 use Rattle.script_text.specs.declared.asks.NamedLine.{NamedLine}
@@ -26,14 +27,14 @@ use Rattle.run_course.proofs.Passing.{another_line}
 use Rattle.run_course.proofs.Joining.{no_turn, turns_join}
 
 -- a node with its sessions can take the fabric
-pub worker_stands : (may : ℕ → Entry → Type 0) (floor : List Entry → ℕ → Type 0) (shelf : List ℕ) (state : List Entry → SpaceMap → Type 0) (spells : List ℕ → Saved → Type 0) (who : ℕ) (journal : List Event) (seat : SeatView) (desks : List Desk)
-    → WorkerOk may floor shelf state spells who journal seat desks → SeatOk may floor shelf state spells journal seat
-worker_stands may floor shelf state spells who journal seat desks h = seat_allowed may floor shelf who (sent_by desks) state spells journal seat h.ok
+pub worker_stands : (law : Law) (state : List Entry → SpaceMap → Type 0) (spells : List ℕ → Saved → Type 0) (who : ℕ) (journal : List Event) (seat : SeatView) (desks : List Desk)
+    → WorkerOk law state spells who journal seat desks → SeatOk law state spells journal seat
+worker_stands law state spells who journal seat desks h = seat_allowed law who (sent_by desks) state spells journal seat h.ok
 
-module _ (may : ℕ → Entry → Type 0) (floor : List Entry → ℕ → Type 0) (shelf : List ℕ) (state : List Entry → SpaceMap → Type 0) (spells : List ℕ → Saved → Type 0) (lines : List NamedLine) (home : ℕ → ℕ) (nodes : ℕ) (c : Course) (counts : List ℕ) (looks : List (Option Looked)) (n from : ℕ) where
+module _ (law : Law) (state : List Entry → SpaceMap → Type 0) (spells : List ℕ → Saved → Type 0) (lines : List NamedLine) (home : ℕ → ℕ) (nodes : ℕ) (c : Course) (counts : List ℕ) (looks : List (Option Looked)) (n from : ℕ) where
   -- no line was played yet
-  pub none_went : (journal : List Event) (seat : SeatView) (desks : List Desk) → IsUnderWay may floor shelf state spells lines home nodes c counts looks n from from journal seat desks
-      → LineWent may floor shelf state spells lines home nodes c counts looks looks n from from journal seat desks
+  pub none_went : (journal : List Event) (seat : SeatView) (desks : List Desk) → IsUnderWay law state spells lines home nodes c counts looks n from from journal seat desks
+      → LineWent law state spells lines home nodes c counts looks looks n from from journal seat desks
   none_went journal seat desks u = record {
     course = c;
     sent = counts;
@@ -45,8 +46,8 @@ module _ (may : ℕ → Entry → Type 0) (floor : List Entry → ℕ → Type 0
   }
 
   -- so far it is the node's turn
-  pub under_way : (looks' : List (Option Looked)) (i : ℕ) (early journal : List Event) (seat seat' : SeatView) (desks desks' : List Desk) → IsUnderWay may floor shelf state spells lines home nodes c counts looks n from from early seat desks
-      → (w : LineWent may floor shelf state spells lines home nodes c counts looks looks' n from i journal seat' desks') → IsUnderWay may floor shelf state spells lines home nodes w.course w.sent looks' n from i journal seat' desks'
+  pub under_way : (looks' : List (Option Looked)) (i : ℕ) (early journal : List Event) (seat seat' : SeatView) (desks desks' : List Desk) → IsUnderWay law state spells lines home nodes c counts looks n from from early seat desks
+      → (w : LineWent law state spells lines home nodes c counts looks looks' n from i journal seat' desks') → IsUnderWay law state spells lines home nodes w.course w.sent looks' n from i journal seat' desks'
   under_way looks' i early journal seat seat' desks desks' u w = record {
     journal_is = w.journal_is;
     lines_are = u.lines_are;
@@ -60,9 +61,9 @@ module _ (may : ℕ → Entry → Type 0) (floor : List Entry → ℕ → Type 0
 
   -- one more line
   pub then_went : (looks' looks'' : List (Option Looked)) (i : ℕ) (journal journal' : List Event) (seat seat' : SeatView) (desks desks' : List Desk)
-      → (w : LineWent may floor shelf state spells lines home nodes c counts looks looks' n from i journal seat desks)
-      → LineWent may floor shelf state spells lines home nodes w.course w.sent looks' looks'' n from (i + 1) journal' seat' desks'
-      → LineWent may floor shelf state spells lines home nodes c counts looks looks'' n from (i + 1) journal' seat' desks'
+      → (w : LineWent law state spells lines home nodes c counts looks looks' n from i journal seat desks)
+      → LineWent law state spells lines home nodes w.course w.sent looks' looks'' n from (i + 1) journal' seat' desks'
+      → LineWent law state spells lines home nodes c counts looks looks'' n from (i + 1) journal' seat' desks'
   then_went looks' looks'' i journal journal' seat seat' desks desks' w v = record {
     course = v.course;
     sent = v.sent;
@@ -75,14 +76,14 @@ module _ (may : ℕ → Entry → Type 0) (floor : List Entry → ℕ → Type 0
 
   -- a line of another node
   pub passed_by : (looks' : List (Option Looked)) (i : ℕ) (line : NamedLine) (journal : List Event) (seat : SeatView) (desks : List Desk) → slice_get lines i ≡ Some line → (line.node == n) ≡ false
-      → LineWent may floor shelf state spells lines home nodes c counts looks looks' n from i journal seat desks → LineWent may floor shelf state spells lines home nodes c counts looks looks' n from (i + 1) journal seat desks
+      → LineWent law state spells lines home nodes c counts looks looks' n from i journal seat desks → LineWent law state spells lines home nodes c counts looks looks' n from (i + 1) journal seat desks
   passed_by looks' i line journal seat desks at other w = record {
     course = w.course;
     sent = w.sent;
     journal_is = w.journal_is;
     ok = w.ok;
     turn = w.turn;
-    worker = another_line may floor shelf state spells lines home nodes w.course w.sent looks' n from i w.course.phase line seat desks at other w.worker;
+    worker = another_line law state spells lines home nodes w.course w.sent looks' n from i w.course.phase line seat desks at other w.worker;
     high = w.high;
   }
 
@@ -111,13 +112,13 @@ kept_lone {floor} {seat} {journal} high = kept_alone (λ _ _. ⊥) floor seat jo
 
 -- What a turn left.
 
-module _ {may : ℕ → Entry → Type 0} {floor : List Entry → ℕ → Type 0} {shelf : List ℕ} {state : List Entry → SpaceMap → Type 0} {spells : List ℕ → Saved → Type 0} {right : Type 0} {old new : List Event} {a b : SeatView} where
-  pub left_own : IsLeft may floor shelf state spells (λ _ _. ⊥) right old a new b → OwnSince a.who old new
+module _ {law : Law} {state : List Entry → SpaceMap → Type 0} {spells : List ℕ → Saved → Type 0} {right : Type 0} {old new : List Event} {a b : SeatView} where
+  pub left_own : IsLeft law state spells (λ _ _. ⊥) right old a new b → OwnSince a.who old new
   left_own h = own_since a.who (λ _. ⊥) old new nobody h.since
 
-  pub left_grows : IsLeft may floor shelf state spells (λ _ _. ⊥) right old a new b → Grows old new
+  pub left_grows : IsLeft law state spells (λ _ _. ⊥) right old a new b → Grows old new
   left_grows h = grows-since a.who (λ _. ⊥) old new h.since
 
-pub left_unsealed : {may : ℕ → Entry → Type 0} {floor : List Entry → ℕ → Type 0} {shelf : List ℕ} {state : List Entry → SpaceMap → Type 0} {spells : List ℕ → Saved → Type 0} {old new : List Event} {a b : SeatView}
-    → IsLeft may floor shelf state spells (λ _ _. ⊥) ⊥ old a new b → Unsealed old new
+pub left_unsealed : {law : Law} {state : List Entry → SpaceMap → Type 0} {spells : List ℕ → Saved → Type 0} {old new : List Event} {a b : SeatView}
+    → IsLeft law state spells (λ _ _. ⊥) ⊥ old a new b → Unsealed old new
 left_unsealed {old} {new} {a} h = unsealed_own a.who old new (left_own h) (seals_none a.who old new h.seals)

@@ -1,9 +1,9 @@
 -- Where no fault came, a node whose turn has ended has played the whole log.
 use Rattle.std.proofs.Common.{◌≡◌, refl, sym, ap, ◌∙◌, subst, ⊎_elim, ℕ, ◌≤◌, Bool, true, false, not, List, [], ◌∷◌, ◌++◌, Option, Some, None, cond, count_by, Contains, map, arith}
 use Rattle.std.proofs.lemmas.List.Elements.{filter_map-append}
-use Rattle.delos_types.specs.declared.entry.Entry.{Entry}
 use Rattle.delos_types.specs.declared.cause.Cause.{Cause}
 use Rattle.delos_types.specs.declared.cause.Cause.TheVariants as cause
+use Rattle.legal_journal.specs.Law.{Law}
 use Rattle.legal_journal.specs.declared.events.Event.{Event}
 use Rattle.legal_journal.specs.Journal.{IsLegal, state_of, trim_of, tail_of}
 use Rattle.journal_laws.specs.Changes.{TrimsUpTo, raised}
@@ -63,26 +63,26 @@ no_causes who old new before after (c ∷ cs) s none calm = absurd (by c s)
         omega (arith, rises, calm, some)
 
 -- the log isn't trimmed above what no chain's trim is above
-pub trim_low : (may : ℕ → Entry → Type 0) (floor : List Entry → ℕ → Type 0) (shelf : List ℕ) (m : ℕ) (seen : List Event) → IsLegal may floor shelf seen → TrimsUpTo m seen → trim_of (state_of seen) ≤ m
-trim_low may floor shelf m seen legal low = ⊎_elim (λ (none : trim_of (state_of seen) ≡ 0). omega (arith, none))
+pub trim_low : (law : Law) (m : ℕ) (seen : List Event) → IsLegal law seen → TrimsUpTo m seen → trim_of (state_of seen) ≤ m
+trim_low law m seen legal low = ⊎_elim (λ (none : trim_of (state_of seen) ≡ 0). omega (arith, none))
     (λ (h : Contains (raised seen) (trim_of (state_of seen))). low (trim_of (state_of seen)) h)
-    (trim_raised may floor shelf seen legal)
+    (trim_raised law seen legal)
 
 not_none : (xs : List Cause) (c : Cause) → xs ++ c ∷ [] ≡ [] → ⊥
 not_none [] c e = cc
 not_none (x ∷ xs) c e = cc
 
 -- the phase ended at a node, above which nothing is trimmed
-pub ended_sees : (may sends : ℕ → Entry → Type 0) (floor : List Entry → ℕ → Type 0) (shelf : List ℕ) (seat seat' : SeatView) (desks desks' : List Desk) (mid new : List Event) (failed : Option Cause) → IsLegal may floor shelf new → TrimsUpTo seat.node.replica.cursor new → OwnSince seat.who mid new
-    → EndsTurn sends floor shelf (node_of seat mid) (node_of seat' new) desks desks' failed → faults_in new ≡ [] → seat'.node.replica.faults ≡ 0 → tail_of (state_of new) ≤ seat'.node.replica.cursor
-ended_sees may sends floor shelf seat seat' desks desks' mid new failed legal low since t none calm = by failed t
+pub ended_sees : (law scope : Law) (seat seat' : SeatView) (desks desks' : List Desk) (mid new : List Event) (failed : Option Cause) → IsLegal law new → TrimsUpTo seat.node.replica.cursor new → OwnSince seat.who mid new
+    → EndsTurn scope (node_of seat mid) (node_of seat' new) desks desks' failed → faults_in new ≡ [] → seat'.node.replica.faults ≡ 0 → tail_of (state_of new) ≤ seat'.node.replica.cursor
+ended_sees law scope seat seat' desks desks' mid new failed legal low since t none calm = by failed t
   where
-    by : (f : Option Cause) → EndsTurn sends floor shelf (node_of seat mid) (node_of seat' new) desks desks' f → tail_of (state_of new) ≤ seat'.node.replica.cursor
+    by : (f : Option Cause) → EndsTurn scope (node_of seat mid) (node_of seat' new) desks desks' f → tail_of (state_of new) ≤ seat'.node.replica.cursor
     by None t =
         let seen : new ≡ t.mid.seen = ap (λ (n : NodeView). n.seen) t.forgets in
         let cursor : seat'.node.replica.cursor ≡ t.mid.replica.cursor = ap (λ (n : NodeView). n.replica.cursor) t.forgets in
         let top = t.ends.exact refl
-        (subst (λ l. trim_of (state_of l) ≤ seat.node.replica.cursor) seen (trim_low may floor shelf seat.node.replica.cursor new legal low))
+        (subst (λ l. trim_of (state_of l) ≤ seat.node.replica.cursor) seen (trim_low law seat.node.replica.cursor new legal low))
         (subst (OnlyOwn seat.who mid) seen (only_own seat.who mid new since)) in
         let same : tail_of (state_of new) ≡ tail_of (state_of t.mid.seen) = ap (λ l. tail_of (state_of l)) seen in
         omega (arith, top, same, cursor)

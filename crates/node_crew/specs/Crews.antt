@@ -2,6 +2,7 @@
 use Rattle.std.specs.Prelude.{◌≡◌, ℕ, ◌+◌, ◌<◌, ◌≤◌, ◌==◌, false, List, [], length, slice_get, Option, Some}
 use Rattle.delos_types.specs.Spaces.{SpaceMap}
 use Rattle.delos_types.specs.declared.entry.Entry.{Entry}
+use Rattle.legal_journal.specs.Law.{Law}
 use Rattle.legal_journal.specs.declared.events.Event.{Event}
 use Rattle.legal_journal.specs.Journal.{state_of, tail_of}
 use Rattle.journal_laws.specs.Faults.{faults_in}
@@ -49,7 +50,7 @@ SomeSees journal seat workers = HasNoFault journal seat workers → HasReached s
 
 -- Between two phases: the lines of `phase` and of later ones begin at `from`. A worker is seen by its seat and its desks; the
 -- nodes are numbered from 1.
-pub record CrewRests {A : Type 0} (may : ℕ → Entry → Type 0) (floor : List Entry → ℕ → Type 0) (shelf : List ℕ) (state : List Entry → SpaceMap → Type 0) (spells : List ℕ → Saved → Type 0) (lines : List NamedLine) (from phase : ℕ) (journal : List Event) (looks : List (Option Looked)) (seat : A → SeatView) (desks : A → List Desk) (workers : List A) : Type 0 where
+pub record CrewRests {A : Type 0} (law : Law) (state : List Entry → SpaceMap → Type 0) (spells : List ℕ → Saved → Type 0) (lines : List NamedLine) (from phase : ℕ) (journal : List Event) (looks : List (Option Looked)) (seat : A → SeatView) (desks : A → List Desk) (workers : List A) : Type 0 where
   pub home : ℕ → ℕ
   pub course : Course
   pub counts : List ℕ
@@ -57,12 +58,12 @@ pub record CrewRests {A : Type 0} (may : ℕ → Entry → Type 0) (floor : List
   pub phase_is : course.phase ≡ phase
   pub lines_are : AreLines lines home (length workers)
   pub begins : BeginsAt lines from phase
-  pub ok : CourseOk may floor shelf lines (length workers) course counts looks
-  pub each : (j : ℕ) (w : A) → slice_get workers j ≡ Some w → Rests may floor shelf state spells lines home (length workers) course counts looks (j + 1) from phase (seat w) (desks w)
+  pub ok : CourseOk law lines (length workers) course counts looks
+  pub each : (j : ℕ) (w : A) → slice_get workers j ≡ Some w → Rests law state spells lines home (length workers) course counts looks (j + 1) from phase (seat w) (desks w)
   pub sees : SomeSees journal seat workers
 
 -- In a phase, whose lines are those from `from` up to `to`: the first k nodes have had their turn, the others not yet.
-pub record CrewAt {A : Type 0} (may : ℕ → Entry → Type 0) (floor : List Entry → ℕ → Type 0) (shelf : List ℕ) (state : List Entry → SpaceMap → Type 0) (spells : List ℕ → Saved → Type 0) (lines : List NamedLine) (from to k : ℕ) (journal : List Event) (looks : List (Option Looked)) (seat : A → SeatView) (desks : A → List Desk) (workers : List A) : Type 0 where
+pub record CrewAt {A : Type 0} (law : Law) (state : List Entry → SpaceMap → Type 0) (spells : List ℕ → Saved → Type 0) (lines : List NamedLine) (from to k : ℕ) (journal : List Event) (looks : List (Option Looked)) (seat : A → SeatView) (desks : A → List Desk) (workers : List A) : Type 0 where
   pub home : ℕ → ℕ
   pub course : Course
   pub counts : List ℕ
@@ -70,11 +71,11 @@ pub record CrewAt {A : Type 0} (may : ℕ → Entry → Type 0) (floor : List En
   pub lines_are : AreLines lines home (length workers)
   pub begins : BeginsAt lines from course.phase
   pub ends : BeginsAt lines to (course.phase + 1)
-  pub ok : CourseOk may floor shelf lines (length workers) course counts looks
-  pub had : (j : ℕ) (w : A) → j < k → slice_get workers j ≡ Some w → Rests may floor shelf state spells lines home (length workers) course counts looks (j + 1) to (course.phase + 1) (seat w) (desks w)
-  pub waits : (j : ℕ) (w : A) → k ≤ j → slice_get workers j ≡ Some w → Rests may floor shelf state spells lines home (length workers) course counts looks (j + 1) from course.phase (seat w) (desks w)
+  pub ok : CourseOk law lines (length workers) course counts looks
+  pub had : (j : ℕ) (w : A) → j < k → slice_get workers j ≡ Some w → Rests law state spells lines home (length workers) course counts looks (j + 1) to (course.phase + 1) (seat w) (desks w)
+  pub waits : (j : ℕ) (w : A) → k ≤ j → slice_get workers j ≡ Some w → Rests law state spells lines home (length workers) course counts looks (j + 1) from course.phase (seat w) (desks w)
   pub sees : SomeSees journal seat workers
 
 -- each node can take the fabric with this journal
-abbrev pub CrewStands : {A : Type 0} → (ℕ → Entry → Type 0) → (List Entry → ℕ → Type 0) → List ℕ → (List Entry → SpaceMap → Type 0) → (List ℕ → Saved → Type 0) → List Event → (A → SeatView) → List A → Type 0
-CrewStands {A} may floor shelf state spells journal seat workers = (j : ℕ) (w : A) → slice_get workers j ≡ Some w → SeatOk may floor shelf state spells journal (seat w)
+abbrev pub CrewStands : {A : Type 0} → Law → (List Entry → SpaceMap → Type 0) → (List ℕ → Saved → Type 0) → List Event → (A → SeatView) → List A → Type 0
+CrewStands {A} law state spells journal seat workers = (j : ℕ) (w : A) → slice_get workers j ≡ Some w → SeatOk law state spells journal (seat w)

@@ -1,9 +1,6 @@
 //! All nodes of a run, phase by phase.
-ghost use Rattle.std.specs.Prelude.{◌≡◌, ◌<◌, ◌≤◌, ◌+◌, ◌==◌, ℕ, List, length, Some, true, false, IfOk, OnOk, slice_get};
-ghost use Rattle.delos_types.specs.Spaces.{SpaceMap};
-ghost use Rattle.delos_types.specs.declared.entry.Entry.{Entry};
+ghost use Rattle.std.specs.Prelude.{◌≡◌, ◌<◌, ◌≤◌, ◌+◌, ◌==◌, ℕ, length, Some, true, false, IfOk, OnOk, slice_get};
 ghost use Rattle.script_text.specs.declared.asks.NamedLine.{NamedLine};
-ghost use Rattle.log_laws.specs.State.{IsStateOf};
 ghost use Rattle.turn_scopes.specs.Floors.{FloorIs};
 ghost use Rattle.node_lines.specs.Workers.{MayRun};
 ghost use Rattle.node_crew.specs.Turns.{MaySendAll};
@@ -61,16 +58,15 @@ fn play_node<L: Loglet, R: Register, K: Terms, S: Replica, C: Chooser>(
     from: usize,
     to: usize,
 ) -> Played<L, R, K, S, C>
-    requires run { MayRun K.may K.floor K.shelf }
-    requires state { (log : List Entry) (m : SpaceMap) → S.state log m → IsStateOf log m }
+    requires run { MayRun K.law }
     requires range { (from ≤ to) × (to ≤ length lines.now) }
-    requires sends { MaySendAll K.may lines.now }
-    requires floor { FloorIs K.floor (length crew.workers.items) }
+    requires sends { MaySendAll K.law.may lines.now }
+    requires floor { FloorIs K.law.floor (length crew.workers.items) }
     requires there { k < length crew.workers.items }
     requires eight { length crew.workers.items ≤ 8 }
-    requires now { CrewAt K.may K.floor K.shelf S.state S.spells lines.now from to k crew.fabric.journal crew.looks.items (λ w. w.seat) (λ w. w.desks.items) crew.workers.items }
-    ensures goes { OnOk result.answer (CrewAt K.may K.floor K.shelf S.state S.spells lines.now from to (k + 1) result.crew.fabric.journal result.crew.looks.items (λ w. w.seat) (λ w. w.desks.items) result.crew.workers.items) }
-    ensures stands { CrewStands K.may K.floor K.shelf S.state S.spells result.crew.fabric.journal (λ w. w.seat) result.crew.workers.items }
+    requires now { CrewAt K.law S.state S.spells lines.now from to k crew.fabric.journal crew.looks.items (λ w. w.seat) (λ w. w.desks.items) crew.workers.items }
+    ensures goes { OnOk result.answer (CrewAt K.law S.state S.spells lines.now from to (k + 1) result.crew.fabric.journal result.crew.looks.items (λ w. w.seat) (λ w. w.desks.items) result.crew.workers.items) }
+    ensures stands { CrewStands K.law S.state S.spells result.crew.fabric.journal (λ w. w.seat) result.crew.workers.items }
     ensures size { length result.crew.workers.items ≡ length crew.workers.items }
 {
     let Some(node) = NodeId::new(k as u8 + 1) else {
@@ -120,15 +116,14 @@ fn play_phase<L: Loglet, R: Register, K: Terms, S: Replica, C: Chooser>(
     from: usize,
     to: usize,
 ) -> Played<L, R, K, S, C>
-    requires run { MayRun K.may K.floor K.shelf }
-    requires state { (log : List Entry) (m : SpaceMap) → S.state log m → IsStateOf log m }
+    requires run { MayRun K.law }
     requires range { (from ≤ to) × (to ≤ length lines.now) }
-    requires sends { MaySendAll K.may lines.now }
-    requires floor { FloorIs K.floor (length crew.workers.items) }
+    requires sends { MaySendAll K.law.may lines.now }
+    requires floor { FloorIs K.law.floor (length crew.workers.items) }
     requires eight { length crew.workers.items ≤ 8 }
-    requires now { CrewAt K.may K.floor K.shelf S.state S.spells lines.now from to 0 crew.fabric.journal crew.looks.items (λ w. w.seat) (λ w. w.desks.items) crew.workers.items }
-    ensures goes { OnOk result.answer (CrewAt K.may K.floor K.shelf S.state S.spells lines.now from to (length crew.workers.items) result.crew.fabric.journal result.crew.looks.items (λ w. w.seat) (λ w. w.desks.items) result.crew.workers.items) }
-    ensures stands { CrewStands K.may K.floor K.shelf S.state S.spells result.crew.fabric.journal (λ w. w.seat) result.crew.workers.items }
+    requires now { CrewAt K.law S.state S.spells lines.now from to 0 crew.fabric.journal crew.looks.items (λ w. w.seat) (λ w. w.desks.items) crew.workers.items }
+    ensures goes { OnOk result.answer (CrewAt K.law S.state S.spells lines.now from to (length crew.workers.items) result.crew.fabric.journal result.crew.looks.items (λ w. w.seat) (λ w. w.desks.items) result.crew.workers.items) }
+    ensures stands { CrewStands K.law S.state S.spells result.crew.fabric.journal (λ w. w.seat) result.crew.workers.items }
     ensures size { length result.crew.workers.items ≡ length crew.workers.items }
 {
     let mut crew = crew;
@@ -173,15 +168,14 @@ pub fn play_phases<L: Loglet, R: Register, K: Terms, S: Replica, C: Chooser>(
     crew: Crew<L, R, K, S, C>,
     lines: &[NamedLine],
 ) -> Played<L, R, K, S, C>
-    requires run { MayRun K.may K.floor K.shelf }
-    requires state { (log : List Entry) (m : SpaceMap) → S.state log m → IsStateOf log m }
-    requires sends { MaySendAll K.may lines.now }
-    requires floor { FloorIs K.floor (length crew.workers.items) }
+    requires run { MayRun K.law }
+    requires sends { MaySendAll K.law.may lines.now }
+    requires floor { FloorIs K.law.floor (length crew.workers.items) }
     requires eight { length crew.workers.items ≤ 8 }
-    requires fresh { CrewRests K.may K.floor K.shelf S.state S.spells lines.now 0 0 crew.fabric.journal crew.looks.items (λ w. w.seat) (λ w. w.desks.items) crew.workers.items }
-    requires stands { CrewStands K.may K.floor K.shelf S.state S.spells crew.fabric.journal (λ w. w.seat) crew.workers.items }
-    ensures played { OnOk result.answer ((phase : ℕ) × CrewRests K.may K.floor K.shelf S.state S.spells lines.now (length lines.now) phase result.crew.fabric.journal result.crew.looks.items (λ w. w.seat) (λ w. w.desks.items) result.crew.workers.items) }
-    ensures stands { CrewStands K.may K.floor K.shelf S.state S.spells result.crew.fabric.journal (λ w. w.seat) result.crew.workers.items }
+    requires fresh { CrewRests K.law S.state S.spells lines.now 0 0 crew.fabric.journal crew.looks.items (λ w. w.seat) (λ w. w.desks.items) crew.workers.items }
+    requires stands { CrewStands K.law S.state S.spells crew.fabric.journal (λ w. w.seat) crew.workers.items }
+    ensures played { OnOk result.answer ((phase : ℕ) × CrewRests K.law S.state S.spells lines.now (length lines.now) phase result.crew.fabric.journal result.crew.looks.items (λ w. w.seat) (λ w. w.desks.items) result.crew.workers.items) }
+    ensures stands { CrewStands K.law S.state S.spells result.crew.fabric.journal (λ w. w.seat) result.crew.workers.items }
     ensures size { length result.crew.workers.items ≡ length crew.workers.items }
 {
     let mut crew = crew;

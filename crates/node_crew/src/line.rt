@@ -1,8 +1,5 @@
 //! A line is played at its node.
 ghost use Rattle.std.specs.Prelude.{◌≡◌, ◌<◌, ◌≤◌, ◌+◌, ℕ, List, length, Some, Ok, IfOk, OnOk, slice_get, slice_set};
-ghost use Rattle.delos_types.specs.Spaces.{SpaceMap};
-ghost use Rattle.delos_types.specs.declared.entry.Entry.{Entry};
-ghost use Rattle.log_laws.specs.State.{IsStateOf};
 ghost use Rattle.turn_scopes.specs.Floors.{FloorIs};
 ghost use Rattle.turn_scopes.specs.Seats.{SeatOk};
 ghost use Rattle.script_text.specs.declared.asks.NamedLine.{NamedLine};
@@ -64,23 +61,22 @@ fn play_admin<L: Loglet, R: Register, K: Terms, S: Replica, C: Chooser>(
     line: &NamedLine,
     admin: Admin,
 ) -> Back<Lone<L, R, By<K>>, Worker<S, C>, ()>
-    requires run { MayRun K.may K.floor K.shelf }
-    requires state { (log : List Entry) (m : SpaceMap) → S.state log m → IsStateOf log m }
+    requires run { MayRun K.law }
     requires who { lone.who ≡ worker.seat.who }
-    requires worker { WorkerOk K.may K.floor K.shelf S.state S.spells worker.seat.who lone.fabric.journal worker.seat worker.desks.items }
+    requires worker { WorkerOk K.law S.state S.spells worker.seat.who lone.fabric.journal worker.seat worker.desks.items }
     requires node { line.now.node ≡ worker.seat.who }
     requires asked { line.now.asks ≡ asks.Admin admin }
-    requires sends { CanSend K.may worker.seat.who (asks.Admin admin) }
+    requires sends { CanSend K.law.may worker.seat.who (asks.Admin admin) }
     requires can { CanPlay worker.seat.who lone.fabric.journal worker.seat }
     requires few { worker.seat.who ≤ worker.seat.node.nodes }
-    requires floor { FloorIs K.floor worker.seat.node.nodes }
+    requires floor { FloorIs K.law.floor worker.seat.node.nodes }
     requires there { i < length looks.old.items }
 
     // The run goes on.
     ensures goes { (lines : List NamedLine) (home : ℕ → ℕ) (nodes : ℕ) (c : Course) (counts : List ℕ) (from : ℕ) → slice_get lines i ≡ Some line.now → line.now.node ≡ worker.seat.who → line.now.phase ≡ c.phase
-        → IsUnderWay K.may K.floor K.shelf S.state S.spells lines home nodes c counts looks.old.items worker.seat.who from i lone.fabric.journal worker.seat worker.desks.items
-        → OnOk result.answer (LineWent K.may K.floor K.shelf S.state S.spells lines home nodes c counts looks.old.items looks.new.items worker.seat.who from (i + 1) result.access.fabric.journal result.part.seat result.part.desks.items) }
-    ensures stands { SeatOk K.may K.floor K.shelf S.state S.spells result.access.fabric.journal result.part.seat }
+        → IsUnderWay K.law S.state S.spells lines home nodes c counts looks.old.items worker.seat.who from i lone.fabric.journal worker.seat worker.desks.items
+        → OnOk result.answer (LineWent K.law S.state S.spells lines home nodes c counts looks.old.items looks.new.items worker.seat.who from (i + 1) result.access.fabric.journal result.part.seat result.part.desks.items) }
+    ensures stands { SeatOk K.law S.state S.spells result.access.fabric.journal result.part.seat }
     ensures grows { Grows lone.fabric.journal result.access.fabric.journal }
     ensures who { result.part.seat.who ≡ worker.seat.who }
     ensures whose { result.access.who ≡ lone.who }
@@ -115,23 +111,22 @@ pub fn play_line<L: Loglet, R: Register, K: Terms, S: Replica, C: Chooser>(
     i: usize,
     line: &NamedLine,
 ) -> Back<Lone<L, R, By<K>>, Worker<S, C>, ()>
-    requires run { MayRun K.may K.floor K.shelf }
-    requires state { (log : List Entry) (m : SpaceMap) → S.state log m → IsStateOf log m }
+    requires run { MayRun K.law }
     requires who { lone.who ≡ worker.seat.who }
-    requires worker { WorkerOk K.may K.floor K.shelf S.state S.spells worker.seat.who lone.fabric.journal worker.seat worker.desks.items }
+    requires worker { WorkerOk K.law S.state S.spells worker.seat.who lone.fabric.journal worker.seat worker.desks.items }
     requires node { line.now.node ≡ worker.seat.who }
     requires next { IsNext worker.desks.items line.now.asks }
-    requires sends { CanSend K.may worker.seat.who line.now.asks }
+    requires sends { CanSend K.law.may worker.seat.who line.now.asks }
     requires can { CanPlay worker.seat.who lone.fabric.journal worker.seat }
     requires few { worker.seat.who ≤ worker.seat.node.nodes }
-    requires floor { FloorIs K.floor worker.seat.node.nodes }
+    requires floor { FloorIs K.law.floor worker.seat.node.nodes }
     requires there { i < length looks.old.items }
 
     // The run goes on.
     ensures goes { (lines : List NamedLine) (home : ℕ → ℕ) (nodes : ℕ) (c : Course) (counts : List ℕ) (from : ℕ) → slice_get lines i ≡ Some line.now → line.now.node ≡ worker.seat.who → line.now.phase ≡ c.phase
-        → IsUnderWay K.may K.floor K.shelf S.state S.spells lines home nodes c counts looks.old.items worker.seat.who from i lone.fabric.journal worker.seat worker.desks.items
-        → OnOk result.answer (LineWent K.may K.floor K.shelf S.state S.spells lines home nodes c counts looks.old.items looks.new.items worker.seat.who from (i + 1) result.access.fabric.journal result.part.seat result.part.desks.items) }
-    ensures stands { SeatOk K.may K.floor K.shelf S.state S.spells result.access.fabric.journal result.part.seat }
+        → IsUnderWay K.law S.state S.spells lines home nodes c counts looks.old.items worker.seat.who from i lone.fabric.journal worker.seat worker.desks.items
+        → OnOk result.answer (LineWent K.law S.state S.spells lines home nodes c counts looks.old.items looks.new.items worker.seat.who from (i + 1) result.access.fabric.journal result.part.seat result.part.desks.items) }
+    ensures stands { SeatOk K.law S.state S.spells result.access.fabric.journal result.part.seat }
     ensures grows { Grows lone.fabric.journal result.access.fabric.journal }
     ensures who { result.part.seat.who ≡ worker.seat.who }
     ensures whose { result.access.who ≡ lone.who }

@@ -1,8 +1,5 @@
 //! A node's lines of a phase, and the phase's end there.
 ghost use Rattle.std.specs.Prelude.{◌≡◌, ◌<◌, ◌≤◌, ◌+◌, ℕ, List, length, Some, IfOk, OnOk, slice_get};
-ghost use Rattle.delos_types.specs.Spaces.{SpaceMap};
-ghost use Rattle.delos_types.specs.declared.entry.Entry.{Entry};
-ghost use Rattle.log_laws.specs.State.{IsStateOf};
 ghost use Rattle.turn_scopes.specs.Floors.{FloorIs};
 ghost use Rattle.turn_scopes.specs.Seats.{SeatOk};
 ghost use Rattle.node_lines.specs.Workers.{MayRun, Grows};
@@ -37,18 +34,17 @@ fn play_lines<L: Loglet, R: Register, K: Terms, S: Replica, C: Chooser>(
     from: usize,
     to: usize,
 ) -> Back<Lone<L, R, By<K>>, Worker<S, C>, ()>
-    requires run { MayRun K.may K.floor K.shelf }
-    requires state { (log : List Entry) (m : SpaceMap) → S.state log m → IsStateOf log m }
+    requires run { MayRun K.law }
     requires node { worker.seat.who ≡ node }
     requires who { lone.who ≡ node }
     requires range { (from ≤ to) × (to ≤ length lines.now) }
-    requires sends { MaySendAll K.may lines.now }
-    requires floor { FloorIs K.floor worker.seat.node.nodes }
-    requires playing { IsPlaying K.may K.floor K.shelf S.state S.spells lines.now looks.old.items node from to lone.fabric.journal worker.seat worker.desks.items }
+    requires sends { MaySendAll K.law.may lines.now }
+    requires floor { FloorIs K.law.floor worker.seat.node.nodes }
+    requires playing { IsPlaying K.law S.state S.spells lines.now looks.old.items node from to lone.fabric.journal worker.seat worker.desks.items }
     ensures goes { (home : ℕ → ℕ) (nodes : ℕ) (c : Course) (counts : List ℕ)
-        → IsUnderWay K.may K.floor K.shelf S.state S.spells lines.now home nodes c counts looks.old.items node from from lone.fabric.journal worker.seat worker.desks.items → BeginsAt lines.now to (c.phase + 1)
-        → OnOk result.answer (LineWent K.may K.floor K.shelf S.state S.spells lines.now home nodes c counts looks.old.items looks.new.items node from to result.access.fabric.journal result.part.seat result.part.desks.items) }
-    ensures stands { SeatOk K.may K.floor K.shelf S.state S.spells result.access.fabric.journal result.part.seat }
+        → IsUnderWay K.law S.state S.spells lines.now home nodes c counts looks.old.items node from from lone.fabric.journal worker.seat worker.desks.items → BeginsAt lines.now to (c.phase + 1)
+        → OnOk result.answer (LineWent K.law S.state S.spells lines.now home nodes c counts looks.old.items looks.new.items node from to result.access.fabric.journal result.part.seat result.part.desks.items) }
+    ensures stands { SeatOk K.law S.state S.spells result.access.fabric.journal result.part.seat }
     ensures grows { Grows lone.fabric.journal result.access.fabric.journal }
     ensures who { result.part.seat.who ≡ worker.seat.who }
     ensures whose { result.access.who ≡ lone.who }
@@ -95,18 +91,17 @@ pub fn play_turn<L: Loglet, R: Register, K: Terms, S: Replica, C: Chooser>(
     from: usize,
     to: usize,
 ) -> Back<Lone<L, R, By<K>>, Worker<S, C>, ()>
-    requires run { MayRun K.may K.floor K.shelf }
-    requires state { (log : List Entry) (m : SpaceMap) → S.state log m → IsStateOf log m }
+    requires run { MayRun K.law }
     requires node { worker.seat.who ≡ node }
     requires who { lone.who ≡ node }
     requires range { (from ≤ to) × (to ≤ length lines.now) }
-    requires sends { MaySendAll K.may lines.now }
-    requires floor { FloorIs K.floor worker.seat.node.nodes }
-    requires playing { IsPlaying K.may K.floor K.shelf S.state S.spells lines.now looks.old.items node from to lone.fabric.journal worker.seat worker.desks.items }
+    requires sends { MaySendAll K.law.may lines.now }
+    requires floor { FloorIs K.law.floor worker.seat.node.nodes }
+    requires playing { IsPlaying K.law S.state S.spells lines.now looks.old.items node from to lone.fabric.journal worker.seat worker.desks.items }
     ensures goes { (home : ℕ → ℕ) (nodes : ℕ) (c : Course) (counts : List ℕ)
-        → IsUnderWay K.may K.floor K.shelf S.state S.spells lines.now home nodes c counts looks.old.items node from from lone.fabric.journal worker.seat worker.desks.items → BeginsAt lines.now to (c.phase + 1)
-        → OnOk result.answer (TurnWent K.may K.floor K.shelf S.state S.spells lines.now home nodes c counts looks.old.items looks.new.items node to result.access.fabric.journal result.part.seat result.part.desks.items) }
-    ensures stands { SeatOk K.may K.floor K.shelf S.state S.spells result.access.fabric.journal result.part.seat }
+        → IsUnderWay K.law S.state S.spells lines.now home nodes c counts looks.old.items node from from lone.fabric.journal worker.seat worker.desks.items → BeginsAt lines.now to (c.phase + 1)
+        → OnOk result.answer (TurnWent K.law S.state S.spells lines.now home nodes c counts looks.old.items looks.new.items node to result.access.fabric.journal result.part.seat result.part.desks.items) }
+    ensures stands { SeatOk K.law S.state S.spells result.access.fabric.journal result.part.seat }
     ensures grows { Grows lone.fabric.journal result.access.fabric.journal }
     ensures who { result.part.seat.who ≡ worker.seat.who }
     ensures whose { result.access.who ≡ lone.who }

@@ -5,6 +5,7 @@ use Rattle.std.proofs.lemmas.List.Elements.{Contains-append_right}
 use Rattle.delos_types.specs.declared.entry.Entry.{Entry}
 use Rattle.delos_types.specs.declared.item.Item.{Item}
 use Rattle.delos_types.specs.declared.cause.Cause.{Cause}
+use Rattle.legal_journal.specs.Law.{Law}
 use Rattle.legal_journal.specs.declared.events.Event.{Event}
 use Rattle.legal_journal.specs.Journal.{IsLegal}
 use Rattle.virtual_log.specs.Holding.{Holds, IsTrimmed}
@@ -56,19 +57,19 @@ contains_at [] i e is = absurd (cc)
 contains_at (x ∷ log) zero e is = (0, omega arith, let same : x ≡ e = cc in same)
 contains_at (x ∷ log) (suc i) e is = Contains-append_right (x ∷ []) log e (contains_at log i e is)
 
-module _ (may : ℕ → Entry → Type 0) (floor : List Entry → ℕ → Type 0) (shelf : List ℕ) where
+module _ (law : Law) where
   -- what the log held it holds
-  holds_since : (early late more : List Event) (pos : ℕ) (e : Entry) → late ≡ early ++ more → IsLegal may floor shelf late → Holds early pos e → Holds late pos e
-  holds_since early late more pos e is legal h = subst (λ es. Holds es pos e) (sym is) (held_stays may floor shelf early more pos e (subst (IsLegal may floor shelf) is legal) h)
+  holds_since : (early late more : List Event) (pos : ℕ) (e : Entry) → late ≡ early ++ more → IsLegal law late → Holds early pos e → Holds late pos e
+  holds_since early late more pos e is legal h = subst (λ es. Holds es pos e) (sym is) (held_stays law early more pos e (subst (IsLegal law) is legal) h)
 
-  front_since : (early late more : List Event) (log : List Entry) → late ≡ early ++ more → IsLegal may floor shelf late → IsFront Holds early log → IsFront Holds late log
+  front_since : (early late more : List Event) (log : List Entry) → late ≡ early ++ more → IsLegal law late → IsFront Holds early log → IsFront Holds late log
   front_since early late more log is legal front = λ pos e at. holds_since early late more pos e is legal (front pos e at)
 
   -- The pieces
 
   -- what was reported is clean in the state at a tail
-  pub reports_of : (old mid new : NodeView) (number n : ℕ) (item : Item) → Measures may floor shelf clean_position old mid (measured.At n)
-      → item ≡ alive_item number n → number ≡ old.replica.origin → IsProposable item → content_of item ≡ Some (content.Alive number n) → Tells may floor shelf mid new item None → HasTold old new n
+  pub reports_of : (old mid new : NodeView) (number n : ℕ) (item : Item) → Measures law clean_position old mid (measured.At n)
+      → item ≡ alive_item number n → number ≡ old.replica.origin → IsProposable item → content_of item ≡ Some (content.Alive number n) → Tells law mid new item None → HasTold old new n
   reports_of old mid new number n item h made own fine says tells = record {
     log = m.at.log;
     synced = mid.seen;
@@ -84,16 +85,16 @@ module _ (may : ℕ → Entry → Type 0) (floor : List Entry → ℕ → Type 0
       m : MeasuresSo clean_position old mid n
       m = h.measured n refl
 
-      k : Keeps may floor shelf old mid
+      k : Keeps law old mid
       k = h.moves.goes.keeps
 
       is : item ≡ alive_item old.replica.origin n
       is = made ∙ ap (λ x. alive_item x n) own
 
   -- the leave was appended at a position that the node knew, and then the log was played as far as that, or as it isn't trimmed
-  pub leaves_of : (old mid told new : NodeView) (number : ℕ) (item : Item) → Moves may floor shelf old mid []
-      → item ≡ leave_item number → number ≡ old.replica.origin → IsProposable item → content_of item ≡ Some (content.Leave number) → Tells may floor shelf mid told item None
-      → PlaysKnown may floor shelf told new None → HasLeft old new
+  pub leaves_of : (old mid told new : NodeView) (number : ℕ) (item : Item) → Moves law old mid []
+      → item ≡ leave_item number → number ≡ old.replica.origin → IsProposable item → content_of item ≡ Some (content.Leave number) → Tells law mid told item None
+      → PlaysKnown law told new None → HasLeft old new
   leaves_of old mid told new number item first made own fine says tells plays = record {
     synced = mid.seen;
     since = (k.later.more, k.later.seen);
@@ -104,10 +105,10 @@ module _ (may : ℕ → Entry → Type 0) (floor : List Entry → ℕ → Type 0
         (λ (t : IsTrimmed new.seen new.replica.cursor). inr t) (plays.reaches refl);
   }
     where
-      k : Keeps may floor shelf old mid
+      k : Keeps law old mid
       k = first.goes.keeps
 
-      on : Keeps may floor shelf told new
+      on : Keeps law told new
       on = plays.moves.goes.keeps
 
       is : item ≡ leave_item old.replica.origin
@@ -118,9 +119,9 @@ module _ (may : ℕ → Entry → Type 0) (floor : List Entry → ℕ → Type 0
 
   -- A trim was asked for, to the least position of a member; the node has the state of a longer front, in which the request stands
   -- and one of the nodes is a member still; and it trimmed the log as far as that state says.
-  pub trims_of : (old mid told played new : NodeView) (n trim node : ℕ) (item : Item) → Measures may floor shelf (λ log. least_position old.nodes (unpack_all 0 log)) old mid (measured.At n)
-      → item ≡ trim_item n → IsProposable item → content_of item ≡ Some (content.Trim n) → Tells may floor shelf mid told item None
-      → PlaysKnown may floor shelf told played None → told.known ≤ played.replica.cursor → IsStateAt Holds IsStateOf played.seen (saved_in played.replica) → Cuts may floor shelf played new (looked.Trimmed trim)
+  pub trims_of : (old mid told played new : NodeView) (n trim node : ℕ) (item : Item) → Measures law (λ log. least_position old.nodes (unpack_all 0 log)) old mid (measured.At n)
+      → item ≡ trim_item n → IsProposable item → content_of item ≡ Some (content.Trim n) → Tells law mid told item None
+      → PlaysKnown law told played None → told.known ≤ played.replica.cursor → IsStateAt Holds IsStateOf played.seen (saved_in played.replica) → Cuts law played new (looked.Trimmed trim)
       → 1 ≤ node → node ≤ old.nodes → ((log : List Entry) → IsFront Holds played.seen log → length log ≡ played.replica.cursor → has_left (unpack_all 0 log) node ≡ false)
       → n ≤ played.replica.cursor → HasTrimmed old new trim
   trims_of old mid told played new n trim node item h made fine says tells plays reached state cuts first last stays within = record {
@@ -128,7 +129,7 @@ module _ (may : ℕ → Entry → Type 0) (floor : List Entry → ℕ → Type 0
     front = front_since played.seen new.seen cut.later.more m.at.log cut.later.seen cut.later.legal early;
     from = m.at.from;
     reached = omega (arith, m.is, low, cuts.cuts.1.truncated.reached);
-    upto = trim_upto may floor shelf played.who played.seen new.seen (trim_to played.nodes played.replica) trim cut.later.legal cuts.cuts.1;
+    upto = trim_upto law played.who played.seen new.seen (trim_to played.nodes played.replica) trim cut.later.legal cuts.cuts.1;
     position = n;
     synced = mid.seen;
     since = (k.later.more, k.later.seen);
@@ -142,16 +143,16 @@ module _ (may : ℕ → Entry → Type 0) (floor : List Entry → ℕ → Type 0
       e : Entry
       e = packed old.replica.origin (trim_item n ∷ [])
 
-      k : Keeps may floor shelf old mid
+      k : Keeps law old mid
       k = h.moves.goes.keeps
 
-      tell : Keeps may floor shelf mid told
+      tell : Keeps law mid told
       tell = tells.moves.goes.keeps
 
-      on : Keeps may floor shelf told played
+      on : Keeps law told played
       on = plays.moves.goes.keeps
 
-      cut : Keeps may floor shelf played new
+      cut : Keeps law played new
       cut = cuts.moves.goes.keeps
 
       a : IsAppendedWithin old.who mid.seen e told.seen told.known
@@ -162,7 +163,7 @@ module _ (may : ℕ → Entry → Type 0) (floor : List Entry → ℕ → Type 0
       early = front_since told.seen played.seen on.later.more m.at.log on.later.seen on.later.legal (front_since mid.seen told.seen tell.later.more m.at.log tell.later.seen tell.later.legal m.at.front)
 
       longer : m.at.log ++ drop (length m.at.log) state.log ≡ state.log
-      longer = splits m.at.log state.log (omega (arith, m.at.size, state.size, tell.forward, on.forward)) (λ p x y i j. holds_agree may floor shelf played.seen p x y on.later.legal (early p x i) (state.front p y j))
+      longer = splits m.at.log state.log (omega (arith, m.at.size, state.size, tell.forward, on.forward)) (λ p x y i j. holds_agree law played.seen p x y on.later.legal (early p x i) (state.front p y j))
 
       nodes : played.nodes ≡ old.nodes
       nodes = on.nodes ∙ (tell.nodes ∙ k.nodes)
@@ -184,7 +185,7 @@ module _ (may : ℕ → Entry → Type 0) (floor : List Entry → ℕ → Type 0
       at : slice_get state.log a.landed.position ≡ Some e
       at =
           let x = there state.log a.landed.position (omega (arith, a.within, reached, state.size)) in
-          x.1 ∙ ap (λ y. Some y) (holds_agree may floor shelf played.seen a.landed.position x.0 e on.later.legal (state.front a.landed.position x.0 x.1) held)
+          x.1 ∙ ap (λ y. Some y) (holds_agree law played.seen a.landed.position x.0 e on.later.legal (state.front a.landed.position x.0 x.1) held)
 
       asked : n ≤ trim_point (unpack_all 0 state.log)
       asked =
@@ -198,12 +199,12 @@ module _ (may : ℕ → Entry → Type 0) (floor : List Entry → ℕ → Type 0
 
 -- The lines
 
-module _ (may : ℕ → Entry → Type 0) (floor : List Entry → ℕ → Type 0) (shelf : List ℕ) (low : (log : List Entry) (n : ℕ) → floor log n → n ≤ length log) where
+module _ (law : Law) (low : (log : List Entry) (n : ℕ) → law.floor log n → n ≤ length log) where
   -- one call after another
-  pub moves_trans : (old mid new : NodeView) (others more : List Cause) → Moves may floor shelf old mid others → Moves may floor shelf mid new more → Moves may floor shelf old new (others ++ more)
-  moves_trans = moves-both may floor shelf low
+  pub moves_trans : (old mid new : NodeView) (others more : List Cause) → Moves law old mid others → Moves law mid new more → Moves law old new (others ++ more)
+  moves_trans = moves-both law low
 
-  pub reports_told : (old mid new : NodeView) (n : ℕ) (item : Item) → Measures may floor shelf clean_position old mid (measured.At n) → Tells may floor shelf mid new item None → HasTold old new n → Reports may floor shelf old new (looked.Reported n)
+  pub reports_told : (old mid new : NodeView) (n : ℕ) (item : Item) → Measures law clean_position old mid (measured.At n) → Tells law mid new item None → HasTold old new n → Reports law old new (looked.Reported n)
   reports_told old mid new n item h tells told = record {
     others = [];
     moves = moves_trans old mid new [] [] h.moves tells.moves;
@@ -212,7 +213,7 @@ module _ (may : ℕ → Entry → Type 0) (floor : List Entry → ℕ → Type 0
     tells = (refl, told);
   }
 
-  pub reports_untold : (measure : List Entry → ℕ) (old mid new : NodeView) (n : ℕ) (item : Item) (cause : Cause) → Measures may floor shelf measure old mid (measured.At n) → Tells may floor shelf mid new item (Some cause) → Reports may floor shelf old new (looked.Failed cause)
+  pub reports_untold : (measure : List Entry → ℕ) (old mid new : NodeView) (n : ℕ) (item : Item) (cause : Cause) → Measures law measure old mid (measured.At n) → Tells law mid new item (Some cause) → Reports law old new (looked.Failed cause)
   reports_untold measure old mid new n item cause h tells = record {
     others = cause ∷ [];
     moves = moves_trans old mid new [] (cause ∷ []) h.moves tells.moves;
@@ -221,17 +222,17 @@ module _ (may : ℕ → Entry → Type 0) (floor : List Entry → ℕ → Type 0
     tells = refl;
   }
 
-  pub reports_unmeasured : (measure : List Entry → ℕ) (old new : NodeView) (cause : Cause) → Measures may floor shelf measure old new (measured.Failed cause) → Reports may floor shelf old new (looked.Failed cause)
+  pub reports_unmeasured : (measure : List Entry → ℕ) (old new : NodeView) (cause : Cause) → Measures law measure old new (measured.Failed cause) → Reports law old new (looked.Failed cause)
   reports_unmeasured measure old new cause h = record { others = cause ∷ []; moves = h.moves; none = h.none; kept = h.kept; tells = refl }
 
   -- what was told was played, or the log or the disk failed
-  played_moves : (old mid told new : NodeView) (item : Item) → Moves may floor shelf old mid [] → Tells may floor shelf mid told item None → PlaysKnown may floor shelf told new None → Moves may floor shelf old new []
+  played_moves : (old mid told new : NodeView) (item : Item) → Moves law old mid [] → Tells law mid told item None → PlaysKnown law told new None → Moves law old new []
   played_moves old mid told new item first tells plays = moves_trans old told new [] [] (moves_trans old mid told [] [] first tells.moves) plays.moves
 
-  unplayed_moves : (old mid told new : NodeView) (item : Item) (cause : Cause) → Moves may floor shelf old mid [] → Tells may floor shelf mid told item None → PlaysKnown may floor shelf told new (Some cause) → Moves may floor shelf old new (cause ∷ [])
+  unplayed_moves : (old mid told new : NodeView) (item : Item) (cause : Cause) → Moves law old mid [] → Tells law mid told item None → PlaysKnown law told new (Some cause) → Moves law old new (cause ∷ [])
   unplayed_moves old mid told new item cause first tells plays = moves_trans old told new [] (cause ∷ []) (moves_trans old mid told [] [] first tells.moves) plays.moves
 
-  pub leaves_done : (old mid told new : NodeView) (item : Item) → Moves may floor shelf old mid [] → Tells may floor shelf mid told item None → PlaysKnown may floor shelf told new None → HasLeft old new → Leaves may floor shelf old new looked.Left
+  pub leaves_done : (old mid told new : NodeView) (item : Item) → Moves law old mid [] → Tells law mid told item None → PlaysKnown law told new None → HasLeft old new → Leaves law old new looked.Left
   leaves_done old mid told new item first tells plays left = record {
     others = [];
     moves = played_moves old mid told new item first tells plays;
@@ -240,7 +241,7 @@ module _ (may : ℕ → Entry → Type 0) (floor : List Entry → ℕ → Type 0
     leaves = (refl, left);
   }
 
-  pub leaves_unplayed : (old mid told new : NodeView) (item : Item) (cause : Cause) → Moves may floor shelf old mid [] → Tells may floor shelf mid told item None → PlaysKnown may floor shelf told new (Some cause) → Leaves may floor shelf old new (looked.Failed cause)
+  pub leaves_unplayed : (old mid told new : NodeView) (item : Item) (cause : Cause) → Moves law old mid [] → Tells law mid told item None → PlaysKnown law told new (Some cause) → Leaves law old new (looked.Failed cause)
   leaves_unplayed old mid told new item cause first tells plays = record {
     others = cause ∷ [];
     moves = unplayed_moves old mid told new item cause first tells plays;
@@ -249,7 +250,7 @@ module _ (may : ℕ → Entry → Type 0) (floor : List Entry → ℕ → Type 0
     leaves = refl;
   }
 
-  pub leaves_untold : (old mid new : NodeView) (item : Item) (cause : Cause) → Moves may floor shelf old mid [] → Tells may floor shelf mid new item (Some cause) → Leaves may floor shelf old new (looked.Failed cause)
+  pub leaves_untold : (old mid new : NodeView) (item : Item) (cause : Cause) → Moves law old mid [] → Tells law mid new item (Some cause) → Leaves law old new (looked.Failed cause)
   leaves_untold old mid new item cause first tells = record {
     others = cause ∷ [];
     moves = moves_trans old mid new [] (cause ∷ []) first tells.moves;
@@ -258,11 +259,11 @@ module _ (may : ℕ → Entry → Type 0) (floor : List Entry → ℕ → Type 0
     leaves = refl;
   }
 
-  pub leaves_unanswered : (old new : NodeView) (was is : List Desk) (cause : Cause) → AnswersAll may floor shelf old new was is (Some cause) → Leaves may floor shelf old new (looked.Failed cause)
+  pub leaves_unanswered : (old new : NodeView) (was is : List Desk) (cause : Cause) → AnswersAll law old new was is (Some cause) → Leaves law old new (looked.Failed cause)
   leaves_unanswered old new was is cause h = record { others = cause ∷ []; moves = h.moves; none = h.none; kept = h.kept; leaves = refl }
 
-  pub trims_done : (measure : List Entry → ℕ) (old mid told played new : NodeView) (n trim : ℕ) (item : Item) → Measures may floor shelf measure old mid (measured.At n) → Tells may floor shelf mid told item None → PlaysKnown may floor shelf told played None
-      → Cuts may floor shelf played new (looked.Trimmed trim) → HasTrimmed old new trim → TrimsLog may floor shelf old new (looked.Trimmed trim)
+  pub trims_done : (measure : List Entry → ℕ) (old mid told played new : NodeView) (n trim : ℕ) (item : Item) → Measures law measure old mid (measured.At n) → Tells law mid told item None → PlaysKnown law told played None
+      → Cuts law played new (looked.Trimmed trim) → HasTrimmed old new trim → TrimsLog law old new (looked.Trimmed trim)
   trims_done measure old mid told played new n trim item h tells plays cuts trimmed = record {
     others = cuts.others;
     moves = moves_trans old played new [] cuts.others (played_moves old mid told played item h.moves tells plays) cuts.moves;
@@ -271,8 +272,8 @@ module _ (may : ℕ → Entry → Type 0) (floor : List Entry → ℕ → Type 0
     trims = (cuts.cuts.0, trimmed);
   }
 
-  pub trims_uncut : (measure : List Entry → ℕ) (old mid told played new : NodeView) (n : ℕ) (item : Item) (cause : Cause) → Measures may floor shelf measure old mid (measured.At n) → Tells may floor shelf mid told item None → PlaysKnown may floor shelf told played None
-      → Cuts may floor shelf played new (looked.Failed cause) → TrimsLog may floor shelf old new (looked.Failed cause)
+  pub trims_uncut : (measure : List Entry → ℕ) (old mid told played new : NodeView) (n : ℕ) (item : Item) (cause : Cause) → Measures law measure old mid (measured.At n) → Tells law mid told item None → PlaysKnown law told played None
+      → Cuts law played new (looked.Failed cause) → TrimsLog law old new (looked.Failed cause)
   trims_uncut measure old mid told played new n item cause h tells plays cuts = record {
     others = cuts.others;
     moves = moves_trans old played new [] cuts.others (played_moves old mid told played item h.moves tells plays) cuts.moves;
@@ -281,8 +282,8 @@ module _ (may : ℕ → Entry → Type 0) (floor : List Entry → ℕ → Type 0
     trims = cuts.cuts;
   }
 
-  pub trims_unplayed : (measure : List Entry → ℕ) (old mid told new : NodeView) (n : ℕ) (item : Item) (cause : Cause) → Measures may floor shelf measure old mid (measured.At n) → Tells may floor shelf mid told item None → PlaysKnown may floor shelf told new (Some cause)
-      → TrimsLog may floor shelf old new (looked.Failed cause)
+  pub trims_unplayed : (measure : List Entry → ℕ) (old mid told new : NodeView) (n : ℕ) (item : Item) (cause : Cause) → Measures law measure old mid (measured.At n) → Tells law mid told item None → PlaysKnown law told new (Some cause)
+      → TrimsLog law old new (looked.Failed cause)
   trims_unplayed measure old mid told new n item cause h tells plays = record {
     others = cause ∷ [];
     moves = unplayed_moves old mid told new item cause h.moves tells plays;
@@ -291,7 +292,7 @@ module _ (may : ℕ → Entry → Type 0) (floor : List Entry → ℕ → Type 0
     trims = refl;
   }
 
-  pub trims_untold : (measure : List Entry → ℕ) (old mid new : NodeView) (n : ℕ) (item : Item) (cause : Cause) → Measures may floor shelf measure old mid (measured.At n) → Tells may floor shelf mid new item (Some cause) → TrimsLog may floor shelf old new (looked.Failed cause)
+  pub trims_untold : (measure : List Entry → ℕ) (old mid new : NodeView) (n : ℕ) (item : Item) (cause : Cause) → Measures law measure old mid (measured.At n) → Tells law mid new item (Some cause) → TrimsLog law old new (looked.Failed cause)
   trims_untold measure old mid new n item cause h tells = record {
     others = cause ∷ [];
     moves = moves_trans old mid new [] (cause ∷ []) h.moves tells.moves;
@@ -300,5 +301,5 @@ module _ (may : ℕ → Entry → Type 0) (floor : List Entry → ℕ → Type 0
     trims = refl;
   }
 
-  pub trims_unmeasured : (measure : List Entry → ℕ) (old new : NodeView) (cause : Cause) → Measures may floor shelf measure old new (measured.Failed cause) → TrimsLog may floor shelf old new (looked.Failed cause)
+  pub trims_unmeasured : (measure : List Entry → ℕ) (old new : NodeView) (cause : Cause) → Measures law measure old new (measured.Failed cause) → TrimsLog law old new (looked.Failed cause)
   trims_unmeasured measure old new cause h = record { others = cause ∷ []; moves = h.moves; none = h.none; kept = h.kept; trims = refl }

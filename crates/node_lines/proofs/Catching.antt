@@ -5,6 +5,7 @@ use Rattle.std.specs.Option.{option_or, option_and_then}
 use Rattle.std.proofs.lemmas.Bool.Decides.{nat_tests}
 use Rattle.std.proofs.lemmas.List.Folds.{find-append}
 use Rattle.delos_types.specs.declared.entry.Entry.{Entry}
+use Rattle.legal_journal.specs.Law.{Law}
 use Rattle.legal_journal.specs.declared.events.Event.{Event}
 use Rattle.legal_journal.specs.Journal.{state_of, tail_of, IsLegal}
 use Rattle.virtual_log.specs.Holding.{Holds}
@@ -90,18 +91,18 @@ some_at [] n h = absurd (omega arith)
 some_at (x ∷ xs) zero h = (x, refl)
 some_at (x ∷ xs) (suc n) h = some_at xs n (omega arith)
 
-module _ (may : ℕ → Entry → Type 0) (floor : List Entry → ℕ → Type 0) (shelf : List ℕ) where
+module _ (law : Law) where
   -- an entry that was held at a moment stands in a later front that reaches that moment's tail
-  pub held_stands : (early seen : List Event) (log : List Entry) (e : Entry) → IsLegal may floor shelf seen → Extends early seen → tail_of (state_of early) ≤ length log → IsFront Holds seen log → IsHeld early e → (p : ℕ) × (slice_get log p ≡ Some e)
+  pub held_stands : (early seen : List Event) (log : List Entry) (e : Entry) → IsLegal law seen → Extends early seen → tail_of (state_of early) ≤ length log → IsFront Holds seen log → IsHeld early e → (p : ℕ) × (slice_get log p ≡ Some e)
   held_stands early seen log e legal on reached front h =
-      let whole = subst (IsLegal may floor shelf) on.1 legal in
-      let moved = subst (λ es. Holds es h.pos e) (sym on.1) (holds_later may floor shelf early (early ++ on.0) h.pos e (legal_front may floor shelf early on.0 whole) (goes_on may floor shelf early on.0 whole) h.held) in
+      let whole = subst (IsLegal law) on.1 legal in
+      let moved = subst (λ es. Holds es h.pos e) (sym on.1) (holds_later law early (early ++ on.0) h.pos e (legal_front law early on.0 whole) (goes_on law early on.0 whole) h.held) in
       let x = some_at log h.pos (omega (arith, h.below, reached)) in
-      let same = holds_agree may floor shelf seen h.pos x.0 e legal (front h.pos x.0 x.1) moved in
+      let same = holds_agree law seen h.pos x.0 e legal (front h.pos x.0 x.1) moved in
       (h.pos, x.1 ∙ ap (λ y. Some y) same)
 
   -- What had landed at a moment has acted in each later front that reaches that moment's tail.
-  pub landed_acted : (early seen : List Event) (log : List Entry) (s n : ℕ) → IsLegal may floor shelf seen → Extends early seen → tail_of (state_of early) ≤ length log → IsFront Holds seen log
+  pub landed_acted : (early seen : List Event) (log : List Entry) (s n : ℕ) → IsLegal law seen → Extends early seen → tail_of (state_of early) ≤ length log → IsFront Holds seen log
       → ((r : ℕ) → 1 ≤ r → r ≤ n → HasLanded early s r) → n < gap_from (asked_in 0 log) s 1
   landed_acted early seen log s n legal on reached front all = gap_behind (asked_in 0 log) s n (λ r first last.
       let h = all r first last in
@@ -121,8 +122,8 @@ module _ (may : ℕ → Entry → Type 0) (floor : List Entry → ℕ → Type 0
       by_first false t h rest = let k = rest (sym (ap (λ b. b || is_some (first_of (asked_in (pos + 1) xs) s r)) t) ∙ h) in (suc k.0, k.1, k.2, k.3)
 
   -- Where nobody may append a rank above n, none has acted.
-  pub acted_sent : (seen : List Event) (log : List Entry) (s n : ℕ) → IsLegal may floor shelf seen → IsFront Holds seen log
-      → ((who : ℕ) (e : Entry) (r : ℕ) → may who e → HasRank s r e → r ≤ n) → gap_from (asked_in 0 log) s 1 ≤ n + 1
+  pub acted_sent : (seen : List Event) (log : List Entry) (s n : ℕ) → IsLegal law seen → IsFront Holds seen log
+      → ((who : ℕ) (e : Entry) (r : ℕ) → law.may who e → HasRank s r e → r ≤ n) → gap_from (asked_in 0 log) s 1 ≤ n + 1
   acted_sent seen log s n legal front bound = by_test (nat_lt (n + 1) (gap_from (asked_in 0 log) s 1)) refl
     where
       by_test : (b : Bool) → nat_lt (n + 1) (gap_from (asked_in 0 log) s 1) ≡ b → gap_from (asked_in 0 log) s 1 ≤ n + 1
@@ -130,5 +131,5 @@ module _ (may : ℕ → Entry → Type 0) (floor : List Entry → ℕ → Type 0
       by_test true t =
           let high : n + 1 < gap_from (asked_in 0 log) s 1 = grind (arith, nat_tests) in
           let x = appears_in s (n + 1) 0 log (gap-run (asked_in 0 log) s 1 (top_rank (asked_in 0 log) + 1) (n + 1) (omega arith) high) in
-          let sent = held_sent may floor shelf seen x.0 x.1 legal (front x.0 x.1 x.2) in
+          let sent = held_sent law seen x.0 x.1 legal (front x.0 x.1 x.2) in
           absurd (omega (arith, bound sent.0 x.1 (n + 1) sent.1 x.3))

@@ -3,11 +3,11 @@ use Rattle.std.proofs.Common.{◌≡◌, refl, sym, ap, ◌∙◌, subst, inl, i
 use Rattle.std.specs.Prelude.{Contains}
 use Rattle.std.proofs.lemmas.Bool.{cases_lt}
 use Rattle.std.proofs.lemmas.List.Elements.{Contains-append_left, Contains-append_right, Contains-append_cases, Contains-push, Contains-push_cases}
-use Rattle.delos_types.specs.declared.entry.Entry.{Entry}
 use Rattle.delos_types.specs.declared.chain.Segment.{Segment}
 use Rattle.delos_types.specs.declared.chain.Chain.{Chain}
 use Rattle.chain_map.specs.Chain.{first_start, first_of_segments, last_of_segments, last_id}
 use Rattle.chain_map.specs.Step.{extended_segments}
+use Rattle.legal_journal.specs.Law.{Law}
 use Rattle.legal_journal.specs.declared.events.Event.{Event}
 use Rattle.legal_journal.specs.Moves.{RegisterMove, Gives, Conflicts, Writes, Faults, Fails, Mends, Move, OnCell, OnRegister, Nothing, Never, move}
 use Rattle.legal_journal.specs.Journal.{State, MayFollow, IsCurrent, RegisterAllowed, IsAllowed, register_after, after, after_all, state_of, start, ends, IsLegal, IsLegalFrom}
@@ -54,7 +54,7 @@ has_start es i a (s ∷ r ∷ rs) k j up low =
     (λ (x : k ≤ i). (s.start, inl (let same : s.id ≡ k = omega (arith, x, up, j.0) in same, refl)))
     (cases_lt i k)
 
-module _ (cells : ℕ) (w : State) (ok : StateOk cells w) where
+module _ (law : Law) (w : State) (ok : StateOk (length law.shelf) w) where
   first_is : first_start w.register.chain ≡ ok.from
   first_is = first_at (ends w.cells) ok.id ok.from w.register.chain.segments ok.joined
 
@@ -94,59 +94,59 @@ first_kept es n i a ss j =
     let up = start_above es i a ss r.id r.from j (HasStart-kept_was n ss r.id r.from (first_starts es r.id r.from (kept n ss) r.joined)) in
     omega (arith, up, first_at es i a ss j, first_at es r.id r.from (kept n ss) r.joined)
 
-module _ (cells : ℕ) (w : State) (ok : StateOk cells w) where
+module _ (law : Law) (w : State) (ok : StateOk (length law.shelf) w) where
   by_extending : (c : Chain) (t : ℕ) → c.segments ≡ extended_segments w.register.chain.segments t → first_start w.register.chain ≤ first_start c
   by_extending c t is = omega (arith, ap (λ ss. (first_of_segments ss).start) is, first_extended w.register.chain.segments t)
 
   by_dropping : (c : Chain) (n : ℕ) → c.segments ≡ kept n w.register.chain.segments → first_start w.register.chain ≤ first_start c
   by_dropping c n is = omega (arith, ap (λ ss. (first_of_segments ss).start) is, first_kept (ends w.cells) n ok.id ok.from w.register.chain.segments ok.joined)
 
-  by_following : (c : Chain) → Follows (ends w.cells) cells w.register.chain c → first_start w.register.chain ≤ first_start c
+  by_following : (c : Chain) → Follows (ends w.cells) (length law.shelf) w.register.chain c → first_start w.register.chain ≤ first_start c
   by_following c (inl x) = by_extending c x.at x.segments
   by_following c (inr x) = by_dropping c c.trim x.segments
 
-  by_writing : (floor : List Entry → ℕ → Type 0) (c : Chain) → MayFollow w floor cells w.register.chain c → first_start w.register.chain ≤ first_start c
-  by_writing floor c (inl x) = by_extending c x.at (ap (λ (d : Chain). d.segments) x.is)
-  by_writing floor c (inr x) = by_dropping c x.0.trim (ap (λ (d : Chain). d.segments) x.0.is)
+  by_writing : (c : Chain) → MayFollow w law.floor (length law.shelf) w.register.chain c → first_start w.register.chain ≤ first_start c
+  by_writing c (inl x) = by_extending c x.at (ap (λ (d : Chain). d.segments) x.is)
+  by_writing c (inr x) = by_dropping c x.0.trim (ap (λ (d : Chain). d.segments) x.0.is)
 
   by_telling : (v : ℕ) (c : Chain) → IsCurrent w.register v c → first_start w.register.chain ≤ first_start c
   by_telling v c (inl x) = omega (arith, ap first_start x.1)
   by_telling v c (inr x) = by_following c (ok.asked c x.1)
 
-  register_first : (floor : List Entry → ℕ → Type 0) (m : RegisterMove) → RegisterAllowed w floor cells m → first_start w.register.chain ≤ first_start (register_after w.register m).chain
-  register_first floor (Gives v c) a = by_telling v c a.1
-  register_first floor (Conflicts x v c) a = by_telling v c a.1
-  register_first floor (Writes x c v) a = by_writing floor c a.2
-  register_first floor (Faults x c) a = omega arith
-  register_first floor Fails a = omega arith
-  register_first floor (Mends b) a = omega arith
+  register_first : (m : RegisterMove) → RegisterAllowed w law.floor (length law.shelf) m → first_start w.register.chain ≤ first_start (register_after w.register m).chain
+  register_first (Gives v c) a = by_telling v c a.1
+  register_first (Conflicts x v c) a = by_telling v c a.1
+  register_first (Writes x c v) a = by_writing c a.2
+  register_first (Faults x c) a = omega arith
+  register_first Fails a = omega arith
+  register_first (Mends b) a = omega arith
 
-  move_first : (may : ℕ → Entry → Type 0) (floor : List Entry → ℕ → Type 0) (who : ℕ) (m : Move) → IsAllowed w may floor cells who m → first_start w.register.chain ≤ first_start (after w who m).register.chain
-  move_first may floor who (OnCell i m) a = omega arith
-  move_first may floor who (OnRegister m) a = register_first floor m a
-  move_first may floor who Nothing a = omega arith
-  move_first may floor who Never a = omega arith
+  move_first : (who : ℕ) (m : Move) → IsAllowed w law who m → first_start w.register.chain ≤ first_start (after w who m).register.chain
+  move_first who (OnCell i m) a = omega arith
+  move_first who (OnRegister m) a = register_first m a
+  move_first who Nothing a = omega arith
+  move_first who Never a = omega arith
 
-module _ (may : ℕ → Entry → Type 0) (floor : List Entry → ℕ → Type 0) (shelf : List ℕ) where
-  all_first : (w : State) (es : List Event) → StateOk (length shelf) w → IsLegalFrom w may floor shelf es → first_start w.register.chain ≤ first_start (after_all w es).register.chain
+module _ (law : Law) where
+  all_first : (w : State) (es : List Event) → StateOk (length law.shelf) w → IsLegalFrom w law es → first_start w.register.chain ≤ first_start (after_all w es).register.chain
   all_first w [] ok legal = omega arith
   all_first w (e ∷ es) ok legal =
-      let here = move_first (length shelf) w ok may floor e.who (move e) legal.0.allowed in
-      let rest = all_first (after w e.who (move e)) es (step_ok may floor (length shelf) w e.who (move e) ok legal.0.allowed).0 legal.1 in
+      let here = move_first law w ok e.who (move e) legal.0.allowed in
+      let rest = all_first (after w e.who (move e)) es (step_ok law w e.who (move e) ok legal.0.allowed).0 legal.1 in
       omega (arith, here, rest)
 
-  pub first_rises : (early late : List Event) → IsLegal may floor shelf (early ++ late) → first_start (state_of early).register.chain ≤ first_start (state_of (early ++ late)).register.chain
+  pub first_rises : (early late : List Event) → IsLegal law (early ++ late) → first_start (state_of early).register.chain ≤ first_start (state_of (early ++ late)).register.chain
   first_rises early late legal =
-      let parts = IsLegalFrom-split may floor shelf start early late legal.steps in
+      let parts = IsLegalFrom-split law start early late legal.steps in
       subst (λ (w : State). first_start (state_of early).register.chain ≤ first_start w.register.chain) (sym (after_all-append start early late))
-      (all_first (state_of early) late (sound may floor shelf early (legal_front may floor shelf early late legal)) parts.1)
+      (all_first (state_of early) late (sound law early (legal_front law early late legal)) parts.1)
 
-  pub started_stays : (early late : List Event) (pos : ℕ) → IsLegal may floor shelf (early ++ late) → HasStarted (state_of early).register.chain pos → HasStarted (state_of (early ++ late)).register.chain pos
+  pub started_stays : (early late : List Event) (pos : ℕ) → IsLegal law (early ++ late) → HasStarted (state_of early).register.chain pos → HasStarted (state_of (early ++ late)).register.chain pos
   started_stays early late pos legal (inl h) =
       let x = among_is (state_of early).register.chain.segments pos h in
-      let was = begun_in (length shelf) (state_of early) (sound may floor shelf early (legal_front may floor shelf early late legal)) x.0 pos x.1 in
-      begun_stands (length shelf) (state_of (early ++ late)) (sound may floor shelf (early ++ late) legal) x.0 pos ((goes_on may floor shelf early late legal).starts x.0 pos was)
+      let was = begun_in law (state_of early) (sound law early (legal_front law early late legal)) x.0 pos x.1 in
+      begun_stands law (state_of (early ++ late)) (sound law (early ++ late) legal) x.0 pos ((goes_on law early late legal).starts x.0 pos was)
   started_stays early late pos legal (inr h) = inr (omega (arith, h, first_rises early late legal))
 
-  pub last_within : (seen : List Event) → IsLegal may floor shelf seen → last_id (state_of seen).register.chain + 1 ≤ length shelf
-  last_within seen legal = omega (arith, (sound may floor shelf seen legal).shelf)
+  pub last_within : (seen : List Event) → IsLegal law seen → last_id (state_of seen).register.chain + 1 ≤ length law.shelf
+  last_within seen legal = omega (arith, (sound law seen legal).shelf)

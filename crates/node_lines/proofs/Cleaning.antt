@@ -5,6 +5,7 @@ use Rattle.std.proofs.lemmas.Bool.{cases_lt}
 use Rattle.std.proofs.lemmas.List.{take-append-le}
 use Rattle.std.proofs.lemmas.List.Elements.{All-from_recursion, Contains-push_cases}
 use Rattle.delos_types.specs.declared.entry.Entry.{Entry}
+use Rattle.legal_journal.specs.Law.{Law}
 use Rattle.legal_journal.specs.declared.events.Event.{Event}
 use Rattle.legal_journal.specs.Journal.{IsLegal, state_of, tail_of}
 use Rattle.journal_laws.specs.Changes.{appended}
@@ -46,16 +47,16 @@ at_index (x ∷ xs) (suc k) e low same = at_index xs k e (omega (arith, low)) sa
 
 -- Fronts of the log
 
-module _ (may : ℕ → Entry → Type 0) (floor : List Entry → ℕ → Type 0) (shelf : List ℕ) where
+module _ (law : Law) where
   -- what stands in a front was appended
-  pub front_appended : (seen : List Event) (log : List Entry) → IsLegal may floor shelf seen → IsFront Holds seen log → (e : Entry) → Contains log e → Contains (appended seen) e
-  front_appended seen log legal front e h = held_appended may floor shelf seen h.0 e legal (front h.0 e (at_index log h.0 e h.1 h.2))
+  pub front_appended : (seen : List Event) (log : List Entry) → IsLegal law seen → IsFront Holds seen log → (e : Entry) → Contains log e → Contains (appended seen) e
+  front_appended seen log legal front e h = held_appended law seen h.0 e legal (front h.0 e (at_index log h.0 e h.1 h.2))
 
   -- Two fronts of one log
 
-  module _ (seen : List Event) (a b : List Entry) (legal : IsLegal may floor shelf seen) (one : IsFront Holds seen a) (other : IsFront Holds seen b) where
+  module _ (seen : List Event) (a b : List Entry) (legal : IsLegal law seen) (one : IsFront Holds seen a) (other : IsFront Holds seen b) where
     pub begins_with : length a ≤ length b → a ++ drop (length a) b ≡ b
-    begins_with longer = splits a b longer (λ p x y i j. holds_agree may floor shelf seen p x y legal (one p x i) (other p y j))
+    begins_with longer = splits a b longer (λ p x y i j. holds_agree law seen p x y legal (one p x i) (other p y j))
 
     pub same_front : length a ≡ length b → a ≡ b
     same_front size =
@@ -65,16 +66,16 @@ module _ (may : ℕ → Entry → Type 0) (floor : List Entry → ℕ → Type 0
         dropped [] = refl
         dropped (x ∷ xs) = dropped xs
 
-  pub same_beginning : (seen : List Event) (a b : List Entry) (n : ℕ) → IsLegal may floor shelf seen → IsFront Holds seen a → IsFront Holds seen b → n ≤ length a → n ≤ length b → take n a ≡ take n b
+  pub same_beginning : (seen : List Event) (a b : List Entry) (n : ℕ) → IsLegal law seen → IsFront Holds seen a → IsFront Holds seen b → n ≤ length a → n ≤ length b → take n a ≡ take n b
   same_beginning seen a b n legal one other within also =
       ⊎_elim
       (λ (h : length a < length b). sym (take-append-le n a (drop (length a) b) within) ∙ ap (take n) (begins_with seen a b legal one other (omega (arith, h))))
       (λ (h : length b ≤ length a). sym (sym (take-append-le n b (drop (length b) a) also) ∙ ap (take n) (begins_with seen b a legal other one h)))
       (cases_lt (length a) (length b))
 
-  module _ (low : (log : List Entry) (n : ℕ) → floor log n → n ≤ length log) where
+  module _ (low : (log : List Entry) (n : ℕ) → law.floor log n → n ≤ length log) where
     -- each entry of a front stands in the log, below its tail
-    pub front_within : (seen : List Event) (log : List Entry) → IsLegal may floor shelf seen → IsFront Holds seen log → length log ≤ tail_of (state_of seen)
+    pub front_within : (seen : List Event) (log : List Entry) → IsLegal law seen → IsFront Holds seen log → length log ≤ tail_of (state_of seen)
     front_within seen log legal front = by (cases_lt (tail_of (state_of seen)) (length log))
       where
         some_at : (xs : List Entry) (n : ℕ) → n < length xs → (e : Entry) × (slice_get xs n ≡ Some e)
@@ -87,7 +88,7 @@ module _ (may : ℕ → Entry → Type 0) (floor : List Entry → ℕ → Type 0
         by (inl h) =
             let t = tail_of (state_of seen) in
             let x = some_at log t h in
-            absurd (omega (arith, stands_below may floor shelf low seen t x.0 legal (holds_stands may floor shelf seen t x.0 legal (front t x.0 x.1))))
+            absurd (omega (arith, stands_below law low seen t x.0 legal (holds_stands law seen t x.0 legal (front t x.0 x.1))))
 
 -- Nothing is clean at once.
 pub clean_none : (seen : List Event) → IsCleanPoint seen 0

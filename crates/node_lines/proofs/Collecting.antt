@@ -7,6 +7,7 @@ use Rattle.std.specs.FinMap as finmap
 use Rattle.std.proofs.lemmas.Bool.Decides.{nat_tests}
 use Rattle.delos_types.specs.Spaces.{SpaceMap}
 use Rattle.delos_types.specs.declared.entry.Entry.{Entry}
+use Rattle.legal_journal.specs.Law.{Law}
 use Rattle.legal_journal.specs.declared.events.Event.{Event}
 use Rattle.legal_journal.specs.Journal.{IsLegal}
 use Rattle.virtual_log.specs.Holding.{Holds}
@@ -30,10 +31,10 @@ lists_agree (x ∷ xs) [] h f = absurd (omega (arith, h))
 lists_agree (x ∷ xs) (y ∷ ys) h f = ap (λ z. z ∷ xs) (f 0 x y refl refl) ∙ ap (λ l. y ∷ l) (lists_agree xs ys (omega (arith, h)) (λ p u v i j. f (suc p) u v i j))
 
 -- what holds of one front of the log holds of each of its length
-pub in_front : (may : ℕ → Entry → Type 0) (floor : List Entry → ℕ → Type 0) (shelf : List ℕ) (seen : List Event) (cursor : ℕ) (P : List Entry → Type 0) (log : List Entry)
-    → IsLegal may floor shelf seen → length log ≡ cursor → IsFront Holds seen log → P log → InFront seen cursor P
-in_front may floor shelf seen cursor P log legal size front h = λ other is at.
-    subst P (lists_agree log other (size ∙ sym is) (λ p x y i j. holds_agree may floor shelf seen p x y legal (front p x i) (at p y j))) h
+pub in_front : (law : Law) (seen : List Event) (cursor : ℕ) (P : List Entry → Type 0) (log : List Entry)
+    → IsLegal law seen → length log ≡ cursor → IsFront Holds seen log → P log → InFront seen cursor P
+in_front law seen cursor P log legal size front h = λ other is at.
+    subst P (lists_agree log other (size ∙ sym is) (λ p x y i j. holds_agree law seen p x y legal (front p x i) (at p y j))) h
 
 -- One more answer
 

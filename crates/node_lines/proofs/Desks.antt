@@ -2,6 +2,7 @@
 use Rattle.std.proofs.Common.{sym, subst, ℕ, ◌≤◌, List, length, arith}
 use Rattle.delos_types.specs.declared.entry.Entry.{Entry}
 use Rattle.delos_types.specs.declared.cause.Cause.{Cause}
+use Rattle.legal_journal.specs.Law.{Law}
 use Rattle.legal_journal.specs.declared.events.Event.{Event}
 use Rattle.legal_journal.specs.Journal.{IsLegal}
 use Rattle.virtual_log.specs.Holding.{Holds}
@@ -15,15 +16,15 @@ use Rattle.node_lines.specs.Moving.{Goes, StaysGiven, Moves}
 use Rattle.node_lines.specs.Desks.{HasAnswers, DeskOk}
 use Rattle.node_lines.proofs.Moving.{none-before}
 
-module _ (may : ℕ → Entry → Type 0) (floor : List Entry → ℕ → Type 0) (shelf : List ℕ) (low : (log : List Entry) (n : ℕ) → floor log n → n ≤ length log) where
-  pub front_later : (old new : List Event) (log : List Entry) → IsLegal may floor shelf new → Extends old new → IsFront Holds old log → IsFront Holds new log
-  front_later old new log legal on h = λ pos e at. subst (λ l. Holds l pos e) (sym on.1) (held_stays may floor shelf old on.0 pos e (subst (IsLegal may floor shelf) on.1 legal) (h pos e at))
+module _ (law : Law) (low : (log : List Entry) (n : ℕ) → law.floor log n → n ≤ length log) where
+  pub front_later : (old new : List Event) (log : List Entry) → IsLegal law new → Extends old new → IsFront Holds old log → IsFront Holds new log
+  front_later old new log legal on h = λ pos e at. subst (λ l. Holds l pos e) (sym on.1) (held_stays law old on.0 pos e (subst (IsLegal law) on.1 legal) (h pos e at))
 
-  pub answers_later : (old new : List Event) (c c' s : ℕ) (answers : List Kept) → IsLegal may floor shelf new → Extends old new → c ≤ c' → HasAnswers old c s answers → HasAnswers new c' s answers
+  pub answers_later : (old new : List Event) (c c' s : ℕ) (answers : List Kept) → IsLegal law new → Extends old new → c ≤ c' → HasAnswers old c s answers → HasAnswers new c' s answers
   answers_later old new c c' s answers legal on up h = record { log = h.log; front = front_later old new h.log legal on h.front; upto = omega (arith, h.upto, up); are = h.are }
 
   -- what a call keeps of a session's commands it keeps of its desk
-  pub desk_goes : (old new : NodeView) (others : List Cause) (s : ℕ) (d : Desk) → Goes may floor shelf old new others → StaysGiven old new s → DeskOk old s d → DeskOk new s d
+  pub desk_goes : (old new : NodeView) (others : List Cause) (s : ℕ) (d : Desk) → Goes law old new others → StaysGiven old new s → DeskOk old s d → DeskOk new s d
   desk_goes old new others s d h stays k = record {
     session = k.session;
     known = k.known;
@@ -31,8 +32,8 @@ module _ (may : ℕ → Entry → Type 0) (floor : List Entry → ℕ → Type 0
     near = k.near;
     acted = answers_later old.seen new.seen old.replica.cursor new.replica.cursor s d.answers.items h.keeps.later.legal (h.keeps.later.more, h.keeps.later.seen) h.keeps.forward k.acted;
     ended = k.ended;
-    given = λ free none. let g = k.given free (none-before may floor shelf low old new others s h none) in (g.0, stays d.sent none g.1);
+    given = λ free none. let g = k.given free (none-before law low old new others s h none) in (g.0, stays d.sent none g.1);
   }
 
-  pub desk_moves : (old new : NodeView) (others : List Cause) (s : ℕ) (d : Desk) → Moves may floor shelf old new others → DeskOk old s d → DeskOk new s d
+  pub desk_moves : (old new : NodeView) (others : List Cause) (s : ℕ) (d : Desk) → Moves law old new others → DeskOk old s d → DeskOk new s d
   desk_moves old new others s d h k = desk_goes old new others s d h.goes (h.stays s) k

@@ -6,6 +6,7 @@ use Rattle.std.specs.FinMap as finmap
 use Rattle.std.proofs.lemmas.Bool.Decides.{nat_tests}
 use Rattle.std.proofs.lemmas.List.Folds.{find-append}
 use Rattle.delos_types.specs.declared.entry.Entry.{Entry}
+use Rattle.legal_journal.specs.Law.{Law}
 use Rattle.legal_journal.specs.declared.events.Event.{Event}
 use Rattle.legal_journal.specs.Journal.{IsLegal}
 use Rattle.virtual_log.proofs.Agreeing.{holds_agree}
@@ -64,9 +65,9 @@ answers-longer log more s answers h = record {
 }
 
 -- in each front of the log that is long enough
-pub answers_at : (may : ℕ → Entry → Type 0) (floor : List Entry → ℕ → Type 0) (shelf : List ℕ) (seen : List Event) (c s : ℕ) (answers : List Kept) → IsLegal may floor shelf seen → HasAnswers seen c s answers
+pub answers_at : (law : Law) (seen : List Event) (c s : ℕ) (answers : List Kept) → IsLegal law seen → HasAnswers seen c s answers
     → InFront seen c (λ log. AreAnswers log s answers)
-answers_at may floor shelf seen c s answers legal h = λ log size front.
+answers_at law seen c s answers legal h = λ log size front.
     subst (λ l. AreAnswers l s answers)
-    (splits h.log log (omega (arith, h.upto, size)) (λ p x y i j. holds_agree may floor shelf seen p x y legal (h.front p x i) (front p y j)))
+    (splits h.log log (omega (arith, h.upto, size)) (λ p x y i j. holds_agree law seen p x y legal (h.front p x i) (front p y j)))
     (answers-longer h.log (drop (length h.log) log) s answers h.are)

@@ -1,11 +1,11 @@
 -- What a replacement of the last loglet did to the chain, where all events meanwhile are one user's.
 use Rattle.std.proofs.Common.{◌≡◌, refl, sym, ap, ◌∙◌, subst, ℕ, ◌+◌, List, [], ◌∷◌, ◌++◌, Some, length, arith, append_assoc, append-nil}
 use Rattle.std.proofs.lemmas.List.{append_cancel_left}
-use Rattle.delos_types.specs.declared.entry.Entry.{Entry}
 use Rattle.delos_types.specs.declared.chain.Segment.{Segment}
 use Rattle.delos_types.specs.declared.chain.Chain.{Chain}
 use Rattle.chain_map.specs.Chain.{last_of_segments, last_segment, last_id}
 use Rattle.chain_map.specs.Step.{extended, extended_segments}
+use Rattle.legal_journal.specs.Law.{Law}
 use Rattle.legal_journal.specs.declared.events.Event.{Event}
 use Rattle.legal_journal.specs.declared.events.FabricCall.TheVariants.{ReadChain, WriteChain}
 use Rattle.legal_journal.specs.declared.events.FabricAnswer.TheVariants.{At, Written}
@@ -40,9 +40,9 @@ own_at : (who : ℕ) (before : List Event) (e : Event) (after : List Event) → 
 own_at who [] e after h = h.0
 own_at who (x ∷ xs) e after h = own_at who xs e after h.1
 
-module _ (may : ℕ → Entry → Type 0) (floor : List Entry → ℕ → Type 0) (shelf : List ℕ) (who : ℕ) (early settled new : List Event) (known known' v' : ℕ) (legal : IsLegal may floor shelf new) (more : List Event) (since : settled ≡ early ++ more) where
+module _ (law : Law) (who : ℕ) (early settled new : List Event) (known known' v' : ℕ) (legal : IsLegal law new) (more : List Event) (since : settled ≡ early ++ more) where
   -- the look at the chain
-  module _ (x : Extension) (e : IsExtension (length shelf) who settled known known' v' new x) where
+  module _ (x : Extension) (e : IsExtension (length law.shelf) who settled known known' v' new x) where
     abbrev look_event : Event
     look_event = record { who = who; call = ReadChain; answer = At e.version e.chain }
 
@@ -55,14 +55,14 @@ module _ (may : ℕ → Entry → Type 0) (floor : List Entry → ℕ → Type 0
         ∙ ap (λ l. l ++ look_event ∷ []) (append_assoc early more e.others)
         ∙ append_assoc early (more ++ e.others) (look_event ∷ [])
 
-    looked_legal : IsLegal may floor shelf e.looked
-    looked_legal = legal_front may floor shelf e.looked e.rest (subst (IsLegal may floor shelf) e.seen legal)
+    looked_legal : IsLegal law e.looked
+    looked_legal = legal_front law e.looked e.rest (subst (IsLegal law) e.seen legal)
 
     looked_chain : (state_of e.looked).register.chain ≡ e.chain
-    looked_chain = ap (λ (w : State). w.register.chain) (took may floor shelf settled e.others look_event e.looked looked_legal e.look).now
+    looked_chain = ap (λ (w : State). w.register.chain) (took law settled e.others look_event e.looked looked_legal e.look).now
 
     to_looked : Continues (state_of early) (state_of e.looked)
-    to_looked = subst (λ es. Continues (state_of early) (state_of es)) (sym looked_since) (goes_on may floor shelf early to_look (subst (IsLegal may floor shelf) looked_since looked_legal))
+    to_looked = subst (λ es. Continues (state_of early) (state_of es)) (sym looked_since) (goes_on law early to_look (subst (IsLegal law) looked_since looked_legal))
 
     -- an own write that stands
     written : (version start : ℕ) → IsWritten who e.looked (last_segment e.chain) version start new → GoesFurther (state_of early).register (state_of new).register version start
@@ -71,10 +71,10 @@ module _ (may : ℕ → Entry → Type 0) (floor : List Entry → ℕ → Type 0
         let before = e.looked ++ w.event.before in
         let wrote = before ++ event ∷ [] in
         let seen : new ≡ wrote ++ w.event.after = w.event.seen ∙ (ap (λ (y : Event). before ++ y ∷ w.event.after) w.event.is ∙ sym (append_assoc before (event ∷ []) w.event.after)) in
-        let whole = subst (IsLegal may floor shelf) seen legal in
-        let front = legal_front may floor shelf wrote w.event.after whole in
-        let k = took may floor shelf e.looked w.event.before event wrote front refl in
-        let to_new = subst (λ es. Continues (state_of wrote) (state_of es)) (sym seen) (goes_on may floor shelf wrote w.event.after whole) in
+        let whole = subst (IsLegal law) seen legal in
+        let front = legal_front law wrote w.event.after whole in
+        let k = took law e.looked w.event.before event wrote front refl in
+        let to_new = subst (λ es. Continues (state_of wrote) (state_of es)) (sym seen) (goes_on law wrote w.event.after whole) in
         let version_is : (state_of wrote).register.version ≡ version = ap (λ (y : State). y.register.version) k.now in
         let chain_is : (state_of wrote).register.chain ≡ extended w.before w.at = ap (λ (y : State). y.register.chain) k.now in
         let joined = subst (λ (c : Chain). Joined (ends (state_of wrote).cells) k.now_ok.id k.now_ok.from c.segments) chain_is k.now_ok.joined in
@@ -86,7 +86,7 @@ module _ (may : ℕ → Entry → Type 0) (floor : List Entry → ℕ → Type 0
           above = omega (arith, to_looked.version, k.before.version, k.allowed.1, k.allowed.3);
           within = omega (arith, version_is, to_new.version);
           next = omega (arith, to_looked.last, ap last_id looked_chain, ap (λ (s : Segment). s.id) last, to_new.last);
-          started = begun_stands (length shelf) (state_of new) (sound may floor shelf new legal) (last_id (state_of wrote).register.chain) start (at ∙ ap (λ n. Some n) start_is);
+          started = begun_stands law (state_of new) (sound law new legal) (last_id (state_of wrote).register.chain) start (at ∙ ap (λ n. Some n) start_is);
         }
 
     -- nobody else took a turn
@@ -101,14 +101,14 @@ module _ (may : ℕ → Entry → Type 0) (floor : List Entry → ℕ → Type 0
     last_now : e.rest ≡ [] → last_id (state_of new).register.chain ≡ last_id e.chain
     last_now none = ap (λ es. last_id (state_of es).register.chain) (e.seen ∙ (ap (λ l. e.looked ++ l) none ∙ append-nil e.looked)) ∙ ap last_id looked_chain
 
-  lone_case : (x : Extension) → IsExtension (length shelf) who settled known known' v' new x → OwnSince who early new → ExtendedSo (length shelf) (state_of early).register (state_of new).register x
+  lone_case : (x : Extension) → IsExtension (length law.shelf) who settled known known' v' new x → OwnSince who early new → ExtendedSo (length law.shelf) (state_of early).register (state_of new).register x
   lone_case (Extended version start) e own = written (Extended version start) e version start e.follows.1.0
   lone_case (Moved version) e own = absurd (alone (Moved version) e own e.follows.1.0.another)
   lone_case NoSpare e own = ap (λ n. n + 1) (last_now NoSpare e e.follows.1) ∙ e.follows.0
 
-pub lone_extension : (may : ℕ → Entry → Type 0) (floor : List Entry → ℕ → Type 0) (shelf : List ℕ) (old new : NodeView) (x : Extension) → Extends may floor shelf old new (looked.Extended x) → OwnSince old.who old.seen new.seen
-    → ExtendedSo (length shelf) (state_of old.seen).register (state_of new.seen).register x
-lone_extension may floor shelf old new x h own =
+pub lone_extension : (law : Law) (old new : NodeView) (x : Extension) → Extends law old new (looked.Extended x) → OwnSince old.who old.seen new.seen
+    → ExtendedSo (length law.shelf) (state_of old.seen).register (state_of new.seen).register x
+lone_extension law old new x h own =
     let who = h.settles.goes.keeps.who in
-    lone_case may floor shelf h.settled.who old.seen h.settled.seen new.seen h.settled.known new.known h.extends.1.0 h.moves.goes.keeps.later.legal h.settles.goes.keeps.later.more h.settles.goes.keeps.later.seen x h.extends.1.1
+    lone_case law h.settled.who old.seen h.settled.seen new.seen h.settled.known new.known h.extends.1.0 h.moves.goes.keeps.later.legal h.settles.goes.keeps.later.more h.settles.goes.keeps.later.seen x h.extends.1.1
     (subst (λ k. OwnSince k old.seen new.seen) (sym who) own)

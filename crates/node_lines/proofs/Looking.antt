@@ -4,6 +4,7 @@ use Rattle.std.specs.Prelude.{All}
 use Rattle.delos_types.specs.declared.entry.Entry.{Entry}
 use Rattle.delos_types.specs.declared.item.Item.{Item}
 use Rattle.delos_types.specs.declared.cause.Cause.{Cause}
+use Rattle.legal_journal.specs.Law.{Law}
 use Rattle.legal_journal.specs.declared.events.Event.{Event}
 use Rattle.legal_journal.specs.Journal.{IsLegal}
 use Rattle.virtual_log.specs.Holding.{Holds}
@@ -33,27 +34,27 @@ none_queued : (a n : ℕ) → [] ≡ numbers a n → n ≡ 0
 none_queued a zero h = refl
 none_queued a (suc n) h = absurd (cc)
 
-module _ (may : ℕ → Entry → Type 0) (floor : List Entry → ℕ → Type 0) (shelf : List ℕ) (low : (log : List Entry) (n : ℕ) → floor log n → n ≤ length log) where
+module _ (law : Law) (low : (log : List Entry) (n : ℕ) → law.floor log n → n ≤ length log) where
   -- All that a session asked was flushed and settled, and it was given no cause. In the state at a tail that was found then
   -- just that has acted.
-  pub looks_whole : (who origin s sent tail : ℕ) (old flushed settled seen : List Event) (o was is : OutboxView) (cause : Option Cause) (kept kept' : List Item) (log : List Entry) → IsLegal may floor shelf seen
+  pub looks_whole : (who origin s sent tail : ℕ) (old flushed settled seen : List Event) (o was is : OutboxView) (cause : Option Cause) (kept kept' : List Item) (log : List Entry) → IsLegal law seen
       → All IsProposable kept → length kept ≤ 15 → IsGiven old o.entries kept s sent
       → Sent Holds who old o (λ packed. Flushes origin kept packed kept') flushed was → Answers Holds who flushed was cause settled is → cause_in s is.given ≡ None
-      → IsAbove who settled tail seen → length log ≡ tail → IsFront Holds seen log → ((user : ℕ) (e : Entry) (r : ℕ) → may user e → HasRank s r e → r ≤ sent)
+      → IsAbove who settled tail seen → length log ≡ tail → IsFront Holds seen log → ((user : ℕ) (e : Entry) (r : ℕ) → law.may user e → HasRank s r e → r ≤ sent)
       → gap_from (asked_in 0 log) s 1 ≡ sent + 1
   looks_whole who origin s sent tail old flushed settled seen o was is cause kept kept' log legal all few g sends answers none above size front bound =
       let now : OutboxView = record { entries = is.entries; given = is.given; unsettled = cause } in
-      let on = above_extends may floor shelf who tail settled seen above in
-      let legal_settled = front_of may floor shelf low settled seen legal on in
-      let legal_flushed = front_of may floor shelf low flushed settled legal_settled (settled_extends who flushed settled was now answers.settled) in
+      let on = above_extends law who tail settled seen above in
+      let legal_settled = front_of law low settled seen legal on in
+      let legal_flushed = front_of law low flushed settled legal_settled (settled_extends who flushed settled was now answers.settled) in
       let none_then = none-front s was.given answers.settled.given (subst (λ x. cause_in s x ≡ None) answers.settled.gained none) in
-      let given = flushed_given may floor shelf low who origin s sent old flushed o was kept kept' legal_flushed none_then all few sends g in
+      let given = flushed_given law low who origin s sent old flushed o was kept kept' legal_flushed none_then all few sends g in
       let empty = none_kept origin kept kept' sends.packed sends.out in
       let queued : given.queued ≡ 0 = none_queued (sent - given.queued + 1) given.queued (sym (ap (λ k. ranks k) empty) ∙ given.waiting) in
       let landed : (r : ℕ) → 1 ≤ r → r ≤ sent → HasLanded settled s r = λ r first last.
-      settled_landed may floor shelf low who s r flushed settled was now legal_settled none answers.none answers.settled (given.under_way r first (omega (arith, last, queued))) in
-      let least = found_acted may floor shelf who s sent tail settled seen log legal above size front landed in
-      let most = acted_sent may floor shelf seen log s sent legal front bound in
+      settled_landed law low who s r flushed settled was now legal_settled none answers.none answers.settled (given.under_way r first (omega (arith, last, queued))) in
+      let least = found_acted law who s sent tail settled seen log legal above size front landed in
+      let most = acted_sent law seen log s sent legal front bound in
       omega (arith, least, most)
     where
       ranks : List Item → List ℕ

@@ -2,6 +2,7 @@
 use Rattle.std.proofs.Common.{◌≡◌, refl, ◌∙◌, ℕ, List, length}
 use Rattle.delos_types.specs.declared.entry.Entry.{Entry}
 use Rattle.delos_types.specs.declared.cause.Cause.{Cause}
+use Rattle.legal_journal.specs.Law.{Law}
 use Rattle.log_laws.specs.State.{IsStateOf}
 use Rattle.base_engine.specs.Node.{NodeView}
 use Rattle.node_lines.specs.declared.measure.Measured.TheVariants as measured
@@ -10,10 +11,10 @@ use Rattle.node_lines.specs.Measuring.{Measures}
 pub same_number : (n m : ℕ) → measured.At n ≡ measured.At m → m ≡ n
 same_number n m h = cc
 
-module _ (may : ℕ → Entry → Type 0) (floor : List Entry → ℕ → Type 0) (shelf : List ℕ) (first other : List Entry → ℕ) (old new : NodeView) where
+module _ (law : Law) (first other : List Entry → ℕ) (old new : NodeView) where
   -- another number is read off the same state
-  pub measures_other : (k n : ℕ) → Measures may floor shelf first old new (measured.At k) → ((log : List Entry) → length log ≡ new.replica.cursor → IsStateOf log new.replica.contents → n ≡ other log)
-      → Measures may floor shelf other old new (measured.At n)
+  pub measures_other : (k n : ℕ) → Measures law first old new (measured.At k) → ((log : List Entry) → length log ≡ new.replica.cursor → IsStateOf log new.replica.contents → n ≡ other log)
+      → Measures law other old new (measured.At n)
   measures_other k n h is = record {
     moves = h.moves;
     none = h.none;
@@ -25,5 +26,5 @@ module _ (may : ℕ → Entry → Type 0) (floor : List Entry → ℕ → Type 0
   }
 
   -- nothing was read
-  pub measures_none : (c : Cause) → Measures may floor shelf first old new (measured.Failed c) → Measures may floor shelf other old new (measured.Failed c)
+  pub measures_none : (c : Cause) → Measures law first old new (measured.Failed c) → Measures law other old new (measured.Failed c)
   measures_none c h = record { moves = h.moves; none = h.none; unsettled = h.unsettled; kept = h.kept; measured = λ m same. absurd (cc) }

@@ -7,6 +7,7 @@ use Rattle.std.proofs.lemmas.List.Elements.{All-nil, All-cons, All-append}
 use Rattle.delos_types.specs.declared.entry.Entry.{Entry}
 use Rattle.delos_types.specs.declared.item.Item.{Item}
 use Rattle.delos_types.specs.declared.cause.Cause.{Cause}
+use Rattle.legal_journal.specs.Law.{Law}
 use Rattle.legal_journal.specs.Journal.{IsLegal}
 use Rattle.virtual_log.specs.Holding.{Holds}
 use Rattle.engine_api.specs.declared.content.Content.{Content}
@@ -60,13 +61,13 @@ rank_elsewhere s t r (Some (content.Leave n)) own other = refl
 rank_elsewhere s t r (Some (content.Trim p)) own other = refl
 rank_elsewhere s t r None own other = refl
 
-module _ (may : ℕ → Entry → Type 0) (floor : List Entry → ℕ → Type 0) (shelf : List ℕ) (low : (log : List Entry) (n : ℕ) → floor log n → n ≤ length log) where
-  extends-of : (old new : NodeView) → Keeps may floor shelf old new → Extends old.seen new.seen
+module _ (law : Law) (low : (log : List Entry) (n : ℕ) → law.floor log n → n ≤ length log) where
+  extends-of : (old new : NodeView) → Keeps law old new → Extends old.seen new.seen
   extends-of old new k = (k.later.more, k.later.seen)
 
   -- entries were settled, and then what is outstanding changed alone
-  goes-settled : (old new : NodeView) (mid : OutboxView) → Keeps may floor shelf old new → (h : Settled Holds old.who old.seen old.outbox new.seen mid) → new.outbox.given ≡ mid.given
-      → (CanPack old.replica.kept → CanPack new.replica.kept) → Goes may floor shelf old new []
+  goes-settled : (old new : NodeView) (mid : OutboxView) → Keeps law old new → (h : Settled Holds old.who old.seen old.outbox new.seen mid) → new.outbox.given ≡ mid.given
+      → (CanPack old.replica.kept → CanPack new.replica.kept) → Goes law old new []
   goes-settled old new mid k h same packs = record {
     keeps = k;
     given = h.given;
@@ -77,27 +78,27 @@ module _ (may : ℕ → Entry → Type 0) (floor : List Entry → ℕ → Type 0
     packs = packs;
   }
 
-  pub moves-pack : (old new : NodeView) → CanPack old.replica.kept → Keeps may floor shelf old new
-      → Sent Holds old.who old.seen old.outbox (λ packed. Flushes old.replica.origin old.replica.kept packed new.replica.kept) new.seen new.outbox → Moves may floor shelf old new []
+  pub moves-pack : (old new : NodeView) → CanPack old.replica.kept → Keeps law old new
+      → Sent Holds old.who old.seen old.outbox (λ packed. Flushes old.replica.origin old.replica.kept packed new.replica.kept) new.seen new.outbox → Moves law old new []
   moves-pack old new can k h = record {
     goes = goes-settled old new h.mid k h.settled (ap (λ (o : OutboxView). o.given) h.is_with ∙ given_of h.mid h.packed) (packs-flushed old.replica.origin old.replica.kept new.replica.kept h.packed h.out);
-    stays = λ s sent none g. flushed_given may floor shelf low old.who old.replica.origin s sent old.seen new.seen old.outbox new.outbox old.replica.kept new.replica.kept k.later.legal none can.each can.few h g;
+    stays = λ s sent none g. flushed_given law low old.who old.replica.origin s sent old.seen new.seen old.outbox new.outbox old.replica.kept new.replica.kept k.later.legal none can.each can.few h g;
     quiet = λ s q. quiet_in new s (flushed_still old.who old.replica.origin s old.seen new.seen old.outbox new.outbox old.replica.kept new.replica.kept can.each can.few h (still_in old s q));
   }
 
-  pub moves-settle : (old new : NodeView) (cause : Option Cause) → Keeps may floor shelf old new → new.replica ≡ old.replica
-      → Settled Holds old.who old.seen old.outbox new.seen (record { entries = new.outbox.entries; given = new.outbox.given; unsettled = cause }) → Moves may floor shelf old new []
+  pub moves-settle : (old new : NodeView) (cause : Option Cause) → Keeps law old new → new.replica ≡ old.replica
+      → Settled Holds old.who old.seen old.outbox new.seen (record { entries = new.outbox.entries; given = new.outbox.given; unsettled = cause }) → Moves law old new []
   moves-settle old new cause k same h = record {
     goes = goes-settled old new (record { entries = new.outbox.entries; given = new.outbox.given; unsettled = cause }) k h refl (λ c. subst (λ r. CanPack r.kept) (sym same) c);
     stays = λ s sent none g. subst (λ r. IsGiven new.seen new.outbox.entries r.kept s sent) (sym same)
-        (settled_given may floor shelf low old.who s sent old.seen new.seen old.outbox (record { entries = new.outbox.entries; given = new.outbox.given; unsettled = cause }) old.replica.kept k.later.legal none h g);
+        (settled_given law low old.who s sent old.seen new.seen old.outbox (record { entries = new.outbox.entries; given = new.outbox.given; unsettled = cause }) old.replica.kept k.later.legal none h g);
     quiet = λ s q.
         let then' = settled_still old.who s old.seen new.seen old.outbox (record { entries = new.outbox.entries; given = new.outbox.given; unsettled = cause }) old.replica.kept h (still_in old s q) in
         record { outstanding = then'.outstanding; waiting = ap (λ (r : ReplicaView). ranks_in s r.kept) same ∙ then'.waiting; free = then'.free };
   }
 
   -- nothing was settled
-  nothing : (old new : NodeView) → Keeps may floor shelf old new → Settled Holds old.who old.seen old.outbox new.seen old.outbox
+  nothing : (old new : NodeView) → Keeps law old new → Settled Holds old.who old.seen old.outbox new.seen old.outbox
   nothing old new k = record {
     done = [];
     given = [];
@@ -108,8 +109,8 @@ module _ (may : ℕ → Entry → Type 0) (floor : List Entry → ℕ → Type 0
     rest = extends-of old new k;
   }
 
-  pub moves-sync : (old new : NodeView) (others : List Cause) → Keeps may floor shelf old new → new.outbox ≡ old.outbox → new.replica.kept ≡ old.replica.kept
-      → Spends old.who old.seen new.seen old.replica.faults new.replica.faults others → Moves may floor shelf old new others
+  pub moves-sync : (old new : NodeView) (others : List Cause) → Keeps law old new → new.outbox ≡ old.outbox → new.replica.kept ≡ old.replica.kept
+      → Spends old.who old.seen new.seen old.replica.faults new.replica.faults others → Moves law old new others
   moves-sync old new others k same kept spends = record {
     goes = record {
       keeps = k;
@@ -120,7 +121,7 @@ module _ (may : ℕ → Entry → Type 0) (floor : List Entry → ℕ → Type 0
     };
     stays = λ s sent none g. subst (λ (x : List Item). IsGiven new.seen new.outbox.entries x s sent) (sym kept)
         (subst (λ (o : OutboxView). IsGiven new.seen o.entries old.replica.kept s sent) (sym same)
-        (settled_given may floor shelf low old.who s sent old.seen new.seen old.outbox old.outbox old.replica.kept k.later.legal (subst (λ (o : OutboxView). cause_in s o.given ≡ None) same none) (nothing old new k) g));
+        (settled_given law low old.who s sent old.seen new.seen old.outbox old.outbox old.replica.kept k.later.legal (subst (λ (o : OutboxView). cause_in s o.given ≡ None) same none) (nothing old new k) g));
     quiet = λ s q. record {
       outstanding = subst (λ (o : OutboxView). All (HasNoneOf s) o.entries) (sym same) q.outstanding;
       waiting = ap (ranks_in s) kept ∙ q.waiting;
@@ -135,29 +136,29 @@ module _ (may : ℕ → Entry → Type 0) (floor : List Entry → ℕ → Type 0
   packs-queued origin kept kept' item None fine h c = record { each = subst (λ k. All IsProposable k) (sym h.0) (all-more kept item c.each fine); few = h.1 }
   packs-queued origin kept kept' item (Some e) fine h c = subst CanPack (sym h.2) (record { each = All-nil IsProposable; few = omega arith })
 
-  pub hands-in : (old new : NodeView) (item : Item) (s sent : ℕ) → CanPack old.replica.kept → IsProposable item → Keeps may floor shelf old new → rank_under s (content_of item) ≡ Some (sent + 1)
-      → Sent Holds old.who old.seen old.outbox (λ packed. Queues old.replica.origin old.replica.kept item packed new.replica.kept) new.seen new.outbox → HandsIn may floor shelf old new s sent
+  pub hands-in : (old new : NodeView) (item : Item) (s sent : ℕ) → CanPack old.replica.kept → IsProposable item → Keeps law old new → rank_under s (content_of item) ≡ Some (sent + 1)
+      → Sent Holds old.who old.seen old.outbox (λ packed. Queues old.replica.origin old.replica.kept item packed new.replica.kept) new.seen new.outbox → HandsIn law old new s sent
   hands-in old new item s sent can fine k own h = record {
     goes = goes-settled old new h.mid k h.settled (ap (λ (o : OutboxView). o.given) h.is_with ∙ given_of h.mid h.packed) (packs-queued old.replica.origin old.replica.kept new.replica.kept item h.packed fine h.out);
-    own = λ none g. sent_given may floor shelf low old.who old.replica.origin s sent old.seen new.seen old.outbox new.outbox old.replica.kept new.replica.kept item k.later.legal none can.each fine own h g;
-    stays = λ t other n none g. sent_other may floor shelf low old.who old.replica.origin t n old.seen new.seen old.outbox new.outbox old.replica.kept new.replica.kept item k.later.legal none can.each fine
+    own = λ none g. sent_given law low old.who old.replica.origin s sent old.seen new.seen old.outbox new.outbox old.replica.kept new.replica.kept item k.later.legal none can.each fine own h g;
+    stays = λ t other n none g. sent_other law low old.who old.replica.origin t n old.seen new.seen old.outbox new.outbox old.replica.kept new.replica.kept item k.later.legal none can.each fine
         (rank_elsewhere s t (sent + 1) (content_of item) own other) h g;
     quiet = λ t other q. quiet_in new t (sent_still old.who old.replica.origin t old.seen new.seen old.outbox new.outbox old.replica.kept new.replica.kept item can.each fine
         (rank_elsewhere s t (sent + 1) (content_of item) own other) h (still_in old t q));
   }
 
   -- an item of no session goes down
-  pub moves-plain : (old new : NodeView) (item : Item) → CanPack old.replica.kept → IsProposable item → Keeps may floor shelf old new → ((s : ℕ) → rank_under s (content_of item) ≡ None)
-      → Sent Holds old.who old.seen old.outbox (λ packed. Queues old.replica.origin old.replica.kept item packed new.replica.kept) new.seen new.outbox → Moves may floor shelf old new []
+  pub moves-plain : (old new : NodeView) (item : Item) → CanPack old.replica.kept → IsProposable item → Keeps law old new → ((s : ℕ) → rank_under s (content_of item) ≡ None)
+      → Sent Holds old.who old.seen old.outbox (λ packed. Queues old.replica.origin old.replica.kept item packed new.replica.kept) new.seen new.outbox → Moves law old new []
   moves-plain old new item can fine k none h = record {
     goes = goes-settled old new h.mid k h.settled (ap (λ (o : OutboxView). o.given) h.is_with ∙ given_of h.mid h.packed) (packs-queued old.replica.origin old.replica.kept new.replica.kept item h.packed fine h.out);
-    stays = λ s sent free g. sent_other may floor shelf low old.who old.replica.origin s sent old.seen new.seen old.outbox new.outbox old.replica.kept new.replica.kept item k.later.legal free can.each fine (none s) h g;
+    stays = λ s sent free g. sent_other law low old.who old.replica.origin s sent old.seen new.seen old.outbox new.outbox old.replica.kept new.replica.kept item k.later.legal free can.each fine (none s) h g;
     quiet = λ s q. quiet_in new s (sent_still old.who old.replica.origin s old.seen new.seen old.outbox new.outbox old.replica.kept new.replica.kept item can.each fine (none s) h (still_in old s q));
   }
 
   -- One call after another
 
-  pub keeps-both : (old mid new : NodeView) → Keeps may floor shelf old mid → Keeps may floor shelf mid new → Keeps may floor shelf old new
+  pub keeps-both : (old mid new : NodeView) → Keeps law old mid → Keeps law mid new → Keeps law old new
   keeps-both old mid new h k = record {
     who = k.who ∙ h.who;
     nodes = k.nodes ∙ h.nodes;
@@ -167,7 +168,7 @@ module _ (may : ℕ → Entry → Type 0) (floor : List Entry → ℕ → Type 0
     counts = omega (arith, h.counts, k.counts);
   }
 
-  pub goes-both : (old mid new : NodeView) (others more : List Cause) → Goes may floor shelf old mid others → Goes may floor shelf mid new more → Goes may floor shelf old new (others ++ more)
+  pub goes-both : (old mid new : NodeView) (others more : List Cause) → Goes law old mid others → Goes law mid new more → Goes law old new (others ++ more)
   goes-both old mid new others more h k = record {
     keeps = keeps-both old mid new h.keeps k.keeps;
     given = h.given ++ k.given;
@@ -183,13 +184,13 @@ module _ (may : ℕ → Entry → Type 0) (floor : List Entry → ℕ → Type 0
   }
 
   -- a session that has no cause had none before
-  pub none-before : (old new : NodeView) (others : List Cause) (s : ℕ) → Goes may floor shelf old new others → cause_in s new.outbox.given ≡ None → cause_in s old.outbox.given ≡ None
+  pub none-before : (old new : NodeView) (others : List Cause) (s : ℕ) → Goes law old new others → cause_in s new.outbox.given ≡ None → cause_in s old.outbox.given ≡ None
   none-before old new others s h none = none-front s old.outbox.given h.given (subst (λ g. cause_in s g ≡ None) h.gained none)
 
-  pub stays-both : (old mid new : NodeView) (more : List Cause) (s : ℕ) → Goes may floor shelf mid new more → StaysGiven old mid s → StaysGiven mid new s → StaysGiven old new s
+  pub stays-both : (old mid new : NodeView) (more : List Cause) (s : ℕ) → Goes law mid new more → StaysGiven old mid s → StaysGiven mid new s → StaysGiven old new s
   stays-both old mid new more s goes h k = λ sent none g. k sent none (h sent (none-before mid new more s goes none) g)
 
-  pub moves-both : (old mid new : NodeView) (others more : List Cause) → Moves may floor shelf old mid others → Moves may floor shelf mid new more → Moves may floor shelf old new (others ++ more)
+  pub moves-both : (old mid new : NodeView) (others more : List Cause) → Moves law old mid others → Moves law mid new more → Moves law old new (others ++ more)
   moves-both old mid new others more h k = record {
     goes = goes-both old mid new others more h.goes k.goes;
     stays = λ s. stays-both old mid new more s k.goes (h.stays s) (k.stays s);
@@ -197,6 +198,6 @@ module _ (may : ℕ → Entry → Type 0) (floor : List Entry → ℕ → Type 0
   }
 
   -- nothing was done
-  pub moves-none : (n : NodeView) → IsLegal may floor shelf n.seen → Moves may floor shelf n n []
+  pub moves-none : (n : NodeView) → IsLegal law n.seen → Moves law n n []
   moves-none n legal = moves-sync n n [] (record { who = refl; nodes = refl; origin = refl; later = record { more = []; seen = sym (append-nil n.seen); legal = legal }; forward = omega arith; counts = omega arith }) refl refl
       (spends-none n.who n.seen n.seen n.replica.faults n.replica.faults ([], sym (append-nil n.seen)) (omega arith))

@@ -7,6 +7,7 @@ use Rattle.std.proofs.lemmas.List.Elements.{Contains-push, Contains-push_cases}
 use Rattle.delos_types.specs.declared.entry.Entry.{Entry}
 use Rattle.loglet_api.specs.declared.call.Op.{Op}
 use Rattle.loglet_api.specs.declared.call.Op.TheVariants.{Append, Settle, Tail, Seal, Read, Trim}
+use Rattle.legal_journal.specs.Law.{Law}
 use Rattle.legal_journal.specs.declared.events.FabricCall.{FabricCall}
 use Rattle.legal_journal.specs.declared.events.FabricCall.TheVariants.{Begin, Carry, Forget, ReadChain, WriteChain, Stop, Mend, Stray, StopMeta, MendMeta}
 use Rattle.legal_journal.specs.declared.events.FabricAnswer.{FabricAnswer}
@@ -129,25 +130,25 @@ all_adds who P old new since adds = λ e h.
 
 -- By the rules
 
-module _ (may : ℕ → Entry → Type 0) (floor : List Entry → ℕ → Type 0) (shelf : List ℕ) where
-  begun_may : (w : State) (cells who : ℕ) (call : FabricCall) (answer : FabricAnswer) (e : Entry) → IsAllowed w may floor cells who (move_of call answer) → entry_begun call answer ≡ Some e → may who e
-  begun_may w cells who (Begin i (Append x)) (Begun t) e h is = let same : x ≡ e = cc in subst (may who) same h.0.1
-  begun_may w cells who call answer e h is = absurd (cc)
+module _ (law : Law) where
+  begun_may : (w : State) (who : ℕ) (call : FabricCall) (answer : FabricAnswer) (e : Entry) → IsAllowed w law who (move_of call answer) → entry_begun call answer ≡ Some e → law.may who e
+  begun_may w who (Begin i (Append x)) (Begun t) e h is = let same : x ≡ e = cc in subst (law.may who) same h.0.1
+  begun_may w who call answer e h is = absurd (cc)
 
-  may_from : (w : State) (es : List Event) (who : ℕ) (e : Entry) → IsLegalFrom w may floor shelf es → Contains (appended_by who es) e → may who e
+  may_from : (w : State) (es : List Event) (who : ℕ) (e : Entry) → IsLegalFrom w law es → Contains (appended_by who es) e → law.may who e
   may_from w [] who e h c = absurd (none_in e c)
   may_from w (x ∷ xs) who e h c =
       ⊎_elim
-      (λ (k : (x.who ≡ who) × (entry_begun x.call x.answer ≡ Some e)). subst (λ u. may u e) k.0 (begun_may w (length shelf) x.who x.call x.answer e h.0.allowed k.1))
+      (λ (k : (x.who ≡ who) × (entry_begun x.call x.answer ≡ Some e)). subst (λ u. law.may u e) k.0 (begun_may w x.who x.call x.answer e h.0.allowed k.1))
       (λ (k : Contains (appended_by who xs) e). may_from (after w x.who (move x)) xs who e h.1 k)
       (own_first_or_later who x xs e c)
 
   -- what who appended it was allowed to
-  pub own_may : (events : List Event) (who : ℕ) (e : Entry) → IsLegal may floor shelf events → Contains (appended_by who events) e → may who e
+  pub own_may : (events : List Event) (who : ℕ) (e : Entry) → IsLegal law events → Contains (appended_by who events) e → law.may who e
   own_may events who e legal h = may_from start events who e legal.steps h
 
-module _ (may may' : ℕ → Entry → Type 0) (floor : List Entry → ℕ → Type 0) where
-  begin_by : (w : State) (cells who i t : ℕ) (op : Op) → ((e : Entry) → entry_begun (Begin i op) (Begun t) ≡ Some e → may who e → may' who e) → MayBegin w may cells who i op → MayBegin w may' cells who i op
+module _ (law : Law) (may' : ℕ → Entry → Type 0) where
+  begin_by : (w : State) (cells who i t : ℕ) (op : Op) → ((e : Entry) → entry_begun (Begin i op) (Begun t) ≡ Some e → law.may who e → may' who e) → MayBegin w law.may cells who i op → MayBegin w may' cells who i op
   begin_by w cells who i t (Append e) f h = (h.0, f e refl h.1)
   begin_by w cells who i t (Settle n) f h = h
   begin_by w cells who i t Tail f h = h
@@ -156,39 +157,39 @@ module _ (may may' : ℕ → Entry → Type 0) (floor : List Entry → ℕ → T
   begin_by w cells who i t (Trim n) f h = h
 
   -- what one event appends, the other rules allow
-  allowed_by : (w : State) (cells who : ℕ) (call : FabricCall) (answer : FabricAnswer) → ((e : Entry) → entry_begun call answer ≡ Some e → may who e → may' who e)
-      → IsAllowed w may floor cells who (move_of call answer) → IsAllowed w may' floor cells who (move_of call answer)
-  allowed_by w cells who (Begin i op) (Begun t) f h = (begin_by w cells who i t op f h.0, h.1, h.2)
-  allowed_by w cells who (Begin i op) Full f h = h
-  allowed_by w cells who (Carry i t x) Going f h = h
-  allowed_by w cells who (Carry i t x) (Done y) f h = h
-  allowed_by w cells who (Carry i t x) Memory f h = h
-  allowed_by w cells who (Carry i t x) NoTicket f h = h
-  allowed_by w cells who (Forget i t) Gone f h = h
-  allowed_by w cells who (Forget i t) NoTicket f h = h
-  allowed_by w cells who ReadChain (At v c) f h = h
-  allowed_by w cells who ReadChain Down f h = h
-  allowed_by w cells who (WriteChain x c) (Written v) f h = h
-  allowed_by w cells who (WriteChain x c) (Conflict v d) f h = h
-  allowed_by w cells who (WriteChain x c) MetaFault f h = h
-  allowed_by w cells who (WriteChain x c) Down f h = h
-  allowed_by w cells who (MendMeta x) (Set y) f h = h
-  allowed_by w cells who (Stop i s n) (Set true) f h = h
-  allowed_by w cells who (Mend i s x) (Set y) f h = h
-  allowed_by w cells who (Stray i x) (Set true) f h = h
-  allowed_by w cells who (StopMeta n) (Set true) f h = h
-  allowed_by w cells who call answer f h = absurd h
+  allowed_by : (w : State) (who : ℕ) (call : FabricCall) (answer : FabricAnswer) → ((e : Entry) → entry_begun call answer ≡ Some e → law.may who e → may' who e)
+      → IsAllowed w law who (move_of call answer) → IsAllowed w (record law { may = may' }) who (move_of call answer)
+  allowed_by w who (Begin i op) (Begun t) f h = (begin_by w (length law.shelf) who i t op f h.0, h.1, h.2)
+  allowed_by w who (Begin i op) Full f h = h
+  allowed_by w who (Carry i t x) Going f h = h
+  allowed_by w who (Carry i t x) (Done y) f h = h
+  allowed_by w who (Carry i t x) Memory f h = h
+  allowed_by w who (Carry i t x) NoTicket f h = h
+  allowed_by w who (Forget i t) Gone f h = h
+  allowed_by w who (Forget i t) NoTicket f h = h
+  allowed_by w who ReadChain (At v c) f h = h
+  allowed_by w who ReadChain Down f h = h
+  allowed_by w who (WriteChain x c) (Written v) f h = h
+  allowed_by w who (WriteChain x c) (Conflict v d) f h = h
+  allowed_by w who (WriteChain x c) MetaFault f h = h
+  allowed_by w who (WriteChain x c) Down f h = h
+  allowed_by w who (MendMeta x) (Set y) f h = h
+  allowed_by w who (Stop i s n) (Set true) f h = h
+  allowed_by w who (Mend i s x) (Set y) f h = h
+  allowed_by w who (Stray i x) (Set true) f h = h
+  allowed_by w who (StopMeta n) (Set true) f h = h
+  allowed_by w who call answer f h = absurd h
 
-  from_own : (shelf : List ℕ) (w : State) (es : List Event) → ((who : ℕ) (e : Entry) → Contains (appended_by who es) e → may who e → may' who e) → IsLegalFrom w may floor shelf es → IsLegalFrom w may' floor shelf es
-  from_own shelf w [] f h = tt
-  from_own shelf w (x ∷ xs) f h = (
-    record { there = h.0.there; allowed = allowed_by w (length shelf) x.who x.call x.answer (λ e is. f x.who e (own_at_first x.who x xs e refl is)) h.0.allowed },
-    from_own shelf (after w x.who (move x)) xs (λ who e c. f who e (own_at_later who x xs e c)) h.1,
+  from_own : (w : State) (es : List Event) → ((who : ℕ) (e : Entry) → Contains (appended_by who es) e → law.may who e → may' who e) → IsLegalFrom w law es → IsLegalFrom w (record law { may = may' }) es
+  from_own w [] f h = tt
+  from_own w (x ∷ xs) f h = (
+    record { there = h.0.there; allowed = allowed_by w x.who x.call x.answer (λ e is. f x.who e (own_at_first x.who x xs e refl is)) h.0.allowed },
+    from_own (after w x.who (move x)) xs (λ who e c. f who e (own_at_later who x xs e c)) h.1,
   )
 
   -- A journal is legal by other rules too, where they let each user append what it appended.
-  pub legal_own : (shelf : List ℕ) (events : List Event) → IsLegal may floor shelf events → ((who : ℕ) (e : Entry) → Contains (appended_by who events) e → may who e → may' who e) → IsLegal may' floor shelf events
-  legal_own shelf events h f = record { least = h.least; most = h.most; steps = from_own shelf start events f h.steps }
+  pub legal_own : (events : List Event) → IsLegal law events → ((who : ℕ) (e : Entry) → Contains (appended_by who events) e → law.may who e → may' who e) → IsLegal (record law { may = may' }) events
+  legal_own events h f = record { least = h.least; most = h.most; steps = from_own start events f h.steps }
 
 -- each entry that was appended somebody appended
 some_appended : (es : List Event) (e : Entry) → Contains (appended es) e → (who : ℕ) × Contains (appended_by who es) e
@@ -201,9 +202,9 @@ some_appended (x ∷ xs) e h =
 
 -- By the rules of a run a node itself tells what is told of it
 
-module _ (may : ℕ → Entry → Type 0) (floor low : List Entry → ℕ → Type 0) (shelf : List ℕ) (run : MayRun may floor shelf) (by : ℕ → Entry → Type 0) (allows : (user : ℕ) (e : Entry) → by user e → may user e) (journal : List Event) (legal : IsLegal by low shelf journal) where
-  appender : (e : Entry) → Contains (appended journal) e → (who : ℕ) × Contains (appended_by who journal) e × may who e
-  appender e h = let s = some_appended journal e h in (s.0, s.1, allows s.0 e (own_may by low shelf journal s.0 e legal s.1))
+module _ (law scope : Law) (run : MayRun law) (allows : (user : ℕ) (e : Entry) → scope.may user e → law.may user e) (journal : List Event) (legal : IsLegal scope journal) where
+  appender : (e : Entry) → Contains (appended journal) e → (who : ℕ) × Contains (appended_by who journal) e × law.may who e
+  appender e h = let s = some_appended journal e h in (s.0, s.1, allows s.0 e (own_may scope journal s.0 e legal s.1))
 
   pub reported_by : (node n : ℕ) (e : Entry) (p : Placed) → Contains (appended journal) e → Contains (unpack 0 e) p → p.content ≡ Alive node n → Contains (appended_by node journal) e
   reported_by node n e p h there is = let s = appender e h in subst (λ u. Contains (appended_by u journal) e) (run.reports s.0 node n e p s.2 there is) s.1

@@ -5,6 +5,7 @@ use Rattle.std.proofs.lemmas.Bool.Decides.{nat_tests}
 use Rattle.std.proofs.lemmas.List.Elements.{All-nil, All-cons, All-append}
 use Rattle.delos_types.specs.declared.entry.Entry.{Entry}
 use Rattle.delos_types.specs.declared.item.Item.{Item}
+use Rattle.legal_journal.specs.Law.{Law}
 use Rattle.legal_journal.specs.declared.events.Event.{Event}
 use Rattle.legal_journal.specs.Journal.{IsLegal}
 use Rattle.virtual_log.specs.Holding.{Holds}
@@ -85,9 +86,9 @@ length-snoc : (xs : List Item) (x : Item) → length (xs ++ x ∷ []) ≡ length
 length-snoc [] x = refl
 length-snoc (y ∷ ys) x = ap suc (length-snoc ys x) ∙ (let e : suc (length ys + 1) ≡ length (y ∷ ys) + 1 = omega arith in e)
 
-module _ (may : ℕ → Entry → Type 0) (floor : List Entry → ℕ → Type 0) (shelf : List ℕ) (low : (log : List Entry) (n : ℕ) → floor log n → n ≤ length log) where
+module _ (law : Law) (low : (log : List Entry) (n : ℕ) → law.floor log n → n ≤ length log) where
   -- The next command of a session went down, and the session was given no cause.
-  pub sent_given : (who origin s sent : ℕ) (old new : List Event) (was is : OutboxView) (kept kept' : List Item) (item : Item) → IsLegal may floor shelf new → cause_in s is.given ≡ None
+  pub sent_given : (who origin s sent : ℕ) (old new : List Event) (was is : OutboxView) (kept kept' : List Item) (item : Item) → IsLegal law new → cause_in s is.given ≡ None
       → All IsProposable kept → IsProposable item → rank_under s (content_of item) ≡ Some (sent + 1)
       → Sent Holds who old was (λ packed. Queues origin kept item packed kept') new is → IsGiven old was.entries kept s sent → IsGiven new is.entries kept' s (sent + 1)
   sent_given who origin s sent old new was is kept kept' item legal none all fine own h g = by_packed h.packed h.is_with h.out
@@ -95,7 +96,7 @@ module _ (may : ℕ → Entry → Type 0) (floor : List Entry → ℕ → Type 0
       by_packed : (p : Option Entry) → is ≡ with_entry h.mid p → Queues origin kept item p kept' → IsGiven new is.entries kept' s (sent + 1)
       by_packed p with_is out =
           let mid_none : cause_in s h.mid.given ≡ None = subst (λ x. cause_in s x ≡ None) (ap (λ (o : OutboxView). o.given) with_is ∙ given_of h.mid p) none in
-          let there = settled_given may floor shelf low who s sent old new was h.mid kept legal mid_none h.settled g in
+          let there = settled_given law low who s sent old new was h.mid kept legal mid_none h.settled g in
           let longer = kept_given new h.mid.entries kept item s sent own there in
           cases p with_is out longer
         where
@@ -108,7 +109,7 @@ module _ (may : ℕ → Entry → Type 0) (floor : List Entry → ℕ → Type 0
               (subst (λ k. IsGiven new (h.mid.entries ++ x ∷ []) k s (sent + 1)) (sym out.2) (packed_given new h.mid.entries (kept ++ item ∷ []) origin s (sent + 1) x batch out.1.entry longer))
 
   -- An item that is no command of the session went down.
-  pub sent_other : (who origin s sent : ℕ) (old new : List Event) (was is : OutboxView) (kept kept' : List Item) (item : Item) → IsLegal may floor shelf new → cause_in s is.given ≡ None
+  pub sent_other : (who origin s sent : ℕ) (old new : List Event) (was is : OutboxView) (kept kept' : List Item) (item : Item) → IsLegal law new → cause_in s is.given ≡ None
       → All IsProposable kept → IsProposable item → rank_under s (content_of item) ≡ None
       → Sent Holds who old was (λ packed. Queues origin kept item packed kept') new is → IsGiven old was.entries kept s sent → IsGiven new is.entries kept' s sent
   sent_other who origin s sent old new was is kept kept' item legal none all fine other h g = by_packed h.packed h.is_with h.out
@@ -116,7 +117,7 @@ module _ (may : ℕ → Entry → Type 0) (floor : List Entry → ℕ → Type 0
       by_packed : (p : Option Entry) → is ≡ with_entry h.mid p → Queues origin kept item p kept' → IsGiven new is.entries kept' s sent
       by_packed p with_is out =
           let mid_none : cause_in s h.mid.given ≡ None = subst (λ x. cause_in s x ≡ None) (ap (λ (o : OutboxView). o.given) with_is ∙ given_of h.mid p) none in
-          let there = settled_given may floor shelf low who s sent old new was h.mid kept legal mid_none h.settled g in
+          let there = settled_given law low who s sent old new was h.mid kept legal mid_none h.settled g in
           let longer = kept_other new h.mid.entries kept item s sent other there in
           cases p with_is out longer
         where
@@ -133,7 +134,7 @@ module _ (may : ℕ → Entry → Type 0) (floor : List Entry → ℕ → Type 0
   some_of (x ∷ xs) h = omega arith
 
   -- What waited was packed.
-  pub flushed_given : (who origin s sent : ℕ) (old new : List Event) (was is : OutboxView) (kept kept' : List Item) → IsLegal may floor shelf new → cause_in s is.given ≡ None
+  pub flushed_given : (who origin s sent : ℕ) (old new : List Event) (was is : OutboxView) (kept kept' : List Item) → IsLegal law new → cause_in s is.given ≡ None
       → All IsProposable kept → length kept ≤ 15
       → Sent Holds who old was (λ packed. Flushes origin kept packed kept') new is → IsGiven old was.entries kept s sent → IsGiven new is.entries kept' s sent
   flushed_given who origin s sent old new was is kept kept' legal none all few h g = by_packed h.packed h.is_with h.out
@@ -141,7 +142,7 @@ module _ (may : ℕ → Entry → Type 0) (floor : List Entry → ℕ → Type 0
       by_packed : (p : Option Entry) → is ≡ with_entry h.mid p → Flushes origin kept p kept' → IsGiven new is.entries kept' s sent
       by_packed p with_is out =
           let mid_none : cause_in s h.mid.given ≡ None = subst (λ x. cause_in s x ≡ None) (ap (λ (o : OutboxView). o.given) with_is ∙ given_of h.mid p) none in
-          cases p with_is out (settled_given may floor shelf low who s sent old new was h.mid kept legal mid_none h.settled g)
+          cases p with_is out (settled_given law low who s sent old new was h.mid kept legal mid_none h.settled g)
         where
           cases : (p : Option Entry) → is ≡ with_entry h.mid p → Flushes origin kept p kept' → IsGiven new h.mid.entries kept s sent → IsGiven new is.entries kept' s sent
           cases None e out there =

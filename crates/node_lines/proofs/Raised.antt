@@ -1,8 +1,8 @@
 -- A trim that was answered isn't above the log's.
 use Rattle.std.proofs.Common.{◌≡◌, sym, ap, ◌∙◌, subst, ⊎_elim, ℕ, ◌≤◌, List, [], ◌∷◌, ◌++◌, arith, append_assoc}
-use Rattle.delos_types.specs.declared.entry.Entry.{Entry}
 use Rattle.delos_types.specs.declared.chain.Chain.{Chain}
 use Rattle.chain_map.specs.Step.{dropped_below}
+use Rattle.legal_journal.specs.Law.{Law}
 use Rattle.legal_journal.specs.declared.events.Event.{Event}
 use Rattle.legal_journal.specs.declared.events.FabricCall.{FabricCall}
 use Rattle.legal_journal.specs.declared.events.FabricCall.TheVariants.{ReadChain, WriteChain}
@@ -20,19 +20,19 @@ trim_told w who version c ReadChain (At v k) h = ap (λ (x : Chain). x.trim) h.1
 trim_told w who version c (WriteChain x asked) (Conflict v k) h = ap (λ (x : Chain). x.trim) h.1
 trim_told w who version c call answer h = absurd h
 
-module _ (may : ℕ → Entry → Type 0) (floor : List Entry → ℕ → Type 0) (shelf : List ℕ) where
+module _ (law : Law) where
   -- what the trim was after one of the events it is at the end, or more
-  trim_since : (P : Event → Type 0) (old new : List Event) (n : ℕ) → IsLegal may floor shelf new → (h : HasEvent old P new) → ((w : State) → n ≤ trim_of (after w h.event.who (move h.event))) → n ≤ trim_of (state_of new)
+  trim_since : (P : Event → Type 0) (old new : List Event) (n : ℕ) → IsLegal law new → (h : HasEvent old P new) → ((w : State) → n ≤ trim_of (after w h.event.who (move h.event))) → n ≤ trim_of (state_of new)
   trim_since P old new n legal h low =
       let mid : List Event = (old ++ h.before) ++ h.event ∷ [] in
       let is : new ≡ mid ++ h.after = h.seen ∙ sym (append_assoc (old ++ h.before) (h.event ∷ []) h.after) in
-      let on = goes_on may floor shelf mid h.after (subst (IsLegal may floor shelf) is legal) in
+      let on = goes_on law mid h.after (subst (IsLegal law) is legal) in
       let at : state_of mid ≡ after (state_of (old ++ h.before)) h.event.who (move h.event) = after_all-append start (old ++ h.before) (h.event ∷ []) in
       let there : n ≤ trim_of (state_of mid) = subst (λ w. n ≤ trim_of w) (sym at) (low (state_of (old ++ h.before))) in
       let later : trim_of (state_of mid) ≤ trim_of (state_of new) = subst (λ es. trim_of (state_of mid) ≤ trim_of (state_of es)) (sym is) on.trim in
       omega (arith, there, later)
 
-  pub trim_upto : (who : ℕ) (old new : List Event) (n trim : ℕ) → IsLegal may floor shelf new → IsPrefixTrimmed who old n trim new → trim ≤ trim_of (state_of new)
+  pub trim_upto : (who : ℕ) (old new : List Event) (n trim : ℕ) → IsLegal law new → IsPrefixTrimmed who old n trim new → trim ≤ trim_of (state_of new)
   trim_upto who old new n trim legal h = ⊎_elim by_own by_told h.truncated.how
     where
       by_own : (IsRaised who old n h.written new × (trim ≡ n)) → trim ≤ trim_of (state_of new)

@@ -3,6 +3,7 @@ use Rattle.std.proofs.Common.{ℕ, List, Option}
 use Rattle.delos_types.specs.declared.entry.Entry.{Entry}
 use Rattle.delos_types.specs.declared.item.Item.{Item}
 use Rattle.delos_types.specs.declared.cause.Cause.{Cause}
+use Rattle.legal_journal.specs.Law.{Law}
 use Rattle.legal_journal.specs.Journal.{IsLegal}
 use Rattle.base_engine.specs.Node.{NodeView, Keeps}
 use Rattle.node_lines.specs.declared.lines.Looked.{Looked}
@@ -13,8 +14,8 @@ use Rattle.node_lines.specs.Reporting.{Tells}
 use Rattle.node_lines.specs.Leaving.{PlaysKnown}
 use Rattle.node_lines.specs.Trimming.{Cuts}
 
-module _ (a b : ℕ → Entry → Type 0) (low floor : List Entry → ℕ → Type 0) (shelf : List ℕ) (old new : NodeView) (legal : IsLegal b floor shelf new.seen) where
-  pub keeps_by : Keeps a low shelf old new → Keeps b floor shelf old new
+module _ (scope law : Law) (old new : NodeView) (legal : IsLegal law new.seen) where
+  pub keeps_by : Keeps scope old new → Keeps law old new
   keeps_by k = record {
     who = k.who;
     nodes = k.nodes;
@@ -24,20 +25,20 @@ module _ (a b : ℕ → Entry → Type 0) (low floor : List Entry → ℕ → Ty
     counts = k.counts;
   }
 
-  pub goes_by : (others : List Cause) → Goes a low shelf old new others → Goes b floor shelf old new others
+  pub goes_by : (others : List Cause) → Goes scope old new others → Goes law old new others
   goes_by others h = record { keeps = keeps_by h.keeps; given = h.given; gained = h.gained; spends = h.spends; packs = h.packs }
 
-  pub moves_by : (others : List Cause) → Moves a low shelf old new others → Moves b floor shelf old new others
+  pub moves_by : (others : List Cause) → Moves scope old new others → Moves law old new others
   moves_by others h = record { goes = goes_by others h.goes; stays = h.stays; quiet = h.quiet }
 
-  pub measures_by : (measure : List Entry → ℕ) (answer : Measured) → Measures a low shelf measure old new answer → Measures b floor shelf measure old new answer
+  pub measures_by : (measure : List Entry → ℕ) (answer : Measured) → Measures scope measure old new answer → Measures law measure old new answer
   measures_by measure answer h = record { moves = moves_by _ h.moves; none = h.none; unsettled = h.unsettled; kept = h.kept; measured = h.measured }
 
-  pub tells_by : (item : Item) (failed : Option Cause) → Tells a low shelf old new item failed → Tells b floor shelf old new item failed
+  pub tells_by : (item : Item) (failed : Option Cause) → Tells scope old new item failed → Tells law old new item failed
   tells_by item failed h = record { moves = moves_by _ h.moves; none = h.none; kept = h.kept; replica = h.replica; appended = h.appended }
 
-  pub plays_by : (failed : Option Cause) → PlaysKnown a low shelf old new failed → PlaysKnown b floor shelf old new failed
+  pub plays_by : (failed : Option Cause) → PlaysKnown scope old new failed → PlaysKnown law old new failed
   plays_by failed h = record { moves = moves_by _ h.moves; outbox = h.outbox; kept = h.kept; reaches = h.reaches }
 
-  pub cuts_by : (answer : Looked) → Cuts a low shelf old new answer → Cuts b floor shelf old new answer
+  pub cuts_by : (answer : Looked) → Cuts scope old new answer → Cuts law old new answer
   cuts_by answer h = record { others = h.others; moves = moves_by h.others h.moves; replica = h.replica; outbox = h.outbox; cuts = h.cuts }

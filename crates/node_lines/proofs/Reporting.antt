@@ -8,6 +8,7 @@ use Rattle.delos_types.specs.declared.entry.Entry.{Entry}
 use Rattle.delos_types.specs.declared.item.Header.{Header}
 use Rattle.delos_types.specs.declared.item.Item.{Item}
 use Rattle.delos_types.specs.declared.cause.Cause.{Cause}
+use Rattle.legal_journal.specs.Law.{Law}
 use Rattle.legal_journal.specs.declared.events.Event.{Event}
 use Rattle.virtual_log.specs.Holding.{Holds}
 use Rattle.engine_api.specs.declared.content.Content.{Content}
@@ -131,14 +132,14 @@ met-one who old new was is e one none h = by h.done h.given h.all h.gained h.fat
         }
     by (x ∷ y ∷ ys) given all gained fates = absurd (let no : e ∷ [] ≡ x ∷ (y ∷ (ys ++ is.entries)) = sym one ∙ all in cc)
 
-module _ (may : ℕ → Entry → Type 0) (floor : List Entry → ℕ → Type 0) (shelf : List ℕ) (low : (log : List Entry) (n : ℕ) → floor log n → n ≤ length log) where
+module _ (law : Law) (low : (log : List Entry) (n : ℕ) → law.floor log n → n ≤ length log) where
   -- an item went down and was packed
-  pub lays-down : (old mid new : NodeView) (item : Item) → Moves may floor shelf old mid [] → Moves may floor shelf mid new [] → old.outbox.entries ≡ [] → old.replica.kept ≡ [] → new.replica.kept ≡ []
+  pub lays-down : (old mid new : NodeView) (item : Item) → Moves law old mid [] → Moves law mid new [] → old.outbox.entries ≡ [] → old.replica.kept ≡ [] → new.replica.kept ≡ []
       → Sent Holds old.who old.seen old.outbox (λ p. Queues old.replica.origin old.replica.kept item p mid.replica.kept) mid.seen mid.outbox
       → Sent Holds mid.who mid.seen mid.outbox (λ p. Flushes mid.replica.origin mid.replica.kept p new.replica.kept) new.seen new.outbox
-      → mid.replica ≡ record old.replica { kept = mid.replica.kept } → new.replica ≡ record mid.replica { kept = [] } → LaysDown may floor shelf old new item
+      → mid.replica ≡ record old.replica { kept = mid.replica.kept } → new.replica ≡ record mid.replica { kept = [] } → LaysDown law old new item
   lays-down old mid new item first then none kept empty s f queued_in packed_in = record {
-    moves = moves-both may floor shelf low old mid new [] [] first then;
+    moves = moves-both law low old mid new [] [] first then;
     entries = flushed.0;
     unsettled = flushed.1;
     kept = empty;
@@ -164,12 +165,12 @@ module _ (may : ℕ → Entry → Type 0) (floor : List Entry → ℕ → Type 0
               (ap (λ (o : OutboxView). o.entries) with_is ∙ (ap (λ es. es ++ e ∷ []) is.0 ∙ ap (λ x. x ∷ []) entry), ap (λ (o : OutboxView). o.unsettled) with_is ∙ (is.1 ∙ queued.1))
 
   -- its entry failed, which gives no session the cause
-  moves-lost : (old new : NodeView) (e : Entry) (cause : Cause) → Keeps may floor shelf old new → new.replica ≡ old.replica → old.outbox.entries ≡ e ∷ [] → sessions_in e ≡ [] → old.outbox.unsettled ≡ None
-      → Answers Holds old.who old.seen old.outbox (Some cause) new.seen new.outbox → Moves may floor shelf old new (cause ∷ [])
+  moves-lost : (old new : NodeView) (e : Entry) (cause : Cause) → Keeps law old new → new.replica ≡ old.replica → old.outbox.entries ≡ e ∷ [] → sessions_in e ≡ [] → old.outbox.unsettled ≡ None
+      → Answers Holds old.who old.seen old.outbox (Some cause) new.seen new.outbox → Moves law old new (cause ∷ [])
   moves-lost old new e cause k same one silent calm a = record { goes = by m.fate m.met m.gained (m.unsettled ∙ ap (λ o. first_of o m.fate) calm); stays = plain.stays; quiet = plain.quiet }
     where
-      plain : Moves may floor shelf old new []
-      plain = moves-settle may floor shelf low old new (Some cause) k same a.settled
+      plain : Moves law old new []
+      plain = moves-settle law low old new (Some cause) k same a.settled
 
       m : MetOne old.who old.seen old.outbox e new.seen (record { entries = new.outbox.entries; given = new.outbox.given; unsettled = Some cause })
       m = met-one old.who old.seen new.seen old.outbox (record { entries = new.outbox.entries; given = new.outbox.given; unsettled = Some cause }) e one a.none a.settled
@@ -177,7 +178,7 @@ module _ (may : ℕ → Entry → Type 0) (floor : List Entry → ℕ → Type 0
       same_cause : (x y : Cause) → Some x ≡ Some y → y ≡ x
       same_cause x y h = cc
 
-      by : (fate : Fate) → Meets Holds old.who old.seen e fate m.mid → new.outbox.given ≡ old.outbox.given ++ gives e fate → Some cause ≡ first_of None fate → Goes may floor shelf old new (cause ∷ [])
+      by : (fate : Fate) → Meets Holds old.who old.seen e fate m.mid → new.outbox.given ≡ old.outbox.given ++ gives e fate → Some cause ≡ first_of None fate → Goes law old new (cause ∷ [])
       by (Landed pos) met gained says = absurd (cc)
       by (Lost x) met gained says = record {
         keeps = k;
@@ -189,10 +190,10 @@ module _ (may : ℕ → Entry → Type 0) (floor : List Entry → ℕ → Type 0
         packs = plain.goes.packs;
       }
 
-  pub tells-lost : (old mid new : NodeView) (item : Item) (cause : Cause) → IsProposable item → IsPlain item → LaysDown may floor shelf old mid item → old.outbox.unsettled ≡ None → Keeps may floor shelf mid new → new.replica ≡ mid.replica
-      → Answers Holds mid.who mid.seen mid.outbox (Some cause) new.seen new.outbox → Tells may floor shelf old new item (Some cause)
+  pub tells-lost : (old mid new : NodeView) (item : Item) (cause : Cause) → IsProposable item → IsPlain item → LaysDown law old mid item → old.outbox.unsettled ≡ None → Keeps law mid new → new.replica ≡ mid.replica
+      → Answers Holds mid.who mid.seen mid.outbox (Some cause) new.seen new.outbox → Tells law old new item (Some cause)
   tells-lost old mid new item cause fine p lays calm k same a = record {
-    moves = moves-both may floor shelf low old mid new [] (cause ∷ []) lays.moves
+    moves = moves-both law low old mid new [] (cause ∷ []) lays.moves
         (moves-lost mid new (packed old.replica.origin (item ∷ [])) cause k same lays.entries (plain-sessions old.replica.origin item fine p) (lays.unsettled ∙ calm) a);
     none = a.none;
     kept = ap (λ (r : ReplicaView). r.kept) same ∙ lays.kept;
@@ -200,10 +201,10 @@ module _ (may : ℕ → Entry → Type 0) (floor : List Entry → ℕ → Type 0
     appended = λ none. absurd (cc);
   }
 
-  pub tells-landed : (old mid new : NodeView) (item : Item) → LaysDown may floor shelf old mid item → Keeps may floor shelf mid new → new.replica ≡ mid.replica → Answers Holds mid.who mid.seen mid.outbox None new.seen new.outbox
-      → Lands Holds mid.who mid.seen mid.outbox.entries new.seen new.known → Tells may floor shelf old new item None
+  pub tells-landed : (old mid new : NodeView) (item : Item) → LaysDown law old mid item → Keeps law mid new → new.replica ≡ mid.replica → Answers Holds mid.who mid.seen mid.outbox None new.seen new.outbox
+      → Lands Holds mid.who mid.seen mid.outbox.entries new.seen new.known → Tells law old new item None
   tells-landed old mid new item lays k same a landed = record {
-    moves = moves-both may floor shelf low old mid new [] [] lays.moves (moves-settle may floor shelf low mid new None k same a.settled);
+    moves = moves-both law low old mid new [] [] lays.moves (moves-settle law low mid new None k same a.settled);
     none = a.none;
     kept = ap (λ (r : ReplicaView). r.kept) same ∙ lays.kept;
     replica = same ∙ lays.replica;

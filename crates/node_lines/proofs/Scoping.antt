@@ -4,6 +4,7 @@ use Rattle.std.specs.Prelude.{All, Contains, Result, Ok, Err, IfOk, OnOk}
 use Rattle.std.proofs.lemmas.List.Elements.{All-nil}
 use Rattle.delos_types.specs.Spaces.{SpaceMap}
 use Rattle.delos_types.specs.declared.entry.Entry.{Entry}
+use Rattle.legal_journal.specs.Law.{Law}
 use Rattle.legal_journal.specs.declared.events.Event.{Event}
 use Rattle.legal_journal.specs.Journal.{IsLegal}
 use Rattle.journal_laws.specs.Changes.{TrimsUpTo}
@@ -34,34 +35,33 @@ module _ (me : ℕ) (may : ℕ → Entry → Type 0) (counts : List ℕ) where
   pub sends_too : (journal : List Event) (told : Entry) (user : ℕ) (e : Entry) → Sends me may counts journal user e → SendsToo me may counts journal told user e
   sends_too journal told user e h = (h.0, λ same. ⊎_elim (λ (k : Contains (appended_by me journal) e). inl k) (λ (k : IsOfSessions e). inr (inl k)) (h.1 same))
 
-  module _ (low : List Entry → ℕ → Type 0) (shelf : List ℕ) where
-    -- what its user appended within a scope says nothing but commands of sessions
-    pub adds_sends : (old new : List Event) → IsLegal (Sends me may counts old) low shelf new → OwnAdds me IsOfSessions old new
-    adds_sends old new legal = λ e k. (own_may (Sends me may counts old) low shelf new me e legal k).1 refl
+  -- what its user appended within a scope says nothing but commands of sessions
+  pub adds_sends : (law : Law) (old new : List Event) → IsLegal (record law { may = Sends me may counts old }) new → OwnAdds me IsOfSessions old new
+  adds_sends law old new legal = λ e k. (own_may (record law { may = Sends me may counts old }) new me e legal k).1 refl
 
-    pub adds_told : (old new : List Event) (told : Entry) → IsLegal (SendsToo me may counts old told) low shelf new → OwnAdds me (λ e. IsOfSessions e ⊎ (e ≡ told)) old new
-    adds_told old new told legal = λ e k. (own_may (SendsToo me may counts old told) low shelf new me e legal k).1 refl
+  pub adds_told : (law : Law) (old new : List Event) (told : Entry) → IsLegal (record law { may = SendsToo me may counts old told }) new → OwnAdds me (λ e. IsOfSessions e ⊎ (e ≡ told)) old new
+  adds_told law old new told legal = λ e k. (own_may (record law { may = SendsToo me may counts old told }) new me e legal k).1 refl
 
-module _ (may : ℕ → Entry → Type 0) (floor : List Entry → ℕ → Type 0) (shelf : List ℕ) (so : Type 0) (is : so) where
+module _ (law : Law) (so : Type 0) (is : so) where
   -- within a scope that is bound so nothing is trimmed above where it began
-  pub keeps_low : (m : ℕ) → KeepsFrom may (UpToIf so floor m) shelf m
-  keeps_low m = λ seen pos legal trimmed. below_low may (UpToIf so floor m) shelf m (λ log n h. h.1 is) seen pos legal trimmed
+  pub keeps_low : (m : ℕ) → KeepsFrom (record law { floor = UpToIf so law.floor m }) m
+  keeps_low m = λ seen pos legal trimmed. below_low (record law { floor = UpToIf so law.floor m }) m (λ log n h. h.1 is) seen pos legal trimmed
 
   -- nor is it by what comes then
-  pub high_low : (m m' : ℕ) (new : List Event) → m ≤ m' → IsLegal may (UpToIf so floor m) shelf new → TrimsUpTo m' new
-  high_low m m' new up legal = upto_more m m' new up (upto_low may (UpToIf so floor m) shelf m (λ log n h. h.1 is) new legal)
+  pub high_low : (m m' : ℕ) (new : List Event) → m ≤ m' → IsLegal (record law { floor = UpToIf so law.floor m }) new → TrimsUpTo m' new
+  high_low m m' new up legal = upto_more m m' new up (upto_low (record law { floor = UpToIf so law.floor m }) m (λ log n h. h.1 is) new legal)
 
   -- so a step that went no further back keeps the log
-  pub kept_by : (beside : ℕ → ℕ → Type 0) (m : ℕ) (new : List Event) (b : SeatView) → m ≤ b.node.replica.cursor → IsLegal may (UpToIf so floor m) shelf new → KeepsBeside beside floor b new → IsKept beside floor b new
+  pub kept_by : (beside : ℕ → ℕ → Type 0) (m : ℕ) (new : List Event) (b : SeatView) → m ≤ b.node.replica.cursor → IsLegal (record law { floor = UpToIf so law.floor m }) new → KeepsBeside beside law.floor b new → IsKept beside law.floor b new
   kept_by beside m new b up legal keeps = record { high = high_low m b.node.replica.cursor new up legal; keeps = keeps }
 
-module _ (may : ℕ → Entry → Type 0) (floor : List Entry → ℕ → Type 0) (shelf : List ℕ) where
+module _ (law : Law) where
   module _ (me : ℕ) (counts : List ℕ) (state : List Entry → SpaceMap → Type 0) (spells : List ℕ → Saved → Type 0) where
     -- A seat as a scope begins: if the scope is bound, nothing was trimmed above where it is.
-    pub seat_begins : (so : Type 0) (m : ℕ) (journal : List Event) (s : SeatView) → (so → TrimsUpTo m journal) → SeatOk (Sends me may counts journal) floor shelf state spells journal s → SeatOk (Sends me may counts journal) (UpToIf so floor m) shelf state spells journal s
-    seat_begins so m journal s high h = seat_free (legal_by (Sends me may counts journal) (Sends me may counts journal) floor (UpToIf so floor m) shelf journal h.node.legal (λ who e _ k. k) (λ log n raised free. (free, λ is. high is n raised)))
+    pub seat_begins : (so : Type 0) (m : ℕ) (journal : List Event) (s : SeatView) → (so → TrimsUpTo m journal) → SeatOk (record law { may = Sends me law.may counts journal }) state spells journal s → SeatOk (record law { may = Sends me law.may counts journal; floor = UpToIf so law.floor m }) state spells journal s
+    seat_begins so m journal s high h = seat_free (legal_by (record law { may = Sends me law.may counts journal }) (Sends me law.may counts journal) (UpToIf so law.floor m) journal h.node.legal (λ who e _ k. k) (λ log n raised free. (free, λ is. high is n raised)))
       where
-        seat_free : IsLegal (Sends me may counts journal) (UpToIf so floor m) shelf journal → SeatOk (Sends me may counts journal) (UpToIf so floor m) shelf state spells journal s
+        seat_free : IsLegal (record law { may = Sends me law.may counts journal; floor = UpToIf so law.floor m }) journal → SeatOk (record law { may = Sends me law.may counts journal; floor = UpToIf so law.floor m }) state spells journal s
         seat_free legal = record {
           shelf_is = h.shelf_is;
           goes_by = h.goes_by;
@@ -77,16 +77,16 @@ module _ (may : ℕ → Entry → Type 0) (floor : List Entry → ℕ → Type 0
         }
 
     -- .. of a scope that tells something
-    pub seat_tells : (so : Type 0) (m : ℕ) (journal : List Event) (told : Entry) (s : SeatView) → (so → TrimsUpTo m journal) → SeatOk (Sends me may counts journal) floor shelf state spells journal s → SeatOk (SendsToo me may counts journal told) (UpToIf so floor m) shelf state spells journal s
+    pub seat_tells : (so : Type 0) (m : ℕ) (journal : List Event) (told : Entry) (s : SeatView) → (so → TrimsUpTo m journal) → SeatOk (record law { may = Sends me law.may counts journal }) state spells journal s → SeatOk (record law { may = SendsToo me law.may counts journal told; floor = UpToIf so law.floor m }) state spells journal s
     seat_tells so m journal told s high h =
-        seat_wider (Sends me may counts journal) (SendsToo me may counts journal told) (UpToIf so floor m) (UpToIf so floor m) shelf (λ user e k. sends_too me may counts journal told user e k) (λ log n k. k) state spells journal s (seat_begins so m journal s high h)
+        seat_wider (record law { may = Sends me law.may counts journal; floor = UpToIf so law.floor m }) (record law { may = SendsToo me law.may counts journal told; floor = UpToIf so law.floor m }) (record { may = λ user e k. sends_too me law.may counts journal told user e k; floor = λ log n k. k; shelf = refl }) state spells journal s (seat_begins so m journal s high h)
 
     -- A seat as a scope ends.
-    pub seat_ends : (so : Type 0) (m : ℕ) (old new : List Event) (s : SeatView) → Grows old new → SeatOk (Sends me may counts old) (UpToIf so floor m) shelf state spells new s → SeatOk (Sends me may counts new) floor shelf state spells new s
-    seat_ends so m old new s g h = seat_wider (Sends me may counts old) (Sends me may counts new) (UpToIf so floor m) floor shelf (λ user e k. sends_grow me may counts old new g user e k) (λ log n k. k.0) state spells new s h
+    pub seat_ends : (so : Type 0) (m : ℕ) (old new : List Event) (s : SeatView) → Grows old new → SeatOk (record law { may = Sends me law.may counts old; floor = UpToIf so law.floor m }) state spells new s → SeatOk (record law { may = Sends me law.may counts new }) state spells new s
+    seat_ends so m old new s g h = seat_wider (record law { may = Sends me law.may counts old; floor = UpToIf so law.floor m }) (record law { may = Sends me law.may counts new }) (record { may = λ user e k. sends_grow me law.may counts old new g user e k; floor = λ log n k. k.0; shelf = refl }) state spells new s h
 
     -- .. of one that told something: nothing is outstanding, and nothing waits
-    pub seat_told : (so : Type 0) (m : ℕ) (old new : List Event) (told : Entry) (s : SeatView) → s.node.outbox.entries ≡ [] → s.node.replica.kept ≡ [] → SeatOk (SendsToo me may counts old told) (UpToIf so floor m) shelf state spells new s → SeatOk (Sends me may counts new) floor shelf state spells new s
+    pub seat_told : (so : Type 0) (m : ℕ) (old new : List Event) (told : Entry) (s : SeatView) → s.node.outbox.entries ≡ [] → s.node.replica.kept ≡ [] → SeatOk (record law { may = SendsToo me law.may counts old told; floor = UpToIf so law.floor m }) state spells new s → SeatOk (record law { may = Sends me law.may counts new }) state spells new s
     seat_told so m old new told s none kept h = record {
       shelf_is = h.shelf_is;
       goes_by = h.goes_by;
@@ -95,47 +95,47 @@ module _ (may : ℕ → Entry → Type 0) (floor : List Entry → ℕ → Type 0
         legal = told_legal;
         follows = h.node.follows;
         bounded = h.node.bounded;
-        own = subst (λ es. All (λ e. MaySend (Sends me may counts new) s.who e) es) (sym none) (All-nil (λ e. MaySend (Sends me may counts new) s.who e));
+        own = subst (λ es. All (λ e. MaySend (Sends me law.may counts new) s.who e) es) (sym none) (All-nil (λ e. MaySend (Sends me law.may counts new) s.who e));
         few = h.node.few;
         waiting = λ some. absurd (some kept);
       };
     }
       where
-        told_legal : IsLegal (Sends me may counts new) floor shelf new
+        told_legal : IsLegal (record law { may = Sends me law.may counts new }) new
         told_legal =
-            legal_own (SendsToo me may counts old told) (Sends me may counts new) floor shelf new
-            (legal_wide (SendsToo me may counts old told) (SendsToo me may counts old told) (UpToIf so floor m) floor shelf (λ user e k. k) (λ log n k. k.0) new h.node.legal)
+            legal_own (record law { may = SendsToo me law.may counts old told }) (Sends me law.may counts new) new
+            (legal_wide (record law { may = SendsToo me law.may counts old told; floor = UpToIf so law.floor m }) (record law { may = SendsToo me law.may counts old told }) (record { may = λ user e k. k; floor = λ log n k. k.0; shelf = refl }) new h.node.legal)
             (λ user e there k. (k.0, λ same. inl (subst (λ u. Contains (appended_by u new) e) same there)))
 
     -- by the rules of the run alone
-    pub seat_allowed : (journal : List Event) (s : SeatView) → SeatOk (Sends me may counts journal) floor shelf state spells journal s → SeatOk may floor shelf state spells journal s
-    seat_allowed journal s h = seat_wider (Sends me may counts journal) may floor floor shelf (λ who e k. k.0.0) (λ log n k. k) state spells journal s h
+    pub seat_allowed : (journal : List Event) (s : SeatView) → SeatOk (record law { may = Sends me law.may counts journal }) state spells journal s → SeatOk law state spells journal s
+    seat_allowed journal s h = seat_wider (record law { may = Sends me law.may counts journal }) law (record { may = λ who e k. k.0.0; floor = λ log n k. k; shelf = refl }) state spells journal s h
 
     pub left_by : (beside : ℕ → ℕ → Type 0) (right : ℕ → Type 0) (so : Type 0) (m : ℕ) (old new : List Event) (a b : SeatView) → b.who ≡ a.who → Since b.who (beside b.who) old new → SealsByRight (right b.who) b.who old new
-        → SeatOk (Sends me may counts old) (UpToIf so floor m) shelf state spells new b → IsLeft may floor shelf state spells beside (right a.who) old a new b
+        → SeatOk (record law { may = Sends me law.may counts old; floor = UpToIf so law.floor m }) state spells new b → IsLeft law state spells beside (right a.who) old a new b
     left_by beside right so m old new a b who since seals h = record {
-      stands = seat_wider (Sends me may counts old) may (UpToIf so floor m) floor shelf (λ user e k. k.0.0) (λ log n k. k.0) state spells new b h;
+      stands = seat_wider (record law { may = Sends me law.may counts old; floor = UpToIf so law.floor m }) law (record { may = λ user e k. k.0.0; floor = λ log n k. k.0; shelf = refl }) state spells new b h;
       who = who;
       since = subst (λ w. Since w (beside w) old new) who since;
       seals = subst (λ w. SealsByRight (right w) w old new) who seals;
     }
 
     pub left_told : (beside : ℕ → ℕ → Type 0) (right : ℕ → Type 0) (so : Type 0) (m : ℕ) (old new : List Event) (told : Entry) (a b : SeatView) → b.who ≡ a.who → Since b.who (beside b.who) old new → SealsByRight (right b.who) b.who old new
-        → SeatOk (SendsToo me may counts old told) (UpToIf so floor m) shelf state spells new b → IsLeft may floor shelf state spells beside (right a.who) old a new b
+        → SeatOk (record law { may = SendsToo me law.may counts old told; floor = UpToIf so law.floor m }) state spells new b → IsLeft law state spells beside (right a.who) old a new b
     left_told beside right so m old new told a b who since seals h = record {
-      stands = seat_wider (SendsToo me may counts old told) may (UpToIf so floor m) floor shelf (λ user e k. k.0.0) (λ log n k. k.0) state spells new b h;
+      stands = seat_wider (record law { may = SendsToo me law.may counts old told; floor = UpToIf so law.floor m }) law (record { may = λ user e k. k.0.0; floor = λ log n k. k.0; shelf = refl }) state spells new b h;
       who = who;
       since = subst (λ w. Since w (beside w) old new) who since;
       seals = subst (λ w. SealsByRight (right w) w old new) who seals;
     }
 
     -- a step was done
-    pub ok_by : (so : Type 0) (m : ℕ) (old new : List Event) (b : SeatView) → b.who ≡ me → Grows old new → SeatOk (Sends me may counts old) (UpToIf so floor m) shelf state spells new b → SeatOk (Sends b.who may counts new) floor shelf state spells new b
-    ok_by so m old new b who grows h = subst (λ w. SeatOk (Sends w may counts new) floor shelf state spells new b) (sym who) (seat_ends so m old new b grows h)
+    pub ok_by : (so : Type 0) (m : ℕ) (old new : List Event) (b : SeatView) → b.who ≡ me → Grows old new → SeatOk (record law { may = Sends me law.may counts old; floor = UpToIf so law.floor m }) state spells new b → SeatOk (record law { may = Sends b.who law.may counts new }) state spells new b
+    ok_by so m old new b who grows h = subst (λ w. SeatOk (record law { may = Sends w law.may counts new }) state spells new b) (sym who) (seat_ends so m old new b grows h)
 
     pub ok_told : (so : Type 0) (m : ℕ) (old new : List Event) (told : Entry) (b : SeatView) → b.who ≡ me → b.node.outbox.entries ≡ [] → b.node.replica.kept ≡ []
-        → SeatOk (SendsToo me may counts old told) (UpToIf so floor m) shelf state spells new b → SeatOk (Sends b.who may counts new) floor shelf state spells new b
-    ok_told so m old new told b who none kept h = subst (λ w. SeatOk (Sends w may counts new) floor shelf state spells new b) (sym who) (seat_told so m old new told b none kept h)
+        → SeatOk (record law { may = SendsToo me law.may counts old told; floor = UpToIf so law.floor m }) state spells new b → SeatOk (record law { may = Sends b.who law.may counts new }) state spells new b
+    ok_told so m old new told b who none kept h = subst (λ w. SeatOk (record law { may = Sends w law.may counts new }) state spells new b) (sym who) (seat_told so m old new told b none kept h)
 
 -- Of a call's answer
 

@@ -4,8 +4,8 @@ use Rattle.std.proofs.Common.{◌≡◌, ◌≢◌, refl, sym, ap, ◌∙◌, su
 use Rattle.std.proofs.lemmas.Bool.Decides.{nat_tests}
 use Rattle.std.proofs.lemmas.List.{append_cancel_left}
 use Rattle.std.proofs.lemmas.List.Sums.{sum_by-append, sum_by-cons}
-use Rattle.delos_types.specs.declared.entry.Entry.{Entry}
 use Rattle.chain_map.specs.Chain.{last_segment, last_id}
+use Rattle.legal_journal.specs.Law.{Law}
 use Rattle.legal_journal.specs.declared.events.Event.{Event}
 use Rattle.legal_journal.specs.declared.events.FabricCall.TheVariants.{ReadChain}
 use Rattle.legal_journal.specs.declared.events.FabricAnswer.TheVariants.{At}
@@ -56,8 +56,8 @@ own_counted who i (e ∷ es) own =
     by false c is = refl
     by true false is = let same : e.who ≡ who = own.0 in absurd (grind (arith, nat_tests))
 
-module _ (may : ℕ → Entry → Type 0) (floor : List Entry → ℕ → Type 0) (shelf : List ℕ) (who : ℕ) (early settled new : List Event) (legal : IsLegal may floor shelf new) (own : OwnSince who early new) (still : SealsNone who early settled) (n : ℕ) (was : IsUnsealed (state_of early) n) (calm : faults_in new ≡ []) where
-  module _ (known known' v' : ℕ) (x : Extension) (e : IsExtension (length shelf) who settled known known' v' new x) (only : (i : ℕ) → i ≢ (last_segment e.chain).id → own_seals_on who i e.rest ≡ 0) where
+module _ (law : Law) (who : ℕ) (early settled new : List Event) (legal : IsLegal law new) (own : OwnSince who early new) (still : SealsNone who early settled) (n : ℕ) (was : IsUnsealed (state_of early) n) (calm : faults_in new ≡ []) where
+  module _ (known known' v' : ℕ) (x : Extension) (e : IsExtension (length law.shelf) who settled known known' v' new x) (only : (i : ℕ) → i ≢ (last_segment e.chain).id → own_seals_on who i e.rest ≡ 0) where
     abbrev look_event : Event
     look_event = record { who = who; call = ReadChain; answer = At e.version e.chain }
 
@@ -93,11 +93,11 @@ module _ (may : ℕ → Entry → Type 0) (floor : List Entry → ℕ → Type 0
         let none : count_by begins_seal e.others ≡ 0 = ap (count_by begins_seal) nobody in
         omega (arith, a, b, none, still_none)
 
-    looked_legal : IsLegal may floor shelf e.looked
-    looked_legal = legal_front may floor shelf e.looked e.rest (subst (IsLegal may floor shelf) e.seen legal)
+    looked_legal : IsLegal law e.looked
+    looked_legal = legal_front law e.looked e.rest (subst (IsLegal law) e.seen legal)
 
     looked_chain : (state_of e.looked).register.chain ≡ e.chain
-    looked_chain = ap (λ (w : State). w.register.chain) (took may floor shelf settled e.others look_event e.looked looked_legal e.look).now
+    looked_chain = ap (λ (w : State). w.register.chain) (took law settled e.others look_event e.looked looked_legal e.look).now
 
     parts : (faults_in e.looked ≡ []) × (faults_in e.rest ≡ [])
     parts = calm_parts e.looked new e.rest e.seen calm
@@ -105,7 +105,7 @@ module _ (may : ℕ → Entry → Type 0) (floor : List Entry → ℕ → Type 0
     at_look : IsUnsealed (state_of e.looked) n
     at_look =
         subst (λ es. IsUnsealed (state_of es) n) (sym looked_since)
-        (chain_stays may floor shelf early to_look n (subst (IsLegal may floor shelf) looked_since looked_legal) was unsealed_yet
+        (chain_stays law early to_look n (subst (IsLegal law) looked_since looked_legal) was unsealed_yet
         (calm_parts early e.looked to_look looked_since parts.0).1)
 
     last_is : (last_segment e.chain).id ≡ n
@@ -120,22 +120,22 @@ module _ (may : ℕ → Entry → Type 0) (floor : List Entry → ℕ → Type 0
     on : last_id (state_of new).register.chain ≢ n → IsUnsealed (state_of new) (n + 1)
     on moved =
         subst (λ es. IsUnsealed (state_of es) (n + 1)) (sym e.seen)
-        (chain_goes_on may floor shelf e.looked e.rest n (subst (IsLegal may floor shelf) e.seen legal) at_look none_behind parts.1
+        (chain_goes_on law e.looked e.rest n (subst (IsLegal law) e.seen legal) at_look none_behind parts.1
         (λ same. moved (ap (λ es. last_id (state_of es).register.chain) e.seen ∙ same)))
 
     stays : e.rest ≡ [] → IsUnsealed (state_of new) n
     stays none = subst (λ es. IsUnsealed (state_of es) n) (sym (e.seen ∙ (ap (λ l. e.looked ++ l) none ∙ append-nil e.looked))) at_look
 
-  lone_unsealed : (known known' v' : ℕ) (x : Extension) (e : IsExtension (length shelf) who settled known known' v' new x) → ((i : ℕ) → i ≢ (last_segment e.chain).id → own_seals_on who i e.rest ≡ 0)
-      → ExtendedSo (length shelf) (state_of early).register (state_of new).register x → IsUnsealed (state_of new) (n + made x)
+  lone_unsealed : (known known' v' : ℕ) (x : Extension) (e : IsExtension (length law.shelf) who settled known known' v' new x) → ((i : ℕ) → i ≢ (last_segment e.chain).id → own_seals_on who i e.rest ≡ 0)
+      → ExtendedSo (length law.shelf) (state_of early).register (state_of new).register x → IsUnsealed (state_of new) (n + made x)
   lone_unsealed known known' v' (Extended version start) e only so = on known known' v' (Extended version start) e only (λ same. absurd (omega (arith, so.next, same, was.last)))
   lone_unsealed known known' v' (Moved version) e only so = absurd so
   lone_unsealed known known' v' NoSpare e only so = subst (IsUnsealed (state_of new)) (let none : n ≡ n + 0 = omega arith in none) (stays known known' v' NoSpare e only e.follows.1)
 
-pub lone_once : (may : ℕ → Entry → Type 0) (floor : List Entry → ℕ → Type 0) (shelf : List ℕ) (old new : NodeView) (x : Extension) (n : ℕ) → Extends may floor shelf old new (looked.Extended x) → OwnSince old.who old.seen new.seen
+pub lone_once : (law : Law) (old new : NodeView) (x : Extension) (n : ℕ) → Extends law old new (looked.Extended x) → OwnSince old.who old.seen new.seen
     → IsUnsealed (state_of old.seen) n → faults_in new.seen ≡ [] → IsUnsealed (state_of new.seen) (n + made x)
-lone_once may floor shelf old new x n h own was calm =
+lone_once law old new x n h own was calm =
     let same = h.settles.goes.keeps.who in
     let e = h.extends.1.1 in
-    lone_unsealed may floor shelf h.settled.who old.seen h.settled.seen new.seen h.moves.goes.keeps.later.legal (subst (λ k. OwnSince k old.seen new.seen) (sym same) own) (subst (λ k. SealsNone k old.seen h.settled.seen) (sym same) h.unsealed) n was calm
-    h.settled.known new.known h.extends.1.0 x e e.seals.elsewhere (lone_extension may floor shelf old new x h own)
+    lone_unsealed law h.settled.who old.seen h.settled.seen new.seen h.moves.goes.keeps.later.legal (subst (λ k. OwnSince k old.seen new.seen) (sym same) own) (subst (λ k. SealsNone k old.seen h.settled.seen) (sym same) h.unsealed) n was calm
+    h.settled.known new.known h.extends.1.0 x e e.seals.elsewhere (lone_extension law old new x h own)

@@ -8,6 +8,7 @@ use Rattle.delos_types.specs.declared.entry.Entry.{Entry}
 use Rattle.delos_types.specs.declared.item.Item.{Item}
 use Rattle.delos_types.specs.declared.cause.Cause.{Cause}
 use Rattle.table_core.specs.declared.command.Command.{Command}
+use Rattle.legal_journal.specs.Law.{Law}
 use Rattle.legal_journal.specs.Journal.{IsLegal}
 use Rattle.virtual_log.specs.Holding.{Holds}
 use Rattle.engine_api.specs.declared.content.Content.{Content}
@@ -41,17 +42,17 @@ pub collected : (state : List Entry → SpaceMap → Type 0) (n : NodeView) (s :
     → InFront n.seen n.replica.cursor (λ log. AreAllAnswers log s answers) → HasAnswers n.seen n.replica.cursor s answers
 collected state n s answers at h = record { log = at.log; front = at.front; upto = omega (arith, at.size); are = some-of-all at.log s answers (h at.log at.size at.front) }
 
-module _ (may : ℕ → Entry → Type 0) (floor : List Entry → ℕ → Type 0) (shelf : List ℕ) (low : (log : List Entry) (n : ℕ) → floor log n → n ≤ length log) where
+module _ (law : Law) (low : (log : List Entry) (n : ℕ) → law.floor log n → n ≤ length log) where
   -- so many commands acted as there are answers
-  pub answers_low : (state : List Entry → SpaceMap → Type 0) (n : NodeView) (s : ℕ) (answers : List Kept) → ((log : List Entry) (m : SpaceMap) → state log m → IsStateOf log m) → IsLegal may floor shelf n.seen
+  pub answers_low : (state : List Entry → SpaceMap → Type 0) (n : NodeView) (s : ℕ) (answers : List Kept) → ((log : List Entry) (m : SpaceMap) → state log m → IsStateOf log m) → IsLegal law n.seen
       → s ≤ 63 → IsStateAt Holds state n.seen (saved_in n.replica) → HasAnswers n.seen n.replica.cursor s answers → length answers ≤ last_of n.replica.contents s
   answers_low state n s answers means legal known at h =
-      let are = answers_at may floor shelf n.seen n.replica.cursor s answers legal h at.log at.size at.front in
+      let are = answers_at law n.seen n.replica.cursor s answers legal h at.log at.size at.front in
       let gap = ((means at.log n.replica.contents at.led).sessions.sessions s known).gap in
       omega (arith, are.below, gap)
 
   -- the session's next command is near
-  pub next_near : (state : List Entry → SpaceMap → Type 0) (n : NodeView) (s r : ℕ) (answers : List Kept) (item : Item) (w : Option Content) → ((log : List Entry) (m : SpaceMap) → state log m → IsStateOf log m) → IsLegal may floor shelf n.seen
+  pub next_near : (state : List Entry → SpaceMap → Type 0) (n : NodeView) (s r : ℕ) (answers : List Kept) (item : Item) (w : Option Content) → ((log : List Entry) (m : SpaceMap) → state log m → IsStateOf log m) → IsLegal law n.seen
       → s ≤ 63 → IsStateAt Holds state n.seen (saved_in n.replica) → HasAnswers n.seen n.replica.cursor s answers → r ≤ length answers + 64 → (c : _) → w ≡ Some (content.Session s r c) → under 2 item ≡ w → IsNear n.replica.contents item
   next_near state n s r answers item w means legal known at h near c says is =
       let acted = answers_low state n s answers means legal known at h in
@@ -64,17 +65,17 @@ own_under s r c = rw (same s) refl
     same : (s : ℕ) → (s == s) ≡ true
     same s = grind (arith, nat_tests)
 
-module _ (may : ℕ → Entry → Type 0) (floor : List Entry → ℕ → Type 0) (shelf : List ℕ) (low : (log : List Entry) (n : ℕ) → floor log n → n ≤ length log) where
+module _ (law : Law) (low : (log : List Entry) (n : ℕ) → law.floor log n → n ≤ length log) where
   -- no answer is lost
-  pub answers_more : (state : List Entry → SpaceMap → Type 0) (n : NodeView) (s : ℕ) (before after : List Kept) → IsLegal may floor shelf n.seen → IsStateAt Holds state n.seen (saved_in n.replica)
+  pub answers_more : (state : List Entry → SpaceMap → Type 0) (n : NodeView) (s : ℕ) (before after : List Kept) → IsLegal law n.seen → IsStateAt Holds state n.seen (saved_in n.replica)
       → HasAnswers n.seen n.replica.cursor s before → InFront n.seen n.replica.cursor (λ log. AreAllAnswers log s after) → length before ≤ length after
   answers_more state n s before after legal at h all =
-      let are = answers_at may floor shelf n.seen n.replica.cursor s before legal h at.log at.size at.front in
+      let are = answers_at law n.seen n.replica.cursor s before legal h at.log at.size at.front in
       let whole = all at.log at.size at.front in
       omega (arith, are.below, whole.all)
 
   -- the desk of a session whose answers were collected
-  pub desk_collected : (state : List Entry → SpaceMap → Type 0) (n : NodeView) (s : ℕ) (d : Desk) (answers : List Kept) (d' : Desk) → IsLegal may floor shelf n.seen → IsStateAt Holds state n.seen (saved_in n.replica) → DeskOk n s d
+  pub desk_collected : (state : List Entry → SpaceMap → Type 0) (n : NodeView) (s : ℕ) (d : Desk) (answers : List Kept) (d' : Desk) → IsLegal law n.seen → IsStateAt Holds state n.seen (saved_in n.replica) → DeskOk n s d
       → InFront n.seen n.replica.cursor (λ log. AreAllAnswers log s answers) → d'.answers.items ≡ answers → d'.session ≡ d.session → d'.asked ≡ d.asked → d'.sent ≡ d.sent → (d'.stopped ≡ None → d.stopped ≡ None) → (d'.stopped ≡ None → d'.answered ≡ d.answered) → DeskOk n s d'
   desk_collected state n s d answers d' legal at ok all are session asked sent stopped answered =
       let more = answers_more state n s d.answers.items answers legal at ok.acted all in
@@ -90,11 +91,11 @@ module _ (may : ℕ → Entry → Type 0) (floor : List Entry → ℕ → Type 0
 
   -- the desk of a session whose next command went down
   pub desk_logged : (state : List Entry → SpaceMap → Type 0) (old new : NodeView) (s : ℕ) (d d' : Desk) (answers : List Kept) → IsStateAt Holds state new.seen (saved_in new.replica) → DeskOk old s d → d.stopped ≡ None → cause_in s old.outbox.given ≡ None
-      → d.sent + 1 ≤ length d.answers.items + 64 → HandsIn may floor shelf old new s d.sent → InFront new.seen new.replica.cursor (λ log. AreAllAnswers log s answers)
+      → d.sent + 1 ≤ length d.answers.items + 64 → HandsIn law old new s d.sent → InFront new.seen new.replica.cursor (λ log. AreAllAnswers log s answers)
       → d'.answers.items ≡ answers → d'.session ≡ d.session → d'.asked ≡ d.asked + 1 → d'.sent ≡ d.sent + 1 → d'.answered ≡ d.answered → DeskOk new s d'
   desk_logged state old new s d d' answers at ok free none near h all are session asked sent answered =
       let k = h.goes.keeps in
-      let earlier = answers_later may floor shelf low old.seen new.seen old.replica.cursor new.replica.cursor s d.answers.items k.later.legal (k.later.more, k.later.seen) k.forward ok.acted in
+      let earlier = answers_later law low old.seen new.seen old.replica.cursor new.replica.cursor s d.answers.items k.later.legal (k.later.more, k.later.seen) k.forward ok.acted in
       let more = answers_more state new s d.answers.items answers k.later.legal at earlier all in
       let g = ok.given free none in
       record {
@@ -117,7 +118,7 @@ module _ (may : ℕ → Entry → Type 0) (floor : List Entry → ℕ → Type 0
   none_or (Some c) p h = absurd (cc)
 
   -- a session whose answers were collected at the end of a phase, by its desk as it was then
-  pub closes : (state : List Entry → SpaceMap → Type 0) (n : NodeView) (failed : Option Cause) (old mid : Desk) → IsLegal may floor shelf n.seen → IsStateAt Holds state n.seen (saved_in n.replica) → DeskOk n old.session old
+  pub closes : (state : List Entry → SpaceMap → Type 0) (n : NodeView) (failed : Option Cause) (old mid : Desk) → IsLegal law n.seen → IsStateAt Holds state n.seen (saved_in n.replica) → DeskOk n old.session old
       → mid ≡ record old { answers = mid.answers } → InFront n.seen n.replica.cursor (λ log. AreAllAnswers log old.session mid.answers.items)
       → (failed ≡ None → IsFree n old → InFront n.seen n.replica.cursor (HasActedTo old.session old.sent))
       → DeskOk n old.session (stopped_unanswered (option_or (option_or old.stopped (cause_in old.session n.outbox.given)) failed) mid)

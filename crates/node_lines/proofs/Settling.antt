@@ -6,6 +6,7 @@ use Rattle.delos_types.specs.declared.entry.Entry.{Entry}
 use Rattle.delos_types.specs.declared.item.Item.{Item}
 use Rattle.delos_types.specs.declared.cause.Cause.{Cause}
 use Rattle.delos_types.specs.declared.cause.Cause.TheVariants as cause
+use Rattle.legal_journal.specs.Law.{Law}
 use Rattle.legal_journal.specs.declared.events.Event.{Event}
 use Rattle.legal_journal.specs.Journal.{IsLegal}
 use Rattle.legal_journal.proofs.Legal.{legal_front, goes_on}
@@ -99,31 +100,31 @@ settles-extends who old new [] given before after h = ([], h.0 ∙ nil old)
 settles-extends who old new (e ∷ es) given before after h =
     extends-trans old h.0 new (meets-extends who old h.0 e h.1 h.3) (settles-extends who h.0 new es h.2 (first_cause before h.1) after h.5)
 
-module _ (may : ℕ → Entry → Type 0) (floor : List Entry → ℕ → Type 0) (shelf : List ℕ) (low : (log : List Entry) (n : ℕ) → floor log n → n ≤ length log) where
+module _ (law : Law) (low : (log : List Entry) (n : ℕ) → law.floor log n → n ≤ length log) where
   -- what is held is held at every later moment
-  pub held_later : (old new : List Event) (e : Entry) → IsLegal may floor shelf new → Extends old new → IsHeld old e → IsHeld new e
+  pub held_later : (old new : List Event) (e : Entry) → IsLegal law new → Extends old new → IsHeld old e → IsHeld new e
   held_later old new e legal on h =
-      let whole = subst (IsLegal may floor shelf) on.1 legal in
-      let goes = goes_on may floor shelf old on.0 whole in
+      let whole = subst (IsLegal law) on.1 legal in
+      let goes = goes_on law old on.0 whole in
       subst (λ es. IsHeld es e) (sym on.1) (record {
         pos = h.pos;
-        held = holds_later may floor shelf old (old ++ on.0) h.pos e (legal_front may floor shelf old on.0 whole) goes h.held;
+        held = holds_later law old (old ++ on.0) h.pos e (legal_front law old on.0 whole) goes h.held;
         below = omega (arith, h.below, goes.tail);
       })
 
-  pub landed_later : (old new : List Event) (s r : ℕ) → IsLegal may floor shelf new → Extends old new → HasLanded old s r → HasLanded new s r
+  pub landed_later : (old new : List Event) (s r : ℕ) → IsLegal law new → Extends old new → HasLanded old s r → HasLanded new s r
   landed_later old new s r legal on h = record { entry = h.entry; held = held_later old new h.entry legal on h.held; rank = h.rank }
 
-  pub front_of : (old new : List Event) → IsLegal may floor shelf new → Extends old new → IsLegal may floor shelf old
-  front_of old new legal on = legal_front may floor shelf old on.0 (subst (IsLegal may floor shelf) on.1 legal)
+  pub front_of : (old new : List Event) → IsLegal law new → Extends old new → IsLegal law old
+  front_of old new legal on = legal_front law old on.0 (subst (IsLegal law) on.1 legal)
 
   -- an entry that gave a session of its no cause landed
-  met_held : (who s : ℕ) (old new : List Event) (e : Entry) (f : Fate) → IsLegal may floor shelf new → has_session s (sessions_in e) ≡ true → cause_in s (gives e f) ≡ None → Meets Holds who old e f new → IsHeld new e
-  met_held who s old new e (Landed pos) legal own none h = record { pos = pos; held = h.1; below = stands_below may floor shelf low new pos e legal h.0 }
+  met_held : (who s : ℕ) (old new : List Event) (e : Entry) (f : Fate) → IsLegal law new → has_session s (sessions_in e) ≡ true → cause_in s (gives e f) ≡ None → Meets Holds who old e f new → IsHeld new e
+  met_held who s old new e (Landed pos) legal own none h = record { pos = pos; held = h.1; below = stands_below law low new pos e legal h.0 }
   met_held who s old new e (Lost c) legal own none h = absurd (let given : Some c ≡ None = sym (given-has s (sessions_in e) c own) ∙ none in cc)
 
   -- Of entries that were settled without a cause for s, each with a rank of s is held.
-  pub settled_held : (who s r : ℕ) (old new : List Event) (done : List Entry) (given : List Given) (before after : Option Cause) (e : Entry) → IsLegal may floor shelf new → cause_in s given ≡ None
+  pub settled_held : (who s r : ℕ) (old new : List Event) (done : List Entry) (given : List Given) (before after : Option Cause) (e : Entry) → IsLegal law new → cause_in s given ≡ None
       → Settles Holds who old done new given before after → Among e done → HasRank s r e → IsHeld new e
   settled_held who s r old new [] given before after e legal none h among has = absurd among
   settled_held who s r old new (x ∷ xs) given before after e legal none h among has =
@@ -140,7 +141,7 @@ module _ (may : ℕ → Entry → Type 0) (floor : List Entry → ℕ → Type 0
   among-split e (x ∷ xs) ys (inr h) = ⊎_elim (λ (k : Among e xs). inl (inr k)) (λ (k : Among e ys). inr k) (among-split e xs ys h)
 
   -- A settling that gave s no cause: what is under way stays so.
-  pub settled_under_way : (who s r : ℕ) (old new : List Event) (was is : OutboxView) → IsLegal may floor shelf new → cause_in s is.given ≡ None
+  pub settled_under_way : (who s r : ℕ) (old new : List Event) (was is : OutboxView) → IsLegal law new → cause_in s is.given ≡ None
       → Settled Holds who old was new is → IsUnderWay old was.entries s r → IsUnderWay new is.entries s r
   settled_under_way who s r old new was is legal none h (inl x) =
       inl (landed_later old new s r legal (extends-trans old h.moment new (settles-extends who old h.moment h.done h.given was.unsettled is.unsettled h.fates) h.rest) x)
@@ -157,7 +158,7 @@ module _ (may : ℕ → Entry → Type 0) (floor : List Entry → ℕ → Type 0
       (among-split x.entry h.done is.entries (subst (Among x.entry) h.all x.among))
 
   -- where nothing is outstanding any more, it has landed
-  pub settled_landed : (who s r : ℕ) (old new : List Event) (was is : OutboxView) → IsLegal may floor shelf new → cause_in s is.given ≡ None → is.entries ≡ []
+  pub settled_landed : (who s r : ℕ) (old new : List Event) (was is : OutboxView) → IsLegal law new → cause_in s is.given ≡ None → is.entries ≡ []
       → Settled Holds who old was new is → IsUnderWay old was.entries s r → HasLanded new s r
   settled_landed who s r old new was is legal none empty h x = ⊎_elim
       (λ (k : HasLanded new s r). k)
@@ -165,7 +166,7 @@ module _ (may : ℕ → Entry → Type 0) (floor : List Entry → ℕ → Type 0
       (settled_under_way who s r old new was is legal none h x)
 
   -- a session's commands after a settling that gave it no cause
-  pub settled_given : (who s sent : ℕ) (old new : List Event) (was is : OutboxView) (kept : List Item) → IsLegal may floor shelf new → cause_in s is.given ≡ None
+  pub settled_given : (who s sent : ℕ) (old new : List Event) (was is : OutboxView) (kept : List Item) → IsLegal law new → cause_in s is.given ≡ None
       → Settled Holds who old was new is → IsGiven old was.entries kept s sent → IsGiven new is.entries kept s sent
   settled_given who s sent old new was is kept legal none h g = record {
     queued = g.queued;

@@ -4,6 +4,7 @@ use Rattle.std.specs.Prelude.{Contains}
 use Rattle.delos_types.specs.Spaces.{SpaceMap}
 use Rattle.delos_types.specs.declared.entry.Entry.{Entry}
 use Rattle.delos_types.specs.declared.item.Item.{Item}
+use Rattle.legal_journal.specs.Law.{Law}
 use Rattle.legal_journal.specs.declared.events.Event.{Event}
 use Rattle.legal_journal.specs.Journal.{IsLegal}
 use Rattle.legal_journal.proofs.Legal.{goes_on}
@@ -24,16 +25,16 @@ use Rattle.node_lines.proofs.Own.{legal_own}
 use Rattle.node_lines.proofs.Widening.{seat_wider}
 use Rattle.node_lines.proofs.Scoping.{sends_grow}
 
-module _ (may : ℕ → Entry → Type 0) (floor : List Entry → ℕ → Type 0) (shelf : List ℕ) (early more : List Event) (legal : IsLegal may floor shelf (early ++ more)) where
+module _ (law : Law) (early more : List Event) (legal : IsLegal law (early ++ more)) where
   front_later : (log : List Entry) → IsFront Holds early log → IsFront Holds (early ++ more) log
-  front_later log h = λ pos e at. held_stays may floor shelf early more pos e legal (h pos e at)
+  front_later log h = λ pos e at. held_stays law early more pos e legal (h pos e at)
 
   landed_later : (s r : ℕ) → HasLanded early s r → HasLanded (early ++ more) s r
   landed_later s r h =
-      let goes = goes_on may floor shelf early more legal in
+      let goes = goes_on law early more legal in
       record {
         entry = h.entry;
-        held = record { pos = h.held.pos; held = held_stays may floor shelf early more h.held.pos h.entry legal h.held.held; below = omega (arith, h.held.below, goes.tail) };
+        held = record { pos = h.held.pos; held = held_stays law early more h.held.pos h.entry legal h.held.held; below = omega (arith, h.held.below, goes.tail) };
         rank = h.rank;
       }
 
@@ -55,32 +56,31 @@ module _ (may : ℕ → Entry → Type 0) (floor : List Entry → ℕ → Type 0
     given = λ free none. let g = k.given free none in (g.0, given_later seat.node.outbox.entries seat.node.replica.kept s d.sent g.1);
   }
 
-  pub seat_later : (state : List Entry → SpaceMap → Type 0) (spells : List ℕ → Saved → Type 0) (s : SeatView) → SeatOk may floor shelf state spells early s → SeatOk may floor shelf state spells (early ++ more) s
+  pub seat_later : (state : List Entry → SpaceMap → Type 0) (spells : List ℕ → Saved → Type 0) (s : SeatView) → SeatOk law state spells early s → SeatOk law state spells (early ++ more) s
   seat_later state spells s h =
-      let on : Later may floor shelf early (early ++ more) = record { more = more; seen = refl; legal = legal } in
+      let on : Later law early (early ++ more) = record { more = more; seen = refl; legal = legal } in
       record {
         shelf_is = h.shelf_is;
-        goes_by = goes_later may floor shelf early (early ++ more) s.log.version s.log.known s.log.chain on h.goes_by;
-        node = ok_same may floor shelf Holds state spells (node_of s early) (node_of s (early ++ more)) h.node legal refl
-            (follows_later may floor shelf Holds state spells (held_stays may floor shelf) early (early ++ more) s.node.replica on h.node.follows) h.node.bounded refl refl refl refl;
+        goes_by = goes_later law early (early ++ more) s.log.version s.log.known s.log.chain on h.goes_by;
+        node = ok_same law Holds state spells (node_of s early) (node_of s (early ++ more)) h.node legal refl
+            (follows_later law Holds state spells (held_stays law) early (early ++ more) s.node.replica on h.node.follows) h.node.bounded refl refl refl refl;
       }
 
 -- What who sent meanwhile is none that its desks didn't send before; what others sent may be anything.
-pub worker_stays : (may : ℕ → Entry → Type 0) (floor : List Entry → ℕ → Type 0) (shelf : List ℕ) (state : List Entry → SpaceMap → Type 0) (spells : List ℕ → Saved → Type 0) (who : ℕ) (early more : List Event) (seat : SeatView) (desks : List Desk)
-    → WorkerOk may floor shelf state spells who early seat desks → IsLegal (OwnWithin who may (sent_by desks)) floor shelf (early ++ more)
-    → WorkerOk may floor shelf state spells who (early ++ more) seat desks
-worker_stays may floor shelf state spells who early more seat desks h legal =
+pub worker_stays : (law : Law) (state : List Entry → SpaceMap → Type 0) (spells : List ℕ → Saved → Type 0) (who : ℕ) (early more : List Event) (seat : SeatView) (desks : List Desk)
+    → WorkerOk law state spells who early seat desks → IsLegal (record law { may = OwnWithin who law.may (sent_by desks) }) (early ++ more)
+    → WorkerOk law state spells who (early ++ more) seat desks
+worker_stays law state spells who early more seat desks h legal =
     let counts = sent_by desks in
     record {
       who_is = h.who_is;
       origin = h.origin;
-      ok = seat_later (Sends who may counts (early ++ more)) floor shelf early more
-          (legal_own (OwnWithin who may counts) (Sends who may counts (early ++ more)) floor shelf (early ++ more) legal (λ user e there k. (k, λ is. inl (subst (λ u. Contains (appended_by u (early ++ more)) e) is there)))) state spells seat
-          (seat_wider (Sends who may counts early) (Sends who may counts (early ++ more)) floor floor shelf
-          (λ user e k. sends_grow who may counts early (early ++ more) (more, refl) user e k) (λ log n k. k) state spells early seat h.ok);
+      ok = seat_later (record law { may = Sends who law.may counts (early ++ more) }) early more
+          (legal_own (record law { may = OwnWithin who law.may counts }) (Sends who law.may counts (early ++ more)) (early ++ more) legal (λ user e there k. (k, λ is. inl (subst (λ u. Contains (appended_by u (early ++ more)) e) is there)))) state spells seat
+          (seat_wider (record law { may = Sends who law.may counts early }) (record law { may = Sends who law.may counts (early ++ more) }) (record { may = λ user e k. sends_grow who law.may counts early (early ++ more) (more, refl) user e k; floor = λ log n k. k; shelf = refl }) state spells early seat h.ok);
       packs = h.packs;
       waits = h.waits;
       size = h.size;
-      each = λ s d at. desk_later (OwnWithin who may counts) floor shelf early more legal seat s d (h.each s d at);
+      each = λ s d at. desk_later (record law { may = OwnWithin who law.may counts }) early more legal seat s d (h.each s d at);
       home = h.home;
     }

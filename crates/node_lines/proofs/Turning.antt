@@ -6,6 +6,7 @@ use Rattle.std.proofs.lemmas.List.Elements.{All-nil}
 use Rattle.delos_types.specs.declared.entry.Entry.{Entry}
 use Rattle.delos_types.specs.declared.item.Item.{Item}
 use Rattle.delos_types.specs.declared.cause.Cause.{Cause}
+use Rattle.legal_journal.specs.Law.{Law}
 use Rattle.legal_journal.specs.declared.events.Event.{Event}
 use Rattle.legal_journal.specs.Journal.{IsLegal}
 use Rattle.virtual_log.specs.Holding.{Holds, IsTrimmed}
@@ -32,16 +33,16 @@ use Rattle.node_lines.proofs.Fronts.{answers_at}
 use Rattle.node_lines.proofs.Desks.{desk_moves}
 use Rattle.node_lines.proofs.Moving.{none-before}
 
-module _ (may : ℕ → Entry → Type 0) (floor : List Entry → ℕ → Type 0) (shelf : List ℕ) (low : (log : List Entry) (n : ℕ) → floor log n → n ≤ length log) where
+module _ (law : Law) (low : (log : List Entry) (n : ℕ) → law.floor log n → n ≤ length log) where
   -- what has acted in a front of the log has landed
-  pub acted_landed : (seen : List Event) (log : List Entry) (s r : ℕ) → IsLegal may floor shelf seen → IsFront Holds seen log → 1 ≤ r → r < gap_from (asked_in 0 log) s 1 → HasLanded seen s r
+  pub acted_landed : (seen : List Event) (log : List Entry) (s r : ℕ) → IsLegal law seen → IsFront Holds seen log → 1 ≤ r → r < gap_from (asked_in 0 log) s 1 → HasLanded seen s r
   acted_landed seen log s r legal front first high =
-      let x = appears_in may floor shelf s r 0 log (gap-run (asked_in 0 log) s 1 (top_rank (asked_in 0 log) + 1) r first high) in
+      let x = appears_in law s r 0 log (gap-run (asked_in 0 log) s 1 (top_rank (asked_in 0 log) + 1) r first high) in
       let held = front x.0 x.1 x.2 in
-      record { entry = x.1; held = record { pos = x.0; held = held; below = stands_below may floor shelf low seen x.0 x.1 legal (holds_stands may floor shelf seen x.0 x.1 legal held) }; rank = x.3 }
+      record { entry = x.1; held = record { pos = x.0; held = held; below = stands_below law low seen x.0 x.1 legal (holds_stands law seen x.0 x.1 legal held) }; rank = x.3 }
 
   -- so all of a session's commands are given, where nothing waits
-  pub acted_given : (seen : List Event) (log : List Entry) (s sent : ℕ) → IsLegal may floor shelf seen → IsFront Holds seen log → sent < gap_from (asked_in 0 log) s 1 → IsGiven seen [] [] s sent
+  pub acted_given : (seen : List Event) (log : List Entry) (s sent : ℕ) → IsLegal law seen → IsFront Holds seen log → sent < gap_from (asked_in 0 log) s 1 → IsGiven seen [] [] s sent
   acted_given seen log s sent legal front high = record {
     queued = 0;
     few = omega arith;
@@ -53,8 +54,8 @@ module _ (may : ℕ → Entry → Type 0) (floor : List Entry → ℕ → Type 0
   none_given seen s = record { queued = 0; few = omega arith; waiting = refl; under_way = λ r first last. absurd (omega (arith, first, last)) }
 
   -- the causes were forgotten: a desk that was closed is as it was, and so is one of a session that asked nothing
-  pub desk_forgotten : (mid new : NodeView) (failed : Option Cause) (s : ℕ) (old d : Desk) → IsLegal may floor shelf mid.seen → new ≡ record mid { outbox = record mid.outbox { given = [] } } → mid.outbox.entries ≡ [] → mid.replica.kept ≡ []
-      → (log : List Entry) → length log ≡ mid.replica.cursor → IsFront Holds mid.seen log → DeskOk mid s old → DeskOk mid s d → ClosesIt mid failed old d → (0 < old.asked → IsBound may s old.sent) → DeskOk new s d
+  pub desk_forgotten : (mid new : NodeView) (failed : Option Cause) (s : ℕ) (old d : Desk) → IsLegal law mid.seen → new ≡ record mid { outbox = record mid.outbox { given = [] } } → mid.outbox.entries ≡ [] → mid.replica.kept ≡ []
+      → (log : List Entry) → length log ≡ mid.replica.cursor → IsFront Holds mid.seen log → DeskOk mid s old → DeskOk mid s d → ClosesIt mid failed old d → (0 < old.asked → IsBound law.may s old.sent) → DeskOk new s d
   desk_forgotten mid new failed s old d legal is none kept log size front was ok closes bound =
       subst (λ (n : NodeView). DeskOk n s d) (sym is) (record {
         session = ok.session;
@@ -81,7 +82,7 @@ module _ (may : ℕ → Entry → Type 0) (floor : List Entry → ℕ → Type 0
           let own : old.session ≡ s = was.session in
           let all = c.all log size front in
           let gap : gap_from (asked_in 0 log) s 1 ≡ length d.answers.items + 1 = subst (λ q. gap_from (asked_in 0 log) q 1 ≡ length d.answers.items + 1) own all.all in
-          let most = acted_sent may floor shelf mid.seen log s old.sent legal front (bound some) in
+          let most = acted_sent law mid.seen log s old.sent legal front (bound some) in
           let sent : d.sent ≡ old.sent = ap (λ (x : Desk). x.sent) c.rest in
           let asked : d.asked ≡ old.asked = ap (λ (x : Desk). x.asked) c.rest in
           let whole : old.asked ≤ length d.answers.items = unstopped free c.ends in
@@ -93,8 +94,8 @@ module _ (may : ℕ → Entry → Type 0) (floor : List Entry → ℕ → Type 0
           unstopped f (inr x) = x.2 (was.ended (sym x.0 ∙ f))
 
 -- once a phase has ended nothing of any session is on its way
-pub ends_quiet : (may : ℕ → Entry → Type 0) (floor : List Entry → ℕ → Type 0) (shelf : List ℕ) (old new : NodeView) (was is : List Desk) (failed : Option Cause) → EndsTurn may floor shelf old new was is failed → (s : ℕ) → IsQuiet new s
-ends_quiet may floor shelf old new was is failed h s = subst (λ (n : NodeView). IsQuiet n s) (sym h.forgets) (record {
+pub ends_quiet : (law : Law) (old new : NodeView) (was is : List Desk) (failed : Option Cause) → EndsTurn law old new was is failed → (s : ℕ) → IsQuiet new s
+ends_quiet law old new was is failed h s = subst (λ (n : NodeView). IsQuiet n s) (sym h.forgets) (record {
   outstanding = subst (All (HasNoneOf s)) (sym h.ends.none) (All-nil (HasNoneOf s));
   waiting = ap (ranks_in s) h.ends.kept;
   free = refl;
@@ -115,24 +116,24 @@ same_at xs s x y h k = some_same x y (sym h ∙ k)
     some_same x y e = cc
 
 -- where all of a session's commands are answered they have acted
-pub answered_acted : (may : ℕ → Entry → Type 0) (floor : List Entry → ℕ → Type 0) (shelf : List ℕ) (n : NodeView) (s : ℕ) (d : Desk) → IsLegal may floor shelf n.seen → DeskOk n s d → d.asked ≤ length d.answers.items → InFront n.seen n.replica.cursor (HasActedTo s d.sent)
-answered_acted may floor shelf n s d legal ok all = λ log size front.
-    let are = answers_at may floor shelf n.seen n.replica.cursor s d.answers.items legal ok.acted log size front in
+pub answered_acted : (law : Law) (n : NodeView) (s : ℕ) (d : Desk) → IsLegal law n.seen → DeskOk n s d → d.asked ≤ length d.answers.items → InFront n.seen n.replica.cursor (HasActedTo s d.sent)
+answered_acted law n s d legal ok all = λ log size front.
+    let are = answers_at law n.seen n.replica.cursor s d.answers.items legal ok.acted log size front in
     omega (arith, are.below, ok.few, all)
 
 -- Where nothing was trimmed where the node was, or above, what was given has acted as a phase ends.
-pub kept_acted : (may : ℕ → Entry → Type 0) (floor : List Entry → ℕ → Type 0) (shelf : List ℕ) (old new : NodeView) (failed : Option Cause) → EndsPhase may floor shelf old new failed → KeepsFrom may floor shelf old.replica.cursor → failed ≡ None
+pub kept_acted : (law : Law) (old new : NodeView) (failed : Option Cause) → EndsPhase law old new failed → KeepsFrom law old.replica.cursor → failed ≡ None
     → (s sent : ℕ) → cause_in s new.outbox.given ≡ None → IsGiven old.seen old.outbox.entries old.replica.kept s sent → InFront new.seen new.replica.cursor (HasActedTo s sent)
-kept_acted may floor shelf old new failed e keeps none s sent free given = by (e.acted none)
+kept_acted law old new failed e keeps none s sent free given = by (e.acted none)
   where
     by : IsTrimmed new.seen new.replica.cursor ⊎ ((s sent : ℕ) → cause_in s new.outbox.given ≡ None → IsGiven old.seen old.outbox.entries old.replica.kept s sent → InFront new.seen new.replica.cursor (HasActedTo s sent)) → InFront new.seen new.replica.cursor (HasActedTo s sent)
     by (inl t) = let k = e.moves.goes.keeps in absurd (omega (arith, keeps new.seen new.replica.cursor k.later.legal t, k.forward))
     by (inr acted) = acted s sent free given
 
 -- Where a tail was found, and all answers were taken, each session that has no cause has them all.
-pub answers_whole : (may : ℕ → Entry → Type 0) (floor : List Entry → ℕ → Type 0) (shelf : List ℕ) → ((log : List Entry) (n : ℕ) → floor log n → n ≤ length log) → (state : List Entry → SpaceMap → Type 0) (n m : NodeView) (failed : Option Cause) (old new : List Desk)
-    → EndsPhase may floor shelf n m failed → failed ≡ None → KeepsFrom may floor shelf n.replica.cursor → DesksOk n old → IsStateAt Holds state m.seen (saved_in m.replica) → TakesAll m old new → DesksOk m new → IsAnswered old new × AllAnswered m new
-answers_whole may floor shelf low state n m failed old new e none keeps were at takes are = (
+pub answers_whole : (law : Law) → ((log : List Entry) (n : ℕ) → law.floor log n → n ≤ length log) → (state : List Entry → SpaceMap → Type 0) (n m : NodeView) (failed : Option Cause) (old new : List Desk)
+    → EndsPhase law n m failed → failed ≡ None → KeepsFrom law n.replica.cursor → DesksOk n old → IsStateAt Holds state m.seen (saved_in m.replica) → TakesAll m old new → DesksOk m new → IsAnswered old new × AllAnswered m new
+answers_whole law low state n m failed old new e none keeps were at takes are = (
   λ s d there. let w = was s d there in (w.0, w.1, w.2.rest, more s d there),
   λ s d there free. whole s d there free,
 )
@@ -156,8 +157,8 @@ answers_whole may floor shelf low state n m failed old new e none keeps were at 
         some : 0 < x.asked → length x.answers.items ≤ length d.answers.items
         some up =
             let old_ok = were s x (was s d there).1 in
-            let ok = desk_moves may floor shelf low n m (failure_in failed) s x e.moves old_ok in
-            let had = answers_at may floor shelf m.seen m.replica.cursor s x.answers.items e.moves.goes.keeps.later.legal ok.acted at.log at.size at.front in
+            let ok = desk_moves law low n m (failure_in failed) s x e.moves old_ok in
+            let had = answers_at law m.seen m.replica.cursor s x.answers.items e.moves.goes.keeps.later.legal ok.acted at.log at.size at.front in
             let all = (t.all up at.log at.size at.front).all in
             let gap : gap_from (asked_in 0 at.log) s 1 ≡ length d.answers.items + 1 = subst (λ q. gap_from (asked_in 0 at.log) q 1 ≡ length d.answers.items + 1) old_ok.session all in
             omega (arith, had.below, gap)
@@ -187,9 +188,9 @@ answers_whole may floor shelf low state n m failed old new e none keeps were at 
         some up =
             let cause : cause_in s m.outbox.given ≡ None = subst (λ q. cause_in q m.outbox.given ≡ None) ok.session free.1 in
             let stopped : x.stopped ≡ None = sym (ap (λ (y : Desk). y.stopped) t.rest) ∙ free.0 in
-            let before = none-before may floor shelf low n m (failure_in failed) s e.moves.goes cause in
+            let before = none-before law low n m (failure_in failed) s e.moves.goes cause in
             let given = old_ok.given stopped before in
-            let acted = kept_acted may floor shelf n m failed e keeps none s x.sent cause given.1 at.log at.size at.front in
+            let acted = kept_acted law n m failed e keeps none s x.sent cause given.1 at.log at.size at.front in
             let all = (t.all up at.log at.size at.front).all in
             let gap : gap_from (asked_in 0 at.log) s 1 ≡ length d.answers.items + 1 = subst (λ q. gap_from (asked_in 0 at.log) q 1 ≡ length d.answers.items + 1) old_ok.session all in
             omega (arith, acted, gap, given.0, asked)

@@ -2,6 +2,7 @@
 use Rattle.std.specs.Prelude.{◌≡◌, ℕ, ◌+◌, ◌<◌, ◌≤◌, All, List, [], ◌∷◌, ◌++◌, length, Some, None, slice_get}
 use Rattle.delos_types.specs.declared.entry.Entry.{Entry}
 use Rattle.delos_types.specs.declared.item.Item.{Item}
+use Rattle.legal_journal.specs.Law.{Law}
 use Rattle.legal_journal.specs.declared.events.Event.{Event}
 use Rattle.legal_journal.specs.Journal.{IsLegal}
 use Rattle.virtual_log.specs.Holding.{Holds, IsTrimmed}
@@ -51,5 +52,5 @@ MayJoin may who origin =
     → may who (packed origin items) → may who (packed origin (item ∷ [])) → may who (packed origin (items ++ item ∷ []))
 
 -- nothing is trimmed at a position or above
-abbrev pub KeepsFrom : (ℕ → Entry → Type 0) → (List Entry → ℕ → Type 0) → List ℕ → ℕ → Type 0
-KeepsFrom may floor shelf cursor = (seen : List Event) (pos : ℕ) → IsLegal may floor shelf seen → IsTrimmed seen pos → pos + 1 ≤ cursor
+abbrev pub KeepsFrom : Law → ℕ → Type 0
+KeepsFrom law cursor = (seen : List Event) (pos : ℕ) → IsLegal law seen → IsTrimmed seen pos → pos + 1 ≤ cursor

@@ -1,7 +1,7 @@
 -- What comes of a line that replaces the last loglet of the log.
 use Rattle.std.specs.Prelude.{◌≡◌, ℕ, false, List, [], ◌∷◌, length}
-use Rattle.delos_types.specs.declared.entry.Entry.{Entry}
 use Rattle.delos_types.specs.declared.cause.Cause.{Cause}
+use Rattle.legal_journal.specs.Law.{Law}
 use Rattle.virtual_log.specs.Sealing.{SealsNone, SealsLast}
 use Rattle.base_engine.specs.Reading.{IsExtendedBy}
 use Rattle.base_engine.specs.Node.{NodeView}
@@ -21,31 +21,31 @@ ExtendsSo cells old new others looked.Left = ⊥
 ExtendsSo cells old new others (looked.Trimmed trim) = ⊥
 
 -- What waited was packed, and all that was outstanding was carried to its end.
-pub record CarriesAll (may : ℕ → Entry → Type 0) (floor : List Entry → ℕ → Type 0) (shelf : List ℕ) (old new : NodeView) : Type 0 where
-  pub moves : Moves may floor shelf old new []
+pub record CarriesAll (law : Law) (old new : NodeView) : Type 0 where
+  pub moves : Moves law old new []
   pub none : new.outbox.entries ≡ []
   pub kept : new.replica.kept ≡ []
 
 -- The last loglet was replaced, and nothing else was done: whatever came of it, no Seal was begun, or one of the loglet that was
 -- the last one.
-pub record Replaces (may : ℕ → Entry → Type 0) (floor : List Entry → ℕ → Type 0) (shelf : List ℕ) (old new : NodeView) (answer : Looked) : Type 0 where
+pub record Replaces (law : Law) (old new : NodeView) (answer : Looked) : Type 0 where
   pub others : List Cause
-  pub moves : Moves may floor shelf old new others
+  pub moves : Moves law old new others
   pub replica : new.replica ≡ old.replica
   pub outbox : new.outbox ≡ old.outbox
-  pub extends : ExtendsSo (length shelf) old new others answer
+  pub extends : ExtendsSo (length law.shelf) old new others answer
   pub seals : SealsLast old.who old.seen new.seen
 
 -- One after the other. The node began no Seal before the last loglet was replaced.
-pub record Extends (may : ℕ → Entry → Type 0) (floor : List Entry → ℕ → Type 0) (shelf : List ℕ) (old new : NodeView) (answer : Looked) : Type 0 where
+pub record Extends (law : Law) (old new : NodeView) (answer : Looked) : Type 0 where
   pub others : List Cause
-  pub moves : Moves may floor shelf old new others
+  pub moves : Moves law old new others
   pub settled : NodeView
-  pub settles : Moves may floor shelf old settled []
+  pub settles : Moves law old settled []
   pub none : settled.outbox.entries ≡ []
   pub kept : settled.replica.kept ≡ []
   pub unsealed : SealsNone old.who old.seen settled.seen
   pub replica : new.replica ≡ settled.replica
   pub outbox : new.outbox ≡ settled.outbox
-  pub extends : ExtendsSo (length shelf) settled new others answer
+  pub extends : ExtendsSo (length law.shelf) settled new others answer
   pub seals : SealsLast settled.who settled.seen new.seen

@@ -1,7 +1,7 @@
 -- What comes of a line by which a node leaves.
-use Rattle.std.specs.Prelude.{◌≡◌, ◌⊎◌, ℕ, ◌<◌, List, [], ◌∷◌, ◌++◌, Option, None}
-use Rattle.delos_types.specs.declared.entry.Entry.{Entry}
+use Rattle.std.specs.Prelude.{◌≡◌, ◌⊎◌, ◌<◌, List, [], ◌∷◌, ◌++◌, Option, None}
 use Rattle.delos_types.specs.declared.cause.Cause.{Cause}
+use Rattle.legal_journal.specs.Law.{Law}
 use Rattle.legal_journal.specs.declared.events.Event.{Event}
 use Rattle.virtual_log.specs.Holding.{Holds, IsTrimmed}
 use Rattle.engine_api.specs.declared.content.Content.TheVariants as content
@@ -16,8 +16,8 @@ use Rattle.node_lines.specs.Moving.{Moves}
 use Rattle.node_lines.specs.Lines.{failure_in}
 
 -- The log was played as far as it is known; or the log or the disk failed. Nothing else was done.
-pub record PlaysKnown (may : ℕ → Entry → Type 0) (floor : List Entry → ℕ → Type 0) (shelf : List ℕ) (old new : NodeView) (failed : Option Cause) : Type 0 where
-  pub moves : Moves may floor shelf old new (failure_in failed)
+pub record PlaysKnown (law : Law) (old new : NodeView) (failed : Option Cause) : Type 0 where
+  pub moves : Moves law old new (failure_in failed)
   pub outbox : new.outbox ≡ old.outbox
   pub kept : new.replica.kept ≡ old.replica.kept
   pub reaches : failed ≡ None → Reaches old.known old.replica new.replica new.seen
@@ -42,9 +42,9 @@ LeavesSo old new others (looked.Reported position) = ⊥
 LeavesSo old new others (looked.Trimmed trim) = ⊥
 
 -- All was carried to its end, and the node left, or failed to.
-pub record Leaves (may : ℕ → Entry → Type 0) (floor : List Entry → ℕ → Type 0) (shelf : List ℕ) (old new : NodeView) (answer : Looked) : Type 0 where
+pub record Leaves (law : Law) (old new : NodeView) (answer : Looked) : Type 0 where
   pub others : List Cause
-  pub moves : Moves may floor shelf old new others
+  pub moves : Moves law old new others
   pub none : new.outbox.entries ≡ []
   pub kept : new.replica.kept ≡ []
   pub leaves : LeavesSo old new others answer

@@ -7,6 +7,7 @@ use Rattle.delos_types.specs.declared.cause.Cause.{Cause}
 use Rattle.table_core.specs.declared.command.Query.{Query}
 use Rattle.table_core.specs.declared.command.Found.{Found}
 use Rattle.table_core.specs.Find.{find_in}
+use Rattle.legal_journal.specs.Law.{Law}
 use Rattle.legal_journal.specs.declared.events.Event.{Event}
 use Rattle.legal_journal.specs.Journal.{state_of, tail_of}
 use Rattle.virtual_log.specs.Holding.{Holds, IsTrimmed}
@@ -36,17 +37,17 @@ stopped_by (synced.At tail) stopped = stopped
 stopped_by (synced.Failed c) stopped = Some c
 
 -- All was carried to its end and played. Where the session is free still, its next command is near.
-pub record CatchesUp (may : ℕ → Entry → Type 0) (floor : List Entry → ℕ → Type 0) (shelf : List ℕ) (old new : NodeView) (was is : Desk) : Type 0 where
+pub record CatchesUp (law : Law) (old new : NodeView) (was is : Desk) : Type 0 where
   pub synced : Synced
-  pub moves : Moves may floor shelf old new (failure_of synced)
+  pub moves : Moves law old new (failure_of synced)
   pub desk : is ≡ record was { answers = is.answers; stopped = stopped_by synced was.stopped }
   pub near : IsFree new is → is.sent + 1 ≤ length is.answers.items + 64
 
 -- A session that is ready has no cause, and its next command is near. One that isn't has a cause, or was stopped by that of
 -- a sync.
-pub record Readies (may : ℕ → Entry → Type 0) (floor : List Entry → ℕ → Type 0) (shelf : List ℕ) (old new : NodeView) (was is : Desk) (ready : Bool) : Type 0 where
+pub record Readies (law : Law) (old new : NodeView) (was is : Desk) (ready : Bool) : Type 0 where
   pub others : List Cause
-  pub moves : Moves may floor shelf old new others
+  pub moves : Moves law old new others
   pub desk : is ≡ record was { answers = is.answers; stopped = is.stopped }
   pub stops : ((others ≡ []) × (is.stopped ≡ was.stopped)) ⊎ ((c : Cause) × (others ≡ c ∷ []) × (was.stopped ≡ None) × (is.stopped ≡ Some c))
   pub free : ready ≡ true → IsFree new is × (is.sent + 1 ≤ length is.answers.items + 64)
@@ -71,9 +72,9 @@ LooksSo old new d query others (looked.Reported position) = ⊥
 LooksSo old new d query others looked.Left = ⊥
 LooksSo old new d query others (looked.Trimmed trim) = ⊥
 
-pub record Looks (may : ℕ → Entry → Type 0) (floor : List Entry → ℕ → Type 0) (shelf : List ℕ) (old new : NodeView) (d : Desk) (query : Query) (answer : Looked) : Type 0 where
+pub record Looks (law : Law) (old new : NodeView) (d : Desk) (query : Query) (answer : Looked) : Type 0 where
   pub others : List Cause
-  pub moves : Moves may floor shelf old new others
+  pub moves : Moves law old new others
   pub looks : LooksSo old new d query others answer
 
 -- in a log, the session's first commands up to this one have acted
@@ -87,8 +88,8 @@ failure_in (Some c) = c ∷ []
 -- All was carried to its end and played. Where a tail was found, what comes next for the node is trimmed, or what a session was given
 -- has acted, if it has no cause; and the log ends no higher than what the node has applied then, where no event of another came
 -- meanwhile and nothing was trimmed above where the node was.
-pub record EndsPhase (may : ℕ → Entry → Type 0) (floor : List Entry → ℕ → Type 0) (shelf : List ℕ) (old new : NodeView) (failed : Option Cause) : Type 0 where
-  pub moves : Moves may floor shelf old new (failure_in failed)
+pub record EndsPhase (law : Law) (old new : NodeView) (failed : Option Cause) : Type 0 where
+  pub moves : Moves law old new (failure_in failed)
   pub none : new.outbox.entries ≡ []
   pub unsettled : new.outbox.unsettled ≡ None
   pub kept : new.replica.kept ≡ []

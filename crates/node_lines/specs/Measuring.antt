@@ -2,6 +2,7 @@
 use Rattle.std.specs.Prelude.{◌≡◌, ℕ, ◌≤◌, true, List, [], ◌∷◌, length, None}
 use Rattle.delos_types.specs.declared.entry.Entry.{Entry}
 use Rattle.delos_types.specs.declared.cause.Cause.{Cause}
+use Rattle.legal_journal.specs.Law.{Law}
 use Rattle.legal_journal.specs.declared.events.Event.{Event}
 use Rattle.legal_journal.specs.Journal.{state_of, tail_of}
 use Rattle.virtual_log.specs.Holding.{Holds}
@@ -30,8 +31,8 @@ failure_measured (measured.At n) = []
 failure_measured (measured.Failed c) = c ∷ []
 
 -- All was carried to its end, and this was read off the node's state at a tail; or the log or the disk failed.
-pub record Measures (may : ℕ → Entry → Type 0) (floor : List Entry → ℕ → Type 0) (shelf : List ℕ) (measure : List Entry → ℕ) (old new : NodeView) (answer : Measured) : Type 0 where
-  pub moves : Moves may floor shelf old new (failure_measured answer)
+pub record Measures (law : Law) (measure : List Entry → ℕ) (old new : NodeView) (answer : Measured) : Type 0 where
+  pub moves : Moves law old new (failure_measured answer)
   pub none : new.outbox.entries ≡ []
   pub unsettled : new.outbox.unsettled ≡ None
   pub kept : new.replica.kept ≡ []

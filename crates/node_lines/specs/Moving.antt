@@ -4,6 +4,7 @@ use Rattle.delos_types.specs.declared.entry.Entry.{Entry}
 use Rattle.delos_types.specs.declared.item.Item.{Item}
 use Rattle.delos_types.specs.declared.cause.Cause.{Cause}
 use Rattle.delos_types.specs.declared.cause.Cause.TheVariants as cause
+use Rattle.legal_journal.specs.Law.{Law}
 use Rattle.legal_journal.specs.declared.events.Event.{Event}
 use Rattle.journal_laws.specs.Own.{faults_of}
 use Rattle.engine_api.specs.Packing.{IsProposable}
@@ -48,8 +49,8 @@ failure_of (synced.At tail) = []
 failure_of (synced.Failed c) = c ∷ []
 
 -- what a node's call keeps, whatever it does: each cause that it gives, or answers, came of its own
-pub record Goes (may : ℕ → Entry → Type 0) (floor : List Entry → ℕ → Type 0) (shelf : List ℕ) (old new : NodeView) (others : List Cause) : Type 0 where
-  pub keeps : Keeps may floor shelf old new
+pub record Goes (law : Law) (old new : NodeView) (others : List Cause) : Type 0 where
+  pub keeps : Keeps law old new
   pub given : List Given
   pub gained : new.outbox.given ≡ old.outbox.given ++ given
   pub spends : Spends old.who old.seen new.seen old.replica.faults new.replica.faults (causes_of given others)
@@ -80,14 +81,14 @@ abbrev pub StaysQuiet : NodeView → NodeView → ℕ → Type 0
 StaysQuiet old new s = IsQuiet old s → IsQuiet new s
 
 -- of no session a command goes down
-pub record Moves (may : ℕ → Entry → Type 0) (floor : List Entry → ℕ → Type 0) (shelf : List ℕ) (old new : NodeView) (others : List Cause) : Type 0 where
-  pub goes : Goes may floor shelf old new others
+pub record Moves (law : Law) (old new : NodeView) (others : List Cause) : Type 0 where
+  pub goes : Goes law old new others
   pub stays : (s : ℕ) → StaysGiven old new s
   pub quiet : (s : ℕ) → StaysQuiet old new s
 
 -- of session s the next command after so many goes down
-pub record HandsIn (may : ℕ → Entry → Type 0) (floor : List Entry → ℕ → Type 0) (shelf : List ℕ) (old new : NodeView) (s sent : ℕ) : Type 0 where
-  pub goes : Goes may floor shelf old new []
+pub record HandsIn (law : Law) (old new : NodeView) (s sent : ℕ) : Type 0 where
+  pub goes : Goes law old new []
   pub own : GainsNext old new s sent
   pub stays : (t : ℕ) → (s == t) ≡ false → StaysGiven old new t
   pub quiet : (t : ℕ) → (s == t) ≡ false → StaysQuiet old new t

@@ -3,6 +3,7 @@ use Rattle.std.specs.Prelude.{◌≡◌, ℕ, ◌<◌, ◌≤◌, List, [], ◌�
 use Rattle.delos_types.specs.declared.entry.Entry.{Entry}
 use Rattle.delos_types.specs.declared.item.Item.{Item}
 use Rattle.delos_types.specs.declared.cause.Cause.{Cause}
+use Rattle.legal_journal.specs.Law.{Law}
 use Rattle.legal_journal.specs.declared.events.Event.{Event}
 use Rattle.legal_journal.specs.Journal.{state_of, tail_of}
 use Rattle.virtual_log.specs.Holding.{Holds}
@@ -27,8 +28,8 @@ pub record IsPlain (item : Item) : Type 0 where
   pub none : session_of content ≡ None
 
 -- The item was packed alone, and its entry is all that is outstanding.
-pub record LaysDown (may : ℕ → Entry → Type 0) (floor : List Entry → ℕ → Type 0) (shelf : List ℕ) (old new : NodeView) (item : Item) : Type 0 where
-  pub moves : Moves may floor shelf old new []
+pub record LaysDown (law : Law) (old new : NodeView) (item : Item) : Type 0 where
+  pub moves : Moves law old new []
   pub entries : new.outbox.entries ≡ packed old.replica.origin (item ∷ []) ∷ []
   pub unsettled : new.outbox.unsettled ≡ old.outbox.unsettled
   pub kept : new.replica.kept ≡ []
@@ -40,8 +41,8 @@ pub record IsAppendedWithin (who : ℕ) (old : List Event) (e : Entry) (new : Li
   pub within : landed.position < known
 
 -- The item's entry was appended; or it failed, and its cause is given to no session. Nothing was played.
-pub record Tells (may : ℕ → Entry → Type 0) (floor : List Entry → ℕ → Type 0) (shelf : List ℕ) (old new : NodeView) (item : Item) (failed : Option Cause) : Type 0 where
-  pub moves : Moves may floor shelf old new (failure_in failed)
+pub record Tells (law : Law) (old new : NodeView) (item : Item) (failed : Option Cause) : Type 0 where
+  pub moves : Moves law old new (failure_in failed)
   pub none : new.outbox.entries ≡ []
   pub kept : new.replica.kept ≡ []
   pub replica : new.replica ≡ record old.replica { kept = [] }
@@ -71,9 +72,9 @@ ReportsSo old new others looked.Left = ⊥
 ReportsSo old new others (looked.Trimmed trim) = ⊥
 
 -- All was carried to its end, and the node reported, or failed to.
-pub record Reports (may : ℕ → Entry → Type 0) (floor : List Entry → ℕ → Type 0) (shelf : List ℕ) (old new : NodeView) (answer : Looked) : Type 0 where
+pub record Reports (law : Law) (old new : NodeView) (answer : Looked) : Type 0 where
   pub others : List Cause
-  pub moves : Moves may floor shelf old new others
+  pub moves : Moves law old new others
   pub none : new.outbox.entries ≡ []
   pub kept : new.replica.kept ≡ []
   pub tells : ReportsSo old new others answer

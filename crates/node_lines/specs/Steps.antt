@@ -4,6 +4,7 @@ use Rattle.delos_types.specs.Spaces.{SpaceMap}
 use Rattle.delos_types.specs.declared.entry.Entry.{Entry}
 use Rattle.delos_types.specs.declared.item.Item.{Item}
 use Rattle.delos_types.specs.declared.cause.Cause.{Cause}
+use Rattle.legal_journal.specs.Law.{Law}
 use Rattle.legal_journal.specs.declared.events.Event.{Event}
 use Rattle.base_engine.specs.Node.{NodeView}
 use Rattle.replica_api.specs.Replica.{Saved}
@@ -16,8 +17,8 @@ use Rattle.node_lines.specs.Leaving.{PlaysKnown}
 
 -- Whatever it came to, the seat can take the access again; each event since is the node's or of one of those beside; and it began a Seal only where
 -- it has the right.
-pub record IsLeft (may : ℕ → Entry → Type 0) (floor : List Entry → ℕ → Type 0) (shelf : List ℕ) (state : List Entry → SpaceMap → Type 0) (spells : List ℕ → Saved → Type 0) (beside : ℕ → ℕ → Type 0) (right : Type 0) (old : List Event) (a : SeatView) (new : List Event) (b : SeatView) : Type 0 where
-  pub stands : SeatOk may floor shelf state spells new b
+pub record IsLeft (law : Law) (state : List Entry → SpaceMap → Type 0) (spells : List ℕ → Saved → Type 0) (beside : ℕ → ℕ → Type 0) (right : Type 0) (old : List Event) (a : SeatView) (new : List Event) (b : SeatView) : Type 0 where
+  pub stands : SeatOk law state spells new b
   pub who : b.who ≡ a.who
   pub since : Since a.who (beside a.who) old new
   pub seals : SealsByRight right a.who old new
@@ -27,19 +28,19 @@ abbrev pub UpToIf : Type 0 → (List Entry → ℕ → Type 0) → ℕ → List 
 UpToIf so floor m log n = floor log n × (so → n ≤ m)
 
 -- the item's entry failed
-pub record Untold (may : ℕ → Entry → Type 0) (floor : List Entry → ℕ → Type 0) (shelf : List ℕ) (old new : NodeView) (item : Item) (failed : Option Cause) : Type 0 where
+pub record Untold (law : Law) (old new : NodeView) (item : Item) (failed : Option Cause) : Type 0 where
   pub cause : Cause
   pub is : failed ≡ Some cause
-  pub tells : Tells may floor shelf old new item (Some cause)
+  pub tells : Tells law old new item (Some cause)
 
 -- the item's entry was appended, and then the log was played as far as it is known, or as it isn't trimmed; or it or the disk failed
-pub record ToldAndPlayed (may : ℕ → Entry → Type 0) (floor : List Entry → ℕ → Type 0) (shelf : List ℕ) (old new : NodeView) (item : Item) (failed : Option Cause) : Type 0 where
+pub record ToldAndPlayed (law : Law) (old new : NodeView) (item : Item) (failed : Option Cause) : Type 0 where
   pub told : NodeView
-  pub tells : Tells may floor shelf old told item None
-  pub plays : PlaysKnown may floor shelf told new failed
+  pub tells : Tells law old told item None
+  pub plays : PlaysKnown law told new failed
 
-abbrev pub TellsAndPlays : (ℕ → Entry → Type 0) → (List Entry → ℕ → Type 0) → List ℕ → NodeView → NodeView → Item → Option Cause → Type 0
-TellsAndPlays may floor shelf old new item failed = Untold may floor shelf old new item failed ⊎ ToldAndPlayed may floor shelf old new item failed
+abbrev pub TellsAndPlays : Law → NodeView → NodeView → Item → Option Cause → Type 0
+TellsAndPlays law old new item failed = Untold law old new item failed ⊎ ToldAndPlayed law old new item failed
 
 -- what a line came to, where nothing failed in its last step
 abbrev pub came_to : Option Cause → Looked → Looked

@@ -2,6 +2,7 @@
 use Rattle.std.specs.Prelude.{◌≡◌, ℕ, ◌≤◌, List, [], ◌∷◌, ◌++◌, length}
 use Rattle.delos_types.specs.declared.entry.Entry.{Entry}
 use Rattle.delos_types.specs.declared.cause.Cause.{Cause}
+use Rattle.legal_journal.specs.Law.{Law}
 use Rattle.legal_journal.specs.declared.events.Event.{Event}
 use Rattle.legal_journal.specs.Journal.{state_of, tail_of, trim_of}
 use Rattle.virtual_log.specs.Holding.{Holds}
@@ -29,9 +30,9 @@ CutsSo old new others (looked.Reported position) = ⊥
 CutsSo old new others looked.Left = ⊥
 
 -- The log was trimmed, and nothing else was done.
-pub record Cuts (may : ℕ → Entry → Type 0) (floor : List Entry → ℕ → Type 0) (shelf : List ℕ) (old new : NodeView) (answer : Looked) : Type 0 where
+pub record Cuts (law : Law) (old new : NodeView) (answer : Looked) : Type 0 where
   pub others : List Cause
-  pub moves : Moves may floor shelf old new others
+  pub moves : Moves law old new others
   pub replica : new.replica ≡ old.replica
   pub outbox : new.outbox ≡ old.outbox
   pub cuts : CutsSo old new others answer
@@ -62,9 +63,9 @@ TrimsSo old new others (looked.Reported position) = ⊥
 TrimsSo old new others looked.Left = ⊥
 
 -- All was carried to its end, and the node trimmed the log, or failed to.
-pub record TrimsLog (may : ℕ → Entry → Type 0) (floor : List Entry → ℕ → Type 0) (shelf : List ℕ) (old new : NodeView) (answer : Looked) : Type 0 where
+pub record TrimsLog (law : Law) (old new : NodeView) (answer : Looked) : Type 0 where
   pub others : List Cause
-  pub moves : Moves may floor shelf old new others
+  pub moves : Moves law old new others
   pub none : new.outbox.entries ≡ []
   pub kept : new.replica.kept ≡ []
   pub trims : TrimsSo old new others answer

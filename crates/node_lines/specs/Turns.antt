@@ -1,7 +1,7 @@
 -- What comes of the end of a phase, and of the taking of all answers.
 use Rattle.std.specs.Prelude.{◌≡◌, ℕ, ◌<◌, ◌≤◌, List, [], length, Option, None, Some, slice_get}
-use Rattle.delos_types.specs.declared.entry.Entry.{Entry}
 use Rattle.delos_types.specs.declared.cause.Cause.{Cause}
+use Rattle.legal_journal.specs.Law.{Law}
 use Rattle.base_engine.specs.Node.{NodeView}
 use Rattle.node_lines.specs.declared.desk.Desk.{Desk}
 use Rattle.node_lines.specs.Answered.{AreAllAnswers, InFront}
@@ -24,9 +24,9 @@ pub record ClosesAll (n : NodeView) (failed : Option Cause) (old new : List Desk
   pub each : (s : ℕ) (d : Desk) → slice_get old s ≡ Some d → ClosesOne n failed d new s
 
 -- All was carried to its end and played, each session was closed, and the causes were forgotten.
-pub record EndsTurn (may : ℕ → Entry → Type 0) (floor : List Entry → ℕ → Type 0) (shelf : List ℕ) (old new : NodeView) (was is : List Desk) (failed : Option Cause) : Type 0 where
+pub record EndsTurn (law : Law) (old new : NodeView) (was is : List Desk) (failed : Option Cause) : Type 0 where
   pub mid : NodeView
-  pub ends : EndsPhase may floor shelf old mid failed
+  pub ends : EndsPhase law old mid failed
   pub forgets : new ≡ record mid { outbox = record mid.outbox { given = [] } }
   pub closes : ClosesAll mid failed was is
   pub desks : DesksOk new is
@@ -56,8 +56,8 @@ IsAnswered old new = (s : ℕ) (d : Desk) → slice_get new s ≡ Some d → (x 
 
 -- All was carried to its end and played. Where a tail was found, the answers of all sessions were taken then, and each that has no
 -- cause has all of them.
-pub record AnswersAll (may : ℕ → Entry → Type 0) (floor : List Entry → ℕ → Type 0) (shelf : List ℕ) (old new : NodeView) (was is : List Desk) (failed : Option Cause) : Type 0 where
-  pub moves : Moves may floor shelf old new (failure_in failed)
+pub record AnswersAll (law : Law) (old new : NodeView) (was is : List Desk) (failed : Option Cause) : Type 0 where
+  pub moves : Moves law old new (failure_in failed)
   pub none : new.outbox.entries ≡ []
   pub unsettled : new.outbox.unsettled ≡ None
   pub kept : new.replica.kept ≡ []

@@ -5,6 +5,7 @@ use Rattle.delos_types.specs.Spaces.{SpaceMap}
 use Rattle.delos_types.specs.declared.entry.Entry.{Entry}
 use Rattle.delos_types.specs.declared.cause.Cause.{Cause}
 use Rattle.delos_types.specs.declared.item.Item.{Item}
+use Rattle.legal_journal.specs.Law.{Law}
 use Rattle.legal_journal.specs.declared.events.Event.{Event}
 use Rattle.replica_api.specs.Replica.{Saved}
 use Rattle.turn_scopes.specs.Floors.{FloorIs}
@@ -86,23 +87,23 @@ Grows old new = (more : List Event) × (new ≡ old ++ more)
 -- A node and its sessions, by whom its events are. It appended no rank of a session above those that its desk of the session sent, and
 -- of a session without a desk none. What waits at it is of sessions, and nobody else may append the commands of those that asked
 -- something here.
-pub record WorkerOk (may : ℕ → Entry → Type 0) (floor : List Entry → ℕ → Type 0) (shelf : List ℕ) (state : List Entry → SpaceMap → Type 0) (spells : List ℕ → Saved → Type 0) (who : ℕ) (journal : List Event) (seat : SeatView) (desks : List Desk) : Type 0 where
+pub record WorkerOk (law : Law) (state : List Entry → SpaceMap → Type 0) (spells : List ℕ → Saved → Type 0) (who : ℕ) (journal : List Event) (seat : SeatView) (desks : List Desk) : Type 0 where
   pub who_is : seat.who ≡ who
   pub origin : seat.node.replica.origin ≡ who
-  pub ok : SeatOk (Sends who may (sent_by desks) journal) floor shelf state spells journal seat
+  pub ok : SeatOk (record law { may = Sends who law.may (sent_by desks) journal }) state spells journal seat
   pub packs : CanPack seat.node.replica.kept
   pub waits : All IsOfSession seat.node.replica.kept
   pub size : length desks ≡ 64
   pub each : DesksOk (node_of seat journal) desks
-  pub home : (s : ℕ) (d : Desk) → slice_get desks s ≡ Some d → 0 < d.asked → IsHome may s who
+  pub home : (s : ℕ) (d : Desk) → slice_get desks s ≡ Some d → 0 < d.asked → IsHome law.may s who
 
 -- What the rules of a run allow: items may be packed together, the log is trimmed no further than it goes, and nobody reports or
 -- leaves for another node.
-pub record MayRun (may : ℕ → Entry → Type 0) (floor : List Entry → ℕ → Type 0) (shelf : List ℕ) : Type 0 where
-  pub low : (log : List Entry) (n : ℕ) → floor log n → n ≤ length log
-  pub join : (who : ℕ) → MayJoin may who who
-  pub reports : (user node n : ℕ) (e : Entry) (p : Placed) → may user e → Contains (unpack 0 e) p → p.content ≡ Alive node n → user ≡ node
-  pub leaves : (user node : ℕ) (e : Entry) (p : Placed) → may user e → Contains (unpack 0 e) p → p.content ≡ Leave node → user ≡ node
+pub record MayRun (law : Law) : Type 0 where
+  pub low : (log : List Entry) (n : ℕ) → law.floor log n → n ≤ length log
+  pub join : (who : ℕ) → MayJoin law.may who who
+  pub reports : (user node n : ℕ) (e : Entry) (p : Placed) → law.may user e → Contains (unpack 0 e) p → p.content ≡ Alive node n → user ≡ node
+  pub leaves : (user node : ℕ) (e : Entry) (p : Placed) → law.may user e → Contains (unpack 0 e) p → p.content ≡ Leave node → user ≡ node
 
 -- an entry that was appended says it
 pub record IsSaid (journal : List Event) (c : Content) : Type 0 where
@@ -179,9 +180,9 @@ pub record StaysKept (beside : ℕ → ℕ → Type 0) (floor : List Entry → �
 -- nothing was on its way is given no cause; each fault that the node came across came of its own. Where the session is stopped
 -- then, it was before, or is by one of the other causes; and then the command wasn't sent. `counts` are the commands that the node
 -- sent by then.
-pub record LogsIt (may : ℕ → Entry → Type 0) (floor : List Entry → ℕ → Type 0) (shelf : List ℕ) (counts : List ℕ) (old new : NodeView) (s : ℕ) (was is : Desk) : Type 0 where
+pub record LogsIt (law : Law) (counts : List ℕ) (old new : NodeView) (s : ℕ) (was is : Desk) : Type 0 where
   pub others : List Cause
-  pub goes : Goes (OwnWithin old.who may counts) floor shelf old new others
+  pub goes : Goes (record law { may = OwnWithin old.who law.may counts }) old new others
   pub stays : (t : ℕ) → (s == t) ≡ false → StaysGiven old new t
   pub quiet : (t : ℕ) → (s == t) ≡ false → StaysQuiet old new t
   pub asked : is.asked ≡ was.asked + 1
@@ -194,9 +195,9 @@ pub record LogsIt (may : ℕ → Entry → Type 0) (floor : List Entry → ℕ �
   pub most : is.sent ≤ was.sent + 1
 
 -- so it is of a worker, at whose other desks nothing is sent
-pub record Logs (may : ℕ → Entry → Type 0) (floor : List Entry → ℕ → Type 0) (shelf : List ℕ) (old new : NodeView) (s : ℕ) (was is : List Desk) : Type 0 where
+pub record Logs (law : Law) (old new : NodeView) (s : ℕ) (was is : List Desk) : Type 0 where
   pub before : Desk
   pub was_at : slice_get was s ≡ Some before
   pub after : Desk
   pub is_at : is ≡ slice_set was s after
-  pub logs : LogsIt may floor shelf (sent_by is) old new s before after
+  pub logs : LogsIt law (sent_by is) old new s before after

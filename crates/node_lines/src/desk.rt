@@ -1,9 +1,7 @@
 //! What is kept of a session as its node plays its lines.
-ghost use Rattle.std.specs.Prelude.{◌≡◌, ◌≤◌, ◌+◌, ℕ, List, length, OnOk};
-ghost use Rattle.delos_types.specs.Spaces.{SpaceMap};
+ghost use Rattle.std.specs.Prelude.{◌≡◌, ◌≤◌, ◌+◌, ℕ, length, OnOk};
 ghost use Rattle.delos_types.specs.declared.entry.Entry.{Entry};
 ghost use Rattle.legal_journal.specs.Journal.{IsLegal};
-ghost use Rattle.log_laws.specs.State.{IsStateOf};
 ghost use Rattle.node_lines.specs.Answered.{AreAnswers, AreAllAnswers, InFront};
 ghost use Rattle.node_lines.specs.UnderWay.{HasRank};
 
@@ -42,10 +40,9 @@ pub fn collect<T: Turns, C: Chooser, R: Replica>(
     node: &Node<VirtualLog<T, C>, R>,
     desk: &mut Desk,
 ) -> Result<(), AllocError>
-    requires state { (log : List Entry) (m : SpaceMap) → R.state log m → IsStateOf log m }
-    requires legal { IsLegal T.Law.may T.Law.floor T.Law.shelf node.now.seen }
+    requires legal { IsLegal T.Law.law node.now.seen }
     requires session { desk.old.session ≤ 63 }
-    requires sent { (who : ℕ) (e : Entry) (r : ℕ) → T.Law.may who e → HasRank desk.old.session r e → r ≤ desk.old.sent }
+    requires sent { (who : ℕ) (e : Entry) (r : ℕ) → T.Law.law.may who e → HasRank desk.old.session r e → r ≤ desk.old.sent }
     requires near { desk.old.sent ≤ length desk.old.answers.items + 64 }
     requires acted { InFront node.now.seen node.now.replica.cursor (λ log. AreAnswers log desk.old.session desk.old.answers.items) }
     ensures rest { desk.new ≡ record desk.old { answers = desk.new.answers } }

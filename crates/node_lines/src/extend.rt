@@ -22,9 +22,9 @@ use virtual_log::log::VirtualLog;
 pub fn settle_log<T: Turns, C: Chooser, R: Replica>(
     node: &mut Node<VirtualLog<T, C>, R>,
 ) -> Result<(), AllocError>
-    requires floor { (log : List Entry) (n : ℕ) → T.Law.floor log n → n ≤ length log }
+    requires floor { (log : List Entry) (n : ℕ) → T.Law.law.floor log n → n ≤ length log }
     requires kept { CanPack node.old.replica.kept }
-    ensures carries { OnOk result (CarriesAll T.Law.may T.Law.floor T.Law.shelf node.old node.new) }
+    ensures carries { OnOk result (CarriesAll T.Law.law node.old node.new) }
 {
     pack(node)?;
     match settle(node) {
@@ -40,9 +40,9 @@ pub fn settle_log<T: Turns, C: Chooser, R: Replica>(
 pub fn extend_log<T: Turns, C: Chooser, R: Replica>(
     node: &mut Node<VirtualLog<T, C>, R>,
 ) -> Result<Looked, AllocError>
-    requires floor { (log : List Entry) (n : ℕ) → T.Law.floor log n → n ≤ length log }
+    requires floor { (log : List Entry) (n : ℕ) → T.Law.law.floor log n → n ≤ length log }
     requires right { T.Law.seals node.old.who }
-    ensures replaces { IfOk result (Replaces T.Law.may T.Law.floor T.Law.shelf node.old node.new) }
+    ensures replaces { IfOk result (Replaces T.Law.law node.old node.new) }
 {
     match node.extend() {
         Ok(extension) => return Ok(Looked::Extended(extension)),

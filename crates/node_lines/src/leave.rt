@@ -19,8 +19,8 @@ use virtual_log::log::VirtualLog;
 pub fn play_known<T: Turns, C: Chooser, R: Replica>(
     node: &mut Node<VirtualLog<T, C>, R>,
 ) -> Result<Option<Cause>, AllocError>
-    requires floor { (log : List Entry) (n : ℕ) → T.Law.floor log n → n ≤ length log }
-    ensures plays { IfOk result (PlaysKnown T.Law.may T.Law.floor T.Law.shelf node.old node.new) }
+    requires floor { (log : List Entry) (n : ℕ) → T.Law.law.floor log n → n ≤ length log }
+    ensures plays { IfOk result (PlaysKnown T.Law.law node.old node.new) }
 {
     let end = node.known();
     match node.play(end) {

@@ -2,12 +2,10 @@
 ghost use Rattle.std.specs.Prelude.{◌≡◌, ◌<◌, ◌≤◌, ◌+◌, ◌^◌, ◌⊎◌, ℕ, List, [], ◌∷◌, ◌++◌, length, None, Some, IfOk, OnOk};
 ghost use Rattle.std.specs.Option.{option_or};
 ghost use Rattle.delos_types.specs.declared.cause.Cause.{Cause};
-ghost use Rattle.delos_types.specs.Spaces.{SpaceMap};
 ghost use Rattle.delos_types.specs.declared.entry.Entry.{Entry};
 ghost use Rattle.legal_journal.specs.Journal.{IsLegal};
 ghost use Rattle.table_core.specs.Spelling.{IsSpellable, command_length};
 ghost use Rattle.engine_api.specs.Packing.{packed, session_item};
-ghost use Rattle.log_laws.specs.State.{IsStateOf};
 ghost use Rattle.virtual_log.specs.Holding.{Holds};
 ghost use Rattle.base_engine.specs.Following.{Follows};
 ghost use Rattle.base_engine.specs.Settling.{cause_in};
@@ -73,15 +71,14 @@ pub fn catch_up<T: Turns, C: Chooser, R: Replica>(
     node: &mut Node<VirtualLog<T, C>, R>,
     desk: &mut Desk,
 ) -> Result<(), AllocError>
-    requires floor { (log : List Entry) (n : ℕ) → T.Law.floor log n → n ≤ length log }
-    requires state { (log : List Entry) (m : SpaceMap) → R.state log m → IsStateOf log m }
-    requires legal { IsLegal T.Law.may T.Law.floor T.Law.shelf node.old.seen }
+    requires floor { (log : List Entry) (n : ℕ) → T.Law.law.floor log n → n ≤ length log }
+    requires legal { IsLegal T.Law.law node.old.seen }
     requires kept { CanPack node.old.replica.kept }
     requires desk { DeskOk node.old desk.old.session desk.old }
     requires free { desk.old.stopped ≡ None }
-    requires bound { IsBound T.Law.may desk.old.session desk.old.sent }
-    requires keeps { KeepsFrom T.Law.may T.Law.floor T.Law.shelf node.old.replica.cursor }
-    ensures caught { OnOk result (CatchesUp T.Law.may T.Law.floor T.Law.shelf node.old node.new desk.old desk.new) }
+    requires bound { IsBound T.Law.law.may desk.old.session desk.old.sent }
+    requires keeps { KeepsFrom T.Law.law node.old.replica.cursor }
+    ensures caught { OnOk result (CatchesUp T.Law.law node.old node.new desk.old desk.new) }
     ensures desk { OnOk result (DeskOk node.new desk.old.session desk.new) }
     ensures kept { OnOk result (node.new.replica.kept ≡ node.old.replica.kept) }
 {
@@ -113,9 +110,8 @@ pub fn log_command<T: Turns, C: Chooser, R: Replica>(
     desk: &mut Desk,
     command: &Command,
 ) -> Result<(), AllocError>
-    requires floor { (log : List Entry) (n : ℕ) → T.Law.floor log n → n ≤ length log }
-    requires state { (log : List Entry) (m : SpaceMap) → R.state log m → IsStateOf log m }
-    requires legal { IsLegal T.Law.may T.Law.floor T.Law.shelf node.old.seen }
+    requires floor { (log : List Entry) (n : ℕ) → T.Law.law.floor log n → n ≤ length log }
+    requires legal { IsLegal T.Law.law node.old.seen }
     requires follows { Follows Holds R.state R.spells node.old.seen node.old.replica }
     requires kept { CanPack node.old.replica.kept }
     requires desk { DeskOk node.old desk.old.session desk.old }
@@ -123,11 +119,11 @@ pub fn log_command<T: Turns, C: Chooser, R: Replica>(
     requires given { cause_in desk.old.session node.old.outbox.given ≡ None }
     requires near { desk.old.sent + 1 ≤ length desk.old.answers.items + 64 }
     requires few { desk.old.asked < 2 ^ 32 }
-    requires bound { IsBound T.Law.may desk.old.session (desk.old.sent + 1) }
+    requires bound { IsBound T.Law.law.may desk.old.session (desk.old.sent + 1) }
     requires spelled { IsSpellable command.now }
     requires short { command_length command.now ≤ 984 }
-    requires own { T.Law.may node.old.who (packed node.old.replica.origin (node.old.replica.kept ++ session_item desk.old.session (desk.old.sent + 1) command.now ∷ [])) }
-    ensures hands { OnOk result (HandsIn T.Law.may T.Law.floor T.Law.shelf node.old node.new desk.old.session desk.old.sent) }
+    requires own { T.Law.law.may node.old.who (packed node.old.replica.origin (node.old.replica.kept ++ session_item desk.old.session (desk.old.sent + 1) command.now ∷ [])) }
+    ensures hands { OnOk result (HandsIn T.Law.law node.old node.new desk.old.session desk.old.sent) }
     ensures desk { OnOk result (DeskOk node.new desk.old.session desk.new) }
     ensures counts { OnOk result (desk.new ≡ record desk.old { asked = desk.old.asked + 1; sent = desk.old.sent + 1; answers = desk.new.answers }) }
     ensures kept { OnOk result ((node.new.replica.kept ≡ node.old.replica.kept ++ session_item desk.old.session (desk.old.sent + 1) command.now ∷ []) ⊎ (node.new.replica.kept ≡ [])) }
@@ -154,14 +150,13 @@ pub fn look<T: Turns, C: Chooser, R: Replica>(
     desk: &Desk,
     query: &Query,
 ) -> Result<Looked, AllocError>
-    requires floor { (log : List Entry) (n : ℕ) → T.Law.floor log n → n ≤ length log }
-    requires state { (log : List Entry) (m : SpaceMap) → R.state log m → IsStateOf log m }
-    requires legal { IsLegal T.Law.may T.Law.floor T.Law.shelf node.old.seen }
+    requires floor { (log : List Entry) (n : ℕ) → T.Law.law.floor log n → n ≤ length log }
+    requires legal { IsLegal T.Law.law node.old.seen }
     requires kept { CanPack node.old.replica.kept }
     requires desk { DeskOk node.old desk.now.session desk.now }
-    requires bound { IsBound T.Law.may desk.now.session desk.now.sent }
-    requires keeps { KeepsFrom T.Law.may T.Law.floor T.Law.shelf node.old.replica.cursor }
-    ensures looks { IfOk result (Looks T.Law.may T.Law.floor T.Law.shelf node.old node.new desk.now query.now) }
+    requires bound { IsBound T.Law.law.may desk.now.session desk.now.sent }
+    requires keeps { KeepsFrom T.Law.law node.old.replica.cursor }
+    ensures looks { IfOk result (Looks T.Law.law node.old node.new desk.now query.now) }
     ensures kept { IfOk result (λ l. node.new.replica.kept ≡ []) }
 {
     pack(node)?;
@@ -184,10 +179,10 @@ pub fn look<T: Turns, C: Chooser, R: Replica>(
 pub fn end_phase<T: Turns, C: Chooser, R: Replica>(
     node: &mut Node<VirtualLog<T, C>, R>,
 ) -> Result<Option<Cause>, AllocError>
-    requires floor { (log : List Entry) (n : ℕ) → T.Law.floor log n → n ≤ length log }
-    requires legal { IsLegal T.Law.may T.Law.floor T.Law.shelf node.old.seen }
+    requires floor { (log : List Entry) (n : ℕ) → T.Law.law.floor log n → n ≤ length log }
+    requires legal { IsLegal T.Law.law node.old.seen }
     requires kept { CanPack node.old.replica.kept }
-    ensures ends { IfOk result (EndsPhase T.Law.may T.Law.floor T.Law.shelf node.old node.new) }
+    ensures ends { IfOk result (EndsPhase T.Law.law node.old node.new) }
     ensures follows { OnOk result (Follows Holds R.state R.spells node.new.seen node.new.replica) }
 {
     pack(node)?;
@@ -205,12 +200,11 @@ pub fn close<T: Turns, C: Chooser, R: Replica>(
     desk: &mut Desk,
     failed: Option<Cause>,
 ) -> Result<(), AllocError>
-    requires floor { (log : List Entry) (n : ℕ) → T.Law.floor log n → n ≤ length log }
-    requires state { (log : List Entry) (m : SpaceMap) → R.state log m → IsStateOf log m }
-    requires legal { IsLegal T.Law.may T.Law.floor T.Law.shelf node.now.seen }
+    requires floor { (log : List Entry) (n : ℕ) → T.Law.law.floor log n → n ≤ length log }
+    requires legal { IsLegal T.Law.law node.now.seen }
     requires follows { Follows Holds R.state R.spells node.now.seen node.now.replica }
     requires desk { DeskOk node.now desk.old.session desk.old }
-    requires bound { IsBound T.Law.may desk.old.session desk.old.sent }
+    requires bound { IsBound T.Law.law.may desk.old.session desk.old.sent }
     requires found { failed ≡ None → IsFree node.now desk.old → InFront node.now.seen node.now.replica.cursor (HasActedTo desk.old.session desk.old.sent) }
     ensures desk { OnOk result (DeskOk node.now desk.old.session desk.new) }
     ensures closes { OnOk result (Closes node.now failed desk.old desk.new) }
@@ -238,15 +232,14 @@ pub fn make_ready<T: Turns, C: Chooser, R: Replica>(
     node: &mut Node<VirtualLog<T, C>, R>,
     desk: &mut Desk,
 ) -> Result<bool, AllocError>
-    requires floor { (log : List Entry) (n : ℕ) → T.Law.floor log n → n ≤ length log }
-    requires state { (log : List Entry) (m : SpaceMap) → R.state log m → IsStateOf log m }
-    requires legal { IsLegal T.Law.may T.Law.floor T.Law.shelf node.old.seen }
+    requires floor { (log : List Entry) (n : ℕ) → T.Law.law.floor log n → n ≤ length log }
+    requires legal { IsLegal T.Law.law node.old.seen }
     requires kept { CanPack node.old.replica.kept }
     requires desk { DeskOk node.old desk.old.session desk.old }
-    requires bound { IsBound T.Law.may desk.old.session desk.old.sent }
+    requires bound { IsBound T.Law.law.may desk.old.session desk.old.sent }
     requires few { desk.old.asked < 2 ^ 32 }
-    requires keeps { KeepsFrom T.Law.may T.Law.floor T.Law.shelf node.old.replica.cursor }
-    ensures readies { IfOk result (Readies T.Law.may T.Law.floor T.Law.shelf node.old node.new desk.old desk.new) }
+    requires keeps { KeepsFrom T.Law.law node.old.replica.cursor }
+    ensures readies { IfOk result (Readies T.Law.law node.old node.new desk.old desk.new) }
     ensures desk { OnOk result (DeskOk node.new desk.old.session desk.new) }
     ensures kept { OnOk result (node.new.replica.kept ≡ node.old.replica.kept) }
 {

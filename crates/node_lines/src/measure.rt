@@ -1,11 +1,9 @@
 //! What a node reads off its state at a tail of the log: before it reports, leaves or asks for a trim.
 ghost use Rattle.std.specs.Prelude.{◌≡◌, ◌≤◌, ℕ, List, length, IfOk};
-ghost use Rattle.delos_types.specs.Spaces.{SpaceMap};
 ghost use Rattle.delos_types.specs.declared.entry.Entry.{Entry};
 ghost use Rattle.legal_journal.specs.Journal.{IsLegal};
 ghost use Rattle.engine_api.specs.Acted.{unpack_all};
 ghost use Rattle.engine_api.specs.Members.{clean_position, least_position};
-ghost use Rattle.log_laws.specs.State.{IsStateOf};
 ghost use Rattle.node_lines.specs.Moving.{CanPack};
 ghost use Rattle.node_lines.specs.Desks.{KeepsFrom};
 ghost use Rattle.node_lines.specs.Measuring.{Measures};
@@ -35,12 +33,11 @@ pub enum Measured {
 fn catch_up<T: Turns, C: Chooser, R: Replica>(
     node: &mut Node<VirtualLog<T, C>, R>,
 ) -> Result<Measured, AllocError>
-    requires floor { (log : List Entry) (n : ℕ) → T.Law.floor log n → n ≤ length log }
-    requires state { (log : List Entry) (m : SpaceMap) → R.state log m → IsStateOf log m }
-    requires legal { IsLegal T.Law.may T.Law.floor T.Law.shelf node.old.seen }
+    requires floor { (log : List Entry) (n : ℕ) → T.Law.law.floor log n → n ≤ length log }
+    requires legal { IsLegal T.Law.law node.old.seen }
     requires kept { CanPack node.old.replica.kept }
-    requires keeps { KeepsFrom T.Law.may T.Law.floor T.Law.shelf node.old.replica.cursor }
-    ensures measures { IfOk result (Measures T.Law.may T.Law.floor T.Law.shelf length node.old node.new) }
+    requires keeps { KeepsFrom T.Law.law node.old.replica.cursor }
+    ensures measures { IfOk result (Measures T.Law.law length node.old node.new) }
 {
     pack(node)?;
     settle(node)?;
@@ -56,12 +53,11 @@ fn catch_up<T: Turns, C: Chooser, R: Replica>(
 pub fn measure_clean<T: Turns, C: Chooser, R: Replica>(
     node: &mut Node<VirtualLog<T, C>, R>,
 ) -> Result<Measured, AllocError>
-    requires floor { (log : List Entry) (n : ℕ) → T.Law.floor log n → n ≤ length log }
-    requires state { (log : List Entry) (m : SpaceMap) → R.state log m → IsStateOf log m }
-    requires legal { IsLegal T.Law.may T.Law.floor T.Law.shelf node.old.seen }
+    requires floor { (log : List Entry) (n : ℕ) → T.Law.law.floor log n → n ≤ length log }
+    requires legal { IsLegal T.Law.law node.old.seen }
     requires kept { CanPack node.old.replica.kept }
-    requires keeps { KeepsFrom T.Law.may T.Law.floor T.Law.shelf node.old.replica.cursor }
-    ensures measures { IfOk result (Measures T.Law.may T.Law.floor T.Law.shelf clean_position node.old node.new) }
+    requires keeps { KeepsFrom T.Law.law node.old.replica.cursor }
+    ensures measures { IfOk result (Measures T.Law.law clean_position node.old node.new) }
 {
     match catch_up(node)? {
         Measured::Failed(cause) => return Ok(Measured::Failed(cause)),
@@ -78,12 +74,11 @@ pub fn measure_clean<T: Turns, C: Chooser, R: Replica>(
 pub fn measure_least<T: Turns, C: Chooser, R: Replica>(
     node: &mut Node<VirtualLog<T, C>, R>,
 ) -> Result<Measured, AllocError>
-    requires floor { (log : List Entry) (n : ℕ) → T.Law.floor log n → n ≤ length log }
-    requires state { (log : List Entry) (m : SpaceMap) → R.state log m → IsStateOf log m }
-    requires legal { IsLegal T.Law.may T.Law.floor T.Law.shelf node.old.seen }
+    requires floor { (log : List Entry) (n : ℕ) → T.Law.law.floor log n → n ≤ length log }
+    requires legal { IsLegal T.Law.law node.old.seen }
     requires kept { CanPack node.old.replica.kept }
-    requires keeps { KeepsFrom T.Law.may T.Law.floor T.Law.shelf node.old.replica.cursor }
-    ensures measures { IfOk result (Measures T.Law.may T.Law.floor T.Law.shelf (λ log. least_position node.old.nodes (unpack_all 0 log)) node.old node.new) }
+    requires keeps { KeepsFrom T.Law.law node.old.replica.cursor }
+    ensures measures { IfOk result (Measures T.Law.law (λ log. least_position node.old.nodes (unpack_all 0 log)) node.old node.new) }
 {
     match catch_up(node)? {
         Measured::Failed(cause) => return Ok(Measured::Failed(cause)),

@@ -21,13 +21,13 @@ fn lay_down<T: Turns, C: Chooser, R: Replica>(
     node: &mut Node<VirtualLog<T, C>, R>,
     item: Item,
 ) -> Result<(), AllocError>
-    requires floor { (log : List Entry) (n : ℕ) → T.Law.floor log n → n ≤ length log }
+    requires floor { (log : List Entry) (n : ℕ) → T.Law.law.floor log n → n ≤ length log }
     requires item { IsProposable item }
     requires plain { IsPlain item }
     requires none { node.old.outbox.entries ≡ [] }
     requires kept { node.old.replica.kept ≡ [] }
-    requires own { T.Law.may node.old.who (packed node.old.replica.origin (item ∷ [])) }
-    ensures lays { OnOk result (LaysDown T.Law.may T.Law.floor T.Law.shelf node.old node.new item) }
+    requires own { T.Law.law.may node.old.who (packed node.old.replica.origin (item ∷ [])) }
+    ensures lays { OnOk result (LaysDown T.Law.law node.old node.new item) }
 {
     match node.propose(item) {
         Ok(()) => {}
@@ -47,14 +47,14 @@ pub fn tell<T: Turns, C: Chooser, R: Replica>(
     node: &mut Node<VirtualLog<T, C>, R>,
     item: Item,
 ) -> Result<Option<Cause>, AllocError>
-    requires floor { (log : List Entry) (n : ℕ) → T.Law.floor log n → n ≤ length log }
+    requires floor { (log : List Entry) (n : ℕ) → T.Law.law.floor log n → n ≤ length log }
     requires item { IsProposable item }
     requires plain { IsPlain item }
     requires none { node.old.outbox.entries ≡ [] }
     requires unsettled { node.old.outbox.unsettled ≡ None }
     requires kept { node.old.replica.kept ≡ [] }
-    requires own { T.Law.may node.old.who (packed node.old.replica.origin (item ∷ [])) }
-    ensures tells { IfOk result (Tells T.Law.may T.Law.floor T.Law.shelf node.old node.new item) }
+    requires own { T.Law.law.may node.old.who (packed node.old.replica.origin (item ∷ [])) }
+    ensures tells { IfOk result (Tells T.Law.law node.old node.new item) }
 {
     lay_down(node, item)?;
     match node.settle_all() {

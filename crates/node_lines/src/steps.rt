@@ -37,9 +37,9 @@ pub enum Synced {
 pub fn pack<T: Turns, C: Chooser, R: Replica>(
     node: &mut Node<VirtualLog<T, C>, R>,
 ) -> Result<(), AllocError>
-    requires floor { (log : List Entry) (n : ℕ) → T.Law.floor log n → n ≤ length log }
+    requires floor { (log : List Entry) (n : ℕ) → T.Law.law.floor log n → n ≤ length log }
     requires kept { CanPack node.old.replica.kept }
-    ensures moves { OnOk result (Moves T.Law.may T.Law.floor T.Law.shelf node.old node.new []) }
+    ensures moves { OnOk result (Moves T.Law.law node.old node.new []) }
     ensures kept { OnOk result (node.new.replica.kept ≡ []) }
     ensures replica { OnOk result (node.new.replica ≡ record node.old.replica { kept = [] }) }
     ensures sent { OnOk result (Sent Holds node.old.who node.old.seen node.old.outbox (λ packed. Flushes node.old.replica.origin node.old.replica.kept packed node.new.replica.kept) node.new.seen node.new.outbox) }
@@ -54,8 +54,8 @@ pub fn pack<T: Turns, C: Chooser, R: Replica>(
 pub fn settle<T: Turns, C: Chooser, R: Replica>(
     node: &mut Node<VirtualLog<T, C>, R>,
 ) -> Result<(), AllocError>
-    requires floor { (log : List Entry) (n : ℕ) → T.Law.floor log n → n ≤ length log }
-    ensures moves { OnOk result (Moves T.Law.may T.Law.floor T.Law.shelf node.old node.new []) }
+    requires floor { (log : List Entry) (n : ℕ) → T.Law.law.floor log n → n ≤ length log }
+    ensures moves { OnOk result (Moves T.Law.law node.old node.new []) }
     ensures none { OnOk result (node.new.outbox.entries ≡ []) }
     ensures unsettled { OnOk result (node.new.outbox.unsettled ≡ None) }
     ensures replica { node.new.replica ≡ node.old.replica }
@@ -71,8 +71,8 @@ pub fn settle<T: Turns, C: Chooser, R: Replica>(
 pub fn sync<T: Turns, C: Chooser, R: Replica>(
     node: &mut Node<VirtualLog<T, C>, R>,
 ) -> Result<Synced, AllocError>
-    requires floor { (log : List Entry) (n : ℕ) → T.Law.floor log n → n ≤ length log }
-    ensures moves { IfOk result (λ s. Moves T.Law.may T.Law.floor T.Law.shelf node.old node.new (failure_of s)) }
+    requires floor { (log : List Entry) (n : ℕ) → T.Law.law.floor log n → n ≤ length log }
+    ensures moves { IfOk result (λ s. Moves T.Law.law node.old node.new (failure_of s)) }
     ensures tail { IfOk result (λ s. (tail : ℕ) → s ≡ Synced.At tail → IsAbove node.old.who node.old.seen tail node.new.seen × IsAt tail node.new.replica node.new.seen) }
 
     // The log ends there, where no event of another came meanwhile and nothing was trimmed that wasn't played.
@@ -93,12 +93,12 @@ pub fn hand_in<T: Turns, C: Chooser, R: Replica>(
     node: &mut Node<VirtualLog<T, C>, R>,
     item: Item,
 ) -> Result<(), AllocError>
-    requires floor { (log : List Entry) (n : ℕ) → T.Law.floor log n → n ≤ length log }
+    requires floor { (log : List Entry) (n : ℕ) → T.Law.law.floor log n → n ≤ length log }
     requires kept { CanPack node.old.replica.kept }
     requires item { IsProposable item }
     requires near { IsNear node.old.replica.contents item }
-    requires own { T.Law.may node.old.who (packed node.old.replica.origin (node.old.replica.kept ++ item ∷ [])) }
-    ensures hands { OnOk result ((s sent : ℕ) → rank_under s (content_of item) ≡ Some (sent + 1) → HandsIn T.Law.may T.Law.floor T.Law.shelf node.old node.new s sent) }
+    requires own { T.Law.law.may node.old.who (packed node.old.replica.origin (node.old.replica.kept ++ item ∷ [])) }
+    ensures hands { OnOk result ((s sent : ℕ) → rank_under s (content_of item) ≡ Some (sent + 1) → HandsIn T.Law.law node.old node.new s sent) }
     ensures replica { OnOk result (node.new.replica ≡ record node.old.replica { kept = node.new.replica.kept }) }
     ensures kept { OnOk result ((node.new.replica.kept ≡ node.old.replica.kept ++ item ∷ []) ⊎ (node.new.replica.kept ≡ [])) }
     ensures follows { Follows Holds R.state R.spells node.new.seen node.new.replica }

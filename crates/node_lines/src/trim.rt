@@ -23,9 +23,9 @@ use virtual_log::log::VirtualLog;
 pub fn cut<T: Turns, C: Chooser, R: Replica>(
     node: &mut Node<VirtualLog<T, C>, R>,
 ) -> Result<Looked, AllocError>
-    requires floor { (log : List Entry) (n : ℕ) → T.Law.floor log n → n ≤ length log }
-    requires free { (log : List Entry) → IsFront Holds node.old.seen log → length log ≡ node.old.replica.cursor → T.Law.floor log (trim_to node.old.nodes node.old.replica) }
-    ensures cuts { IfOk result (Cuts T.Law.may T.Law.floor T.Law.shelf node.old node.new) }
+    requires floor { (log : List Entry) (n : ℕ) → T.Law.law.floor log n → n ≤ length log }
+    requires free { (log : List Entry) → IsFront Holds node.old.seen log → length log ≡ node.old.replica.cursor → T.Law.law.floor log (trim_to node.old.nodes node.old.replica) }
+    ensures cuts { IfOk result (Cuts T.Law.law node.old node.new) }
 {
     match node.trim_applied() {
         Ok(trim) => return Ok(Looked::Trimmed(trim)),

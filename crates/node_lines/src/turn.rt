@@ -1,10 +1,8 @@
 //! A phase ends at a node: what its sessions were answered, and which of them are stopped. Or all answers are taken before that.
 ghost use Rattle.std.specs.Prelude.{◌≡◌, ◌<◌, ◌≤◌, ◌+◌, ◌⊎◌, ℕ, List, length, Some, None, IfOk, OnOk, slice_get};
-ghost use Rattle.delos_types.specs.Spaces.{SpaceMap};
 ghost use Rattle.delos_types.specs.declared.entry.Entry.{Entry};
 ghost use Rattle.legal_journal.specs.Journal.{IsLegal};
 ghost use Rattle.virtual_log.specs.Holding.{Holds};
-ghost use Rattle.log_laws.specs.State.{IsStateOf};
 ghost use Rattle.base_engine.specs.Following.{Follows};
 ghost use Rattle.node_lines.specs.Answered.{InFront};
 ghost use Rattle.node_lines.specs.declared.desk.Desk.{Desk};
@@ -30,12 +28,11 @@ fn close_it<T: Turns, C: Chooser, R: Replica>(
     desk: &mut Desk,
     failed: Option<Cause>,
 ) -> Result<(), AllocError>
-    requires floor { (log : List Entry) (n : ℕ) → T.Law.floor log n → n ≤ length log }
-    requires state { (log : List Entry) (m : SpaceMap) → R.state log m → IsStateOf log m }
-    requires legal { IsLegal T.Law.may T.Law.floor T.Law.shelf node.now.seen }
+    requires floor { (log : List Entry) (n : ℕ) → T.Law.law.floor log n → n ≤ length log }
+    requires legal { IsLegal T.Law.law node.now.seen }
     requires follows { Follows Holds R.state R.spells node.now.seen node.now.replica }
     requires desk { DeskOk node.now desk.old.session desk.old }
-    requires bound { 0 < desk.old.asked → IsBound T.Law.may desk.old.session desk.old.sent }
+    requires bound { 0 < desk.old.asked → IsBound T.Law.law.may desk.old.session desk.old.sent }
     requires found { failed ≡ None → IsFree node.now desk.old → InFront node.now.seen node.now.replica.cursor (HasActedTo desk.old.session desk.old.sent) }
     ensures desk { OnOk result (DeskOk node.now desk.old.session desk.new) }
     ensures closes { OnOk result (ClosesIt node.now failed desk.old desk.new) }
@@ -55,12 +52,11 @@ fn close_all<T: Turns, C: Chooser, R: Replica>(
     desks: &mut [Desk],
     failed: Option<Cause>,
 ) -> Result<(), AllocError>
-    requires floor { (log : List Entry) (n : ℕ) → T.Law.floor log n → n ≤ length log }
-    requires state { (log : List Entry) (m : SpaceMap) → R.state log m → IsStateOf log m }
-    requires legal { IsLegal T.Law.may T.Law.floor T.Law.shelf node.now.seen }
+    requires floor { (log : List Entry) (n : ℕ) → T.Law.law.floor log n → n ≤ length log }
+    requires legal { IsLegal T.Law.law node.now.seen }
     requires follows { Follows Holds R.state R.spells node.now.seen node.now.replica }
     requires desks { DesksOk node.now desks.old }
-    requires bound { AreBound T.Law.may desks.old }
+    requires bound { AreBound T.Law.law.may desks.old }
     requires found { failed ≡ None → (s : ℕ) (d : Desk) → slice_get desks.old s ≡ Some d → IsFree node.now d → InFront node.now.seen node.now.replica.cursor (HasActedTo s d.sent) }
     ensures desks { OnOk result (DesksOk node.now desks.new) }
     ensures closes { OnOk result (ClosesAll node.now failed desks.old desks.new) }
@@ -76,12 +72,11 @@ fn collect_it<T: Turns, C: Chooser, R: Replica>(
     node: &Node<VirtualLog<T, C>, R>,
     desk: &mut Desk,
 ) -> Result<(), AllocError>
-    requires floor { (log : List Entry) (n : ℕ) → T.Law.floor log n → n ≤ length log }
-    requires state { (log : List Entry) (m : SpaceMap) → R.state log m → IsStateOf log m }
-    requires legal { IsLegal T.Law.may T.Law.floor T.Law.shelf node.now.seen }
+    requires floor { (log : List Entry) (n : ℕ) → T.Law.law.floor log n → n ≤ length log }
+    requires legal { IsLegal T.Law.law node.now.seen }
     requires follows { Follows Holds R.state R.spells node.now.seen node.now.replica }
     requires desk { DeskOk node.now desk.old.session desk.old }
-    requires bound { 0 < desk.old.asked → IsBound T.Law.may desk.old.session desk.old.sent }
+    requires bound { 0 < desk.old.asked → IsBound T.Law.law.may desk.old.session desk.old.sent }
     ensures desk { OnOk result (DeskOk node.now desk.old.session desk.new) }
     ensures takes { OnOk result (TakesIt node.now desk.old desk.new) }
 {
@@ -99,12 +94,11 @@ fn collect_all<T: Turns, C: Chooser, R: Replica>(
     node: &Node<VirtualLog<T, C>, R>,
     desks: &mut [Desk],
 ) -> Result<(), AllocError>
-    requires floor { (log : List Entry) (n : ℕ) → T.Law.floor log n → n ≤ length log }
-    requires state { (log : List Entry) (m : SpaceMap) → R.state log m → IsStateOf log m }
-    requires legal { IsLegal T.Law.may T.Law.floor T.Law.shelf node.now.seen }
+    requires floor { (log : List Entry) (n : ℕ) → T.Law.law.floor log n → n ≤ length log }
+    requires legal { IsLegal T.Law.law node.now.seen }
     requires follows { Follows Holds R.state R.spells node.now.seen node.now.replica }
     requires desks { DesksOk node.now desks.old }
-    requires bound { AreBound T.Law.may desks.old }
+    requires bound { AreBound T.Law.law.may desks.old }
     ensures desks { OnOk result (DesksOk node.now desks.new) }
     ensures takes { OnOk result (TakesAll node.now desks.old desks.new) }
 {
@@ -122,14 +116,13 @@ pub fn answer_all<T: Turns, C: Chooser, R: Replica>(
     node: &mut Node<VirtualLog<T, C>, R>,
     desks: &mut [Desk],
 ) -> Result<Option<Cause>, AllocError>
-    requires floor { (log : List Entry) (n : ℕ) → T.Law.floor log n → n ≤ length log }
-    requires state { (log : List Entry) (m : SpaceMap) → R.state log m → IsStateOf log m }
-    requires legal { IsLegal T.Law.may T.Law.floor T.Law.shelf node.old.seen }
+    requires floor { (log : List Entry) (n : ℕ) → T.Law.law.floor log n → n ≤ length log }
+    requires legal { IsLegal T.Law.law node.old.seen }
     requires kept { CanPack node.old.replica.kept }
-    requires keeps { KeepsFrom T.Law.may T.Law.floor T.Law.shelf node.old.replica.cursor }
+    requires keeps { KeepsFrom T.Law.law node.old.replica.cursor }
     requires desks { DesksOk node.old desks.old }
-    requires bound { AreBound T.Law.may desks.old }
-    ensures answers { IfOk result (AnswersAll T.Law.may T.Law.floor T.Law.shelf node.old node.new desks.old desks.new) }
+    requires bound { AreBound T.Law.law.may desks.old }
+    ensures answers { IfOk result (AnswersAll T.Law.law node.old node.new desks.old desks.new) }
 {
     let failed = end_phase(node)?;
     if let Some(cause) = failed {
@@ -146,14 +139,13 @@ pub fn end_turn<T: Turns, C: Chooser, R: Replica>(
     node: &mut Node<VirtualLog<T, C>, R>,
     desks: &mut [Desk],
 ) -> Result<Option<Cause>, AllocError>
-    requires floor { (log : List Entry) (n : ℕ) → T.Law.floor log n → n ≤ length log }
-    requires state { (log : List Entry) (m : SpaceMap) → R.state log m → IsStateOf log m }
-    requires legal { IsLegal T.Law.may T.Law.floor T.Law.shelf node.old.seen }
+    requires floor { (log : List Entry) (n : ℕ) → T.Law.law.floor log n → n ≤ length log }
+    requires legal { IsLegal T.Law.law node.old.seen }
     requires kept { CanPack node.old.replica.kept }
-    requires keeps { KeepsFrom T.Law.may T.Law.floor T.Law.shelf node.old.replica.cursor ⊎ AllAnswered node.old desks.old }
+    requires keeps { KeepsFrom T.Law.law node.old.replica.cursor ⊎ AllAnswered node.old desks.old }
     requires desks { DesksOk node.old desks.old }
-    requires bound { AreBound T.Law.may desks.old }
-    ensures ends { IfOk result (EndsTurn T.Law.may T.Law.floor T.Law.shelf node.old node.new desks.old desks.new) }
+    requires bound { AreBound T.Law.law.may desks.old }
+    ensures ends { IfOk result (EndsTurn T.Law.law node.old node.new desks.old desks.new) }
 {
     let failed = end_phase(node)?;
     close_all(node, desks, failed)?;

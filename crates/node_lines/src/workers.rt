@@ -21,38 +21,38 @@ use replica_api::replica::Replica;
 /// those that its desk of the session sent.
 pub fn what_a_worker_has_stays<P: Rules, S: Replica>()
     ensures { (who : ℕ) (early more : List Event) (seat : SeatView) (desks : List Desk)
-        → WorkerOk P.may P.floor P.shelf S.state S.spells who early seat desks → IsLegal (OwnWithin who P.may (sent_by desks)) P.floor P.shelf (early ++ more)
-        → WorkerOk P.may P.floor P.shelf S.state S.spells who (early ++ more) seat desks }
+        → WorkerOk P.law S.state S.spells who early seat desks → IsLegal (record P.law { may = OwnWithin who P.law.may (sent_by desks) }) (early ++ more)
+        → WorkerOk P.law S.state S.spells who (early ++ more) seat desks }
 {}
 
 /// A worker's journal is legal, also where what its desks sent binds what the worker appends.
 pub fn a_worker_is_legal<P: Rules, S: Replica>()
     ensures within { (who : ℕ) (journal : List Event) (seat : SeatView) (desks : List Desk)
-        → WorkerOk P.may P.floor P.shelf S.state S.spells who journal seat desks → IsLegal (OwnWithin who P.may (sent_by desks)) P.floor P.shelf journal }
+        → WorkerOk P.law S.state S.spells who journal seat desks → IsLegal (record P.law { may = OwnWithin who P.law.may (sent_by desks) }) journal }
     ensures legal { (who : ℕ) (journal : List Event) (seat : SeatView) (desks : List Desk)
-        → WorkerOk P.may P.floor P.shelf S.state S.spells who journal seat desks → IsLegal P.may P.floor P.shelf journal }
+        → WorkerOk P.law S.state S.spells who journal seat desks → IsLegal P.law journal }
 {}
 
 /// What is held below an early tail was sent by then. So a rank above those that were sent by then is held at no position
 /// below that tail, whatever was sent later.
 pub fn a_tail_bounds_what_is_sent<P: Rules>()
-    ensures { ((log : List Entry) (n : ℕ) → P.floor log n → n ≤ length log) → (counts : List ℕ) (early late : List Event) (s r pos : ℕ) (e : Entry)
-        → IsLegal (Within P.may counts) P.floor P.shelf early → IsLegal P.may P.floor P.shelf (early ++ late) → Holds (early ++ late) pos e → HasRank s r e
+    ensures { ((log : List Entry) (n : ℕ) → P.law.floor log n → n ≤ length log) → (counts : List ℕ) (early late : List Event) (s r pos : ℕ) (e : Entry)
+        → IsLegal (record P.law { may = Within P.law.may counts }) early → IsLegal P.law (early ++ late) → Holds (early ++ late) pos e → HasRank s r e
         → sent_of counts s < r → tail_of (state_of early) ≤ pos }
 {}
 
 /// A front of a log isn't longer than the log's tail says.
 pub fn a_cursor_is_below_the_tail<P: Rules>()
-    ensures { ((log : List Entry) (n : ℕ) → P.floor log n → n ≤ length log) → (seen : List Event) (log : List Entry) → IsLegal P.may P.floor P.shelf seen → IsFront Holds seen log
+    ensures { ((log : List Entry) (n : ℕ) → P.law.floor log n → n ≤ length log) → (seen : List Event) (log : List Entry) → IsLegal P.law seen → IsFront Holds seen log
         → length log ≤ tail_of (state_of seen) }
 {}
 
 /// What has acted in a front of the log has acted so in each front of a later moment that isn't shorter.
 pub fn what_has_acted_stays<P: Rules>()
-    ensures acted { (early late : List Event) (s n : ℕ) (front log : List Entry) → IsLegal P.may P.floor P.shelf (early ++ late)
+    ensures acted { (early late : List Event) (s n : ℕ) (front log : List Entry) → IsLegal P.law (early ++ late)
         → IsFront Holds early front → IsFront Holds (early ++ late) log → length front ≤ length log
         → n < gap_from (asked_in 0 front) s 1 → n < gap_from (asked_in 0 log) s 1 }
-    ensures answers { (early late : List Event) (s : ℕ) (front log : List Entry) (answers : List Kept) → IsLegal P.may P.floor P.shelf (early ++ late)
+    ensures answers { (early late : List Event) (s : ℕ) (front log : List Entry) (answers : List Kept) → IsLegal P.law (early ++ late)
         → IsFront Holds early front → IsFront Holds (early ++ late) log → length front ≤ length log
         → AreAnswers front s answers → AreAnswers log s answers }
 {}

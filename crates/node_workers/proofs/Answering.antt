@@ -2,6 +2,7 @@
 use Rattle.std.proofs.Common.{ℕ, ◌≤◌, List, length}
 use Rattle.delos_types.specs.declared.entry.Entry.{Entry}
 use Rattle.delos_types.specs.declared.cause.Cause.{Cause}
+use Rattle.legal_journal.specs.Law.{Law}
 use Rattle.base_engine.specs.Node.{NodeView}
 use Rattle.node_lines.specs.declared.desk.Desk.{Desk}
 use Rattle.node_lines.specs.Desks.{DesksOk}
@@ -10,9 +11,9 @@ use Rattle.node_lines.specs.Turns.{AllAnswered}
 use Rattle.node_lines.proofs.Desks.{desk_moves}
 use Rattle.node_lines.proofs.Moving.{none-before}
 
-module _ (may : ℕ → Entry → Type 0) (floor : List Entry → ℕ → Type 0) (shelf : List ℕ) (low : (log : List Entry) (n : ℕ) → floor log n → n ≤ length log) (old new : NodeView) (others : List Cause) (moves : Moves may floor shelf old new others) (desks : List Desk) where
+module _ (law : Law) (low : (log : List Entry) (n : ℕ) → law.floor log n → n ≤ length log) (old new : NodeView) (others : List Cause) (moves : Moves law old new others) (desks : List Desk) where
   pub desks_on : DesksOk old desks → DesksOk new desks
-  desks_on each = λ s d at. desk_moves may floor shelf low old new others s d moves (each s d at)
+  desks_on each = λ s d at. desk_moves law low old new others s d moves (each s d at)
 
   pub answered_on : AllAnswered old desks → AllAnswered new desks
-  answered_on all = λ s d at free. all s d at (free.0, none-before may floor shelf low old new others d.session moves.goes free.1)
+  answered_on all = λ s d at free. all s d at (free.0, none-before law low old new others d.session moves.goes free.1)

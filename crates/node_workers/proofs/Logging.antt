@@ -7,6 +7,7 @@ use Rattle.std.proofs.lemmas.List.Elements.{Contains-push}
 use Rattle.delos_types.specs.Spaces.{SpaceMap}
 use Rattle.delos_types.specs.declared.entry.Entry.{Entry}
 use Rattle.delos_types.specs.declared.cause.Cause.{Cause}
+use Rattle.legal_journal.specs.Law.{Law}
 use Rattle.legal_journal.specs.declared.events.Event.{Event}
 use Rattle.replica_api.specs.Replica.{Saved}
 use Rattle.fabric_core.proofs.Marks.{set_other, set_same}
@@ -23,7 +24,7 @@ use Rattle.node_lines.proofs.Turning.{same_at}
 use Rattle.node_lines.specs.Workers.{OwnWithin, IsHome, Sends, IsOfSession, WorkerOk, LogsIt, sent_by, sent_of}
 use Rattle.node_lines.proofs.Widening.{own-more, goes_wider}
 
-module _ (may : ℕ → Entry → Type 0) (floor : List Entry → ℕ → Type 0) (shelf : List ℕ) (low : (log : List Entry) (n : ℕ) → floor log n → n ≤ length log) where
+module _ (law : Law) (low : (log : List Entry) (n : ℕ) → law.floor log n → n ≤ length log) where
   still : (was d : Desk) (others : List Cause) → d ≡ record was { answers = d.answers; stopped = d.stopped } → ((others ≡ []) × (d.stopped ≡ was.stopped)) ⊎ ((c : Cause) × (others ≡ c ∷ []) × (was.stopped ≡ None) × (d.stopped ≡ Some c)) → (c : Cause) → was.stopped ≡ Some c → d.stopped ≡ Some c
   still was d others is (inl k) c e = k.1 ∙ e
   still was d others is (inr k) c e = absurd (let t : Some c ≡ None = sym e ∙ k.2 in cc)
@@ -48,8 +49,8 @@ module _ (may : ℕ → Entry → Type 0) (floor : List Entry → ℕ → Type 0
     given = λ free none. absurd (held (free, subst (λ q. cause_in q n.outbox.given ≡ None) (sym ok.session) none));
   }
 
-  pub kept_logs : (counts : List ℕ) (old new : NodeView) (s : ℕ) (was d : Desk) → Readies (OwnWithin old.who may counts) floor shelf old new was d false
-      → LogsIt may floor shelf counts old new s was (record d { asked = d.asked + 1 })
+  pub kept_logs : (counts : List ℕ) (old new : NodeView) (s : ℕ) (was d : Desk) → Readies (record law { may = OwnWithin old.who law.may counts }) old new was d false
+      → LogsIt law counts old new s was (record d { asked = d.asked + 1 })
   kept_logs counts old new s was d r = record {
     others = r.others;
     goes = r.moves.goes;
@@ -66,18 +67,18 @@ module _ (may : ℕ → Entry → Type 0) (floor : List Entry → ℕ → Type 0
   }
 
   -- a command that is handed in
-  pub handed_logs : (counts counts' : List ℕ) (old mid new : NodeView) (s : ℕ) (was d is : Desk) → ((t : ℕ) → sent_of counts t ≤ sent_of counts' t) → Readies (OwnWithin old.who may counts) floor shelf old mid was d true → HandsIn (OwnWithin mid.who may counts') floor shelf mid new s d.sent
-      → is ≡ record d { asked = d.asked + 1; sent = d.sent + 1; answers = is.answers } → LogsIt may floor shelf counts' old new s was is
+  pub handed_logs : (counts counts' : List ℕ) (old mid new : NodeView) (s : ℕ) (was d is : Desk) → ((t : ℕ) → sent_of counts t ≤ sent_of counts' t) → Readies (record law { may = OwnWithin old.who law.may counts }) old mid was d true → HandsIn (record law { may = OwnWithin mid.who law.may counts' }) mid new s d.sent
+      → is ≡ record d { asked = d.asked + 1; sent = d.sent + 1; answers = is.answers } → LogsIt law counts' old new s was is
   handed_logs counts counts' old mid new s was d is up r hands is_it =
-      let h = subst (λ w. HandsIn (OwnWithin w may counts') floor shelf mid new s d.sent) r.moves.goes.keeps.who hands in
-      let first = goes_wider (OwnWithin old.who may counts) (OwnWithin old.who may counts') floor floor shelf (λ user e. own-more old.who may counts counts' up user e) (λ log n k. k) old mid r.others r.moves.goes in
+      let h = subst (λ w. HandsIn (record law { may = OwnWithin w law.may counts' }) mid new s d.sent) r.moves.goes.keeps.who hands in
+      let first = goes_wider (record law { may = OwnWithin old.who law.may counts }) (record law { may = OwnWithin old.who law.may counts' }) (record { may = λ user e. own-more old.who law.may counts counts' up user e; floor = λ log n k. k; shelf = refl }) old mid r.others r.moves.goes in
       let own : d.sent ≡ was.sent = ap (λ (x : Desk). x.sent) r.desk in
       let next : is.sent ≡ d.sent + 1 = ap (λ (x : Desk). x.sent) is_it in
       let free : is.stopped ≡ None = ap (λ (x : Desk). x.stopped) is_it ∙ ((r.free refl).0).0 in
       record {
         others = r.others ++ [];
-        goes = goes-both (OwnWithin old.who may counts') floor shelf low old mid new r.others [] first h.goes;
-        stays = λ t apart. stays-both (OwnWithin old.who may counts') floor shelf low old mid new [] t h.goes (r.moves.stays t) (h.stays t apart);
+        goes = goes-both (record law { may = OwnWithin old.who law.may counts' }) low old mid new r.others [] first h.goes;
+        stays = λ t apart. stays-both (record law { may = OwnWithin old.who law.may counts' }) low old mid new [] t h.goes (r.moves.stays t) (h.stays t apart);
         quiet = λ t apart q. h.quiet t apart (r.moves.quiet t q);
         asked = ap (λ (x : Desk). x.asked) is_it ∙ ap (λ (x : Desk). x.asked + 1) r.desk;
         session = ap (λ (x : Desk). x.session) is_it ∙ ap (λ (x : Desk). x.session) r.desk;
@@ -91,12 +92,12 @@ module _ (may : ℕ → Entry → Type 0) (floor : List Entry → ℕ → Type 0
 
   -- the worker then
   pub worker_logs : (state : List Entry → SpaceMap → Type 0) (spells : List ℕ → Saved → Type 0) (who : ℕ) (counts : List ℕ) (old new : List Event) (a b : SeatView) (desks : List Desk) (s : ℕ) (was is : Desk)
-      → WorkerOk may floor shelf state spells who old a desks → IsHome may s who → SeatOk (Sends b.who may (sent_by (slice_set desks s is)) new) floor shelf state spells new b → All IsOfSession b.node.replica.kept → slice_get desks s ≡ Some was → DeskOk (node_of b new) s is
-      → LogsIt may floor shelf counts (node_of a old) (node_of b new) s was is → WorkerOk may floor shelf state spells who new b (slice_set desks s is)
+      → WorkerOk law state spells who old a desks → IsHome law.may s who → SeatOk (record law { may = Sends b.who law.may (sent_by (slice_set desks s is)) new }) state spells new b → All IsOfSession b.node.replica.kept → slice_get desks s ≡ Some was → DeskOk (node_of b new) s is
+      → LogsIt law counts (node_of a old) (node_of b new) s was is → WorkerOk law state spells who new b (slice_set desks s is)
   worker_logs state spells who counts old new a b desks s was is h home ok waits at fine l = record {
     who_is = l.goes.keeps.who ∙ h.who_is;
     origin = l.goes.keeps.origin ∙ h.origin;
-    ok = subst (λ w. SeatOk (Sends w may (sent_by (slice_set desks s is)) new) floor shelf state spells new b) (l.goes.keeps.who ∙ h.who_is) ok;
+    ok = subst (λ w. SeatOk (record law { may = Sends w law.may (sent_by (slice_set desks s is)) new }) state spells new b) (l.goes.keeps.who ∙ h.who_is) ok;
     packs = l.goes.packs h.packs;
     waits = waits;
     size = length-set desks s is ∙ h.size;
@@ -117,8 +118,8 @@ module _ (may : ℕ → Entry → Type 0) (floor : List Entry → ℕ → Type 0
       each_is t d g true e = subst (λ k. DeskOk (node_of b new) k d) (sym (here s t e)) (subst (DeskOk (node_of b new) s) (is_here t d g e) fine)
       each_is t d g false e =
           let old_at = sym (set_other desks s t is (apart s t e)) ∙ g in
-          desk_goes (OwnWithin a.who may counts) floor shelf low (node_of a old) (node_of b new) l.others t d l.goes (l.stays t e) (h.each t d old_at)
+          desk_goes (record law { may = OwnWithin a.who law.may counts }) low (node_of a old) (node_of b new) l.others t d l.goes (l.stays t e) (h.each t d old_at)
 
-      home_is : (t : ℕ) (d : Desk) → slice_get (slice_set desks s is) t ≡ Some d → 0 < d.asked → (q : Bool) → (s == t) ≡ q → IsHome may t who
-      home_is t d g some true e = subst (λ k. IsHome may k who) (sym (here s t e)) home
+      home_is : (t : ℕ) (d : Desk) → slice_get (slice_set desks s is) t ≡ Some d → 0 < d.asked → (q : Bool) → (s == t) ≡ q → IsHome law.may t who
+      home_is t d g some true e = subst (λ k. IsHome law.may k who) (sym (here s t e)) home
       home_is t d g some false e = h.home t d (sym (set_other desks s t is (apart s t e)) ∙ g) some

@@ -4,6 +4,7 @@ use Rattle.std.specs.Prelude.{Contains}
 use Rattle.delos_types.specs.declared.entry.Entry.{Entry}
 use Rattle.delos_types.specs.declared.item.Item.{Item}
 use Rattle.delos_types.specs.declared.cause.Cause.{Cause}
+use Rattle.legal_journal.specs.Law.{Law}
 use Rattle.legal_journal.specs.declared.events.Event.{Event}
 use Rattle.virtual_log.specs.Sealing.{SealsNone}
 use Rattle.engine_api.specs.declared.content.Content.{Content}
@@ -73,8 +74,8 @@ says_low origin m item fine plain low p there =
     subst (TellsLow m) (sym (says_that (packed origin (item ∷ [])) plain.content p (says_alone origin item item plain.content fine plain.says refl) there)) (low plain.content plain.says)
 
 -- a position that was read off the state as clean isn't above where the node is
-pub measured_low : (may : ℕ → Entry → Type 0) (floor : List Entry → ℕ → Type 0) (shelf : List ℕ) (old new : NodeView) (n node : ℕ) (o : Option Content) → Measures may floor shelf clean_position old new (measured.At n) → o ≡ Some (content.Alive node n) → (c : Content) → o ≡ Some c → TellsLow new.replica.cursor c
-measured_low may floor shelf old new n node o h says c is =
+pub measured_low : (law : Law) (old new : NodeView) (n node : ℕ) (o : Option Content) → Measures law clean_position old new (measured.At n) → o ≡ Some (content.Alive node n) → (c : Content) → o ≡ Some c → TellsLow new.replica.cursor c
+measured_low law old new n node o h says c is =
     let s = h.measured n refl in
     let both : Some (content.Alive node n) ≡ Some c = sym says ∙ is in
     let same : content.Alive node n ≡ c = cc in
@@ -87,12 +88,12 @@ trim_low m n o says c is =
     let same : content.Trim n ≡ c = cc in
     subst (TellsLow m) same tt
 
-module _ (may : ℕ → Entry → Type 0) (floor : List Entry → ℕ → Type 0) (shelf : List ℕ) (low : (log : List Entry) (n : ℕ) → floor log n → n ≤ length log) where
+module _ (law : Law) (low : (log : List Entry) (n : ℕ) → law.floor log n → n ≤ length log) where
   -- All was carried to its end, and then the last loglet was replaced.
-  pub extends_both : (old mid new : NodeView) (l : Looked) → CarriesAll may floor shelf old mid → SealsNone old.who old.seen mid.seen → Replaces may floor shelf mid new l → Extends may floor shelf old new l
+  pub extends_both : (old mid new : NodeView) (l : Looked) → CarriesAll law old mid → SealsNone old.who old.seen mid.seen → Replaces law mid new l → Extends law old new l
   extends_both old mid new l carries unsealed replaces = record {
     others = replaces.others;
-    moves = moves-both may floor shelf low old mid new [] replaces.others carries.moves replaces.moves;
+    moves = moves-both law low old mid new [] replaces.others carries.moves replaces.moves;
     settled = mid;
     settles = carries.moves;
     none = carries.none;
@@ -105,26 +106,26 @@ module _ (may : ℕ → Entry → Type 0) (floor : List Entry → ℕ → Type 0
   }
 
   -- what a step that tells and plays keeps
-  pub tells_moves : (old new : NodeView) (item : Item) (failed : Option Cause) → TellsAndPlays may floor shelf old new item failed → Moves may floor shelf old new (failure_in failed)
-  tells_moves old new item failed (inl h) = subst (λ f. Moves may floor shelf old new (failure_in f)) (sym h.is) h.tells.moves
-  tells_moves old new item failed (inr h) = moves-both may floor shelf low old h.told new [] (failure_in failed) h.tells.moves h.plays.moves
+  pub tells_moves : (old new : NodeView) (item : Item) (failed : Option Cause) → TellsAndPlays law old new item failed → Moves law old new (failure_in failed)
+  tells_moves old new item failed (inl h) = subst (λ f. Moves law old new (failure_in f)) (sym h.is) h.tells.moves
+  tells_moves old new item failed (inr h) = moves-both law low old h.told new [] (failure_in failed) h.tells.moves h.plays.moves
 
   -- What was measured was reported.
-  pub reports : (old mid new : NodeView) (number n : ℕ) (item : Item) (failed : Option Cause) → Measures may floor shelf clean_position old mid (measured.At n) → item ≡ alive_item number n → number ≡ old.replica.origin → IsProposable item
-      → content_of item ≡ Some (content.Alive number n) → Tells may floor shelf mid new item failed → Reports may floor shelf old new (came_to failed (looked.Reported n))
-  reports old mid new number n item None h made own fine says t = reports_told may floor shelf low old mid new n item h t (reports_of may floor shelf old mid new number n item h made own fine says t)
-  reports old mid new number n item (Some c) h made own fine says t = reports_untold may floor shelf low clean_position old mid new n item c h t
+  pub reports : (old mid new : NodeView) (number n : ℕ) (item : Item) (failed : Option Cause) → Measures law clean_position old mid (measured.At n) → item ≡ alive_item number n → number ≡ old.replica.origin → IsProposable item
+      → content_of item ≡ Some (content.Alive number n) → Tells law mid new item failed → Reports law old new (came_to failed (looked.Reported n))
+  reports old mid new number n item None h made own fine says t = reports_told law low old mid new n item h t (reports_of law old mid new number n item h made own fine says t)
+  reports old mid new number n item (Some c) h made own fine says t = reports_untold law low clean_position old mid new n item c h t
 
   -- The leave was appended and played.
-  pub leaves : (old mid new : NodeView) (number : ℕ) (item : Item) (failed : Option Cause) → Moves may floor shelf old mid [] → item ≡ leave_item number → number ≡ old.replica.origin → IsProposable item
-      → content_of item ≡ Some (content.Leave number) → TellsAndPlays may floor shelf mid new item failed → Leaves may floor shelf old new (came_to failed looked.Left)
-  leaves old mid new number item failed first made own fine says (inl t) = subst (λ f. Leaves may floor shelf old new (came_to f looked.Left)) (sym t.is) (leaves_untold may floor shelf low old mid new item t.cause first t.tells)
+  pub leaves : (old mid new : NodeView) (number : ℕ) (item : Item) (failed : Option Cause) → Moves law old mid [] → item ≡ leave_item number → number ≡ old.replica.origin → IsProposable item
+      → content_of item ≡ Some (content.Leave number) → TellsAndPlays law mid new item failed → Leaves law old new (came_to failed looked.Left)
+  leaves old mid new number item failed first made own fine says (inl t) = subst (λ f. Leaves law old new (came_to f looked.Left)) (sym t.is) (leaves_untold law low old mid new item t.cause first t.tells)
   leaves old mid new number item None first made own fine says (inr t) =
-      leaves_done may floor shelf low old mid t.told new item first t.tells t.plays (leaves_of may floor shelf old mid t.told new number item first made own fine says t.tells t.plays)
-  leaves old mid new number item (Some c) first made own fine says (inr t) = leaves_unplayed may floor shelf low old mid t.told new item c first t.tells t.plays
+      leaves_done law low old mid t.told new item first t.tells t.plays (leaves_of law old mid t.told new number item first made own fine says t.tells t.plays)
+  leaves old mid new number item (Some c) first made own fine says (inr t) = leaves_unplayed law low old mid t.told new item c first t.tells t.plays
 
   -- .. with what was appended by then
-  pub report_adds : (rules : ℕ → Entry → Type 0) → MayRun rules floor shelf → ((user : ℕ) (e : Entry) → may user e → rules user e) → (old mid new : NodeView) (who n : ℕ) (told : Entry) (failed : Option Cause) → Measures may floor shelf clean_position old mid (measured.At n) → Moves may floor shelf mid new (failure_in failed) → OwnAdds who IsOfSessions old.seen mid.seen
+  pub report_adds : (rules : ℕ → Entry → Type 0) → MayRun (record law { may = rules }) → ((user : ℕ) (e : Entry) → law.may user e → rules user e) → (old mid new : NodeView) (who n : ℕ) (told : Entry) (failed : Option Cause) → Measures law clean_position old mid (measured.At n) → Moves law mid new (failure_in failed) → OwnAdds who IsOfSessions old.seen mid.seen
       → OwnAdds who (λ e. IsOfSessions e ⊎ (e ≡ told)) mid.seen new.seen → SaysAlone (content.Alive who n) told → ReportAdds who new.replica.cursor old.seen new.seen (came_to failed (looked.Reported n))
   report_adds rules run allows old mid new who n told failed m moves first then says =
       let s = m.measured n refl in
@@ -134,14 +135,14 @@ module _ (may : ℕ → Entry → Type 0) (floor : List Entry → ℕ → Type 0
         position = n;
         clean = record {
           log = s.at.log;
-          front = front_later may floor shelf low mid.seen new.seen s.at.log k.later.legal (k.later.more, k.later.seen) s.at.front;
+          front = front_later law low mid.seen new.seen s.at.log k.later.legal (k.later.more, k.later.seen) s.at.front;
           within = omega (arith, s.is, position_low s.at.log);
           clean = ap (clean_at s.at.log) s.is ∙ position_clean s.at.log;
         };
         before = λ i e p early at there is. ⊎_elim
             (λ (was : Contains (appended_by who old.seen) e). was)
             (λ (k : IsOfSessions e). absurd (subst IsCommand is (says_command e p k there)))
-            (first e (reported_by rules floor floor shelf run may allows mid.seen legal who n e p (held_appended may floor shelf mid.seen i e legal (s.at.front i e at)) there is));
+            (first e (reported_by (record law { may = rules }) law run allows mid.seen legal who n e p (held_appended law mid.seen i e legal (s.at.front i e at)) there is));
         low = omega (arith, s.is, position_low s.at.log, s.at.size, k.forward);
         is = λ j e. reported_is failed n j e;
         adds = adds_saying who old.seen mid.seen new.seen told (content.Alive who n) first then says;

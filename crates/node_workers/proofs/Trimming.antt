@@ -4,6 +4,7 @@ use Rattle.std.specs.Prelude.{Contains}
 use Rattle.delos_types.specs.declared.entry.Entry.{Entry}
 use Rattle.delos_types.specs.declared.item.Item.{Item}
 use Rattle.delos_types.specs.declared.cause.Cause.{Cause}
+use Rattle.legal_journal.specs.Law.{Law}
 use Rattle.legal_journal.specs.declared.events.Event.{Event}
 use Rattle.legal_journal.specs.Journal.{IsLegal}
 use Rattle.journal_laws.specs.Changes.{TrimsUpTo, appended}
@@ -60,43 +61,43 @@ reported_on old new more n seen (inr h) = let s = h.1 in inr (
   },
 )
 
-module _ (may : ℕ → Entry → Type 0) (floor : List Entry → ℕ → Type 0) (shelf : List ℕ) (low : (log : List Entry) (n : ℕ) → floor log n → n ≤ length log) where
+module _ (law : Law) (low : (log : List Entry) (n : ℕ) → law.floor log n → n ≤ length log) where
   -- It was asked for no trim, or what was asked wasn't played.
-  pub trims_not : (old mid new : NodeView) (n : ℕ) (item : Item) (c : Cause) → Measures may floor shelf (λ log. least_position old.nodes (unpack_all 0 log)) old mid (measured.At n) → TellsAndPlays may floor shelf mid new item (Some c) → TrimsLog may floor shelf old new (looked.Failed c)
+  pub trims_not : (old mid new : NodeView) (n : ℕ) (item : Item) (c : Cause) → Measures law (λ log. least_position old.nodes (unpack_all 0 log)) old mid (measured.At n) → TellsAndPlays law mid new item (Some c) → TrimsLog law old new (looked.Failed c)
   trims_not old mid new n item c h (inl t) =
       let same : t.cause ≡ c = (let e = t.is in cc) in
-      subst (λ x. TrimsLog may floor shelf old new (looked.Failed x)) same (trims_untold may floor shelf low (λ log. least_position old.nodes (unpack_all 0 log)) old mid new n item t.cause h t.tells)
-  trims_not old mid new n item c h (inr t) = trims_unplayed may floor shelf low (λ log. least_position old.nodes (unpack_all 0 log)) old mid t.told new n item c h t.tells t.plays
+      subst (λ x. TrimsLog law old new (looked.Failed x)) same (trims_untold law low (λ log. least_position old.nodes (unpack_all 0 log)) old mid new n item t.cause h t.tells)
+  trims_not old mid new n item c h (inr t) = trims_unplayed law low (λ log. least_position old.nodes (unpack_all 0 log)) old mid t.told new n item c h t.tells t.plays
 
   -- the position that the node asks for, some node reported
-  pub asks_reported : (old mid : NodeView) (n : ℕ) → Measures may floor shelf (λ log. least_position old.nodes (unpack_all 0 log)) old mid (measured.At n) → IsReported mid.seen n
+  pub asks_reported : (old mid : NodeView) (n : ℕ) → Measures law (λ log. least_position old.nodes (unpack_all 0 log)) old mid (measured.At n) → IsReported mid.seen n
   asks_reported old mid n m =
       let so = m.measured n refl in
-      subst (IsReported mid.seen) (sym so.is) (least_said mid.seen so.at.log (front_appended may floor shelf mid.seen so.at.log m.moves.goes.keeps.later.legal so.at.front) old.nodes)
+      subst (IsReported mid.seen) (sym so.is) (least_said mid.seen so.at.log (front_appended law mid.seen so.at.log m.moves.goes.keeps.later.legal so.at.front) old.nodes)
 
   -- the log may be trimmed as far as the node's state says
-  pub may_trim : (node : NodeView) (nodes : ℕ) → node.nodes ≡ nodes → IsLegal may floor shelf node.seen → IsStateAt Holds IsStateOf node.seen (saved_in node.replica) → FloorIs floor nodes → (log : List Entry) → IsFront Holds node.seen log → length log ≡ node.replica.cursor
-      → floor log (trim_to node.nodes node.replica)
+  pub may_trim : (node : NodeView) (nodes : ℕ) → node.nodes ≡ nodes → IsLegal law node.seen → IsStateAt Holds IsStateOf node.seen (saved_in node.replica) → FloorIs law.floor nodes → (log : List Entry) → IsFront Holds node.seen log → length log ≡ node.replica.cursor
+      → law.floor log (trim_to node.nodes node.replica)
   may_trim node nodes of legal at is log there size =
-      let same : at.log ≡ log = same_front may floor shelf node.seen at.log log legal at.front there (omega (arith, at.size, size)) in
+      let same : at.log ≡ log = same_front law node.seen at.log log legal at.front there (omega (arith, at.size, size)) in
       let m = node.replica.contents in
       let least : least_of node.nodes m ≡ least_position nodes (unpack_all 0 at.log) = ap (λ k. least_of k m) of ∙ least-in_state nodes at.log m at.led in
       let point = point-in_state at.log m at.led in
-      subst (λ l. floor l (trim_to node.nodes node.replica)) same (is.free at.log (trim_to node.nodes node.replica) (record {
+      subst (λ l. law.floor l (trim_to node.nodes node.replica)) same (is.free at.log (trim_to node.nodes node.replica) (record {
         within = omega (arith, at.size, least, point);
         point = omega (arith, at.size, least, point);
         least = omega (arith, at.size, least, point);
         whole = omega (arith, at.size, least, point);
       }))
 
-  module _ (rules : ℕ → Entry → Type 0) (run : MayRun rules floor shelf) (allows : (user : ℕ) (e : Entry) → may user e → rules user e) where
+  module _ (rules : ℕ → Entry → Type 0) (run : MayRun (record law { may = rules })) (allows : (user : ℕ) (e : Entry) → law.may user e → rules user e) where
     -- who hadn't left is a member still
-    member : (old mid played : List Event) (who n : ℕ) (told : Entry) → HasNotLeft who old → IsLegal may floor shelf mid → OwnAdds who IsOfSessions old mid → IsLegal may floor shelf played → OwnAdds who (λ e. IsOfSessions e ⊎ (e ≡ told)) mid played
+    member : (old mid played : List Event) (who n : ℕ) (told : Entry) → HasNotLeft who old → IsLegal law mid → OwnAdds who IsOfSessions old mid → IsLegal law played → OwnAdds who (λ e. IsOfSessions e ⊎ (e ≡ told)) mid played
         → unpack 0 told ≡ placed_from 0 0 (Trim n ∷ []) → (log : List Entry) → IsFront Holds played log → has_left (unpack_all 0 log) who ≡ false
     member old mid played who n told stays early first legal adds says log front =
-        is_member played log (front_appended may floor shelf played log legal front) who
-        (stays_on rules floor floor shelf run may allows played legal who (λ e. IsOfSessions e ⊎ (e ≡ told)) mid
-        (stays_on rules floor floor shelf run may allows mid early who IsOfSessions old stays first (λ e p k there is. subst IsCommand is (says_command e p k there)))
+        is_member played log (front_appended law played log legal front) who
+        (stays_on (record law { may = rules }) law run allows played legal who (λ e. IsOfSessions e ⊎ (e ≡ told)) mid
+        (stays_on (record law { may = rules }) law run allows mid early who IsOfSessions old stays first (λ e p k there is. subst IsCommand is (says_command e p k there)))
         adds none)
       where
         apart : Trim n ≡ Leave who → ⊥
@@ -107,34 +108,34 @@ module _ (may : ℕ → Entry → Type 0) (floor : List Entry → ℕ → Type 0
         none e p (inr t) there is = apart (sym (says_that told (Trim n) p says (subst (λ x. Contains (unpack 0 x) p) t there)) ∙ is)
 
     -- what the node asks for it has applied: it is a member, and so it asks for no more than it reported itself
-    asks_within : (old mid : NodeView) (who n : ℕ) → Measures may floor shelf (λ log. least_position old.nodes (unpack_all 0 log)) old mid (measured.At n) → OwnAdds who IsOfSessions old.seen mid.seen → 1 ≤ who → who ≤ old.nodes → HasNotLeft who old.seen → ReportsUpTo who old.replica.cursor old.seen
+    asks_within : (old mid : NodeView) (who n : ℕ) → Measures law (λ log. least_position old.nodes (unpack_all 0 log)) old mid (measured.At n) → OwnAdds who IsOfSessions old.seen mid.seen → 1 ≤ who → who ≤ old.nodes → HasNotLeft who old.seen → ReportsUpTo who old.replica.cursor old.seen
         → n ≤ mid.replica.cursor
     asks_within old mid who n m first some few stays upto =
         let so = m.measured n refl in
         let legal = m.moves.goes.keeps.later.legal in
-        let each = front_appended may floor shelf mid.seen so.at.log legal so.at.front in
-        let stays' = stays_on rules floor floor shelf run may allows mid.seen legal who IsOfSessions old.seen stays first (λ e p k there is. subst IsCommand is (says_command e p k there)) in
+        let each = front_appended law mid.seen so.at.log legal so.at.front in
+        let stays' = stays_on (record law { may = rules }) law run allows mid.seen legal who IsOfSessions old.seen stays first (λ e p k there is. subst IsCommand is (says_command e p k there)) in
         let least = least_upto old.nodes who (unpack_all 0 so.at.log) some few (is_member mid.seen so.at.log each who stays') in
         let own = position_low mid.seen so.at.log each who old.replica.cursor (reports_on old.seen mid.seen who old.replica.cursor legal first upto) in
         omega (arith, so.is, least, own, m.moves.goes.keeps.forward)
       where
-        reports_on : (old mid : List Event) (who cursor : ℕ) → IsLegal may floor shelf mid → OwnAdds who IsOfSessions old mid → ReportsUpTo who cursor old → ReportsUpTo who cursor mid
+        reports_on : (old mid : List Event) (who cursor : ℕ) → IsLegal law mid → OwnAdds who IsOfSessions old mid → ReportsUpTo who cursor old → ReportsUpTo who cursor mid
         reports_on old mid who cursor legal first upto = λ e p sent there position is. ⊎_elim
             (λ (was : Contains (appended_by who old) e). upto e p (own_appended who old e was) there position is)
             (λ (k : IsOfSessions e). absurd (subst IsCommand is (says_command e p k there)))
-            (first e (reported_by rules floor floor shelf run may allows mid legal who position e p sent there is))
+            (first e (reported_by (record law { may = rules }) law run allows mid legal who position e p sent there is))
 
     -- The log was trimmed, or the trim failed.
-    pub trims : (old mid played new : NodeView) (n who : ℕ) (item : Item) (l : Looked) → Measures may floor shelf (λ log. least_position old.nodes (unpack_all 0 log)) old mid (measured.At n) → OwnAdds who IsOfSessions old.seen mid.seen
-        → item ≡ trim_item n → IsProposable item → content_of item ≡ Some (Trim n) → TellsAndPlays may floor shelf mid played item None → (told : Entry) → OwnAdds who (λ e. IsOfSessions e ⊎ (e ≡ told)) mid.seen played.seen → unpack 0 told ≡ placed_from 0 0 (Trim n ∷ [])
-        → IsStateAt Holds IsStateOf played.seen (saved_in played.replica) → 1 ≤ who → who ≤ old.nodes → HasNotLeft who old.seen → ReportsUpTo who old.replica.cursor old.seen → TrimsUpTo played.replica.cursor played.seen → Cuts may floor shelf played new l → TrimsLog may floor shelf old new l
+    pub trims : (old mid played new : NodeView) (n who : ℕ) (item : Item) (l : Looked) → Measures law (λ log. least_position old.nodes (unpack_all 0 log)) old mid (measured.At n) → OwnAdds who IsOfSessions old.seen mid.seen
+        → item ≡ trim_item n → IsProposable item → content_of item ≡ Some (Trim n) → TellsAndPlays law mid played item None → (told : Entry) → OwnAdds who (λ e. IsOfSessions e ⊎ (e ≡ told)) mid.seen played.seen → unpack 0 told ≡ placed_from 0 0 (Trim n ∷ [])
+        → IsStateAt Holds IsStateOf played.seen (saved_in played.replica) → 1 ≤ who → who ≤ old.nodes → HasNotLeft who old.seen → ReportsUpTo who old.replica.cursor old.seen → TrimsUpTo played.replica.cursor played.seen → Cuts law played new l → TrimsLog law old new l
     trims old mid played new n who item l m first made fine content (inl t) told adds says at some few stays upto high cuts = absurd (let e = t.is in cc)
     trims old mid played new n who item (looked.Trimmed trim) m first made fine content (inr t) told adds says at some few stays upto high cuts =
-        let moves = tells_moves may floor shelf low mid played item None (inr t) in
-        trims_done may floor shelf low (λ log. least_position old.nodes (unpack_all 0 log)) old mid t.told played new n trim item m t.tells t.plays cuts
-        (trims_of may floor shelf old mid t.told played new n trim who item m made fine content t.tells t.plays (known_played may floor shelf t.told played high t.plays) at cuts some few
+        let moves = tells_moves law low mid played item None (inr t) in
+        trims_done law low (λ log. least_position old.nodes (unpack_all 0 log)) old mid t.told played new n trim item m t.tells t.plays cuts
+        (trims_of law old mid t.told played new n trim who item m made fine content t.tells t.plays (known_played law t.told played high t.plays) at cuts some few
         (λ log front size. member old.seen mid.seen played.seen who n told stays m.moves.goes.keeps.later.legal first moves.goes.keeps.later.legal adds says log front)
         (let within = asks_within old mid who n m first some few stays upto in omega (arith, within, moves.goes.keeps.forward)))
     trims old mid played new n who item (looked.Failed c) m first made fine content (inr t) told adds says at some few stays upto high cuts =
-        trims_uncut may floor shelf low (λ log. least_position old.nodes (unpack_all 0 log)) old mid t.told played new n item c m t.tells t.plays cuts
+        trims_uncut law low (λ log. least_position old.nodes (unpack_all 0 log)) old mid t.told played new n item c m t.tells t.plays cuts
     trims old mid played new n who item l m first made fine content (inr t) told adds says at some few stays upto high cuts = absurd cuts.cuts

@@ -1,6 +1,7 @@
 -- What it takes to hand in a session's next command, and what comes of it.
-use Rattle.std.specs.Prelude.{◌≡◌, ◌⊎◌, ◌<◌, ◌≤◌, ◌+◌, ◌^◌, ℕ, List, [], ◌∷◌, ◌++◌, length, None}
+use Rattle.std.specs.Prelude.{◌≡◌, ◌⊎◌, ◌<◌, ◌≤◌, ◌+◌, ◌^◌, ℕ, [], ◌∷◌, ◌++◌, length, None}
 use Rattle.delos_types.specs.declared.entry.Entry.{Entry}
+use Rattle.legal_journal.specs.Law.{Law}
 use Rattle.table_core.specs.declared.command.Command.{Command}
 use Rattle.table_core.specs.Spelling.{IsSpellable, command_length}
 use Rattle.engine_api.specs.Packing.{packed, session_item}
@@ -10,6 +11,7 @@ use Rattle.node_lines.specs.declared.desk.Desk.{Desk}
 use Rattle.node_lines.specs.Moving.{CanPack, HandsIn}
 use Rattle.node_lines.specs.Desks.{DeskOk, IsBound}
 use Rattle.node_lines.proofs.Widening.{hands_wider}
+use Rattle.turn_scopes.specs.Beside.{IsNarrower}
 
 -- the session's next command may be handed in
 pub record MayLog (may : ℕ → Entry → Type 0) (command : Command) (desk : Desk) (node : NodeView) : Type 0 where
@@ -25,12 +27,11 @@ pub record MayLog (may : ℕ → Entry → Type 0) (command : Command) (desk : D
   pub own : may node.who (packed node.replica.origin (node.replica.kept ++ session_item desk.session (desk.sent + 1) command ∷ []))
 
 -- it was handed in
-pub record LogsOne (may : ℕ → Entry → Type 0) (floor : List Entry → ℕ → Type 0) (shelf : List ℕ) (command : Command) (was is : Desk) (old new : NodeView) : Type 0 where
-  pub hands : HandsIn may floor shelf old new was.session was.sent
+pub record LogsOne (law : Law) (command : Command) (was is : Desk) (old new : NodeView) : Type 0 where
+  pub hands : HandsIn law old new was.session was.sent
   pub desk : DeskOk new was.session is
   pub counts : is ≡ record was { asked = was.asked + 1; sent = was.sent + 1; answers = is.answers }
   pub kept : (new.replica.kept ≡ old.replica.kept ++ session_item was.session (was.sent + 1) command ∷ []) ⊎ (new.replica.kept ≡ [])
 
-pub logs_wider : (a b : ℕ → Entry → Type 0) (low high : List Entry → ℕ → Type 0) (shelf : List ℕ) → ((who : ℕ) (e : Entry) → a who e → b who e) → ((log : List Entry) (n : ℕ) → low log n → high log n)
-    → (command : Command) (was is : Desk) (old new : NodeView) → LogsOne a low shelf command was is old new → LogsOne b high shelf command was is old new
-logs_wider a b low high shelf up down command was is old new h = record { hands = hands_wider a b low high shelf up down old new was.session was.sent h.hands; desk = h.desk; counts = h.counts; kept = h.kept }
+pub logs_wider : (scope law : Law) → IsNarrower scope law → (command : Command) (was is : Desk) (old new : NodeView) → LogsOne scope command was is old new → LogsOne law command was is old new
+logs_wider scope law narrow command was is old new h = record { hands = hands_wider scope law narrow old new was.session was.sent h.hands; desk = h.desk; counts = h.counts; kept = h.kept }

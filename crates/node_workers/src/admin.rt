@@ -1,10 +1,7 @@
 //! A node's own lines, by the rules of a run: the last loglet of the log is replaced, the node reports, or trims the log. They are of no
 //! session, and change no desk.
-ghost use Rattle.std.specs.Prelude.{◌≡◌, ◌<◌, ◌≤◌, ◌^◌, ℕ, List, [], ◌∷◌, IfOk};
-ghost use Rattle.delos_types.specs.Spaces.{SpaceMap};
-ghost use Rattle.delos_types.specs.declared.entry.Entry.{Entry};
+ghost use Rattle.std.specs.Prelude.{◌≡◌, ◌<◌, ◌≤◌, ◌^◌, ℕ, [], ◌∷◌, IfOk};
 ghost use Rattle.engine_api.specs.Packing.{packed, alive_item, trim_item};
-ghost use Rattle.log_laws.specs.State.{IsStateOf};
 ghost use Rattle.turn_scopes.specs.Floors.{FloorIs};
 ghost use Rattle.turn_scopes.specs.Seats.{node_of};
 ghost use Rattle.node_lines.specs.Extending.{Extends};
@@ -39,17 +36,15 @@ struct ExtendLine;
 impl OwnLine for ExtendLine {
     type Answer = Looked;
 
-    ghost reads = { ⊥ };
-
-    ghost can = { λ may floor line node. Unit {0} };
+    ghost can = { λ law line node. Unit {0} };
 
     ghost seals = { Unit {0} };
 
     ghost adds = { λ line old new x. OwnAdds old.who IsOfSessions old.seen new.seen };
 
-    ghost did = { λ may floor shelf line old new x. Extends may floor shelf old new x };
+    ghost did = { λ law line old new x. Extends law old new x };
 
-    ghost moves = { λ may floor shelf line old new x h. extends_on may floor shelf old new x h };
+    ghost moves = { λ law line old new x h. extends_on law old new x h };
 
     #[tactic(auto, using(crate::proofs::Stepping::left_any))]
     fn go<A: Access, E: Sent, S: Replica, C: Chooser>(
@@ -72,17 +67,17 @@ pub fn extend_line<A: Access, S: Replica, C: Chooser>(
     access: A,
     worker: Worker<S, C>,
 ) -> Back<A, Worker<S, C>, Looked>
-    requires run { MayRun A.Law.may A.Law.floor A.Law.shelf }
+    requires run { MayRun A.Law.law }
     requires who { worker.seat.who ≡ A.who access }
-    requires kept { IsKept A.beside A.Law.floor worker.seat (A.seen access) }
-    requires worker { WorkerOk A.Law.may A.Law.floor A.Law.shelf S.state S.spells worker.seat.who (A.seen access) worker.seat worker.desks.items }
+    requires kept { IsKept A.beside A.Law.law.floor worker.seat (A.seen access) }
+    requires worker { WorkerOk A.Law.law S.state S.spells worker.seat.who (A.seen access) worker.seat worker.desks.items }
     ensures desks { result.part.desks ≡ worker.desks }
     ensures who { A.who result.access ≡ A.who access }
-    ensures left { IsLeft A.Law.may A.Law.floor A.Law.shelf S.state S.spells A.beside (Unit {0}) (A.seen access) worker.seat (A.seen result.access) result.part.seat }
-    ensures worker { IfOk result.answer (λ l. WorkerOk A.Law.may A.Law.floor A.Law.shelf S.state S.spells worker.seat.who (A.seen result.access) result.part.seat result.part.desks.items) }
-    ensures kept { IfOk result.answer (λ l. IsKept A.beside A.Law.floor result.part.seat (A.seen result.access)) }
+    ensures left { IsLeft A.Law.law S.state S.spells A.beside (Unit {0}) (A.seen access) worker.seat (A.seen result.access) result.part.seat }
+    ensures worker { IfOk result.answer (λ l. WorkerOk A.Law.law S.state S.spells worker.seat.who (A.seen result.access) result.part.seat result.part.desks.items) }
+    ensures kept { IfOk result.answer (λ l. IsKept A.beside A.Law.law.floor result.part.seat (A.seen result.access)) }
     ensures adds { IfOk result.answer (λ l. OwnAdds worker.seat.who IsOfSessions (A.seen access) (A.seen result.access)) }
-    ensures extends { IfOk result.answer (Extends (OwnWithin worker.seat.who A.Law.may (sent_by worker.desks.items)) A.Law.floor A.Law.shelf (node_of worker.seat (A.seen access)) (node_of result.part.seat (A.seen result.access))) }
+    ensures extends { IfOk result.answer (Extends (record A.Law.law { may = OwnWithin worker.seat.who A.Law.law.may (sent_by worker.desks.items) }) (node_of worker.seat (A.seen access)) (node_of result.part.seat (A.seen result.access))) }
 {
     own_line(access, worker, ExtendLine)
 }
@@ -96,13 +91,13 @@ struct ReportLine {
 impl OwnLine for ReportLine {
     type Answer = Looked;
 
-    ghost can = { λ may floor line node. (node.who ≡ line.number) × ((position : ℕ) → position < 2 ^ 64 → may node.who (packed node.who (alive_item node.who position ∷ []))) };
+    ghost can = { λ law line node. (node.who ≡ line.number) × ((position : ℕ) → position < 2 ^ 64 → law.may node.who (packed node.who (alive_item node.who position ∷ []))) };
 
     ghost adds = { λ line old new x. ReportAdds old.who new.replica.cursor old.seen new.seen x };
 
-    ghost did = { λ may floor shelf line old new x. Reports may floor shelf old new x };
+    ghost did = { λ law line old new x. Reports law old new x };
 
-    ghost moves = { λ may floor shelf line old new x h. record { others = h.others; moves = h.moves; kept = h.kept } };
+    ghost moves = { λ law line old new x h. record { others = h.others; moves = h.moves; kept = h.kept } };
 
     fn go<A: Access, E: Sent, S: Replica, C: Chooser>(
         self,
@@ -150,20 +145,19 @@ pub fn report_line<A: Access, S: Replica, C: Chooser>(
     worker: Worker<S, C>,
     number: NodeId,
 ) -> Back<A, Worker<S, C>, Looked>
-    requires run { MayRun A.Law.may A.Law.floor A.Law.shelf }
+    requires run { MayRun A.Law.law }
     requires who { worker.seat.who ≡ A.who access }
-    requires kept { IsKept A.beside A.Law.floor worker.seat (A.seen access) }
-    requires state { (log : List Entry) (m : SpaceMap) → S.state log m → IsStateOf log m }
-    requires worker { WorkerOk A.Law.may A.Law.floor A.Law.shelf S.state S.spells worker.seat.who (A.seen access) worker.seat worker.desks.items }
+    requires kept { IsKept A.beside A.Law.law.floor worker.seat (A.seen access) }
+    requires worker { WorkerOk A.Law.law S.state S.spells worker.seat.who (A.seen access) worker.seat worker.desks.items }
     requires number { worker.seat.who ≡ number }
-    requires own { (position : ℕ) → position < 2 ^ 64 → A.Law.may worker.seat.who (packed worker.seat.who (alive_item worker.seat.who position ∷ [])) }
+    requires own { (position : ℕ) → position < 2 ^ 64 → A.Law.law.may worker.seat.who (packed worker.seat.who (alive_item worker.seat.who position ∷ [])) }
     ensures desks { result.part.desks ≡ worker.desks }
     ensures who { A.who result.access ≡ A.who access }
-    ensures left { IsLeft A.Law.may A.Law.floor A.Law.shelf S.state S.spells A.beside ⊥ (A.seen access) worker.seat (A.seen result.access) result.part.seat }
-    ensures worker { IfOk result.answer (λ l. WorkerOk A.Law.may A.Law.floor A.Law.shelf S.state S.spells worker.seat.who (A.seen result.access) result.part.seat result.part.desks.items) }
-    ensures kept { IfOk result.answer (λ l. IsKept A.beside A.Law.floor result.part.seat (A.seen result.access)) }
+    ensures left { IsLeft A.Law.law S.state S.spells A.beside ⊥ (A.seen access) worker.seat (A.seen result.access) result.part.seat }
+    ensures worker { IfOk result.answer (λ l. WorkerOk A.Law.law S.state S.spells worker.seat.who (A.seen result.access) result.part.seat result.part.desks.items) }
+    ensures kept { IfOk result.answer (λ l. IsKept A.beside A.Law.law.floor result.part.seat (A.seen result.access)) }
     ensures adds { IfOk result.answer (ReportAdds worker.seat.who result.part.seat.node.replica.cursor (A.seen access) (A.seen result.access)) }
-    ensures reports { IfOk result.answer (λ l. Reports (OwnWithin worker.seat.who A.Law.may (sent_by worker.desks.items)) A.Law.floor A.Law.shelf (node_of worker.seat (A.seen access)) (node_of result.part.seat (A.seen result.access)) l) }
+    ensures reports { IfOk result.answer (λ l. Reports (record A.Law.law { may = OwnWithin worker.seat.who A.Law.law.may (sent_by worker.desks.items) }) (node_of worker.seat (A.seen access)) (node_of result.part.seat (A.seen result.access)) l) }
 {
     own_line(access, worker, ReportLine { alloc, number })
 }
@@ -177,13 +171,13 @@ struct TrimLine {
 impl OwnLine for TrimLine {
     type Answer = Looked;
 
-    ghost can = { λ may floor line node. MayAskTrim may floor line.number node };
+    ghost can = { λ law line node. MayAskTrim law line.number node };
 
     ghost adds = { λ line old new x. TrimAdds old.who old.seen new.seen };
 
-    ghost did = { λ may floor shelf line old new x. TrimsLog may floor shelf old new x };
+    ghost did = { λ law line old new x. TrimsLog law old new x };
 
-    ghost moves = { λ may floor shelf line old new x h. record { others = h.others; moves = h.moves; kept = h.kept } };
+    ghost moves = { λ law line old new x h. record { others = h.others; moves = h.moves; kept = h.kept } };
 
     fn go<A: Access, E: Sent, S: Replica, C: Chooser>(
         self,
@@ -235,24 +229,23 @@ pub fn trim_line<A: Access, S: Replica, C: Chooser>(
     worker: Worker<S, C>,
     number: NodeId,
 ) -> Back<A, Worker<S, C>, Looked>
-    requires run { MayRun A.Law.may A.Law.floor A.Law.shelf }
+    requires run { MayRun A.Law.law }
     requires who { worker.seat.who ≡ A.who access }
-    requires kept { IsKept A.beside A.Law.floor worker.seat (A.seen access) }
-    requires state { (log : List Entry) (m : SpaceMap) → S.state log m → IsStateOf log m }
-    requires worker { WorkerOk A.Law.may A.Law.floor A.Law.shelf S.state S.spells worker.seat.who (A.seen access) worker.seat worker.desks.items }
+    requires kept { IsKept A.beside A.Law.law.floor worker.seat (A.seen access) }
+    requires worker { WorkerOk A.Law.law S.state S.spells worker.seat.who (A.seen access) worker.seat worker.desks.items }
     requires number { worker.seat.who ≡ number }
     requires few { worker.seat.who ≤ worker.seat.node.nodes }
-    requires floor { FloorIs A.Law.floor worker.seat.node.nodes }
+    requires floor { FloorIs A.Law.law.floor worker.seat.node.nodes }
     requires stays { HasNotLeft worker.seat.who (A.seen access) }
     requires upto { ReportsUpTo worker.seat.who worker.seat.node.replica.cursor (A.seen access) }
-    requires own { (position : ℕ) → position < 2 ^ 64 → A.Law.may worker.seat.who (packed worker.seat.who (trim_item position ∷ [])) }
+    requires own { (position : ℕ) → position < 2 ^ 64 → A.Law.law.may worker.seat.who (packed worker.seat.who (trim_item position ∷ [])) }
     ensures desks { result.part.desks ≡ worker.desks }
     ensures who { A.who result.access ≡ A.who access }
-    ensures left { IsLeft A.Law.may A.Law.floor A.Law.shelf S.state S.spells A.beside ⊥ (A.seen access) worker.seat (A.seen result.access) result.part.seat }
-    ensures worker { IfOk result.answer (λ l. WorkerOk A.Law.may A.Law.floor A.Law.shelf S.state S.spells worker.seat.who (A.seen result.access) result.part.seat result.part.desks.items) }
-    ensures kept { IfOk result.answer (λ l. IsKept A.beside A.Law.floor result.part.seat (A.seen result.access)) }
+    ensures left { IsLeft A.Law.law S.state S.spells A.beside ⊥ (A.seen access) worker.seat (A.seen result.access) result.part.seat }
+    ensures worker { IfOk result.answer (λ l. WorkerOk A.Law.law S.state S.spells worker.seat.who (A.seen result.access) result.part.seat result.part.desks.items) }
+    ensures kept { IfOk result.answer (λ l. IsKept A.beside A.Law.law.floor result.part.seat (A.seen result.access)) }
     ensures adds { IfOk result.answer (λ l. TrimAdds worker.seat.who (A.seen access) (A.seen result.access)) }
-    ensures trims { IfOk result.answer (λ l. TrimsLog (OwnWithin worker.seat.who A.Law.may (sent_by worker.desks.items)) A.Law.floor A.Law.shelf (node_of worker.seat (A.seen access)) (node_of result.part.seat (A.seen result.access)) l) }
+    ensures trims { IfOk result.answer (λ l. TrimsLog (record A.Law.law { may = OwnWithin worker.seat.who A.Law.law.may (sent_by worker.desks.items) }) (node_of worker.seat (A.seen access)) (node_of result.part.seat (A.seen result.access)) l) }
 {
     own_line(access, worker, TrimLine { alloc, number })
 }

@@ -1,10 +1,7 @@
 //! A node leaves, by the rules of a run. Behind its leave others may trim the log past it, so all its sessions have their answers before.
-ghost use Rattle.std.specs.Prelude.{All, ◌≡◌, ◌⊎◌, ℕ, List, [], ◌∷◌, length, IfOk, OnOk};
-ghost use Rattle.delos_types.specs.Spaces.{SpaceMap};
-ghost use Rattle.delos_types.specs.declared.entry.Entry.{Entry};
+ghost use Rattle.std.specs.Prelude.{All, ◌≡◌, ◌⊎◌, [], ◌∷◌, length, IfOk, OnOk};
 ghost use Rattle.journal_laws.specs.Changes.{TrimsUpTo};
 ghost use Rattle.engine_api.specs.Packing.{packed, leave_item};
-ghost use Rattle.log_laws.specs.State.{IsStateOf};
 ghost use Rattle.turn_scopes.specs.Alone.{IsAlone};
 ghost use Rattle.turn_scopes.specs.Seats.{SeatOk, node_of};
 ghost use Rattle.node_lines.specs.Moving.{CanPack};
@@ -41,26 +38,25 @@ fn leave_at<A: Access, E: Sent, S: Replica, C: Chooser>(
     desks: &mut Vec<Desk>,
     number: NodeId,
 ) -> Back<A, Seat<S, C>, Looked>
-    requires run { MayRun A.Law.may A.Law.floor A.Law.shelf }
+    requires run { MayRun A.Law.law }
     requires who { seat.who ≡ A.who access }
-    requires kept { IsKept A.beside A.Law.floor seat (A.seen access) }
-    requires state { (log : List Entry) (m : SpaceMap) → S.state log m → IsStateOf log m }
-    requires seat { SeatOk (Sends seat.who A.Law.may E.counts (A.seen access)) A.Law.floor A.Law.shelf S.state S.spells (A.seen access) seat }
+    requires kept { IsKept A.beside A.Law.law.floor seat (A.seen access) }
+    requires seat { SeatOk (record A.Law.law { may = Sends seat.who A.Law.law.may E.counts (A.seen access) }) S.state S.spells (A.seen access) seat }
     requires packs { CanPack seat.node.replica.kept }
     requires desks { DesksOk (node_of seat (A.seen access)) desks.old.items }
-    requires bound { AreBound (Sends seat.who A.Law.may E.counts (A.seen access)) desks.old.items }
+    requires bound { AreBound (Sends seat.who A.Law.law.may E.counts (A.seen access)) desks.old.items }
     requires origin { seat.node.replica.origin ≡ seat.who }
     requires number { seat.who ≡ number }
-    requires own { A.Law.may seat.who (packed seat.who (leave_item seat.who ∷ [])) }
+    requires own { A.Law.law.may seat.who (packed seat.who (leave_item seat.who ∷ [])) }
     ensures who { A.who result.access ≡ A.who access }
-    ensures left { IsLeft A.Law.may A.Law.floor A.Law.shelf S.state S.spells A.beside ⊥ (A.seen access) seat (A.seen result.access) result.part }
-    ensures ok { OnOk result.answer (SeatOk (Sends result.part.who A.Law.may E.counts (A.seen result.access)) A.Law.floor A.Law.shelf S.state S.spells (A.seen result.access) result.part) }
+    ensures left { IsLeft A.Law.law S.state S.spells A.beside ⊥ (A.seen access) seat (A.seen result.access) result.part }
+    ensures ok { OnOk result.answer (SeatOk (record A.Law.law { may = Sends result.part.who A.Law.law.may E.counts (A.seen result.access) }) S.state S.spells (A.seen result.access) result.part) }
     ensures each { OnOk result.answer (DesksOk (node_of result.part (A.seen result.access)) desks.new.items) }
     ensures desks { OnOk result.answer ((length desks.new.items ≡ length desks.old.items) × IsAnswered desks.old.items desks.new.items) }
     ensures high { IsAlone (A.beside seat.who) → OnOk result.answer (TrimsUpTo result.part.node.replica.cursor (A.seen result.access)) }
-    ensures stays { OnOk result.answer (IsKept A.beside A.Law.floor result.part (A.seen result.access) ⊎ AllAnswered (node_of result.part (A.seen result.access)) desks.new.items) }
+    ensures stays { OnOk result.answer (IsKept A.beside A.Law.law.floor result.part (A.seen result.access) ⊎ AllAnswered (node_of result.part (A.seen result.access)) desks.new.items) }
     ensures adds { OnOk result.answer (LeaveAdds seat.who (A.seen access) (A.seen result.access)) }
-    ensures leaves { IfOk result.answer (Leaves (OwnWithin seat.who A.Law.may E.counts) A.Law.floor A.Law.shelf (node_of seat (A.seen access)) (node_of result.part (A.seen result.access))) }
+    ensures leaves { IfOk result.answer (Leaves (record A.Law.law { may = OwnWithin seat.who A.Law.law.may E.counts }) (node_of seat (A.seen access)) (node_of result.part (A.seen result.access))) }
 {
     // A leave is spelled with the numbers of nodes alone.
     prove!(number.number() <= 8);
@@ -98,16 +94,15 @@ pub fn leave_line<A: Access, S: Replica, C: Chooser>(
     worker: Worker<S, C>,
     number: NodeId,
 ) -> Back<A, Worker<S, C>, Looked>
-    requires run { MayRun A.Law.may A.Law.floor A.Law.shelf }
+    requires run { MayRun A.Law.law }
     requires who { worker.seat.who ≡ A.who access }
-    requires kept { IsKept A.beside A.Law.floor worker.seat (A.seen access) }
-    requires state { (log : List Entry) (m : SpaceMap) → S.state log m → IsStateOf log m }
-    requires worker { WorkerOk A.Law.may A.Law.floor A.Law.shelf S.state S.spells worker.seat.who (A.seen access) worker.seat worker.desks.items }
+    requires kept { IsKept A.beside A.Law.law.floor worker.seat (A.seen access) }
+    requires worker { WorkerOk A.Law.law S.state S.spells worker.seat.who (A.seen access) worker.seat worker.desks.items }
     requires number { worker.seat.who ≡ number }
-    requires own { A.Law.may worker.seat.who (packed worker.seat.who (leave_item worker.seat.who ∷ [])) }
+    requires own { A.Law.law.may worker.seat.who (packed worker.seat.who (leave_item worker.seat.who ∷ [])) }
     ensures who { A.who result.access ≡ A.who access }
-    ensures left { IsLeft A.Law.may A.Law.floor A.Law.shelf S.state S.spells A.beside ⊥ (A.seen access) worker.seat (A.seen result.access) result.part.seat }
-    ensures worker { OnOk result.answer (WorkerOk A.Law.may A.Law.floor A.Law.shelf S.state S.spells worker.seat.who (A.seen result.access) result.part.seat result.part.desks.items) }
+    ensures left { IsLeft A.Law.law S.state S.spells A.beside ⊥ (A.seen access) worker.seat (A.seen result.access) result.part.seat }
+    ensures worker { OnOk result.answer (WorkerOk A.Law.law S.state S.spells worker.seat.who (A.seen result.access) result.part.seat result.part.desks.items) }
 
     // The desks are as they were, but for answers that were taken.
     ensures desks { OnOk result.answer (IsAnswered worker.desks.items result.part.desks.items) }
@@ -116,9 +111,9 @@ pub fn leave_line<A: Access, S: Replica, C: Chooser>(
     ensures high { IsAlone (A.beside worker.seat.who) → OnOk result.answer (TrimsUpTo result.part.seat.node.replica.cursor (A.seen result.access)) }
 
     // The phase can end then.
-    ensures stays { OnOk result.answer (IsKept A.beside A.Law.floor result.part.seat (A.seen result.access) ⊎ AllAnswered (node_of result.part.seat (A.seen result.access)) result.part.desks.items) }
+    ensures stays { OnOk result.answer (IsKept A.beside A.Law.law.floor result.part.seat (A.seen result.access) ⊎ AllAnswered (node_of result.part.seat (A.seen result.access)) result.part.desks.items) }
     ensures adds { OnOk result.answer (LeaveAdds worker.seat.who (A.seen access) (A.seen result.access)) }
-    ensures leaves { IfOk result.answer (Leaves (OwnWithin worker.seat.who A.Law.may (sent_by worker.desks.items)) A.Law.floor A.Law.shelf (node_of worker.seat (A.seen access)) (node_of result.part.seat (A.seen result.access))) }
+    ensures leaves { IfOk result.answer (Leaves (record A.Law.law { may = OwnWithin worker.seat.who A.Law.law.may (sent_by worker.desks.items) }) (node_of worker.seat (A.seen access)) (node_of result.part.seat (A.seen result.access))) }
 {
     let Worker { seat, desks } = worker;
     let mut desks = desks;

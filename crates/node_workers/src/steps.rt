@@ -1,5 +1,5 @@
 //! What a node does in its turns, one step each.
-ghost use Rattle.std.specs.Prelude.{◌≡◌, ◌⊎◌, ◌<◌, ◌≤◌, ◌^◌, ℕ, List, [], length, None};
+ghost use Rattle.std.specs.Prelude.{◌≡◌, ◌⊎◌, ◌<◌, ◌≤◌, ◌^◌, List, [], length, None};
 ghost use Rattle.delos_types.specs.declared.entry.Entry.{Entry};
 ghost use Rattle.engine_api.specs.Acted.{unpack_all};
 ghost use Rattle.engine_api.specs.Members.{clean_position, least_position};
@@ -48,15 +48,13 @@ impl NodeStep for Settle {
 
     type On = ();
 
-    ghost reads = { ⊥ };
+    ghost can = { λ law step on node. CanPack node.replica.kept };
 
-    ghost can = { λ may floor shelf step on node. CanPack node.replica.kept };
+    ghost did = { λ law step was is old new x. CarriesAll law old new };
 
-    ghost did = { λ may floor shelf step was is old new x. CarriesAll may floor shelf old new };
+    ghost wider = { λ scope law narrow step was is old new x h. carries_wider scope law narrow old new h };
 
-    ghost wider = { λ a b low high shelf up down step was is old new x h. carries_wider a b low high shelf up down old new h };
-
-    ghost keeps = { λ may floor shelf step was is old new x h. h.moves.goes.keeps };
+    ghost keeps = { λ law step was is old new x h. h.moves.goes.keeps };
 
     fn run<T: Turns, C: Chooser, R: Replica>(
         self,
@@ -76,17 +74,15 @@ impl NodeStep for Extend {
 
     type On = ();
 
-    ghost reads = { ⊥ };
-
-    ghost can = { λ may floor shelf step on node. Unit {0} };
+    ghost can = { λ law step on node. Unit {0} };
 
     ghost seals = { λ who. Unit {0} };
 
-    ghost did = { λ may floor shelf step was is old new x. Replaces may floor shelf old new x };
+    ghost did = { λ law step was is old new x. Replaces law old new x };
 
-    ghost wider = { λ a b low high shelf up down step was is old new x h. replaces_wider a b low high shelf up down old new x h };
+    ghost wider = { λ scope law narrow step was is old new x h. replaces_wider scope law narrow old new x h };
 
-    ghost keeps = { λ may floor shelf step was is old new x h. h.moves.goes.keeps };
+    ghost keeps = { λ law step was is old new x h. h.moves.goes.keeps };
 
     fn run<T: Turns, C: Chooser, R: Replica>(
         self,
@@ -109,13 +105,13 @@ impl NodeStep for Clean {
 
     ghost stays = { Unit {0} };
 
-    ghost can = { λ may floor shelf step on node. CanPack node.replica.kept };
+    ghost can = { λ law step on node. CanPack node.replica.kept };
 
-    ghost did = { λ may floor shelf step was is old new x. Measures may floor shelf clean_position old new x };
+    ghost did = { λ law step was is old new x. Measures law clean_position old new x };
 
-    ghost wider = { λ a b low high shelf up down step was is old new x h. measures_wider a b low high shelf up down clean_position old new x h };
+    ghost wider = { λ scope law narrow step was is old new x h. measures_wider scope law narrow clean_position old new x h };
 
-    ghost keeps = { λ may floor shelf step was is old new x h. h.moves.goes.keeps };
+    ghost keeps = { λ law step was is old new x h. h.moves.goes.keeps };
 
     fn run<T: Turns, C: Chooser, R: Replica>(
         self,
@@ -137,13 +133,13 @@ impl NodeStep for Least {
 
     ghost stays = { Unit {0} };
 
-    ghost can = { λ may floor shelf step on node. CanPack node.replica.kept };
+    ghost can = { λ law step on node. CanPack node.replica.kept };
 
-    ghost did = { λ may floor shelf step was is old new x. Measures may floor shelf (λ log. least_position old.nodes (unpack_all 0 log)) old new x };
+    ghost did = { λ law step was is old new x. Measures law (λ log. least_position old.nodes (unpack_all 0 log)) old new x };
 
-    ghost wider = { λ a b low high shelf up down step was is old new x h. measures_wider a b low high shelf up down (λ log. least_position old.nodes (unpack_all 0 log)) old new x h };
+    ghost wider = { λ scope law narrow step was is old new x h. measures_wider scope law narrow (λ log. least_position old.nodes (unpack_all 0 log)) old new x h };
 
-    ghost keeps = { λ may floor shelf step was is old new x h. h.moves.goes.keeps };
+    ghost keeps = { λ law step was is old new x h. h.moves.goes.keeps };
 
     fn run<T: Turns, C: Chooser, R: Replica>(
         self,
@@ -164,15 +160,13 @@ impl NodeStep for Tell {
 
     type On = ();
 
-    ghost reads = { ⊥ };
+    ghost can = { λ law step on node. MayTell law.may step.item node };
 
-    ghost can = { λ may floor shelf step on node. MayTell may step.item node };
+    ghost did = { λ law step was is old new x. Tells law old new step.item x };
 
-    ghost did = { λ may floor shelf step was is old new x. Tells may floor shelf old new step.item x };
+    ghost wider = { λ scope law narrow step was is old new x h. tells_wider scope law narrow old new step.item x h };
 
-    ghost wider = { λ a b low high shelf up down step was is old new x h. tells_wider a b low high shelf up down old new step.item x h };
-
-    ghost keeps = { λ may floor shelf step was is old new x h. h.moves.goes.keeps };
+    ghost keeps = { λ law step was is old new x h. h.moves.goes.keeps };
 
     fn run<T: Turns, C: Chooser, R: Replica>(
         self,
@@ -193,15 +187,13 @@ impl NodeStep for Play {
 
     type On = ();
 
-    ghost reads = { ⊥ };
+    ghost can = { λ law step on node. Unit {0} };
 
-    ghost can = { λ may floor shelf step on node. Unit {0} };
+    ghost did = { λ law step was is old new x. PlaysKnown law old new x };
 
-    ghost did = { λ may floor shelf step was is old new x. PlaysKnown may floor shelf old new x };
+    ghost wider = { λ scope law narrow step was is old new x h. plays_wider scope law narrow old new x h };
 
-    ghost wider = { λ a b low high shelf up down step was is old new x h. plays_wider a b low high shelf up down old new x h };
-
-    ghost keeps = { λ may floor shelf step was is old new x h. h.moves.goes.keeps };
+    ghost keeps = { λ law step was is old new x h. h.moves.goes.keeps };
 
     fn run<T: Turns, C: Chooser, R: Replica>(
         self,
@@ -221,15 +213,13 @@ impl NodeStep for Cut {
 
     type On = ();
 
-    ghost reads = { ⊥ };
+    ghost can = { λ law step on node. (log : List Entry) → IsFront Holds node.seen log → length log ≡ node.replica.cursor → law.floor log (trim_to node.nodes node.replica) };
 
-    ghost can = { λ may floor shelf step on node. (log : List Entry) → IsFront Holds node.seen log → length log ≡ node.replica.cursor → floor log (trim_to node.nodes node.replica) };
+    ghost did = { λ law step was is old new x. Cuts law old new x };
 
-    ghost did = { λ may floor shelf step was is old new x. Cuts may floor shelf old new x };
+    ghost wider = { λ scope law narrow step was is old new x h. cuts_wider scope law narrow old new x h };
 
-    ghost wider = { λ a b low high shelf up down step was is old new x h. cuts_wider a b low high shelf up down old new x h };
-
-    ghost keeps = { λ may floor shelf step was is old new x h. h.moves.goes.keeps };
+    ghost keeps = { λ law step was is old new x h. h.moves.goes.keeps };
 
     fn run<T: Turns, C: Chooser, R: Replica>(
         self,
@@ -251,13 +241,13 @@ impl NodeStep for Ready {
 
     ghost stays = { Unit {0} };
 
-    ghost can = { λ may floor shelf step on node. CanPack node.replica.kept × DeskOk node on.session on × IsBound may on.session on.sent × (on.asked < 2 ^ 32) };
+    ghost can = { λ law step on node. CanPack node.replica.kept × DeskOk node on.session on × IsBound law.may on.session on.sent × (on.asked < 2 ^ 32) };
 
-    ghost did = { λ may floor shelf step was is old new x. Readies may floor shelf old new was is x × DeskOk new was.session is × (new.replica.kept ≡ old.replica.kept) };
+    ghost did = { λ law step was is old new x. Readies law old new was is x × DeskOk new was.session is × (new.replica.kept ≡ old.replica.kept) };
 
-    ghost wider = { λ a b low high shelf up down step was is old new x h. (readies_wider a b low high shelf up down old new was is x h.0, h.1, h.2) };
+    ghost wider = { λ scope law narrow step was is old new x h. (readies_wider scope law narrow old new was is x h.0, h.1, h.2) };
 
-    ghost keeps = { λ may floor shelf step was is old new x h. h.0.moves.goes.keeps };
+    ghost keeps = { λ law step was is old new x h. h.0.moves.goes.keeps };
 
     fn run<T: Turns, C: Chooser, R: Replica>(
         self,
@@ -279,13 +269,13 @@ impl NodeStep for AnswerAll {
 
     ghost stays = { Unit {0} };
 
-    ghost can = { λ may floor shelf step on node. CanPack node.replica.kept × DesksOk node on.items × AreBound may on.items };
+    ghost can = { λ law step on node. CanPack node.replica.kept × DesksOk node on.items × AreBound law.may on.items };
 
-    ghost did = { λ may floor shelf step was is old new x. AnswersAll may floor shelf old new was.items is.items x };
+    ghost did = { λ law step was is old new x. AnswersAll law old new was.items is.items x };
 
-    ghost wider = { λ a b low high shelf up down step was is old new x h. answers_wider a b low high shelf up down old new was.items is.items x h };
+    ghost wider = { λ scope law narrow step was is old new x h. answers_wider scope law narrow old new was.items is.items x h };
 
-    ghost keeps = { λ may floor shelf step was is old new x h. h.moves.goes.keeps };
+    ghost keeps = { λ law step was is old new x h. h.moves.goes.keeps };
 
     fn run<T: Turns, C: Chooser, R: Replica>(
         self,
@@ -305,13 +295,13 @@ impl NodeStep for End {
 
     type On = Vec<Desk>;
 
-    ghost can = { λ may floor shelf step on node. CanPack node.replica.kept × DesksOk node on.items × AreBound may on.items × (KeepsFrom may floor shelf node.replica.cursor ⊎ AllAnswered node on.items) };
+    ghost can = { λ law step on node. CanPack node.replica.kept × DesksOk node on.items × AreBound law.may on.items × (KeepsFrom law node.replica.cursor ⊎ AllAnswered node on.items) };
 
-    ghost did = { λ may floor shelf step was is old new x. EndsTurn may floor shelf old new was.items is.items x };
+    ghost did = { λ law step was is old new x. EndsTurn law old new was.items is.items x };
 
-    ghost wider = { λ a b low high shelf up down step was is old new x h. ends_wider a b low high shelf up down old new was.items is.items x h };
+    ghost wider = { λ scope law narrow step was is old new x h. ends_wider scope law narrow old new was.items is.items x h };
 
-    ghost keeps = { λ may floor shelf step was is old new x h. ends_keeps may floor shelf old new was.items is.items x h };
+    ghost keeps = { λ law step was is old new x h. ends_keeps law old new was.items is.items x h };
 
     fn run<T: Turns, C: Chooser, R: Replica>(
         self,
@@ -335,13 +325,13 @@ impl<'a> NodeStep for Look<'a> {
 
     ghost stays = { Unit {0} };
 
-    ghost can = { λ may floor shelf step on node. CanPack node.replica.kept × DeskOk node step.desk.now.session step.desk.now × IsBound may step.desk.now.session step.desk.now.sent };
+    ghost can = { λ law step on node. CanPack node.replica.kept × DeskOk node step.desk.now.session step.desk.now × IsBound law.may step.desk.now.session step.desk.now.sent };
 
-    ghost did = { λ may floor shelf step was is old new x. Looks may floor shelf old new step.desk.now step.query.now x × (new.replica.kept ≡ []) };
+    ghost did = { λ law step was is old new x. Looks law old new step.desk.now step.query.now x × (new.replica.kept ≡ []) };
 
-    ghost wider = { λ a b low high shelf up down step was is old new x h. (looks_wider a b low high shelf up down old new step.desk.now step.query.now x h.0, h.1) };
+    ghost wider = { λ scope law narrow step was is old new x h. (looks_wider scope law narrow old new step.desk.now step.query.now x h.0, h.1) };
 
-    ghost keeps = { λ may floor shelf step was is old new x h. h.0.moves.goes.keeps };
+    ghost keeps = { λ law step was is old new x h. h.0.moves.goes.keeps };
 
     fn run<T: Turns, C: Chooser, R: Replica>(
         self,
@@ -364,13 +354,13 @@ impl<'a> NodeStep for Log<'a> {
 
     type On = Desk;
 
-    ghost can = { λ may floor shelf step on node. MayLog may step.command.now on node };
+    ghost can = { λ law step on node. MayLog law.may step.command.now on node };
 
-    ghost did = { λ may floor shelf step was is old new x. LogsOne may floor shelf step.command.now was is old new };
+    ghost did = { λ law step was is old new x. LogsOne law step.command.now was is old new };
 
-    ghost wider = { λ a b low high shelf up down step was is old new x h. logs_wider a b low high shelf up down step.command.now was is old new h };
+    ghost wider = { λ scope law narrow step was is old new x h. logs_wider scope law narrow step.command.now was is old new h };
 
-    ghost keeps = { λ may floor shelf step was is old new x h. h.hands.goes.keeps };
+    ghost keeps = { λ law step was is old new x h. h.hands.goes.keeps };
 
     fn run<T: Turns, C: Chooser, R: Replica>(
         self,

@@ -1,9 +1,7 @@
 //! Any step: within a scope, and in a turn by the rules of a run.
 ghost use Rattle.std.specs.Prelude.{◌≡◌, ◌≤◌, ℕ, List, length, IfOk, OnOk};
-ghost use Rattle.delos_types.specs.Spaces.{SpaceMap};
 ghost use Rattle.delos_types.specs.declared.entry.Entry.{Entry};
 ghost use Rattle.journal_laws.specs.Changes.{TrimsUpTo};
-ghost use Rattle.log_laws.specs.State.{IsStateOf};
 ghost use Rattle.turn_scopes.specs.Beside.{Since, SealsByRight, Narrows};
 ghost use Rattle.turn_scopes.specs.Seats.{SeatOk, node_of};
 ghost use Rattle.node_lines.specs.Desks.{KeepsFrom};
@@ -27,22 +25,21 @@ pub fn within<A: Access, Q: Scope, S: Replica, C: Chooser, X: NodeStep>(
     step: X,
     on: &mut X::On,
 ) -> Back<A, Seat<S, C>, X::Answer>
-    requires floor { (log : List Entry) (n : ℕ) → Q.floor log n → n ≤ length log }
-    requires state { X.reads → (log : List Entry) (m : SpaceMap) → S.state log m → IsStateOf log m }
+    requires floor { (log : List Entry) (n : ℕ) → Q.law.floor log n → n ≤ length log }
     requires who { seat.who ≡ A.who access }
-    requires narrows { Narrows A.Law.may Q.sends A.Law.floor Q.floor A.Law.shelf (A.beside (A.who access)) }
-    requires seat { SeatOk Q.sends Q.floor A.Law.shelf S.state S.spells (A.seen access) seat }
+    requires narrows { Narrows Q.law A.Law.law (A.beside (A.who access)) }
+    requires seat { SeatOk Q.law S.state S.spells (A.seen access) seat }
     requires whose { Q.who ≡ A.who access }
     requires since { Q.since ≡ A.seen access }
-    requires stays { X.stays → KeepsFrom Q.sends Q.floor A.Law.shelf seat.node.replica.cursor }
+    requires stays { X.stays → KeepsFrom Q.law seat.node.replica.cursor }
     requires right { X.seals seat.who → Q.seals seat.who }
-    requires can { X.can Q.sends Q.floor A.Law.shelf step on.old (node_of seat (A.seen access)) }
+    requires can { X.can Q.law step on.old (node_of seat (A.seen access)) }
     ensures who { A.who result.access ≡ A.who access }
     ensures sits { result.part.who ≡ A.who result.access }
-    ensures seat { SeatOk Q.sends Q.floor A.Law.shelf S.state S.spells (A.seen result.access) result.part }
+    ensures seat { SeatOk Q.law S.state S.spells (A.seen result.access) result.part }
     ensures since { Since result.part.who (A.beside result.part.who) (A.seen access) (A.seen result.access) }
     ensures right { SealsByRight (Q.seals result.part.who) result.part.who (A.seen access) (A.seen result.access) }
-    ensures did { IfOk result.answer (X.did Q.sends Q.floor A.Law.shelf step on.old on.new (node_of seat (A.seen access)) (node_of result.part (A.seen result.access))) }
+    ensures did { IfOk result.answer (X.did Q.law step on.old on.new (node_of seat (A.seen access)) (node_of result.part (A.seen result.access))) }
 {
     let mut node = seat.wake::<A, Q>(access);
     let answer = step.run(on, &mut node);
@@ -63,22 +60,21 @@ pub fn in_turn<A: Access, E: Sent, S: Replica, C: Chooser, X: NodeStep>(
     step: X,
     on: &mut X::On,
 ) -> Back<A, Seat<S, C>, X::Answer>
-    requires run { MayRun A.Law.may A.Law.floor A.Law.shelf }
-    requires state { X.reads → (log : List Entry) (m : SpaceMap) → S.state log m → IsStateOf log m }
+    requires run { MayRun A.Law.law }
     requires who { seat.who ≡ A.who access }
-    requires seat { SeatOk (Sends seat.who A.Law.may E.counts (A.seen access)) A.Law.floor A.Law.shelf S.state S.spells (A.seen access) seat }
-    requires stays { X.stays → IsKept A.beside A.Law.floor seat (A.seen access) }
-    requires can { X.can (Sends seat.who A.Law.may E.counts (A.seen access)) (UpToIf (IsKept A.beside A.Law.floor seat (A.seen access)) A.Law.floor seat.node.replica.cursor) A.Law.shelf step on.old (node_of seat (A.seen access)) }
+    requires seat { SeatOk (record A.Law.law { may = Sends seat.who A.Law.law.may E.counts (A.seen access) }) S.state S.spells (A.seen access) seat }
+    requires stays { X.stays → IsKept A.beside A.Law.law.floor seat (A.seen access) }
+    requires can { X.can (record A.Law.law { may = Sends seat.who A.Law.law.may E.counts (A.seen access); floor = UpToIf (IsKept A.beside A.Law.law.floor seat (A.seen access)) A.Law.law.floor seat.node.replica.cursor }) step on.old (node_of seat (A.seen access)) }
     ensures who { A.who result.access ≡ A.who access }
     ensures sits { result.part.who ≡ A.who result.access }
-    ensures left { IsLeft A.Law.may A.Law.floor A.Law.shelf S.state S.spells A.beside (X.seals seat.who) (A.seen access) seat (A.seen result.access) result.part }
+    ensures left { IsLeft A.Law.law S.state S.spells A.beside (X.seals seat.who) (A.seen access) seat (A.seen result.access) result.part }
 
     // Nothing is trimmed above where the node was before.
-    ensures low { IsKept A.beside A.Law.floor seat (A.seen access) → TrimsUpTo seat.node.replica.cursor (A.seen result.access) }
-    ensures ok { OnOk result.answer (SeatOk (Sends result.part.who A.Law.may E.counts (A.seen result.access)) A.Law.floor A.Law.shelf S.state S.spells (A.seen result.access) result.part) }
-    ensures kept { IsKept A.beside A.Law.floor seat (A.seen access) → OnOk result.answer (IsKept A.beside A.Law.floor result.part (A.seen result.access)) }
+    ensures low { IsKept A.beside A.Law.law.floor seat (A.seen access) → TrimsUpTo seat.node.replica.cursor (A.seen result.access) }
+    ensures ok { OnOk result.answer (SeatOk (record A.Law.law { may = Sends result.part.who A.Law.law.may E.counts (A.seen result.access) }) S.state S.spells (A.seen result.access) result.part) }
+    ensures kept { IsKept A.beside A.Law.law.floor seat (A.seen access) → OnOk result.answer (IsKept A.beside A.Law.law.floor result.part (A.seen result.access)) }
     ensures adds { OnOk result.answer (OwnAdds seat.who IsOfSessions (A.seen access) (A.seen result.access)) }
-    ensures did { IfOk result.answer (X.did (OwnWithin seat.who A.Law.may E.counts) A.Law.floor A.Law.shelf step on.old on.new (node_of seat (A.seen access)) (node_of result.part (A.seen result.access))) }
+    ensures did { IfOk result.answer (X.did (record A.Law.law { may = OwnWithin seat.who A.Law.law.may E.counts }) step on.old on.new (node_of seat (A.seen access)) (node_of result.part (A.seen result.access))) }
 {
     within::<A, Brand, S, C, X>(access, seat, step, on)
 }

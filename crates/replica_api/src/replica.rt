@@ -6,6 +6,7 @@ ghost use Rattle.disk_model.specs.Crash.{AnyCrash};
 ghost use Rattle.replica_api.specs.Replica.{Saved, ReplicaView, SpellsOne, Survives, Takes, MayFind, MayFindDuring, Reopens, Queues, Flushes, armed_by};
 ghost use Rattle.engine_api.specs.Packing.{IsProposable};
 ghost use Rattle.engine_steps.specs.Layout as layout;
+ghost use Rattle.log_laws.specs.State.{IsStateOf};
 
 use delos_types::bytes::Bytes;
 use delos_types::entry::Entry;
@@ -112,4 +113,7 @@ pub trait Replica {
     /// The least key of the table that is at or above this one; None where there is none.
     fn key_from(&self, key: &[u8]) -> Result<Option<Bytes>, AllocError>
         ensures { IfOk result (λ found. found ≡ least_key_from (shows self.now).contents 5 key.now) };
+
+    /// What it keeps is the state of the log.
+    ghost state_is: { (log : List Entry) (m : SpaceMap) → state log m → IsStateOf log m };
 }

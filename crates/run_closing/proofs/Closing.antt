@@ -5,6 +5,7 @@ use Rattle.std.proofs.lemmas.List.{length-map}
 use Rattle.std.proofs.lemmas.Option.{slice_get-map, slice_get_within}
 use Rattle.delos_types.specs.Spaces.{SpaceMap}
 use Rattle.delos_types.specs.declared.entry.Entry.{Entry}
+use Rattle.legal_journal.specs.Law.{Law}
 use Rattle.legal_journal.specs.declared.events.Event.{Event}
 use Rattle.replica_api.specs.Replica.{Saved}
 use Rattle.script_text.specs.declared.asks.NamedLine.{NamedLine}
@@ -24,15 +25,15 @@ mapped {A} {B} f xs j y at = by (slice_get xs j) refl (sym (slice_get-map f xs j
     by None is e = absurd (cc)
     by (Some x) is e = (x, is, cc)
 
-module _ {A : Type 0} (may : ℕ → Entry → Type 0) (floor : List Entry → ℕ → Type 0) (shelf : List ℕ) (state : List Entry → SpaceMap → Type 0) (spells : List ℕ → Saved → Type 0) (lines : List NamedLine) (seat : A → SeatView) (desks : A → List Desk) (workers : List A) (journal : List Event) (looks : List (Option Looked)) where
+module _ {A : Type 0} (law : Law) (state : List Entry → SpaceMap → Type 0) (spells : List ℕ → Saved → Type 0) (lines : List NamedLine) (seat : A → SeatView) (desks : A → List Desk) (workers : List A) (journal : List Event) (looks : List (Option Looked)) where
   abbrev ends : List WorkerEnd
   ends = map (λ w. record { seat = seat w; desks = desks w }) workers
 
   long : length ends ≡ length workers
   long = length-map workers (λ w. record { seat = seat w; desks = desks w })
 
-  pub has_closed : (node cursor : ℕ) → CrewTakes may floor shelf state spells lines node cursor (length workers) journal looks seat desks workers
-      → (log : List Entry) × (length log ≡ cursor) × HasClosed may floor shelf state spells lines journal looks log (map (λ w. record { seat = seat w; desks = desks w }) workers)
+  pub has_closed : (node cursor : ℕ) → CrewTakes law state spells lines node cursor (length workers) journal looks seat desks workers
+      → (log : List Entry) × (length log ≡ cursor) × HasClosed law state spells lines journal looks log (map (λ w. record { seat = seat w; desks = desks w }) workers)
   has_closed node cursor h = (
     h.log,
     h.size,
@@ -42,12 +43,12 @@ module _ {A : Type 0} (may : ℕ → Entry → Type 0) (floor : List Entry → �
       counts = h.counts;
       journal_is = h.journal_is;
       lines_are = subst (AreLines lines h.home) (sym long) h.lines_are;
-      ok = subst (λ n. CourseOk may floor shelf lines n h.course h.counts looks) (sym long) h.ok;
+      ok = subst (λ n. CourseOk law lines n h.course h.counts looks) (sym long) h.ok;
       over = h.over;
       front = h.front;
       each = λ j e at. let from = mapped (λ (w : A). record { seat = seat w; desks = desks w }) workers j e at in
-          subst (λ n. WorkerClosed may floor shelf state spells lines h.home n h.course h.counts looks h.log (j + 1) e) (sym long)
-          (subst (WorkerClosed may floor shelf state spells lines h.home (length workers) h.course h.counts looks h.log (j + 1)) from.2
+          subst (λ n. WorkerClosed law state spells lines h.home n h.course h.counts looks h.log (j + 1) e) (sym long)
+          (subst (WorkerClosed law state spells lines h.home (length workers) h.course h.counts looks h.log (j + 1)) from.2
           (h.taken j from.0 (slice_get_within workers j from.0 from.1) from.1));
     },
   )

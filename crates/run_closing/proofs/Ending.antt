@@ -2,6 +2,7 @@
 use Rattle.std.proofs.Common.{◌≡◌, refl, sym, ap, ◌∙◌, subst, ℕ, ◌≤◌, inl, inr, List, [], ◌∷◌, ◌++◌, length, arith, append-nil}
 use Rattle.delos_types.specs.declared.entry.Entry.{Entry}
 use Rattle.delos_types.specs.declared.cause.Cause.{Cause}
+use Rattle.legal_journal.specs.Law.{Law}
 use Rattle.legal_journal.specs.Journal.{IsLegal}
 use Rattle.virtual_log.specs.Turning.{OnlyOwn, IsAbove}
 use Rattle.base_engine.specs.declared.fault.Fault.TheVariants.{Because}
@@ -13,8 +14,8 @@ use Rattle.node_lines.proofs.Moving.{moves-sync}
 use Rattle.node_lines.proofs.Spending.{spends-none, spends-both, spends-blames}
 use Rattle.run_closing.specs.Ending.{Reopens, PlaysOut}
 
-module _ (may : ℕ → Entry → Type 0) (floor : List Entry → ℕ → Type 0) (shelf : List ℕ) where
-  pub stays_down : (old new : NodeView) (c : Cause) → Keeps may floor shelf old new → new.seen ≡ old.seen → new.replica.kept ≡ old.replica.kept → new.outbox ≡ old.outbox
+module _ (law : Law) where
+  pub stays_down : (old new : NodeView) (c : Cause) → Keeps law old new → new.seen ≡ old.seen → new.replica.kept ≡ old.replica.kept → new.outbox ≡ old.outbox
       → Blames old.who old.seen old.replica.faults (Because c) new.seen new.replica.faults → Reopens old new
   stays_down old new c k seen kept outbox blames = record {
     who = k.who;
@@ -28,7 +29,7 @@ module _ (may : ℕ → Entry → Type 0) (floor : List Entry → ℕ → Type 0
     up = inr (record { cause = c; spends = spends-blames old.who old.seen new.seen c old.replica.faults new.replica.faults (k.later.more, k.later.seen) k.counts blames });
   }
 
-  keeps_on : (old mid new : NodeView) → Reopens old mid → Keeps may floor shelf mid new → Keeps may floor shelf old new
+  keeps_on : (old mid new : NodeView) → Reopens old mid → Keeps law mid new → Keeps law old new
   keeps_on old mid new r k = record {
     who = k.who ∙ r.who;
     nodes = k.nodes ∙ r.nodes;
@@ -38,19 +39,19 @@ module _ (may : ℕ → Entry → Type 0) (floor : List Entry → ℕ → Type 0
     counts = omega (arith, k.counts, r.counts);
   }
 
-  module _ (low : (log : List Entry) (n : ℕ) → floor log n → n ≤ length log) where
+  module _ (low : (log : List Entry) (n : ℕ) → law.floor log n → n ≤ length log) where
     -- a node that is passed by
-    pub moves_nothing : (n : NodeView) → IsLegal may floor shelf n.seen → Moves may floor shelf n n []
+    pub moves_nothing : (n : NodeView) → IsLegal law n.seen → Moves law n n []
     moves_nothing n legal =
         let none = sym (append-nil n.seen) in
-        moves-sync may floor shelf low n n []
+        moves-sync law low n n []
         (record { who = refl; nodes = refl; origin = refl; later = record { more = []; seen = none; legal = legal }; forward = omega arith; counts = omega arith })
         refl refl (spends-none n.who n.seen n.seen n.replica.faults n.replica.faults ([], none) (omega arith))
 
-    pub moves_on : (old mid new : NodeView) → Reopens old mid → Keeps may floor shelf mid new → new.replica.kept ≡ mid.replica.kept → new.outbox ≡ mid.outbox → Moves may floor shelf old new []
+    pub moves_on : (old mid new : NodeView) → Reopens old mid → Keeps law mid new → new.replica.kept ≡ mid.replica.kept → new.outbox ≡ mid.outbox → Moves law old new []
     moves_on old mid new r k kept outbox =
         let on = keeps_on old mid new r k in
-        moves-sync may floor shelf low old new [] on (outbox ∙ r.outbox) (kept ∙ r.kept) (spends-none old.who old.seen new.seen old.replica.faults new.replica.faults (on.later.more, on.later.seen) on.counts)
+        moves-sync law low old new [] on (outbox ∙ r.outbox) (kept ∙ r.kept) (spends-none old.who old.seen new.seen old.replica.faults new.replica.faults (on.later.more, on.later.seen) on.counts)
 
   pub played : (old mid new : NodeView) (tail : ℕ) → Reopens old mid → IsAbove mid.who mid.seen tail new.seen → IsAt tail new.replica new.seen → EndsBy mid.who mid.replica.cursor mid.seen tail new.seen → PlaysOut old new
   played old mid new tail r above at exact = inl (record {
@@ -60,7 +61,7 @@ module _ (may : ℕ → Entry → Type 0) (floor : List Entry → ℕ → Type 0
     exact = λ low alone. exact (omega (arith, low, r.forward)) (subst (λ w. OnlyOwn w mid.seen new.seen) (sym r.who) (subst (λ l. OnlyOwn old.who l new.seen) (sym r.seen) alone));
   })
 
-  pub failed : (old mid new : NodeView) (c : Cause) → Reopens old mid → Keeps may floor shelf mid new → Blames mid.who mid.seen mid.replica.faults (Because c) new.seen new.replica.faults → PlaysOut old new
+  pub failed : (old mid new : NodeView) (c : Cause) → Reopens old mid → Keeps law mid new → Blames mid.who mid.seen mid.replica.faults (Because c) new.seen new.replica.faults → PlaysOut old new
   failed old mid new c r k blames = inr (record {
     cause = c;
     spends = spends-both old.who old.seen mid.seen new.seen old.replica.faults mid.replica.faults new.replica.faults [] (c ∷ [])

@@ -6,6 +6,7 @@ use Rattle.std.proofs.lemmas.List.{length-set}
 use Rattle.std.proofs.lemmas.Option.{slice_get_within}
 use Rattle.delos_types.specs.Spaces.{SpaceMap}
 use Rattle.delos_types.specs.declared.entry.Entry.{Entry}
+use Rattle.legal_journal.specs.Law.{Law}
 use Rattle.legal_journal.specs.declared.events.Event.{Event}
 use Rattle.legal_journal.specs.Journal.{IsLegal}
 use Rattle.legal_journal.specs.Sealing.{Unsealed}
@@ -36,10 +37,10 @@ use Rattle.run_closing.specs.Finishing.{HasFinished, HasMost, PassesBy, StaysAsI
 use Rattle.run_closing.proofs.Putting.{same_some, some_at}
 use Rattle.run_closing.proofs.Seeing.{finish_sees, same_or_other}
 
-module _ {A : Type 0} (may : ℕ → Entry → Type 0) (floor : List Entry → ℕ → Type 0) (shelf : List ℕ) (state : List Entry → SpaceMap → Type 0) (spells : List ℕ → Saved → Type 0) (lines : List NamedLine) (seat : A → SeatView) (desks : A → List Desk) (workers : List A) (from phase : ℕ) (journal : List Event) (looks : List (Option Looked)) (h : CrewRests may floor shelf state spells lines from phase journal looks seat desks workers) where
+module _ {A : Type 0} (law : Law) (state : List Entry → SpaceMap → Type 0) (spells : List ℕ → Saved → Type 0) (lines : List NamedLine) (seat : A → SeatView) (desks : A → List Desk) (workers : List A) (from phase : ℕ) (journal : List Event) (looks : List (Option Looked)) (h : CrewRests law state spells lines from phase journal looks seat desks workers) where
   -- nodes that rest can take the fabric
-  pub rests_stand : CrewStands may floor shelf state spells journal seat workers
-  rests_stand j w at = subst (λ i. SeatOk may floor shelf state spells i (seat w)) h.journal_is (worker_stands may floor shelf state spells (j + 1) h.course.journal (seat w) (desks w) (h.each j w at).worker.ok)
+  pub rests_stand : CrewStands law state spells journal seat workers
+  rests_stand j w at = subst (λ i. SeatOk law state spells i (seat w)) h.journal_is (worker_stands law state spells (j + 1) h.course.journal (seat w) (desks w) (h.each j w at).worker.ok)
 
   -- there is a node
   pub some_node : 0 < length workers
@@ -54,12 +55,12 @@ module _ {A : Type 0} (may : ℕ → Entry → Type 0) (floor : List Entry → �
       omega (arith, few, r.nodes_is)
 
   -- a node's own turn
-  pub own_ok : (k : ℕ) (w : A) → slice_get workers k ≡ Some w → WorkerOk may floor shelf state spells (seat w).who journal (seat w) (desks w)
+  pub own_ok : (k : ℕ) (w : A) → slice_get workers k ≡ Some w → WorkerOk law state spells (seat w).who journal (seat w) (desks w)
   own_ok k w at =
       let ok = (h.each k w at).worker.ok in
-      subst (λ n. WorkerOk may floor shelf state spells n journal (seat w) (desks w)) (sym ok.who_is) (subst (λ i. WorkerOk may floor shelf state spells (k + 1) i (seat w) (desks w)) h.journal_is ok)
+      subst (λ n. WorkerOk law state spells n journal (seat w) (desks w)) (sym ok.who_is) (subst (λ i. WorkerOk law state spells (k + 1) i (seat w) (desks w)) h.journal_is ok)
 
-  module _ (k : ℕ) (journal' : List Event) (w w' : A) (at : slice_get workers k ≡ Some w) (since : OwnSince (seat w).who journal journal') (still : Unsealed journal journal') (adds : OwnAdds (seat w).who IsOfSessions journal journal') (moves : Moves (OwnWithin (seat w).who may (sent_by (desks w))) floor shelf (node_of (seat w) journal) (node_of (seat w') journal') []) (same : (seat w').node.outbox ≡ (seat w).node.outbox) (now : WorkerOk may floor shelf state spells (seat w).who journal' (seat w') (desks w')) (kept : desks w' ≡ desks w) where
+  module _ (k : ℕ) (journal' : List Event) (w w' : A) (at : slice_get workers k ≡ Some w) (since : OwnSince (seat w).who journal journal') (still : Unsealed journal journal') (adds : OwnAdds (seat w).who IsOfSessions journal journal') (moves : Moves (record law { may = OwnWithin (seat w).who law.may (sent_by (desks w)) }) (node_of (seat w) journal) (node_of (seat w') journal') []) (same : (seat w').node.outbox ≡ (seat w).node.outbox) (now : WorkerOk law state spells (seat w).who journal' (seat w') (desks w')) (kept : desks w' ≡ desks w) where
     who : (seat w).who ≡ k + 1
     who = (h.each k w at).worker.ok.who_is
 
@@ -69,22 +70,22 @@ module _ {A : Type 0} (may : ℕ → Entry → Type 0) (floor : List Entry → �
     there : k + 1 ≤ length workers
     there = let inside = slice_get_within workers k w at in omega (arith, inside)
 
-    done : NodeFinished may floor shelf state spells lines h.home (length workers) h.course h.counts looks (k + 1) from phase journal' (seat w') (desks w)
+    done : NodeFinished law state spells lines h.home (length workers) h.course h.counts looks (k + 1) from phase journal' (seat w') (desks w)
     done =
-        node_finished may floor shelf state spells lines h.home (length workers) h.course h.counts looks (k + 1) from phase (seat w) (seat w') (desks w) journal' h.lines_are (omega arith) there h.begins low h.ok (h.each k w at)
+        node_finished law state spells lines h.home (length workers) h.course h.counts looks (k + 1) from phase (seat w) (seat w') (desks w) journal' h.lines_are (omega arith) there h.begins low h.ok (h.each k w at)
         (subst (λ n. OwnSince n h.course.journal journal') who (subst (λ i. OwnSince (seat w).who i journal') (sym h.journal_is) since))
         (subst (λ i. Unsealed i journal') (sym h.journal_is) still)
         (subst (λ n. OwnAdds n IsOfSessions h.course.journal journal') who (subst (λ i. OwnAdds (seat w).who IsOfSessions i journal') (sym h.journal_is) adds))
-        (subst (λ n. Moves (OwnWithin n may (sent_by (desks w))) floor shelf (node_of (seat w) h.course.journal) (node_of (seat w') journal') []) who
-        (subst (λ i. Moves (OwnWithin (seat w).who may (sent_by (desks w))) floor shelf (node_of (seat w) i) (node_of (seat w') journal') []) (sym h.journal_is) moves)) same
-        (subst (λ n. WorkerOk may floor shelf state spells n journal' (seat w') (desks w)) who (subst (WorkerOk may floor shelf state spells (seat w).who journal' (seat w')) kept now))
+        (subst (λ n. Moves (record law { may = OwnWithin n law.may (sent_by (desks w)) }) (node_of (seat w) h.course.journal) (node_of (seat w') journal') []) who
+        (subst (λ i. Moves (record law { may = OwnWithin (seat w).who law.may (sent_by (desks w)) }) (node_of (seat w) i) (node_of (seat w') journal') []) (sym h.journal_is) moves)) same
+        (subst (λ n. WorkerOk law state spells n journal' (seat w') (desks w)) who (subst (WorkerOk law state spells (seat w).who journal' (seat w')) kept now))
 
     size : length (slice_set workers k w') ≡ length workers
     size = length-set workers k w'
 
     -- a node has made its last calls
-    pub crew_finished : from ≡ length lines → FloorIs floor (length workers) → ((log : List Entry) (m : SpaceMap) → state log m → IsStateOf log m) → IsLegal may floor shelf journal' → Finishes (k + 1) (node_of (seat w) journal) (node_of (seat w') journal')
-        → CrewRests may floor shelf state spells lines from phase journal' looks seat desks (slice_set workers k w')
+    pub crew_finished : from ≡ length lines → FloorIs law.floor (length workers) → ((log : List Entry) (m : SpaceMap) → state log m → IsStateOf log m) → IsLegal law journal' → Finishes (k + 1) (node_of (seat w) journal) (node_of (seat w') journal')
+        → CrewRests law state spells lines from phase journal' looks seat desks (slice_set workers k w')
     crew_finished over rule led legal does = record {
       home = h.home;
       course = done.course;
@@ -93,18 +94,18 @@ module _ {A : Type 0} (may : ℕ → Entry → Type 0) (floor : List Entry → �
       phase_is = done.turn.phase ∙ h.phase_is;
       lines_are = subst (AreLines lines h.home) (sym size) h.lines_are;
       begins = h.begins;
-      ok = subst (λ n. CourseOk may floor shelf lines n done.course h.counts looks) (sym size) done.ok;
-      each = λ j x is. subst (λ n. Rests may floor shelf state spells lines h.home n done.course h.counts looks (j + 1) from phase (seat x) (desks x)) (sym size) (by j x (changed workers k j w w' x at is));
-      sees = finish_sees seat workers k w w' at may floor shelf state spells lines desks from phase journal journal' h.counts looks done.course h over rule led done.journal_is done.ok legal since (all_adds (seat w).who IsOfSessions journal journal' since adds) moves.goes.keeps.forward moves.goes.keeps.counts does;
+      ok = subst (λ n. CourseOk law lines n done.course h.counts looks) (sym size) done.ok;
+      each = λ j x is. subst (λ n. Rests law state spells lines h.home n done.course h.counts looks (j + 1) from phase (seat x) (desks x)) (sym size) (by j x (changed workers k j w w' x at is));
+      sees = finish_sees seat workers k w w' at law state spells lines desks from phase journal journal' h.counts looks done.course h over rule led done.journal_is done.ok legal since (all_adds (seat w).who IsOfSessions journal journal' since adds) moves.goes.keeps.forward moves.goes.keeps.counts does;
     }
       where
-        by : (j : ℕ) (x : A) → ((j ≡ k) × (w' ≡ x)) ⊎ ((j ≢ k) × (slice_get workers j ≡ Some x)) → Rests may floor shelf state spells lines h.home (length workers) done.course h.counts looks (j + 1) from phase (seat x) (desks x)
+        by : (j : ℕ) (x : A) → ((j ≡ k) × (w' ≡ x)) ⊎ ((j ≢ k) × (slice_get workers j ≡ Some x)) → Rests law state spells lines h.home (length workers) done.course h.counts looks (j + 1) from phase (seat x) (desks x)
         by j x (inl here) =
-            subst (λ y. Rests may floor shelf state spells lines h.home (length workers) done.course h.counts looks (j + 1) from phase (seat y) (desks y)) here.1
-            (subst (λ i. Rests may floor shelf state spells lines h.home (length workers) done.course h.counts looks (i + 1) from phase (seat w') (desks w')) (sym here.0)
-            (subst (Rests may floor shelf state spells lines h.home (length workers) done.course h.counts looks (k + 1) from phase (seat w')) (sym kept) done.rests))
+            subst (λ y. Rests law state spells lines h.home (length workers) done.course h.counts looks (j + 1) from phase (seat y) (desks y)) here.1
+            (subst (λ i. Rests law state spells lines h.home (length workers) done.course h.counts looks (i + 1) from phase (seat w') (desks w')) (sym here.0)
+            (subst (Rests law state spells lines h.home (length workers) done.course h.counts looks (k + 1) from phase (seat w')) (sym kept) done.rests))
         by j x (inr other) =
-            rests_on may floor shelf state spells lines h.home (length workers) h.course done.course h.counts h.counts looks looks (k + 1) (j + 1) from phase (seat x) (desks x) h.lines_are (apart j k other.0) h.begins low h.ok done.turn done.ok (h.each j x other.1)
+            rests_on law state spells lines h.home (length workers) h.course done.course h.counts h.counts looks looks (k + 1) (j + 1) from phase (seat x) (desks x) h.lines_are (apart j k other.0) h.begins low h.ok done.turn done.ok (h.each j x other.1)
 
 -- Which node has played most
 

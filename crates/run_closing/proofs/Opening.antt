@@ -4,6 +4,7 @@ use Rattle.delos_types.specs.Spaces.{SpaceMap}
 use Rattle.delos_types.specs.declared.entry.Entry.{Entry}
 use Rattle.delos_types.specs.declared.chain.Chain.{Chain}
 use Rattle.chain_map.specs.Chain.{last_of_segments}
+use Rattle.legal_journal.specs.Law.{Law}
 use Rattle.legal_journal.specs.declared.events.Event.{Event}
 use Rattle.legal_journal.specs.declared.events.FabricCall.{FabricCall}
 use Rattle.legal_journal.specs.declared.events.FabricCall.TheVariants.{ReadChain, MendMeta}
@@ -76,9 +77,9 @@ same_tail a b s =
 
 -- The nodes
 
-module _ {A : Type 0} (may : ℕ → Entry → Type 0) (floor : List Entry → ℕ → Type 0) (shelf : List ℕ) (state : List Entry → SpaceMap → Type 0) (spells : List ℕ → Saved → Type 0) (lines : List NamedLine) (seat : A → SeatView) (desks : A → List Desk) (workers : List A) (from phase : ℕ) (journal more : List Event) (looks : List (Option Looked)) (h : CrewRests may floor shelf state spells lines from phase journal looks seat desks workers) (own : AreOwn 0 more) (reads : AreReads more) (legal : IsLegal may floor shelf (journal ++ more)) where
-  within : IsLegal (Within may h.counts) floor shelf (journal ++ more)
-  within = reads_legal (Within may h.counts) may floor shelf journal more reads (subst (IsLegal (Within may h.counts) floor shelf) h.journal_is h.ok.legal) legal
+module _ {A : Type 0} (law : Law) (state : List Entry → SpaceMap → Type 0) (spells : List ℕ → Saved → Type 0) (lines : List NamedLine) (seat : A → SeatView) (desks : A → List Desk) (workers : List A) (from phase : ℕ) (journal more : List Event) (looks : List (Option Looked)) (h : CrewRests law state spells lines from phase journal looks seat desks workers) (own : AreOwn 0 more) (reads : AreReads more) (legal : IsLegal law (journal ++ more)) where
+  within : IsLegal (record law { may = Within law.may h.counts }) (journal ++ more)
+  within = reads_legal law (Within law.may h.counts) law.may journal more reads (subst (IsLegal (record law { may = Within law.may h.counts })) h.journal_is h.ok.legal) legal
 
   seen : journal ++ more ≡ h.course.journal ++ more
   seen = ap (λ l. l ++ more) (sym h.journal_is)
@@ -91,12 +92,12 @@ module _ {A : Type 0} (may : ℕ → Entry → Type 0) (floor : List Entry → �
 
   tells : TellsOn lines looks 0 0 0 h.course.journal (journal ++ more)
   tells =
-      tells_commands (Within may h.counts) floor shelf h.course.journal (journal ++ more) more seen within lines looks looks 0 0 0 (λ i look at. at) (omega arith) h.ok.told
+      tells_commands (record law { may = Within law.may h.counts }) h.course.journal (journal ++ more) more seen within lines looks looks 0 0 0 (λ i look at. at) (omega arith) h.ok.told
       (subst (Adds IsOfSessions h.course.journal) (sym seen) (adds_none IsOfSessions h.course.journal more (appended_none more reads)))
 
-  ok : CourseOk may floor shelf lines (length workers) then' h.counts looks
-  ok = advance_still may floor shelf lines (length workers) h.course h.counts looks h.ok 1 [] (journal ++ more) more h.course.when h.counts seen within h.ok.long (omega arith) some (λ P store. omega arith)
-      (reads_unsealed may floor shelf journal more (count_by has_replaced looks) legal reads (subst (λ es. faults_in es ≡ [] → IsUnsealed (state_of es) (count_by has_replaced looks)) h.journal_is h.ok.unsealed))
+  ok : CourseOk law lines (length workers) then' h.counts looks
+  ok = advance_still law lines (length workers) h.course h.counts looks h.ok 1 [] (journal ++ more) more h.course.when h.counts seen within h.ok.long (omega arith) some (λ P store. omega arith)
+      (reads_unsealed law journal more (count_by has_replaced looks) legal reads (subst (λ es. faults_in es ≡ [] → IsUnsealed (state_of es) (count_by has_replaced looks)) h.journal_is h.ok.unsealed))
       tells.told
 
   turn : TurnOf lines h.home 0 h.course then' h.counts h.counts looks looks
@@ -107,13 +108,13 @@ module _ {A : Type 0} (may : ℕ → Entry → Type 0) (floor : List Entry → �
   sees calm =
       let none = (none_before journal (journal ++ more) more refl calm.told).0 in
       let settled = (subst (λ es. faults_in es ≡ [] → IsUnsealed (state_of es) (count_by has_replaced looks)) h.journal_is h.ok.unsealed none).asked in
-      let same = reads_keep may floor shelf (state_of journal) more settled reads (IsLegalFrom-split may floor shelf start journal more legal.steps).1 in
+      let same = reads_keep law (state_of journal) more settled reads (IsLegalFrom-split law start journal more legal.steps).1 in
       let tail : tail_of (state_of (journal ++ more)) ≡ tail_of (state_of journal) = ap tail_of (after_all-append start journal more) ∙ same_tail (state_of journal) (after_all (state_of journal) more) same in
       let r = h.sees (record { told = none; disks = calm.disks }) in
       let upto = r.upto in
       record { at = r.at; one = r.one; is = r.is; upto = omega (arith, upto, tail) }
 
-  pub crew_read : CrewRests may floor shelf state spells lines from phase (journal ++ more) looks seat desks workers
+  pub crew_read : CrewRests law state spells lines from phase (journal ++ more) looks seat desks workers
   crew_read = record {
     home = h.home;
     course = then';
@@ -125,6 +126,6 @@ module _ {A : Type 0} (may : ℕ → Entry → Type 0) (floor : List Entry → �
     ok = ok;
     each = λ j w at.
         let low : phase ≤ h.course.phase + 1 = omega (arith, h.phase_is) in
-        rests_on may floor shelf state spells lines h.home (length workers) h.course then' h.counts h.counts looks looks 0 (j + 1) from phase (seat w) (desks w) h.lines_are (zero-apart j) h.begins low h.ok turn ok (h.each j w at);
+        rests_on law state spells lines h.home (length workers) h.course then' h.counts h.counts looks looks 0 (j + 1) from phase (seat w) (desks w) h.lines_are (zero-apart j) h.begins low h.ok turn ok (h.each j w at);
     sees = sees;
   }

@@ -8,6 +8,7 @@ use Rattle.delos_types.specs.Spaces.{SpaceMap}
 use Rattle.delos_types.specs.declared.entry.Entry.{Entry}
 use Rattle.delos_types.specs.declared.cause.Cause.{Cause}
 use Rattle.delos_types.specs.declared.cause.Cause.TheVariants as cause
+use Rattle.legal_journal.specs.Law.{Law}
 use Rattle.legal_journal.specs.declared.events.Event.{Event}
 use Rattle.legal_journal.specs.Journal.{IsLegal, state_of, trim_of, tail_of}
 use Rattle.journal_laws.specs.Changes.{appended, Adds}
@@ -78,20 +79,20 @@ failed_one by l k is (m ∷ lines) (x ∷ looks) (suc i) at look = let rest = fa
 -- A node that left
 
 -- its leave stands in what it has applied: so its state tells
-tells_left : (may : ℕ → Entry → Type 0) (floor : List Entry → ℕ → Type 0) (shelf : List ℕ) (state : List Entry → SpaceMap → Type 0) (spells : List ℕ → Saved → Type 0) → ((log : List Entry) (m : SpaceMap) → state log m → IsStateOf log m) → (journal : List Event) (seat : SeatView) (n : ℕ) → SeatOk may floor shelf state spells journal seat
+tells_left : (law : Law) (state : List Entry → SpaceMap → Type 0) (spells : List ℕ → Saved → Type 0) → ((log : List Entry) (m : SpaceMap) → state log m → IsStateOf log m) → (journal : List Event) (seat : SeatView) (n : ℕ) → SeatOk law state spells journal seat
     → IsLeave journal seat.node.replica.cursor n → has_left_in seat.node.replica.contents n ≡ true
-tells_left may floor shelf state spells led journal seat n ok h =
+tells_left law state spells led journal seat n ok h =
     let now = ok.node.follows.now in
     let low = h.within in
     let size : length now.log ≡ seat.node.replica.cursor = now.size in
     let x = some_at now.log h.stands.at (omega (arith, low, size)) in
-    let same : x.0 ≡ h.stands.entry = sym (holds_agree may floor shelf journal h.stands.at h.stands.entry x.0 ok.node.legal h.stands.held (now.front h.stands.at x.0 x.1)) in
+    let same : x.0 ≡ h.stands.entry = sym (holds_agree law journal h.stands.at h.stands.entry x.0 ok.node.legal h.stands.held (now.front h.stands.at x.0 x.1)) in
     let among : Contains now.log h.stands.entry = contains-among now.log h.stands.entry (among-get now.log h.stands.at h.stands.entry (x.1 ∙ ap {B = Option Entry} (λ e. Some e) same)) in
     let q = says_one (unpack 0 h.stands.entry) (content.Leave n) h.stands.says in
     let p = says_unpack now.log h.stands.entry q.0 among q.1 in
     (led now.log seat.node.replica.contents now.led).members.gone n ∙ says_left (unpack_all 0 now.log) p.0 n p.1 (p.2 ∙ q.2)
 
-module _ (may : ℕ → Entry → Type 0) (floor : List Entry → ℕ → Type 0) (shelf : List ℕ) (state : List Entry → SpaceMap → Type 0) (spells : List ℕ → Saved → Type 0) (lines : List NamedLine) (home : ℕ → ℕ) (nodes : ℕ) (c : Course) (counts : List ℕ) (looks : List (Option Looked)) (n from done : ℕ) (seat : SeatView) (desks : List Desk) (led : (log : List Entry) (m : SpaceMap) → state log m → IsStateOf log m) (ok : CourseOk may floor shelf lines nodes c counts looks) (r : Rests may floor shelf state spells lines home nodes c counts looks n from done seat desks) (over : from ≡ length lines) (none : faults_in c.journal ≡ []) (calm : seat.node.replica.faults ≡ 0) where
+module _ (law : Law) (state : List Entry → SpaceMap → Type 0) (spells : List ℕ → Saved → Type 0) (lines : List NamedLine) (home : ℕ → ℕ) (nodes : ℕ) (c : Course) (counts : List ℕ) (looks : List (Option Looked)) (n from done : ℕ) (seat : SeatView) (desks : List Desk) (led : (log : List Entry) (m : SpaceMap) → state log m → IsStateOf log m) (ok : CourseOk law lines nodes c counts looks) (r : Rests law state spells lines home nodes c counts looks n from done seat desks) (over : from ≡ length lines) (none : faults_in c.journal ≡ []) (calm : seat.node.replica.faults ≡ 0) where
   -- none of its lines failed
   failed_of_log : (P : Cause → Bool) (k : Cause) → P cause.Store ≡ false → P k ≡ true → (i : ℕ) (l : NamedLine) → slice_get lines i ≡ Some l → slice_get looks i ≡ Some (Some (looked.Failed k)) → ⊥
   failed_of_log P k store is i l at look =
@@ -127,7 +128,7 @@ module _ (may : ℕ → Entry → Type 0) (floor : List Entry → ℕ → Type 0
         by (looked.Failed k) look own left = none_failed k a.at a.line a.is a.node_is look
         by (looked.Extended x) look own left = own
         by (looked.Reported position) look own left = own
-        by looked.Left look own left = apart (sym (tells_left (Sends n may (sent_by desks) c.journal) floor shelf state spells led c.journal seat n r.worker.ok.ok left) ∙ stays)
+        by looked.Left look own left = apart (sym (tells_left (record law { may = Sends n law.may (sent_by desks) c.journal }) state spells led c.journal seat n r.worker.ok.ok left) ∙ stays)
         by (looked.Trimmed trim) look own left = own
 
     -- so its leave isn't in the log
@@ -184,12 +185,12 @@ module _ {A : Type 0} (seat : A → SeatView) (workers : List A) (k : ℕ) (w w'
       by j x is (inr other) = calm.disks j x (set_other workers k j w' other ∙ is)
 
   -- a node has made its last calls
-  pub finish_sees : (may : ℕ → Entry → Type 0) (floor : List Entry → ℕ → Type 0) (shelf : List ℕ) (state : List Entry → SpaceMap → Type 0) (spells : List ℕ → Saved → Type 0) (lines : List NamedLine) (desks : A → List Desk) (from phase : ℕ) (journal journal' : List Event) (counts : List ℕ) (looks : List (Option Looked)) (c : Course)
-      → CrewRests may floor shelf state spells lines from phase journal looks seat desks workers → from ≡ length lines → FloorIs floor (length workers) → ((log : List Entry) (m : SpaceMap) → state log m → IsStateOf log m)
-      → c.journal ≡ journal' → CourseOk may floor shelf lines (length workers) c counts looks → IsLegal may floor shelf journal' → OwnSince (seat w).who journal journal' → Adds IsOfSessions journal journal'
+  pub finish_sees : (law : Law) (state : List Entry → SpaceMap → Type 0) (spells : List ℕ → Saved → Type 0) (lines : List NamedLine) (desks : A → List Desk) (from phase : ℕ) (journal journal' : List Event) (counts : List ℕ) (looks : List (Option Looked)) (c : Course)
+      → CrewRests law state spells lines from phase journal looks seat desks workers → from ≡ length lines → FloorIs law.floor (length workers) → ((log : List Entry) (m : SpaceMap) → state log m → IsStateOf log m)
+      → c.journal ≡ journal' → CourseOk law lines (length workers) c counts looks → IsLegal law journal' → OwnSince (seat w).who journal journal' → Adds IsOfSessions journal journal'
       → (seat w).node.replica.cursor ≤ (seat w').node.replica.cursor → (seat w).node.replica.faults ≤ (seat w').node.replica.faults → Finishes (k + 1) (node_of (seat w) journal) (node_of (seat w') journal')
       → SomeSees journal' seat (slice_set workers k w')
-  finish_sees may floor shelf state spells lines desks from phase journal journal' counts looks c h over rule led is ok legal since adds forward rises does calm = by does
+  finish_sees law state spells lines desks from phase journal journal' counts looks c h over rule led is ok legal since adds forward rises does calm = by does
     where
       before : HasNoFault journal seat workers
       before = calm_before journal journal' since.more since.seen rises calm
@@ -204,10 +205,10 @@ module _ {A : Type 0} (seat : A → SeatView) (workers : List A) (k : ℕ) (w w'
       low : has_left_in (seat w).node.replica.contents (k + 1) ≡ false → trim_of (state_of journal') ≤ cursor
       low stays =
           let rests = h.each k w at in
-          let gone = stays_in may floor shelf state spells lines h.home (length workers) h.course h.counts looks (k + 1) from phase (seat w) (desks w) led h.ok rests over (subst (λ l. faults_in l ≡ []) (sym h.journal_is) before.told) (before.disks k w at) stays c.journal ok.told in
+          let gone = stays_in law state spells lines h.home (length workers) h.course h.counts looks (k + 1) from phase (seat w) (desks w) led h.ok rests over (subst (λ l. faults_in l ≡ []) (sym h.journal_is) before.told) (before.disks k w at) stays c.journal ok.told in
           let reports = subst (ReportsUpTo (k + 1) cursor) (sym is) (reports_stay (k + 1) cursor journal journal' adds (subst (ReportsUpTo (k + 1) cursor) h.journal_is rests.worker.reports)) in
-          let high = trims_low may floor shelf lines (length workers) c counts looks rule ok (k + 1) (omega arith) (omega (arith, inside)) cursor gone reports in
-          subst (λ l. trim_of (state_of l) ≤ cursor) is (trim_low (Within may counts) floor shelf cursor c.journal ok.legal high)
+          let high = trims_low law lines (length workers) c counts looks rule ok (k + 1) (omega arith) (omega (arith, inside)) cursor gone reports in
+          subst (λ l. trim_of (state_of l) ≤ cursor) is (trim_low (record law { may = Within law.may counts }) cursor c.journal ok.legal high)
 
       plays : has_left_in (seat w).node.replica.contents (k + 1) ≡ false → IsPlayed (node_of (seat w) journal) (node_of (seat w') journal') ⊎ Fails (node_of (seat w) journal) (node_of (seat w') journal') → tail_of (state_of journal') ≤ (seat w').node.replica.cursor
       plays stays (inl p) =
@@ -215,7 +216,7 @@ module _ {A : Type 0} (seat : A → SeatView) (workers : List A) (k : ℕ) (w w'
           let top : tail_of (state_of journal') ≤ p.tail = p.exact under (only_own (seat w).who journal journal' since) in
           ⊎_elim
           (λ (played : (seat w').node.replica.cursor ≡ p.tail). omega (arith, top, played))
-          (λ (trimmed : IsTrimmed journal' (seat w').node.replica.cursor). absurd (never_above may floor shelf journal' (seat w').node.replica.cursor legal (omega (arith, under, forward)) trimmed))
+          (λ (trimmed : IsTrimmed journal' (seat w').node.replica.cursor). absurd (never_above law journal' (seat w').node.replica.cursor legal (omega (arith, under, forward)) trimmed))
           p.at
       plays stays (inr f) =
           absurd (some_cause f.cause (no_causes (seat w).who journal journal' (seat w).node.replica.faults (seat w').node.replica.faults (f.cause ∷ []) f.spends calm.told (calm.disks k w' here)))

@@ -2,6 +2,7 @@
 use Rattle.std.specs.Prelude.{◌≡◌, ℕ, ◌+◌, ◌<◌, ◌≤◌, true, List, length, slice_get, slice_set, Option, Some}
 use Rattle.delos_types.specs.Spaces.{SpaceMap}
 use Rattle.delos_types.specs.declared.entry.Entry.{Entry}
+use Rattle.legal_journal.specs.Law.{Law}
 use Rattle.legal_journal.specs.declared.events.Event.{Event}
 use Rattle.legal_journal.specs.Journal.{state_of, tail_of}
 use Rattle.engine_steps.specs.Layout.{has_left_in}
@@ -14,8 +15,8 @@ use Rattle.run_closing.specs.Ending.{Finishes}
 use Rattle.node_crew.specs.Crews.{CrewRests, HasNoFault}
 
 -- all lines were played, and each node rests
-abbrev pub HasPlayed : {A : Type 0} → (ℕ → Entry → Type 0) → (List Entry → ℕ → Type 0) → List ℕ → (List Entry → SpaceMap → Type 0) → (List ℕ → Saved → Type 0) → List NamedLine → List Event → List (Option Looked) → (A → SeatView) → (A → List Desk) → List A → Type 0
-HasPlayed {A} may floor shelf state spells lines journal looks seat desks workers = (phase : ℕ) × CrewRests may floor shelf state spells lines (length lines) phase journal looks seat desks workers
+abbrev pub HasPlayed : {A : Type 0} → Law → (List Entry → SpaceMap → Type 0) → (List ℕ → Saved → Type 0) → List NamedLine → List Event → List (Option Looked) → (A → SeatView) → (A → List Desk) → List A → Type 0
+HasPlayed {A} law state spells lines journal looks seat desks workers = (phase : ℕ) × CrewRests law state spells lines (length lines) phase journal looks seat desks workers
 
 -- The node at index k was passed by, as it has left, or it has played so much of the log. The others are as they were.
 pub record HasFinished {A : Type 0} (journal journal' : List Event) (seat : A → SeatView) (old new : List A) (k cursor : ℕ) : Type 0 where

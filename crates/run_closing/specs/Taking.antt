@@ -2,6 +2,7 @@
 use Rattle.std.specs.Prelude.{◌≡◌, ℕ, ◌+◌, ◌<◌, ◌≤◌, List, length, slice_get, Option, Some}
 use Rattle.delos_types.specs.Spaces.{SpaceMap}
 use Rattle.delos_types.specs.declared.entry.Entry.{Entry}
+use Rattle.legal_journal.specs.Law.{Law}
 use Rattle.legal_journal.specs.declared.events.Event.{Event}
 use Rattle.replica_api.specs.Replica.{Saved}
 use Rattle.virtual_log.specs.Holding.{Holds}
@@ -17,19 +18,19 @@ use Rattle.run_ends.specs.Closing.{WorkerClosed}
 use Rattle.run_closing.specs.Finishing.{SeesAll}
 
 -- a node that rests behind the last line, and hasn't played the log further than `log`
-pub record WaitsToTake (may : ℕ → Entry → Type 0) (floor : List Entry → ℕ → Type 0) (shelf : List ℕ) (state : List Entry → SpaceMap → Type 0) (spells : List ℕ → Saved → Type 0) (lines : List NamedLine) (home : ℕ → ℕ) (nodes : ℕ) (c : Course) (counts : List ℕ) (looks : List (Option Looked)) (log : List Entry) (n : ℕ) (seat : SeatView) (desks : List Desk) : Type 0 where
-  pub rests : Rests may floor shelf state spells lines home nodes c counts looks n (length lines) c.phase seat desks
+pub record WaitsToTake (law : Law) (state : List Entry → SpaceMap → Type 0) (spells : List ℕ → Saved → Type 0) (lines : List NamedLine) (home : ℕ → ℕ) (nodes : ℕ) (c : Course) (counts : List ℕ) (looks : List (Option Looked)) (log : List Entry) (n : ℕ) (seat : SeatView) (desks : List Desk) : Type 0 where
+  pub rests : Rests law state spells lines home nodes c counts looks n (length lines) c.phase seat desks
   pub short : seat.node.replica.cursor ≤ length log
 
 -- The node at index `node` has played most of the log, just `log`, which has so many entries as `cursor` says. The answers of
 -- the first k nodes' sessions were taken there.
-pub record CrewTakes {A : Type 0} (may : ℕ → Entry → Type 0) (floor : List Entry → ℕ → Type 0) (shelf : List ℕ) (state : List Entry → SpaceMap → Type 0) (spells : List ℕ → Saved → Type 0) (lines : List NamedLine) (node cursor k : ℕ) (journal : List Event) (looks : List (Option Looked)) (seat : A → SeatView) (desks : A → List Desk) (workers : List A) : Type 0 where
+pub record CrewTakes {A : Type 0} (law : Law) (state : List Entry → SpaceMap → Type 0) (spells : List ℕ → Saved → Type 0) (lines : List NamedLine) (node cursor k : ℕ) (journal : List Event) (looks : List (Option Looked)) (seat : A → SeatView) (desks : A → List Desk) (workers : List A) : Type 0 where
   pub home : ℕ → ℕ
   pub course : Course
   pub counts : List ℕ
   pub journal_is : course.journal ≡ journal
   pub lines_are : AreLines lines home (length workers)
-  pub ok : CourseOk may floor shelf lines (length workers) course counts looks
+  pub ok : CourseOk law lines (length workers) course counts looks
   pub over : (i : ℕ) (l : NamedLine) → slice_get lines i ≡ Some l → l.phase < course.phase
   pub log : List Entry
   pub size : length log ≡ cursor
@@ -37,5 +38,5 @@ pub record CrewTakes {A : Type 0} (may : ℕ → Entry → Type 0) (floor : List
   pub sees : SeesAll journal seat workers cursor
   pub there : node < length workers
   pub most : (w : A) → slice_get workers node ≡ Some w → (seat w).node.replica.cursor ≡ cursor
-  pub taken : (j : ℕ) (w : A) → j < k → slice_get workers j ≡ Some w → WorkerClosed may floor shelf state spells lines home (length workers) course counts looks log (j + 1) (record { seat = seat w; desks = desks w })
-  pub waits : (j : ℕ) (w : A) → k ≤ j → slice_get workers j ≡ Some w → WaitsToTake may floor shelf state spells lines home (length workers) course counts looks log (j + 1) (seat w) (desks w)
+  pub taken : (j : ℕ) (w : A) → j < k → slice_get workers j ≡ Some w → WorkerClosed law state spells lines home (length workers) course counts looks log (j + 1) (record { seat = seat w; desks = desks w })
+  pub waits : (j : ℕ) (w : A) → k ≤ j → slice_get workers j ≡ Some w → WaitsToTake law state spells lines home (length workers) course counts looks log (j + 1) (seat w) (desks w)

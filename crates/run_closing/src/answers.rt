@@ -1,9 +1,6 @@
 //! Answers of sessions, as far as a node's state tells them.
-ghost use Rattle.std.specs.Prelude.{List, OnOk};
-ghost use Rattle.delos_types.specs.Spaces.{SpaceMap};
-ghost use Rattle.delos_types.specs.declared.entry.Entry.{Entry};
+ghost use Rattle.std.specs.Prelude.{OnOk};
 ghost use Rattle.legal_journal.specs.Journal.{IsLegal};
-ghost use Rattle.log_laws.specs.State.{IsStateOf};
 ghost use Rattle.run_closing.specs.Collecting.{CanTake, TakesIt, CanTakeAll, TakesAll};
 
 use base_engine::node::Node;
@@ -20,9 +17,8 @@ fn take_it<T: Turns, C: Chooser, R: Replica>(
     node: &Node<VirtualLog<T, C>, R>,
     desk: &mut Desk,
 ) -> Result<(), AllocError>
-    requires state { (log : List Entry) (m : SpaceMap) → R.state log m → IsStateOf log m }
-    requires legal { IsLegal T.Law.may T.Law.floor T.Law.shelf node.now.seen }
-    requires desk { CanTake T.Law.may node.now desk.old.session desk.old }
+    requires legal { IsLegal T.Law.law node.now.seen }
+    requires desk { CanTake T.Law.law.may node.now desk.old.session desk.old }
     ensures takes { OnOk result (TakesIt node.now desk.old desk.new) }
 {
     if desk.asked == 0 {
@@ -41,9 +37,8 @@ pub fn take_all<T: Turns, C: Chooser, R: Replica>(
     node: &Node<VirtualLog<T, C>, R>,
     desks: &mut [Desk],
 ) -> Result<(), AllocError>
-    requires state { (log : List Entry) (m : SpaceMap) → R.state log m → IsStateOf log m }
-    requires legal { IsLegal T.Law.may T.Law.floor T.Law.shelf node.now.seen }
-    requires desks { CanTakeAll T.Law.may node.now desks.old }
+    requires legal { IsLegal T.Law.law node.now.seen }
+    requires desks { CanTakeAll T.Law.law.may node.now desks.old }
     ensures takes { OnOk result (TakesAll node.now desks.old desks.new) }
 {
     for desk in desks.iter_mut() {

@@ -1,8 +1,6 @@
 //! The nodes of a run close.
 ghost use Rattle.std.specs.Prelude.{◌≡◌, ℕ, List, length, map, IfOk, OnOk};
-ghost use Rattle.delos_types.specs.Spaces.{SpaceMap};
 ghost use Rattle.delos_types.specs.declared.entry.Entry.{Entry};
-ghost use Rattle.log_laws.specs.State.{IsStateOf};
 ghost use Rattle.turn_scopes.specs.Floors.{FloorIs};
 ghost use Rattle.node_lines.specs.Workers.{MayRun};
 ghost use Rattle.node_crew.specs.Crews.{CrewRests, CrewStands};
@@ -38,18 +36,17 @@ pub fn close<L: Loglet, R: Register, K: Terms, S: Replica, C: Chooser>(
     crew: Crew<L, R, K, S, C>,
     lines: &[NamedLine],
 ) -> Closed<L, R, K, S, C>
-    requires run { MayRun K.may K.floor K.shelf }
-    requires state { (log : List Entry) (m : SpaceMap) → S.state log m → IsStateOf log m }
-    requires floor { FloorIs K.floor (length crew.workers.items) }
-    requires rests { (phase : ℕ) × CrewRests K.may K.floor K.shelf S.state S.spells lines.now (length lines.now) phase crew.fabric.journal crew.looks.items (λ w. w.seat) (λ w. w.desks.items) crew.workers.items }
-    ensures closed { IfOk result.answer (λ end. (log : List Entry) × (length log ≡ end) × HasClosed K.may K.floor K.shelf S.state S.spells lines.now result.crew.fabric.journal result.crew.looks.items log (map (λ w. record { seat = w.seat; desks = w.desks.items }) result.crew.workers.items)) }
+    requires run { MayRun K.law }
+    requires floor { FloorIs K.law.floor (length crew.workers.items) }
+    requires rests { (phase : ℕ) × CrewRests K.law S.state S.spells lines.now (length lines.now) phase crew.fabric.journal crew.looks.items (λ w. w.seat) (λ w. w.desks.items) crew.workers.items }
+    ensures closed { IfOk result.answer (λ end. (log : List Entry) × (length log ≡ end) × HasClosed K.law S.state S.spells lines.now result.crew.fabric.journal result.crew.looks.items log (map (λ w. record { seat = w.seat; desks = w.desks.items }) result.crew.workers.items)) }
 
     // The register was opened again first, where it was down.
     ensures opens { OnOk result.answer (OpensFirst crew.fabric result.crew.fabric) }
 
     // Where no fault came, the whole log was played.
     ensures sees { IfOk result.answer (SeesAll result.crew.fabric.journal (λ (w : WorkerEnd). w.seat) (map (λ w. record { seat = w.seat; desks = w.desks.items }) result.crew.workers.items)) }
-    ensures stands { CrewStands K.may K.floor K.shelf S.state S.spells result.crew.fabric.journal (λ w. w.seat) result.crew.workers.items }
+    ensures stands { CrewStands K.law S.state S.spells result.crew.fabric.journal (λ w. w.seat) result.crew.workers.items }
     ensures size { length result.crew.workers.items ≡ length crew.workers.items }
 {
     let Finished { crew, answer } = open_register(crew, lines);

@@ -1,8 +1,5 @@
 //! The nodes' last calls, in order, and which node has played most of the log.
-ghost use Rattle.std.specs.Prelude.{◌≡◌, ◌<◌, ◌≤◌, ◌+◌, ℕ, List, length, IfOk, OnOk};
-ghost use Rattle.delos_types.specs.Spaces.{SpaceMap};
-ghost use Rattle.delos_types.specs.declared.entry.Entry.{Entry};
-ghost use Rattle.log_laws.specs.State.{IsStateOf};
+ghost use Rattle.std.specs.Prelude.{◌≡◌, ◌<◌, ◌≤◌, ◌+◌, length, IfOk, OnOk};
 ghost use Rattle.turn_scopes.specs.Floors.{FloorIs};
 ghost use Rattle.node_lines.specs.Workers.{MayRun, Grows};
 ghost use Rattle.node_crew.specs.Crews.{CrewStands};
@@ -52,15 +49,14 @@ fn finish_node<L: Loglet, R: Register, K: Terms, S: Replica, C: Chooser>(
     k: usize,
     _lines: &[NamedLine],
 ) -> Finished<L, R, K, S, C, u64>
-    requires run { MayRun K.may K.floor K.shelf }
-    requires state { (log : List Entry) (m : SpaceMap) → S.state log m → IsStateOf log m }
-    requires floor { FloorIs K.floor (length crew.workers.items) }
+    requires run { MayRun K.law }
+    requires floor { FloorIs K.law.floor (length crew.workers.items) }
     requires there { k < length crew.workers.items }
-    requires rests { HasPlayed K.may K.floor K.shelf S.state S.spells _lines.now crew.fabric.journal crew.looks.items (λ w. w.seat) (λ w. w.desks.items) crew.workers.items }
-    ensures rests { OnOk result.answer (HasPlayed K.may K.floor K.shelf S.state S.spells _lines.now result.crew.fabric.journal result.crew.looks.items (λ w. w.seat) (λ w. w.desks.items) result.crew.workers.items) }
+    requires rests { HasPlayed K.law S.state S.spells _lines.now crew.fabric.journal crew.looks.items (λ w. w.seat) (λ w. w.desks.items) crew.workers.items }
+    ensures rests { OnOk result.answer (HasPlayed K.law S.state S.spells _lines.now result.crew.fabric.journal result.crew.looks.items (λ w. w.seat) (λ w. w.desks.items) result.crew.workers.items) }
     ensures finishes { IfOk result.answer (HasFinished crew.fabric.journal result.crew.fabric.journal (λ w. w.seat) crew.workers.items result.crew.workers.items k) }
     ensures grows { Grows crew.fabric.journal result.crew.fabric.journal }
-    ensures stands { CrewStands K.may K.floor K.shelf S.state S.spells result.crew.fabric.journal (λ w. w.seat) result.crew.workers.items }
+    ensures stands { CrewStands K.law S.state S.spells result.crew.fabric.journal (λ w. w.seat) result.crew.workers.items }
     ensures size { length result.crew.workers.items ≡ length crew.workers.items }
 {
     let Some(number) = NodeId::new(k as u8 + 1) else {
@@ -101,18 +97,17 @@ pub fn finish_all<L: Loglet, R: Register, K: Terms, S: Replica, C: Chooser>(
     crew: Crew<L, R, K, S, C>,
     lines: &[NamedLine],
 ) -> Finished<L, R, K, S, C, Most>
-    requires run { MayRun K.may K.floor K.shelf }
-    requires state { (log : List Entry) (m : SpaceMap) → S.state log m → IsStateOf log m }
-    requires floor { FloorIs K.floor (length crew.workers.items) }
-    requires rests { HasPlayed K.may K.floor K.shelf S.state S.spells lines.now crew.fabric.journal crew.looks.items (λ w. w.seat) (λ w. w.desks.items) crew.workers.items }
-    ensures rests { OnOk result.answer (HasPlayed K.may K.floor K.shelf S.state S.spells lines.now result.crew.fabric.journal result.crew.looks.items (λ w. w.seat) (λ w. w.desks.items) result.crew.workers.items) }
+    requires run { MayRun K.law }
+    requires floor { FloorIs K.law.floor (length crew.workers.items) }
+    requires rests { HasPlayed K.law S.state S.spells lines.now crew.fabric.journal crew.looks.items (λ w. w.seat) (λ w. w.desks.items) crew.workers.items }
+    ensures rests { OnOk result.answer (HasPlayed K.law S.state S.spells lines.now result.crew.fabric.journal result.crew.looks.items (λ w. w.seat) (λ w. w.desks.items) result.crew.workers.items) }
     ensures most { IfOk result.answer (λ most. HasMost (λ w. w.seat) result.crew.workers.items (length result.crew.workers.items) most.node most.cursor) }
     ensures sees { IfOk result.answer (λ most. SeesAll result.crew.fabric.journal (λ w. w.seat) result.crew.workers.items most.cursor) }
 
     // A node that had left has the state and the store of before.
     ensures passes { OnOk result.answer (PassesBy (λ w. w.seat) crew.workers.items result.crew.workers.items) }
     ensures grows { Grows crew.fabric.journal result.crew.fabric.journal }
-    ensures stands { CrewStands K.may K.floor K.shelf S.state S.spells result.crew.fabric.journal (λ w. w.seat) result.crew.workers.items }
+    ensures stands { CrewStands K.law S.state S.spells result.crew.fabric.journal (λ w. w.seat) result.crew.workers.items }
     ensures size { length result.crew.workers.items ≡ length crew.workers.items }
 {
     let mut crew = crew;

@@ -37,8 +37,8 @@ fn reopen<T: Turns, C: Chooser, R: Replica>(
 fn play_out<T: Turns, C: Chooser, R: Replica>(
     node: &mut Node<VirtualLog<T, C>, R>,
 ) -> Result<u64, AllocError>
-    requires floor { (log : List Entry) (n : ℕ) → T.Law.floor log n → n ≤ length log }
-    ensures moves { OnOk result (Moves T.Law.may T.Law.floor T.Law.shelf node.old node.new []) }
+    requires floor { (log : List Entry) (n : ℕ) → T.Law.law.floor log n → n ≤ length log }
+    ensures moves { OnOk result (Moves T.Law.law node.old node.new []) }
     ensures plays { OnOk result (PlaysOut node.old node.new) }
     ensures follows { OnOk result (Follows Holds R.state R.spells node.new.seen node.new.replica) }
     ensures outbox { OnOk result (node.new.outbox ≡ node.old.outbox) }
@@ -60,8 +60,8 @@ pub fn finish<T: Turns, C: Chooser, R: Replica>(
     node: &mut Node<VirtualLog<T, C>, R>,
     number: NodeId,
 ) -> Result<u64, AllocError>
-    requires floor { (log : List Entry) (n : ℕ) → T.Law.floor log n → n ≤ length log }
-    ensures moves { OnOk result (Moves T.Law.may T.Law.floor T.Law.shelf node.old node.new []) }
+    requires floor { (log : List Entry) (n : ℕ) → T.Law.law.floor log n → n ≤ length log }
+    ensures moves { OnOk result (Moves T.Law.law node.old node.new []) }
     ensures plays { OnOk result (Finishes number node.old node.new) }
     ensures follows { OnOk result (Follows Holds R.state R.spells node.new.seen node.new.replica) }
     ensures outbox { OnOk result (node.new.outbox ≡ node.old.outbox) }

@@ -1,8 +1,5 @@
 //! The answers of all sessions, taken at one node.
-ghost use Rattle.std.specs.Prelude.{◌≡◌, ◌≢◌, ◌<◌, ◌≤◌, ◌+◌, ℕ, List, length, OnOk};
-ghost use Rattle.delos_types.specs.Spaces.{SpaceMap};
-ghost use Rattle.delos_types.specs.declared.entry.Entry.{Entry};
-ghost use Rattle.log_laws.specs.State.{IsStateOf};
+ghost use Rattle.std.specs.Prelude.{◌≡◌, ◌≢◌, ◌<◌, ◌≤◌, ◌+◌, length, OnOk};
 ghost use Rattle.node_lines.specs.Workers.{MayRun};
 ghost use Rattle.node_crew.specs.Crews.{CrewStands};
 ghost use Rattle.run_closing.specs.Taking.{CrewTakes};
@@ -26,12 +23,11 @@ fn take_own<L: Loglet, R: Register, K: Terms, S: Replica, C: Chooser>(
     most: Most,
     _lines: &[NamedLine],
 ) -> Finished<L, R, K, S, C, ()>
-    requires run { MayRun K.may K.floor K.shelf }
-    requires state { (log : List Entry) (m : SpaceMap) → S.state log m → IsStateOf log m }
-    requires takes { CrewTakes K.may K.floor K.shelf S.state S.spells _lines.now most.node most.cursor most.node crew.fabric.journal crew.looks.items (λ w. w.seat) (λ w. w.desks.items) crew.workers.items }
-    ensures takes { OnOk result.answer (CrewTakes K.may K.floor K.shelf S.state S.spells _lines.now most.node most.cursor (most.node + 1) result.crew.fabric.journal result.crew.looks.items (λ w. w.seat) (λ w. w.desks.items) result.crew.workers.items) }
+    requires run { MayRun K.law }
+    requires takes { CrewTakes K.law S.state S.spells _lines.now most.node most.cursor most.node crew.fabric.journal crew.looks.items (λ w. w.seat) (λ w. w.desks.items) crew.workers.items }
+    ensures takes { OnOk result.answer (CrewTakes K.law S.state S.spells _lines.now most.node most.cursor (most.node + 1) result.crew.fabric.journal result.crew.looks.items (λ w. w.seat) (λ w. w.desks.items) result.crew.workers.items) }
     ensures journal { result.crew.fabric.journal ≡ crew.fabric.journal }
-    ensures stands { CrewStands K.may K.floor K.shelf S.state S.spells result.crew.fabric.journal (λ w. w.seat) result.crew.workers.items }
+    ensures stands { CrewStands K.law S.state S.spells result.crew.fabric.journal (λ w. w.seat) result.crew.workers.items }
     ensures size { length result.crew.workers.items ≡ length crew.workers.items }
 {
     let Crew {
@@ -84,14 +80,13 @@ fn take_other<L: Loglet, R: Register, K: Terms, S: Replica, C: Chooser>(
     k: usize,
     _lines: &[NamedLine],
 ) -> Finished<L, R, K, S, C, ()>
-    requires run { MayRun K.may K.floor K.shelf }
-    requires state { (log : List Entry) (m : SpaceMap) → S.state log m → IsStateOf log m }
+    requires run { MayRun K.law }
     requires there { k < length crew.workers.items }
     requires other { most.node ≢ k }
-    requires takes { CrewTakes K.may K.floor K.shelf S.state S.spells _lines.now most.node most.cursor k crew.fabric.journal crew.looks.items (λ w. w.seat) (λ w. w.desks.items) crew.workers.items }
-    ensures takes { OnOk result.answer (CrewTakes K.may K.floor K.shelf S.state S.spells _lines.now most.node most.cursor (k + 1) result.crew.fabric.journal result.crew.looks.items (λ w. w.seat) (λ w. w.desks.items) result.crew.workers.items) }
+    requires takes { CrewTakes K.law S.state S.spells _lines.now most.node most.cursor k crew.fabric.journal crew.looks.items (λ w. w.seat) (λ w. w.desks.items) crew.workers.items }
+    ensures takes { OnOk result.answer (CrewTakes K.law S.state S.spells _lines.now most.node most.cursor (k + 1) result.crew.fabric.journal result.crew.looks.items (λ w. w.seat) (λ w. w.desks.items) result.crew.workers.items) }
     ensures journal { result.crew.fabric.journal ≡ crew.fabric.journal }
-    ensures stands { CrewStands K.may K.floor K.shelf S.state S.spells result.crew.fabric.journal (λ w. w.seat) result.crew.workers.items }
+    ensures stands { CrewStands K.law S.state S.spells result.crew.fabric.journal (λ w. w.seat) result.crew.workers.items }
     ensures size { length result.crew.workers.items ≡ length crew.workers.items }
 {
     let Crew {
@@ -147,13 +142,12 @@ fn take_node<L: Loglet, R: Register, K: Terms, S: Replica, C: Chooser>(
     k: usize,
     lines: &[NamedLine],
 ) -> Finished<L, R, K, S, C, ()>
-    requires run { MayRun K.may K.floor K.shelf }
-    requires state { (log : List Entry) (m : SpaceMap) → S.state log m → IsStateOf log m }
+    requires run { MayRun K.law }
     requires there { k < length crew.workers.items }
-    requires takes { CrewTakes K.may K.floor K.shelf S.state S.spells lines.now most.node most.cursor k crew.fabric.journal crew.looks.items (λ w. w.seat) (λ w. w.desks.items) crew.workers.items }
-    ensures takes { OnOk result.answer (CrewTakes K.may K.floor K.shelf S.state S.spells lines.now most.node most.cursor (k + 1) result.crew.fabric.journal result.crew.looks.items (λ w. w.seat) (λ w. w.desks.items) result.crew.workers.items) }
+    requires takes { CrewTakes K.law S.state S.spells lines.now most.node most.cursor k crew.fabric.journal crew.looks.items (λ w. w.seat) (λ w. w.desks.items) crew.workers.items }
+    ensures takes { OnOk result.answer (CrewTakes K.law S.state S.spells lines.now most.node most.cursor (k + 1) result.crew.fabric.journal result.crew.looks.items (λ w. w.seat) (λ w. w.desks.items) result.crew.workers.items) }
     ensures journal { result.crew.fabric.journal ≡ crew.fabric.journal }
-    ensures stands { CrewStands K.may K.floor K.shelf S.state S.spells result.crew.fabric.journal (λ w. w.seat) result.crew.workers.items }
+    ensures stands { CrewStands K.law S.state S.spells result.crew.fabric.journal (λ w. w.seat) result.crew.workers.items }
     ensures size { length result.crew.workers.items ≡ length crew.workers.items }
 {
     if most.node == k {
@@ -168,12 +162,11 @@ pub fn take_all_nodes<L: Loglet, R: Register, K: Terms, S: Replica, C: Chooser>(
     most: Most,
     lines: &[NamedLine],
 ) -> Finished<L, R, K, S, C, ()>
-    requires run { MayRun K.may K.floor K.shelf }
-    requires state { (log : List Entry) (m : SpaceMap) → S.state log m → IsStateOf log m }
-    requires takes { CrewTakes K.may K.floor K.shelf S.state S.spells lines.now most.node most.cursor 0 crew.fabric.journal crew.looks.items (λ w. w.seat) (λ w. w.desks.items) crew.workers.items }
-    ensures takes { OnOk result.answer (CrewTakes K.may K.floor K.shelf S.state S.spells lines.now most.node most.cursor (length result.crew.workers.items) result.crew.fabric.journal result.crew.looks.items (λ w. w.seat) (λ w. w.desks.items) result.crew.workers.items) }
+    requires run { MayRun K.law }
+    requires takes { CrewTakes K.law S.state S.spells lines.now most.node most.cursor 0 crew.fabric.journal crew.looks.items (λ w. w.seat) (λ w. w.desks.items) crew.workers.items }
+    ensures takes { OnOk result.answer (CrewTakes K.law S.state S.spells lines.now most.node most.cursor (length result.crew.workers.items) result.crew.fabric.journal result.crew.looks.items (λ w. w.seat) (λ w. w.desks.items) result.crew.workers.items) }
     ensures journal { result.crew.fabric.journal ≡ crew.fabric.journal }
-    ensures stands { CrewStands K.may K.floor K.shelf S.state S.spells result.crew.fabric.journal (λ w. w.seat) result.crew.workers.items }
+    ensures stands { CrewStands K.law S.state S.spells result.crew.fabric.journal (λ w. w.seat) result.crew.workers.items }
     ensures size { length result.crew.workers.items ≡ length crew.workers.items }
 {
     let mut crew = crew;

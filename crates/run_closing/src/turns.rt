@@ -1,8 +1,6 @@
 //! A node's last turns, by the rules of a run.
 ghost use Rattle.std.specs.Prelude.{◌≡◌, ◌≤◌, ℕ, List, [], length, IfOk, OnOk};
-ghost use Rattle.delos_types.specs.Spaces.{SpaceMap};
 ghost use Rattle.delos_types.specs.declared.entry.Entry.{Entry};
-ghost use Rattle.log_laws.specs.State.{IsStateOf};
 ghost use Rattle.turn_scopes.specs.Alone.{IsAlone};
 ghost use Rattle.turn_scopes.specs.Beside.{Since, SealsByRight, Narrows};
 ghost use Rattle.turn_scopes.specs.Seats.{SeatOk, node_of};
@@ -31,19 +29,19 @@ fn finish_within<A: Access, Q: Scope, S: Replica, C: Chooser>(
     worker: Worker<S, C>,
     number: NodeId,
 ) -> Back<A, Worker<S, C>, u64>
-    requires floor { (log : List Entry) (n : ℕ) → Q.floor log n → n ≤ length log }
+    requires floor { (log : List Entry) (n : ℕ) → Q.law.floor log n → n ≤ length log }
     requires who { worker.seat.who ≡ A.who access }
-    requires narrows { Narrows A.Law.may Q.sends A.Law.floor Q.floor A.Law.shelf (A.beside (A.who access)) }
-    requires seat { SeatOk Q.sends Q.floor A.Law.shelf S.state S.spells (A.seen access) worker.seat }
+    requires narrows { Narrows Q.law A.Law.law (A.beside (A.who access)) }
+    requires seat { SeatOk Q.law S.state S.spells (A.seen access) worker.seat }
     requires whose { Q.who ≡ A.who access }
     requires since { Q.since ≡ A.seen access }
     ensures desks { result.part.desks ≡ worker.desks }
     ensures who { A.who result.access ≡ A.who access }
     ensures sits { result.part.seat.who ≡ A.who result.access }
-    ensures seat { SeatOk Q.sends Q.floor A.Law.shelf S.state S.spells (A.seen result.access) result.part.seat }
+    ensures seat { SeatOk Q.law S.state S.spells (A.seen result.access) result.part.seat }
     ensures since { Since result.part.seat.who (A.beside result.part.seat.who) (A.seen access) (A.seen result.access) }
     ensures right { SealsByRight (Q.seals result.part.seat.who) result.part.seat.who (A.seen access) (A.seen result.access) }
-    ensures moves { OnOk result.answer (Moves Q.sends Q.floor A.Law.shelf (node_of worker.seat (A.seen access)) (node_of result.part.seat (A.seen result.access)) []) }
+    ensures moves { OnOk result.answer (Moves Q.law (node_of worker.seat (A.seen access)) (node_of result.part.seat (A.seen result.access)) []) }
     ensures plays { OnOk result.answer (Finishes number (node_of worker.seat (A.seen access)) (node_of result.part.seat (A.seen result.access))) }
     ensures outbox { OnOk result.answer (result.part.seat.node.outbox ≡ worker.seat.node.outbox) }
     ensures kept { OnOk result.answer (result.part.seat.node.replica.kept ≡ worker.seat.node.replica.kept) }
@@ -68,16 +66,15 @@ pub fn finish_worker<A: Access, S: Replica, C: Chooser>(
     worker: Worker<S, C>,
     number: NodeId,
 ) -> Back<A, Worker<S, C>, u64>
-    requires run { MayRun A.Law.may A.Law.floor A.Law.shelf }
-    requires state { (log : List Entry) (m : SpaceMap) → S.state log m → IsStateOf log m }
+    requires run { MayRun A.Law.law }
     requires who { worker.seat.who ≡ A.who access }
     requires alone { IsAlone (A.beside (A.who access)) }
-    requires worker { WorkerOk A.Law.may A.Law.floor A.Law.shelf S.state S.spells worker.seat.who (A.seen access) worker.seat worker.desks.items }
+    requires worker { WorkerOk A.Law.law S.state S.spells worker.seat.who (A.seen access) worker.seat worker.desks.items }
     ensures desks { result.part.desks ≡ worker.desks }
     ensures who { A.who result.access ≡ A.who access }
-    ensures left { IsLeft A.Law.may A.Law.floor A.Law.shelf S.state S.spells A.beside ⊥ (A.seen access) worker.seat (A.seen result.access) result.part.seat }
-    ensures worker { OnOk result.answer (WorkerOk A.Law.may A.Law.floor A.Law.shelf S.state S.spells worker.seat.who (A.seen result.access) result.part.seat result.part.desks.items) }
-    ensures moves { OnOk result.answer (Moves (OwnWithin worker.seat.who A.Law.may (sent_by worker.desks.items)) A.Law.floor A.Law.shelf (node_of worker.seat (A.seen access)) (node_of result.part.seat (A.seen result.access)) []) }
+    ensures left { IsLeft A.Law.law S.state S.spells A.beside ⊥ (A.seen access) worker.seat (A.seen result.access) result.part.seat }
+    ensures worker { OnOk result.answer (WorkerOk A.Law.law S.state S.spells worker.seat.who (A.seen result.access) result.part.seat result.part.desks.items) }
+    ensures moves { OnOk result.answer (Moves (record A.Law.law { may = OwnWithin worker.seat.who A.Law.law.may (sent_by worker.desks.items) }) (node_of worker.seat (A.seen access)) (node_of result.part.seat (A.seen result.access)) []) }
     ensures plays { OnOk result.answer (Finishes number (node_of worker.seat (A.seen access)) (node_of result.part.seat (A.seen result.access))) }
     ensures outbox { OnOk result.answer (result.part.seat.node.outbox ≡ worker.seat.node.outbox) }
     ensures cursor { IfOk result.answer (λ n. n ≡ result.part.seat.node.replica.cursor) }
@@ -92,15 +89,14 @@ fn take_within<A: Access, Q: Scope, S: Replica, C: Chooser>(
     seat: Seat<S, C>,
     desks: &mut Vec<Desk>,
 ) -> Back<A, Seat<S, C>, ()>
-    requires state { (log : List Entry) (m : SpaceMap) → S.state log m → IsStateOf log m }
     requires who { seat.who ≡ A.who access }
-    requires narrows { Narrows A.Law.may Q.sends A.Law.floor Q.floor A.Law.shelf (A.beside (A.who access)) }
-    requires seat { SeatOk Q.sends Q.floor A.Law.shelf S.state S.spells (A.seen access) seat }
+    requires narrows { Narrows Q.law A.Law.law (A.beside (A.who access)) }
+    requires seat { SeatOk Q.law S.state S.spells (A.seen access) seat }
     requires whose { Q.who ≡ A.who access }
     requires since { Q.since ≡ A.seen access }
-    requires desks { CanTakeAll Q.sends (node_of seat (A.seen access)) desks.old.items }
+    requires desks { CanTakeAll Q.law.may (node_of seat (A.seen access)) desks.old.items }
     ensures node { node_of result.part (A.seen result.access) ≡ node_of seat (A.seen access) }
-    ensures seat { SeatOk Q.sends Q.floor A.Law.shelf S.state S.spells (A.seen result.access) result.part }
+    ensures seat { SeatOk Q.law S.state S.spells (A.seen result.access) result.part }
     ensures takes { OnOk result.answer (TakesAll (node_of seat (A.seen access)) desks.old.items desks.new.items) }
 {
     let node = seat.wake::<A, Q>(access);
@@ -120,13 +116,12 @@ pub fn take_answers<A: Access, S: Replica, C: Chooser>(
     seat: Seat<S, C>,
     desks: &mut Vec<Desk>,
 ) -> Back<A, Seat<S, C>, ()>
-    requires state { (log : List Entry) (m : SpaceMap) → S.state log m → IsStateOf log m }
     requires who { seat.who ≡ A.who access }
     requires alone { IsAlone (A.beside (A.who access)) }
-    requires seat { SeatOk (WithinDesks A.Law.may desks.old.items) A.Law.floor A.Law.shelf S.state S.spells (A.seen access) seat }
-    requires desks { CanTakeAll (WithinDesks A.Law.may desks.old.items) (node_of seat (A.seen access)) desks.old.items }
+    requires seat { SeatOk (record A.Law.law { may = WithinDesks A.Law.law.may desks.old.items }) S.state S.spells (A.seen access) seat }
+    requires desks { CanTakeAll (WithinDesks A.Law.law.may desks.old.items) (node_of seat (A.seen access)) desks.old.items }
     ensures node { node_of result.part (A.seen result.access) ≡ node_of seat (A.seen access) }
-    ensures seat { SeatOk (WithinDesks A.Law.may desks.old.items) A.Law.floor A.Law.shelf S.state S.spells (A.seen result.access) result.part }
+    ensures seat { SeatOk (record A.Law.law { may = WithinDesks A.Law.law.may desks.old.items }) S.state S.spells (A.seen result.access) result.part }
     ensures takes { OnOk result.answer (TakesAll (node_of seat (A.seen access)) desks.old.items desks.new.items) }
 {
     take_within::<A, Brand, S, C>(access, seat, desks)

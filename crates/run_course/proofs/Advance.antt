@@ -5,9 +5,9 @@ use Rattle.std.proofs.lemmas.Bool.{cases_lt}
 use Rattle.std.proofs.lemmas.Bool.Decides.{nat_tests}
 use Rattle.std.proofs.lemmas.List.Sums.{sum_by-append}
 use Rattle.std.proofs.lemmas.List.Elements.{filter_map-append}
-use Rattle.delos_types.specs.declared.entry.Entry.{Entry}
 use Rattle.delos_types.specs.declared.cause.Cause.{Cause}
 use Rattle.delos_types.specs.declared.cause.Cause.TheVariants as cause
+use Rattle.legal_journal.specs.Law.{Law}
 use Rattle.legal_journal.specs.declared.events.Event.{Event}
 use Rattle.legal_journal.specs.Journal.{IsLegal, state_of, tail_of}
 use Rattle.legal_journal.proofs.Legal.{goes_on}
@@ -84,13 +84,13 @@ came_here : (P : Fault → Type 0) (n phase : ℕ) → ((k : Cause) → P (fault
 came_here P n phase h [] = tt
 came_here P n phase h (k ∷ came) = (h k, came_here P n phase h came)
 
-module _ (may : ℕ → Entry → Type 0) (floor : List Entry → ℕ → Type 0) (shelf : List ℕ) where
+module _ (law : Law) where
   -- the tail of a log doesn't fall
-  pub tail_rises : (old new more : List Event) → new ≡ old ++ more → IsLegal may floor shelf new → tail_of (state_of old) ≤ tail_of (state_of new)
+  pub tail_rises : (old new more : List Event) → new ≡ old ++ more → IsLegal law new → tail_of (state_of old) ≤ tail_of (state_of new)
   tail_rises old new more seen legal =
-      subst (λ l. tail_of (state_of old) ≤ tail_of (state_of l)) (sym seen) (goes_on may floor shelf old more (subst (IsLegal may floor shelf) seen legal)).tail
+      subst (λ l. tail_of (state_of old) ≤ tail_of (state_of l)) (sym seen) (goes_on law old more (subst (IsLegal law) seen legal)).tail
 
-  pub began_on : (lines : List NamedLine) (old new more : List Event) (tail phase : ℕ) → new ≡ old ++ more → BeganAt may floor shelf lines old tail phase → BeganAt may floor shelf lines new tail phase
+  pub began_on : (lines : List NamedLine) (old new more : List Event) (tail phase : ℕ) → new ≡ old ++ more → BeganAt law lines old tail phase → BeganAt law lines new tail phase
   began_on lines old new more tail phase seen b = record {
     early = b.early;
     more = b.more ++ more;
@@ -101,16 +101,16 @@ module _ (may : ℕ → Entry → Type 0) (floor : List Entry → ℕ → Type 0
     sent = b.sent;
   }
 
-  module _ (lines : List NamedLine) (nodes : ℕ) (c : Course) (counts : List ℕ) (looks : List (Option Looked)) (ok : CourseOk may floor shelf lines nodes c counts looks) (n : ℕ) (came : List Cause) (journal more : List Event) (when : ℕ → ℕ) (counts' : List ℕ) (looks' : List (Option Looked)) (seen : journal ≡ c.journal ++ more) (legal : IsLegal (Within may counts') floor shelf journal) (long : length counts' ≡ 64) where
+  module _ (lines : List NamedLine) (nodes : ℕ) (c : Course) (counts : List ℕ) (looks : List (Option Looked)) (ok : CourseOk law lines nodes c counts looks) (n : ℕ) (came : List Cause) (journal more : List Event) (when : ℕ → ℕ) (counts' : List ℕ) (looks' : List (Option Looked)) (seen : journal ≡ c.journal ++ more) (legal : IsLegal (record law { may = Within law.may counts' }) journal) (long : length counts' ≡ 64) where
     abbrev then' : Course
     then' = advanced c n came journal when
 
     pub rises : (p : ℕ) → c.tails p ≤ then'.tails p
-    rises p = ⊎_elim (λ (high : c.phase < p). let a = ok.after p high in let b = tails_new c n came journal when p high in let up = tail_rises c.journal journal more seen (legal_wider (Within may counts') may floor shelf (λ who e h. h.0) journal legal) in omega arith)
+    rises p = ⊎_elim (λ (high : c.phase < p). let a = ok.after p high in let b = tails_new c n came journal when p high in let up = tail_rises c.journal journal more seen (legal_wider law (Within law.may counts') law.may (λ who e h. h.0) journal legal) in omega arith)
         (λ (low : p ≤ c.phase). let a = tails_old c n came journal when p low in omega arith) (cases_lt c.phase p)
 
-    began : (p : ℕ) → p ≤ c.phase → BeganAt may floor shelf lines journal (then'.tails p) p
-    began p low = subst (λ t. BeganAt may floor shelf lines journal t p) (sym (tails_old c n came journal when p low)) (began_on lines c.journal journal more (c.tails p) p seen (ok.began p low))
+    began : (p : ℕ) → p ≤ c.phase → BeganAt law lines journal (then'.tails p) p
+    began p low = subst (λ t. BeganAt law lines journal t p) (sym (tails_old c n came journal when p low)) (began_on lines c.journal journal more (c.tails p) p seen (ok.began p low))
 
     rise : (p : ℕ) → then'.tails p ≤ then'.tails (p + 1)
     rise p = ⊎_elim (λ (high : c.phase < p). let a = tails_new c n came journal when p high in let b = tails_new c n came journal when (p + 1) (omega (arith, high)) in omega arith)
@@ -119,14 +119,14 @@ module _ (may : ℕ → Entry → Type 0) (floor : List Entry → ℕ → Type 0
     -- The run then is one still: what a read's own look paid, and what came, was told by the new events.
     pub advance : 1 ≤ n → n ≤ nodes → length looks' ≡ length looks
         → ((P : Cause → Bool) → P cause.Store ≡ false → failed_looks (λ n. P) lines looks' + count_by P came ≤ failed_looks (λ n. P) lines looks + count_by P (faults_in more))
-        → Replaced lines looks' (state_of journal).register (length shelf)
+        → Replaced lines looks' (state_of journal).register (length law.shelf)
         → (faults_in journal ≡ [] → IsUnsealed (state_of journal) (count_by has_replaced looks'))
         → AreTold lines looks' journal
         → ((i : ℕ) (l : NamedLine) (look : Looked) → slice_get lines i ≡ Some l → slice_get looks' i ≡ Some (Some look) → HasToldSo journal l.node look)
         → ((j : ℕ) (l : NamedLine) (trim : ℕ) → slice_get lines j ≡ Some l → slice_get looks' j ≡ Some (Some (looked.Trimmed trim)) → IsTrim lines looks' nodes journal j l trim)
-        → ReportsHold may floor shelf lines looks' journal then'.tails
+        → ReportsHold law lines looks' journal then'.tails
         → ((i : ℕ) (l : NamedLine) → slice_get lines i ≡ Some l → c.phase < l.phase → slice_get looks' i ≡ Some None)
-        → CourseOk may floor shelf lines nodes then' counts' looks'
+        → CourseOk law lines nodes then' counts' looks'
     advance least most size paid replaced unsealed told stand trims reports ahead = record {
       legal = legal;
       long = long;
@@ -154,21 +154,21 @@ module _ (may : ℕ → Entry → Type 0) (floor : List Entry → ℕ → Type 0
     }
 
   -- .. where no line came to a look of its own meanwhile
-  pub advance_still : (lines : List NamedLine) (nodes : ℕ) (c : Course) (counts : List ℕ) (looks : List (Option Looked)) → CourseOk may floor shelf lines nodes c counts looks → (n : ℕ) (came : List Cause) (journal more : List Event) (when : ℕ → ℕ) (counts' : List ℕ)
-      → journal ≡ c.journal ++ more → IsLegal (Within may counts') floor shelf journal → length counts' ≡ 64 → 1 ≤ n → n ≤ nodes
+  pub advance_still : (lines : List NamedLine) (nodes : ℕ) (c : Course) (counts : List ℕ) (looks : List (Option Looked)) → CourseOk law lines nodes c counts looks → (n : ℕ) (came : List Cause) (journal more : List Event) (when : ℕ → ℕ) (counts' : List ℕ)
+      → journal ≡ c.journal ++ more → IsLegal (record law { may = Within law.may counts' }) journal → length counts' ≡ 64 → 1 ≤ n → n ≤ nodes
       → ((P : Cause → Bool) → P cause.Store ≡ false → failed_looks (λ n. P) lines looks + count_by P came ≤ failed_looks (λ n. P) lines looks + count_by P (faults_in more))
       → (faults_in journal ≡ [] → IsUnsealed (state_of journal) (count_by has_replaced looks)) → AreTold lines looks journal
-      → CourseOk may floor shelf lines nodes (advanced c n came journal when) counts' looks
+      → CourseOk law lines nodes (advanced c n came journal when) counts' looks
   advance_still lines nodes c counts looks ok n came journal more when counts' seen legal long least most paid unsealed told =
       advance lines nodes c counts looks ok n came journal more when counts' looks seen legal long least most refl paid
-      (replaced_on lines looks (state_of c.journal).register (state_of journal).register (length shelf) (later (Within may counts') floor shelf c.journal journal more seen legal) ok.replaced)
+      (replaced_on lines looks (state_of c.journal).register (state_of journal).register (length law.shelf) (later (record law { may = Within law.may counts' }) c.journal journal more seen legal) ok.replaced)
       unsealed told (λ i l look at come. stand_on c.journal journal stands l.node look (ok.stand i l look at come))
-      (λ j l trim at come. trim_on lines looks looks nodes c.journal journal stands (trim_rises (Within may counts') floor shelf c.journal journal more seen legal) j l trim (λ i m look at come first. come) (ok.trims j l trim at come))
-      (hold_on may floor shelf lines c.journal journal more seen c.tails (advanced c n came journal when).tails (rises lines nodes c counts looks ok n came journal more when counts' looks seen legal long) looks ok.reports)
+      (λ j l trim at come. trim_on lines looks looks nodes c.journal journal stands (trim_rises (record law { may = Within law.may counts' }) c.journal journal more seen legal) j l trim (λ i m look at come first. come) (ok.trims j l trim at come))
+      (hold_on law lines c.journal journal more seen c.tails (advanced c n came journal when).tails (rises lines nodes c counts looks ok n came journal more when counts' looks seen legal long) looks ok.reports)
       ok.ahead
     where
       stands : (x : Content) → StandsThere c.journal x → StandsThere journal x
-      stands x h = stands_on (Within may counts') floor shelf c.journal journal more seen legal x h
+      stands x h = stands_on (record law { may = Within law.may counts' }) c.journal journal more seen legal x h
 
 -- It is a part of a turn of node n.
 pub turned : (lines : List NamedLine) (home : ℕ → ℕ) (n : ℕ) (c : Course) (came : List Cause) (journal : List Event) (when : ℕ → ℕ) (counts counts' : List ℕ) (looks looks' : List (Option Looked))

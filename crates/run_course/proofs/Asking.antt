@@ -7,6 +7,7 @@ use Rattle.std.proofs.lemmas.List.Sums.{count_by-le-length, sum_by-cons}
 use Rattle.std.proofs.lemmas.List.{length-take-le}
 use Rattle.delos_types.specs.Spaces.{SpaceMap}
 use Rattle.delos_types.specs.declared.entry.Entry.{Entry}
+use Rattle.legal_journal.specs.Law.{Law}
 use Rattle.legal_journal.specs.declared.events.Event.{Event}
 use Rattle.replica_api.specs.Replica.{Saved}
 use Rattle.script_text.specs.declared.asks.NamedLine.{NamedLine}
@@ -31,9 +32,9 @@ few_asked lines n s i l at few =
     let size = length-take-le i lines (omega (arith, low)) in
     omega (arith, low, few, most, size)
 
-module _ (may : ℕ → Entry → Type 0) (floor : List Entry → ℕ → Type 0) (shelf : List ℕ) (state : List Entry → SpaceMap → Type 0) (spells : List ℕ → Saved → Type 0) (lines : List NamedLine) (home : ℕ → ℕ) (nodes : ℕ) (c : Course) (counts : List ℕ) (looks : List (Option Looked)) where
+module _ (law : Law) (state : List Entry → SpaceMap → Type 0) (spells : List ℕ → Saved → Type 0) (lines : List NamedLine) (home : ℕ → ℕ) (nodes : ℕ) (c : Course) (counts : List ℕ) (looks : List (Option Looked)) where
   pub line_next : (n from i : ℕ) (line : NamedLine) (journal : List Event) (seat : SeatView) (desks : List Desk) → slice_get lines i ≡ Some line → line.node ≡ n
-      → IsUnderWay may floor shelf state spells lines home nodes c counts looks n from i journal seat desks → IsNext desks line.asks
+      → IsUnderWay law state spells lines home nodes c counts looks n from i journal seat desks → IsNext desks line.asks
   line_next n from i line journal seat desks at own w = by line.asks refl
     where
       at_home : IsAtHome home line.node line.asks
@@ -70,7 +71,7 @@ module _ (may : ℕ → Entry → Type 0) (floor : List Entry → ℕ → Type 0
           omega (arith, rest, here, sum_by-cons (λ (m : NamedLine). cond (logs_at n s m) 1 0) l (take k ls), sum_by-cons (λ (m : NamedLine). cond (logs_for s m && nat_lt m.phase phase) 1 0) l ls)
 
   pub sent_asked : (s from phase : ℕ) (seat : SeatView) (desks : List Desk) → BeginsAt lines from phase → s < 64
-      → Rests may floor shelf state spells lines home nodes c counts looks (home s) from phase seat desks → sent_of counts s ≤ asked_before lines s phase
+      → Rests law state spells lines home nodes c counts looks (home s) from phase seat desks → sent_of counts s ≤ asked_before lines s phase
   sent_asked s from phase seat desks begins low r = by (some_at desks s (omega (arith, low, r.worker.ok.size)))
     where
       some_at : (ds : List Desk) (i : ℕ) → i < length ds → (d : Desk) × (slice_get ds i ≡ Some d)

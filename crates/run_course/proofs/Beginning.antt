@@ -4,6 +4,7 @@ use Rattle.std.specs.List.{AllByRecursion}
 use Rattle.std.proofs.lemmas.Bool.{cases_lt}
 use Rattle.delos_types.specs.Spaces.{SpaceMap}
 use Rattle.delos_types.specs.declared.entry.Entry.{Entry}
+use Rattle.legal_journal.specs.Law.{Law}
 use Rattle.table_core.specs.declared.command.Query.{Query}
 use Rattle.replica_api.specs.Replica.{Saved}
 use Rattle.base_engine.specs.declared.outbox.Given.{Given}
@@ -26,9 +27,9 @@ abbrev pub next_phase : Course → Course
 next_phase c = record c { phase = c.phase + 1 }
 
 -- Each phase of before began as it did, and the next one at the present tail.
-pub course_begins : (may : ℕ → Entry → Type 0) (floor : List Entry → ℕ → Type 0) (shelf : List ℕ) (lines : List NamedLine) (nodes : ℕ) (c : Course) (counts : List ℕ) (looks : List (Option Looked))
-    → ((s : ℕ) → sent_of counts s ≤ asked_before lines s (c.phase + 1)) → CourseOk may floor shelf lines nodes c counts looks → CourseOk may floor shelf lines nodes (next_phase c) counts looks
-course_begins may floor shelf lines nodes c counts looks sent ok = record {
+pub course_begins : (law : Law) (lines : List NamedLine) (nodes : ℕ) (c : Course) (counts : List ℕ) (looks : List (Option Looked))
+    → ((s : ℕ) → sent_of counts s ≤ asked_before lines s (c.phase + 1)) → CourseOk law lines nodes c counts looks → CourseOk law lines nodes (next_phase c) counts looks
+course_begins law lines nodes c counts looks sent ok = record {
   legal = ok.legal;
   long = ok.long;
   began = λ p low. by p low (cases_lt c.phase p);
@@ -46,7 +47,7 @@ course_begins may floor shelf lines nodes c counts looks sent ok = record {
   ahead = λ i l at high. ok.ahead i l at (omega (arith, high));
 }
   where
-    now : BeganAt may floor shelf lines c.journal (c.tails (c.phase + 1)) (c.phase + 1)
+    now : BeganAt law lines c.journal (c.tails (c.phase + 1)) (c.phase + 1)
     now = record {
       early = c.journal;
       more = [];
@@ -57,8 +58,8 @@ course_begins may floor shelf lines nodes c counts looks sent ok = record {
       sent = sent;
     }
 
-    by : (p : ℕ) → p ≤ c.phase + 1 → (c.phase < p) ⊎ (p ≤ c.phase) → BeganAt may floor shelf lines c.journal (c.tails p) p
-    by p low (inl high) = subst (λ q. BeganAt may floor shelf lines c.journal (c.tails q) q) (let e : c.phase + 1 ≡ p = omega (arith, low, high) in e) now
+    by : (p : ℕ) → p ≤ c.phase + 1 → (c.phase < p) ⊎ (p ≤ c.phase) → BeganAt law lines c.journal (c.tails p) p
+    by p low (inl high) = subst (λ q. BeganAt law lines c.journal (c.tails q) q) (let e : c.phase + 1 ≡ p = omega (arith, low, high) in e) now
     by p low (inr old) = ok.began p old
 
 module _ (c : Course) where
@@ -105,9 +106,9 @@ module _ (c : Course) where
   }
 
   -- Between two phases nothing is halted, and nothing was given.
-  pub rests_then : (may : ℕ → Entry → Type 0) (floor : List Entry → ℕ → Type 0) (shelf : List ℕ) (state : List Entry → SpaceMap → Type 0) (spells : List ℕ → Saved → Type 0) (lines : List NamedLine) (home : ℕ → ℕ) (nodes : ℕ) (counts : List ℕ) (looks : List (Option Looked)) (n from done : ℕ) (seat : SeatView) (desks : List Desk)
-      → Rests may floor shelf state spells lines home nodes c counts looks n from done seat desks → Rests may floor shelf state spells lines home nodes (next_phase c) counts looks n from done seat desks
-  rests_then may floor shelf state spells lines home nodes counts looks n from done seat desks r = record {
+  pub rests_then : (law : Law) (state : List Entry → SpaceMap → Type 0) (spells : List ℕ → Saved → Type 0) (lines : List NamedLine) (home : ℕ → ℕ) (nodes : ℕ) (counts : List ℕ) (looks : List (Option Looked)) (n from done : ℕ) (seat : SeatView) (desks : List Desk)
+      → Rests law state spells lines home nodes c counts looks n from done seat desks → Rests law state spells lines home nodes (next_phase c) counts looks n from done seat desks
+  rests_then law state spells lines home nodes counts looks n from done seat desks r = record {
     worker = record {
       ok = r.worker.ok;
       nodes_is = r.worker.nodes_is;

@@ -1,6 +1,6 @@
 -- What comes behind a report stands at it or above, still as a run goes on.
 use Rattle.std.proofs.Common.{◌≡◌, ap, ◌∙◌, ℕ, ◌+◌, ◌<◌, ◌≤◌, List, ◌++◌, Option, append_assoc, length, arith}
-use Rattle.delos_types.specs.declared.entry.Entry.{Entry}
+use Rattle.legal_journal.specs.Law.{Law}
 use Rattle.legal_journal.specs.declared.events.Event.{Event}
 use Rattle.fabric_core.proofs.OneLoglet.{IsAt, at}
 use Rattle.node_lines.specs.declared.desk.Desk.{Desk}
@@ -12,8 +12,8 @@ use Rattle.run_course.specs.Behind.{ReportsHold, WasReported}
 pub desk_there : (ds : List Desk) (i : ℕ) → i < length ds → IsAt ds i
 desk_there ds i low = at ds i low
 
-module _ (may : ℕ → Entry → Type 0) (floor : List Entry → ℕ → Type 0) (shelf : List ℕ) (lines : List NamedLine) (old new more : List Event) (seen : new ≡ old ++ more) (tails tails' : ℕ → ℕ) (rise : (p : ℕ) → tails p ≤ tails' p) where
-  pub reported_on : (node phase i n : ℕ) → WasReported may floor shelf lines old tails node phase i n → WasReported may floor shelf lines new tails' node phase i n
+module _ (law : Law) (lines : List NamedLine) (old new more : List Event) (seen : new ≡ old ++ more) (tails tails' : ℕ → ℕ) (rise : (p : ℕ) → tails p ≤ tails' p) where
+  pub reported_on : (node phase i n : ℕ) → WasReported law lines old tails node phase i n → WasReported law lines new tails' node phase i n
   reported_on node phase i n h = record {
     early = h.early;
     more = h.more ++ more;
@@ -25,7 +25,7 @@ module _ (may : ℕ → Entry → Type 0) (floor : List Entry → ℕ → Type 0
     unsent = h.unsent;
   }
 
-  pub hold_on : (looks : List (Option Looked)) → ReportsHold may floor shelf lines looks old tails → ReportsHold may floor shelf lines looks new tails'
+  pub hold_on : (looks : List (Option Looked)) → ReportsHold law lines looks old tails → ReportsHold law lines looks new tails'
   hold_on looks h = record {
     each = λ i l n at come. reported_on l.node l.phase i n (h.each i l n at come);
     reads = h.reads;

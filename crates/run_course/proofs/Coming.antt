@@ -1,8 +1,8 @@
 -- The causes that a node was given came to it.
 use Rattle.std.proofs.Common.{◌≡◌, refl, sym, subst, ℕ, List, [], ◌∷◌, ◌++◌, Some, Bool, true, false, cond, map}
 use Rattle.std.specs.List.{AllByRecursion}
-use Rattle.delos_types.specs.declared.entry.Entry.{Entry}
 use Rattle.delos_types.specs.declared.cause.Cause.{Cause}
+use Rattle.legal_journal.specs.Law.{Law}
 use Rattle.legal_journal.specs.declared.events.Event.{Event}
 use Rattle.base_engine.specs.declared.outbox.Given.{Given}
 use Rattle.base_engine.specs.Settling.{cause_in, has_session}
@@ -24,13 +24,13 @@ came_at c n came journal when k m = record {
 }
 
 -- the causes that were given before, and since
-pub given_then : (may : ℕ → Entry → Type 0) (floor : List Entry → ℕ → Type 0) (shelf : List ℕ) (c : Course) (n : ℕ) (came : List Cause) (journal : List Event) (when : ℕ → ℕ) (old more new : List Given) → Grown may floor shelf c (advanced c n came journal when)
+pub given_then : (law : Law) (c : Course) (n : ℕ) (came : List Cause) (journal : List Event) (when : ℕ → ℕ) (old more new : List Given) → Grown law c (advanced c n came journal when)
     → new ≡ old ++ more → ((g : Given) → Among more g → Among came g.cause) → AllByRecursion (λ g. CameTo c.faults g.cause n c.phase) old → AllByRecursion (λ g. CameTo (advanced c n came journal when).faults g.cause n c.phase) new
-given_then may floor shelf c n came journal when old more new grown is own h =
+given_then law c n came journal when old more new grown is own h =
     let then' : Course = advanced c n came journal when in
     subst (AllByRecursion (λ (g : Given). CameTo then'.faults g.cause n c.phase)) (sym is)
     (all-append (λ (g : Given). CameTo then'.faults g.cause n c.phase) old more
-    (given_grows may floor shelf c then' grown n c.phase old h)
+    (given_grows law c then' grown n c.phase old h)
     (all-of (λ (g : Given). CameTo then'.faults g.cause n c.phase) more (λ g m. came_at c n came journal when g.cause (own g m))))
 
 -- each cause that was given is one of them all

@@ -7,6 +7,7 @@ use Rattle.std.proofs.lemmas.Bool.Decides.{nat_tests}
 use Rattle.delos_types.specs.Spaces.{SpaceMap}
 use Rattle.delos_types.specs.declared.entry.Entry.{Entry}
 use Rattle.delos_types.specs.declared.cause.Cause.{Cause}
+use Rattle.legal_journal.specs.Law.{Law}
 use Rattle.legal_journal.specs.declared.events.Event.{Event}
 use Rattle.legal_journal.specs.Journal.{IsLegal}
 use Rattle.virtual_log.specs.Holding.{Holds}
@@ -115,7 +116,7 @@ became mid failed d d' h = ⊎_elim
 none_some : {A : Type 0} (a : A) → None ≡ Some a → ⊥
 none_some a e = cc
 
-module _ (may : ℕ → Entry → Type 0) (floor : List Entry → ℕ → Type 0) (shelf : List ℕ) (state : List Entry → SpaceMap → Type 0) (spells : List ℕ → Saved → Type 0) (run : MayRun may floor shelf) (lines : List NamedLine) (home : ℕ → ℕ) (nodes : ℕ) (c : Course) (counts : List ℕ) (looks : List (Option Looked)) (n from to : ℕ) (failed : Option Cause) (seat seat' : SeatView) (desks desks' : List Desk) (journal : List Event) (are : AreLines lines home nodes) (least : 1 ≤ n) (most : n ≤ nodes) (over : BeginsAt lines to (c.phase + 1)) (ok : CourseOk may floor shelf lines nodes c counts looks) (worker : WorkerAt may floor shelf state spells lines home nodes c counts looks n from to c.phase seat desks) (since : OwnSince n c.journal journal) (still : Unsealed c.journal journal) (adds : OwnAdds n IsOfSessions c.journal journal) (does : EndsTurn (OwnWithin n may (sent_by desks)) floor shelf (node_of seat c.journal) (node_of seat' journal) desks desks' failed) (now : WorkerOk may floor shelf state spells n journal seat' desks') where
+module _ (law : Law) (state : List Entry → SpaceMap → Type 0) (spells : List ℕ → Saved → Type 0) (run : MayRun law) (lines : List NamedLine) (home : ℕ → ℕ) (nodes : ℕ) (c : Course) (counts : List ℕ) (looks : List (Option Looked)) (n from to : ℕ) (failed : Option Cause) (seat seat' : SeatView) (desks desks' : List Desk) (journal : List Event) (are : AreLines lines home nodes) (least : 1 ≤ n) (most : n ≤ nodes) (over : BeginsAt lines to (c.phase + 1)) (ok : CourseOk law lines nodes c counts looks) (worker : WorkerAt law state spells lines home nodes c counts looks n from to c.phase seat desks) (since : OwnSince n c.journal journal) (still : Unsealed c.journal journal) (adds : OwnAdds n IsOfSessions c.journal journal) (does : EndsTurn (record law { may = OwnWithin n law.may (sent_by desks) }) (node_of seat c.journal) (node_of seat' journal) desks desks' failed) (now : WorkerOk law state spells n journal seat' desks') where
   abbrev came : List Cause
   came = causes_of does.ends.moves.goes.given (failure_in failed)
 
@@ -145,22 +146,22 @@ module _ (may : ℕ → Entry → Type 0) (floor : List Entry → ℕ → Type 0
   forward : seat.node.replica.cursor ≤ seat'.node.replica.cursor
   forward = let up = does.ends.moves.goes.keeps.forward in omega (arith, up, cursor_is)
 
-  within : IsLegal (Within may counts) floor shelf journal
-  within = worker_legal may floor shelf state spells n counts counts c.journal journal seat' desks' ok.legal since (λ s. omega arith)
-      (subst (λ cs. (s : ℕ) → sent_of cs s ≤ sent_of counts s) (sym (ends_sent does.mid failed desks desks' does.closes)) (sent_here may floor shelf state spells lines home nodes c counts looks n from to c.phase seat desks are worker)) now
+  within : IsLegal (record law { may = Within law.may counts }) journal
+  within = worker_legal law state spells n counts counts c.journal journal seat' desks' ok.legal since (λ s. omega arith)
+      (subst (λ cs. (s : ℕ) → sent_of cs s ≤ sent_of counts s) (sym (ends_sent does.mid failed desks desks' does.closes)) (sent_here law state spells lines home nodes c counts looks n from to c.phase seat desks are worker)) now
 
-  legal : IsLegal may floor shelf journal
-  legal = legal_wider (Within may counts) may floor shelf (λ who e h. h.0) journal within
+  legal : IsLegal law journal
+  legal = legal_wider law (Within law.may counts) law.may (λ who e h. h.0) journal within
 
   tells : TellsOn lines looks n seat.node.replica.cursor seat'.node.replica.cursor c.journal journal
-  tells = tells_commands (Within may counts) floor shelf c.journal journal does.ends.moves.goes.spends.more seen_more within lines looks looks n seat.node.replica.cursor seat'.node.replica.cursor (λ j x come. come) forward ok.told (all_adds n IsOfSessions c.journal journal since adds)
+  tells = tells_commands (record law { may = Within law.may counts }) c.journal journal does.ends.moves.goes.spends.more seen_more within lines looks looks n seat.node.replica.cursor seat'.node.replica.cursor (λ j x come. come) forward ok.told (all_adds n IsOfSessions c.journal journal since adds)
 
   -- The run
 
-  course_ok : CourseOk may floor shelf lines nodes then' counts looks
-  course_ok = advance_still may floor shelf lines nodes c counts looks ok n came journal does.ends.moves.goes.spends.more when' counts seen_more within ok.long least most
+  course_ok : CourseOk law lines nodes then' counts looks
+  course_ok = advance_still law lines nodes c counts looks ok n came journal does.ends.moves.goes.spends.more when' counts seen_more within ok.long least most
       (λ P store. let e = all-events does.ends.moves.goes.spends P store in omega (arith, e))
-      (still_unsealed may floor shelf counts c.journal journal (count_by has_replaced looks) within still ok.unsealed) tells.told
+      (still_unsealed law counts c.journal journal (count_by has_replaced looks) within still ok.unsealed) tells.told
 
   -- the desk of before
   was : (s : ℕ) (d' : Desk) → slice_get desks' s ≡ Some d' → (d : Desk) × (slice_get desks s ≡ Some d) × ClosesIt does.mid failed d d'
@@ -190,8 +191,8 @@ module _ (may : ℕ → Entry → Type 0) (floor : List Entry → ℕ → Type 0
   turn : TurnOf lines home n c then' counts counts looks looks
   turn = turned lines home n c came journal when' counts counts looks looks since when_elsewhere (λ s other. refl) (λ s. omega arith) refl (λ j l get other. refl) tells.others (λ by none. refl)
 
-  grown : Grown may floor shelf c then'
-  grown = grown_of may floor shelf lines home nodes n c then' counts counts looks looks turn ok course_ok
+  grown : Grown law c then'
+  grown = grown_of law lines home nodes n c then' counts counts looks looks turn ok course_ok
 
   -- What has acted
 
@@ -210,7 +211,7 @@ module _ (may : ℕ → Entry → Type 0) (floor : List Entry → ℕ → Type 0
   acted_upto s d d' a at some h is = λ log was upto. ⊎_elim
       (λ (more : a + 1 < gap_from (asked_in 0 log) s 1).
       let longer : length log ≤ length front.log = let size = front.size in omega (arith, size, upto, forward) in
-      let still = acted_stays may floor shelf c.journal does.ends.moves.goes.spends.more s (a + 1) log front.log (subst (IsLegal may floor shelf) seen_more legal) was (subst (λ j. IsFront Holds j front.log) seen_more front.front) longer more in
+      let still = acted_stays law c.journal does.ends.moves.goes.spends.more s (a + 1) log front.log (subst (IsLegal law) seen_more legal) was (subst (λ j. IsFront Holds j front.log) seen_more front.front) longer more in
       let gap = gap_is s d d' at some h in
       absurd (omega (arith, still, gap, is)))
       (λ (few : gap_from (asked_in 0 log) s 1 ≤ a + 1). few)
@@ -245,7 +246,7 @@ module _ (may : ℕ → Entry → Type 0) (floor : List Entry → ℕ → Type 0
   sent_low : (s : ℕ) (d : Desk) → slice_get desks s ≡ Some d → 0 < d.asked → gap_from (asked_in 0 front.log) s 1 ≤ d.sent + 1
   sent_low s d at some =
       let is = (worker.each s d at).sent (at_home s d at some) in
-      acted_sent (Within may counts) floor shelf journal front.log s d.sent within front.front (λ who e r allowed has. let low = allowed.1 s r has in omega (arith, low, is))
+      acted_sent (record law { may = Within law.may counts }) journal front.log s d.sent within front.front (λ who e r allowed has. let low = allowed.1 s r has in omega (arith, low, is))
 
   -- what has acted as an earlier phase ended was answered
   earlier_low : (s : ℕ) (d d' : Desk) → slice_get desks s ≡ Some d → 0 < d.asked → d.answered ≡ None → ClosesIt does.mid failed d d'
@@ -265,7 +266,7 @@ module _ (may : ℕ → Entry → Type 0) (floor : List Entry → ℕ → Type 0
           let so = subst (λ q. LoggedSo c c.phase seat.node.replica.cursor d l.phase q r) same (all d (ap (slice_get desks) same ∙ at)) in
           let acted = so.acted early (subst (λ o. IsUpTo o r) (sym first) tt) in
           let longer : length acted.log ≤ length front.log = let a = acted.within in let b = front.size in omega (arith, a, b, forward) in
-          let still = acted_stays may floor shelf c.journal does.ends.moves.goes.spends.more s r acted.log front.log (subst (IsLegal may floor shelf) seen_more legal) acted.front (subst (λ j. IsFront Holds j front.log) seen_more front.front) longer acted.acted in
+          let still = acted_stays law c.journal does.ends.moves.goes.spends.more s r acted.log front.log (subst (IsLegal law) seen_more legal) acted.front (subst (λ j. IsFront Holds j front.log) seen_more front.front) longer acted.acted in
           let gap = gap_is s d d' at some h in
           let rank : rank_in l.asks ≡ r = ap rank_in is in
           omega (arith, still, gap, rank)
@@ -275,7 +276,7 @@ module _ (may : ℕ → Entry → Type 0) (floor : List Entry → ℕ → Type 0
   -- Sessions that are stopped now
 
   all_given : AllByRecursion (λ g. CameTo then'.faults g.cause n c.phase) does.mid.outbox.given
-  all_given = given_then may floor shelf c n came journal when' seat.node.outbox.given does.ends.moves.goes.given does.mid.outbox.given grown does.ends.moves.goes.gained (given_among does.ends.moves.goes.given (failure_in failed)) worker.given
+  all_given = given_then law c n came journal when' seat.node.outbox.given does.ends.moves.goes.given does.mid.outbox.given grown does.ends.moves.goes.gained (given_among does.ends.moves.goes.given (failure_in failed)) worker.given
 
   cause_comes : (s : ℕ) (d : Desk) (k : Cause) → slice_get desks s ≡ Some d → d.answered ≡ None → option_or (option_or d.stopped (cause_in d.session does.mid.outbox.given)) failed ≡ Some k → CameTo then'.faults k n c.phase
   cause_comes s d k at first why = by_stopped d.stopped refl why
@@ -290,7 +291,7 @@ module _ (may : ℕ → Entry → Type 0) (floor : List Entry → ℕ → Type 0
 
       by_stopped : (o : Option Cause) → d.stopped ≡ o → option_or (option_or o (cause_in d.session does.mid.outbox.given)) failed ≡ Some k → CameTo then'.faults k n c.phase
       by_stopped None e f = by_given (cause_in d.session does.mid.outbox.given) refl f
-      by_stopped (Some x) e f = came_grows may floor shelf c then' grown k n c.phase ((worker.each s d at).halted k first (e ∙ f)).came
+      by_stopped (Some x) e f = came_grows law c then' grown k n c.phase ((worker.each s d at).halted k first (e ∙ f)).came
 
   stopped_now : (s : ℕ) (d d' : Desk) → slice_get desks s ≡ Some d → slice_get desks' s ≡ Some d' → ClosesIt does.mid failed d d' → Stopped does.mid failed d d' → WasEnded lines then' n (c.phase + 1) s d' (length d'.answers.items)
   stopped_now s d d' at at' h x =
@@ -361,7 +362,7 @@ module _ (may : ℕ → Entry → Type 0) (floor : List Entry → ℕ → Type 0
           some_same p q f = cc
       ended a e (inr k) =
           let first = sym k.1 ∙ e in
-          ended_grows may floor shelf c then' grown lines n c.phase (c.phase + 1) s seat.node.replica.cursor d d' a (omega arith) first (grew s d d' at at' h b) (x.ended a first)
+          ended_grows law c then' grown lines n c.phase (c.phase + 1) s seat.node.replica.cursor d d' a (omega arith) first (grew s d d' at at' h b) (x.ended a first)
 
   -- Lines
 
@@ -373,7 +374,7 @@ module _ (may : ℕ → Entry → Type 0) (floor : List Entry → ℕ → Type 0
     front = front.front;
     within = let a = front.size in omega (arith, a);
     upto =
-        let below = front_low may floor shelf run.low journal front.log legal front.front in
+        let below = front_low law run.low journal front.log legal front.front in
         let new = tails_new c n came journal when' (l.phase + 1) (omega (arith, late)) in
         omega (arith, below, new);
     acted = let gap = gap_is s d d' at some h in let few = answered b.ends in omega (arith, gap, few);
@@ -415,7 +416,7 @@ module _ (may : ℕ → Entry → Type 0) (floor : List Entry → ℕ → Type 0
 
   played : (i : ℕ) (l : NamedLine) → i < to → slice_get lines i ≡ Some l → l.node ≡ n → PlayedSo lines then' (c.phase + 1) seat'.node.replica.cursor n desks' looks i l.phase l.asks
   played i l low get node = by l.asks refl
-      (played_grows may floor shelf c then' grown lines c.phase c.phase seat.node.replica.cursor seat'.node.replica.cursor n desks desks' looks looks i l.phase l.asks
+      (played_grows law c then' grown lines c.phase c.phase seat.node.replica.cursor seat'.node.replica.cursor n desks desks' looks looks i l.phase l.asks
       (let below = over.before i l get low in omega (arith, below)) (λ done. done) forward refl (of_old (session_in l.asks))
       (worker.played i l low get node))
     where
@@ -440,13 +441,13 @@ module _ (may : ℕ → Entry → Type 0) (floor : List Entry → ℕ → Type 0
       by (asks.Admin a) is so =
           subst (PlayedSo lines then' (c.phase + 1) seat'.node.replica.cursor n desks' looks i l.phase) (sym is) (subst (PlayedSo lines then' c.phase seat'.node.replica.cursor n desks' looks i l.phase) is so)
 
-  worker_then : WorkerAt may floor shelf state spells lines home nodes then' counts looks n to to (c.phase + 1) seat' desks'
+  worker_then : WorkerAt law state spells lines home nodes then' counts looks n to to (c.phase + 1) seat' desks'
   worker_then = record {
     ok = now;
     nodes_is = ap (λ (v : NodeView). v.nodes) does.forgets ∙ does.ends.moves.goes.keeps.nodes ∙ worker.nodes_is;
     order = omega arith;
     each = each;
-    quiet = λ s same. ends_quiet (OwnWithin n may (sent_by desks)) floor shelf (node_of seat c.journal) (node_of seat' journal) desks desks' failed does s;
+    quiet = λ s same. ends_quiet (record law { may = OwnWithin n law.may (sent_by desks) }) (node_of seat c.journal) (node_of seat' journal) desks desks' failed does s;
     given = subst (AllByRecursion (λ (g : Given). CameTo then'.faults g.cause n c.phase)) (sym given_is) tt;
     waiting = worker.waiting;
     played = played;
@@ -455,7 +456,7 @@ module _ (may : ℕ → Entry → Type 0) (floor : List Entry → ℕ → Type 0
         (let rose = does.ends.moves.goes.spends.disk in omega (arith, rose, faults_are)) worker.stores;
   }
 
-  pub phase_ended : TurnEnded may floor shelf state spells lines home nodes c counts looks n to journal seat' desks'
+  pub phase_ended : TurnEnded law state spells lines home nodes c counts looks n to journal seat' desks'
   phase_ended = record {
     course = then';
     journal_is = refl;

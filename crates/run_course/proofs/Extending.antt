@@ -3,6 +3,7 @@ use Rattle.std.proofs.Common.{◌≡◌, refl, sym, ap, subst, ℕ, ◌+◌, ◌
 use Rattle.delos_types.specs.Spaces.{SpaceMap}
 use Rattle.delos_types.specs.declared.entry.Entry.{Entry}
 use Rattle.delos_types.specs.declared.cause.Cause.{Cause}
+use Rattle.legal_journal.specs.Law.{Law}
 use Rattle.legal_journal.specs.declared.events.Event.{Event}
 use Rattle.legal_journal.specs.Journal.{IsLegal, state_of}
 use Rattle.journal_laws.specs.Changes.{TrimsUpTo}
@@ -45,12 +46,12 @@ use Rattle.run_course.proofs.Advance.{advanced, count-append, failed_of}
 use Rattle.run_course.proofs.Replacing.{LooksOn, count_set}
 use Rattle.run_course.proofs.Playing.{line_went}
 
-module _ (may : ℕ → Entry → Type 0) (floor : List Entry → ℕ → Type 0) (shelf : List ℕ) (state : List Entry → SpaceMap → Type 0) (spells : List ℕ → Saved → Type 0) (lines : List NamedLine) (home : ℕ → ℕ) (nodes : ℕ) (c : Course) (counts : List ℕ) (looks : List (Option Looked)) (n from i : ℕ) (line : NamedLine) (look : Looked) (seat seat' : SeatView) (desks : List Desk) (journal : List Event) (are : AreLines lines home nodes) (least : 1 ≤ n) (most : n ≤ nodes) (at : slice_get lines i ≡ Some line) (node : line.node ≡ n) (phase : line.phase ≡ c.phase) (asks_is : line.asks ≡ asks.Admin Extend) (ok : CourseOk may floor shelf lines nodes c counts looks) (worker : WorkerAt may floor shelf state spells lines home nodes c counts looks n from i c.phase seat desks) (since : OwnSince n c.journal journal) (adds : OwnAdds n IsOfSessions c.journal journal) (high : TrimsUpTo seat'.node.replica.cursor journal) (does : Extends (OwnWithin n may (sent_by desks)) floor shelf (node_of seat c.journal) (node_of seat' journal) look) (now : WorkerOk may floor shelf state spells n journal seat' desks) where
+module _ (law : Law) (state : List Entry → SpaceMap → Type 0) (spells : List ℕ → Saved → Type 0) (lines : List NamedLine) (home : ℕ → ℕ) (nodes : ℕ) (c : Course) (counts : List ℕ) (looks : List (Option Looked)) (n from i : ℕ) (line : NamedLine) (look : Looked) (seat seat' : SeatView) (desks : List Desk) (journal : List Event) (are : AreLines lines home nodes) (least : 1 ≤ n) (most : n ≤ nodes) (at : slice_get lines i ≡ Some line) (node : line.node ≡ n) (phase : line.phase ≡ c.phase) (asks_is : line.asks ≡ asks.Admin Extend) (ok : CourseOk law lines nodes c counts looks) (worker : WorkerAt law state spells lines home nodes c counts looks n from i c.phase seat desks) (since : OwnSince n c.journal journal) (adds : OwnAdds n IsOfSessions c.journal journal) (high : TrimsUpTo seat'.node.replica.cursor journal) (does : Extends (record law { may = OwnWithin n law.may (sent_by desks) }) (node_of seat c.journal) (node_of seat' journal) look) (now : WorkerOk law state spells n journal seat' desks) where
   abbrev then' : Course
   then' = advanced c n (map (λ g. g.cause) does.moves.goes.given) journal c.when
 
   abbrev So : Looked → Type 0
-  So = ExtendsSo (length shelf) does.settled (node_of seat' journal) does.others
+  So = ExtendsSo (length law.shelf) does.settled (node_of seat' journal) does.others
 
   -- what the calls came across but what sessions were given is by what the log failed
   paid_is : (x : Looked) → So x → does.others ≡ failed_of x
@@ -103,10 +104,10 @@ module _ (may : ℕ → Entry → Type 0) (floor : List Entry → ℕ → Type 0
   unlogged : (s : ℕ) → logs_for s line ≡ false
   unlogged s = ap (is_of s) asks_is
 
-  on : LooksOn (length shelf) (state_of c.journal).register (state_of journal).register look
+  on : LooksOn (length law.shelf) (state_of c.journal).register (state_of journal).register look
   on x is =
-      lone_extension (OwnWithin n may (sent_by desks)) floor shelf (node_of seat c.journal) (node_of seat' journal) x
-      (subst (Extends (OwnWithin n may (sent_by desks)) floor shelf (node_of seat c.journal) (node_of seat' journal)) is does)
+      lone_extension (record law { may = OwnWithin n law.may (sent_by desks) }) (node_of seat c.journal) (node_of seat' journal) x
+      (subst (Extends (record law { may = OwnWithin n law.may (sent_by desks) }) (node_of seat c.journal) (node_of seat' journal)) is does)
       (subst (λ w. OwnSince w c.journal journal) (sym worker.ok.who_is) since)
 
   own : (x : Extension) → look ≡ looked.Extended x → AsksNode line.asks
@@ -115,12 +116,12 @@ module _ (may : ℕ → Entry → Type 0) (floor : List Entry → ℕ → Type 0
   not_yet : slice_get looks i ≡ Some None
   not_yet = worker.waiting i line (omega arith) at node
 
-  legal : IsLegal (Within may counts) floor shelf journal
-  legal = worker_legal may floor shelf state spells n counts counts c.journal journal seat' desks ok.legal since (λ s. omega arith) (sent_here may floor shelf state spells lines home nodes c counts looks n from i c.phase seat desks are worker) now
+  legal : IsLegal (record law { may = Within law.may counts }) journal
+  legal = worker_legal law state spells n counts counts c.journal journal seat' desks ok.legal since (λ s. omega arith) (sent_here law state spells lines home nodes c counts looks n from i c.phase seat desks are worker) now
 
   tells : TellsOn lines (slice_set looks i (Some look)) n seat.node.replica.cursor seat'.node.replica.cursor c.journal journal
   tells =
-      tells_commands (Within may counts) floor shelf c.journal journal does.moves.goes.spends.more does.moves.goes.spends.seen legal lines looks (slice_set looks i (Some look)) n seat.node.replica.cursor seat'.node.replica.cursor
+      tells_commands (record law { may = Within law.may counts }) c.journal journal does.moves.goes.spends.more does.moves.goes.spends.seen legal lines looks (slice_set looks i (Some look)) n seat.node.replica.cursor seat'.node.replica.cursor
       (looks_stay looks i look not_yet) does.moves.goes.keeps.forward ok.told (all_adds n IsOfSessions c.journal journal since adds)
 
   -- a log that failed told a fault
@@ -149,8 +150,8 @@ module _ (may : ℕ → Entry → Type 0) (floor : List Entry → ℕ → Type 0
       let spends = does.moves.goes.spends in
       let was = ok.unsealed (calm_parts c.journal journal spends.more spends.seen calm).0 in
       subst (λ k. IsUnsealed (state_of journal) (count_by has_replaced looks + k)) (made_is x)
-      (lone_once (OwnWithin n may (sent_by desks)) floor shelf (node_of seat c.journal) (node_of seat' journal) x (count_by has_replaced looks)
-      (subst (Extends (OwnWithin n may (sent_by desks)) floor shelf (node_of seat c.journal) (node_of seat' journal)) is does) (subst (λ w. OwnSince w c.journal journal) (sym worker.ok.who_is) since) was calm)
+      (lone_once (record law { may = OwnWithin n law.may (sent_by desks) }) (node_of seat c.journal) (node_of seat' journal) x (count_by has_replaced looks)
+      (subst (Extends (record law { may = OwnWithin n law.may (sent_by desks) }) (node_of seat c.journal) (node_of seat' journal)) is does) (subst (λ w. OwnSince w c.journal journal) (sym worker.ok.who_is) since) was calm)
   by_look (looked.Reported position) is h calm = absurd h
   by_look looked.Left is h calm = absurd h
   by_look (looked.Trimmed trim) is h calm = absurd h
@@ -162,7 +163,7 @@ module _ (may : ℕ → Entry → Type 0) (floor : List Entry → ℕ → Type 0
   line_played = subst (PlayedSo lines then' c.phase seat'.node.replica.cursor n desks (slice_set looks i (Some look)) i line.phase) (sym asks_is)
       (look, set_same looks i (Some look) None (worker.waiting i line (omega arith) at node), of_node look does.extends, none_reported look does.extends, none_left look does.extends)
 
-  pub line_extended : LineWent may floor shelf state spells lines home nodes c counts looks (slice_set looks i (Some look)) n from (i + 1) journal seat' desks
+  pub line_extended : LineWent law state spells lines home nodes c counts looks (slice_set looks i (Some look)) n from (i + 1) journal seat' desks
   line_extended =
-      line_went may floor shelf state spells lines home nodes c counts looks n from i line look seat seat' desks desks (λ s d there. (d, there, refl, omega arith)) journal are least most at node phase unlogged ok worker since does.others does.moves
+      line_went law state spells lines home nodes c counts looks n from i line look seat seat' desks desks (λ s d there. (d, there, refl, omega arith)) journal are least most at node phase unlogged ok worker since does.others does.moves
       (paid_is look does.extends) on own unsealed now tells (stood look does.extends) (λ trim is. absurd (subst So is does.extends)) (λ after found is. absurd (subst So is does.extends)) high line_played

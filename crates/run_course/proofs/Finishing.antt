@@ -3,6 +3,7 @@ use Rattle.std.proofs.Common.{◌≡◌, refl, sym, ap, ◌∙◌, subst, ℕ, �
 use Rattle.std.specs.List.{AllByRecursion}
 use Rattle.delos_types.specs.Spaces.{SpaceMap}
 use Rattle.delos_types.specs.declared.entry.Entry.{Entry}
+use Rattle.legal_journal.specs.Law.{Law}
 use Rattle.legal_journal.specs.declared.events.Event.{Event}
 use Rattle.legal_journal.specs.Journal.{IsLegal}
 use Rattle.legal_journal.specs.Sealing.{Unsealed}
@@ -29,25 +30,25 @@ use Rattle.run_course.proofs.Advance.{advance_still, advanced, stores_counted, t
 use Rattle.run_course.proofs.Unsealing.{still_unsealed}
 use Rattle.run_course.proofs.Growing.{Grown, desk_same, ended_grows, grown_of, played_grows}
 
-module _ (may : ℕ → Entry → Type 0) (floor : List Entry → ℕ → Type 0) (shelf : List ℕ) (state : List Entry → SpaceMap → Type 0) (spells : List ℕ → Saved → Type 0) (lines : List NamedLine) (home : ℕ → ℕ) (nodes : ℕ) (c : Course) (counts : List ℕ) (looks : List (Option Looked)) (n from done : ℕ) (seat seat' : SeatView) (desks : List Desk) (journal : List Event) (are : AreLines lines home nodes) (least : 1 ≤ n) (most : n ≤ nodes) (begins : BeginsAt lines from done) (low : done ≤ c.phase + 1) (ok : CourseOk may floor shelf lines nodes c counts looks) (r : Rests may floor shelf state spells lines home nodes c counts looks n from done seat desks) (since : OwnSince n c.journal journal) (still : Unsealed c.journal journal) (adds : OwnAdds n IsOfSessions c.journal journal) (moves : Moves (OwnWithin n may (sent_by desks)) floor shelf (node_of seat c.journal) (node_of seat' journal) []) (same : seat'.node.outbox ≡ seat.node.outbox) (now : WorkerOk may floor shelf state spells n journal seat' desks) where
+module _ (law : Law) (state : List Entry → SpaceMap → Type 0) (spells : List ℕ → Saved → Type 0) (lines : List NamedLine) (home : ℕ → ℕ) (nodes : ℕ) (c : Course) (counts : List ℕ) (looks : List (Option Looked)) (n from done : ℕ) (seat seat' : SeatView) (desks : List Desk) (journal : List Event) (are : AreLines lines home nodes) (least : 1 ≤ n) (most : n ≤ nodes) (begins : BeginsAt lines from done) (low : done ≤ c.phase + 1) (ok : CourseOk law lines nodes c counts looks) (r : Rests law state spells lines home nodes c counts looks n from done seat desks) (since : OwnSince n c.journal journal) (still : Unsealed c.journal journal) (adds : OwnAdds n IsOfSessions c.journal journal) (moves : Moves (record law { may = OwnWithin n law.may (sent_by desks) }) (node_of seat c.journal) (node_of seat' journal) []) (same : seat'.node.outbox ≡ seat.node.outbox) (now : WorkerOk law state spells n journal seat' desks) where
   abbrev then' : Course
   then' = advanced c n [] journal c.when
 
-  legal : IsLegal (Within may counts) floor shelf journal
-  legal = worker_legal may floor shelf state spells n counts counts c.journal journal seat' desks ok.legal since (λ s. omega arith) (sent_here may floor shelf state spells lines home nodes c counts looks n from from done seat desks are r.worker) now
+  legal : IsLegal (record law { may = Within law.may counts }) journal
+  legal = worker_legal law state spells n counts counts c.journal journal seat' desks ok.legal since (λ s. omega arith) (sent_here law state spells lines home nodes c counts looks n from from done seat desks are r.worker) now
 
   tells : TellsOn lines looks n seat.node.replica.cursor seat'.node.replica.cursor c.journal journal
-  tells = tells_commands (Within may counts) floor shelf c.journal journal since.more since.seen legal lines looks looks n seat.node.replica.cursor seat'.node.replica.cursor (λ j x come. come) moves.goes.keeps.forward ok.told (all_adds n IsOfSessions c.journal journal since adds)
+  tells = tells_commands (record law { may = Within law.may counts }) c.journal journal since.more since.seen legal lines looks looks n seat.node.replica.cursor seat'.node.replica.cursor (λ j x come. come) moves.goes.keeps.forward ok.told (all_adds n IsOfSessions c.journal journal since adds)
 
-  course_ok : CourseOk may floor shelf lines nodes then' counts looks
-  course_ok = advance_still may floor shelf lines nodes c counts looks ok n [] journal since.more c.when counts since.seen legal ok.long least most (λ P store. omega arith)
-      (still_unsealed may floor shelf counts c.journal journal (count_by has_replaced looks) legal still ok.unsealed) tells.told
+  course_ok : CourseOk law lines nodes then' counts looks
+  course_ok = advance_still law lines nodes c counts looks ok n [] journal since.more c.when counts since.seen legal ok.long least most (λ P store. omega arith)
+      (still_unsealed law counts c.journal journal (count_by has_replaced looks) legal still ok.unsealed) tells.told
 
   turn : TurnOf lines home n c then' counts counts looks looks
   turn = turned lines home n c [] journal c.when counts counts looks looks since (λ s other. refl) (λ s other. refl) (λ s. omega arith) refl (λ i l at other. refl) tells.others (λ by none. refl)
 
-  grown : Grown may floor shelf c then'
-  grown = grown_of may floor shelf lines home nodes n c then' counts counts looks looks turn ok course_ok
+  grown : Grown law c then'
+  grown = grown_of law lines home nodes n c then' counts counts looks looks turn ok course_ok
 
   each : (s : ℕ) (d : Desk) → slice_get desks s ≡ Some d → DeskAt lines home then' counts n from from done s d
   each s d at =
@@ -55,7 +56,7 @@ module _ (may : ℕ → Entry → Type 0) (floor : List Entry → ℕ → Type 0
       record {
         asked = x.asked;
         sent = x.sent;
-        ended = λ a e. ended_grows may floor shelf c then' grown lines n done done s seat.node.replica.cursor d d a (omega arith) e (desk_same c then' seat.node.replica.cursor s d refl) (x.ended a e);
+        ended = λ a e. ended_grows law c then' grown lines n done done s seat.node.replica.cursor d d a (omega arith) e (desk_same c then' seat.node.replica.cursor s d refl) (x.ended a e);
         here = x.here;
         halted = λ k none stop. absurd (let h = (x.halted k none stop).asked in omega (arith, h));
         held = x.held;
@@ -66,11 +67,11 @@ module _ (may : ℕ → Entry → Type 0) (floor : List Entry → ℕ → Type 0
 
   played : (i : ℕ) (l : NamedLine) → i < from → slice_get lines i ≡ Some l → l.node ≡ n → PlayedSo lines then' done seat'.node.replica.cursor n desks looks i l.phase l.asks
   played i l before at own =
-      played_grows may floor shelf c then' grown lines done done seat.node.replica.cursor seat'.node.replica.cursor n desks desks looks looks i l.phase l.asks
+      played_grows law c then' grown lines done done seat.node.replica.cursor seat'.node.replica.cursor n desks desks looks looks i l.phase l.asks
       (let under = begins.before i l at before in omega (arith, under, low)) (λ over. over) moves.goes.keeps.forward refl
       (λ d get. (d, get, desk_same c then' seat.node.replica.cursor (session_in l.asks) d refl)) (r.worker.played i l before at own)
 
-  pub node_finished : NodeFinished may floor shelf state spells lines home nodes c counts looks n from done journal seat' desks
+  pub node_finished : NodeFinished law state spells lines home nodes c counts looks n from done journal seat' desks
   node_finished = record {
     course = then';
     journal_is = refl;

@@ -6,6 +6,7 @@ use Rattle.delos_types.specs.declared.entry.Entry.{Entry}
 use Rattle.delos_types.specs.declared.cause.Cause.{Cause}
 use Rattle.table_core.specs.declared.command.Query.{Query}
 use Rattle.table_core.specs.declared.command.Found.{Found}
+use Rattle.legal_journal.specs.Law.{Law}
 use Rattle.legal_journal.specs.declared.events.Event.{Event}
 use Rattle.engine_api.specs.Acted.{asked_in}
 use Rattle.engine_api.specs.Order.{gap_from}
@@ -35,10 +36,10 @@ use Rattle.run_course.proofs.Stands.{front_on, stands_on}
 use Rattle.run_course.proofs.Advance.{tail_rises}
 
 -- A run, and the same at a later moment of the phase.
-pub record Grown (may : ℕ → Entry → Type 0) (floor : List Entry → ℕ → Type 0) (shelf : List ℕ) (c c' : Course) : Type 0 where
+pub record Grown (law : Law) (c c' : Course) : Type 0 where
   pub more : List Event
   pub seen : c'.journal ≡ c.journal ++ more
-  pub legal : IsLegal may floor shelf c'.journal
+  pub legal : IsLegal law c'.journal
   pub came : List Fault
   pub gained : c'.faults ≡ c.faults ++ came
   pub phase : c'.phase ≡ c.phase
@@ -93,10 +94,10 @@ pub some_of : {A : Type 0} (o : Option A) → IsSome o → (a : A) × (o ≡ Som
 some_of None h = absurd (cc)
 some_of (Some a) h = (a, refl)
 
-module _ (may : ℕ → Entry → Type 0) (floor : List Entry → ℕ → Type 0) (shelf : List ℕ) where
+module _ (law : Law) where
   -- a turn, or a part of it, is such a moment
   pub grown_of : (lines : List NamedLine) (home : ℕ → ℕ) (nodes n : ℕ) (c c' : Course) (counts counts' : List ℕ) (looks looks' : List (Option Looked)) → TurnOf lines home n c c' counts counts' looks looks'
-      → CourseOk may floor shelf lines nodes c counts looks → CourseOk may floor shelf lines nodes c' counts' looks' → Grown may floor shelf c c'
+      → CourseOk law lines nodes c counts looks → CourseOk law lines nodes c' counts' looks' → Grown law c c'
   grown_of lines home nodes n c c' counts counts' looks looks' t ok ok' = record {
     more = t.more;
     seen = t.seen;
@@ -106,16 +107,16 @@ module _ (may : ℕ → Entry → Type 0) (floor : List Entry → ℕ → Type 0
     phase = t.phase;
     tails = t.tails;
     rise = λ p. ⊎_elim
-        (λ (high : c.phase < p). let a = ok.after p high in let same = t.phase in let b = ok'.after p (omega (arith, high, same)) in let up = tail_rises may floor shelf c.journal c'.journal t.more t.seen legal in omega arith)
+        (λ (high : c.phase < p). let a = ok.after p high in let same = t.phase in let b = ok'.after p (omega (arith, high, same)) in let up = tail_rises law c.journal c'.journal t.more t.seen legal in omega arith)
         (λ (low : p ≤ c.phase). let a = t.tails p low in omega arith) (cases_lt c.phase p);
   }
     where
-      legal : IsLegal may floor shelf c'.journal
-      legal = legal_wider (Within may counts') may floor shelf (λ who e h. h.0) c'.journal ok'.legal
+      legal : IsLegal law c'.journal
+      legal = legal_wider law (Within law.may counts') law.may (λ who e h. h.0) c'.journal ok'.legal
 
-  module _ (c c' : Course) (g : Grown may floor shelf c c') where
+  module _ (c c' : Course) (g : Grown law c c') where
     pub front_grows : (log : List Entry) → IsFront Holds c.journal log → IsFront Holds c'.journal log
-    front_grows log h = front_on may floor shelf c.journal c'.journal g.more g.seen g.legal log h
+    front_grows log h = front_on law c.journal c'.journal g.more g.seen g.legal log h
 
     pub came_grows : (k : Cause) (node phase : ℕ) → CameTo c.faults k node phase → CameTo c'.faults k node phase
     came_grows k node phase h = record {
@@ -193,7 +194,7 @@ module _ (may : ℕ → Entry → Type 0) (floor : List Entry → ℕ → Type 0
     looked_grows lines cursor cursor' n d d' i phase s query (looked.Trimmed trim) low up k h = h
 
     abbrev stands_grows : (x : Content) → StandsThere c.journal x → StandsThere c'.journal x
-    stands_grows x h = stands_on may floor shelf c.journal c'.journal g.more g.seen g.legal x h
+    stands_grows x h = stands_on law c.journal c'.journal g.more g.seen g.legal x h
 
     report_grows : (cursor cursor' n phase position : ℕ) → phase ≤ c.phase → cursor ≤ cursor' → IsReport c.journal (c.tails phase) cursor n position → IsReport c'.journal (c'.tails phase) cursor' n position
     report_grows cursor cursor' n phase position low up h = record {

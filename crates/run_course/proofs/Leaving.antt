@@ -2,6 +2,7 @@
 use Rattle.std.proofs.Common.{◌≡◌, ◌⊎◌, ⊎_elim, subst, ℕ, ◌+◌, ◌<◌, ◌≤◌, List, [], ◌∷◌, Option, Some, None, map, slice_get, slice_set, arith}
 use Rattle.delos_types.specs.Spaces.{SpaceMap}
 use Rattle.delos_types.specs.declared.entry.Entry.{Entry}
+use Rattle.legal_journal.specs.Law.{Law}
 use Rattle.legal_journal.specs.declared.events.Event.{Event}
 use Rattle.legal_journal.specs.Journal.{IsLegal}
 use Rattle.legal_journal.specs.Sealing.{Unsealed}
@@ -38,23 +39,23 @@ use Rattle.run_course.proofs.Told.{TellsOn, looks_stay, tells_one}
 use Rattle.run_course.proofs.Advance.{advanced, failed_of}
 use Rattle.run_course.proofs.Telling.{line_told, stands_now}
 
-told_leave : (may : ℕ → Entry → Type 0) (floor : List Entry → ℕ → Type 0) (shelf : List ℕ) (old new : NodeView) → IsLegal may floor shelf new.seen → TrimsUpTo new.replica.cursor new.seen → HasLeft old new → IsLeave new.seen new.replica.cursor old.replica.origin
-told_leave may floor shelf old new legal high left = record {
-  stands = stands_now may floor shelf old.who left.synced new.seen (packed old.replica.origin (leave_item old.replica.origin ∷ [])) legal left.landed (content.Leave old.replica.origin) left.says;
+told_leave : (law : Law) (old new : NodeView) → IsLegal law new.seen → TrimsUpTo new.replica.cursor new.seen → HasLeft old new → IsLeave new.seen new.replica.cursor old.replica.origin
+told_leave law old new legal high left = record {
+  stands = stands_now law old.who left.synced new.seen (packed old.replica.origin (leave_item old.replica.origin ∷ [])) legal left.landed (content.Leave old.replica.origin) left.says;
   within = ⊎_elim
       (λ (k : left.landed.position < new.replica.cursor). k)
-      (λ (t : IsTrimmed new.seen new.replica.cursor). absurd (never_trimmed may floor shelf new.replica.cursor new.seen legal high t)) left.played;
+      (λ (t : IsTrimmed new.seen new.replica.cursor). absurd (never_trimmed law new.replica.cursor new.seen legal high t)) left.played;
 }
 
-module _ (may : ℕ → Entry → Type 0) (floor : List Entry → ℕ → Type 0) (shelf : List ℕ) (state : List Entry → SpaceMap → Type 0) (spells : List ℕ → Saved → Type 0) (lines : List NamedLine) (home : ℕ → ℕ) (nodes : ℕ) (c : Course) (counts : List ℕ) (looks : List (Option Looked)) (n from i : ℕ) (line : NamedLine) (look : Looked) (seat seat' : SeatView) (desks desks' : List Desk) (taken : IsAnswered desks desks') (journal : List Event) (are : AreLines lines home nodes) (least : 1 ≤ n) (most : n ≤ nodes) (at : slice_get lines i ≡ Some line) (node : line.node ≡ n) (phase : line.phase ≡ c.phase) (asks_is : line.asks ≡ asks.Admin Retire) (ok : CourseOk may floor shelf lines nodes c counts looks) (worker : WorkerAt may floor shelf state spells lines home nodes c counts looks n from i c.phase seat desks) (since : OwnSince n c.journal journal) (still : Unsealed c.journal journal) (adds : LeaveAdds n c.journal journal) (high : TrimsUpTo seat'.node.replica.cursor journal) (does : Leaves (OwnWithin n may (sent_by desks)) floor shelf (node_of seat c.journal) (node_of seat' journal) look) (now : WorkerOk may floor shelf state spells n journal seat' desks') where
+module _ (law : Law) (state : List Entry → SpaceMap → Type 0) (spells : List ℕ → Saved → Type 0) (lines : List NamedLine) (home : ℕ → ℕ) (nodes : ℕ) (c : Course) (counts : List ℕ) (looks : List (Option Looked)) (n from i : ℕ) (line : NamedLine) (look : Looked) (seat seat' : SeatView) (desks desks' : List Desk) (taken : IsAnswered desks desks') (journal : List Event) (are : AreLines lines home nodes) (least : 1 ≤ n) (most : n ≤ nodes) (at : slice_get lines i ≡ Some line) (node : line.node ≡ n) (phase : line.phase ≡ c.phase) (asks_is : line.asks ≡ asks.Admin Retire) (ok : CourseOk law lines nodes c counts looks) (worker : WorkerAt law state spells lines home nodes c counts looks n from i c.phase seat desks) (since : OwnSince n c.journal journal) (still : Unsealed c.journal journal) (adds : LeaveAdds n c.journal journal) (high : TrimsUpTo seat'.node.replica.cursor journal) (does : Leaves (record law { may = OwnWithin n law.may (sent_by desks) }) (node_of seat c.journal) (node_of seat' journal) look) (now : WorkerOk law state spells n journal seat' desks') where
   abbrev then' : Course
   then' = advanced c n (map (λ g. g.cause) does.moves.goes.given) journal c.when
 
   abbrev So : Looked → Type 0
   So = LeavesSo (node_of seat c.journal) (node_of seat' journal) does.others
 
-  legal : IsLegal (Within may counts) floor shelf journal
-  legal = worker_legal may floor shelf state spells n counts counts c.journal journal seat' desks' ok.legal since (λ s. omega arith) (taken_here may floor shelf state spells lines home nodes c counts looks n from i c.phase seat desks desks' are worker taken) now
+  legal : IsLegal (record law { may = Within law.may counts }) journal
+  legal = worker_legal law state spells n counts counts c.journal journal seat' desks' ok.legal since (λ s. omega arith) (taken_here law state spells lines home nodes c counts looks n from i c.phase seat desks desks' are worker taken) now
 
   not_yet : slice_get looks i ≡ Some None
   not_yet = worker.waiting i line (omega arith) at node
@@ -102,7 +103,7 @@ module _ (may : ℕ → Entry → Type 0) (floor : List Entry → ℕ → Type 0
   left (looked.Extended x) h = tt
   left (looked.Reported position) h = tt
   left looked.Left h =
-      subst (IsLeave journal seat'.node.replica.cursor) worker.ok.origin (told_leave (Within may counts) floor shelf (node_of seat c.journal) (node_of seat' journal) legal high h.1)
+      subst (IsLeave journal seat'.node.replica.cursor) worker.ok.origin (told_leave (record law { may = Within law.may counts }) (node_of seat c.journal) (node_of seat' journal) legal high h.1)
   left (looked.Trimmed trim) h = tt
 
   asked : AskedFor lines looks' n Retire (λ x. Unit {0})
@@ -123,7 +124,7 @@ module _ (may : ℕ → Entry → Type 0) (floor : List Entry → ℕ → Type 0
 
   tells : TellsOn lines looks' n seat.node.replica.cursor seat'.node.replica.cursor c.journal journal
   tells =
-      tells_one (Within may counts) floor shelf c.journal journal does.moves.goes.spends.more does.moves.goes.spends.seen legal lines looks looks' n seat.node.replica.cursor seat'.node.replica.cursor
+      tells_one (record law { may = Within law.may counts }) c.journal journal does.moves.goes.spends.more does.moves.goes.spends.seen legal lines looks looks' n seat.node.replica.cursor seat'.node.replica.cursor
       (looks_stay looks i look not_yet) does.moves.goes.keeps.forward ok.told (content.Leave n) asked tt added
 
   stood : (x : Looked) → So x → LeftSo journal seat'.node.replica.cursor n x → HasToldSo journal n x
@@ -135,8 +136,8 @@ module _ (may : ℕ → Entry → Type 0) (floor : List Entry → ℕ → Type 0
   stood looked.Left h l = l.stands
   stood (looked.Trimmed trim) h l = tt
 
-  pub line_left : LineWent may floor shelf state spells lines home nodes c counts looks (slice_set looks i (Some look)) n from (i + 1) journal seat' desks'
+  pub line_left : LineWent law state spells lines home nodes c counts looks (slice_set looks i (Some look)) n from (i + 1) journal seat' desks'
   line_left =
-      line_told may floor shelf state spells lines home nodes c counts looks n from i line Retire look seat seat' desks desks' taken journal are least most at node phase asks_is ok worker since still does.others does.moves now none
+      line_told law state spells lines home nodes c counts looks n from i line Retire look seat seat' desks desks' taken journal are least most at node phase asks_is ok worker since still does.others does.moves now none
       (paid_is look does.leaves) (of_node look does.leaves) (none_reported look does.leaves) (left look does.leaves)
       tells (stood look does.leaves (left look does.leaves)) (λ trim is. absurd (subst So is does.leaves)) high

@@ -7,6 +7,7 @@ use Rattle.delos_types.specs.Spaces.{SpaceMap}
 use Rattle.delos_types.specs.declared.entry.Entry.{Entry}
 use Rattle.delos_types.specs.declared.cause.Cause.{Cause}
 use Rattle.table_core.specs.declared.command.Command.{Command}
+use Rattle.legal_journal.specs.Law.{Law}
 use Rattle.legal_journal.specs.declared.events.Event.{Event}
 use Rattle.legal_journal.specs.Journal.{IsLegal}
 use Rattle.legal_journal.specs.Sealing.{Unsealed}
@@ -42,7 +43,7 @@ use Rattle.run_course.proofs.Unsealing.{still_unsealed}
 use Rattle.run_course.proofs.Growing.{DeskGrew, DeskOfOld, Grown, desk_same, ended_grows, grown_of, halted_grows, played_grows}
 use Rattle.run_course.proofs.Coming.{came_at, given_among, given_then}
 
-module _ (may : ℕ → Entry → Type 0) (floor : List Entry → ℕ → Type 0) (shelf : List ℕ) (state : List Entry → SpaceMap → Type 0) (spells : List ℕ → Saved → Type 0) (lines : List NamedLine) (home : ℕ → ℕ) (nodes : ℕ) (c : Course) (counts : List ℕ) (looks : List (Option Looked)) (n from i : ℕ) (line : NamedLine) (session : Session) (rank : ℕ) (command : Command) (seat seat' : SeatView) (desks desks' : List Desk) (journal : List Event) (are : AreLines lines home nodes) (least : 1 ≤ n) (most : n ≤ nodes) (at : slice_get lines i ≡ Some line) (node : line.node ≡ n) (phase : line.phase ≡ c.phase) (asks_is : line.asks ≡ asks.Logged session rank command) (ok : CourseOk may floor shelf lines nodes c counts looks) (worker : WorkerAt may floor shelf state spells lines home nodes c counts looks n from i c.phase seat desks) (since : OwnSince n c.journal journal) (still : Unsealed c.journal journal) (adds : OwnAdds n IsOfSessions c.journal journal) (high : TrimsUpTo seat'.node.replica.cursor journal) (logs : Logs may floor shelf (node_of seat c.journal) (node_of seat' journal) session.id desks desks') (now : WorkerOk may floor shelf state spells n journal seat' desks') where
+module _ (law : Law) (state : List Entry → SpaceMap → Type 0) (spells : List ℕ → Saved → Type 0) (lines : List NamedLine) (home : ℕ → ℕ) (nodes : ℕ) (c : Course) (counts : List ℕ) (looks : List (Option Looked)) (n from i : ℕ) (line : NamedLine) (session : Session) (rank : ℕ) (command : Command) (seat seat' : SeatView) (desks desks' : List Desk) (journal : List Event) (are : AreLines lines home nodes) (least : 1 ≤ n) (most : n ≤ nodes) (at : slice_get lines i ≡ Some line) (node : line.node ≡ n) (phase : line.phase ≡ c.phase) (asks_is : line.asks ≡ asks.Logged session rank command) (ok : CourseOk law lines nodes c counts looks) (worker : WorkerAt law state spells lines home nodes c counts looks n from i c.phase seat desks) (since : OwnSince n c.journal journal) (still : Unsealed c.journal journal) (adds : OwnAdds n IsOfSessions c.journal journal) (high : TrimsUpTo seat'.node.replica.cursor journal) (logs : Logs law (node_of seat c.journal) (node_of seat' journal) session.id desks desks') (now : WorkerOk law state spells n journal seat' desks') where
   here : (t : ℕ) → (session.id == t) ≡ true → session.id ≡ t
   here t e = grind (arith, nat_tests, e)
 
@@ -87,19 +88,19 @@ module _ (may : ℕ → Entry → Type 0) (floor : List Entry → ℕ → Type 0
         arith,
         ap (λ ds. sent_of (sent_by ds) s) logs.is_at ∙ ap (λ cs. sent_of cs s) (sent_set desks session.id logs.after) ∙ other_sent (sent_by desks) session.id s logs.after.sent (apart s e),
         counted s e,
-        sent_here may floor shelf state spells lines home nodes c counts looks n from i c.phase seat desks are worker s,
+        sent_here law state spells lines home nodes c counts looks n from i c.phase seat desks are worker s,
       )
 
-  legal : IsLegal (Within may counts') floor shelf journal
-  legal = worker_legal may floor shelf state spells n counts counts' c.journal journal seat' desks' ok.legal since no_fewer own_sent now
+  legal : IsLegal (record law { may = Within law.may counts' }) journal
+  legal = worker_legal law state spells n counts counts' c.journal journal seat' desks' ok.legal since no_fewer own_sent now
 
   tells : TellsOn lines looks n seat.node.replica.cursor seat'.node.replica.cursor c.journal journal
-  tells = tells_commands (Within may counts') floor shelf c.journal journal logs.logs.goes.spends.more logs.logs.goes.spends.seen legal lines looks looks n seat.node.replica.cursor seat'.node.replica.cursor (λ j x come. come) logs.logs.goes.keeps.forward ok.told (all_adds n IsOfSessions c.journal journal since adds)
+  tells = tells_commands (record law { may = Within law.may counts' }) c.journal journal logs.logs.goes.spends.more logs.logs.goes.spends.seen legal lines looks looks n seat.node.replica.cursor seat'.node.replica.cursor (λ j x come. come) logs.logs.goes.keeps.forward ok.told (all_adds n IsOfSessions c.journal journal since adds)
 
-  course_ok : CourseOk may floor shelf lines nodes then' counts' looks
-  course_ok = advance_still may floor shelf lines nodes c counts looks ok n came journal logs.logs.goes.spends.more c.when counts' logs.logs.goes.spends.seen legal (length-set counts session.id logs.after.sent ∙ ok.long) least most
+  course_ok : CourseOk law lines nodes then' counts' looks
+  course_ok = advance_still law lines nodes c counts looks ok n came journal logs.logs.goes.spends.more c.when counts' logs.logs.goes.spends.seen legal (length-set counts session.id logs.after.sent ∙ ok.long) least most
       (λ P store. let e = all-events logs.logs.goes.spends P store in omega (arith, e))
-      (still_unsealed may floor shelf counts' c.journal journal (count_by has_replaced looks) legal still ok.unsealed) tells.told
+      (still_unsealed law counts' c.journal journal (count_by has_replaced looks) legal still ok.unsealed) tells.told
 
   not_here : (s : ℕ) → s ≡ n → (s == n) ≡ false → ⊥
   not_here s e f = grind (arith, nat_tests, e, f)
@@ -114,8 +115,8 @@ module _ (may : ℕ → Entry → Type 0) (floor : List Entry → ℕ → Type 0
   turn : TurnOf lines home n c then' counts counts' looks looks
   turn = turned lines home n c came journal c.when counts counts' looks looks since (λ s other. refl) others_sent no_fewer refl (λ j l get other. refl) tells.others (λ by none. refl)
 
-  grown : Grown may floor shelf c then'
-  grown = grown_of may floor shelf lines home nodes n c then' counts counts' looks looks turn ok course_ok
+  grown : Grown law c then'
+  grown = grown_of law lines home nodes n c then' counts counts' looks looks turn ok course_ok
 
   -- Desks
 
@@ -153,10 +154,10 @@ module _ (may : ℕ → Entry → Type 0) (floor : List Entry → ℕ → Type 0
     asked = logs.logs.asked ∙ ap (λ k. k + 1) was.asked ∙ sym one_more;
     sent = λ own. sym (set_sent counts session.id logs.after.sent there);
     ended = λ a e. let first = sym logs.logs.answered ∙ e in
-        ended_grows may floor shelf c then' grown lines n c.phase c.phase session.id seat.node.replica.cursor logs.before logs.after a (omega arith) first grew (was.ended a first);
+        ended_grows law c then' grown lines n c.phase c.phase session.id seat.node.replica.cursor logs.before logs.after a (omega arith) first grew (was.ended a first);
     here = λ a e. at_home;
     halted = λ k none e. ⊎_elim
-        (λ (before : logs.before.stopped ≡ Some k). halted_grows may floor shelf c then' grown lines n from i (i + 1) c.phase session.id k (asked_more lines n session.id i (i + 1) (omega arith))
+        (λ (before : logs.before.stopped ≡ Some k). halted_grows law c then' grown lines n from i (i + 1) c.phase session.id k (asked_more lines n session.id i (i + 1) (omega arith))
         (was.halted k (sym logs.logs.answered ∙ none) before))
         (λ (m : Contains logs.logs.others k). record {
           came = came_at c n came journal c.when k (among-right _ logs.logs.others k (contained-among logs.logs.others k m));
@@ -171,9 +172,9 @@ module _ (may : ℕ → Entry → Type 0) (floor : List Entry → ℕ → Type 0
   old_at t d e x = record {
     asked = x.asked ∙ sym (none_more t e);
     sent = λ own. x.sent own ∙ sym (counted t e);
-    ended = λ a first. ended_grows may floor shelf c then' grown lines n c.phase c.phase t seat.node.replica.cursor d d a (omega arith) first (desk_same c then' seat.node.replica.cursor t d refl) (x.ended a first);
+    ended = λ a first. ended_grows law c then' grown lines n c.phase c.phase t seat.node.replica.cursor d d a (omega arith) first (desk_same c then' seat.node.replica.cursor t d refl) (x.ended a first);
     here = x.here;
-    halted = λ k none stop. halted_grows may floor shelf c then' grown lines n from i (i + 1) c.phase t k (asked_more lines n t i (i + 1) (omega arith)) (x.halted k none stop);
+    halted = λ k none stop. halted_grows law c then' grown lines n from i (i + 1) c.phase t k (asked_more lines n t i (i + 1) (omega arith)) (x.halted k none stop);
     held = x.held;
   }
 
@@ -218,7 +219,7 @@ module _ (may : ℕ → Entry → Type 0) (floor : List Entry → ℕ → Type 0
   played : (j : ℕ) (l : NamedLine) → j < i + 1 → slice_get lines j ≡ Some l → l.node ≡ n → PlayedSo lines then' c.phase seat'.node.replica.cursor n desks' looks j l.phase l.asks
   played j l low get there = ⊎_elim
       (λ (before : j < i).
-      played_grows may floor shelf c then' grown lines c.phase c.phase seat.node.replica.cursor seat'.node.replica.cursor n desks desks' looks looks j l.phase l.asks
+      played_grows law c then' grown lines c.phase c.phase seat.node.replica.cursor seat'.node.replica.cursor n desks desks' looks looks j l.phase l.asks
       (let up = phase_before lines home nodes are j i l line get at (omega (arith, before)) in omega (arith, up, phase)) (λ over. over) logs.logs.goes.keeps.forward refl (of_old (session_in l.asks))
       (worker.played j l before get there))
       (λ (high : i ≤ j).
@@ -228,21 +229,21 @@ module _ (may : ℕ → Entry → Type 0) (floor : List Entry → ℕ → Type 0
       (subst (λ (x : NamedLine). PlayedSo lines then' c.phase seat'.node.replica.cursor n desks' looks i x.phase x.asks) is line_played))
       (cases_lt j i)
 
-  worker_then : WorkerAt may floor shelf state spells lines home nodes then' counts' looks n from (i + 1) c.phase seat' desks'
+  worker_then : WorkerAt law state spells lines home nodes then' counts' looks n from (i + 1) c.phase seat' desks'
   worker_then = record {
     ok = now;
     nodes_is = logs.logs.goes.keeps.nodes ∙ worker.nodes_is;
     order = omega (arith, worker.order);
     each = each;
     quiet = quiet;
-    given = given_then may floor shelf c n came journal c.when seat.node.outbox.given logs.logs.goes.given seat'.node.outbox.given grown logs.logs.goes.gained (given_among logs.logs.goes.given logs.logs.others) worker.given;
+    given = given_then law c n came journal c.when seat.node.outbox.given logs.logs.goes.given seat'.node.outbox.given grown logs.logs.goes.gained (given_among logs.logs.goes.given logs.logs.others) worker.given;
     waiting = λ j l high get there. worker.waiting j l (omega (arith, high)) get there;
     played = played;
     reports = tells.own worker.reports;
     stores = stores_counted lines n c.phase c.faults looks looks came [] came seat.node.replica.faults seat'.node.replica.faults (λ P. let e : count_by P came + 0 ≡ count_by P came = omega arith in e) (omega arith) logs.logs.goes.spends.disk worker.stores;
   }
 
-  pub line_logged : LineWent may floor shelf state spells lines home nodes c counts looks looks n from (i + 1) journal seat' desks'
+  pub line_logged : LineWent law state spells lines home nodes c counts looks looks n from (i + 1) journal seat' desks'
   line_logged = record {
     course = then';
     sent = counts';

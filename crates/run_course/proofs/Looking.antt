@@ -7,6 +7,7 @@ use Rattle.delos_types.specs.declared.entry.Entry.{Entry}
 use Rattle.delos_types.specs.declared.cause.Cause.{Cause}
 use Rattle.table_core.specs.declared.command.Query.{Query}
 use Rattle.table_core.specs.declared.command.Found.{Found}
+use Rattle.legal_journal.specs.Law.{Law}
 use Rattle.legal_journal.specs.declared.events.Event.{Event}
 use Rattle.legal_journal.specs.Journal.{IsLegal, state_of}
 use Rattle.journal_laws.specs.Faults.{faults_in}
@@ -51,7 +52,7 @@ use Rattle.run_course.proofs.Replacing.{LooksOn}
 use Rattle.run_course.proofs.Unsealing.{count_same, still_unsealed}
 use Rattle.run_course.proofs.Playing as playing
 
-module _ (may : ℕ → Entry → Type 0) (floor : List Entry → ℕ → Type 0) (shelf : List ℕ) (state : List Entry → SpaceMap → Type 0) (spells : List ℕ → Saved → Type 0) (run : MayRun may floor shelf) (lines : List NamedLine) (home : ℕ → ℕ) (nodes : ℕ) (c : Course) (counts : List ℕ) (looks : List (Option Looked)) (n from i : ℕ) (line : NamedLine) (session : Session) (query : Query) (desk : Desk) (look : Looked) (seat seat' : SeatView) (desks : List Desk) (journal : List Event) (are : AreLines lines home nodes) (least : 1 ≤ n) (most : n ≤ nodes) (begins : BeginsAt lines from c.phase) (at : slice_get lines i ≡ Some line) (node : line.node ≡ n) (phase : line.phase ≡ c.phase) (asks_is : line.asks ≡ asks.Look session query) (ok : CourseOk may floor shelf lines nodes c counts looks) (worker : WorkerAt may floor shelf state spells lines home nodes c counts looks n from i c.phase seat desks) (since : OwnSince n c.journal journal) (still : Unsealed c.journal journal) (adds : OwnAdds n IsOfSessions c.journal journal) (high : TrimsUpTo seat'.node.replica.cursor journal) (desk_at : slice_get desks session.id ≡ Some desk) (does : Looks (OwnWithin n may (sent_by desks)) floor shelf (node_of seat c.journal) (node_of seat' journal) desk query look) (now : WorkerOk may floor shelf state spells n journal seat' desks) where
+module _ (law : Law) (state : List Entry → SpaceMap → Type 0) (spells : List ℕ → Saved → Type 0) (run : MayRun law) (lines : List NamedLine) (home : ℕ → ℕ) (nodes : ℕ) (c : Course) (counts : List ℕ) (looks : List (Option Looked)) (n from i : ℕ) (line : NamedLine) (session : Session) (query : Query) (desk : Desk) (look : Looked) (seat seat' : SeatView) (desks : List Desk) (journal : List Event) (are : AreLines lines home nodes) (least : 1 ≤ n) (most : n ≤ nodes) (begins : BeginsAt lines from c.phase) (at : slice_get lines i ≡ Some line) (node : line.node ≡ n) (phase : line.phase ≡ c.phase) (asks_is : line.asks ≡ asks.Look session query) (ok : CourseOk law lines nodes c counts looks) (worker : WorkerAt law state spells lines home nodes c counts looks n from i c.phase seat desks) (since : OwnSince n c.journal journal) (still : Unsealed c.journal journal) (adds : OwnAdds n IsOfSessions c.journal journal) (high : TrimsUpTo seat'.node.replica.cursor journal) (desk_at : slice_get desks session.id ≡ Some desk) (does : Looks (record law { may = OwnWithin n law.may (sent_by desks) }) (node_of seat c.journal) (node_of seat' journal) desk query look) (now : WorkerOk law state spells n journal seat' desks) where
   abbrev came : List Cause
   came = map (λ g. g.cause) does.moves.goes.given
 
@@ -74,7 +75,7 @@ module _ (may : ℕ → Entry → Type 0) (floor : List Entry → ℕ → Type 0
   paid_is looked.Left h = absurd h
   paid_is (looked.Trimmed trim) h = absurd h
 
-  on : LooksOn (length shelf) (state_of c.journal).register (state_of journal).register look
+  on : LooksOn (length law.shelf) (state_of c.journal).register (state_of journal).register look
   on x is = absurd (subst (LooksSo (node_of seat c.journal) (node_of seat' journal) desk query does.others) is does.looks)
 
   own : (x : Extension) → look ≡ looked.Extended x → AsksNode line.asks
@@ -90,12 +91,12 @@ module _ (may : ℕ → Entry → Type 0) (floor : List Entry → ℕ → Type 0
   none_replaced looked.Left h = absurd h
   none_replaced (looked.Trimmed trim) h = absurd h
 
-  legal : IsLegal (Within may counts) floor shelf journal
-  legal = worker_legal may floor shelf state spells n counts counts c.journal journal seat' desks ok.legal since (λ s. omega arith) (sent_here may floor shelf state spells lines home nodes c counts looks n from i c.phase seat desks are worker) now
+  legal : IsLegal (record law { may = Within law.may counts }) journal
+  legal = worker_legal law state spells n counts counts c.journal journal seat' desks ok.legal since (λ s. omega arith) (sent_here law state spells lines home nodes c counts looks n from i c.phase seat desks are worker) now
 
   tells : TellsOn lines looks' n seat.node.replica.cursor seat'.node.replica.cursor c.journal journal
   tells =
-      tells_commands (Within may counts) floor shelf c.journal journal does.moves.goes.spends.more does.moves.goes.spends.seen legal lines looks looks' n seat.node.replica.cursor seat'.node.replica.cursor
+      tells_commands (record law { may = Within law.may counts }) c.journal journal does.moves.goes.spends.more does.moves.goes.spends.seen legal lines looks looks' n seat.node.replica.cursor seat'.node.replica.cursor
       (looks_stay looks i look not_yet) does.moves.goes.keeps.forward ok.told (all_adds n IsOfSessions c.journal journal since adds)
 
   -- it told nothing
@@ -122,16 +123,16 @@ module _ (may : ℕ → Entry → Type 0) (floor : List Entry → ℕ → Type 0
   unsealed : faults_in journal ≡ [] → IsUnsealed (state_of journal) (count_by has_replaced looks')
   unsealed calm =
       subst (IsUnsealed (state_of journal)) (sym (count_same looks i look not_yet (none_replaced look does.looks)))
-      (still_unsealed may floor shelf counts c.journal journal (count_by has_replaced looks) legal still ok.unsealed calm)
+      (still_unsealed law counts c.journal journal (count_by has_replaced looks) legal still ok.unsealed calm)
 
   unlogged : (s : ℕ) → logs_for s line ≡ false
   unlogged s = ap (is_of s) asks_is
 
-  grown : Grown may floor shelf c then'
-  grown = playing.grown may floor shelf state spells lines home nodes c counts looks n from i line look seat seat' desks desks (λ s d there. (d, there, refl, omega arith)) journal are least most at node phase unlogged ok worker since does.others does.moves (paid_is look does.looks) on own unsealed now tells (stood look does.looks) trimmed high_read
+  grown : Grown law c then'
+  grown = playing.grown law state spells lines home nodes c counts looks n from i line look seat seat' desks desks (λ s d there. (d, there, refl, omega arith)) journal are least most at node phase unlogged ok worker since does.others does.moves (paid_is look does.looks) on own unsealed now tells (stood look does.looks) trimmed high_read
 
   all_given : AllByRecursion (λ g. CameTo then'.faults g.cause n c.phase) seat'.node.outbox.given
-  all_given = playing.all_given may floor shelf state spells lines home nodes c counts looks n from i line look seat seat' desks desks (λ s d there. (d, there, refl, omega arith)) journal are least most at node phase unlogged ok worker since does.others does.moves (paid_is look does.looks) on own unsealed now tells (stood look does.looks) trimmed high_read
+  all_given = playing.all_given law state spells lines home nodes c counts looks n from i line look seat seat' desks desks (λ s d there. (d, there, refl, omega arith)) journal are least most at node phase unlogged ok worker since does.others does.moves (paid_is look does.looks) on own unsealed now tells (stood look does.looks) trimmed high_read
 
   -- The line
 
@@ -184,7 +185,7 @@ module _ (may : ℕ → Entry → Type 0) (floor : List Entry → ℕ → Type 0
             let seen = h.2 in
             omega (arith, old, up, tail, is, seen);
         upto =
-            let below = front_low may floor shelf run.low journal shows.log (legal_wider (Within may counts) may floor shelf (λ who e a. a.0) journal legal) shows.front in
+            let below = front_low law run.low journal shows.log (legal_wider law (Within law.may counts) law.may (λ who e a. a.0) journal legal) shows.front in
             let long = shows.size in
             omega (arith, new, below, long);
         free = was_free (fine.ended h.1.0);
@@ -194,7 +195,7 @@ module _ (may : ℕ → Entry → Type 0) (floor : List Entry → ℕ → Type 0
   stopped_so : (k : Cause) → desk.stopped ≡ Some k → (o : Option ℕ) → desk.answered ≡ o → WasStopped then' desk line.phase session.id k ⊎ (LogsBefore lines i session.id line.phase × CameTo then'.faults k n line.phase × WasFree then' desk line.phase session.id)
   stopped_so k stop None none =
       let h = own_at.halted k none stop in
-      inr (logs_then h.asked, subst (CameTo then'.faults k n) (sym phase) (came_grows may floor shelf c then' grown k n c.phase h.came), was_free none)
+      inr (logs_then h.asked, subst (CameTo then'.faults k n) (sym phase) (came_grows law c then' grown k n c.phase h.came), was_free none)
   stopped_so k stop (Some a) first =
       let w = own_at.ended a first in
       inl (record { answered = subst IsSome (sym first) refl; cause_is = stop; earlier = omega (arith, w.before, phase) })
@@ -215,5 +216,5 @@ module _ (may : ℕ → Entry → Type 0) (floor : List Entry → ℕ → Type 0
   line_played = subst (PlayedSo lines then' c.phase seat'.node.replica.cursor n desks looks' i line.phase) (sym asks_is)
       (look, set_same looks i (Some look) None not_yet, λ d get. subst (λ x. LookedSo lines then' seat'.node.replica.cursor n x i line.phase session.id query look) (same_some desk d (sym desk_at ∙ get)) (looked_so look does.looks))
 
-  pub line_looked : LineWent may floor shelf state spells lines home nodes c counts looks looks' n from (i + 1) journal seat' desks
-  line_looked = playing.line_went may floor shelf state spells lines home nodes c counts looks n from i line look seat seat' desks desks (λ s d there. (d, there, refl, omega arith)) journal are least most at node phase unlogged ok worker since does.others does.moves (paid_is look does.looks) on own unsealed now tells (stood look does.looks) trimmed high_read high line_played
+  pub line_looked : LineWent law state spells lines home nodes c counts looks looks' n from (i + 1) journal seat' desks
+  line_looked = playing.line_went law state spells lines home nodes c counts looks n from i line look seat seat' desks desks (λ s d there. (d, there, refl, omega arith)) journal are least most at node phase unlogged ok worker since does.others does.moves (paid_is look does.looks) on own unsealed now tells (stood look does.looks) trimmed high_read high line_played

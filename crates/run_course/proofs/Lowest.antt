@@ -1,6 +1,7 @@
 -- Where a node trimmed the log, some node had reported no more than that, and hadn't left.
 use Rattle.std.proofs.Common.{◌≡◌, sym, ◌∙◌, subst, ℕ, ◌≤◌, true, false, List, ◌++◌, length, Option, Some, slice_get, arith}
 use Rattle.delos_types.specs.declared.entry.Entry.{Entry}
+use Rattle.legal_journal.specs.Law.{Law}
 use Rattle.legal_journal.specs.declared.events.Event.{Event}
 use Rattle.legal_journal.specs.Journal.{IsLegal, state_of, tail_of}
 use Rattle.virtual_log.specs.Holding.{Holds}
@@ -19,7 +20,7 @@ use Rattle.node_lines.proofs.Saying.{is_member}
 use Rattle.run_course.specs.Telling.{GoesFirst, HasToldSo, IsLowest, StaysBelow}
 use Rattle.run_course.proofs.Stands.{said_in}
 
-module _ (may : ℕ → Entry → Type 0) (floor : List Entry → ℕ → Type 0) (shelf : List ℕ) (low : (log : List Entry) (n : ℕ) → floor log n → n ≤ length log) (old new more : List Event) (seen : new ≡ old ++ more) (legal : IsLegal may floor shelf new) (log : List Entry) (front : IsFront Holds new log) (reach : tail_of (state_of old) ≤ length log) where
+module _ (law : Law) (low : (log : List Entry) (n : ℕ) → law.floor log n → n ≤ length log) (old new more : List Event) (seen : new ≡ old ++ more) (legal : IsLegal law new) (log : List Entry) (front : IsFront Holds new log) (reach : tail_of (state_of old) ≤ length log) where
   -- what a line of a member came to stays below its position
   below : (node : ℕ) (look : Looked) (trim : ℕ) → has_left (unpack_all 0 log) node ≡ false → ((n : ℕ) → n ≤ position_of (unpack_all 0 log) node → n ≤ trim) → HasToldSo old node look → StaysBelow trim look
   below node (looked.Found after found) trim stays upto h = tt
@@ -27,10 +28,10 @@ module _ (may : ℕ → Entry → Type 0) (floor : List Entry → ℕ → Type 0
   below node (looked.Failed k) trim stays upto h = tt
   below node (looked.Extended x) trim stays upto h = tt
   below node (looked.Reported n) trim stays upto h =
-      let p = said_in may floor shelf old new more seen legal low log front reach (content.Alive node n) h in
+      let p = said_in law old new more seen legal low log front reach (content.Alive node n) h in
       upto n (says_position (unpack_all 0 log) p.0 node n p.1 p.2)
   below node looked.Left trim stays upto h =
-      let p = said_in may floor shelf old new more seen legal low log front reach (content.Leave node) h in
+      let p = said_in law old new more seen legal low log front reach (content.Leave node) h in
       let gone = says_left (unpack_all 0 log) p.0 node p.1 p.2 in
       let clash : true ≡ false = sym gone ∙ stays in
       cc
@@ -49,4 +50,4 @@ module _ (may : ℕ → Entry → Type 0) (floor : List Entry → ℕ → Type 0
   }
     where
       first : IsLeast nodes (unpack_all 0 log)
-      first = least_at nodes n (unpack_all 0 log) least most (is_member new log (front_appended may floor shelf new log legal front) n stays)
+      first = least_at nodes n (unpack_all 0 log) least most (is_member new log (front_appended law new log legal front) n stays)

@@ -4,6 +4,7 @@ use Rattle.std.specs.Prelude.{◌==◌, slice_get}
 use Rattle.std.proofs.lemmas.Bool.{cases_lt}
 use Rattle.delos_types.specs.Spaces.{SpaceMap}
 use Rattle.delos_types.specs.declared.entry.Entry.{Entry}
+use Rattle.legal_journal.specs.Law.{Law}
 use Rattle.replica_api.specs.Replica.{Saved}
 use Rattle.script_text.specs.declared.asks.NamedLine.{NamedLine}
 use Rattle.script_text.specs.declared.asks.Asks.{Asks}
@@ -17,7 +18,7 @@ use Rattle.run_course.specs.Desks.{DeskAt, WasEnded, PlayedSo}
 use Rattle.run_course.specs.Workers.{WorkerAt}
 use Rattle.run_course.proofs.Script.{asked-elsewhere, asked-none}
 
-module _ (may : ℕ → Entry → Type 0) (floor : List Entry → ℕ → Type 0) (shelf : List ℕ) (state : List Entry → SpaceMap → Type 0) (spells : List ℕ → Saved → Type 0) (lines : List NamedLine) (home : ℕ → ℕ) (nodes : ℕ) (c : Course) (counts : List ℕ) (looks : List (Option Looked)) (n from : ℕ) where
+module _ (law : Law) (state : List Entry → SpaceMap → Type 0) (spells : List ℕ → Saved → Type 0) (lines : List NamedLine) (home : ℕ → ℕ) (nodes : ℕ) (c : Course) (counts : List ℕ) (looks : List (Option Looked)) (n from : ℕ) where
   desk_at : (i j done s : ℕ) (d : Desk) → asked_by lines n s j ≡ asked_by lines n s i → DeskAt lines home c counts n from i done s d → DeskAt lines home c counts n from j done s d
   desk_at i j done s d same h = record {
     asked = h.asked ∙ sym same;
@@ -31,7 +32,7 @@ module _ (may : ℕ → Entry → Type 0) (floor : List Entry → ℕ → Type 0
   }
 
   pub another_line : (i done : ℕ) (line : NamedLine) (seat : SeatView) (desks : List Desk) → slice_get lines i ≡ Some line → (line.node == n) ≡ false
-      → WorkerAt may floor shelf state spells lines home nodes c counts looks n from i done seat desks → WorkerAt may floor shelf state spells lines home nodes c counts looks n from (i + 1) done seat desks
+      → WorkerAt law state spells lines home nodes c counts looks n from i done seat desks → WorkerAt law state spells lines home nodes c counts looks n from (i + 1) done seat desks
   another_line i done line seat desks at other w = record {
     ok = w.ok;
     nodes_is = w.nodes_is;
@@ -75,7 +76,7 @@ module _ (may : ℕ → Entry → Type 0) (floor : List Entry → ℕ → Type 0
 
   pub phase_passed : (to : ℕ) (seat : SeatView) (desks : List Desk) → from ≤ to → BeginsAt lines from c.phase
       → ((i : ℕ) (l : NamedLine) → from ≤ i → i < to → slice_get lines i ≡ Some l → (l.node == n) ≡ false)
-      → WorkerAt may floor shelf state spells lines home nodes c counts looks n from from c.phase seat desks → WorkerAt may floor shelf state spells lines home nodes c counts looks n to to (c.phase + 1) seat desks
+      → WorkerAt law state spells lines home nodes c counts looks n from from c.phase seat desks → WorkerAt law state spells lines home nodes c counts looks n to to (c.phase + 1) seat desks
   phase_passed to seat desks le begins none w = record {
     ok = w.ok;
     nodes_is = w.nodes_is;

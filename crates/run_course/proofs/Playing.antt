@@ -7,6 +7,7 @@ use Rattle.std.proofs.lemmas.List.Sums.{sum_by-append}
 use Rattle.delos_types.specs.Spaces.{SpaceMap}
 use Rattle.delos_types.specs.declared.entry.Entry.{Entry}
 use Rattle.delos_types.specs.declared.cause.Cause.{Cause}
+use Rattle.legal_journal.specs.Law.{Law}
 use Rattle.legal_journal.specs.declared.events.Event.{Event}
 use Rattle.legal_journal.specs.Journal.{IsLegal, state_of}
 use Rattle.journal_laws.specs.Changes.{TrimsUpTo}
@@ -57,7 +58,7 @@ use Rattle.run_course.proofs.Replacing.{LooksOn, later, replaced_then}
 use Rattle.run_course.proofs.Growing.{DeskOfOld, Grown, desk_answered, ended_grows, grown_of, halted_grows, played_grows}
 use Rattle.run_course.proofs.Coming.{given_then}
 
-module _ (may : ℕ → Entry → Type 0) (floor : List Entry → ℕ → Type 0) (shelf : List ℕ) (state : List Entry → SpaceMap → Type 0) (spells : List ℕ → Saved → Type 0) (lines : List NamedLine) (home : ℕ → ℕ) (nodes : ℕ) (c : Course) (counts : List ℕ) (looks : List (Option Looked)) (n from i : ℕ) (line : NamedLine) (look : Looked) (seat seat' : SeatView) (desks desks' : List Desk) (taken : IsAnswered desks desks') (journal : List Event) (are : AreLines lines home nodes) (least : 1 ≤ n) (most : n ≤ nodes) (at : slice_get lines i ≡ Some line) (node : line.node ≡ n) (phase : line.phase ≡ c.phase) (unlogged : (s : ℕ) → logs_for s line ≡ false) (ok : CourseOk may floor shelf lines nodes c counts looks) (worker : WorkerAt may floor shelf state spells lines home nodes c counts looks n from i c.phase seat desks) (since : OwnSince n c.journal journal) (others : List Cause) (moves : Moves (OwnWithin n may (sent_by desks)) floor shelf (node_of seat c.journal) (node_of seat' journal) others) (paid_is : others ≡ failed_of look) (on : LooksOn (length shelf) (state_of c.journal).register (state_of journal).register look) (own : (x : Extension) → look ≡ looked.Extended x → AsksNode line.asks) (unsealed : faults_in journal ≡ [] → IsUnsealed (state_of journal) (count_by has_replaced (slice_set looks i (Some look)))) (now : WorkerOk may floor shelf state spells n journal seat' desks') (tells : TellsOn lines (slice_set looks i (Some look)) n seat.node.replica.cursor seat'.node.replica.cursor c.journal journal) (stood : HasToldSo journal n look) (trimmed : (trim : ℕ) → look ≡ looked.Trimmed trim → IsTrim lines (slice_set looks i (Some look)) nodes journal i line trim) (high_read : (after : ℕ) (found : Found) → look ≡ looked.Found after found → seat.node.replica.cursor ≤ after) where
+module _ (law : Law) (state : List Entry → SpaceMap → Type 0) (spells : List ℕ → Saved → Type 0) (lines : List NamedLine) (home : ℕ → ℕ) (nodes : ℕ) (c : Course) (counts : List ℕ) (looks : List (Option Looked)) (n from i : ℕ) (line : NamedLine) (look : Looked) (seat seat' : SeatView) (desks desks' : List Desk) (taken : IsAnswered desks desks') (journal : List Event) (are : AreLines lines home nodes) (least : 1 ≤ n) (most : n ≤ nodes) (at : slice_get lines i ≡ Some line) (node : line.node ≡ n) (phase : line.phase ≡ c.phase) (unlogged : (s : ℕ) → logs_for s line ≡ false) (ok : CourseOk law lines nodes c counts looks) (worker : WorkerAt law state spells lines home nodes c counts looks n from i c.phase seat desks) (since : OwnSince n c.journal journal) (others : List Cause) (moves : Moves (record law { may = OwnWithin n law.may (sent_by desks) }) (node_of seat c.journal) (node_of seat' journal) others) (paid_is : others ≡ failed_of look) (on : LooksOn (length law.shelf) (state_of c.journal).register (state_of journal).register look) (own : (x : Extension) → look ≡ looked.Extended x → AsksNode line.asks) (unsealed : faults_in journal ≡ [] → IsUnsealed (state_of journal) (count_by has_replaced (slice_set looks i (Some look)))) (now : WorkerOk law state spells n journal seat' desks') (tells : TellsOn lines (slice_set looks i (Some look)) n seat.node.replica.cursor seat'.node.replica.cursor c.journal journal) (stood : HasToldSo journal n look) (trimmed : (trim : ℕ) → look ≡ looked.Trimmed trim → IsTrim lines (slice_set looks i (Some look)) nodes journal i line trim) (high_read : (after : ℕ) (found : Found) → look ≡ looked.Found after found → seat.node.replica.cursor ≤ after) where
   abbrev came : List Cause
   came = map (λ g. g.cause) moves.goes.given
 
@@ -70,8 +71,8 @@ module _ (may : ℕ → Entry → Type 0) (floor : List Entry → ℕ → Type 0
   not_yet : slice_get looks i ≡ Some None
   not_yet = worker.waiting i line (omega arith) at node
 
-  legal : IsLegal (Within may counts) floor shelf journal
-  legal = worker_legal may floor shelf state spells n counts counts c.journal journal seat' desks' ok.legal since (λ s. omega arith) (taken_here may floor shelf state spells lines home nodes c counts looks n from i c.phase seat desks desks' are worker taken) now
+  legal : IsLegal (record law { may = Within law.may counts }) journal
+  legal = worker_legal law state spells n counts counts c.journal journal seat' desks' ok.legal since (λ s. omega arith) (taken_here law state spells lines home nodes c counts looks n from i c.phase seat desks desks' are worker taken) now
 
   both : (P : Cause → Bool) → count_by P came + count_by P (failed_of look) ≡ count_by P (causes_of moves.goes.given others)
   both P =
@@ -102,15 +103,15 @@ module _ (may : ℕ → Entry → Type 0) (floor : List Entry → ℕ → Type 0
   ahead : (j : ℕ) (l : NamedLine) → slice_get lines j ≡ Some l → c.phase < l.phase → slice_get looks' j ≡ Some None
   ahead j l get high = elsewhere j (λ same. absurd (let e = ap (λ (x : NamedLine). x.phase) (same_at j l get same) in omega (arith, e, phase, high))) ∙ ok.ahead j l get high
 
-  replaced : Replaced lines looks' (state_of journal).register (length shelf)
+  replaced : Replaced lines looks' (state_of journal).register (length law.shelf)
   replaced =
-      replaced_then (state_of c.journal).register (state_of journal).register (length shelf) (later (Within may counts) floor shelf c.journal journal moves.goes.spends.more moves.goes.spends.seen legal)
+      replaced_then (state_of c.journal).register (state_of journal).register (length law.shelf) (later (record law { may = Within law.may counts }) c.journal journal moves.goes.spends.more moves.goes.spends.seen legal)
       lines looks i line look at not_yet ok.replaced on own behind
 
   -- What was told
 
   stands : (x : Content) → StandsThere c.journal x → StandsThere journal x
-  stands x h = stands_on (Within may counts) floor shelf c.journal journal moves.goes.spends.more moves.goes.spends.seen legal x h
+  stands x h = stands_on (record law { may = Within law.may counts }) c.journal journal moves.goes.spends.more moves.goes.spends.seen legal x h
 
   same_look : (x : Looked) (j : ℕ) → j ≡ i → slice_get looks' j ≡ Some (Some x) → look ≡ x
   same_look x j same come = one (sym (set_same looks i (Some look) None not_yet) ∙ (ap (slice_get looks') (sym same) ∙ come))
@@ -133,7 +134,7 @@ module _ (may : ℕ → Entry → Type 0) (floor : List Entry → ℕ → Type 0
   trims j l trim get come = ⊎_elim
       (λ (same : j ≡ i). subst (λ k. IsTrim lines looks' nodes journal k l trim) (sym same) (subst (λ m. IsTrim lines looks' nodes journal i m trim) (sym (same_at j l get same)) (trimmed trim (same_look (looked.Trimmed trim) j same come))))
       (λ (apart : j ≢ i). let was = looks_were looks i look not_yet j (looked.Trimmed trim) apart come in
-      trim_on lines looks looks' nodes c.journal journal stands (trim_rises (Within may counts) floor shelf c.journal journal moves.goes.spends.more moves.goes.spends.seen legal) j l trim (were was) (ok.trims j l trim get was))
+      trim_on lines looks looks' nodes c.journal journal stands (trim_rises (record law { may = Within law.may counts }) c.journal journal moves.goes.spends.more moves.goes.spends.seen legal) j l trim (were was) (ok.trims j l trim get was))
       (same_or_other j i)
     where
       were : slice_get looks j ≡ Some (Some (looked.Trimmed trim)) → (k : ℕ) (m : NamedLine) (x : Looked) → slice_get lines k ≡ Some m → slice_get looks' k ≡ Some (Some x) → GoesFirst k m j l → slice_get looks k ≡ Some (Some x)
@@ -142,7 +143,7 @@ module _ (may : ℕ → Entry → Type 0) (floor : List Entry → ℕ → Type 0
   -- What comes behind a report
 
   rise : (p : ℕ) → c.tails p ≤ then'.tails p
-  rise p = rises may floor shelf lines nodes c counts looks ok n came journal moves.goes.spends.more c.when counts looks' moves.goes.spends.seen legal ok.long p
+  rise p = rises law lines nodes c counts looks ok n came journal moves.goes.spends.more c.when counts looks' moves.goes.spends.seen legal ok.long p
 
   -- a command of a later line wasn't sent yet
   unsent_so : (j : ℕ) (l : NamedLine) → i < j → slice_get lines j ≡ Some l → l.node ≡ n → IsUnsent counts l.asks
@@ -168,10 +169,10 @@ module _ (may : ℕ → Entry → Type 0) (floor : List Entry → ℕ → Type 0
   clean_report m said =
       let s : StandsThere journal (content.Alive n m) = subst (HasToldSo journal n) said stood in
       let q = says_one (unpack 0 s.entry) (content.Alive n m) s.says in
-      let appended_is = held_appended (Within may counts) floor shelf journal s.at s.entry legal s.held in
+      let appended_is = held_appended (record law { may = Within law.may counts }) journal s.at s.entry legal s.held in
       (subst (ToldSo lines looks' journal) q.2 (tells.told s.entry q.0 appended_is q.1)).0.clean
 
-  reported_now : (l : NamedLine) (m : ℕ) → l ≡ line → look ≡ looked.Reported m → WasReported may floor shelf lines journal then'.tails l.node l.phase i m
+  reported_now : (l : NamedLine) (m : ℕ) → l ≡ line → look ≡ looked.Reported m → WasReported law lines journal then'.tails l.node l.phase i m
   reported_now l m is said = record {
     early = journal;
     more = [];
@@ -183,11 +184,11 @@ module _ (may : ℕ → Entry → Type 0) (floor : List Entry → ℕ → Type 0
     unsent = λ j x low get own. unsent_so j x low get (own ∙ ap (λ (y : NamedLine). y.node) is ∙ node);
   }
 
-  each_reported : (j : ℕ) (l : NamedLine) (m : ℕ) → slice_get lines j ≡ Some l → slice_get looks' j ≡ Some (Some (looked.Reported m)) → WasReported may floor shelf lines journal then'.tails l.node l.phase j m
+  each_reported : (j : ℕ) (l : NamedLine) (m : ℕ) → slice_get lines j ≡ Some l → slice_get looks' j ≡ Some (Some (looked.Reported m)) → WasReported law lines journal then'.tails l.node l.phase j m
   each_reported j l m get come = ⊎_elim
-      (λ (same : j ≡ i). subst (λ k. WasReported may floor shelf lines journal then'.tails l.node l.phase k m) (sym same) (reported_now l m (same_at j l get same) (same_look (looked.Reported m) j same come)))
+      (λ (same : j ≡ i). subst (λ k. WasReported law lines journal then'.tails l.node l.phase k m) (sym same) (reported_now l m (same_at j l get same) (same_look (looked.Reported m) j same come)))
       (λ (apart : j ≢ i).
-      reported_on may floor shelf lines c.journal journal moves.goes.spends.more moves.goes.spends.seen c.tails then'.tails rise l.node l.phase j m
+      reported_on law lines c.journal journal moves.goes.spends.more moves.goes.spends.seen c.tails then'.tails rise l.node l.phase j m
       (ok.reports.each j l m get (looks_were looks i look not_yet j (looked.Reported m) apart come)))
       (same_or_other j i)
 
@@ -196,7 +197,7 @@ module _ (may : ℕ → Entry → Type 0) (floor : List Entry → ℕ → Type 0
   report_low j l m get own come =
       let s : StandsThere c.journal (content.Alive l.node m) = ok.stand j l (looked.Reported m) get come in
       let q = says_one (unpack 0 s.entry) (content.Alive l.node m) s.says in
-      worker.reports s.entry q.0 (held_appended (Within may counts) floor shelf c.journal s.at s.entry ok.legal s.held) q.1 m (q.2 ∙ ap (λ k. content.Alive k m) own)
+      worker.reports s.entry q.0 (held_appended (record law { may = Within law.may counts }) c.journal s.at s.entry ok.legal s.held) q.1 m (q.2 ∙ ap (λ k. content.Alive k m) own)
 
   reads_above : (j k : ℕ) (l m : NamedLine) (x after : ℕ) (found : Found) → slice_get lines j ≡ Some l → slice_get lines k ≡ Some m → j < k → l.node ≡ m.node
       → slice_get looks' j ≡ Some (Some (looked.Reported x)) → slice_get looks' k ≡ Some (Some (looked.Found after found)) → x ≤ after
@@ -218,11 +219,11 @@ module _ (may : ℕ → Entry → Type 0) (floor : List Entry → ℕ → Type 0
           (λ (other : j ≢ i). ok.reports.reads j k l m x after found get there low same (looks_were looks i look not_yet j (looked.Reported x) other told) was)
           (same_or_other j i)
 
-  reports_then : ReportsHold may floor shelf lines looks' journal then'.tails
+  reports_then : ReportsHold law lines looks' journal then'.tails
   reports_then = record { each = each_reported; reads = reads_above }
 
-  course_ok : CourseOk may floor shelf lines nodes then' counts looks'
-  course_ok = advance may floor shelf lines nodes c counts looks ok n came journal moves.goes.spends.more c.when counts looks' moves.goes.spends.seen legal ok.long least most size
+  course_ok : CourseOk law lines nodes then' counts looks'
+  course_ok = advance law lines nodes c counts looks ok n came journal moves.goes.spends.more c.when counts looks' moves.goes.spends.seen legal ok.long least most size
       (λ P store. let e = all-events moves.goes.spends P store in let a = both P in let b = paid (λ m. P) in omega (arith, e, a, b)) replaced unsealed tells.told stand trims reports_then ahead
 
   turn : TurnOf lines home n c then' counts counts looks looks'
@@ -239,8 +240,8 @@ module _ (may : ℕ → Entry → Type 0) (floor : List Entry → ℕ → Type 0
           let rest = none_counted by none ks in
           omega (arith, a, e, rest)
 
-  pub grown : Grown may floor shelf c then'
-  grown = grown_of may floor shelf lines home nodes n c then' counts counts looks looks' turn ok course_ok
+  pub grown : Grown law c then'
+  grown = grown_of law lines home nodes n c then' counts counts looks looks' turn ok course_ok
 
   none_more : (s : ℕ) → asked_by lines n s (i + 1) ≡ asked_by lines n s i
   none_more s = asked_none lines n s i line at (unlogged s)
@@ -260,21 +261,21 @@ module _ (may : ℕ → Entry → Type 0) (floor : List Entry → ℕ → Type 0
       record {
         asked = asked ∙ (x.asked ∙ sym (none_more s));
         sent = λ home_is. sent ∙ x.sent home_is;
-        ended = λ a first. ended_grows may floor shelf c then' grown lines n c.phase c.phase s seat.node.replica.cursor w.0 d a (omega arith) (sym answered ∙ first) (desk_answered c then' seat.node.replica.cursor s w.0 d refl w.2) (x.ended a (sym answered ∙ first));
+        ended = λ a first. ended_grows law c then' grown lines n c.phase c.phase s seat.node.replica.cursor w.0 d a (omega arith) (sym answered ∙ first) (desk_answered c then' seat.node.replica.cursor s w.0 d refl w.2) (x.ended a (sym answered ∙ first));
         here = λ a first. x.here a (sym answered ∙ first);
-        halted = λ k none stop. halted_grows may floor shelf c then' grown lines n from i (i + 1) c.phase s k (asked_more lines n s i (i + 1) (omega arith)) (x.halted k (sym answered ∙ none) (sym stopped ∙ stop));
+        halted = λ k none stop. halted_grows law c then' grown lines n from i (i + 1) c.phase s k (asked_more lines n s i (i + 1) (omega arith)) (x.halted k (sym answered ∙ none) (sym stopped ∙ stop));
         held = λ k none stop. let held = x.held k (sym answered ∙ none) (sym stopped ∙ stop) in omega (arith, held, asked, sent);
       }
 
   pub all_given : AllByRecursion (λ g. CameTo then'.faults g.cause n c.phase) seat'.node.outbox.given
-  all_given = given_then may floor shelf c n came journal c.when seat.node.outbox.given moves.goes.given seat'.node.outbox.given grown moves.goes.gained
+  all_given = given_then law c n came journal c.when seat.node.outbox.given moves.goes.given seat'.node.outbox.given grown moves.goes.gained
       (λ g m. among-map (λ (x : Given). x.cause) moves.goes.given g m) worker.given
 
   module _ (high : TrimsUpTo seat'.node.replica.cursor journal) (line_played : PlayedSo lines then' c.phase seat'.node.replica.cursor n desks' looks' i line.phase line.asks) where
     played : (j : ℕ) (l : NamedLine) → j < i + 1 → slice_get lines j ≡ Some l → l.node ≡ n → PlayedSo lines then' c.phase seat'.node.replica.cursor n desks' looks' j l.phase l.asks
     played j l low get there = ⊎_elim
         (λ (before : j < i).
-        played_grows may floor shelf c then' grown lines c.phase c.phase seat.node.replica.cursor seat'.node.replica.cursor n desks desks' looks looks' j l.phase l.asks
+        played_grows law c then' grown lines c.phase c.phase seat.node.replica.cursor seat'.node.replica.cursor n desks desks' looks looks' j l.phase l.asks
         (let up = phase_before lines home nodes are j i l line get at (omega (arith, before)) in omega (arith, up, phase)) (λ over. over) moves.goes.keeps.forward
         (elsewhere j (λ same. absurd (omega (arith, before, same)))) (of_old (session_in l.asks))
         (worker.played j l before get there))
@@ -285,7 +286,7 @@ module _ (may : ℕ → Entry → Type 0) (floor : List Entry → ℕ → Type 0
         (subst (λ (x : NamedLine). PlayedSo lines then' c.phase seat'.node.replica.cursor n desks' looks' i x.phase x.asks) is line_played))
         (cases_lt j i)
 
-    worker_then : WorkerAt may floor shelf state spells lines home nodes then' counts looks' n from (i + 1) c.phase seat' desks'
+    worker_then : WorkerAt law state spells lines home nodes then' counts looks' n from (i + 1) c.phase seat' desks'
     worker_then = record {
       ok = now;
       nodes_is = moves.goes.keeps.nodes ∙ worker.nodes_is;
@@ -299,7 +300,7 @@ module _ (may : ℕ → Entry → Type 0) (floor : List Entry → ℕ → Type 0
       stores = stores_counted lines n c.phase c.faults looks looks' came (failed_of look) (causes_of moves.goes.given others) seat.node.replica.faults seat'.node.replica.faults both (paid (lacks_store n)) moves.goes.spends.disk worker.stores;
     }
 
-    pub line_went : LineWent may floor shelf state spells lines home nodes c counts looks looks' n from (i + 1) journal seat' desks'
+    pub line_went : LineWent law state spells lines home nodes c counts looks looks' n from (i + 1) journal seat' desks'
     line_went = record {
       course = then';
       sent = counts;

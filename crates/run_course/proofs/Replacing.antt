@@ -2,8 +2,8 @@
 use Rattle.std.proofs.Common.{◌≡◌, refl, sym, ap, ◌∙◌, subst, ◌⊎◌, inl, inr, ⊎_elim, ℕ, zero, suc, ◌+◌, ◌<◌, ◌≤◌, cond, List, [], ◌∷◌, ◌++◌, Option, Some, None, length, count_by, slice_get, slice_set, arith}
 use Rattle.std.specs.Prelude.{◌≢◌}
 use Rattle.std.proofs.lemmas.Bool.{cases_lt}
-use Rattle.delos_types.specs.declared.entry.Entry.{Entry}
 use Rattle.chain_map.specs.Chain.{last_id}
+use Rattle.legal_journal.specs.Law.{Law}
 use Rattle.legal_journal.specs.declared.events.Event.{Event}
 use Rattle.legal_journal.specs.Journal.{RegisterState, IsLegal, state_of}
 use Rattle.legal_journal.proofs.Legal.{goes_on}
@@ -27,18 +27,18 @@ pub record IsLater (old new : RegisterState) (cells : ℕ) : Type 0 where
   pub started : (pos : ℕ) → HasStarted old.chain pos → HasStarted new.chain pos
   pub within : last_id new.chain + 1 ≤ cells
 
-pub later : (may : ℕ → Entry → Type 0) (floor : List Entry → ℕ → Type 0) (shelf : List ℕ) (old new more : List Event) → new ≡ old ++ more → IsLegal may floor shelf new → IsLater (state_of old).register (state_of new).register (length shelf)
-later may floor shelf old new more seen legal =
-    subst (λ l. IsLater (state_of old).register (state_of l).register (length shelf)) (sym seen) (on (subst (IsLegal may floor shelf) seen legal))
+pub later : (law : Law) (old new more : List Event) → new ≡ old ++ more → IsLegal law new → IsLater (state_of old).register (state_of new).register (length law.shelf)
+later law old new more seen legal =
+    subst (λ l. IsLater (state_of old).register (state_of l).register (length law.shelf)) (sym seen) (on (subst (IsLegal law) seen legal))
   where
-    on : IsLegal may floor shelf (old ++ more) → IsLater (state_of old).register (state_of (old ++ more)).register (length shelf)
+    on : IsLegal law (old ++ more) → IsLater (state_of old).register (state_of (old ++ more)).register (length law.shelf)
     on whole =
-        let k = goes_on may floor shelf old more whole in
+        let k = goes_on law old more whole in
         record {
           version = k.version;
           last = k.last;
-          started = λ pos h. started_stays may floor shelf old more pos whole h;
-          within = last_within may floor shelf (old ++ more) whole;
+          started = λ pos h. started_stays law old more pos whole h;
+          within = last_within law (old ++ more) whole;
         }
 
 stands_on : (old new : RegisterState) (cells : ℕ) (x : Extension) → IsLater old new cells → StandsSo old cells x → StandsSo new cells x

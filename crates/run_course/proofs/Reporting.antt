@@ -2,6 +2,7 @@
 use Rattle.std.proofs.Common.{◌≡◌, ◌⊎◌, refl, ap, subst, ℕ, ◌+◌, ◌<◌, ◌≤◌, List, [], ◌∷◌, Option, Some, None, map, slice_get, slice_set, Contains, arith}
 use Rattle.delos_types.specs.Spaces.{SpaceMap}
 use Rattle.delos_types.specs.declared.entry.Entry.{Entry}
+use Rattle.legal_journal.specs.Law.{Law}
 use Rattle.legal_journal.specs.declared.events.Event.{Event}
 use Rattle.legal_journal.specs.Journal.{IsLegal, state_of, tail_of}
 use Rattle.legal_journal.specs.Sealing.{Unsealed}
@@ -38,29 +39,29 @@ use Rattle.run_course.proofs.Told.{TellsOn, looks_stay, tells_one}
 use Rattle.run_course.proofs.Advance.{advanced, failed_of, tails_old}
 use Rattle.run_course.proofs.Telling.{held_still, line_told, stands_now}
 
-module _ (may : ℕ → Entry → Type 0) (floor : List Entry → ℕ → Type 0) (shelf : List ℕ) (old new : NodeView) (position : ℕ) (legal : IsLegal may floor shelf new.seen) (told : HasTold old new position) where
+module _ (law : Law) (old new : NodeView) (position : ℕ) (legal : IsLegal law new.seen) (told : HasTold old new position) where
   -- its front reaches each tail that isn't above that of then
   told_report : (tail : ℕ) → tail ≤ tail_of (state_of old.seen) → IsReport new.seen tail new.replica.cursor old.replica.origin position
   told_report tail low =
       let e = packed old.replica.origin (alive_item old.replica.origin position ∷ []) in
       record {
         log = told.log;
-        front = λ pos x at. held_still may floor shelf old.who told.synced new.seen e legal told.landed pos x (told.front pos x at);
+        front = λ pos x at. held_still law old.who told.synced new.seen e legal told.landed pos x (told.front pos x at);
         from = omega (arith, low, told.from);
         within = told.within;
         clean = told.clean;
-        stands = stands_now may floor shelf old.who told.synced new.seen e legal told.landed (content.Alive old.replica.origin position) told.says;
+        stands = stands_now law old.who told.synced new.seen e legal told.landed (content.Alive old.replica.origin position) told.says;
       }
 
-module _ (may : ℕ → Entry → Type 0) (floor : List Entry → ℕ → Type 0) (shelf : List ℕ) (state : List Entry → SpaceMap → Type 0) (spells : List ℕ → Saved → Type 0) (lines : List NamedLine) (home : ℕ → ℕ) (nodes : ℕ) (c : Course) (counts : List ℕ) (looks : List (Option Looked)) (n from i : ℕ) (line : NamedLine) (look : Looked) (seat seat' : SeatView) (desks : List Desk) (journal : List Event) (are : AreLines lines home nodes) (least : 1 ≤ n) (most : n ≤ nodes) (at : slice_get lines i ≡ Some line) (node : line.node ≡ n) (phase : line.phase ≡ c.phase) (asks_is : line.asks ≡ asks.Admin Alive) (ok : CourseOk may floor shelf lines nodes c counts looks) (worker : WorkerAt may floor shelf state spells lines home nodes c counts looks n from i c.phase seat desks) (since : OwnSince n c.journal journal) (still : Unsealed c.journal journal) (adds : ReportAdds n seat'.node.replica.cursor c.journal journal look) (high : TrimsUpTo seat'.node.replica.cursor journal) (does : Reports (OwnWithin n may (sent_by desks)) floor shelf (node_of seat c.journal) (node_of seat' journal) look) (now : WorkerOk may floor shelf state spells n journal seat' desks) where
+module _ (law : Law) (state : List Entry → SpaceMap → Type 0) (spells : List ℕ → Saved → Type 0) (lines : List NamedLine) (home : ℕ → ℕ) (nodes : ℕ) (c : Course) (counts : List ℕ) (looks : List (Option Looked)) (n from i : ℕ) (line : NamedLine) (look : Looked) (seat seat' : SeatView) (desks : List Desk) (journal : List Event) (are : AreLines lines home nodes) (least : 1 ≤ n) (most : n ≤ nodes) (at : slice_get lines i ≡ Some line) (node : line.node ≡ n) (phase : line.phase ≡ c.phase) (asks_is : line.asks ≡ asks.Admin Alive) (ok : CourseOk law lines nodes c counts looks) (worker : WorkerAt law state spells lines home nodes c counts looks n from i c.phase seat desks) (since : OwnSince n c.journal journal) (still : Unsealed c.journal journal) (adds : ReportAdds n seat'.node.replica.cursor c.journal journal look) (high : TrimsUpTo seat'.node.replica.cursor journal) (does : Reports (record law { may = OwnWithin n law.may (sent_by desks) }) (node_of seat c.journal) (node_of seat' journal) look) (now : WorkerOk law state spells n journal seat' desks) where
   abbrev then' : Course
   then' = advanced c n (map (λ g. g.cause) does.moves.goes.given) journal c.when
 
   abbrev So : Looked → Type 0
   So = ReportsSo (node_of seat c.journal) (node_of seat' journal) does.others
 
-  legal : IsLegal (Within may counts) floor shelf journal
-  legal = worker_legal may floor shelf state spells n counts counts c.journal journal seat' desks ok.legal since (λ s. omega arith) (sent_here may floor shelf state spells lines home nodes c counts looks n from i c.phase seat desks are worker) now
+  legal : IsLegal (record law { may = Within law.may counts }) journal
+  legal = worker_legal law state spells n counts counts c.journal journal seat' desks ok.legal since (λ s. omega arith) (sent_here law state spells lines home nodes c counts looks n from i c.phase seat desks are worker) now
 
   not_yet : slice_get looks i ≡ Some None
   not_yet = worker.waiting i line (omega arith) at node
@@ -107,7 +108,7 @@ module _ (may : ℕ → Entry → Type 0) (floor : List Entry → ℕ → Type 0
   reported (looked.Extended x) h = tt
   reported (looked.Reported position) h =
       subst (λ who. IsReport journal (then'.tails line.phase) seat'.node.replica.cursor who position) worker.ok.origin
-      (told_report (Within may counts) floor shelf (node_of seat c.journal) (node_of seat' journal) position legal h.1 (then'.tails line.phase) began_low)
+      (told_report (record law { may = Within law.may counts }) (node_of seat c.journal) (node_of seat' journal) position legal h.1 (then'.tails line.phase) began_low)
   reported looked.Left h = tt
   reported (looked.Trimmed trim) h = tt
 
@@ -156,15 +157,15 @@ module _ (may : ℕ → Entry → Type 0) (floor : List Entry → ℕ → Type 0
       let was = own_appended n c.journal e (adds.before k e p early stands there is) in
       let told = subst (ToldSo lines looks c.journal) is (ok.told e p was there) in
       let b = told.0 in
-      let front = front_on (Within may counts) floor shelf c.journal journal more does.moves.goes.spends.seen legal b.clean.log b.clean.front in
-      b.behind k e p early (in_other (Within may counts) floor shelf c.journal journal more does.moves.goes.spends.seen legal adds.clean.log b.clean.log adds.clean.front front k e stands (omega (arith, early, b.clean.within))) there is
+      let front = front_on (record law { may = Within law.may counts }) c.journal journal more does.moves.goes.spends.seen legal b.clean.log b.clean.front in
+      b.behind k e p early (in_other (record law { may = Within law.may counts }) c.journal journal more does.moves.goes.spends.seen legal adds.clean.log b.clean.log adds.clean.front front k e stands (omega (arith, early, b.clean.within))) there is
 
   behind : IsReportedBehind journal n adds.position
   behind = record { clean = adds.clean; behind = λ k e p early stands there is. none_below e p k early stands there is }
 
   tells : TellsOn lines looks' n seat.node.replica.cursor seat'.node.replica.cursor c.journal journal
   tells =
-      tells_one (Within may counts) floor shelf c.journal journal does.moves.goes.spends.more does.moves.goes.spends.seen legal lines looks looks' n seat.node.replica.cursor seat'.node.replica.cursor
+      tells_one (record law { may = Within law.may counts }) c.journal journal does.moves.goes.spends.more does.moves.goes.spends.seen legal lines looks looks' n seat.node.replica.cursor seat'.node.replica.cursor
       (looks_stay looks i look not_yet) does.moves.goes.keeps.forward ok.told (content.Alive n adds.position) (behind, asked) (refl, adds.low) added
 
   stood : (x : Looked) → So x → ReportedSo journal (then'.tails line.phase) seat'.node.replica.cursor n x → HasToldSo journal n x
@@ -176,8 +177,8 @@ module _ (may : ℕ → Entry → Type 0) (floor : List Entry → ℕ → Type 0
   stood looked.Left h r = absurd h
   stood (looked.Trimmed trim) h r = tt
 
-  pub line_reported : LineWent may floor shelf state spells lines home nodes c counts looks (slice_set looks i (Some look)) n from (i + 1) journal seat' desks
+  pub line_reported : LineWent law state spells lines home nodes c counts looks (slice_set looks i (Some look)) n from (i + 1) journal seat' desks
   line_reported =
-      line_told may floor shelf state spells lines home nodes c counts looks n from i line Alive look seat seat' desks desks (λ s d there. (d, there, refl, omega arith)) journal are least most at node phase asks_is ok worker since still does.others does.moves now none
+      line_told law state spells lines home nodes c counts looks n from i line Alive look seat seat' desks desks (λ s d there. (d, there, refl, omega arith)) journal are least most at node phase asks_is ok worker since still does.others does.moves now none
       (paid_is look does.tells) (of_node look does.tells) (reported look does.tells) (none_left look does.tells)
       tells (stood look does.tells (reported look does.tells)) (λ trim is. absurd (subst So is does.tells)) high

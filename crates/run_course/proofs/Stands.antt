@@ -1,6 +1,7 @@
 -- What a log holds it holds at each later moment, and what it says then stands there still.
 use Rattle.std.proofs.Common.{◌≡◌, refl, sym, ap, ◌∙◌, subst, inl, inr, ℕ, ◌<◌, ◌≤◌, List, [], ◌∷◌, ◌++◌, Option, Some, map, length, slice_get, Contains, arith}
 use Rattle.delos_types.specs.declared.entry.Entry.{Entry}
+use Rattle.legal_journal.specs.Law.{Law}
 use Rattle.legal_journal.specs.declared.events.Event.{Event}
 use Rattle.legal_journal.specs.Journal.{IsLegal, state_of, tail_of, trim_of}
 use Rattle.legal_journal.proofs.Legal.{goes_on, legal_front}
@@ -32,12 +33,12 @@ says_one ps c h =
     one (p ∷ ps) (inl same) = (p, inl refl, same)
     one (p ∷ ps) (inr m) = let r = one ps m in (r.0, inr r.1, r.2)
 
-module _ (may : ℕ → Entry → Type 0) (floor : List Entry → ℕ → Type 0) (shelf : List ℕ) (old new more : List Event) (seen : new ≡ old ++ more) (legal : IsLegal may floor shelf new) where
-  whole : IsLegal may floor shelf (old ++ more)
-  whole = subst (IsLegal may floor shelf) seen legal
+module _ (law : Law) (old new more : List Event) (seen : new ≡ old ++ more) (legal : IsLegal law new) where
+  whole : IsLegal law (old ++ more)
+  whole = subst (IsLegal law) seen legal
 
   pub held_on : (pos : ℕ) (e : Entry) → Holds old pos e → Holds new pos e
-  held_on pos e h = subst (λ l. Holds l pos e) (sym seen) (held_stays may floor shelf old more pos e whole h)
+  held_on pos e h = subst (λ l. Holds l pos e) (sym seen) (held_stays law old more pos e whole h)
 
   pub front_on : (log : List Entry) → IsFront Holds old log → IsFront Holds new log
   front_on log h = λ pos e at. held_on pos e (h pos e at)
@@ -49,7 +50,7 @@ module _ (may : ℕ → Entry → Type 0) (floor : List Entry → ℕ → Type 0
   pub in_other : (a b : List Entry) → IsFront Holds new a → IsFront Holds new b → (i : ℕ) (e : Entry) → slice_get a i ≡ Some e → i < length b → slice_get b i ≡ Some e
   in_other a b one other i e is within =
       let x = at b i within in
-      x.is ∙ ap {B = Option Entry} (λ y. Some y) (sym (holds_agree may floor shelf new i e x.element legal (one i e is) (other i x.element x.is)))
+      x.is ∙ ap {B = Option Entry} (λ y. Some y) (sym (holds_agree law new i e x.element legal (one i e is) (other i x.element x.is)))
 
   pub clean_on : (n : ℕ) → IsCleanPoint old n → IsCleanPoint new n
   clean_on n h = record { log = h.log; front = front_on h.log h.front; within = h.within; clean = h.clean }
@@ -61,16 +62,16 @@ module _ (may : ℕ → Entry → Type 0) (floor : List Entry → ℕ → Type 0
   }
 
   pub trim_rises : trim_of (state_of old) ≤ trim_of (state_of new)
-  trim_rises = subst (λ l. trim_of (state_of old) ≤ trim_of (state_of l)) (sym seen) (goes_on may floor shelf old more whole).trim
+  trim_rises = subst (λ l. trim_of (state_of old) ≤ trim_of (state_of l)) (sym seen) (goes_on law old more whole).trim
 
   -- what stood in the log then is said in each front of it that reaches the tail of then
-  pub said_in : ((log : List Entry) (n : ℕ) → floor log n → n ≤ length log) → (log : List Entry) → IsFront Holds new log → tail_of (state_of old) ≤ length log → (c : Content) → StandsThere old c
+  pub said_in : ((log : List Entry) (n : ℕ) → law.floor log n → n ≤ length log) → (log : List Entry) → IsFront Holds new log → tail_of (state_of old) ≤ length log → (c : Content) → StandsThere old c
       → (p : Placed) × Contains (unpack_all 0 log) p × (p.content ≡ c)
   said_in low log front reach c h =
-      let early = legal_front may floor shelf old more whole in
-      let below = stands_below may floor shelf low old h.at h.entry early (holds_stands may floor shelf old h.at h.entry early h.held) in
+      let early = legal_front law old more whole in
+      let below = stands_below law low old h.at h.entry early (holds_stands law old h.at h.entry early h.held) in
       let x = at log h.at (omega (arith, below, reach)) in
-      let same : x.element ≡ h.entry = sym (holds_agree may floor shelf new h.at h.entry x.element legal (held_on h.at h.entry h.held) (front h.at x.element x.is)) in
+      let same : x.element ≡ h.entry = sym (holds_agree law new h.at h.entry x.element legal (held_on h.at h.entry h.held) (front h.at x.element x.is)) in
       let q = says_one (unpack 0 h.entry) c h.says in
       let among : Contains log h.entry = contains-among log h.entry (among-get log h.at h.entry (x.is ∙ ap {B = Option Entry} (λ e. Some e) same)) in
       let p = says_unpack log h.entry q.0 among q.1 in

@@ -4,6 +4,7 @@ use Rattle.std.proofs.lemmas.List.Elements.{Contains-push}
 use Rattle.delos_types.specs.Spaces.{SpaceMap}
 use Rattle.delos_types.specs.declared.cause.Cause.{Cause}
 use Rattle.delos_types.specs.declared.entry.Entry.{Entry}
+use Rattle.legal_journal.specs.Law.{Law}
 use Rattle.legal_journal.specs.declared.events.Event.{Event}
 use Rattle.legal_journal.specs.Journal.{IsLegal, state_of}
 use Rattle.legal_journal.specs.Sealing.{Unsealed}
@@ -51,9 +52,9 @@ use Rattle.run_course.proofs.Playing.{line_went}
 
 -- The entry
 
-module _ (may : ℕ → Entry → Type 0) (floor : List Entry → ℕ → Type 0) (shelf : List ℕ) (who : ℕ) (early seen : List Event) (e : Entry) (legal : IsLegal may floor shelf seen) (landed : IsAppended Holds who early e seen) where
+module _ (law : Law) (who : ℕ) (early seen : List Event) (e : Entry) (legal : IsLegal law seen) (landed : IsAppended Holds who early e seen) where
   pub held_now : (front : List Event) → On front seen → (pos : ℕ) (x : Entry) → Holds front pos x → Holds seen pos x
-  held_now front on pos x h = subst (λ l. Holds l pos x) (sym on.1) (held_stays may floor shelf front on.0 pos x (subst (IsLegal may floor shelf) on.1 legal) h)
+  held_now front on pos x h = subst (λ l. Holds l pos x) (sym on.1) (held_stays law front on.0 pos x (subst (IsLegal law) on.1 legal) h)
 
   landed_on : On landed.before landed.after
   landed_on =
@@ -94,7 +95,7 @@ not_found Alive after found h = h
 not_found Trim after found h = h
 not_found Retire after found h = h
 
-module _ (may : ℕ → Entry → Type 0) (floor : List Entry → ℕ → Type 0) (shelf : List ℕ) (state : List Entry → SpaceMap → Type 0) (spells : List ℕ → Saved → Type 0) (lines : List NamedLine) (home : ℕ → ℕ) (nodes : ℕ) (c : Course) (counts : List ℕ) (looks : List (Option Looked)) (n from i : ℕ) (line : NamedLine) (admin : Admin) (look : Looked) (seat seat' : SeatView) (desks desks' : List Desk) (taken : IsAnswered desks desks') (journal : List Event) (are : AreLines lines home nodes) (least : 1 ≤ n) (most : n ≤ nodes) (at : slice_get lines i ≡ Some line) (node : line.node ≡ n) (phase : line.phase ≡ c.phase) (asks_is : line.asks ≡ asks.Admin admin) (ok : CourseOk may floor shelf lines nodes c counts looks) (worker : WorkerAt may floor shelf state spells lines home nodes c counts looks n from i c.phase seat desks) (since : OwnSince n c.journal journal) (still : Unsealed c.journal journal) (others : List Cause) (moves : Moves (OwnWithin n may (sent_by desks)) floor shelf (node_of seat c.journal) (node_of seat' journal) others) (now : WorkerOk may floor shelf state spells n journal seat' desks') where
+module _ (law : Law) (state : List Entry → SpaceMap → Type 0) (spells : List ℕ → Saved → Type 0) (lines : List NamedLine) (home : ℕ → ℕ) (nodes : ℕ) (c : Course) (counts : List ℕ) (looks : List (Option Looked)) (n from i : ℕ) (line : NamedLine) (admin : Admin) (look : Looked) (seat seat' : SeatView) (desks desks' : List Desk) (taken : IsAnswered desks desks') (journal : List Event) (are : AreLines lines home nodes) (least : 1 ≤ n) (most : n ≤ nodes) (at : slice_get lines i ≡ Some line) (node : line.node ≡ n) (phase : line.phase ≡ c.phase) (asks_is : line.asks ≡ asks.Admin admin) (ok : CourseOk law lines nodes c counts looks) (worker : WorkerAt law state spells lines home nodes c counts looks n from i c.phase seat desks) (since : OwnSince n c.journal journal) (still : Unsealed c.journal journal) (others : List Cause) (moves : Moves (record law { may = OwnWithin n law.may (sent_by desks) }) (node_of seat c.journal) (node_of seat' journal) others) (now : WorkerOk law state spells n journal seat' desks') where
   abbrev then' : Course
   then' = advanced c n (map (λ g. g.cause) moves.goes.given) journal c.when
 
@@ -106,7 +107,7 @@ module _ (may : ℕ → Entry → Type 0) (floor : List Entry → ℕ → Type 0
 
   -- what it came to is known, and it replaced nothing
   module _ (none : (x : Extension) → look ≡ looked.Extended x → ⊥) (paid_is : others ≡ failed_of look) (of_node : IsOfNode admin look) (reported : ReportedSo journal (then'.tails line.phase) seat'.node.replica.cursor n look) (left : LeftSo journal seat'.node.replica.cursor n look) (tells : TellsOn lines (slice_set looks i (Some look)) n seat.node.replica.cursor seat'.node.replica.cursor c.journal journal) (stood : HasToldSo journal n look) (trimmed : (trim : ℕ) → look ≡ looked.Trimmed trim → IsTrim lines (slice_set looks i (Some look)) nodes journal i line trim) (high : TrimsUpTo seat'.node.replica.cursor journal) where
-    on : LooksOn (length shelf) (state_of c.journal).register (state_of journal).register look
+    on : LooksOn (length law.shelf) (state_of c.journal).register (state_of journal).register look
     on x is = absurd (none x is)
 
     own : (x : Extension) → look ≡ looked.Extended x → AsksNode line.asks
@@ -115,13 +116,13 @@ module _ (may : ℕ → Entry → Type 0) (floor : List Entry → ℕ → Type 0
     unsealed : faults_in journal ≡ [] → IsUnsealed (state_of journal) (count_by has_replaced (slice_set looks i (Some look)))
     unsealed calm =
         subst (IsUnsealed (state_of journal)) (sym (count_same looks i look not_yet (none_replaced look none)))
-        (still_unsealed may floor shelf counts c.journal journal (count_by has_replaced looks) (worker_legal may floor shelf state spells n counts counts c.journal journal seat' desks' ok.legal since (λ s. omega arith) (taken_here may floor shelf state spells lines home nodes c counts looks n from i c.phase seat desks desks' are worker taken) now) still ok.unsealed calm)
+        (still_unsealed law counts c.journal journal (count_by has_replaced looks) (worker_legal law state spells n counts counts c.journal journal seat' desks' ok.legal since (λ s. omega arith) (taken_here law state spells lines home nodes c counts looks n from i c.phase seat desks desks' are worker taken) now) still ok.unsealed calm)
 
     line_played : PlayedSo lines then' c.phase seat'.node.replica.cursor n desks' (slice_set looks i (Some look)) i line.phase line.asks
     line_played = subst (PlayedSo lines then' c.phase seat'.node.replica.cursor n desks' (slice_set looks i (Some look)) i line.phase) (sym asks_is)
         (look, set_same looks i (Some look) None not_yet, of_node, reported, left)
 
-    pub line_told : LineWent may floor shelf state spells lines home nodes c counts looks (slice_set looks i (Some look)) n from (i + 1) journal seat' desks'
+    pub line_told : LineWent law state spells lines home nodes c counts looks (slice_set looks i (Some look)) n from (i + 1) journal seat' desks'
     line_told =
-        line_went may floor shelf state spells lines home nodes c counts looks n from i line look seat seat' desks desks' taken journal are least most at node phase unlogged ok worker since others moves paid_is on own unsealed now
+        line_went law state spells lines home nodes c counts looks n from i line look seat seat' desks desks' taken journal are least most at node phase unlogged ok worker since others moves paid_is on own unsealed now
         tells stood trimmed (λ after found is. absurd (not_found admin after found (subst (IsOfNode admin) is of_node))) high line_played

@@ -4,6 +4,7 @@ use Rattle.std.specs.Prelude.{◌≢◌}
 use Rattle.std.proofs.lemmas.Bool.{cases_lt}
 use Rattle.std.proofs.lemmas.Bool.Decides.{nat_tests}
 use Rattle.delos_types.specs.declared.entry.Entry.{Entry}
+use Rattle.legal_journal.specs.Law.{Law}
 use Rattle.legal_journal.specs.declared.events.Event.{Event}
 use Rattle.legal_journal.specs.Journal.{IsLegal, state_of, trim_of}
 use Rattle.journal_laws.specs.Changes.{Adds, appended}
@@ -108,10 +109,10 @@ pub record TellsOn (lines : List NamedLine) (looks' : List (Option Looked)) (n c
   pub own : ReportsUpTo n cursor old → ReportsUpTo n cursor' new
   pub others : (m limit : ℕ) → (m == n) ≡ false → ReportsUpTo m limit old → ReportsUpTo m limit new
 
-module _ (may : ℕ → Entry → Type 0) (floor : List Entry → ℕ → Type 0) (shelf : List ℕ) (old new more : List Event) (seen : new ≡ old ++ more) (legal : IsLegal may floor shelf new) (lines : List NamedLine) (looks looks' : List (Option Looked)) (n cursor cursor' : ℕ) (stay : LooksStay looks looks') (up : cursor ≤ cursor') (told : AreTold lines looks old) where
+module _ (law : Law) (old new more : List Event) (seen : new ≡ old ++ more) (legal : IsLegal law new) (lines : List NamedLine) (looks looks' : List (Option Looked)) (n cursor cursor' : ℕ) (stay : LooksStay looks looks') (up : cursor ≤ cursor') (told : AreTold lines looks old) where
   tells_by : (P : Entry → Type 0) → ((e : Entry) (p : Placed) → P e → Contains (unpack 0 e) p → ToldSo lines looks' new p.content × SaysOf n cursor' p.content) → Adds P old new → TellsOn lines looks' n cursor cursor' old new
   tells_by P each adds = record {
-    told = λ e p at among. ⊎_elim (λ (was : Contains (appended old) e). told_on lines looks looks' old new stay (behind_on may floor shelf old new more seen legal) p.content (told e p was among)) (λ (now : P e). (each e p now among).0) (adds e at);
+    told = λ e p at among. ⊎_elim (λ (was : Contains (appended old) e). told_on lines looks looks' old new stay (behind_on law old new more seen legal) p.content (told e p was among)) (λ (now : P e). (each e p now among).0) (adds e at);
     own = λ was e p at among position is. ⊎_elim (λ (before : Contains (appended old) e). let low = was e p before among position is in omega (arith, low, up))
         (λ (now : P e). let so = subst (SaysOf n cursor') is (each e p now among).1 in so.1) (adds e at);
     others = λ m limit other was e p at among position is. ⊎_elim (λ (before : Contains (appended old) e). was e p before among position is)

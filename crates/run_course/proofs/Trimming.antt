@@ -2,6 +2,7 @@
 use Rattle.std.proofs.Common.{◌≡◌, sym, ◌∙◌, subst, ◌⊎◌, inl, inr, ⊎_elim, Contains, ℕ, ◌+◌, ◌<◌, ◌≤◌, List, [], ◌∷◌, Option, Some, None, map, slice_get, slice_set, append-nil, arith, refl}
 use Rattle.delos_types.specs.Spaces.{SpaceMap}
 use Rattle.delos_types.specs.declared.entry.Entry.{Entry}
+use Rattle.legal_journal.specs.Law.{Law}
 use Rattle.legal_journal.specs.declared.events.Event.{Event}
 use Rattle.legal_journal.specs.Journal.{IsLegal}
 use Rattle.legal_journal.specs.Sealing.{Unsealed}
@@ -43,15 +44,15 @@ use Rattle.run_course.proofs.Turning.{not_left}
 use Rattle.run_course.proofs.Advance.{advanced, failed_of}
 use Rattle.run_course.proofs.Telling.{line_told, stands_now}
 
-module _ (may : ℕ → Entry → Type 0) (floor : List Entry → ℕ → Type 0) (shelf : List ℕ) (state : List Entry → SpaceMap → Type 0) (spells : List ℕ → Saved → Type 0) (run : MayRun may floor shelf) (lines : List NamedLine) (home : ℕ → ℕ) (nodes : ℕ) (c : Course) (counts : List ℕ) (looks : List (Option Looked)) (n from i : ℕ) (line : NamedLine) (look : Looked) (seat seat' : SeatView) (desks : List Desk) (journal : List Event) (are : AreLines lines home nodes) (least : 1 ≤ n) (most : n ≤ nodes) (at : slice_get lines i ≡ Some line) (node : line.node ≡ n) (phase : line.phase ≡ c.phase) (asks_is : line.asks ≡ asks.Admin Trim) (ok : CourseOk may floor shelf lines nodes c counts looks) (worker : WorkerAt may floor shelf state spells lines home nodes c counts looks n from i c.phase seat desks) (since : OwnSince n c.journal journal) (still : Unsealed c.journal journal) (adds : TrimAdds n c.journal journal) (high : TrimsUpTo seat'.node.replica.cursor journal) (does : TrimsLog (OwnWithin n may (sent_by desks)) floor shelf (node_of seat c.journal) (node_of seat' journal) look) (now : WorkerOk may floor shelf state spells n journal seat' desks) where
+module _ (law : Law) (state : List Entry → SpaceMap → Type 0) (spells : List ℕ → Saved → Type 0) (run : MayRun law) (lines : List NamedLine) (home : ℕ → ℕ) (nodes : ℕ) (c : Course) (counts : List ℕ) (looks : List (Option Looked)) (n from i : ℕ) (line : NamedLine) (look : Looked) (seat seat' : SeatView) (desks : List Desk) (journal : List Event) (are : AreLines lines home nodes) (least : 1 ≤ n) (most : n ≤ nodes) (at : slice_get lines i ≡ Some line) (node : line.node ≡ n) (phase : line.phase ≡ c.phase) (asks_is : line.asks ≡ asks.Admin Trim) (ok : CourseOk law lines nodes c counts looks) (worker : WorkerAt law state spells lines home nodes c counts looks n from i c.phase seat desks) (since : OwnSince n c.journal journal) (still : Unsealed c.journal journal) (adds : TrimAdds n c.journal journal) (high : TrimsUpTo seat'.node.replica.cursor journal) (does : TrimsLog (record law { may = OwnWithin n law.may (sent_by desks) }) (node_of seat c.journal) (node_of seat' journal) look) (now : WorkerOk law state spells n journal seat' desks) where
   abbrev then' : Course
   then' = advanced c n (map (λ g. g.cause) does.moves.goes.given) journal c.when
 
   abbrev So : Looked → Type 0
   So = TrimsSo (node_of seat c.journal) (node_of seat' journal) does.others
 
-  legal : IsLegal (Within may counts) floor shelf journal
-  legal = worker_legal may floor shelf state spells n counts counts c.journal journal seat' desks ok.legal since (λ s. omega arith) (sent_here may floor shelf state spells lines home nodes c counts looks n from i c.phase seat desks are worker) now
+  legal : IsLegal (record law { may = Within law.may counts }) journal
+  legal = worker_legal law state spells n counts counts c.journal journal seat' desks ok.legal since (λ s. omega arith) (sent_here law state spells lines home nodes c counts looks n from i c.phase seat desks are worker) now
 
   not_yet : slice_get looks i ≡ Some None
   not_yet = worker.waiting i line (omega arith) at node
@@ -137,18 +138,18 @@ module _ (may : ℕ → Entry → Type 0) (floor : List Entry → ℕ → Type 0
   -- No entry below the position says so: those that did before stand behind it, and what it asks for now wasn't there yet.
   none_below : (e : Entry) (p : Placed) (k : ℕ) → k < adds.position → slice_get clean.log k ≡ Some e → Contains (unpack 0 e) p → p.content ≡ content.Trim adds.position → ⊥
   none_below e p k early stands there is =
-      let was = held_appended (Within may counts) floor shelf c.journal k e ok.legal (clean.front k e stands) in
+      let was = held_appended (record law { may = Within law.may counts }) c.journal k e ok.legal (clean.front k e stands) in
       let b = subst (ToldSo lines looks c.journal) is (ok.told e p was there) in
-      b.behind k e p early (in_other (Within may counts) floor shelf c.journal c.journal [] (sym (append-nil c.journal)) ok.legal clean.log b.clean.log clean.front b.clean.front k e stands (omega (arith, early, b.clean.within))) there is
+      b.behind k e p early (in_other (record law { may = Within law.may counts }) c.journal c.journal [] (sym (append-nil c.journal)) ok.legal clean.log b.clean.log clean.front b.clean.front k e stands (omega (arith, early, b.clean.within))) there is
 
   behind : IsAskedBehind journal adds.position
   behind =
-      behind_on (Within may counts) floor shelf c.journal journal does.moves.goes.spends.more does.moves.goes.spends.seen legal adds.position (content.Trim adds.position)
+      behind_on (record law { may = Within law.may counts }) c.journal journal does.moves.goes.spends.more does.moves.goes.spends.seen legal adds.position (content.Trim adds.position)
       (record { clean = clean; behind = λ k e p early stands there is. none_below e p k early stands there is })
 
   tells : TellsOn lines looks' n seat.node.replica.cursor seat'.node.replica.cursor c.journal journal
   tells =
-      tells_one (Within may counts) floor shelf c.journal journal does.moves.goes.spends.more does.moves.goes.spends.seen legal lines looks looks' n seat.node.replica.cursor seat'.node.replica.cursor
+      tells_one (record law { may = Within law.may counts }) c.journal journal does.moves.goes.spends.more does.moves.goes.spends.seen legal lines looks looks' n seat.node.replica.cursor seat'.node.replica.cursor
       (looks_stay looks i look not_yet) does.moves.goes.keeps.forward ok.told (content.Trim adds.position) behind tt added
 
   -- the node hadn't left, and didn't
@@ -167,7 +168,7 @@ module _ (may : ℕ → Entry → Type 0) (floor : List Entry → ℕ → Type 0
   -- it trimmed the log no lower than some node needs
   lowest : (trim : ℕ) → HasTrimmed (node_of seat c.journal) (node_of seat' journal) trim → IsLowest lines looks' nodes i line trim
   lowest trim h =
-      lowest_is (Within may counts) floor shelf run.low c.journal journal does.moves.goes.spends.more does.moves.goes.spends.seen legal h.log h.front h.from lines looks looks' nodes n i line trim least most stays
+      lowest_is (record law { may = Within law.may counts }) run.low c.journal journal does.moves.goes.spends.more does.moves.goes.spends.seen legal h.log h.front h.from lines looks looks' nodes n i line trim least most stays
       (subst (λ k. least_position k (unpack_all 0 h.log) ≤ trim) worker.nodes_is h.reached) ok.stand (earlier_were looks i look not_yet lines line at)
 
   trimmed : (trim : ℕ) → look ≡ looked.Trimmed trim → IsTrim lines looks' nodes journal i line trim
@@ -177,11 +178,11 @@ module _ (may : ℕ → Entry → Type 0) (floor : List Entry → ℕ → Type 0
         lowest = lowest trim h.1;
         upto = h.1.upto;
         position = h.1.position;
-        stands = stands_now (Within may counts) floor shelf seat.who h.1.synced journal (packed seat.node.replica.origin (trim_item h.1.position ∷ [])) legal h.1.landed (content.Trim h.1.position) h.1.says;
+        stands = stands_now (record law { may = Within law.may counts }) seat.who h.1.synced journal (packed seat.node.replica.origin (trim_item h.1.position ∷ [])) legal h.1.landed (content.Trim h.1.position) h.1.says;
       }
 
-  pub line_trimmed : LineWent may floor shelf state spells lines home nodes c counts looks (slice_set looks i (Some look)) n from (i + 1) journal seat' desks
+  pub line_trimmed : LineWent law state spells lines home nodes c counts looks (slice_set looks i (Some look)) n from (i + 1) journal seat' desks
   line_trimmed =
-      line_told may floor shelf state spells lines home nodes c counts looks n from i line Trim look seat seat' desks desks (λ s d there. (d, there, refl, omega arith)) journal are least most at node phase asks_is ok worker since still does.others does.moves now none
+      line_told law state spells lines home nodes c counts looks n from i line Trim look seat seat' desks desks (λ s d there. (d, there, refl, omega arith)) journal are least most at node phase asks_is ok worker since still does.others does.moves now none
       (paid_is look does.trims) (of_node look does.trims) (none_reported look does.trims) (none_left look does.trims)
       tells (stood look does.trims) trimmed high

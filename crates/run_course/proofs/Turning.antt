@@ -4,6 +4,7 @@ use Rattle.std.specs.List.{list_all}
 use Rattle.std.proofs.lemmas.Bool.{and_parts, cases_lt}
 use Rattle.delos_types.specs.Spaces.{SpaceMap}
 use Rattle.delos_types.specs.declared.entry.Entry.{Entry}
+use Rattle.legal_journal.specs.Law.{Law}
 use Rattle.legal_journal.specs.declared.events.Event.{Event}
 use Rattle.legal_journal.specs.Journal.{state_of, trim_of}
 use Rattle.journal_laws.specs.Changes.{Frees, TrimsUpTo, raised}
@@ -74,10 +75,10 @@ module _ (lines : List NamedLine) (home : ℕ → ℕ) (nodes : ℕ) (are : AreL
   pub not_left : HasNotLeft n journal
   not_left = λ e p sent among is. not_asked (subst (ToldSo lines looks journal) is (told e p sent among))
 
-module _ (may : ℕ → Entry → Type 0) (floor : List Entry → ℕ → Type 0) (shelf : List ℕ) (lines : List NamedLine) (nodes : ℕ) (c : Course) (counts : List ℕ) (looks : List (Option Looked)) where
+module _ (law : Law) (lines : List NamedLine) (nodes : ℕ) (c : Course) (counts : List ℕ) (looks : List (Option Looked)) where
   -- what was trimmed, each member had reported
-  module _ (is : FloorIs floor nodes) (ok : CourseOk may floor shelf lines nodes c counts looks) (k : ℕ) (least : 1 ≤ k) (most : k ≤ nodes) where
-    member_above : (trim : ℕ) (f : Frees floor c.journal trim) → has_left (unpack_all 0 f.log) k ≡ false → trim ≤ position_of (unpack_all 0 f.log) k
+  module _ (is : FloorIs law.floor nodes) (ok : CourseOk law lines nodes c counts looks) (k : ℕ) (least : 1 ≤ k) (most : k ≤ nodes) where
+    member_above : (trim : ℕ) (f : Frees law.floor c.journal trim) → has_left (unpack_all 0 f.log) k ≡ false → trim ≤ position_of (unpack_all 0 f.log) k
     member_above trim f stays =
         let free = (is.only f.log trim f.free).least in
         let low = least_upto nodes k (unpack_all 0 f.log) least most stays in
@@ -86,11 +87,11 @@ module _ (may : ℕ → Entry → Type 0) (floor : List Entry → ℕ → Type 0
     -- nothing is trimmed above what one that hasn't left has reported
     pub trims_low : (cursor : ℕ) → HasNotLeft k c.journal → ReportsUpTo k cursor c.journal → TrimsUpTo cursor c.journal
     trims_low cursor stays upto = λ trim h. ⊎_elim (λ (none : trim ≡ 0). omega (arith, none))
-        (λ (f : Frees floor c.journal trim).
+        (λ (f : Frees law.floor c.journal trim).
         let above = member_above trim f (is_member c.journal f.log f.each k stays) in
         let low = position_low c.journal f.log f.each k cursor upto in
         omega (arith, above, low))
-        (raised_free (Within may counts) floor shelf c.journal trim ok.legal h)
+        (raised_free (record law { may = Within law.may counts }) c.journal trim ok.legal h)
 
     abbrev Told : ℕ → Type 0
     Told trim = (trim ≡ 0) ⊎ (AskedFor lines looks k Retire (λ look. Unit {0}) ⊎ AskedFor lines looks k Alive (TellsAtLeast trim))
@@ -118,7 +119,7 @@ module _ (may : ℕ → Entry → Type 0) (floor : List Entry → ℕ → Type 0
           so = less trim position h.1.look low h.1.so;
         }
 
-    freed : (trim : ℕ) → Frees floor c.journal trim → Told trim
+    freed : (trim : ℕ) → Frees law.floor c.journal trim → Told trim
     freed trim f = by (has_left (unpack_all 0 f.log) k) refl
       where
         by : (b : Bool) → has_left (unpack_all 0 f.log) k ≡ b → Told trim
@@ -131,16 +132,16 @@ module _ (may : ℕ → Entry → Type 0) (floor : List Entry → ℕ → Type 0
 
     pub each_told : Told (trim_of (state_of c.journal))
     each_told = ⊎_elim (λ (none : trim_of (state_of c.journal) ≡ 0). inl none)
-        (λ (h : Contains (raised c.journal) (trim_of (state_of c.journal))). ⊎_elim (λ (none : trim_of (state_of c.journal) ≡ 0). inl none) (λ (f : Frees floor c.journal (trim_of (state_of c.journal))). freed (trim_of (state_of c.journal)) f)
-        (raised_free (Within may counts) floor shelf c.journal (trim_of (state_of c.journal)) ok.legal h))
-        (trim_raised (Within may counts) floor shelf c.journal ok.legal)
+        (λ (h : Contains (raised c.journal) (trim_of (state_of c.journal))). ⊎_elim (λ (none : trim_of (state_of c.journal) ≡ 0). inl none) (λ (f : Frees law.floor c.journal (trim_of (state_of c.journal))). freed (trim_of (state_of c.journal)) f)
+        (raised_free (record law { may = Within law.may counts }) c.journal (trim_of (state_of c.journal)) ok.legal h))
+        (trim_raised (record law { may = Within law.may counts }) c.journal ok.legal)
 
   -- some node has applied as much as is trimmed
-  module _ (is : FloorIs floor nodes) (ok : CourseOk may floor shelf lines nodes c counts looks) (cursors : ℕ → ℕ) (upto : (k : ℕ) → 1 ≤ k → k ≤ nodes → ReportsUpTo k (cursors k) c.journal) where
+  module _ (is : FloorIs law.floor nodes) (ok : CourseOk law lines nodes c counts looks) (cursors : ℕ → ℕ) (upto : (k : ℕ) → 1 ≤ k → k ≤ nodes → ReportsUpTo k (cursors k) c.journal) where
     abbrev Within' : ℕ → Type 0
     Within' trim = (trim ≡ 0) ⊎ ((k : ℕ) × (1 ≤ k) × (k ≤ nodes) × (trim ≤ cursors k))
 
-    some_has : (trim : ℕ) → Frees floor c.journal trim → Within' trim
+    some_has : (trim : ℕ) → Frees law.floor c.journal trim → Within' trim
     some_has trim f = ⊎_elim
         (λ (some : 0 < least_position nodes (unpack_all 0 f.log)).
         let first = least_some nodes (unpack_all 0 f.log) some in
@@ -152,19 +153,19 @@ module _ (may : ℕ → Entry → Type 0) (floor : List Entry → ℕ → Type 0
 
     pub some_told : Within' (trim_of (state_of c.journal))
     some_told = ⊎_elim (λ (none : trim_of (state_of c.journal) ≡ 0). inl none)
-        (λ (h : Contains (raised c.journal) (trim_of (state_of c.journal))). ⊎_elim (λ (none : trim_of (state_of c.journal) ≡ 0). inl none) (λ (f : Frees floor c.journal (trim_of (state_of c.journal))). some_has (trim_of (state_of c.journal)) f)
-        (raised_free (Within may counts) floor shelf c.journal (trim_of (state_of c.journal)) ok.legal h))
-        (trim_raised (Within may counts) floor shelf c.journal ok.legal)
+        (λ (h : Contains (raised c.journal) (trim_of (state_of c.journal))). ⊎_elim (λ (none : trim_of (state_of c.journal) ≡ 0). inl none) (λ (f : Frees law.floor c.journal (trim_of (state_of c.journal))). some_has (trim_of (state_of c.journal)) f)
+        (raised_free (record law { may = Within law.may counts }) c.journal (trim_of (state_of c.journal)) ok.legal h))
+        (trim_raised (record law { may = Within law.may counts }) c.journal ok.legal)
 
-module _ (may : ℕ → Entry → Type 0) (floor : List Entry → ℕ → Type 0) (shelf : List ℕ) (state : List Entry → SpaceMap → Type 0) (spells : List ℕ → Saved → Type 0) (lines : List NamedLine) (home : ℕ → ℕ) (nodes : ℕ) (c : Course) (counts : List ℕ) (looks : List (Option Looked)) where
-  pub turn_begins : (n from i done : ℕ) (line : NamedLine) (seat : SeatView) (desks : List Desk) → FloorIs floor nodes → AreLines lines home nodes → CourseOk may floor shelf lines nodes c counts looks → slice_get lines i ≡ Some line → line.node ≡ n → from ≤ i
-      → Rests may floor shelf state spells lines home nodes c counts looks n from done seat desks → TrimsUpTo seat.node.replica.cursor c.journal
+module _ (law : Law) (state : List Entry → SpaceMap → Type 0) (spells : List ℕ → Saved → Type 0) (lines : List NamedLine) (home : ℕ → ℕ) (nodes : ℕ) (c : Course) (counts : List ℕ) (looks : List (Option Looked)) where
+  pub turn_begins : (n from i done : ℕ) (line : NamedLine) (seat : SeatView) (desks : List Desk) → FloorIs law.floor nodes → AreLines lines home nodes → CourseOk law lines nodes c counts looks → slice_get lines i ≡ Some line → line.node ≡ n → from ≤ i
+      → Rests law state spells lines home nodes c counts looks n from done seat desks → TrimsUpTo seat.node.replica.cursor c.journal
   turn_begins n from i done line seat desks is are ok at own behind r =
       let there = at_get (λ (l : NamedLine). (1 ≤ l.node) × (l.node ≤ nodes)) lines i line are.nodes_are at in
-      trims_low may floor shelf lines nodes c counts looks is ok n (omega (arith, there.0, own)) (omega (arith, there.1, own)) seat.node.replica.cursor
+      trims_low law lines nodes c counts looks is ok n (omega (arith, there.0, own)) (omega (arith, there.1, own)) seat.node.replica.cursor
       (not_left lines home nodes are looks c.journal ok.told n from i line at own behind r.worker.waiting) r.worker.reports
 
-  pub can_play : (n from i : ℕ) (line : NamedLine) (journal : List Event) (seat : SeatView) (desks : List Desk) → slice_get lines i ≡ Some line → line.node ≡ n → IsUnderWay may floor shelf state spells lines home nodes c counts looks n from i journal seat desks → CanPlay n journal seat
+  pub can_play : (n from i : ℕ) (line : NamedLine) (journal : List Event) (seat : SeatView) (desks : List Desk) → slice_get lines i ≡ Some line → line.node ≡ n → IsUnderWay law state spells lines home nodes c counts looks n from i journal seat desks → CanPlay n journal seat
   can_play n from i line journal seat desks at own w = record {
     high = w.high;
     reports = subst (ReportsUpTo n seat.node.replica.cursor) w.journal_is w.worker.reports;

@@ -7,6 +7,7 @@ use Rattle.delos_types.specs.Spaces.{SpaceMap}
 use Rattle.delos_types.specs.declared.entry.Entry.{Entry}
 use Rattle.delos_types.specs.declared.cause.Cause.{Cause}
 use Rattle.delos_types.specs.declared.cause.Cause.TheVariants as cause
+use Rattle.legal_journal.specs.Law.{Law}
 use Rattle.legal_journal.specs.Journal.{IsLegal}
 use Rattle.replica_api.specs.Replica.{Saved}
 use Rattle.base_engine.specs.declared.outbox.Given.{Given}
@@ -41,12 +42,12 @@ none_of_other n m (f ∷ fs) e here =
     let rest = none_of_other n m fs e here.1 in
     omega (arith, a, b, rest)
 
-module _ (may : ℕ → Entry → Type 0) (floor : List Entry → ℕ → Type 0) (shelf : List ℕ) (state : List Entry → SpaceMap → Type 0) (spells : List ℕ → Saved → Type 0) (lines : List NamedLine) (home : ℕ → ℕ) (nodes : ℕ) (c c' : Course) (counts counts' : List ℕ) (looks looks' : List (Option Looked)) (n m from done : ℕ) (seat : SeatView) (desks : List Desk) (are : AreLines lines home nodes) (apart : (n == m) ≡ false) (begins : BeginsAt lines from done) (low : done ≤ c.phase + 1) (ok : CourseOk may floor shelf lines nodes c counts looks) (turn : TurnOf lines home n c c' counts counts' looks looks') (ok' : CourseOk may floor shelf lines nodes c' counts' looks') (r : Rests may floor shelf state spells lines home nodes c counts looks m from done seat desks) where
+module _ (law : Law) (state : List Entry → SpaceMap → Type 0) (spells : List ℕ → Saved → Type 0) (lines : List NamedLine) (home : ℕ → ℕ) (nodes : ℕ) (c c' : Course) (counts counts' : List ℕ) (looks looks' : List (Option Looked)) (n m from done : ℕ) (seat : SeatView) (desks : List Desk) (are : AreLines lines home nodes) (apart : (n == m) ≡ false) (begins : BeginsAt lines from done) (low : done ≤ c.phase + 1) (ok : CourseOk law lines nodes c counts looks) (turn : TurnOf lines home n c c' counts counts' looks looks') (ok' : CourseOk law lines nodes c' counts' looks') (r : Rests law state spells lines home nodes c counts looks m from done seat desks) where
   other : (k : ℕ) → k ≡ m → (k == n) ≡ false
   other k e = grind (arith, nat_tests, e, apart)
 
-  grown : Grown may floor shelf c c'
-  grown = grown_of may floor shelf lines home nodes n c c' counts counts' looks looks' turn ok ok'
+  grown : Grown law c c'
+  grown = grown_of law lines home nodes n c c' counts counts' looks looks' turn ok ok'
 
   -- a session that was stopped here wasn't stopped by the other
   grew : (s : ℕ) (d : Desk) → slice_get desks s ≡ Some d → DeskGrew c c' seat.node.replica.cursor s d d
@@ -64,7 +65,7 @@ module _ (may : ℕ → Entry → Type 0) (floor : List Entry → ℕ → Type 0
       record {
         asked = x.asked;
         sent = λ own. x.sent own ∙ sym (turn.others s (other (home s) own));
-        ended = λ a e. ended_grows may floor shelf c c' grown lines m done done s seat.node.replica.cursor d d a (omega arith) e (grew s d at) (x.ended a e);
+        ended = λ a e. ended_grows law c c' grown lines m done done s seat.node.replica.cursor d d a (omega arith) e (grew s d at) (x.ended a e);
         here = x.here;
         halted = λ k none stop. absurd (let h = (x.halted k none stop).asked in omega (arith, h));
         held = x.held;
@@ -73,17 +74,17 @@ module _ (may : ℕ → Entry → Type 0) (floor : List Entry → ℕ → Type 0
   not_it : n ≡ m → ⊥
   not_it e = grind (arith, nat_tests, e, apart)
 
-  worker_ok : WorkerOk may floor shelf state spells m c'.journal seat desks
-  worker_ok = subst (λ l. WorkerOk may floor shelf state spells m l seat desks) (sym turn.seen)
-      (worker_stays may floor shelf state spells m c.journal turn.more seat desks r.worker.ok
-      (waits_legal may floor shelf state spells m n counts' c.journal turn.more seat desks r.worker.ok not_it turn.own (subst (IsLegal (Within may counts') floor shelf) turn.seen ok'.legal)))
+  worker_ok : WorkerOk law state spells m c'.journal seat desks
+  worker_ok = subst (λ l. WorkerOk law state spells m l seat desks) (sym turn.seen)
+      (worker_stays law state spells m c.journal turn.more seat desks r.worker.ok
+      (waits_legal law state spells m n counts' c.journal turn.more seat desks r.worker.ok not_it turn.own (subst (IsLegal (record law { may = Within law.may counts' })) turn.seen ok'.legal)))
 
   quiet : (s : ℕ) → IsQuiet (node_of seat c.journal) s → IsQuiet (node_of seat c'.journal) s
   quiet s q = record { outstanding = q.outstanding; waiting = q.waiting; free = q.free }
 
   played : (i : ℕ) (l : NamedLine) → i < from → slice_get lines i ≡ Some l → l.node ≡ m → PlayedSo lines c' done seat.node.replica.cursor m desks looks' i l.phase l.asks
   played i l before at own =
-      played_grows may floor shelf c c' grown lines done done seat.node.replica.cursor seat.node.replica.cursor m desks desks looks looks' i l.phase l.asks
+      played_grows law c c' grown lines done done seat.node.replica.cursor seat.node.replica.cursor m desks desks looks looks' i l.phase l.asks
       (let under = begins.before i l at before in omega (arith, under, low)) (λ over. over) (omega arith) (turn.looks_are i l at (other l.node own))
       (λ d get. (d, get, grew (session_in l.asks) d get)) (r.worker.played i l before at own)
 
@@ -95,7 +96,7 @@ module _ (may : ℕ → Entry → Type 0) (floor : List Entry → ℕ → Type 0
       let was = r.worker.stores in
       omega (arith, a, b, d, was)
 
-  pub rests_on : Rests may floor shelf state spells lines home nodes c' counts' looks' m from done seat desks
+  pub rests_on : Rests law state spells lines home nodes c' counts' looks' m from done seat desks
   rests_on = record {
     worker = record {
       ok = worker_ok;

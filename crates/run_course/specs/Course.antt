@@ -1,9 +1,9 @@
 -- What has happened in a run over nodes.
 use Rattle.std.specs.Prelude.{◌≡◌, ℕ, ◌+◌, ◌<◌, ◌≤◌, ◌==◌, Bool, false, List, [], ◌++◌, length, count_by, slice_get, Option, Some, None}
 use Rattle.std.specs.List.{AllByRecursion}
-use Rattle.delos_types.specs.declared.entry.Entry.{Entry}
 use Rattle.delos_types.specs.declared.cause.Cause.{Cause}
 use Rattle.delos_types.specs.declared.cause.Cause.TheVariants as cause
+use Rattle.legal_journal.specs.Law.{Law}
 use Rattle.legal_journal.specs.declared.events.Event.{Event}
 use Rattle.legal_journal.specs.Journal.{IsLegal, state_of, tail_of}
 use Rattle.journal_laws.specs.Faults.{faults_in}
@@ -29,35 +29,35 @@ pub record Course : Type 0 where
   pub when : ℕ → ℕ
 
 -- A phase began at this tail. No command was sent then that isn't of an earlier phase.
-pub record BeganAt (may : ℕ → Entry → Type 0) (floor : List Entry → ℕ → Type 0) (shelf : List ℕ) (lines : List NamedLine) (journal : List Event) (tail phase : ℕ) : Type 0 where
+pub record BeganAt (law : Law) (lines : List NamedLine) (journal : List Event) (tail phase : ℕ) : Type 0 where
   pub early : List Event
   pub more : List Event
   pub seen : journal ≡ early ++ more
   pub tail_is : tail ≡ tail_of (state_of early)
   pub counts : List ℕ
-  pub legal : IsLegal (Within may counts) floor shelf early
+  pub legal : IsLegal (record law { may = Within law.may counts }) early
   pub sent : (s : ℕ) → sent_of counts s ≤ asked_before lines s phase
 
 -- Of the whole run: how each phase began, each fault that came had an event of its own, what lines did to the chain, and what
 -- nodes told of themselves. `counts` are the commands that were sent, by sessions, of which there are 64; `looks` what each line's own look came to, if it
 -- was played.
-pub record CourseOk (may : ℕ → Entry → Type 0) (floor : List Entry → ℕ → Type 0) (shelf : List ℕ) (lines : List NamedLine) (nodes : ℕ) (c : Course) (counts : List ℕ) (looks : List (Option Looked)) : Type 0 where
-  pub legal : IsLegal (Within may counts) floor shelf c.journal
+pub record CourseOk (law : Law) (lines : List NamedLine) (nodes : ℕ) (c : Course) (counts : List ℕ) (looks : List (Option Looked)) : Type 0 where
+  pub legal : IsLegal (record law { may = Within law.may counts }) c.journal
   pub long : length counts ≡ 64
-  pub began : (p : ℕ) → p ≤ c.phase → BeganAt may floor shelf lines c.journal (c.tails p) p
+  pub began : (p : ℕ) → p ≤ c.phase → BeganAt law lines c.journal (c.tails p) p
   pub after : (p : ℕ) → c.phase < p → c.tails p ≡ tail_of (state_of c.journal)
   pub rise : (p : ℕ) → c.tails p ≤ c.tails (p + 1)
   pub size : length looks ≡ length lines
   pub events : (P : Cause → Bool) → P cause.Store ≡ false → failed_looks (λ n. P) lines looks + count_by (λ f. P f.cause) c.faults ≤ count_by P (faults_in c.journal)
   pub nodes_are : AllByRecursion (λ f. (1 ≤ f.node) × (f.node ≤ nodes)) c.faults
-  pub replaced : Replaced lines looks (state_of c.journal).register (length shelf)
+  pub replaced : Replaced lines looks (state_of c.journal).register (length law.shelf)
   -- where no fault came, the chain has one loglet more than lines replaced one, and the last isn't sealed
   pub unsealed : faults_in c.journal ≡ [] → IsUnsealed (state_of c.journal) (count_by has_replaced looks)
   -- what was told of nodes lines had them tell, and what those lines came to stands in the log
   pub told : AreTold lines looks c.journal
   pub stand : (i : ℕ) (l : NamedLine) (look : Looked) → slice_get lines i ≡ Some l → slice_get looks i ≡ Some (Some look) → HasToldSo c.journal l.node look
   -- what comes behind a report stands at it or above
-  pub reports : ReportsHold may floor shelf lines looks c.journal c.tails
+  pub reports : ReportsHold law lines looks c.journal c.tails
   pub trims : (j : ℕ) (l : NamedLine) (trim : ℕ) → slice_get lines j ≡ Some l → slice_get looks j ≡ Some (Some (looked.Trimmed trim)) → IsTrim lines looks nodes c.journal j l trim
   -- no line of a phase to come was played
   pub ahead : (i : ℕ) (l : NamedLine) → slice_get lines i ≡ Some l → c.phase < l.phase → slice_get looks i ≡ Some None

@@ -18,6 +18,7 @@ use Rattle.node_lines.specs.Moving.{IsQuiet}
 use Rattle.node_lines.specs.Workers.{HasNotLeft, IsHome, ReportsUpTo, WorkerOk}
 use Rattle.run_laws.specs.Ended.{CameTo, most_faults}
 use Rattle.run_course.specs.Script.{AreLines, BeginsAt, asked_by, failed_looks}
+use Rattle.legal_journal.specs.Law.{Law}
 use Rattle.legal_journal.specs.declared.events.Event.{Event}
 use Rattle.journal_laws.specs.Changes.{TrimsUpTo}
 use Rattle.run_course.specs.Course.{Course, CourseOk, TurnOf}
@@ -25,8 +26,8 @@ use Rattle.run_course.specs.Desks.{DeskAt, PlayedSo}
 
 -- Of node n: its lines up to `at` were played, of which those of the present phase begin at `from`. The phases below `done` have
 -- ended there.
-pub record WorkerAt (may : ℕ → Entry → Type 0) (floor : List Entry → ℕ → Type 0) (shelf : List ℕ) (state : List Entry → SpaceMap → Type 0) (spells : List ℕ → Saved → Type 0) (lines : List NamedLine) (home : ℕ → ℕ) (nodes : ℕ) (c : Course) (counts : List ℕ) (looks : List (Option Looked)) (n from at done : ℕ) (seat : SeatView) (desks : List Desk) : Type 0 where
-  pub ok : WorkerOk may floor shelf state spells n c.journal seat desks
+pub record WorkerAt (law : Law) (state : List Entry → SpaceMap → Type 0) (spells : List ℕ → Saved → Type 0) (lines : List NamedLine) (home : ℕ → ℕ) (nodes : ℕ) (c : Course) (counts : List ℕ) (looks : List (Option Looked)) (n from at done : ℕ) (seat : SeatView) (desks : List Desk) : Type 0 where
+  pub ok : WorkerOk law state spells n c.journal seat desks
   pub nodes_is : seat.node.nodes ≡ nodes
   pub order : from ≤ at
   pub each : (s : ℕ) (d : Desk) → slice_get desks s ≡ Some d → DeskAt lines home c counts n from at done s d
@@ -41,46 +42,46 @@ pub record WorkerAt (may : ℕ → Entry → Type 0) (floor : List Entry → ℕ
   pub stores : min (failed_looks (lacks_store n) lines looks + count_by (λ f. lacks_store n f.node f.cause) c.faults) most_faults ≤ min seat.node.replica.faults most_faults
 
 -- It waits between two phases, the lines of the next one beginning at `from`.
-pub record Rests (may : ℕ → Entry → Type 0) (floor : List Entry → ℕ → Type 0) (shelf : List ℕ) (state : List Entry → SpaceMap → Type 0) (spells : List ℕ → Saved → Type 0) (lines : List NamedLine) (home : ℕ → ℕ) (nodes : ℕ) (c : Course) (counts : List ℕ) (looks : List (Option Looked)) (n from done : ℕ) (seat : SeatView) (desks : List Desk) : Type 0 where
-  pub worker : WorkerAt may floor shelf state spells lines home nodes c counts looks n from from done seat desks
+pub record Rests (law : Law) (state : List Entry → SpaceMap → Type 0) (spells : List ℕ → Saved → Type 0) (lines : List NamedLine) (home : ℕ → ℕ) (nodes : ℕ) (c : Course) (counts : List ℕ) (looks : List (Option Looked)) (n from done : ℕ) (seat : SeatView) (desks : List Desk) : Type 0 where
+  pub worker : WorkerAt law state spells lines home nodes c counts looks n from from done seat desks
   pub none_given : seat.node.outbox.given ≡ []
 
 -- The run went on by a line, at a node whose turn it is; so much was sent then.
-pub record LineWent (may : ℕ → Entry → Type 0) (floor : List Entry → ℕ → Type 0) (shelf : List ℕ) (state : List Entry → SpaceMap → Type 0) (spells : List ℕ → Saved → Type 0) (lines : List NamedLine) (home : ℕ → ℕ) (nodes : ℕ) (c : Course) (counts : List ℕ) (looks looks' : List (Option Looked)) (n from at : ℕ) (journal : List Event) (seat : SeatView) (desks : List Desk) : Type 0 where
+pub record LineWent (law : Law) (state : List Entry → SpaceMap → Type 0) (spells : List ℕ → Saved → Type 0) (lines : List NamedLine) (home : ℕ → ℕ) (nodes : ℕ) (c : Course) (counts : List ℕ) (looks looks' : List (Option Looked)) (n from at : ℕ) (journal : List Event) (seat : SeatView) (desks : List Desk) : Type 0 where
   pub course : Course
   pub sent : List ℕ
   pub journal_is : course.journal ≡ journal
-  pub ok : CourseOk may floor shelf lines nodes course sent looks'
+  pub ok : CourseOk law lines nodes course sent looks'
   pub turn : TurnOf lines home n c course counts sent looks looks'
-  pub worker : WorkerAt may floor shelf state spells lines home nodes course sent looks' n from at course.phase seat desks
+  pub worker : WorkerAt law state spells lines home nodes course sent looks' n from at course.phase seat desks
   -- the log isn't trimmed above what it has applied
   pub high : TrimsUpTo seat.node.replica.cursor journal
 
 -- The run went on by the end of the phase at a node.
-pub record TurnEnded (may : ℕ → Entry → Type 0) (floor : List Entry → ℕ → Type 0) (shelf : List ℕ) (state : List Entry → SpaceMap → Type 0) (spells : List ℕ → Saved → Type 0) (lines : List NamedLine) (home : ℕ → ℕ) (nodes : ℕ) (c : Course) (counts : List ℕ) (looks : List (Option Looked)) (n to : ℕ) (journal : List Event) (seat : SeatView) (desks : List Desk) : Type 0 where
+pub record TurnEnded (law : Law) (state : List Entry → SpaceMap → Type 0) (spells : List ℕ → Saved → Type 0) (lines : List NamedLine) (home : ℕ → ℕ) (nodes : ℕ) (c : Course) (counts : List ℕ) (looks : List (Option Looked)) (n to : ℕ) (journal : List Event) (seat : SeatView) (desks : List Desk) : Type 0 where
   pub course : Course
   pub journal_is : course.journal ≡ journal
-  pub ok : CourseOk may floor shelf lines nodes course counts looks
+  pub ok : CourseOk law lines nodes course counts looks
   pub turn : TurnOf lines home n c course counts counts looks looks
-  pub rests : Rests may floor shelf state spells lines home nodes course counts looks n to (course.phase + 1) seat desks
+  pub rests : Rests law state spells lines home nodes course counts looks n to (course.phase + 1) seat desks
 
 -- The run went on by a node's last calls; it rests as before.
-pub record NodeFinished (may : ℕ → Entry → Type 0) (floor : List Entry → ℕ → Type 0) (shelf : List ℕ) (state : List Entry → SpaceMap → Type 0) (spells : List ℕ → Saved → Type 0) (lines : List NamedLine) (home : ℕ → ℕ) (nodes : ℕ) (c : Course) (counts : List ℕ) (looks : List (Option Looked)) (n from done : ℕ) (journal : List Event) (seat : SeatView) (desks : List Desk) : Type 0 where
+pub record NodeFinished (law : Law) (state : List Entry → SpaceMap → Type 0) (spells : List ℕ → Saved → Type 0) (lines : List NamedLine) (home : ℕ → ℕ) (nodes : ℕ) (c : Course) (counts : List ℕ) (looks : List (Option Looked)) (n from done : ℕ) (journal : List Event) (seat : SeatView) (desks : List Desk) : Type 0 where
   pub course : Course
   pub journal_is : course.journal ≡ journal
-  pub ok : CourseOk may floor shelf lines nodes course counts looks
+  pub ok : CourseOk law lines nodes course counts looks
   pub turn : TurnOf lines home n c course counts counts looks looks
-  pub rests : Rests may floor shelf state spells lines home nodes course counts looks n from done seat desks
+  pub rests : Rests law state spells lines home nodes course counts looks n from done seat desks
 
 -- It is the turn of node n, whose lines up to `at` were played.
-pub record IsUnderWay (may : ℕ → Entry → Type 0) (floor : List Entry → ℕ → Type 0) (shelf : List ℕ) (state : List Entry → SpaceMap → Type 0) (spells : List ℕ → Saved → Type 0) (lines : List NamedLine) (home : ℕ → ℕ) (nodes : ℕ) (c : Course) (counts : List ℕ) (looks : List (Option Looked)) (n from at : ℕ) (journal : List Event) (seat : SeatView) (desks : List Desk) : Type 0 where
+pub record IsUnderWay (law : Law) (state : List Entry → SpaceMap → Type 0) (spells : List ℕ → Saved → Type 0) (lines : List NamedLine) (home : ℕ → ℕ) (nodes : ℕ) (c : Course) (counts : List ℕ) (looks : List (Option Looked)) (n from at : ℕ) (journal : List Event) (seat : SeatView) (desks : List Desk) : Type 0 where
   pub journal_is : c.journal ≡ journal
   pub lines_are : AreLines lines home nodes
   pub least : 1 ≤ n
   pub most : n ≤ nodes
   pub begins : BeginsAt lines from c.phase
-  pub ok : CourseOk may floor shelf lines nodes c counts looks
-  pub worker : WorkerAt may floor shelf state spells lines home nodes c counts looks n from at c.phase seat desks
+  pub ok : CourseOk law lines nodes c counts looks
+  pub worker : WorkerAt law state spells lines home nodes c counts looks n from at c.phase seat desks
   -- the log isn't trimmed above what it has applied
   pub high : TrimsUpTo seat.node.replica.cursor journal
 

@@ -11,6 +11,7 @@ use Rattle.delos_types.specs.declared.cause.Cause.TheVariants as cause
 use Rattle.delos_types.specs.declared.chain.Chain.{Chain}
 use Rattle.loglet_api.specs.View.{LogletView, size_of}
 use Rattle.register_api.specs.View.{RegisterView}
+use Rattle.legal_journal.specs.Law.{Law}
 use Rattle.legal_journal.specs.declared.events.Event.{Event}
 use Rattle.legal_journal.specs.Journal.{IsLegal}
 use Rattle.fabric_core.specs.Runs.{HasRun, HasRegisterRun}
@@ -154,20 +155,20 @@ failed_none by (l ∷ lines) (look ∷ looks) h =
 
 -- What the laws of journals say of the faults that one tells
 
-pub record AreCounted (may : ℕ → Entry → Type 0) (floor : List Entry → ℕ → Type 0) (shelf : List ℕ) : Type 0 where
+pub record AreCounted (law : Law) : Type 0 where
   pub lacks : (i : ℕ) (events : List Event) (now : LogletView) → HasRun i events now → count_by (is_lack_of i) (faults_in events) ≤ now.lacks
   pub lack : (i unreached : ℕ) (events : List Event) (now : LogletView) → HasRun i events now → Contains (faults_in events) (cause.NoQuorum i unreached) → (1 ≤ unreached) × (1 ≤ now.lacks) × (1 ≤ now.faults)
   pub refusals : (i : ℕ) (events : List Event) (now : LogletView) → HasRun i events now → min (count_by (is_full_of i) (faults_in events)) (2 ^ 64 - 1) ≤ now.faults
   pub full : (i : ℕ) (events : List Event) (now : LogletView) → HasRun i events now → Contains (faults_in events) (cause.Full i) → (size_of now ≡ now.room) ⊎ (now.begun ≡ now.limit)
-  pub register : (events : List Event) (now : RegisterView) → IsLegal may floor shelf events → HasRegisterRun events now → min (count_by is_meta (faults_in events)) (2 ^ 64 - 1) ≤ now.faults
-  pub lack_there : (i unreached : ℕ) (events : List Event) → IsLegal may floor shelf events → Contains (faults_in events) (cause.NoQuorum i unreached) → i < length shelf
-  pub full_there : (i : ℕ) (events : List Event) → IsLegal may floor shelf events → Contains (faults_in events) (cause.Full i) → i < length shelf
+  pub register : (events : List Event) (now : RegisterView) → IsLegal law events → HasRegisterRun events now → min (count_by is_meta (faults_in events)) (2 ^ 64 - 1) ≤ now.faults
+  pub lack_there : (i unreached : ℕ) (events : List Event) → IsLegal law events → Contains (faults_in events) (cause.NoQuorum i unreached) → i < length law.shelf
+  pub full_there : (i : ℕ) (events : List Event) → IsLegal law events → Contains (faults_in events) (cause.Full i) → i < length law.shelf
 
 full_from : (v : LogletView) → (size_of v ≡ v.room) ⊎ (v.begun ≡ v.limit) → is_full v ≡ true
 full_from v (inl room) = or_left (size_of v == v.room) (v.begun == v.limit) (eq-eqb (size_of v) v.room room)
 full_from v (inr limit) = or_right (size_of v == v.room) (v.begun == v.limit) (eq-eqb v.begun v.limit limit)
 
-module _ (may : ℕ → Entry → Type 0) (floor : List Entry → ℕ → Type 0) (shelf : List ℕ) (told : AreCounted may floor shelf) (state : List Entry → SpaceMap → Type 0) (spells : List ℕ → Saved → Type 0) (lines : List NamedLine) (rows : List Row) (journal : List Event) (looks : List (Option Looked)) (log : List Entry) (workers : List WorkerEnd) (chain : Chain) (yard : Shown) (h : HasClosed may floor shelf state spells lines journal looks log workers) (back : IsGivenBack may floor shelf journal workers chain yard) where
+module _ (law : Law) (told : AreCounted law) (state : List Entry → SpaceMap → Type 0) (spells : List ℕ → Saved → Type 0) (lines : List NamedLine) (rows : List Row) (journal : List Event) (looks : List (Option Looked)) (log : List Entry) (workers : List WorkerEnd) (chain : Chain) (yard : Shown) (h : HasClosed law state spells lines journal looks log workers) (back : IsGivenBack law journal workers chain yard) where
   abbrev played : List Played
   played = played_of lines rows looks
 
@@ -196,16 +197,16 @@ module _ (may : ℕ → Entry → Type 0) (floor : List Entry → ℕ → Type 0
 
   -- The loglets
 
-  same_length : length yard.cells ≡ length shelf
+  same_length : length yard.cells ≡ length law.shelf
   same_length = sym (length-map yard.cells (λ v. v.servers)) ∙ ap length back.shelf_is
 
-  cell_there : (i : ℕ) → i < length shelf → (v : LogletView) × (slice_get yard.cells i ≡ Some v)
+  cell_there : (i : ℕ) → i < length law.shelf → (v : LogletView) × (slice_get yard.cells i ≡ Some v)
   cell_there i low = elim ((slice_get_cases yard.cells i).1) [
     | inl some ↦ (some.0, some.2)
     | inr none ↦ absurd (let high = none.0 in omega (arith, low, high, same_length))
   ]
 
-  not_there : (i : ℕ) → slice_get yard.cells i ≡ None → i < length shelf → ⊥
+  not_there : (i : ℕ) → slice_get yard.cells i ≡ None → i < length law.shelf → ⊥
   not_there i none low = let v = cell_there i low in none_some v.0 (sym none ∙ v.1)
     where
       none_some : (v : LogletView) → None ≡ Some v → ⊥

@@ -7,6 +7,7 @@ use Rattle.std.proofs.lemmas.Option.{slice_get_within}
 use Rattle.delos_types.specs.Spaces.{SpaceMap}
 use Rattle.delos_types.specs.declared.entry.Entry.{Entry}
 use Rattle.delos_types.specs.declared.chain.Chain.{Chain}
+use Rattle.legal_journal.specs.Law.{Law}
 use Rattle.legal_journal.specs.declared.events.Event.{Event}
 use Rattle.legal_journal.specs.Journal.{IsLegal, state_of, tail_of, trim_of}
 use Rattle.legal_journal.proofs.Log.{slice_get_front}
@@ -83,7 +84,7 @@ after_at P before [] j x h at = absurd (cc)
 after_at P before (y ∷ ys) zero x h at = let same : y ≡ x = cc in (before, subst (P before) same h.0)
 after_at P before (y ∷ ys) (suc j) x h at = after_at P (before ++ y ∷ []) ys j x h.1 at
 
-module _ (may : ℕ → Entry → Type 0) (floor : List Entry → ℕ → Type 0) (shelf : List ℕ) (state : List Entry → SpaceMap → Type 0) (spells : List ℕ → Saved → Type 0) (run : MayRun may floor shelf) (lines : List NamedLine) (journal : List Event) (looks : List (Option Looked)) (log : List Entry) (workers : List WorkerEnd) (o : Told) (yard : Shown) (mine : (who : ℕ) (e : Entry) → may who e → may_of lines who e) (floor_is : FloorIs floor (length workers)) (h : HasClosed may floor shelf state spells lines journal looks log workers) (are : AreRows lines workers looks o.rows) (end_is : o.end ≡ length log) (back : IsGivenBack may floor shelf journal workers o.chain yard) (told : IsRegisterAsTold (state_of journal).register yard.register) (registered : ChainIsRegistered o yard.register) where
+module _ (law : Law) (state : List Entry → SpaceMap → Type 0) (spells : List ℕ → Saved → Type 0) (run : MayRun law) (lines : List NamedLine) (journal : List Event) (looks : List (Option Looked)) (log : List Entry) (workers : List WorkerEnd) (o : Told) (yard : Shown) (mine : (who : ℕ) (e : Entry) → law.may who e → may_of lines who e) (floor_is : FloorIs law.floor (length workers)) (h : HasClosed law state spells lines journal looks log workers) (are : AreRows lines workers looks o.rows) (end_is : o.end ≡ length log) (back : IsGivenBack law journal workers o.chain yard) (told : IsRegisterAsTold (state_of journal).register yard.register) (registered : ChainIsRegistered o yard.register) where
   abbrev played : List Played
   played = played_of lines o.rows looks
 
@@ -92,14 +93,14 @@ module _ (may : ℕ → Entry → Type 0) (floor : List Entry → ℕ → Type 0
 
   -- each entry of the log is some line's
   of_lines : AreOfLines lines log
-  of_lines = each_there (λ (e : Entry). (who : ℕ) × may_of lines who e) log (λ pos e at. let sent = held_sent may floor shelf journal pos e back.legal (h.front pos e at) in (sent.0, mine sent.0 e sent.1))
+  of_lines = each_there (λ (e : Entry). (who : ℕ) × may_of lines who e) log (λ pos e at. let sent = held_sent law journal pos e back.legal (h.front pos e at) in (sent.0, mine sent.0 e sent.1))
 
   -- an entry of the log's first ones is that of the log
   first_is : (n pos : ℕ) (e : Entry) → slice_get (take n log) pos ≡ Some e → slice_get log pos ≡ Some e
   first_is n pos e at = subst (λ l. slice_get l pos ≡ Some e) (take-append-drop n log) (slice_get_front (take n log) (drop n log) pos e at)
 
   first_of_lines : (n : ℕ) → AreOfLines lines (take n log)
-  first_of_lines n = each_there (λ (e : Entry). (who : ℕ) × may_of lines who e) (take n log) (λ pos e at. let sent = held_sent may floor shelf journal pos e back.legal (h.front pos e (first_is n pos e at)) in (sent.0, mine sent.0 e sent.1))
+  first_of_lines n = each_there (λ (e : Entry). (who : ℕ) × may_of lines who e) (take n log) (λ pos e at. let sent = held_sent law journal pos e back.legal (h.front pos e (first_is n pos e at)) in (sent.0, mine sent.0 e sent.1))
 
   -- what stood there when a phase began is of a line of an earlier one
   early : (phase : ℕ) (x : Asked) → Contains (asked_in 0 (take (h.course.tails phase) log)) x → IsOfEarlier played phase x
@@ -108,11 +109,11 @@ module _ (may : ℕ → Entry → Type 0) (floor : List Entry → ℕ → Type 0
       let k = asked_by lines (take n log) (first_of_lines n) x has in
       let t = turn_of played k.at k.line (ap (λ ls. slice_get ls k.at) played_lines ∙ k.is) in
       let logs = logs_so k.line.asks x k.logs in
-      let there = appears_in (λ who e. ⊥) (λ l n. ⊥) [] x.session x.rank 0 (take n log) (appears (asked_in 0 (take n log)) x has) in
+      let there = appears_in (record { may = λ who e. ⊥; floor = λ l n. ⊥; shelf = [] }) x.session x.rank 0 (take n log) (appears (asked_in 0 (take n log)) x has) in
       let within = slice_get_within (take n log) there.0 there.1 there.2 in
       let size = length-take n log in
       let before : k.line.phase < phase =
-      early_line may floor shelf state spells run lines journal looks log workers h k.at k.line x.session phase there.0 there.1 k.is logs.0 (first_is n there.0 there.1 there.2)
+      early_line law state spells run lines journal looks log workers h k.at k.line x.session phase there.0 there.1 k.is logs.0 (first_is n there.0 there.1 there.2)
       (subst (λ r. HasRank x.session r there.1) (sym logs.1) there.3) (omega (arith, within, size)) in
       record {
         at = k.at;
@@ -131,18 +132,18 @@ module _ (may : ℕ → Entry → Type 0) (floor : List Entry → ℕ → Type 0
   -- what stands in the log stands in theirs, where it isn't trimmed
   stood : (c : Content) (from : ℕ) (r : StandsThere h.course.journal c) → o.chain.trim ≤ r.at → from ≤ r.at → SaysFrom o.chain yard.cells from c
   stood c from r high up =
-      stood_from may floor shelf journal back.legal run.low o.chain yard.cells back.chain_is back.shows back.tail c from
+      stood_from law journal back.legal run.low o.chain yard.cells back.chain_is back.shows back.tail c from
       (record { at = r.at; entry = r.entry; held = subst (λ j. Holds j r.at r.entry) h.journal_is r.held; says = r.says }) high up
 
-  legal_then : IsLegal (Within may h.counts) floor shelf h.course.journal
+  legal_then : IsLegal (record law { may = Within law.may h.counts }) h.course.journal
   legal_then = h.ok.legal
 
   -- a report stands no lower than what it reports
   told_high : (node n : ℕ) (r : StandsThere h.course.journal (content.Alive node n)) → n ≤ r.at
   told_high node n r =
       let q = says_one (unpack 0 r.entry) (content.Alive node n) r.says in
-      let sent = held_appended (Within may h.counts) floor shelf h.course.journal r.at r.entry legal_then r.held in
-      said_high (Within may h.counts) floor shelf h.course.journal legal_then n (content.Alive node n) (subst (ToldSo lines looks h.course.journal) q.2 (h.ok.told r.entry q.0 sent q.1)).0 r
+      let sent = held_appended (record law { may = Within law.may h.counts }) h.course.journal r.at r.entry legal_then r.held in
+      said_high (record law { may = Within law.may h.counts }) h.course.journal legal_then n (content.Alive node n) (subst (ToldSo lines looks h.course.journal) q.2 (h.ok.told r.entry q.0 sent q.1)).0 r
 
   -- each report that a row tells stands in the log
   reported : (i : ℕ) (t : Played) (clean : ℕ) → slice_get played i ≡ Some t → t.row.outcome ≡ out.Alive clean → o.chain.trim ≤ clean → SaysFrom o.chain yard.cells clean (content.Alive t.line.node clean)
@@ -150,7 +151,7 @@ module _ (may : ℕ → Entry → Type 0) (floor : List Entry → ℕ → Type 0
       let k = turn_is lines o.rows looks i t at in
       let row = are.each i k.line k.look k.row k.line_at k.look_at k.row_at in
       let alive = alive_is (desk_for workers k.line.node k.line.asks) k.look k.line.asks k.row.outcome clean row.tells (sym (ap (λ (y : Played). y.row.outcome) k.is) ∙ is) in
-      let r = report_played may floor shelf state spells run lines journal looks log workers h i k.line k.line_at Alive alive.0 clean (k.look_at ∙ ap Some alive.1) in
+      let r = report_played law state spells run lines journal looks log workers h i k.line k.line_at Alive alive.0 clean (k.look_at ∙ ap Some alive.1) in
       let high = told_high k.line.node clean r.stands in
       subst (λ n. SaysFrom o.chain yard.cells clean (content.Alive n clean)) (sym (ap (λ (y : Played). y.line.node) k.is)) (stood (content.Alive k.line.node clean) clean r.stands (omega (arith, low, high)) high)
 
@@ -160,7 +161,7 @@ module _ (may : ℕ → Entry → Type 0) (floor : List Entry → ℕ → Type 0
       let k = turn_is lines o.rows looks i t at in
       let row = are.each i k.line k.look k.row k.line_at k.look_at k.row_at in
       let retired = retired_is (desk_for workers k.line.node k.line.asks) k.look k.line.asks k.row.outcome row.tells (sym (ap (λ (y : Played). y.row.outcome) k.is) ∙ is) in
-      let r = leave_played may floor shelf state spells run lines journal looks log workers h i k.line k.line_at Retire retired.0 (k.look_at ∙ ap Some retired.1) in
+      let r = leave_played law state spells run lines journal looks log workers h i k.line k.line_at Retire retired.0 (k.look_at ∙ ap Some retired.1) in
       subst (λ n. SaysFrom o.chain yard.cells 0 (content.Leave n)) (sym (ap (λ (y : Played). y.line.node) k.is)) (stood (content.Leave k.line.node) 0 r.stands (omega (arith, none)) (omega arith))
 
   -- and that a trim was asked for
@@ -173,14 +174,14 @@ module _ (may : ℕ → Entry → Type 0) (floor : List Entry → ℕ → Type 0
       record { position = r.position; above = omega arith; says = stood (content.Trim r.position) 0 r.stands (omega (arith, none)) (omega arith) }
 
   below : length log ≤ tail_of (state_of journal)
-  below = front_below may floor shelf run.low journal log back.legal h.front
+  below = front_below law run.low journal log back.legal h.front
 
   -- what lines did to the chain, by the register at the end
   replaced : Replacements played o.version o.chain (length yard.cells)
   replaced =
-      replacements lines workers looks o.rows are (state_of journal).register o.version o.chain (length shelf) (length yard.cells) (sym told.given ∙ sym registered.version) (sym back.chain_is)
+      replacements lines workers looks o.rows are (state_of journal).register o.version o.chain (length law.shelf) (length yard.cells) (sym told.given ∙ sym registered.version) (sym back.chain_is)
       (sym (ap length back.shelf_is) ∙ length-map yard.cells (λ v. v.servers))
-      (subst (λ j. Replaced lines looks (state_of j).register (length shelf)) h.journal_is h.ok.replaced)
+      (subst (λ j. Replaced lines looks (state_of j).register (length law.shelf)) h.journal_is h.ok.replaced)
 
   module _ (stands : length log ≤ tail_of (state_of journal) → trim_of (state_of journal) ≤ length log → is_clean (λ s. 1) (asked_in 0 (take (trim_of (state_of journal)) log)) ≡ true → LogStands log (state_of journal).register.chain yard.cells) (lines_ended : AllAfter (LineEnded log h.course.tails h.course.faults (end_of lines workers h.home h.course.when)) [] played) (sessions_ended : (s : ℕ) → SessionEnded played h.course.faults h.home s (end_of lines workers h.home h.course.when s)) (came : FaultsCame played h.course.faults yard)
       (let_go : (k : ℕ) → 1 ≤ k → k ≤ length workers → (trim_of (state_of h.course.journal) ≡ 0) ⊎ (AskedFor lines looks k Retire (λ look. Unit {0}) ⊎ AskedFor lines looks k Alive (TellsAtLeast (trim_of (state_of h.course.journal)))))
@@ -192,13 +193,13 @@ module _ (may : ℕ → Entry → Type 0) (floor : List Entry → ℕ → Type 0
         let w = h.ok.reports.each i l clean at told in
         let above : sent_of w.counts s.id < r = subst (IsUnsent w.counts) is (w.unsent j m low there (sym same)) in
         let y = appeared_by log s.id r (omega (arith, above)) k.act k.found in
-        let early = legal_wider (Within may w.counts) may floor shelf (λ who e q. q.0) w.early w.legal in
-        let reach = front_below may floor shelf run.low w.early w.clean.log early w.clean.front in
+        let early = legal_wider law (Within law.may w.counts) law.may (λ who e q. q.0) w.early w.legal in
+        let reach = front_below law run.low w.early w.clean.log early w.clean.front in
         let within = w.clean.within in
         let whole = w.seen in
         let held : Holds (w.early ++ w.more) y.0 y.1 = subst (λ q. Holds q y.0 y.1) whole (subst (λ q. Holds q y.0 y.1) (sym h.journal_is) (h.front y.0 y.1 y.2)) in
-        let legal : IsLegal may floor shelf (w.early ++ w.more) = subst (IsLegal may floor shelf) whole (legal_wider (Within may h.counts) may floor shelf (λ who e q. q.0) h.course.journal h.ok.legal) in
-        let high = tail_bounds may floor shelf run.low w.counts w.early w.more s.id r y.0 y.1 w.legal legal held y.3 above in
+        let legal : IsLegal law (w.early ++ w.more) = subst (IsLegal law) whole (legal_wider law (Within law.may h.counts) law.may (λ who e q. q.0) h.course.journal h.ok.legal) in
+        let high = tail_bounds law run.low w.counts w.early w.more s.id r y.0 y.1 w.legal legal held y.3 above in
         let up = y.4 in
         subst (λ (p : Place). clean ≤ p.pos) (sym k.place_is) (omega (arith, reach, within, high, up))
     behind i j l m clean at there low same told look came d b u (asks.Logged s r command) (out.Open cause) is t k = tt
@@ -272,7 +273,7 @@ module _ (may : ℕ → Entry → Type 0) (floor : List Entry → ℕ → Type 0
           (let same = ap (λ (k : Chain). k.trim) back.chain_is in
           let low = short in
           stands below (omega (arith, same, low))
-          (subst (λ n. is_clean (λ s. 1) (asked_in 0 (take n log)) ≡ true) same (clean_below may floor shelf state spells run lines journal looks log workers o yard mine floor_is h are back short)));
+          (subst (λ n. is_clean (λ s. 1) (asked_in 0 (take n log)) ≡ true) same (clean_below law state spells run lines journal looks log workers o yard mine floor_is h are back short)));
       sent = sent;
       early = early;
       lines = lines_ended;
@@ -281,7 +282,7 @@ module _ (may : ℕ → Entry → Type 0) (floor : List Entry → ℕ → Type 0
       reported = reported;
       left = left;
       above = above;
-      trims = trims_ended may floor shelf state spells run lines journal looks log workers o yard mine floor_is h are back let_go back.nodes (let low = short in omega (arith, low, end_is)) asked;
+      trims = trims_ended law state spells run lines journal looks log workers o yard mine floor_is h are back let_go back.nodes (let low = short in omega (arith, low, end_is)) asked;
       came = came;
       registered = registered;
     }

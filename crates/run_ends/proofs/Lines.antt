@@ -15,6 +15,7 @@ use Rattle.table_core.specs.declared.command.Query.{Query}
 use Rattle.table_core.specs.declared.command.Found.{Found}
 use Rattle.table_core.specs.declared.command.Reply.{Reply}
 use Rattle.table_core.specs.Find.{find_in}
+use Rattle.legal_journal.specs.Law.{Law}
 use Rattle.legal_journal.specs.declared.events.Event.{Event}
 use Rattle.legal_journal.specs.Journal.{IsLegal}
 use Rattle.virtual_log.specs.Holding.{Holds}
@@ -124,24 +125,24 @@ answers_so d look a o t = absurd t
 same_some : {A : Type 0} (x y : A) → Some x ≡ Some y → x ≡ y
 same_some x y e = cc
 
-module _ (may : ℕ → Entry → Type 0) (floor : List Entry → ℕ → Type 0) (shelf : List ℕ) (state : List Entry → SpaceMap → Type 0) (spells : List ℕ → Saved → Type 0) (run : MayRun may floor shelf) (lines : List NamedLine) (journal : List Event) (looks : List (Option Looked)) (log : List Entry) (workers : List WorkerEnd) (h : HasClosed may floor shelf state spells lines journal looks log workers) where
+module _ (law : Law) (state : List Entry → SpaceMap → Type 0) (spells : List ℕ → Saved → Type 0) (run : MayRun law) (lines : List NamedLine) (journal : List Event) (looks : List (Option Looked)) (log : List Entry) (workers : List WorkerEnd) (h : HasClosed law state spells lines journal looks log workers) where
   abbrev Home : ℕ → Type 0
-  Home s = AtHome may floor shelf state spells lines journal looks log workers h s
+  Home s = AtHome law state spells lines journal looks log workers h s
 
   abbrev Seat : (s : ℕ) → Home s → Type 0
-  Seat s n = HasDesk may floor shelf state spells lines journal looks log workers h s n
+  Seat s n = HasDesk law state spells lines journal looks log workers h s n
 
   abbrev ends : ℕ → SessionEnd
-  ends s = the_end may floor shelf state spells lines journal looks log workers h s
+  ends s = the_end law state spells lines journal looks log workers h s
 
   abbrev end_so : ℕ → Desk → SessionEnd
-  end_so s d = ends_so may floor shelf state spells lines journal looks log workers h s d
+  end_so s d = ends_so law state spells lines journal looks log workers h s d
 
   first_stop : (s : ℕ) (n : Home s) (d : Seat s n) (k : Cause) → d.was.stopped ≡ Some k → (a : ℕ) × (d.was.answered ≡ Some a)
-  first_stop s n d k stop = stopped_first may floor shelf state spells lines journal looks log workers h s n d k stop
+  first_stop s n d k stop = stopped_first law state spells lines journal looks log workers h s n d k stop
 
-  legal : IsLegal may floor shelf h.course.journal
-  legal = legal_wider (Within may h.counts) may floor shelf (λ who e k. k.0) h.course.journal h.ok.legal
+  legal : IsLegal law h.course.journal
+  legal = legal_wider law (Within law.may h.counts) law.may (λ who e k. k.0) h.course.journal h.ok.legal
 
   -- the log as far as it was played is a front of what is held
   front : IsFront Holds h.course.journal log
@@ -151,7 +152,7 @@ module _ (may : ℕ → Entry → Type 0) (floor : List Entry → ℕ → Type 0
   begins_so : (s : ℕ) (n : Home s) (l : List Entry) → IsFront Holds h.course.journal l → length l ≤ n.worker.seat.node.replica.cursor → (length l ≤ length log) × (l ≡ take (length l) log)
   begins_so s n l was upto =
       let short : length l ≤ length log = let a = n.closed.short in omega (arith, a, upto) in
-      (short, fronts_agree may floor shelf h.course.journal l log legal was front short)
+      (short, fronts_agree law h.course.journal l log legal was front short)
 
   -- no command of a phase or a later one was sent when that phase began
   sent_before : (i : ℕ) (l : NamedLine) (s phase : ℕ) → slice_get lines i ≡ Some l → logs_for s l ≡ true → phase ≤ l.phase → asked_before lines s phase < rank_in l.asks
@@ -182,7 +183,7 @@ module _ (may : ℕ → Entry → Type 0) (floor : List Entry → ℕ → Type 0
       let before = sent_before i l s phase at logs late in
       let above : sent_of began.counts s < rank_in l.asks = omega (arith, sent, before) in
       let held = subst (λ j. Holds j pos e) began.seen (front pos e there) in
-      let high = tail_bounds may floor shelf run.low began.counts began.early began.more s (rank_in l.asks) pos e began.legal (subst (IsLegal may floor shelf) began.seen legal) held has above in
+      let high = tail_bounds law run.low began.counts began.early began.more s (rank_in l.asks) pos e began.legal (subst (IsLegal law) began.seen legal) held has above in
       absurd (omega (arith, high, low, began.tail_is)))
       (cases_lt l.phase phase)
 
@@ -260,7 +261,7 @@ module _ (may : ℕ → Entry → Type 0) (floor : List Entry → ℕ → Type 0
             let sent = began.sent s in
             let above : sent_of began.counts s < r = omega (arith, sent, sent_later) in
             let held = subst (λ j. Holds j x.0 x.1) began.seen (front x.0 x.1 x.2) in
-            let low = tail_bounds may floor shelf run.low began.counts began.early began.more s r x.0 x.1 began.legal (subst (IsLegal may floor shelf) began.seen legal) held x.3 above in
+            let low = tail_bounds law run.low began.counts began.early began.more s r x.0 x.1 began.legal (subst (IsLegal law) began.seen legal) held x.3 above in
             let up = x.4 in
             omega (arith, low, up, began.tail_is)
 
@@ -289,7 +290,7 @@ module _ (may : ℕ → Entry → Type 0) (floor : List Entry → ℕ → Type 0
             let unsent = so.unsent first.0 first.1 earlier in
             let sent = d.stands.sent refl in
             let low = acts_low log s r least so_kept.act found in
-            let most = acted_sent (Within may h.counts) floor shelf h.course.journal log s (sent_of h.counts s) h.ok.legal front (λ who e q allowed has. allowed.1 s q has) in
+            let most = acted_sent (record law { may = Within law.may h.counts }) h.course.journal log s (sent_of h.counts s) h.ok.legal front (λ who e q allowed has. allowed.1 s q has) in
             omega (arith, unsent, sent, low, most)
 
       -- its row tells that it is open
@@ -354,10 +355,10 @@ module _ (may : ℕ → Entry → Type 0) (floor : List Entry → ℕ → Type 0
       known = let low = at_get (λ (m : NamedLine). session_in m.asks ≤ 63) lines i l h.lines_are.known line_at in let same = ap session_in is in omega (arith, low, same)
 
       home_of : Home (session_in a)
-      home_of = at_home may floor shelf state spells lines journal looks log workers h (session_in a)
+      home_of = at_home law state spells lines journal looks log workers h (session_in a)
 
       seat_of : Seat (session_in a) home_of
-      seat_of = has_desk may floor shelf state spells lines journal looks log workers h (session_in a) home_of known
+      seat_of = has_desk law state spells lines journal looks log workers h (session_in a) home_of known
 
       module _ (some : IsSome (session_asking a)) where
         node_is : l.node ≡ h.home (session_in a)
@@ -597,9 +598,9 @@ module _ (may : ℕ → Entry → Type 0) (floor : List Entry → ℕ → Type 0
       module _ (admin : Admin) (is : l.asks ≡ asks.Admin admin) where
         reported : (clean : ℕ) → look ≡ Some (looked.Reported clean) → HasReported log h.course.tails l.phase clean
         reported clean t =
-            has_reported may floor shelf h.course.journal log h.course.tails l.phase l.node clean legal front (report_played i l line_at admin is clean (look_at ∙ ap Some t))
+            has_reported law h.course.journal log h.course.tails l.phase l.node clean legal front (report_played i l line_at admin is clean (look_at ∙ ap Some t))
             (let w = h.ok.reports.each i l clean line_at (look_at ∙ ap Some t) in
-            let reach = front_low may floor shelf run.low w.early w.clean.log (legal_wider (Within may w.counts) may floor shelf (λ who e k. k.0) w.early w.legal) w.clean.front in
+            let reach = front_low law run.low w.early w.clean.log (legal_wider law (Within law.may w.counts) law.may (λ who e k. k.0) w.early w.legal) w.clean.front in
             let within = w.clean.within in
             let tail = w.tail in
             omega (arith, reach, within, tail))

@@ -6,6 +6,7 @@ use Rattle.std.proofs.lemmas.Bool.{and_parts}
 use Rattle.std.proofs.lemmas.Bool.Decides.{nat_tests}
 use Rattle.std.proofs.lemmas.Option.{slice_get_within}
 use Rattle.delos_types.specs.declared.entry.Entry.{Entry}
+use Rattle.legal_journal.specs.Law.{Law}
 use Rattle.legal_journal.specs.declared.events.Event.{Event}
 use Rattle.legal_journal.specs.Journal.{IsLegal}
 use Rattle.legal_journal.proofs.Log.{slice_get_front}
@@ -72,7 +73,7 @@ module _ (log : List Entry) (s r : ℕ) (low : 1 ≤ r) where
         let short : n ≤ length log = omega (arith, place_within) in
         let here : nat_lt a.place.pos n ≡ true = grind (arith, nat_tests) in
         let acted : r < gap_from (asked_in 0 (take n log)) s 1 = ltb-true r (gap_from (asked_in 0 (take n log)) s 1) (sym (in_front n short) ∙ here) in
-        let x = appears_in (λ who e. ⊥) (λ l n. ⊥) [] s r 0 (take n log) (gap-run (asked_in 0 (take n log)) s 1 (top_rank (asked_in 0 (take n log)) + 1) r low acted) in
+        let x = appears_in (record { may = λ who e. ⊥; floor = λ l n. ⊥; shelf = [] }) s r 0 (take n log) (gap-run (asked_in 0 (take n log)) s 1 (top_rank (asked_in 0 (take n log)) + 1) r low acted) in
         let within = slice_get_within (take n log) x.0 x.1 x.2 in
         let size = length-take-le n log short in
         (x.0, x.1, subst (λ l. slice_get l x.0 ≡ Some x.1) (take-append-drop n log) (slice_get_front (take n log) (drop n log) x.0 x.1 x.2), x.3, omega (arith, within, size))
@@ -82,8 +83,8 @@ pub acted_on : (log : List Entry) (n s r : ℕ) → r < gap_from (asked_in 0 (ta
 acted_on log n s r h = subst (λ l. r < gap_from (asked_in 0 l) s 1) (take-append-drop n log) (gap-longer (take n log) (drop n log) s r h)
 
 -- of two fronts of what a journal's log holds, the one that isn't longer is how the other begins
-pub fronts_agree : (may : ℕ → Entry → Type 0) (floor : List Entry → ℕ → Type 0) (shelf : List ℕ) (seen : List Event) (front log : List Entry) → IsLegal may floor shelf seen → IsFront Holds seen front → IsFront Holds seen log → length front ≤ length log
+pub fronts_agree : (law : Law) (seen : List Event) (front log : List Entry) → IsLegal law seen → IsFront Holds seen front → IsFront Holds seen log → length front ≤ length log
     → front ≡ take (length front) log
-fronts_agree may floor shelf seen front log legal was is longer =
-    let whole = splits front log longer (λ p x y i j. holds_agree may floor shelf seen p x y legal (was p x i) (is p y j)) in
+fronts_agree law seen front log legal was is longer =
+    let whole = splits front log longer (λ p x y i j. holds_agree law seen p x y legal (was p x i) (is p y j)) in
     sym (ap (take (length front)) (sym whole) ∙ take-append_seam front (drop (length front) log))

@@ -7,6 +7,7 @@ use Rattle.delos_types.specs.Spaces.{SpaceMap}
 use Rattle.delos_types.specs.declared.entry.Entry.{Entry}
 use Rattle.delos_types.specs.declared.chain.Chain.{Chain}
 use Rattle.chain_map.specs.Chain.{last_id}
+use Rattle.legal_journal.specs.Law.{Law}
 use Rattle.legal_journal.specs.declared.events.Event.{Event}
 use Rattle.legal_journal.specs.declared.events.FabricCall.{FabricCall}
 use Rattle.legal_journal.specs.declared.events.FabricCall.TheVariants.{ReadChain, MendMeta}
@@ -36,31 +37,31 @@ use Rattle.run_ends.specs.Closing.{WorkerEnd, HasClosed}
 use Rattle.run_ends.specs.Reads.{AreReads}
 
 -- whatever b allows of a read, a does: it is the register's
-module _ (a b : ℕ → Entry → Type 0) (floor : List Entry → ℕ → Type 0) (shelf : List ℕ) (w : State) (cells who : ℕ) where
-  chain_read : (answer : FabricAnswer) → IsAllowed w b floor cells who (move_of ReadChain answer) → IsAllowed w a floor cells who (move_of ReadChain answer)
+module _ (law : Law) (a b : ℕ → Entry → Type 0) (w : State) (who : ℕ) where
+  chain_read : (answer : FabricAnswer) → IsAllowed w (record law { may = b }) who (move_of ReadChain answer) → IsAllowed w (record law { may = a }) who (move_of ReadChain answer)
   chain_read (At v c) h = h
   chain_read Down h = h
   chain_read answer h = absurd h
 
-  opened_again : (word : ℕ) (answer : FabricAnswer) → IsAllowed w b floor cells who (move_of (MendMeta word) answer) → IsAllowed w a floor cells who (move_of (MendMeta word) answer)
+  opened_again : (word : ℕ) (answer : FabricAnswer) → IsAllowed w (record law { may = b }) who (move_of (MendMeta word) answer) → IsAllowed w (record law { may = a }) who (move_of (MendMeta word) answer)
   opened_again word (Set y) h = h
   opened_again word answer h = absurd h
 
-  read_allowed : (call : FabricCall) (answer : FabricAnswer) → (call ≡ ReadChain) ⊎ ((word : ℕ) × (call ≡ MendMeta word)) → IsAllowed w b floor cells who (move_of call answer) → IsAllowed w a floor cells who (move_of call answer)
-  read_allowed call answer (inl is) h = subst (λ k. IsAllowed w a floor cells who (move_of k answer)) (sym is) (chain_read answer (subst (λ k. IsAllowed w b floor cells who (move_of k answer)) is h))
-  read_allowed call answer (inr is) h = subst (λ k. IsAllowed w a floor cells who (move_of k answer)) (sym is.1) (opened_again is.0 answer (subst (λ k. IsAllowed w b floor cells who (move_of k answer)) is.1 h))
+  read_allowed : (call : FabricCall) (answer : FabricAnswer) → (call ≡ ReadChain) ⊎ ((word : ℕ) × (call ≡ MendMeta word)) → IsAllowed w (record law { may = b }) who (move_of call answer) → IsAllowed w (record law { may = a }) who (move_of call answer)
+  read_allowed call answer (inl is) h = subst (λ k. IsAllowed w (record law { may = a }) who (move_of k answer)) (sym is) (chain_read answer (subst (λ k. IsAllowed w (record law { may = b }) who (move_of k answer)) is h))
+  read_allowed call answer (inr is) h = subst (λ k. IsAllowed w (record law { may = a }) who (move_of k answer)) (sym is.1) (opened_again is.0 answer (subst (λ k. IsAllowed w (record law { may = b }) who (move_of k answer)) is.1 h))
 
-reads_from : (a b : ℕ → Entry → Type 0) (floor : List Entry → ℕ → Type 0) (shelf : List ℕ) (w : State) (es : List Event) → AreReads es → IsLegalFrom w b floor shelf es → IsLegalFrom w a floor shelf es
-reads_from a b floor shelf w [] r h = h
-reads_from a b floor shelf w (e ∷ es) r h =
-    (record { there = h.0.there; allowed = read_allowed a b floor shelf w (length shelf) e.who e.call e.answer r.0 h.0.allowed }, reads_from a b floor shelf (after w e.who (move e)) es r.1 h.1)
+reads_from : (law : Law) (a b : ℕ → Entry → Type 0) (w : State) (es : List Event) → AreReads es → IsLegalFrom w (record law { may = b }) es → IsLegalFrom w (record law { may = a }) es
+reads_from law a b w [] r h = h
+reads_from law a b w (e ∷ es) r h =
+    (record { there = h.0.there; allowed = read_allowed law a b w e.who e.call e.answer r.0 h.0.allowed }, reads_from law a b (after w e.who (move e)) es r.1 h.1)
 
 -- A journal that was legal by rules that allow less stays so where what came since are reads.
-pub reads_legal : (a b : ℕ → Entry → Type 0) (floor : List Entry → ℕ → Type 0) (shelf : List ℕ) (early more : List Event) → AreReads more → IsLegal a floor shelf early → IsLegal b floor shelf (early ++ more) → IsLegal a floor shelf (early ++ more)
-reads_legal a b floor shelf early more r h k = record {
+pub reads_legal : (law : Law) (a b : ℕ → Entry → Type 0) (early more : List Event) → AreReads more → IsLegal (record law { may = a }) early → IsLegal (record law { may = b }) (early ++ more) → IsLegal (record law { may = a }) (early ++ more)
+reads_legal law a b early more r h k = record {
   least = h.least;
   most = h.most;
-  steps = IsLegalFrom-join a floor shelf start early more h.steps (reads_from a b floor shelf (state_of early) more r (IsLegalFrom-split b floor shelf start early more k.steps).1);
+  steps = IsLegalFrom-join (record law { may = a }) start early more h.steps (reads_from law a b (state_of early) more r (IsLegalFrom-split (record law { may = b }) start early more k.steps).1);
 }
 
 -- Reads of the chain, where no write is in doubt
@@ -71,39 +72,39 @@ pub record Same (a b : State) : Type 0 where
   pub settled : b.register.asked ≡ None
   pub cells : b.cells ≡ a.cells
 
-module _ (may : ℕ → Entry → Type 0) (floor : List Entry → ℕ → Type 0) (shelf : List ℕ) where
-  read_step : (w : State) (cells who : ℕ) (answer : FabricAnswer) → w.register.asked ≡ None → IsAllowed w may floor cells who (move_of ReadChain answer) → Same w (after w who (move_of ReadChain answer))
-  read_step w cells who (At v c) none h =
+module _ (law : Law) where
+  read_step : (w : State) (who : ℕ) (answer : FabricAnswer) → w.register.asked ≡ None → IsAllowed w law who (move_of ReadChain answer) → Same w (after w who (move_of ReadChain answer))
+  read_step w who (At v c) none h =
       ⊎_elim
       (λ (same : (v ≡ w.register.version) × (c ≡ w.register.chain)). record { chain = same.1; settled = refl; cells = refl })
       (λ (asked : (v ≡ w.register.version + 1) × (w.register.asked ≡ Some c)). absurd (let e : None ≡ Some c = sym none ∙ asked.1 in cc))
       h.1
-  read_step w cells who Down none h = record { chain = refl; settled = none; cells = refl }
-  read_step w cells who answer none h = absurd h
+  read_step w who Down none h = record { chain = refl; settled = none; cells = refl }
+  read_step w who answer none h = absurd h
 
-  mend_step : (w : State) (cells who word : ℕ) (answer : FabricAnswer) → w.register.asked ≡ None → IsAllowed w may floor cells who (move_of (MendMeta word) answer) → Same w (after w who (move_of (MendMeta word) answer))
-  mend_step w cells who word (Set b) none h = record { chain = refl; settled = none; cells = refl }
-  mend_step w cells who word answer none h = absurd h
+  mend_step : (w : State) (who word : ℕ) (answer : FabricAnswer) → w.register.asked ≡ None → IsAllowed w law who (move_of (MendMeta word) answer) → Same w (after w who (move_of (MendMeta word) answer))
+  mend_step w who word (Set b) none h = record { chain = refl; settled = none; cells = refl }
+  mend_step w who word answer none h = absurd h
 
-  one_step : (w : State) (cells who : ℕ) (call : FabricCall) (answer : FabricAnswer) → w.register.asked ≡ None → (call ≡ ReadChain) ⊎ ((word : ℕ) × (call ≡ MendMeta word)) → IsAllowed w may floor cells who (move_of call answer) → Same w (after w who (move_of call answer))
-  one_step w cells who call answer none (inl is) h =
-      subst (λ k. Same w (after w who (move_of k answer))) (sym is) (read_step w cells who answer none (subst (λ k. IsAllowed w may floor cells who (move_of k answer)) is h))
-  one_step w cells who call answer none (inr is) h =
-      subst (λ k. Same w (after w who (move_of k answer))) (sym is.1) (mend_step w cells who is.0 answer none (subst (λ k. IsAllowed w may floor cells who (move_of k answer)) is.1 h))
+  one_step : (w : State) (who : ℕ) (call : FabricCall) (answer : FabricAnswer) → w.register.asked ≡ None → (call ≡ ReadChain) ⊎ ((word : ℕ) × (call ≡ MendMeta word)) → IsAllowed w law who (move_of call answer) → Same w (after w who (move_of call answer))
+  one_step w who call answer none (inl is) h =
+      subst (λ k. Same w (after w who (move_of k answer))) (sym is) (read_step w who answer none (subst (λ k. IsAllowed w law who (move_of k answer)) is h))
+  one_step w who call answer none (inr is) h =
+      subst (λ k. Same w (after w who (move_of k answer))) (sym is.1) (mend_step w who is.0 answer none (subst (λ k. IsAllowed w law who (move_of k answer)) is.1 h))
 
-  pub reads_keep : (w : State) (es : List Event) → w.register.asked ≡ None → AreReads es → IsLegalFrom w may floor shelf es → Same w (after_all w es)
+  pub reads_keep : (w : State) (es : List Event) → w.register.asked ≡ None → AreReads es → IsLegalFrom w law es → Same w (after_all w es)
   reads_keep w [] none reads legal = record { chain = refl; settled = none; cells = refl }
   reads_keep w (e ∷ es) none reads legal =
-      let one = one_step w (length shelf) e.who e.call e.answer none reads.0 legal.0.allowed in
+      let one = one_step w e.who e.call e.answer none reads.0 legal.0.allowed in
       let rest = reads_keep (after w e.who (move e)) es one.settled reads.1 legal.1 in
       record { chain = rest.chain ∙ one.chain; settled = rest.settled; cells = rest.cells ∙ one.cells }
 
 -- the chain isn't sealed by that
-pub reads_unsealed : (may : ℕ → Entry → Type 0) (floor : List Entry → ℕ → Type 0) (shelf : List ℕ) (journal more : List Event) (n : ℕ) → IsLegal may floor shelf (journal ++ more) → AreReads more
+pub reads_unsealed : (law : Law) (journal more : List Event) (n : ℕ) → IsLegal law (journal ++ more) → AreReads more
     → (faults_in journal ≡ [] → IsUnsealed (state_of journal) n) → faults_in (journal ++ more) ≡ [] → IsUnsealed (state_of (journal ++ more)) n
-reads_unsealed may floor shelf journal more n legal reads was calm =
+reads_unsealed law journal more n legal reads was calm =
     let h = was (calm_parts journal (journal ++ more) more refl calm).0 in
-    let same = reads_keep may floor shelf (state_of journal) more h.asked reads (IsLegalFrom-split may floor shelf start journal more legal.steps).1 in
+    let same = reads_keep law (state_of journal) more h.asked reads (IsLegalFrom-split law start journal more legal.steps).1 in
     subst (λ (w : State). IsUnsealed w n) (sym (after_all-append start journal more)) (record {
       last = ap last_id same.chain ∙ h.last;
       segments = λ none. ap (λ (c : Chain). length c.segments) same.chain ∙ h.segments (sym (ap (λ (c : Chain). c.trim) same.chain) ∙ none);
@@ -127,9 +128,9 @@ zero-apart j = by (0 == j + 1) refl
     by false e = e
     by true e = absurd (grind (arith, nat_tests, e))
 
-module _ (may : ℕ → Entry → Type 0) (floor : List Entry → ℕ → Type 0) (shelf : List ℕ) (state : List Entry → SpaceMap → Type 0) (spells : List ℕ → Saved → Type 0) (lines : List NamedLine) (journal more : List Event) (looks : List (Option Looked)) (log : List Entry) (workers : List WorkerEnd) (h : HasClosed may floor shelf state spells lines journal looks log workers) (own : AreOwn 0 more) (reads : AreReads more) (legal : IsLegal may floor shelf (journal ++ more)) where
-  within : IsLegal (Within may h.counts) floor shelf (journal ++ more)
-  within = reads_legal (Within may h.counts) may floor shelf journal more reads (subst (IsLegal (Within may h.counts) floor shelf) h.journal_is h.ok.legal) legal
+module _ (law : Law) (state : List Entry → SpaceMap → Type 0) (spells : List ℕ → Saved → Type 0) (lines : List NamedLine) (journal more : List Event) (looks : List (Option Looked)) (log : List Entry) (workers : List WorkerEnd) (h : HasClosed law state spells lines journal looks log workers) (own : AreOwn 0 more) (reads : AreReads more) (legal : IsLegal law (journal ++ more)) where
+  within : IsLegal (record law { may = Within law.may h.counts }) (journal ++ more)
+  within = reads_legal law (Within law.may h.counts) law.may journal more reads (subst (IsLegal (record law { may = Within law.may h.counts })) h.journal_is h.ok.legal) legal
 
   seen : journal ++ more ≡ h.course.journal ++ more
   seen = ap (λ l. l ++ more) (sym h.journal_is)
@@ -142,12 +143,12 @@ module _ (may : ℕ → Entry → Type 0) (floor : List Entry → ℕ → Type 0
 
   tells : TellsOn lines looks 0 0 0 h.course.journal (journal ++ more)
   tells =
-      tells_commands (Within may h.counts) floor shelf h.course.journal (journal ++ more) more seen within lines looks looks 0 0 0 (λ i look at. at) (omega arith) h.ok.told
+      tells_commands (record law { may = Within law.may h.counts }) h.course.journal (journal ++ more) more seen within lines looks looks 0 0 0 (λ i look at. at) (omega arith) h.ok.told
       (subst (Adds IsOfSessions h.course.journal) (sym seen) (adds_none IsOfSessions h.course.journal more (appended_none more reads)))
 
-  ok : CourseOk may floor shelf lines (length workers) then' h.counts looks
-  ok = advance_still may floor shelf lines (length workers) h.course h.counts looks h.ok 1 [] (journal ++ more) more h.course.when h.counts seen within h.ok.long (omega arith) some (λ P store. omega arith)
-      (reads_unsealed may floor shelf journal more (count_by has_replaced looks) legal reads (subst (λ es. faults_in es ≡ [] → IsUnsealed (state_of es) (count_by has_replaced looks)) h.journal_is h.ok.unsealed))
+  ok : CourseOk law lines (length workers) then' h.counts looks
+  ok = advance_still law lines (length workers) h.course h.counts looks h.ok 1 [] (journal ++ more) more h.course.when h.counts seen within h.ok.long (omega arith) some (λ P store. omega arith)
+      (reads_unsealed law journal more (count_by has_replaced looks) legal reads (subst (λ es. faults_in es ≡ [] → IsUnsealed (state_of es) (count_by has_replaced looks)) h.journal_is h.ok.unsealed))
       tells.told
 
   turn : TurnOf lines h.home 0 h.course then' h.counts h.counts looks looks
@@ -159,7 +160,7 @@ module _ (may : ℕ → Entry → Type 0) (floor : List Entry → ℕ → Type 0
     behind = λ i l at high. absurd (let inside = slice_get_within lines i l at in omega (arith, inside, high));
   }
 
-  pub closed_on : HasClosed may floor shelf state spells lines (journal ++ more) looks log workers
+  pub closed_on : HasClosed law state spells lines (journal ++ more) looks log workers
   closed_on = record {
     home = h.home;
     course = then';
@@ -168,12 +169,12 @@ module _ (may : ℕ → Entry → Type 0) (floor : List Entry → ℕ → Type 0
     lines_are = h.lines_are;
     ok = ok;
     over = h.over;
-    front = λ pos e at. held_stays may floor shelf journal more pos e legal (h.front pos e at);
+    front = λ pos e at. held_stays law journal more pos e legal (h.front pos e at);
     each = λ j w at.
         let x = h.each j w at in
         record {
           was = x.was;
-          rests = rests_on may floor shelf state spells lines h.home (length workers) h.course then' h.counts h.counts looks looks 0 (j + 1) (length lines) h.course.phase w.seat x.was h.lines_are (zero-apart j) begins (omega arith) h.ok turn ok x.rests;
+          rests = rests_on law state spells lines h.home (length workers) h.course then' h.counts h.counts looks looks 0 (j + 1) (length lines) h.course.phase w.seat x.was h.lines_are (zero-apart j) begins (omega arith) h.ok turn ok x.rests;
           size = x.size;
           short = x.short;
           each = x.each;

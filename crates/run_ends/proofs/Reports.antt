@@ -1,6 +1,7 @@
 -- What nodes reported, and that they left, once the run has ended.
 use Rattle.std.proofs.Common.{◌≡◌, refl, sym, ap, ◌∙◌, subst, inl, inr, ⊎_elim, ℕ, zero, suc, ◌+◌, ◌-◌, ◌<◌, ◌≤◌, List, [], ◌∷◌, Option, Some, None, map, length, Contains, arith}
 use Rattle.delos_types.specs.declared.entry.Entry.{Entry}
+use Rattle.legal_journal.specs.Law.{Law}
 use Rattle.legal_journal.specs.declared.events.Event.{Event}
 use Rattle.legal_journal.specs.Journal.{IsLegal}
 use Rattle.virtual_log.specs.Holding.{Holds}
@@ -58,14 +59,14 @@ report_within journal tail cursor cursor' node looked.Left up h = tt
 report_within journal tail cursor cursor' node (looked.Trimmed trim) up h = tt
 
 -- it tells of a front of the log as far as it was played
-pub has_reported : (may : ℕ → Entry → Type 0) (floor : List Entry → ℕ → Type 0) (shelf : List ℕ) (journal : List Event) (log : List Entry) (tails : ℕ → ℕ) (phase node clean : ℕ) → IsLegal may floor shelf journal → IsFront Holds journal log → IsReport journal (tails phase) (length log) node clean
+pub has_reported : (law : Law) (journal : List Event) (log : List Entry) (tails : ℕ → ℕ) (phase node clean : ℕ) → IsLegal law journal → IsFront Holds journal log → IsReport journal (tails phase) (length log) node clean
     → clean ≤ tails (phase + 1) → HasReported log tails phase clean
-has_reported may floor shelf journal log tails phase node clean legal front r by = record {
+has_reported law journal log tails phase node clean legal front r by = record {
   upto = length r.log;
   within = r.within;
   from = r.from;
   by = by;
-  is = r.clean ∙ ap clean_position (fronts_agree may floor shelf journal r.log log legal r.front front r.within);
+  is = r.clean ∙ ap clean_position (fronts_agree law journal r.log log legal r.front front r.within);
 }
 
 -- A leave

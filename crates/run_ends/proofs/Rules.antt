@@ -27,7 +27,7 @@ use Rattle.node_lines.specs.Workers.{IsHome, MayRun}
 use Rattle.run_course.specs.Script.{AreLines}
 use Rattle.run_course.proofs.Lines.{at_get}
 use Rattle.turn_scopes.specs.Floors.{MayTrim, FloorIs}
-use Rattle.run_ends.specs.Rules.{HasLine, LogsRank, IsLineOf, may_of, AreOfLines, IsAskedBy}
+use Rattle.run_ends.specs.Rules.{law_of, HasLine, LogsRank, IsLineOf, may_of, AreOfLines, IsAskedBy}
 use Rattle.run_ends.proofs.Contents.{all-contained, unpack_all-has, to_packed, one, joined, appearances-has}
 use Rattle.run_ends.proofs.Views.{IsNumber, view, view_number, view_unpack}
 
@@ -122,7 +122,7 @@ module _ (lines : List NamedLine) where
   said : (user : ℕ) (e : Entry) (p : Placed) (c : Content) → may_of lines user e → Contains (unpack 0 e) p → p.content ≡ c → IsLineOf lines user c
   said user e p c h among is = subst (IsLineOf lines user) is (all-contained (λ (q : Placed). IsLineOf lines user q.content) (unpack 0 e) p h.items among)
 
-  pub may_run : (nodes : ℕ) (shelf : List ℕ) → MayRun (may_of lines) (MayTrim nodes) shelf
+  pub may_run : (nodes : ℕ) (shelf : List ℕ) → MayRun (law_of lines nodes shelf)
   may_run nodes shelf = record {
     low = λ log n h. h.within;
     join = lines_join;

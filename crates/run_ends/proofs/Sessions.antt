@@ -3,6 +3,7 @@ use Rattle.std.proofs.Common.{◌≡◌, refl, sym, ap, ◌∙◌, subst, ℕ, �
 use Rattle.delos_types.specs.Spaces.{SpaceMap}
 use Rattle.delos_types.specs.declared.entry.Entry.{Entry}
 use Rattle.delos_types.specs.declared.cause.Cause.{Cause}
+use Rattle.legal_journal.specs.Law.{Law}
 use Rattle.legal_journal.specs.declared.events.Event.{Event}
 use Rattle.replica_api.specs.Replica.{Saved}
 use Rattle.script_text.specs.declared.asks.NamedLine.{NamedLine}
@@ -19,7 +20,7 @@ use Rattle.run_ends.specs.Rows.{AreRows, played_of}
 use Rattle.run_ends.specs.Ends.{answered_of, desk_in, end_at, end_of}
 use Rattle.run_ends.proofs.Turns.{lines_are, some_at, turn_of}
 
-module _ (may : ℕ → Entry → Type 0) (floor : List Entry → ℕ → Type 0) (shelf : List ℕ) (state : List Entry → SpaceMap → Type 0) (spells : List ℕ → Saved → Type 0) (lines : List NamedLine) (journal : List Event) (looks : List (Option Looked)) (log : List Entry) (workers : List WorkerEnd) (h : HasClosed may floor shelf state spells lines journal looks log workers) where
+module _ (law : Law) (state : List Entry → SpaceMap → Type 0) (spells : List ℕ → Saved → Type 0) (lines : List NamedLine) (journal : List Event) (looks : List (Option Looked)) (log : List Entry) (workers : List WorkerEnd) (h : HasClosed law state spells lines journal looks log workers) where
   -- the end of a session that was so stopped, or not
   abbrev pub ends_so : ℕ → Desk → SessionEnd
   ends_so s d = record { stopped = d.stopped; when = h.course.when s; answered = answered_of lines d.answered }
@@ -31,7 +32,7 @@ module _ (may : ℕ → Entry → Type 0) (floor : List Entry → ℕ → Type 0
   pub record AtHome (s : ℕ) : Type 0 where
     pub worker : WorkerEnd
     pub at : slice_get workers (h.home s - 1) ≡ Some worker
-    pub closed : WorkerClosed may floor shelf state spells lines h.home (length workers) h.course h.counts looks log (h.home s) worker
+    pub closed : WorkerClosed law state spells lines h.home (length workers) h.course h.counts looks log (h.home s) worker
 
   pub at_home : (s : ℕ) → AtHome s
   at_home s =
@@ -42,7 +43,7 @@ module _ (may : ℕ → Entry → Type 0) (floor : List Entry → ℕ → Type 0
       record {
         worker = w.0;
         at = w.1;
-        closed = subst (λ n. WorkerClosed may floor shelf state spells lines h.home (length workers) h.course h.counts looks log n w.0) same (h.each (h.home s - 1) w.0 w.1);
+        closed = subst (λ n. WorkerClosed law state spells lines h.home (length workers) h.course h.counts looks log n w.0) same (h.each (h.home s - 1) w.0 w.1);
       }
 
   -- a session's desk there, before and after its node closed

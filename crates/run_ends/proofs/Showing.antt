@@ -7,6 +7,7 @@ use Rattle.std.proofs.lemmas.Bool.{and_parts, both_ways, cases_lt}
 use Rattle.delos_types.specs.declared.entry.Entry.{Entry}
 use Rattle.delos_types.specs.declared.chain.Chain.{Chain}
 use Rattle.loglet_api.specs.View.{LogletView}
+use Rattle.legal_journal.specs.Law.{Law}
 use Rattle.legal_journal.specs.declared.events.Event.{Event}
 use Rattle.legal_journal.specs.Journal.{IsLegal, log_at, state_of, tail_of, trim_of}
 use Rattle.virtual_log.specs.Holding.{Holds}
@@ -84,30 +85,30 @@ says_from chain cells pos from e c whole high below is says up =
     let at_pos = r.3 in
     record { placed = r.0; among = contains-among (items_shown chain cells) r.0 r.1; content_is = r.2; above = omega (arith, at_pos, high, up) }
 
-module _ (may : ℕ → Entry → Type 0) (floor : List Entry → ℕ → Type 0) (shelf : List ℕ) (journal : List Event) (legal : IsLegal may floor shelf journal) where
+module _ (law : Law) (journal : List Event) (legal : IsLegal law journal) where
   -- what is said of a position isn't said below it
   pub said_high : (n : ℕ) (c : Content) → IsSaidBehind journal n c → (r : StandsThere journal c) → n ≤ r.at
   said_high n c b r = ⊎_elim
       (λ (low : r.at < n).
       let x = at b.clean.log r.at (let within = b.clean.within in omega (arith, low, within)) in
-      let same : x.element ≡ r.entry = sym (holds_agree may floor shelf journal r.at r.entry x.element legal r.held (b.clean.front r.at x.element x.is)) in
+      let same : x.element ≡ r.entry = sym (holds_agree law journal r.at r.entry x.element legal r.held (b.clean.front r.at x.element x.is)) in
       let q = says_one (unpack 0 r.entry) c r.says in
       absurd (b.behind r.at r.entry q.0 low (x.is ∙ ap {B = Option Entry} (λ y. Some y) same) q.1 q.2))
       (λ (high : n ≤ r.at). high)
       (cases_lt r.at n)
 
-  module _ (low : (log : List Entry) (n : ℕ) → floor log n → n ≤ length log) (chain : Chain) (cells : List LogletView) (chain_is : chain ≡ (state_of journal).register.chain) (shows : (pos : ℕ) → trim_of (state_of journal) ≤ pos → virtual_log_at (state_of journal).register.chain cells pos ≡ log_at (state_of journal) pos) (tail : virtual_tail (state_of journal).register.chain cells ≡ tail_of (state_of journal)) where
+  module _ (low : (log : List Entry) (n : ℕ) → law.floor log n → n ≤ length log) (chain : Chain) (cells : List LogletView) (chain_is : chain ≡ (state_of journal).register.chain) (shows : (pos : ℕ) → trim_of (state_of journal) ≤ pos → virtual_log_at (state_of journal).register.chain cells pos ≡ log_at (state_of journal) pos) (tail : virtual_tail (state_of journal).register.chain cells ≡ tail_of (state_of journal)) where
     -- what the log tells at a position that isn't trimmed the loglets say
     pub shown_from : (c : Content) (pos from : ℕ) (e : Entry) → log_at (state_of journal) pos ≡ Some e → Contains (map (λ p. p.content) (unpack 0 e)) c → chain.trim ≤ pos → from ≤ pos → SaysFrom chain cells from c
     shown_from c pos from e is says high up =
         let untrimmed : trim_of (state_of journal) ≤ pos = subst (λ (k : Chain). k.trim ≤ pos) chain_is high in
-        let below = stands_below may floor shelf low journal pos e legal (inr is) in
+        let below = stands_below law low journal pos e legal (inr is) in
         subst (λ k. SaysFrom k cells from c) (sym chain_is)
-        (says_from (state_of journal).register.chain cells pos from e c (no_gap may floor shelf journal legal cells shows tail) untrimmed (omega (arith, below, tail)) (shows pos untrimmed ∙ is) says up)
+        (says_from (state_of journal).register.chain cells pos from e c (no_gap law journal legal cells shows tail) untrimmed (omega (arith, below, tail)) (shows pos untrimmed ∙ is) says up)
 
     pub stood_from : (c : Content) (from : ℕ) (r : StandsThere journal c) → chain.trim ≤ r.at → from ≤ r.at → SaysFrom chain cells from c
     stood_from c from r high up =
         let untrimmed : trim_of (state_of journal) ≤ r.at = subst (λ (k : Chain). k.trim ≤ r.at) chain_is high in
         shown_from c r.at from r.entry
-        (⊎_elim (λ (trimmed : r.at < trim_of (state_of journal)). absurd (omega (arith, trimmed, untrimmed))) (λ (s : log_at (state_of journal) r.at ≡ Some r.entry). s) (holds_stands may floor shelf journal r.at r.entry legal r.held))
+        (⊎_elim (λ (trimmed : r.at < trim_of (state_of journal)). absurd (omega (arith, trimmed, untrimmed))) (λ (s : log_at (state_of journal) r.at ≡ Some r.entry). s) (holds_stands law journal r.at r.entry legal r.held))
         r.says high up

@@ -4,6 +4,7 @@ use Rattle.std.proofs.lemmas.Bool.{cases_lt}
 use Rattle.delos_types.specs.Spaces.{SpaceMap}
 use Rattle.delos_types.specs.declared.entry.Entry.{Entry}
 use Rattle.delos_types.specs.declared.chain.Chain.{Chain}
+use Rattle.legal_journal.specs.Law.{Law}
 use Rattle.legal_journal.specs.declared.events.Event.{Event}
 use Rattle.legal_journal.specs.Journal.{log_at, state_of, trim_of}
 use Rattle.legal_journal.proofs.Legal.{sound}
@@ -109,7 +110,7 @@ some_in [] i low = absurd (omega (arith, low))
 some_in (x ∷ xs) zero low = (x, refl)
 some_in (x ∷ xs) (suc i) low = some_in xs i (omega (arith, low))
 
-module _ (may : ℕ → Entry → Type 0) (floor : List Entry → ℕ → Type 0) (shelf : List ℕ) (state : List Entry → SpaceMap → Type 0) (spells : List ℕ → Saved → Type 0) (run : MayRun may floor shelf) (lines : List NamedLine) (journal : List Event) (looks : List (Option Looked)) (log : List Entry) (workers : List WorkerEnd) (o : Told) (yard : Shown) (mine : (who : ℕ) (e : Entry) → may who e → may_of lines who e) (floor_is : FloorIs floor (length workers)) (h : HasClosed may floor shelf state spells lines journal looks log workers) (are : AreRows lines workers looks o.rows) (back : IsGivenBack may floor shelf journal workers o.chain yard) where
+module _ (law : Law) (state : List Entry → SpaceMap → Type 0) (spells : List ℕ → Saved → Type 0) (run : MayRun law) (lines : List NamedLine) (journal : List Event) (looks : List (Option Looked)) (log : List Entry) (workers : List WorkerEnd) (o : Told) (yard : Shown) (mine : (who : ℕ) (e : Entry) → law.may who e → may_of lines who e) (floor_is : FloorIs law.floor (length workers)) (h : HasClosed law state spells lines journal looks log workers) (are : AreRows lines workers looks o.rows) (back : IsGivenBack law journal workers o.chain yard) where
   abbrev played : List Played
   played = played_of lines o.rows looks
 
@@ -119,16 +120,16 @@ module _ (may : ℕ → Entry → Type 0) (floor : List Entry → ℕ → Type 0
   trim_same = ap (λ (c : _). c.trim) back.chain_is
 
   -- where something is trimmed the rules let it be
-  freed : (o.chain.trim ≡ 0) ⊎ Frees floor journal o.chain.trim
+  freed : (o.chain.trim ≡ 0) ⊎ Frees law.floor journal o.chain.trim
   freed = ⊎_elim
       (λ (none : trim_of (state_of journal) ≡ 0). inl (trim_same ∙ none))
-      (λ (some : Contains (raised journal) (trim_of (state_of journal))). subst (λ n. (n ≡ 0) ⊎ Frees floor journal n) (sym trim_same) (raised_free may floor shelf journal (trim_of (state_of journal)) back.legal some))
-      (trim_raised may floor shelf journal back.legal)
+      (λ (some : Contains (raised journal) (trim_of (state_of journal))). subst (λ n. (n ≡ 0) ⊎ Frees law.floor journal n) (sym trim_same) (raised_free law journal (trim_of (state_of journal)) back.legal some))
+      (trim_raised law journal back.legal)
 
   -- an entry that was appended is of lines
   own_items : (e : Entry) (q : Placed) → Contains (appended journal) e → Contains (unpack 0 e) q → (who : ℕ) × IsLineOf lines who q.content
   own_items e q has says =
-      let sent = appended_may may floor shelf journal e back.legal has in
+      let sent = appended_may law journal e back.legal has in
       (sent.0, all-contained (λ (p : Placed). IsLineOf lines sent.0 p.content) (unpack 0 e) q (mine sent.0 e sent.1).items says)
 
   told_now : AreTold lines looks journal
@@ -136,7 +137,7 @@ module _ (may : ℕ → Entry → Type 0) (floor : List Entry → ℕ → Type 0
 
   -- Where the log was trimmed it was to the lesser of the trim point and the least position of a member, and both are clean
 
-  module _ (f : Frees floor journal o.chain.trim) where
+  module _ (f : Frees law.floor journal o.chain.trim) where
     abbrev says : List Placed
     says = unpack_all 0 f.log
 
@@ -151,7 +152,7 @@ module _ (may : ℕ → Entry → Type 0) (floor : List Entry → ℕ → Type 0
         let within = b.clean.within in
         let x = some_in b.clean.log i (omega (arith, low, within)) in
         let shown = f.shows i there.1 ∙ at_index f.log i e there.1 there.2 in
-        let same : Some x.0 ≡ Some e = sym (shows_all may floor shelf run.low journal i x.0 back.legal (b.clean.front i x.0 x.1)) ∙ shown in
+        let same : Some x.0 ≡ Some e = sym (shows_all law run.low journal i x.0 back.legal (b.clean.front i x.0 x.1)) ∙ shown in
         absurd (b.behind i e q low (x.1 ∙ same) among so))
         (λ (high : n ≤ there.0). high)
         (cases_lt there.0 n)
@@ -174,8 +175,8 @@ module _ (may : ℕ → Entry → Type 0) (floor : List Entry → ℕ → Type 0
         let shown = f.shows i e.1.1 ∙ at_index f.log i e.0 e.1.1 e.1.2 in
         let here : o.chain.trim ≤ i = omega (arith, high, up) in
         let untrimmed : trim_of (state_of journal) ≤ i = subst (λ (k : Chain). k.trim ≤ i) back.chain_is here in
-        shown_from may floor shelf journal back.legal run.low o.chain yard.cells back.chain_is back.shows back.tail c i o.chain.trim e.0
-        (⊎_elim (λ (trimmed : i < trim_of (state_of journal)). absurd (omega (arith, trimmed, untrimmed))) (λ (s : log_at (state_of journal) i ≡ Some e.0). s) ((sound may floor shelf journal back.legal).was_shown i e.0 shown))
+        shown_from law journal back.legal run.low o.chain yard.cells back.chain_is back.shows back.tail c i o.chain.trim e.0
+        (⊎_elim (λ (trimmed : i < trim_of (state_of journal)). absurd (omega (arith, trimmed, untrimmed))) (λ (s : log_at (state_of journal) i ≡ Some e.0). s) ((sound law journal back.legal).was_shown i e.0 shown))
         (subst (Contains (map (λ (x : Placed). x.content) (unpack 0 e.0))) (e.4 ∙ is) (contains-mapped (unpack 0 e.0) e.2 e.3)) here here
 
     -- so is the least position of a member
@@ -252,11 +253,11 @@ module _ (may : ℕ → Entry → Type 0) (floor : List Entry → ℕ → Type 0
   pub clean_below : o.chain.trim ≤ length log → is_clean (λ s. 1) (asked_in 0 (take o.chain.trim log)) ≡ true
   clean_below short = ⊎_elim
       (λ (none : o.chain.trim ≡ 0). by (subst (IsCleanPoint journal) (sym none) (clean_none journal)))
-      (λ (f : Frees floor journal o.chain.trim). by (trim_clean f))
+      (λ (f : Frees law.floor journal o.chain.trim). by (trim_clean f))
       freed
     where
       by : IsCleanPoint journal o.chain.trim → is_clean (λ s. 1) (asked_in 0 (take o.chain.trim log)) ≡ true
-      by p = ap (λ l. is_clean (λ s. 1) (asked_in 0 l)) (same_beginning may floor shelf journal log p.log o.chain.trim back.legal h.front p.front short p.within) ∙ p.clean
+      by p = ap (λ l. is_clean (λ s. 1) (asked_in 0 l)) (same_beginning law journal log p.log o.chain.trim back.legal h.front p.front short p.within) ∙ p.clean
 
   -- Lines and their rows
 
@@ -331,7 +332,7 @@ module _ (may : ℕ → Entry → Type 0) (floor : List Entry → ℕ → Type 0
             let t = turn_at k.at k.line k.is in
             record { at = k.at; turn = t.0; is = t.1; so = ap (λ (l : NamedLine). l.asks) t.2 ∙ k.asks }
 
-        by : Frees floor journal o.chain.trim → SomeTurn played (λ t. t.line.asks ≡ asks.Admin Trim)
+        by : Frees law.floor journal o.chain.trim → SomeTurn played (λ t. t.line.asks ≡ asks.Admin Trim)
         by f =
             let m = floor_is.only f.log o.chain.trim f.free in
             ⊎_elim
@@ -379,7 +380,7 @@ module _ (may : ℕ → Entry → Type 0) (floor : List Entry → ℕ → Type 0
                 absurd (cc)
             by at t is node_is asked look tells up = absurd up
 
-    kept : Frees floor journal o.chain.trim → (node : ℕ) → 1 ≤ node → node ≤ length workers → o.chain.trim ≢ 0 → SomeTurn played (IsToLeave node) ⊎ SaysReport o.chain yard.cells o.chain.trim node
+    kept : Frees law.floor journal o.chain.trim → (node : ℕ) → 1 ≤ node → node ≤ length workers → o.chain.trim ≢ 0 → SomeTurn played (IsToLeave node) ⊎ SaysReport o.chain yard.cells o.chain.trim node
     unfolding turn_for
     kept f node low high some = ⊎_elim
         (λ (leaves : AskedFor lines looks node Retire (λ look. Unit {0})). let t = turn_for node Retire (λ look. Unit {0}) leaves in inl (record { at = t.0; turn = t.1; is = t.2; so = record { node_is = t.3; asks = t.4 } }))
@@ -395,6 +396,6 @@ module _ (may : ℕ → Entry → Type 0) (floor : List Entry → ℕ → Type 0
       asked = λ some. record { trims = trim_line some; each = λ node low high. lets_go some node low (omega (arith, high, nodes)) };
       reached = λ node low high known. reached node low (omega (arith, high, nodes)) known;
       stand = stands;
-      rests = λ some. ⊎_elim (λ (none : o.chain.trim ≡ 0). absurd (some none)) (λ (f : Frees floor journal o.chain.trim). trim_rests f some) freed;
-      kept = λ node low high some. ⊎_elim (λ (none : o.chain.trim ≡ 0). absurd (some none)) (λ (f : Frees floor journal o.chain.trim). kept f node low (omega (arith, high, nodes)) some) freed;
+      rests = λ some. ⊎_elim (λ (none : o.chain.trim ≡ 0). absurd (some none)) (λ (f : Frees law.floor journal o.chain.trim). trim_rests f some) freed;
+      kept = λ node low high some. ⊎_elim (λ (none : o.chain.trim ≡ 0). absurd (some none)) (λ (f : Frees law.floor journal o.chain.trim). kept f node low (omega (arith, high, nodes)) some) freed;
     }

@@ -4,6 +4,7 @@ use Rattle.delos_types.specs.Spaces.{SpaceMap}
 use Rattle.delos_types.specs.declared.entry.Entry.{Entry}
 use Rattle.delos_types.specs.declared.chain.Chain.{Chain}
 use Rattle.loglet_api.specs.View.{LogletView}
+use Rattle.legal_journal.specs.Law.{Law}
 use Rattle.legal_journal.specs.declared.events.Event.{Event}
 use Rattle.legal_journal.specs.Journal.{IsLegal, state_of, trim_of, tail_of, log_at}
 use Rattle.fabric_core.specs.Log.{virtual_log_at, virtual_tail}
@@ -35,28 +36,28 @@ pub record DeskClosed (log : List Entry) (s : ℕ) (was : Desk) (desks : List De
   pub all : 0 < was.asked → AreAllAnswers log s now.answers.items
 
 -- Node n rests behind the last line; no node has played the log further than `log`.
-pub record WorkerClosed (may : ℕ → Entry → Type 0) (floor : List Entry → ℕ → Type 0) (shelf : List ℕ) (state : List Entry → SpaceMap → Type 0) (spells : List ℕ → Saved → Type 0) (lines : List NamedLine) (home : ℕ → ℕ) (nodes : ℕ) (c : Course) (counts : List ℕ) (looks : List (Option Looked)) (log : List Entry) (n : ℕ) (w : WorkerEnd) : Type 0 where
+pub record WorkerClosed (law : Law) (state : List Entry → SpaceMap → Type 0) (spells : List ℕ → Saved → Type 0) (lines : List NamedLine) (home : ℕ → ℕ) (nodes : ℕ) (c : Course) (counts : List ℕ) (looks : List (Option Looked)) (log : List Entry) (n : ℕ) (w : WorkerEnd) : Type 0 where
   pub was : List Desk
-  pub rests : Rests may floor shelf state spells lines home nodes c counts looks n (length lines) c.phase w.seat was
+  pub rests : Rests law state spells lines home nodes c counts looks n (length lines) c.phase w.seat was
   pub short : w.seat.node.replica.cursor ≤ length log
   pub size : length w.desks ≡ length was
   pub each : (s : ℕ) (d : Desk) → slice_get was s ≡ Some d → DeskClosed log s d w.desks
 
-pub record HasClosed (may : ℕ → Entry → Type 0) (floor : List Entry → ℕ → Type 0) (shelf : List ℕ) (state : List Entry → SpaceMap → Type 0) (spells : List ℕ → Saved → Type 0) (lines : List NamedLine) (journal : List Event) (looks : List (Option Looked)) (log : List Entry) (workers : List WorkerEnd) : Type 0 where
+pub record HasClosed (law : Law) (state : List Entry → SpaceMap → Type 0) (spells : List ℕ → Saved → Type 0) (lines : List NamedLine) (journal : List Event) (looks : List (Option Looked)) (log : List Entry) (workers : List WorkerEnd) : Type 0 where
   pub home : ℕ → ℕ
   pub course : Course
   pub counts : List ℕ
   pub journal_is : course.journal ≡ journal
   pub lines_are : AreLines lines home (length workers)
-  pub ok : CourseOk may floor shelf lines (length workers) course counts looks
+  pub ok : CourseOk law lines (length workers) course counts looks
   pub over : (i : ℕ) (l : NamedLine) → slice_get lines i ≡ Some l → l.phase < course.phase
   pub front : IsFront Holds journal log
-  pub each : (j : ℕ) (w : WorkerEnd) → slice_get workers j ≡ Some w → WorkerClosed may floor shelf state spells lines home (length workers) course counts looks log (j + 1) w
+  pub each : (j : ℕ) (w : WorkerEnd) → slice_get workers j ≡ Some w → WorkerClosed law state spells lines home (length workers) course counts looks log (j + 1) w
 
 -- The yard that comes back: its loglets and its register are as the journal tells, each disk counted its node's faults.
-pub record IsGivenBack (may : ℕ → Entry → Type 0) (floor : List Entry → ℕ → Type 0) (shelf : List ℕ) (journal : List Event) (workers : List WorkerEnd) (chain : Chain) (yard : Shown) : Type 0 where
-  pub legal : IsLegal may floor shelf journal
-  pub shelf_is : map (λ v. v.servers) yard.cells ≡ shelf
+pub record IsGivenBack (law : Law) (journal : List Event) (workers : List WorkerEnd) (chain : Chain) (yard : Shown) : Type 0 where
+  pub legal : IsLegal law journal
+  pub shelf_is : map (λ v. v.servers) yard.cells ≡ law.shelf
   pub runs : (i : ℕ) (v : LogletView) → slice_get yard.cells i ≡ Some v → HasRun i journal v
   pub register_runs : HasRegisterRun journal yard.register
   pub chain_is : chain ≡ (state_of journal).register.chain

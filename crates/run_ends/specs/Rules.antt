@@ -2,6 +2,7 @@
 use Rattle.std.specs.Prelude.{◌≡◌, ℕ, List, Option, Some, slice_get}
 use Rattle.std.specs.List.{AllByRecursion}
 use Rattle.delos_types.specs.declared.entry.Entry.{Entry}
+use Rattle.legal_journal.specs.Law.{Law}
 use Rattle.table_core.specs.declared.command.Command.{Command}
 use Rattle.engine_api.specs.declared.content.Content.{Content}
 use Rattle.engine_api.specs.declared.content.Content.TheVariants.{Session, Alive, Leave, Trim}
@@ -13,6 +14,7 @@ use Rattle.script_text.specs.declared.asks.NamedLine.{NamedLine}
 use Rattle.script_text.specs.declared.asks.Asks.{Asks}
 use Rattle.script_text.specs.declared.asks.Asks.TheVariants as asks
 use Rattle.run_laws.specs.Ended.{LogsThis}
+use Rattle.turn_scopes.specs.Floors.{MayTrim}
 
 -- what is asked is to log this command, as this rank of this session
 abbrev pub LogsRank : Asks → ℕ → ℕ → Option Command → Type 0
@@ -63,6 +65,10 @@ pub record HoldsLines (lines : List NamedLine) (who : ℕ) (e : Entry) : Type 0 
 -- who may append what
 abbrev pub may_of : List NamedLine → ℕ → Entry → Type 0
 may_of lines who e = HoldsLines lines who e
+
+-- The law of a run: so many nodes append what its lines ask them to, and trim what none of them needs again.
+abbrev pub law_of : List NamedLine → ℕ → List ℕ → Law
+law_of lines nodes shelf = record { may = may_of lines; floor = MayTrim nodes; shelf = shelf }
 
 -- each entry is somebody's
 abbrev pub AreOfLines : List NamedLine → List Entry → Type 0

@@ -36,9 +36,9 @@ use run_course::laws::what_is_trimmed_was_told;
 
 /// Each fault that came was counted, and stands in the yard.
 pub fn the_faults_were_counted<P: Rules, S: Replica>()
-    ensures { MayRun P.may P.floor P.shelf → (lines : List NamedLine) (rows : List Row) (journal : List Event) (looks : List (Option Looked)) (log : List Entry) (workers : List WorkerEnd) (o : Told) (yard : Shown)
-        → (h : HasClosed P.may P.floor P.shelf S.state S.spells lines journal looks log workers)
-        → AreRows lines workers looks rows → IsGivenBack P.may P.floor P.shelf journal workers o.chain yard
+    ensures { MayRun P.law → (lines : List NamedLine) (rows : List Row) (journal : List Event) (looks : List (Option Looked)) (log : List Entry) (workers : List WorkerEnd) (o : Told) (yard : Shown)
+        → (h : HasClosed P.law S.state S.spells lines journal looks log workers)
+        → AreRows lines workers looks rows → IsGivenBack P.law journal workers o.chain yard
         → FaultsCame (played_of lines rows looks) h.course.faults yard }
 {
     lacks_are_counted();
@@ -50,14 +50,14 @@ pub fn the_faults_were_counted<P: Rules, S: Replica>()
 
 /// Each line can be told: its command was answered, or its session was stopped; its read was played.
 pub fn what_closed_can_be_told<P: Rules, S: Replica>()
-    ensures { MayRun P.may P.floor P.shelf → (lines : List NamedLine) (journal : List Event) (looks : List (Option Looked)) (log : List Entry) (workers : List WorkerEnd)
-        → HasClosed P.may P.floor P.shelf S.state S.spells lines journal looks log workers → CanTell lines workers looks }
+    ensures { MayRun P.law → (lines : List NamedLine) (journal : List Event) (looks : List (Option Looked)) (log : List Entry) (workers : List WorkerEnd)
+        → HasClosed P.law S.state S.spells lines journal looks log workers → CanTell lines workers looks }
 {}
 
 /// Each line ended as its row says.
 pub fn each_line_has_ended<P: Rules, S: Replica>()
-    ensures { MayRun P.may P.floor P.shelf → (lines : List NamedLine) (rows : List Row) (journal : List Event) (looks : List (Option Looked)) (log : List Entry) (workers : List WorkerEnd)
-        → (h : HasClosed P.may P.floor P.shelf S.state S.spells lines journal looks log workers)
+    ensures { MayRun P.law → (lines : List NamedLine) (rows : List Row) (journal : List Event) (looks : List (Option Looked)) (log : List Entry) (workers : List WorkerEnd)
+        → (h : HasClosed P.law S.state S.spells lines journal looks log workers)
         → AreRows lines workers looks rows
         → AllAfter (LineEnded log h.course.tails h.course.faults (end_of lines workers h.home h.course.when)) [] (played_of lines rows looks) }
 {
@@ -66,8 +66,8 @@ pub fn each_line_has_ended<P: Rules, S: Replica>()
 
 /// Each session ended, stopped by a fault or not.
 pub fn each_session_has_ended<P: Rules, S: Replica>()
-    ensures { MayRun P.may P.floor P.shelf → (lines : List NamedLine) (rows : List Row) (journal : List Event) (looks : List (Option Looked)) (log : List Entry) (workers : List WorkerEnd) (s : ℕ)
-        → (h : HasClosed P.may P.floor P.shelf S.state S.spells lines journal looks log workers)
+    ensures { MayRun P.law → (lines : List NamedLine) (rows : List Row) (journal : List Event) (looks : List (Option Looked)) (log : List Entry) (workers : List WorkerEnd) (s : ℕ)
+        → (h : HasClosed P.law S.state S.spells lines journal looks log workers)
         → AreRows lines workers looks rows
         → SessionEnded (played_of lines rows looks) h.course.faults h.home s (end_of lines workers h.home h.course.when s) }
 {}
@@ -75,16 +75,16 @@ pub fn each_session_has_ended<P: Rules, S: Replica>()
 /// Where no fault came, the chain goes from the first loglet to one as many behind it as rows tell that the last loglet was replaced.
 pub fn each_segment_is_told<P: Rules, S: Replica>()
     ensures { (lines : List NamedLine) (rows : List Row) (journal : List Event) (looks : List (Option Looked)) (log : List Entry) (workers : List WorkerEnd)
-        → HasClosed P.may P.floor P.shelf S.state S.spells lines journal looks log workers → AreRows lines workers looks rows → faults_in journal ≡ []
+        → HasClosed P.law S.state S.spells lines journal looks log workers → AreRows lines workers looks rows → faults_in journal ≡ []
         → GoesTo (state_of journal).register.chain (count_by (λ r. is_some (version_made r.outcome)) rows) }
 {}
 
 /// A run whose nodes have closed has ended.
 pub fn what_closed_has_ended<P: Rules, S: Replica>()
-    ensures { MayRun P.may P.floor P.shelf → (lines : List NamedLine) (journal : List Event) (looks : List (Option Looked)) (log : List Entry) (workers : List WorkerEnd) (o : Told) (yard : Shown)
-        → ((who : ℕ) (e : Entry) → P.may who e → may_of lines who e) → FloorIs P.floor (length workers)
-        → HasClosed P.may P.floor P.shelf S.state S.spells lines journal looks log workers
-        → AreRows lines workers looks o.rows → o.end ≡ length log → IsGivenBack P.may P.floor P.shelf journal workers o.chain yard
+    ensures { MayRun P.law → (lines : List NamedLine) (journal : List Event) (looks : List (Option Looked)) (log : List Entry) (workers : List WorkerEnd) (o : Told) (yard : Shown)
+        → ((who : ℕ) (e : Entry) → P.law.may who e → may_of lines who e) → FloorIs P.law.floor (length workers)
+        → HasClosed P.law S.state S.spells lines journal looks log workers
+        → AreRows lines workers looks o.rows → o.end ≡ length log → IsGivenBack P.law journal workers o.chain yard
         → IsRegisterAsTold (state_of journal).register yard.register → ChainIsRegistered o yard.register
         → (map (λ t. t.line) (played_of lines o.rows looks) ≡ lines) × RunEnded (played_of lines o.rows looks) o yard }
 {
@@ -98,7 +98,7 @@ pub fn what_closed_has_ended<P: Rules, S: Replica>()
 /// A run whose nodes have closed stays so as its chain is read, by a user that is no node.
 pub fn reads_change_nothing<P: Rules, S: Replica>()
     ensures { (lines : List NamedLine) (journal more : List Event) (looks : List (Option Looked)) (log : List Entry) (workers : List WorkerEnd)
-        → HasClosed P.may P.floor P.shelf S.state S.spells lines journal looks log workers
-        → AreOwn 0 more → AreReads more → IsLegal P.may P.floor P.shelf (journal ++ more)
-        → HasClosed P.may P.floor P.shelf S.state S.spells lines (journal ++ more) looks log workers }
+        → HasClosed P.law S.state S.spells lines journal looks log workers
+        → AreOwn 0 more → AreReads more → IsLegal P.law (journal ++ more)
+        → HasClosed P.law S.state S.spells lines (journal ++ more) looks log workers }
 {}

@@ -12,12 +12,12 @@ ghost use Rattle.script_text.specs.declared.asks.NamedLine.{NamedLine};
 ghost use Rattle.script_text.specs.declared.line.Session.{Session};
 ghost use Rattle.script_text.specs.declared.line.Admin.TheVariants.{Alive, Retire, Trim};
 ghost use Rattle.script_text.specs.declared.asks.Asks.TheVariants as asks;
-ghost use Rattle.run_ends.specs.Rules.{may_of, AreOfLines, IsAskedBy};
+ghost use Rattle.run_ends.specs.Rules.{law_of, may_of, AreOfLines, IsAskedBy};
 
 /// A run may go by these rules: items of lines may be packed together, the log is trimmed no further than it goes, and of no node
 /// another says that it leaves, or how much of the log it needs no more.
 pub fn lines_may_run()
-    ensures { (lines : List NamedLine) (nodes : ℕ) (shelf : List ℕ) → MayRun (may_of lines) (MayTrim nodes) shelf }
+    ensures { (lines : List NamedLine) (nodes : ℕ) (shelf : List ℕ) → MayRun (law_of lines nodes shelf) }
 {}
 
 /// Of a session the node where its lines are may append commands, and no other.

@@ -129,23 +129,22 @@ fn table_told(alloc: Global, lines: &[NamedLine], told: &Told) -> Result<Table, 
 }
 
 // The number of which the value is the decimal text, and 0 where it is none.
-fn number_in(alloc: Global, value: &Bytes) -> Result<i64, AllocError>
-    ensures { IfOk result (λ number. number ≡ specs.number_in value.now) }
+fn number_in(value: &Bytes) -> i64
+    ensures { result ≡ specs.number_in value.now }
 {
-    let amount = amount_of(alloc, value.as_slice())?;
-    Ok(amount.unwrap_or(0))
+    amount_of(value.as_slice()).unwrap_or(0)
 }
 
 // The sum of all values. Each is a number of 64 bits, and there are fewer than 2^63, so it fits in 128 bits.
-fn sum_of(alloc: Global, table: &Table) -> Result<i128, AllocError>
-    ensures { IfOk result (λ sum. sum ≡ specs.sum_of_table table.now) }
+fn sum_of(table: &Table) -> i128
+    ensures { result ≡ specs.sum_of_table table.now }
 {
     let mut sum: i128 = 0;
     for (_, value) in table.iter() {
-        let number = number_in(alloc, value)?;
+        let number = number_in(value);
         sum += i128::from(number);
     }
-    Ok(sum)
+    sum
 }
 
 /// What came of a run of these lines. The commands of placed rows are done again on a table of their own, in the order of their
@@ -158,7 +157,7 @@ pub fn totals(alloc: Global, lines: &[NamedLine], told: &Told) -> Result<Totals,
     Ok(Totals {
         commands: commands_in(lines),
         acted: acted_in(told.rows.as_slice()),
-        sum: sum_of(alloc, &table)?,
+        sum: sum_of(&table),
         segments: told.chain.segments.as_slice().len() as u64,
     })
 }

@@ -51,11 +51,10 @@ pub fn name_at(word: &[u8]) -> Result<&[u8], Fault>
 
 /// The number that a word is.
 #[tactic(auto, unfolding(crate::specs::Fields::number_of))]
-pub fn number_at(alloc: Global, word: &[u8]) -> Result<i64, Fault>
+pub fn number_at(word: &[u8]) -> Result<i64, Fault>
     ensures { Gives result (number_of word.now) }
 {
-    let amount = amount_of(alloc, word)?;
-    match amount {
+    match amount_of(word) {
         Some(number) => Ok(number),
         None => Err(Fault::Breaks(Rule::Number)),
     }

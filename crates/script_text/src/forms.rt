@@ -150,7 +150,7 @@ fn ask_at(alloc: Global, verb: Verb, words: &Words<'_>) -> Result<Ask, Fault>
             Ok(Ask::Log(Command::Cas { key, old, new }))
         }
         Verb::Add => {
-            let amount = number_at(alloc, words.get(5))?;
+            let amount = number_at(words.get(5))?;
             let key = key_at(alloc, words.get(4))?;
             Ok(Ask::Log(Command::Add { key, amount }))
         }

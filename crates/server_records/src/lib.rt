@@ -14,4 +14,4 @@ pub mod record;
 pub mod spell;
 
 pub use record::Record;
-pub use spell::{read_record, sealed_record, stored_record, trimmed_record};
+pub use spell::{compacted_record, read_record, sealed_record, stored_record, trimmed_record};

@@ -11,4 +11,7 @@ pub enum Record {
     Sealed,
     /// The entries below this position, at most 2^32, are let go.
     Trimmed(u64),
+    /// What the records of before came to but for the entries: those below this position, at most 2^32, are let go, and
+    /// it is sealed at this length, at most 2^32, or isn't. It is the first record, or none.
+    Compacted(u64, Option<u64>),
 }

@@ -1,8 +1,9 @@
 //! Records in bytes, and back.
 ghost use Rattle.std.specs.Prelude.{◌≡◌, ◌<◌, ◌≤◌, ◌^◌, IfOk, IfSome, Some, None};
+ghost use Rattle.std.specs.Option.{ForSome};
 ghost use Rattle.delos_types.specs.Spelling.{IsSpellable};
 ghost use Rattle.server_records.specs.Format.{SpellsRecord};
-ghost use Rattle.server_records.specs.Reading.{record_of, record_with, stored_by, trimmed_by, sealed_by, split_position};
+ghost use Rattle.server_records.specs.Reading.{record_of, record_with, stored_by, trimmed_by, sealed_by, compacted_by, seal_by, flagged, last_position, split_position};
 ghost use Rattle.server_records.specs.declared.record.Record as view;
 
 use crate::record::Record;
@@ -12,7 +13,7 @@ use delos_types::entry::Entry;
 use entry_codec::{DecodeError, decode_entry, encode_entry};
 use std::alloc::{AllocError, Global};
 
-/// Positions of entries are below this, and a trim is at most this.
+/// Positions of entries are below this; a trim, a base and a length are at most this.
 const POSITIONS: u64 = 0x1_0000_0000;
 
 /// The bytes of the record that the entry stands at this position.
@@ -47,6 +48,25 @@ pub fn trimmed_record(alloc: Global, position: u64) -> Result<Bytes, AllocError>
     Ok(Bytes::from_vec(out))
 }
 
+/// The bytes of the record that a compaction begins with: the entries below the base are let go, and the server is sealed
+/// at this length or isn't.
+pub fn compacted_record(
+    alloc: Global,
+    base: u64,
+    sealed_at: Option<u64>,
+) -> Result<Bytes, AllocError>
+    requires base { base ≤ 2 ^ 32 }
+    requires sealed { ForSome sealed_at (λ n. n ≤ 2 ^ 32) }
+    ensures { IfOk result (λ bytes. SpellsRecord bytes (Record.Compacted base sealed_at)) }
+{
+    let mut out = Vec::new(alloc);
+    out.push(4)?;
+    put_u64(&mut out, base)?;
+    out.push(if sealed_at.is_some() { 1 } else { 0 })?;
+    put_u64(&mut out, sealed_at.unwrap_or(0))?;
+    Ok(Bytes::from_vec(out))
+}
+
 /// The record that the bytes spell, and None exactly where they spell none.
 pub fn read_record(alloc: Global, bytes: &[u8]) -> Result<Option<Record>, AllocError>
     ensures value { IfOk result (λ read. read ≡ record_of bytes.now) }
@@ -76,6 +96,7 @@ fn read_tagged(alloc: Global, tag: u8, bytes: &[u8]) -> Result<Option<Record>, A
         1 => stored_in(alloc, bytes),
         2 => Ok(sealed_in(bytes)),
         3 => Ok(trimmed_in(bytes)),
+        4 => Ok(compacted_in(bytes)),
         _ => Ok(None),
     }
 }
@@ -109,9 +130,44 @@ fn sealed_in(bytes: &[u8]) -> Option<Record>
 fn trimmed_in(bytes: &[u8]) -> Option<Record>
     ensures { result ≡ trimmed_by (split_position bytes.now) }
 {
+    Some(Record::Trimmed(last_in(bytes)?))
+}
+
+fn compacted_in(bytes: &[u8]) -> Option<Record>
+    ensures { result ≡ compacted_by (split_position bytes.now) }
+{
+    let (base, rest) = split_u64(bytes)?;
+    if base > POSITIONS {
+        return None;
+    }
+    Some(Record::Compacted(base, seal_in(rest)?))
+}
+
+/// The length at which a server is sealed, behind the flag that says whether it is.
+fn seal_in(bytes: &[u8]) -> Option<Option<u64>>
+    ensures { result ≡ seal_by bytes.now }
+{
+    let (flag, rest) = bytes.split_first()?;
+    flagged_as(*flag, last_in(rest)?)
+}
+
+fn flagged_as(flag: u8, length: u64) -> Option<Option<u64>>
+    ensures { result ≡ flagged flag (Some length) }
+{
+    match flag {
+        0 if length == 0 => Some(None),
+        1 => Some(Some(length)),
+        _ => None,
+    }
+}
+
+/// The number that the bytes spell, at most 2^32, if they spell just one.
+fn last_in(bytes: &[u8]) -> Option<u64>
+    ensures { result ≡ last_position (split_position bytes.now) }
+{
     let (position, rest) = split_u64(bytes)?;
     if position <= POSITIONS && rest.is_empty() {
-        Some(Record::Trimmed(position))
+        Some(position)
     } else {
         None
     }

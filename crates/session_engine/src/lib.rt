@@ -9,16 +9,16 @@ ghost use Rattle.engine_steps.specs.Layout.{held_of};
 ghost use Rattle.engine_steps.specs.Steps.{opening, Frees, Acts, RankStep, SessionUp, waits, RepliesAt};
 ghost use Rattle.engine_steps.specs.Words.{under};
 
-mod keys;
-
-use crate::keys::{held, held_key, last_key, last_rank, reply_key, set_number};
 use delos_types::entry::Entry;
 use delos_types::item::{Item, ItemList};
 use delos_types::numbers::{NodeId, Rank, SessionId};
 use delos_types::place::Place;
 use delos_types::space::Space;
 use engine_steps::engine::{Down, Engine, Up};
-use engine_steps::layout::{CLEAN_KEY, SESSION, is_holding, set, slot_text};
+use engine_steps::layout::{
+    CLEAN_KEY, SESSION, held, held_key, is_holding, last_key, last_rank, reply_key, set,
+    set_number, slot_text,
+};
 use engine_steps::words::{ranked_item, session_word};
 use std::alloc::{AllocError, Global};
 
@@ -107,7 +107,7 @@ fn note_clean(space: &mut dyn Space, place: Place) -> Result<(), AllocError>
     if holding {
         return Ok(());
     }
-    set_number(space, &CLEAN_KEY, place.pos)
+    set_number(space, SESSION, &CLEAN_KEY, place.pos)
 }
 
 fn at_rank(
@@ -162,7 +162,7 @@ fn act(
     let mut freed = ItemList::new(alloc);
     let last = free(alloc, space, session, rank, &mut freed)?;
     let key = last_key(session);
-    set_number(space, &key, last)?;
+    set_number(space, SESSION, &key, last)?;
     Ok(Up::Pass(freed))
 }
 

@@ -7,9 +7,15 @@ ghost use Rattle.store_records.specs.declared.change.Commit as view;
 
 use crate::change::{Changes, Commit};
 use crate::fields::{Stop, changes_at, end_at, u64_at};
-use delos_types::big_endian::{put_u16, put_u32, put_u64};
+use delos_types::big_endian::put_u64;
 use delos_types::bytes::Bytes;
 use std::alloc::{AllocError, Global};
+
+/// The flag of a key that is removed.
+const REMOVED: u8 = 0;
+
+/// The flag of a key that gets a value.
+const SET: u8 = 1;
 
 /// Adds what a transaction begins with: its cursor, and the number of its changes.
 pub fn put_head(out: &mut Vec<u8>, cursor: u64, count: u64) -> Result<(), AllocError>
@@ -37,6 +43,7 @@ pub fn put_change(
 }
 
 /// The same, of a key whose bytes are kept elsewhere.
+#[tactic(auto, unfolding(delos_types::specs::Numbers::u16_bytes))]
 pub fn put_change_of(
     out: &mut Vec<u8>,
     kind: u8,
@@ -48,21 +55,22 @@ pub fn put_change_of(
     ensures text { OnOk result (out.new.items ≡ out.old.items ++ change_bytes (record { kind = kind; key = key.now; value = option_copied value.entry })) }
     ensures fits { IsSpellableChange (record { kind = kind; key = key.now; value = option_copied value.entry }) }
 {
-    out.push(kind)?;
-    put_u16(out, key.len() as u16)?;
+    let size = (key.len() as u16).to_be_bytes();
+    out.extend_from_slice(&[kind, size[0], size[1]])?;
     out.extend_from_slice(key)?;
     put_value(out, value)
 }
 
+#[tactic(auto, unfolding(delos_types::specs::Numbers::u32_bytes))]
 fn put_value(out: &mut Vec<u8>, value: Option<&Bytes>) -> Result<(), AllocError>
     requires { IfSome (option_copied value) (λ v. length v < 2 ^ 32) }
     ensures { OnOk result (out.new.items ≡ out.old.items ++ value_bytes (option_copied value.entry)) }
 {
     match value {
-        None => out.push(0)?,
+        None => out.push(REMOVED)?,
         Some(value) => {
-            out.push(1)?;
-            put_u32(out, value.len() as u32)?;
+            let size = (value.len() as u32).to_be_bytes();
+            out.extend_from_slice(&[SET, size[0], size[1], size[2], size[3]])?;
             out.extend_from_slice(value.as_slice())?;
         }
     }

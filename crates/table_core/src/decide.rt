@@ -91,7 +91,7 @@ fn start(alloc: Global, amount: i64) -> Result<Decision, AllocError>
 fn add(alloc: Global, value: &Bytes, amount: i64) -> Result<Decision, AllocError>
     ensures { IfOk result (Decides (Some value.now) (added value.now (amount_of value.now) amount)) }
 {
-    let Some(stored) = amount_of(alloc, value.as_slice())? else {
+    let Some(stored) = amount_of(value.as_slice()) else {
         return Ok(Decision::keep(Reply::NotNumber));
     };
     let Some(sum) = stored.checked_add(amount) else {

@@ -3,6 +3,7 @@ use Rattle.std.proofs.Common.{◌≡◌, ℕ, ◌+◌, ◌<◌, List, [], ◌∷
 use Rattle.std.specs.List.{All, Contains}
 use Rattle.std.proofs.lemmas.List.Elements.{All-nil, All-push, All-weaker, Contains-append_right, Contains-append_left, Contains-push}
 use Rattle.delos_types.specs.declared.entry.Entry.{Entry}
+use Rattle.legal_journal.specs.Law.{Law}
 use Rattle.legal_journal.specs.declared.events.Event.{Event}
 use Rattle.legal_journal.specs.Journal.{IsLegal}
 use Rattle.legal_journal.proofs.Legal.{legal_front, goes_on}
@@ -14,20 +15,20 @@ use Rattle.pass_lock.specs.Pass.{LockId, Known, one_part}
 use Rattle.thread_rows.specs.declared.writer.Written.{Written}
 use Rattle.thread_rows.specs.Writers.{AllHeld, AllHeldBy}
 
-module _ (may : ℕ → Entry → Type 0) (floor : List Entry → ℕ → Type 0) (shelf : List ℕ) where
+module _ (law : Law) where
   -- what is held at these positions is held there later
-  held_on : (old more : List Event) (e : Entry) (ps : List ℕ) → IsLegal may floor shelf (old ++ more) → All (λ pos. Holds old pos e) ps → All (λ pos. Holds (old ++ more) pos e) ps
-  held_on old more e ps legal h = All-weaker (λ pos. Holds old pos e) (λ pos. Holds (old ++ more) pos e) (λ pos k. holds_later may floor shelf old (old ++ more) pos e (legal_front may floor shelf old more legal) (goes_on may floor shelf old more legal) k) ps h
+  held_on : (old more : List Event) (e : Entry) (ps : List ℕ) → IsLegal law (old ++ more) → All (λ pos. Holds old pos e) ps → All (λ pos. Holds (old ++ more) pos e) ps
+  held_on old more e ps legal h = All-weaker (λ pos. Holds old pos e) (λ pos. Holds (old ++ more) pos e) (λ pos k. holds_later law old (old ++ more) pos e (legal_front law old more legal) (goes_on law old more legal) k) ps h
 
-  pub held_later : (old new : List Event) (e : Entry) (ps : List ℕ) → Later may floor shelf old new → All (λ pos. Holds old pos e) ps → All (λ pos. Holds new pos e) ps
-  held_later old new e ps later h = subst (λ es. All (λ pos. Holds es pos e) ps) (sym later.seen) (held_on old later.more e ps (subst (IsLegal may floor shelf) later.seen later.legal) h)
+  pub held_later : (old new : List Event) (e : Entry) (ps : List ℕ) → Later law old new → All (λ pos. Holds old pos e) ps → All (λ pos. Holds new pos e) ps
+  held_later old new e ps later h = subst (λ es. All (λ pos. Holds es pos e) ps) (sym later.seen) (held_on old later.more e ps (subst (IsLegal law) later.seen later.legal) h)
 
   -- .. and at one more
-  pub held_more : (old new : List Event) (e : Entry) (ps qs : List ℕ) (pos : ℕ) → Later may floor shelf old new → All (λ p. Holds old p e) ps → Holds new pos e → qs ≡ ps ++ pos ∷ [] → All (λ p. Holds new p e) qs
+  pub held_more : (old new : List Event) (e : Entry) (ps qs : List ℕ) (pos : ℕ) → Later law old new → All (λ p. Holds old p e) ps → Holds new pos e → qs ≡ ps ++ pos ∷ [] → All (λ p. Holds new p e) qs
   held_more old new e ps qs pos later h k is = subst (All (λ p. Holds new p e)) (sym is) (All-push (λ p. Holds new p e) ps pos (held_later old new e ps later h) k)
 
   -- the journal of the lock goes on from what was seen with each part
-  pub all_held : (journal : List Event) (parts : List (Part Event)) (ws : List Written) → IsLegal may floor shelf journal → IsKnown (λ (e : Event). e.who) journal parts → AllHeldBy parts ws → AllHeld journal ws
+  pub all_held : (journal : List Event) (parts : List (Part Event)) (ws : List Written) → IsLegal law journal → IsKnown (λ (e : Event). e.who) journal parts → AllHeldBy parts ws → AllHeld journal ws
   all_held journal parts ws legal known h =
       All-weaker
       (λ (w : Written). (part : Part Event) × Contains parts part × All (λ pos. Holds part.1 pos w.entry) w.placed.items)
@@ -35,7 +36,7 @@ module _ (may : ℕ → Entry → Type 0) (floor : List Entry → ℕ → Type 0
       (λ w x.
       let f : Follows (λ (e : Event). e.who) x.0.0 x.0.1 journal = subst (λ (p : Part Event). Follows (λ (e : Event). e.who) p.0 p.1 journal) x.1.2 (known x.1.0 x.0 x.1.1) in
       subst (λ (es : List Event). All (λ pos. Holds es pos w.entry) w.placed.items) (sym f.1)
-      (held_on x.0.1 f.0 w.entry w.placed.items (subst (IsLegal may floor shelf) f.1 legal) x.2))
+      (held_on x.0.1 f.0 w.entry w.placed.items (subst (IsLegal law) f.1 legal) x.2))
       ws h
 
 -- a pass with one part is joined, with which a user's entry was seen at each of its positions

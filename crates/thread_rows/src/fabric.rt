@@ -19,13 +19,9 @@ impl Rules for Open {
     ghost use Rattle.std.specs.Prelude.{[], ◌∷◌, ◌≤◌};
     ghost use Rattle.loglet_api.specs.declared.call.Kind.TheVariants.{Native};
 
-    ghost may = { λ _ _. Unit {0} };
+    ghost law = { record { may = λ _ _. Unit {0}; floor = λ _ n. n ≤ 0; shelf = 3 ∷ [] } };
 
     ghost seals = { λ _. Unit {0} };
-
-    ghost floor = { λ _ n. n ≤ 0 };
-
-    ghost shelf = { 3 ∷ [] };
 
     ghost kinds = { Native 3 ∷ [] };
 }

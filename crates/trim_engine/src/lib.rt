@@ -86,7 +86,7 @@ fn hear(alloc: Global, space: &mut dyn Space, content: &Content) -> Result<Up, A
 {
     match content {
         Content::Trim { position } => {
-            raise(alloc, space, *position)?;
+            raise(space, *position)?;
             Ok(Up::Stop)
         }
         Content::Session { .. } => Ok(Up::Pass(ItemList::new(alloc))),
@@ -96,7 +96,7 @@ fn hear(alloc: Global, space: &mut dyn Space, content: &Content) -> Result<Up, A
 }
 
 // The trim point only rises.
-fn raise(alloc: Global, space: &mut dyn Space, position: u64) -> Result<(), AllocError>
+fn raise(space: &mut dyn Space, position: u64) -> Result<(), AllocError>
     ensures step { OnOk result (contents space.new ≡ raised_trim (contents space.old) position) }
     ensures beginning { beginning space.new ≡ beginning space.old }
 {
@@ -104,5 +104,5 @@ fn raise(alloc: Global, space: &mut dyn Space, position: u64) -> Result<(), Allo
     if point >= position {
         return Ok(());
     }
-    set_number(alloc, space, TRIM, &TRIM_KEY, position)
+    set_number(space, TRIM, &TRIM_KEY, position)
 }

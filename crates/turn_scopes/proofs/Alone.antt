@@ -3,7 +3,7 @@ use Rattle.std.proofs.Common.{◌≡◌, ⊎_elim, ℕ, Bool, true, false, cond,
 use Rattle.std.specs.Prelude.{◌==◌, ◌&&◌, count_by}
 use Rattle.std.proofs.lemmas.Bool.Decides.{nat_tests}
 use Rattle.std.proofs.lemmas.List.Sums.{sum_by-cons}
-use Rattle.delos_types.specs.declared.entry.Entry.{Entry}
+use Rattle.legal_journal.specs.Law.{Law}
 use Rattle.legal_journal.specs.declared.events.FabricCall.{FabricCall}
 use Rattle.legal_journal.specs.declared.events.FabricAnswer.{FabricAnswer}
 use Rattle.legal_journal.specs.declared.events.Event.{Event}
@@ -13,13 +13,13 @@ use Rattle.legal_journal.specs.Sealing.{begins_seal, own_seals, Unsealed}
 use Rattle.virtual_log.specs.Sealing.{SealsNone}
 use Rattle.fabric_core.specs.Fabric.{Adds}
 use Rattle.turn_scopes.specs.Alone.{IsAlone, AreOwn, OwnSince}
-use Rattle.turn_scopes.specs.Beside.{MayTake, IsTaken, AreAmong, Since, Narrows}
+use Rattle.turn_scopes.specs.Beside.{MayTake, IsTaken, AreAmong, Since, IsNarrower, Narrows}
 use Rattle.turn_scopes.proofs.Seals.{own_seals-cons, one_if}
 
 -- what it adds is what it takes
-pub adds_taken : (may : ℕ → Entry → Type 0) (floor : List Entry → ℕ → Type 0) (shelf : List ℕ) (beside : ℕ → Type 0) (who : ℕ) (old : List Event) (call : FabricCall) (answer : FabricAnswer) (new : List Event)
-    → Adds old who call answer new → IsLegal may floor shelf new → IsTaken may floor shelf beside who old call answer new
-adds_taken may floor shelf beside who old call answer new adds legal = record {
+pub adds_taken : (law : Law) (beside : ℕ → Type 0) (who : ℕ) (old : List Event) (call : FabricCall) (answer : FabricAnswer) (new : List Event)
+    → Adds old who call answer new → IsLegal law new → IsTaken law beside who old call answer new
+adds_taken law beside who old call answer new adds legal = record {
   others = [];
   own = adds.own;
   between = tt;
@@ -29,18 +29,16 @@ adds_taken may floor shelf beside who old call answer new adds legal = record {
 }
 
 -- what may be taken may be called at once
-pub taken_at_once : (may : ℕ → Entry → Type 0) (floor : List Entry → ℕ → Type 0) (shelf : List ℕ) (beside : ℕ → Type 0) (who : ℕ) (seen : List Event) (call : FabricCall)
-    → MayTake may floor shelf beside who seen call → IsLegal may floor shelf seen → MayCall (state_of seen) may floor shelf who call
-taken_at_once may floor shelf beside who seen call take legal =
-    subst (λ (es : List Event). MayCall (state_of es) may floor shelf who call) (append-nil seen)
-    (take.behind [] tt (subst (IsLegal may floor shelf) (sym (append-nil seen)) legal))
+pub taken_at_once : (law : Law) (beside : ℕ → Type 0) (who : ℕ) (seen : List Event) (call : FabricCall)
+    → MayTake law beside who seen call → IsLegal law seen → MayCall (state_of seen) law who call
+taken_at_once law beside who seen call take legal =
+    subst (λ (es : List Event). MayCall (state_of es) law who call) (append-nil seen)
+    (take.behind [] tt (subst (IsLegal law) (sym (append-nil seen)) legal))
 
 -- a scope that is narrower than the rules binds nobody beside, since there is nobody
-pub narrows_alone : (may sends : ℕ → Entry → Type 0) (floor low : List Entry → ℕ → Type 0) (shelf : List ℕ) (beside : ℕ → Type 0) → IsAlone beside
-    → ((user : ℕ) (e : Entry) → sends user e → may user e) → ((log : List Entry) (n : ℕ) → low log n → floor log n) → Narrows may sends floor low shelf beside
-narrows_alone may sends floor low shelf beside alone narrower lower = record {
+pub narrows_alone : (scope law : Law) (beside : ℕ → Type 0) → IsAlone beside → IsNarrower scope law → Narrows scope law beside
+narrows_alone scope law beside alone narrower = record {
   narrower = narrower;
-  lower = lower;
   others = λ user e b h. absurd (alone.nobody user b);
   trims = λ user b seen n legal free. absurd (alone.nobody user b);
 }

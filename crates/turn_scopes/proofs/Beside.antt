@@ -1,20 +1,23 @@
 -- What others beside do keeps to a scope, as far as it is bound by what its user did.
 use Rattle.std.proofs.Common.{◌≡◌, ◌≢◌, ◌⊎◌, inl, inr, ℕ, List, [], ◌∷◌, ◌++◌, length, refl, sym, ap, ◌∙◌, subst, append_assoc, append-nil}
-use Rattle.delos_types.specs.declared.entry.Entry.{Entry}
 use Rattle.delos_types.specs.declared.chain.Chain.{Chain}
 use Rattle.loglet_api.specs.declared.call.Op.{Op}
 use Rattle.loglet_api.specs.declared.call.Op.TheVariants.{Append, Settle, Tail, Seal, Read, Trim}
+use Rattle.legal_journal.specs.Law.{Law}
 use Rattle.legal_journal.specs.declared.events.FabricCall.{FabricCall}
 use Rattle.legal_journal.specs.declared.events.FabricAnswer.{FabricAnswer}
 use Rattle.legal_journal.specs.declared.events.Event.{Event}
 use Rattle.legal_journal.specs.Moves.{CellMove, Begins, Carries, Answers, Drops, Misses, RegisterMove, Gives, Conflicts, Writes, Faults, Fails, Mends, Move, OnCell, OnRegister, Nothing, Never, move}
-use Rattle.legal_journal.specs.Journal.{State, state_of, start, after, MayBegin, MayFollow, IsFree, CellAllowed, RegisterAllowed, IsAllowed, MayHappen, IsLegalFrom, IsLegal}
+use Rattle.legal_journal.specs.Journal.{State, state_of, start, after, MayBegin, MayFollow, IsFree, CellAllowed, RegisterAllowed, IsAllowed, Exists, MayHappen, IsLegalFrom, IsLegal}
 use Rattle.legal_journal.specs.Turns.{AreOthers}
 use Rattle.legal_journal.proofs.Legal.{IsLegalFrom-split, IsLegalFrom-join, after_all-append}
 use Rattle.turn_scopes.specs.Beside.{AreBeside, AreAmong, Since, OthersMay, OthersTrim}
 
-module _ (may sends : ℕ → Entry → Type 0) (floor low : List Entry → ℕ → Type 0) (shelf : List ℕ) (beside : ℕ → Type 0) (others : OthersMay beside may sends) (trims : OthersTrim beside floor sends low shelf) where
-  begin_beside : (w : State) (cells who i : ℕ) (op : Op) → beside who → MayBegin w may cells who i op → MayBegin w sends cells who i op
+module _ (law scope : Law) (same : scope.shelf ≡ law.shelf) (beside : ℕ → Type 0) (others : OthersMay beside law scope) (trims : OthersTrim beside law scope) where
+  as_many : length law.shelf ≡ length scope.shelf
+  as_many = ap length (sym same)
+
+  begin_beside : (w : State) (cells who i : ℕ) (op : Op) → beside who → MayBegin w law.may cells who i op → MayBegin w scope.may cells who i op
   begin_beside w cells who i (Append e) b h = (h.0, others who e b h.1)
   begin_beside w cells who i (Settle n) b h = h
   begin_beside w cells who i Tail b h = h
@@ -22,18 +25,18 @@ module _ (may sends : ℕ → Entry → Type 0) (floor low : List Entry → ℕ 
   begin_beside w cells who i (Read p) b h = h
   begin_beside w cells who i (Trim n) b h = h
 
-  cell_beside : (w : State) (cells who i : ℕ) (m : CellMove) → beside who → CellAllowed w may cells who i m → CellAllowed w sends cells who i m
+  cell_beside : (w : State) (cells who i : ℕ) (m : CellMove) → beside who → CellAllowed w law.may cells who i m → CellAllowed w scope.may cells who i m
   cell_beside w cells who i (Begins op t) b h = (begin_beside w cells who i op b h.0, h.1, h.2)
   cell_beside w cells who i (Carries t) b h = h
   cell_beside w cells who i (Answers t x) b h = h
   cell_beside w cells who i (Drops t) b h = h
   cell_beside w cells who i (Misses t) b h = h
 
-  follow_beside : (w : State) (cells : ℕ) (old new : Chain) → ((n : ℕ) → IsFree w.shown floor n → IsFree w.shown low n) → MayFollow w floor cells old new → MayFollow w low cells old new
+  follow_beside : (w : State) (cells : ℕ) (old new : Chain) → ((n : ℕ) → IsFree w.shown law.floor n → IsFree w.shown scope.floor n) → MayFollow w law.floor cells old new → MayFollow w scope.floor cells old new
   follow_beside w cells old new free (inl h) = inl h
   follow_beside w cells old new free (inr h) = inr (h.0, free new.trim h.1)
 
-  register_beside : (w : State) (cells : ℕ) (m : RegisterMove) → ((n : ℕ) → IsFree w.shown floor n → IsFree w.shown low n) → RegisterAllowed w floor cells m → RegisterAllowed w low cells m
+  register_beside : (w : State) (cells : ℕ) (m : RegisterMove) → ((n : ℕ) → IsFree w.shown law.floor n → IsFree w.shown scope.floor n) → RegisterAllowed w law.floor cells m → RegisterAllowed w scope.floor cells m
   register_beside w cells (Gives v c) free h = h
   register_beside w cells (Conflicts x v c) free h = h
   register_beside w cells (Writes x c v) free h = (h.0, h.1, follow_beside w cells w.register.chain c free h.2, h.3)
@@ -41,31 +44,31 @@ module _ (may sends : ℕ → Entry → Type 0) (floor low : List Entry → ℕ 
   register_beside w cells Fails free h = h
   register_beside w cells (Mends x) free h = h
 
-  allowed_beside : (w : State) (cells who : ℕ) (m : Move) → beside who → ((n : ℕ) → IsFree w.shown floor n → IsFree w.shown low n) → IsAllowed w may floor cells who m → IsAllowed w sends low cells who m
-  allowed_beside w cells who (OnCell i m) b free h = cell_beside w cells who i m b h
-  allowed_beside w cells who (OnRegister m) b free h = register_beside w cells m free h
-  allowed_beside w cells who Nothing b free h = h
-  allowed_beside w cells who Never b free h = h
+  allowed_beside : (w : State) (who : ℕ) (m : Move) → beside who → ((n : ℕ) → IsFree w.shown law.floor n → IsFree w.shown scope.floor n) → IsAllowed w law who m → IsAllowed w scope who m
+  allowed_beside w who (OnCell i m) b free h = subst (λ cells. CellAllowed w scope.may cells who i m) as_many (cell_beside w (length law.shelf) who i m b h)
+  allowed_beside w who (OnRegister m) b free h = subst (λ cells. RegisterAllowed w scope.floor cells m) as_many (register_beside w (length law.shelf) m free h)
+  allowed_beside w who Nothing b free h = h
+  allowed_beside w who Never b free h = h
 
-  event_beside : (seen : List Event) (e : Event) → beside e.who → IsLegal sends low shelf seen → MayHappen (state_of seen) may floor shelf e → IsLegal sends low shelf (seen ++ e ∷ [])
+  event_beside : (seen : List Event) (e : Event) → beside e.who → IsLegal scope seen → MayHappen (state_of seen) law e → IsLegal scope (seen ++ e ∷ [])
   event_beside seen e b legal h = record {
     least = legal.least;
     most = legal.most;
-    steps = IsLegalFrom-join sends low shelf start seen (e ∷ []) legal.steps
-        (record { there = h.there; allowed = allowed_beside (state_of seen) (length shelf) e.who (move e) b (λ n free. trims e.who b seen n legal free) h.allowed }, tt);
+    steps = IsLegalFrom-join scope start seen (e ∷ []) legal.steps
+        (record { there = subst (λ shelf. Exists shelf e.call) (sym same) h.there; allowed = allowed_beside (state_of seen) e.who (move e) b (λ n free. trims e.who b seen n legal free) h.allowed }, tt);
   }
 
-  others_legal : (es seen : List Event) → AreBeside beside es → IsLegal sends low shelf seen → IsLegalFrom (state_of seen) may floor shelf es → IsLegal sends low shelf (seen ++ es)
-  others_legal [] seen b legal h = subst (IsLegal sends low shelf) (sym (append-nil seen)) legal
+  others_legal : (es seen : List Event) → AreBeside beside es → IsLegal scope seen → IsLegalFrom (state_of seen) law es → IsLegal scope (seen ++ es)
+  others_legal [] seen b legal h = subst (IsLegal scope) (sym (append-nil seen)) legal
   others_legal (e ∷ es) seen b legal h =
       let step = event_beside seen e b.0 legal h.0 in
       let now : state_of (seen ++ e ∷ []) ≡ after (state_of seen) e.who (move e) = after_all-append start seen (e ∷ []) in
-      subst (IsLegal sends low shelf) (append_assoc seen (e ∷ []) es)
-      (others_legal es (seen ++ e ∷ []) b.1 step (subst (λ (w : State). IsLegalFrom w may floor shelf es) (sym now) h.1))
+      subst (IsLegal scope) (append_assoc seen (e ∷ []) es)
+      (others_legal es (seen ++ e ∷ []) b.1 step (subst (λ (w : State). IsLegalFrom w law es) (sym now) h.1))
 
   -- A journal that is legal by the scope stays so, whatever those beside add to it by the rules.
-  pub legal_beside : (seen es : List Event) → AreBeside beside es → IsLegal sends low shelf seen → IsLegal may floor shelf (seen ++ es) → IsLegal sends low shelf (seen ++ es)
-  legal_beside seen es b legal h = others_legal es seen b legal (IsLegalFrom-split may floor shelf start seen es h.steps).1
+  pub legal_beside : (seen es : List Event) → AreBeside beside es → IsLegal scope seen → IsLegal law (seen ++ es) → IsLegal scope (seen ++ es)
+  legal_beside seen es b legal h = others_legal es seen b legal (IsLegalFrom-split law start seen es h.steps).1
 
 -- those beside are others
 pub are_others : (who : ℕ) (beside : ℕ → Type 0) → ((user : ℕ) → beside user → user ≢ who) → (es : List Event) → AreBeside beside es → AreOthers who es

@@ -5,6 +5,7 @@ use Rattle.delos_types.specs.declared.entry.Entry.{Entry}
 use Rattle.delos_types.specs.declared.chain.Segment.{Segment}
 use Rattle.delos_types.specs.declared.chain.Chain.{Chain}
 use Rattle.chain_map.specs.Chain.{last_of_segments}
+use Rattle.legal_journal.specs.Law.{Law}
 use Rattle.legal_journal.specs.declared.events.Event.{Event}
 use Rattle.legal_journal.specs.Moves.{Move, RegisterMove, OnCell, OnRegister, Nothing, Never, Gives, Conflicts, Writes, Faults, Fails, Mends, move}
 use Rattle.legal_journal.specs.Shown.{end_of}
@@ -49,8 +50,8 @@ some_at [] n h = absurd (omega arith)
 some_at (x ∷ xs) zero h = (x, refl)
 some_at (x ∷ xs) (suc n) h = some_at xs n (omega arith)
 
-module _ (may : ℕ → Entry → Type 0) (floor : List Entry → ℕ → Type 0) (cells : ℕ) (low : (log : List Entry) (n : ℕ) → floor log n → n ≤ length log) where
-  follows_trimmed : (w : State) (c : Chain) → StateOk cells w → Trimmed w → MayFollow w floor cells w.register.chain c → c.trim ≤ tail_of w
+module _ (law : Law) (low : (log : List Entry) (n : ℕ) → law.floor log n → n ≤ length log) where
+  follows_trimmed : (w : State) (c : Chain) → StateOk (length law.shelf) w → Trimmed w → MayFollow w law.floor (length law.shelf) w.register.chain c → c.trim ≤ tail_of w
   follows_trimmed w c ok t (inl x) = omega (arith, t.now, ap (λ (k : Chain). k.trim) x.is)
   follows_trimmed w c ok t (inr x) = by_number c.trim refl
     where
@@ -62,14 +63,14 @@ module _ (may : ℕ → Entry → Type 0) (floor : List Entry → ℕ → Type 0
           let e = some_at free.log n inside in
           ⊎_elim
           (λ (h : n < trim_of w). omega (arith, is, h, t.now))
-          (λ (h : log_at w n ≡ Some e.0). let b = shown_below cells w n e.0 ok h in omega (arith, is, b))
+          (λ (h : log_at w n ≡ Some e.0). let b = shown_below (length law.shelf) w n e.0 ok h in omega (arith, is, b))
           (ok.was_shown n e.0 (free.shows n inside ∙ e.1))
 
   current_trimmed : (w : State) (v : ℕ) (c : Chain) → Trimmed w → IsCurrent w.register v c → c.trim ≤ tail_of w
   current_trimmed w v c t (inl x) = omega (arith, t.now, ap (λ (k : Chain). k.trim) x.1)
   current_trimmed w v c t (inr x) = t.asked c x.1
 
-  register_now : (w : State) (m : RegisterMove) → StateOk cells w → Trimmed w → RegisterAllowed w floor cells m → (register_after w.register m).chain.trim ≤ tail_of w
+  register_now : (w : State) (m : RegisterMove) → StateOk (length law.shelf) w → Trimmed w → RegisterAllowed w law.floor (length law.shelf) m → (register_after w.register m).chain.trim ≤ tail_of w
   register_now w (Gives v c) ok t a = current_trimmed w v c t a.1
   register_now w (Conflicts x v c) ok t a = current_trimmed w v c t a.1
   register_now w (Writes x c v) ok t a = follows_trimmed w c ok t a.2
@@ -77,7 +78,7 @@ module _ (may : ℕ → Entry → Type 0) (floor : List Entry → ℕ → Type 0
   register_now w Fails ok t a = t.now
   register_now w (Mends b) ok t a = t.now
 
-  register_asked : (w : State) (m : RegisterMove) → StateOk cells w → Trimmed w → RegisterAllowed w floor cells m → (c : Chain) → (register_after w.register m).asked ≡ Some c → c.trim ≤ tail_of w
+  register_asked : (w : State) (m : RegisterMove) → StateOk (length law.shelf) w → Trimmed w → RegisterAllowed w law.floor (length law.shelf) m → (c : Chain) → (register_after w.register m).asked ≡ Some c → c.trim ≤ tail_of w
   register_asked w (Gives v k) ok t a c is = absurd (cc)
   register_asked w (Conflicts x v k) ok t a c is = absurd (cc)
   register_asked w (Writes x k v) ok t a c is = absurd (cc)
@@ -85,29 +86,29 @@ module _ (may : ℕ → Entry → Type 0) (floor : List Entry → ℕ → Type 0
   register_asked w Fails ok t a c is = t.asked c is
   register_asked w (Mends b) ok t a c is = t.asked c is
 
-  step_trimmed : (w : State) (who : ℕ) (m : Move) → StateOk cells w → Trimmed w → IsAllowed w may floor cells who m → Trimmed (after w who m)
+  step_trimmed : (w : State) (who : ℕ) (m : Move) → StateOk (length law.shelf) w → Trimmed w → IsAllowed w law who m → Trimmed (after w who m)
   step_trimmed w who (OnCell i m) ok t a =
-      let on = (step_ok may floor cells w who (OnCell i m) ok a).1 in
+      let on = (step_ok law w who (OnCell i m) ok a).1 in
       record { now = omega (arith, t.now, on.tail); asked = λ c is. let h = t.asked c is in omega (arith, h, on.tail) }
   step_trimmed w who (OnRegister m) ok t a =
-      let on = (step_ok may floor cells w who (OnRegister m) ok a).1 in
+      let on = (step_ok law w who (OnRegister m) ok a).1 in
       let h = register_now w m ok t a in
       record { now = omega (arith, h, on.tail); asked = λ c is. let k = register_asked w m ok t a c is in omega (arith, k, on.tail) }
   step_trimmed w who Nothing ok t a = t
   step_trimmed w who Never ok t a = absurd a
 
-all_trimmed : (may : ℕ → Entry → Type 0) (floor : List Entry → ℕ → Type 0) (shelf : List ℕ) (low : (log : List Entry) (n : ℕ) → floor log n → n ≤ length log) (w : State) (es : List Event) → StateOk (length shelf) w → Trimmed w → IsLegalFrom w may floor shelf es → Trimmed (after_all w es)
-all_trimmed may floor shelf low w [] ok t h = t
-all_trimmed may floor shelf low w (e ∷ es) ok t h =
-    all_trimmed may floor shelf low (after w e.who (move e)) es (step_ok may floor (length shelf) w e.who (move e) ok h.0.allowed).0 (step_trimmed may floor (length shelf) low w e.who (move e) ok t h.0.allowed) h.1
+all_trimmed : (law : Law) (low : (log : List Entry) (n : ℕ) → law.floor log n → n ≤ length log) (w : State) (es : List Event) → StateOk (length law.shelf) w → Trimmed w → IsLegalFrom w law es → Trimmed (after_all w es)
+all_trimmed law low w [] ok t h = t
+all_trimmed law low w (e ∷ es) ok t h =
+    all_trimmed law low (after w e.who (move e)) es (step_ok law w e.who (move e) ok h.0.allowed).0 (step_trimmed law low w e.who (move e) ok t h.0.allowed) h.1
 
-module _ (may : ℕ → Entry → Type 0) (floor : List Entry → ℕ → Type 0) (shelf : List ℕ) (low : (log : List Entry) (n : ℕ) → floor log n → n ≤ length log) where
-  pub trim_below : (es : List Event) → IsLegal may floor shelf es → trim_of (state_of es) ≤ tail_of (state_of es)
-  trim_below es legal = (all_trimmed may floor shelf low start es (start_ok (length shelf) legal.least legal.most) (record { now = omega arith; asked = λ c is. absurd (cc) }) legal.steps).now
+module _ (law : Law) (low : (log : List Entry) (n : ℕ) → law.floor log n → n ≤ length log) where
+  pub trim_below : (es : List Event) → IsLegal law es → trim_of (state_of es) ≤ tail_of (state_of es)
+  trim_below es legal = (all_trimmed law low start es (start_ok (length law.shelf) legal.least legal.most) (record { now = omega arith; asked = λ c is. absurd (cc) }) legal.steps).now
 
   -- an entry that stands at a position stands below the tail
-  pub stands_below : (es : List Event) (pos : ℕ) (e : Entry) → IsLegal may floor shelf es → Stands (state_of es) pos e → pos < tail_of (state_of es)
+  pub stands_below : (es : List Event) (pos : ℕ) (e : Entry) → IsLegal law es → Stands (state_of es) pos e → pos < tail_of (state_of es)
   stands_below es pos e legal h = ⊎_elim
       (λ (k : pos < trim_of (state_of es)). let t = trim_below es legal in omega (arith, k, t))
-      (λ (k : log_at (state_of es) pos ≡ Some e). shown_below (length shelf) (state_of es) pos e (sound may floor shelf es legal) k)
+      (λ (k : log_at (state_of es) pos ≡ Some e). shown_below (length law.shelf) (state_of es) pos e (sound law es legal) k)
       h

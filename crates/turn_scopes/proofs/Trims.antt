@@ -2,6 +2,7 @@
 use Rattle.std.proofs.Common.{◌≡◌, refl, ap, ◌∙◌, ⊎_elim, ℕ, zero, suc, ◌<◌, ◌≤◌, Bool, true, false, List, [], ◌∷◌, Contains, Some, arith}
 use Rattle.std.specs.Prelude.{slice_get, slice_index_or, length}
 use Rattle.delos_types.specs.declared.entry.Entry.{Entry}
+use Rattle.legal_journal.specs.Law.{Law}
 use Rattle.legal_journal.specs.declared.events.Event.{Event}
 use Rattle.legal_journal.specs.Journal.{IsLegal, IsFree, state_of}
 use Rattle.engine_api.specs.declared.content.Content.TheVariants as content
@@ -19,12 +20,16 @@ at_index [] k e h = absurd (omega (arith, h))
 at_index (x ∷ es) zero e h = refl
 at_index (x ∷ es) (suc k) e h = at_index es k e (omega (arith, h))
 
-module _ (sends : ℕ → Entry → Type 0) (floor : List Entry → ℕ → Type 0) (shelf : List ℕ) (nodes node m : ℕ) (is : FloorIs floor nodes) (least : 1 ≤ node) (most : node ≤ nodes) (tells : TellsUpTo sends node m) where
-  module _ (seen : List Event) (n : ℕ) (legal : IsLegal sends (UpTo floor m) shelf seen) (free : IsFree (state_of seen).shown floor n) where
+module _ (law : Law) (sends : ℕ → Entry → Type 0) (nodes node m : ℕ) (is : FloorIs law.floor nodes) (least : 1 ≤ node) (most : node ≤ nodes) (tells : TellsUpTo sends node m) where
+  -- the scope that trims up to m
+  abbrev scope : Law
+  scope = record law { may = sends; floor = UpTo law.floor m }
+
+  module _ (seen : List Event) (n : ℕ) (legal : IsLegal scope seen) (free : IsFree (state_of seen).shown law.floor n) where
     -- what a legal journal shows was somebody's to append
     sent : (e : Entry) → Contains free.log e → (user : ℕ) × sends user e
-    sent e h = appended_may sends (UpTo floor m) shelf seen e legal
-        (shown_appended sends (UpTo floor m) shelf seen h.0 e legal (free.shows h.0 h.1 ∙ (at_index free.log h.0 e h.1 ∙ ap (λ (x : Entry). Some x) h.2)))
+    sent e h = appended_may scope seen e legal
+        (shown_appended scope seen h.0 e legal (free.shows h.0 h.1 ∙ (at_index free.log h.0 e h.1 ∙ ap (λ (x : Entry). Some x) h.2)))
 
     stays : has_left (unpack_all 0 free.log) node ≡ false
     stays = by (has_left (unpack_all 0 free.log) node) (λ h. left_says (unpack_all 0 free.log) node h)
@@ -52,5 +57,5 @@ module _ (sends : ℕ → Entry → Type 0) (floor : List Entry → ℕ → Type
         let l = low in
         omega (arith, f, p, l)
 
-  pub others_trim : (beside : ℕ → Type 0) → OthersTrim beside floor sends (UpTo floor m) shelf
+  pub others_trim : (beside : ℕ → Type 0) → OthersTrim beside law scope
   others_trim beside = λ user b seen n legal free. record { log = free.log; shows = free.shows; free = (free.free, within seen n legal free) }

@@ -1,6 +1,7 @@
 -- Users of a fabric beside one another.
 use Rattle.std.specs.Prelude.{◌≡◌, ◌⊎◌, ◌<◌, ℕ, List, [], ◌∷◌, ◌++◌}
 use Rattle.delos_types.specs.declared.entry.Entry.{Entry}
+use Rattle.legal_journal.specs.Law.{Law}
 use Rattle.legal_journal.specs.declared.events.FabricCall.{FabricCall}
 use Rattle.legal_journal.specs.declared.events.FabricAnswer.{FabricAnswer}
 use Rattle.legal_journal.specs.declared.events.Event.{Event}
@@ -14,17 +15,17 @@ AreBeside beside [] = Unit {0}
 AreBeside beside (e ∷ es) = beside e.who × AreBeside beside es
 
 -- a call that who may make, whatever legal events of those beside come before it
-pub record MayTake (may : ℕ → Entry → Type 0) (floor : List Entry → ℕ → Type 0) (shelf : List ℕ) (beside : ℕ → Type 0) (who : ℕ) (seen : List Event) (call : FabricCall) : Type 0 where
-  pub behind : (others : List Event) → AreBeside beside others → IsLegal may floor shelf (seen ++ others) → MayCall (state_of (seen ++ others)) may floor shelf who call
+pub record MayTake (law : Law) (beside : ℕ → Type 0) (who : ℕ) (seen : List Event) (call : FabricCall) : Type 0 where
+  pub behind : (others : List Event) → AreBeside beside others → IsLegal law (seen ++ others) → MayCall (state_of (seen ++ others)) law who call
 
 -- what is seen then: what was seen, events of those beside, and the own event
-pub record IsTaken (may : ℕ → Entry → Type 0) (floor : List Entry → ℕ → Type 0) (shelf : List ℕ) (beside : ℕ → Type 0) (who : ℕ) (old : List Event) (call : FabricCall) (answer : FabricAnswer) (new : List Event) : Type 0 where
+pub record IsTaken (law : Law) (beside : ℕ → Type 0) (who : ℕ) (old : List Event) (call : FabricCall) (answer : FabricAnswer) (new : List Event) : Type 0 where
   pub others : List Event
   pub own : List Event
   pub between : AreBeside beside others
   pub event : OwnEvents who call answer own
   pub seen : new ≡ (old ++ others) ++ own
-  pub legal : IsLegal may floor shelf new
+  pub legal : IsLegal law new
 
 -- each event is who's, or of one of those beside
 abbrev pub AreAmong : ℕ → (ℕ → Type 0) → List Event → Type 0
@@ -43,34 +44,38 @@ pub record SealsByRight (may : Type 0) (who : ℕ) (old new : List Event) : Type
   pub seen : new ≡ old ++ more
   pub right : 0 < own_seals who more → may
 
--- those beside may append by the scope what they may by the rules
-abbrev pub OthersMay : (ℕ → Type 0) → (ℕ → Entry → Type 0) → (ℕ → Entry → Type 0) → Type 0
-OthersMay beside may sends = (user : ℕ) (e : Entry) → beside user → may user e → sends user e
+-- what the scope lets, the law does, over the same cells
+pub record IsNarrower (scope law : Law) : Type 0 where
+  pub may : (user : ℕ) (e : Entry) → scope.may user e → law.may user e
+  pub floor : (log : List Entry) (n : ℕ) → scope.floor log n → law.floor log n
+  pub shelf : scope.shelf ≡ law.shelf
 
--- if there is anybody beside, the rules let no log be trimmed but where the scope does too, of any journal that the scope allows
-abbrev pub OthersTrim : (ℕ → Type 0) → (List Entry → ℕ → Type 0) → (ℕ → Entry → Type 0) → (List Entry → ℕ → Type 0) → List ℕ → Type 0
-OthersTrim beside floor sends low shelf =
-    (user : ℕ) → beside user → (seen : List Event) (n : ℕ) → IsLegal sends low shelf seen
-    → IsFree (state_of seen).shown floor n → IsFree (state_of seen).shown low n
+-- those beside may append by the scope what they may by the law
+abbrev pub OthersMay : (ℕ → Type 0) → Law → Law → Type 0
+OthersMay beside law scope = (user : ℕ) (e : Entry) → beside user → law.may user e → scope.may user e
 
--- The scope is narrower than the rules: what it has they allow, and so with how far it trims. It binds nobody beside: what they may do by the rules
--- they may by the scope.
-pub record Narrows (may sends : ℕ → Entry → Type 0) (floor low : List Entry → ℕ → Type 0) (shelf : List ℕ) (beside : ℕ → Type 0) : Type 0 where
-  pub narrower : (user : ℕ) (e : Entry) → sends user e → may user e
-  pub lower : (log : List Entry) (n : ℕ) → low log n → floor log n
-  pub others : OthersMay beside may sends
-  pub trims : OthersTrim beside floor sends low shelf
+-- if there is anybody beside, the law lets no log be trimmed but where the scope does too, of any journal that the scope allows
+abbrev pub OthersTrim : (ℕ → Type 0) → Law → Law → Type 0
+OthersTrim beside law scope =
+    (user : ℕ) → beside user → (seen : List Event) (n : ℕ) → IsLegal scope seen
+    → IsFree (state_of seen).shown law.floor n → IsFree (state_of seen).shown scope.floor n
+
+-- The scope is narrower than the law. It binds nobody beside: what they may do by the law they may by the scope.
+pub record Narrows (scope law : Law) (beside : ℕ → Type 0) : Type 0 where
+  pub narrower : IsNarrower scope law
+  pub others : OthersMay beside law scope
+  pub trims : OthersTrim beside law scope
 
 -- by whom the events are, and the journal as far as it was seen
 pub record NarrowView : Type 0 where
   pub who : ℕ
   pub seen : List Event
 
--- The scope is this user's, and narrower than the rules. The journal is legal by it; each event since it began is who's or of one of those beside;
+-- The scope is this user's, and narrower than the law. The journal is legal by it; each event since it began is who's or of one of those beside;
 -- and who began a Seal since then only where the scope lets it.
-pub record IsNarrow (may sends : ℕ → Entry → Type 0) (floor low : List Entry → ℕ → Type 0) (shelf : List ℕ) (beside : ℕ → ℕ → Type 0) (seals : ℕ → Type 0) (whose : ℕ) (since : List Event) (who : ℕ) (seen : List Event) : Type 0 where
+pub record IsNarrow (scope law : Law) (beside : ℕ → ℕ → Type 0) (seals : ℕ → Type 0) (whose : ℕ) (since : List Event) (who : ℕ) (seen : List Event) : Type 0 where
   pub who_is : who ≡ whose
-  pub narrows : Narrows may sends floor low shelf (beside who)
-  pub legal : IsLegal sends low shelf seen
+  pub narrows : Narrows scope law (beside who)
+  pub legal : IsLegal scope seen
   pub since_is : Since who (beside who) since seen
   pub right : SealsByRight (seals who) who since seen

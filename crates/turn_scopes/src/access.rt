@@ -29,7 +29,7 @@ pub trait Access {
 
     /// Makes one event, after any of those beside. `Memory` makes none, but as `FabricAnswer` says.
     fn take(&mut self, call: FabricCall) -> FabricAnswer
-        requires may { MayTake Self.Law.may Self.Law.floor Self.Law.shelf (beside (who self.old)) (who self.old) (seen self.old) call }
-        ensures taken { IsTaken Self.Law.may Self.Law.floor Self.Law.shelf (beside (who self.old)) (who self.old) (seen self.old) call result (seen self.new) }
+        requires may { MayTake Self.Law.law (beside (who self.old)) (who self.old) (seen self.old) call }
+        ensures taken { IsTaken Self.Law.law (beside (who self.old)) (who self.old) (seen self.old) call result (seen self.new) }
         ensures who { who self.new ≡ who self.old };
 }

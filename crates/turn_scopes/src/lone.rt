@@ -1,5 +1,5 @@
 //! The one user of a fabric.
-ghost use Rattle.std.specs.Prelude.{◌≡◌, ℕ, List};
+ghost use Rattle.std.specs.Prelude.{◌≡◌};
 
 use crate::access::Access;
 use fabric_core::fabric::Fabric;

@@ -25,14 +25,14 @@ impl<A: Access, Q: Scope> Model for Narrowed<A, Q> {
 
     ghost view = { λ n. record { who = A.who n.access; seen = A.seen n.access } };
 
-    ghost invariant = { λ n. IsNarrow A.Law.may Q.sends A.Law.floor Q.floor A.Law.shelf A.beside Q.seals Q.who Q.since (A.who n.access) (A.seen n.access) };
+    ghost invariant = { λ n. IsNarrow Q.law A.Law.law A.beside Q.seals Q.who Q.since (A.who n.access) (A.seen n.access) };
 }
 
 impl<A: Access, Q: Scope> Narrowed<A, Q> {
     /// Begins the scope. Makes no event, and takes no memory.
     pub fn new(access: A) -> Self
-        requires narrows { Narrows A.Law.may Q.sends A.Law.floor Q.floor A.Law.shelf (A.beside (A.who access)) }
-        requires legal { IsLegal Q.sends Q.floor A.Law.shelf (A.seen access) }
+        requires narrows { Narrows Q.law A.Law.law (A.beside (A.who access)) }
+        requires legal { IsLegal Q.law (A.seen access) }
         requires who { Q.who ≡ A.who access }
         requires since { Q.since ≡ A.seen access }
         ensures { result ≡ record { who = A.who access; seen = A.seen access } }
@@ -48,7 +48,7 @@ impl<A: Access, Q: Scope> Narrowed<A, Q> {
         ensures who { A.who result ≡ self.who }
         ensures whose { self.who ≡ Q.who }
         ensures seen { A.seen result ≡ self.seen }
-        ensures legal { IsLegal Q.sends Q.floor A.Law.shelf self.seen }
+        ensures legal { IsLegal Q.law self.seen }
 
         // Each event since the scope began is this user's, or of one of those beside.
         ensures since { Since self.who (A.beside self.who) Q.since self.seen }

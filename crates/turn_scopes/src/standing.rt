@@ -10,26 +10,26 @@ use legal_journal::rules::Rules;
 
 /// What a log holds was somebody's to append.
 pub fn what_is_held_was_sent<P: Rules>()
-    ensures { (seen : List Event) (pos : ℕ) (e : Entry) → IsLegal P.may P.floor P.shelf seen → Holds seen pos e → (who : ℕ) × P.may who e }
+    ensures { (seen : List Event) (pos : ℕ) (e : Entry) → IsLegal P.law seen → Holds seen pos e → (who : ℕ) × P.law.may who e }
 {}
 
 /// Where nothing is trimmed that wasn't shown, the log holds an entry at each position below its tail.
 pub fn what_is_below_the_tail_is_held<P: Rules>()
-    ensures { ((log : List Entry) (n : ℕ) → P.floor log n → n ≤ length log) → (seen : List Event) (pos : ℕ) → IsLegal P.may P.floor P.shelf seen
+    ensures { ((log : List Entry) (n : ℕ) → P.law.floor log n → n ≤ length log) → (seen : List Event) (pos : ℕ) → IsLegal P.law seen
         → pos < tail_of (state_of seen) → (e : Entry) × Holds seen pos e }
 {}
 
 /// What a log holds below the tail of an earlier moment it held then. So an entry that is appended later comes to no
 /// position below that tail.
 pub fn what_is_below_the_tail_stays<P: Rules>()
-    ensures { ((log : List Entry) (n : ℕ) → P.floor log n → n ≤ length log) → (early late : List Event) (pos : ℕ) (e : Entry) → IsLegal P.may P.floor P.shelf (early ++ late)
+    ensures { ((log : List Entry) (n : ℕ) → P.law.floor log n → n ≤ length log) → (early late : List Event) (pos : ℕ) (e : Entry) → IsLegal P.law (early ++ late)
         → pos < tail_of (state_of early) → Holds (early ++ late) pos e → Holds early pos e }
 {}
 
 /// Where nothing is trimmed that wasn't shown, the trim isn't above the tail, and what stands in the log stands below it.
 pub fn what_stands_is_below_the_tail<P: Rules>()
-    ensures trim { ((log : List Entry) (n : ℕ) → P.floor log n → n ≤ length log) → (seen : List Event) → IsLegal P.may P.floor P.shelf seen
+    ensures trim { ((log : List Entry) (n : ℕ) → P.law.floor log n → n ≤ length log) → (seen : List Event) → IsLegal P.law seen
         → trim_of (state_of seen) ≤ tail_of (state_of seen) }
-    ensures stands { ((log : List Entry) (n : ℕ) → P.floor log n → n ≤ length log) → (seen : List Event) (pos : ℕ) (e : Entry) → IsLegal P.may P.floor P.shelf seen
+    ensures stands { ((log : List Entry) (n : ℕ) → P.law.floor log n → n ≤ length log) → (seen : List Event) (pos : ℕ) (e : Entry) → IsLegal P.law seen
         → Stands (state_of seen) pos e → pos < tail_of (state_of seen) }
 {}

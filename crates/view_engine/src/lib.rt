@@ -89,7 +89,7 @@ fn hear(alloc: Global, space: &mut dyn Space, content: &Content) -> Result<Up, A
 {
     match content {
         Content::Alive { node, position } => {
-            report(alloc, space, *node, *position)?;
+            report(space, *node, *position)?;
             Ok(Up::Stop)
         }
         Content::Leave { node } => {
@@ -102,12 +102,7 @@ fn hear(alloc: Global, space: &mut dyn Space, content: &Content) -> Result<Up, A
 }
 
 // A report counts where it is greater than what is known, and its node hasn't left.
-fn report(
-    alloc: Global,
-    space: &mut dyn Space,
-    node: NodeId,
-    position: u64,
-) -> Result<(), AllocError>
+fn report(space: &mut dyn Space, node: NodeId, position: u64) -> Result<(), AllocError>
     ensures step { OnOk result (contents space.new ≡ reports (contents space.old) node position (view_of (contents space.old) node)) }
     ensures beginning { beginning space.new ≡ beginning space.old }
 {
@@ -115,5 +110,5 @@ fn report(
     if is_left(stored.as_ref()) || number_at(stored.as_ref()) >= position {
         return Ok(());
     }
-    set_number(alloc, space, VIEW, &[node.number()], position)
+    set_number(space, VIEW, &[node.number()], position)
 }

@@ -6,6 +6,7 @@ use Rattle.delos_types.specs.declared.entry.Entry.{Entry}
 use Rattle.delos_types.specs.declared.chain.Segment.{Segment}
 use Rattle.delos_types.specs.declared.chain.Chain.{Chain}
 use Rattle.chain_map.specs.Chain.{last_of_segments}
+use Rattle.legal_journal.specs.Law.{Law}
 use Rattle.legal_journal.specs.declared.events.Event.{Event}
 use Rattle.legal_journal.specs.Shown.{end_of}
 use Rattle.legal_journal.specs.Journal.{State, state_of, IsLegal, entries, reach, ends}
@@ -60,14 +61,14 @@ ends_before cells w v j u c x ok was inside low at =
         omega (arith, is, below.2)
 
 -- what is held at a position is one entry
-pub holds_agree : (may : ℕ → Entry → Type 0) (floor : List Entry → ℕ → Type 0) (shelf : List ℕ) (es : List Event) (pos : ℕ) (e f : Entry) → IsLegal may floor shelf es → Holds es pos e → Holds es pos f → e ≡ f
-holds_agree may floor shelf es pos e f legal h k = first (nat_lt x.segment.id y.segment.id) refl
+pub holds_agree : (law : Law) (es : List Event) (pos : ℕ) (e f : Entry) → IsLegal law es → Holds es pos e → Holds es pos f → e ≡ f
+holds_agree law es pos e f legal h k = first (nat_lt x.segment.id y.segment.id) refl
   where
     w : State
     w = state_of es
 
-    ok : StateOk (length shelf) w
-    ok = sound may floor shelf es legal
+    ok : StateOk (length law.shelf) w
+    ok = sound law es legal
 
     x : Found (reach w.cells) (entries w.cells) h.chain.segments pos e
     x = found_in (reach w.cells) (entries w.cells) h.chain.segments pos e h.entry
@@ -94,10 +95,10 @@ holds_agree may floor shelf es pos e f legal h k = first (nat_lt x.segment.id y.
     first : (b : Bool) → nat_lt x.segment.id y.segment.id ≡ b → e ≡ f
     first true b =
         let low : x.segment.id < y.segment.id = grind (arith, nat_tests) in
-        absurd (omega (arith, x.below, y.above, ends_before (length shelf) w h.version y.segment.id y.segment.start h.chain x.segment ok h.given x.inside low y_at))
+        absurd (omega (arith, x.below, y.above, ends_before (length law.shelf) w h.version y.segment.id y.segment.start h.chain x.segment ok h.given x.inside low y_at))
     first false b =
         let low : y.segment.id ≤ x.segment.id = grind (arith, nat_tests) in
         ⊎_elim
         (λ (z : x.segment.id ≤ y.segment.id). same (omega (arith, z, low)))
-        (λ (z : y.segment.id < x.segment.id). absurd (omega (arith, y.below, x.above, ends_before (length shelf) w k.version x.segment.id x.segment.start k.chain y.segment ok k.given y.inside z x_at)))
+        (λ (z : y.segment.id < x.segment.id). absurd (omega (arith, y.below, x.above, ends_before (length law.shelf) w k.version x.segment.id x.segment.start k.chain y.segment ok k.given y.inside z x_at)))
         (second (nat_lt y.segment.id x.segment.id) refl low)

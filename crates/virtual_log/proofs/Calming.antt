@@ -1,7 +1,7 @@
 -- Turns that tell of no fault.
 use Rattle.std.proofs.Common.{◌≡◌, ◌⊎◌, inl, inr, ℕ, List, [], ◌∷◌, ◌++◌, sym, ap, ◌∙◌, subst, append_assoc}
 use Rattle.std.proofs.lemmas.List.{append-nil}
-use Rattle.delos_types.specs.declared.entry.Entry.{Entry}
+use Rattle.legal_journal.specs.Law.{Law}
 use Rattle.legal_journal.specs.declared.events.Event.{Event}
 use Rattle.legal_journal.specs.declared.events.FabricCall.{FabricCall}
 use Rattle.legal_journal.specs.declared.events.FabricAnswer.{FabricAnswer}
@@ -30,9 +30,9 @@ calm_then who user a b c same f g =
       calm = calm_append who f.more h.more f.calm h.calm;
     }
 
-module _ (may : ℕ → Entry → Type 0) (floor : List Entry → ℕ → Type 0) (shelf : List ℕ) (who : ℕ) (old : List Event) where
+module _ (law : Law) (who : ℕ) (old : List Event) where
   -- one turn
-  pub turn_calm : (call : FabricCall) (answer : FabricAnswer) (new : List Event) → IsTurn may floor shelf who old call answer new → IsCalm answer → CalmSince who old new
+  pub turn_calm : (call : FabricCall) (answer : FabricAnswer) (new : List Event) → IsTurn law who old call answer new → IsCalm answer → CalmSince who old new
   turn_calm call answer new t calm = record {
     more = t.others ++ t.own;
     seen = t.seen ∙ append_assoc old t.others t.own;

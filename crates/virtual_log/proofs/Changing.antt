@@ -2,11 +2,11 @@
 use Rattle.std.proofs.Common.{◌≡◌, ◌↔◌, ⊎_elim, ℕ, ◌+◌, ◌<◌, ◌≤◌, ◌^◌, List, [], ◌++◌, length, Bool, true, false, Some, refl, sym, ap, ◌∙◌, subst, arith}
 use Rattle.std.specs.Prelude.{Contains}
 use Rattle.std.proofs.lemmas.Bool.{cases_lt}
-use Rattle.delos_types.specs.declared.entry.Entry.{Entry}
 use Rattle.delos_types.specs.declared.chain.Segment.{Segment}
 use Rattle.delos_types.specs.declared.chain.Chain.{Chain}
 use Rattle.chain_map.specs.Chain.{IsChain, last_of_segments, last_segment}
 use Rattle.chain_map.specs.Step.{extended}
+use Rattle.legal_journal.specs.Law.{Law}
 use Rattle.legal_journal.specs.declared.events.Event.{Event}
 use Rattle.legal_journal.specs.declared.events.FabricCall.TheVariants.{WriteChain}
 use Rattle.legal_journal.specs.declared.events.FabricAnswer.TheVariants.{Written, Conflict}
@@ -31,30 +31,30 @@ use Rattle.virtual_log.proofs.Closing.{same_last}
 use Rattle.virtual_log.proofs.Raising.{free_later, may_raise, raised_goes}
 
 -- what was allowed stays so
-pub granted_later : (may : ℕ → Entry → Type 0) (floor : List Entry → ℕ → Type 0) (shelf : List ℕ) (k : ℕ) (old new : List Event) (x : Change) → Later may floor shelf old new → IsGranted floor (state_of old) k x → IsGranted floor (state_of new) k x
-granted_later may floor shelf k old new (Close last t) later told = ((later_continues may floor shelf old new later).cell last.id).ends t told
-granted_later may floor shelf k old new (Raise n) later h = (h.0, free_later (state_of old) (state_of new) floor n (later_continues may floor shelf old new later) h.1)
+pub granted_later : (law : Law) (k : ℕ) (old new : List Event) (x : Change) → Later law old new → IsGranted law.floor (state_of old) k x → IsGranted law.floor (state_of new) k x
+granted_later law k old new (Close last t) later told = ((later_continues law old new later).cell last.id).ends t told
+granted_later law k old new (Raise n) later h = (h.0, free_later (state_of old) (state_of new) law.floor n (later_continues law old new later) h.1)
 
-module _ (may : ℕ → Entry → Type 0) (floor : List Entry → ℕ → Type 0) (shelf : List ℕ) (who : ℕ) (old : List Event) (v k : ℕ) (c : Chain) (legal : IsLegal may floor shelf old) (goes : GoesBy (state_of old) v c k) where
+module _ (law : Law) (who : ℕ) (old : List Event) (v k : ℕ) (c : Chain) (legal : IsLegal law old) (goes : GoesBy (state_of old) v c k) where
   pub is_chain : IsChain c
-  is_chain = chain_ok (length shelf) (state_of old) v c (sound may floor shelf old legal) goes.given
+  is_chain = chain_ok (length law.shelf) (state_of old) v c (sound law old legal) goes.given
 
   -- the sealed tail is one of the last loglet
   told_last : (last : Segment) (t : ℕ) → last_segment c ≡ last → Contains ((state_of old).cells last.id).ends t → Contains ((state_of old).cells (last_segment c).id).ends t
   told_last last t is told = subst (λ (s : Segment). Contains ((state_of old).cells s.id).ends t) (sym is) told
 
-  pub admits : (x : Change) → IsGranted floor (state_of old) k x → Lacks x c → Admits x c
-  admits (Close last t) told is = let f = fits (length shelf) (state_of old) v t c (sound may floor shelf old legal) goes.given (told_last last t is told) in (f.seam, omega (arith, f.spare, f.few))
+  pub admits : (x : Change) → IsGranted law.floor (state_of old) k x → Lacks x c → Admits x c
+  admits (Close last t) told is = let f = fits (length law.shelf) (state_of old) v t c (sound law old legal) goes.given (told_last last t is told) in (f.seam, omega (arith, f.spare, f.few))
   admits (Raise n) free low = low
 
-  pub may_change : (x : Change) (d : Chain) → IsGranted floor (state_of old) k x → Lacks x c → d ≡ with_change x c → MayTurn may floor shelf who old (WriteChain v d)
-  may_change (Close last t) d told is made = may_write may floor shelf who old v t c d goes.given (told_last last t is told) made legal
-  may_change (Raise n) d free low made = may_raise may floor shelf who old v k n c legal goes d made low free.0 free.1
+  pub may_change : (x : Change) (d : Chain) → IsGranted law.floor (state_of old) k x → Lacks x c → d ≡ with_change x c → MayTurn law who old (WriteChain v d)
+  may_change (Close last t) d told is made = may_write law who old v t c d goes.given (told_last last t is told) made legal
+  may_change (Raise n) d free low made = may_raise law who old v k n c legal goes d made low free.0 free.1
 
   -- the chain behind the last loglet
   behind : (t : ℕ) (d : Chain) → d ≡ extended c t → (last_segment c).id < (last_segment d).id
   behind t d made =
-      let g = (sound may floor shelf old legal).olds v c goes.given in
+      let g = (sound law old legal).olds v c goes.given in
       let last_is : last_segment d ≡ next (last_segment c) t = ap (λ (x : Chain). last_of_segments x.segments) made ∙ last_of_segments-extended_segments (ends (state_of old).cells) g.id g.from c.segments t g.joined in
       omega (arith, ap (λ (s : Segment). s.id) last_is)
 
@@ -65,21 +65,21 @@ module _ (may : ℕ → Entry → Type 0) (floor : List Entry → ℕ → Type 0
   pub changed_rises : (x : Change) (d : Chain) → d ≡ with_change x c → (last_segment c).id ≤ (last_segment d).id
   changed_rises (Close last t) d made = omega (arith, behind t d made)
   changed_rises (Raise n) d made =
-      let g = (sound may floor shelf old legal).olds v c goes.given in
+      let g = (sound law old legal).olds v c goes.given in
       let last_is : last_segment d ≡ last_segment c = ap (λ (x : Chain). last_of_segments x.segments) made ∙ (rest_of (ends (state_of old).cells) n g.id g.from c.segments g.joined).last in
       omega (arith, ap (λ (s : Segment). s.id) last_is)
 
-  pub changed_goes : (x : Change) (n : ℕ) (d e : Chain) (new : List Event) → Lacks x c → d ≡ with_change x c → e ≡ d → IsTurn may floor shelf who old (WriteChain v d) (Written n) new → GoesBy (state_of new) n e k
+  pub changed_goes : (x : Change) (n : ℕ) (d e : Chain) (new : List Event) → Lacks x c → d ≡ with_change x c → e ≡ d → IsTurn law who old (WriteChain v d) (Written n) new → GoesBy (state_of new) n e k
   changed_goes (Close last t) n d e new is made copy h =
-      let given : (state_of new).register.given n ≡ Some e = written_given may floor shelf who old v c d goes.given n new h ∙ ap (λ (x : Chain). Some x) (sym copy) in
-      goes_behind may floor shelf old new v k n c e (last_segment c) legal (turn_later may floor shelf who old (WriteChain v d) (Written n) new h) goes refl given (behind t e (copy ∙ made))
-  changed_goes (Raise m) n d e new low made copy h = raised_goes may floor shelf who old v k m c legal goes n d e new made copy h
+      let given : (state_of new).register.given n ≡ Some e = written_given law who old v c d goes.given n new h ∙ ap (λ (x : Chain). Some x) (sym copy) in
+      goes_behind law old new v k n c e (last_segment c) legal (turn_later law who old (WriteChain v d) (Written n) new h) goes refl given (behind t e (copy ∙ made))
+  changed_goes (Raise m) n d e new low made copy h = raised_goes law who old v k m c legal goes n d e new made copy h
 
-  pub changed_made : (x : Change) (n : ℕ) (d e : Chain) (new : List Event) → Lacks x c → d ≡ with_change x c → e ≡ d → IsTurn may floor shelf who old (WriteChain v d) (Written n) new → IsMade who old x n e new
+  pub changed_made : (x : Change) (n : ℕ) (d e : Chain) (new : List Event) → Lacks x c → d ≡ with_change x c → e ≡ d → IsTurn law who old (WriteChain v d) (Written n) new → IsMade who old x n e new
   changed_made x n d e new lacks made copy h = record {
     expected = v;
     before = c;
-    given = (goes_later may floor shelf old new v k c (turn_later may floor shelf who old (WriteChain v d) (Written n) new h) goes).given;
+    given = (goes_later law old new v k c (turn_later law who old (WriteChain v d) (Written n) new h) goes).given;
     lacks = lacks;
     event = record {
       event = record { who = who; call = WriteChain v d; answer = Written n };
@@ -93,36 +93,36 @@ module _ (may : ℕ → Entry → Type 0) (floor : List Entry → ℕ → Type 0
 
   -- Where a write is refused
 
-  pub lost_goes : (n : ℕ) (d e : Chain) (new : List Event) → IsTurn may floor shelf who old (WriteChain v d) (Conflict n e) new → GoesBy (state_of new) n e k
+  pub lost_goes : (n : ℕ) (d e : Chain) (new : List Event) → IsTurn law who old (WriteChain v d) (Conflict n e) new → GoesBy (state_of new) n e k
   lost_goes n d e new h =
-      let x = lost_ok may floor shelf who old v c d goes.given n e new h in
-      goes_onto may floor shelf v k n c e old new legal (turn_later may floor shelf who old (WriteChain v d) (Conflict n e) new h) goes x.given x.last
+      let x = lost_ok law who old v c d goes.given n e new h in
+      goes_onto law v k n c e old new legal (turn_later law who old (WriteChain v d) (Conflict n e) new h) goes x.given x.last
 
-  pub lost_rises : (n : ℕ) (d e : Chain) (new : List Event) → IsTurn may floor shelf who old (WriteChain v d) (Conflict n e) new → (last_segment c).id ≤ (last_segment e).id
-  lost_rises n d e new h = (lost_ok may floor shelf who old v c d goes.given n e new h).last
+  pub lost_rises : (n : ℕ) (d e : Chain) (new : List Event) → IsTurn law who old (WriteChain v d) (Conflict n e) new → (last_segment c).id ≤ (last_segment e).id
+  lost_rises n d e new h = (lost_ok law who old v c d goes.given n e new h).last
 
   -- the version is later, and not great
-  pub lost_later : (n : ℕ) (d e : Chain) (new : List Event) → IsTurn may floor shelf who old (WriteChain v d) (Conflict n e) new → (v < n) × (n ≤ 2 ^ 38 + 64)
-  lost_later n d e new h = let x = lost_ok may floor shelf who old v c d goes.given n e new h in (x.later, x.few)
+  pub lost_later : (n : ℕ) (d e : Chain) (new : List Event) → IsTurn law who old (WriteChain v d) (Conflict n e) new → (v < n) × (n ≤ 2 ^ 38 + 64)
+  lost_later n d e new h = let x = lost_ok law who old v c d goes.given n e new h in (x.later, x.few)
 
-  pub lost : (n : ℕ) (d e : Chain) (new : List Event) → IsTurn may floor shelf who old (WriteChain v d) (Conflict n e) new → IsLost who old n e new
+  pub lost : (n : ℕ) (d e : Chain) (new : List Event) → IsTurn law who old (WriteChain v d) (Conflict n e) new → IsLost who old n e new
   lost n d e new h = record {
     expected = v;
     asked = d;
     event = record { event = record { who = who; call = WriteChain v d; answer = Conflict n e }; is = refl; before = h.others; after = []; seen = h.seen ∙ ap (λ es. (old ++ h.others) ++ es) h.event };
-    quiet = turn_quiet may floor shelf who old (WriteChain v d) (Conflict n e) new h refl;
+    quiet = turn_quiet law who old (WriteChain v d) (Conflict n e) new h refl;
   }
 
   -- a chain that hasn't the change lacks it
-  pub lacks_still : (x : Change) (n : ℕ) (d e : Chain) (new : List Event) → Lacks x c → IsTurn may floor shelf who old (WriteChain v d) (Conflict n e) new → (b : Bool) → b ≡ false → ((b ≡ true) ↔ Has x e) → Lacks x e
+  pub lacks_still : (x : Change) (n : ℕ) (d e : Chain) (new : List Event) → Lacks x c → IsTurn law who old (WriteChain v d) (Conflict n e) new → (b : Bool) → b ≡ false → ((b ≡ true) ↔ Has x e) → Lacks x e
   lacks_still (Close last t) n d e new is h b off test =
-      let x = lost_ok may floor shelf who old v c d goes.given n e new h in
-      let on = goes_later may floor shelf old new v k c (turn_later may floor shelf who old (WriteChain v d) (Conflict n e) new h) goes in
+      let x = lost_ok law who old v c d goes.given n e new h in
+      let on = goes_later law old new v k c (turn_later law who old (WriteChain v d) (Conflict n e) new h) goes in
       let low : (last_segment e).id ≤ last.id = ⊎_elim
       (λ (up : last.id < (last_segment e).id). let yes : true ≡ false = sym (test.1 up) ∙ off in absurd (cc))
       (λ (l : (last_segment e).id ≤ last.id). l)
       (cases_lt last.id (last_segment e).id) in
-      same_last (length shelf) (state_of new) v n c e (sound may floor shelf new h.legal) on.given x.given (omega (arith, x.last, low, ap (λ (s : Segment). s.id) is)) ∙ is
+      same_last (length law.shelf) (state_of new) v n c e (sound law new h.legal) on.given x.given (omega (arith, x.last, low, ap (λ (s : Segment). s.id) is)) ∙ is
   lacks_still (Raise m) n d e new low h b off test =
       ⊎_elim
       (λ (l : e.trim < m). l)

@@ -8,6 +8,7 @@ use Rattle.delos_types.specs.declared.chain.Chain.{Chain}
 use Rattle.chain_map.specs.Chain.{last_segment, last_of_segments}
 use Rattle.loglet_api.specs.declared.call.Op.TheVariants.{Read}
 use Rattle.loglet_api.specs.declared.call.Answer.TheVariants.{Got}
+use Rattle.legal_journal.specs.Law.{Law}
 use Rattle.legal_journal.specs.declared.events.Event.{Event}
 use Rattle.legal_journal.specs.Told.{started}
 use Rattle.legal_journal.specs.Shown.{is_within, entry_in, end_of}
@@ -59,12 +60,12 @@ some_below : (o : Option ℕ) (d pos : ℕ) → pos < unwrap_or o d → IfSome o
 some_below None d pos h = tt
 some_below (Some n) d pos h = h
 
-module _ (may : ℕ → Entry → Type 0) (floor : List Entry → ℕ → Type 0) (shelf : List ℕ) where
+module _ (law : Law) where
   -- what is held stays held
-  pub holds_later : (a b : List Event) (pos : ℕ) (e : Entry) → IsLegal may floor shelf a → Continues (state_of a) (state_of b) → Holds a pos e → Holds b pos e
+  pub holds_later : (a b : List Event) (pos : ℕ) (e : Entry) → IsLegal law a → Continues (state_of a) (state_of b) → Holds a pos e → Holds b pos e
   holds_later a b pos e legal on h =
       let w = state_of a in
-      let given = (sound may floor shelf a legal).olds h.version h.chain h.given in
+      let given = (sound law a legal).olds h.version h.chain h.given in
       record {
         version = h.version;
         chain = h.chain;
@@ -74,10 +75,10 @@ module _ (may : ℕ → Entry → Type 0) (floor : List Entry → ℕ → Type 0
       }
 
   -- what is held stands in the log
-  pub holds_stands : (es : List Event) (pos : ℕ) (e : Entry) → IsLegal may floor shelf es → Holds es pos e → Stands (state_of es) pos e
+  pub holds_stands : (es : List Event) (pos : ℕ) (e : Entry) → IsLegal law es → Holds es pos e → Stands (state_of es) pos e
   holds_stands es pos e legal h =
       let w = state_of es in
-      let ok = sound may floor shelf es legal in
+      let ok = sound law es legal in
       let given = ok.olds h.version h.chain h.given in
       let f = found_in (reach w.cells) (entries w.cells) h.chain.segments pos e h.entry in
       let x = f.segment in
@@ -89,14 +90,14 @@ module _ (may : ℕ → Entry → Type 0) (floor : List Entry → ℕ → Type 0
         at = omega (arith, f.above);
         started = given.start x.id x.start (HasStart-in x h.chain.segments f.inside);
       } in
-      there (length shelf) w h.version pos x.id (pos - x.start) h.chain e ok h.given p
+      there (length law.shelf) w h.version pos x.id (pos - x.start) h.chain e ok h.given p
       (λ y. omega (arith, f.above, f.below, end_open (reach w.cells) x (ap (λ (s : Segment). s.end) y ∙ last_open (ends w.cells) given.id given.from h.chain.segments given.joined)))
       (λ _. f.entry)
 
   -- an entry that was read is held
-  pub got_held : (who : ℕ) (old mid new : List Event) (v known pos id index t : ℕ) (c : Chain) (e : Entry) → IsLegal may floor shelf old → GoesBy (state_of old) v c known → pos < known → Place (state_of old) c pos id index → (first : Later may floor shelf old mid) → Later may floor shelf mid new → (o : Opened who old id (Read index) t mid) → Answered who mid id t (started ((state_of (old ++ o.first.others)).cells id).told (Read index)) (Got e) new → Holds new pos e
+  pub got_held : (who : ℕ) (old mid new : List Event) (v known pos id index t : ℕ) (c : Chain) (e : Entry) → IsLegal law old → GoesBy (state_of old) v c known → pos < known → Place (state_of old) c pos id index → (first : Later law old mid) → Later law mid new → (o : Opened who old id (Read index) t mid) → Answered who mid id t (started ((state_of (old ++ o.first.others)).cells id).told (Read index)) (Got e) new → Holds new pos e
   got_held who old mid new v known pos id index t c e legal g low p first second o x =
-      let m = moments may floor shelf who old mid new id p.segment.start t (Read index) (Got e) (started ((state_of (old ++ o.first.others)).cells id).told (Read index)) legal first second o x p.started in
+      let m = moments law who old mid new id p.segment.start t (Read index) (Got e) (started ((state_of (old ++ o.first.others)).cells id).told (Read index)) legal first second o x p.started in
       let on = continues_trans (state_of old) (state_of (old ++ o.first.others)) (state_of new) m.to_begin m.to_new in
       let w = state_of new in
       let cell = m.answer_ok.cell id in
@@ -120,14 +121,14 @@ module _ (may : ℕ → Entry → Type 0) (floor : List Entry → ℕ → Type 0
         version = v;
         chain = c;
         given = given;
-        entry = has_at (length shelf) w v pos id index c e p.segment m.new_ok given p.in_chain p.id_is p.at far now;
+        entry = has_at (length law.shelf) w v pos id index c e p.segment m.new_ok given p.in_chain p.id_is p.at far now;
       }
 
   -- an entry that was placed in the last loglet of a chain that was given is held
-  pub placed_held : (es : List Event) (v known pos : ℕ) (c : Chain) (s : Segment) (e : Entry) → IsLegal may floor shelf es → GoesBy (state_of es) v c known → s ≡ last_segment c → s.start ≤ pos → pos + 1 ≤ s.start + ((state_of es).cells s.id).told.reach → slice_get (entries (state_of es).cells s.id) (pos - s.start) ≡ Some e → Holds es pos e
+  pub placed_held : (es : List Event) (v known pos : ℕ) (c : Chain) (s : Segment) (e : Entry) → IsLegal law es → GoesBy (state_of es) v c known → s ≡ last_segment c → s.start ≤ pos → pos + 1 ≤ s.start + ((state_of es).cells s.id).told.reach → slice_get (entries (state_of es).cells s.id) (pos - s.start) ≡ Some e → Holds es pos e
   placed_held es v known pos c s e legal g is up low h =
       let w = state_of es in
-      let ok = sound may floor shelf es legal in
+      let ok = sound law es legal in
       let given = ok.olds v c g.given in
       let at : s.start + (pos - s.start) ≡ pos = omega (arith, up) in
       let is_open = ap (λ (x : Segment). x.end) is ∙ last_open (ends w.cells) given.id given.from c.segments given.joined in
@@ -135,18 +136,18 @@ module _ (may : ℕ → Entry → Type 0) (floor : List Entry → ℕ → Type 0
         version = v;
         chain = c;
         given = g.given;
-        entry = has_at (length shelf) w v pos s.id (pos - s.start) c e s ok g.given
+        entry = has_at (length law.shelf) w v pos s.id (pos - s.start) c e s ok g.given
             (subst (λ (x : Segment). IsIn x c.segments) (sym is) (last_in (ends w.cells) given.id given.from c.segments given.joined))
             refl at (omega (arith, low, end_open (reach w.cells) s is_open)) h;
       }
 
   -- what was answered before is known, so a later tail isn't below it
-  pub above_known : (who : ℕ) (old new : List Event) (v known pos : ℕ) (c : Chain) → IsLegal may floor shelf old → IsLegal may floor shelf new → GoesBy (state_of old) v c known → IsAbove who old pos new → known ≤ pos
+  pub above_known : (who : ℕ) (old new : List Event) (v known pos : ℕ) (c : Chain) → IsLegal law old → IsLegal law new → GoesBy (state_of old) v c known → IsAbove who old pos new → known ≤ pos
   above_known who old new v known pos c legal now g x =
-      let ok = sound may floor shelf old legal in
-      let begin_legal = legal_front may floor shelf (old ++ x.first.others) (x.first.event ∷ x.first.rest) (subst (IsLegal may floor shelf) x.first.seen now) in
-      let clear = clears_on (state_of old) (state_of (old ++ x.first.others)) pos (goes_on may floor shelf old x.first.others begin_legal) x.clears in
-      omega (arith, g.reached, clear (last_segment c).id (last_segment c).start (last_started (length shelf) (state_of old) v c ok g.given))
+      let ok = sound law old legal in
+      let begin_legal = legal_front law (old ++ x.first.others) (x.first.event ∷ x.first.rest) (subst (IsLegal law) x.first.seen now) in
+      let clear = clears_on (state_of old) (state_of (old ++ x.first.others)) pos (goes_on law old x.first.others begin_legal) x.clears in
+      omega (arith, g.reached, clear (last_segment c).id (last_segment c).start (last_started (length law.shelf) (state_of old) v c ok g.given))
 
   -- where the trim of a chain that was given is above a position, that is trimmed
   pub reads_found : (es : List Event) (v known least pos : ℕ) (c : Chain) → GoesBy (state_of es) v c known → pos ≡ max least c.trim → IsTrimmed es least ⊎ (pos ≡ least)

@@ -2,11 +2,11 @@
 use Rattle.std.proofs.Common.{◌≡◌, ◌≢◌, ℕ, ◌+◌, max, List, ◌∷◌, ◌++◌, Bool, true, false, refl, sym, ap, ◌∙◌, subst, arith}
 use Rattle.std.specs.Prelude.{unwrap_or, ◌==◌}
 use Rattle.std.proofs.lemmas.Bool.Decides.{nat_tests}
-use Rattle.delos_types.specs.declared.entry.Entry.{Entry}
 use Rattle.chain_map.specs.Chain.{last_of_segments}
 use Rattle.loglet_api.specs.declared.call.Op.{Op}
 use Rattle.loglet_api.specs.declared.call.Answer.{Answer}
 use Rattle.loglet_api.specs.Step.{told_reach}
+use Rattle.legal_journal.specs.Law.{Law}
 use Rattle.legal_journal.specs.Told.{Told, Running, wanted}
 use Rattle.legal_journal.specs.declared.events.Event.{Event}
 use Rattle.legal_journal.specs.Shown.{end_of}
@@ -58,8 +58,8 @@ answered_level who old new i t r a silent x = record { register = ap (λ (w : St
         ap (λ (y : State). reach y.cells j) x.now ∙ ap (λ (c : CellState). c.told.reach) (put_other w.cells i (cell_after who (w.cells i) (Answers t a)) j apart)
 
 -- an operation of which nobody's event came between moves no tail, where its answer tells of no length
-pub silent_level : (may : ℕ → Entry → Type 0) (floor : List Entry → ℕ → Type 0) (shelf : List ℕ) (who : ℕ) (old mid new : List Event) (i t : ℕ) (op : Op) (r : Running) (a : Answer) → told_reach (wanted r) a ≡ 0 → Later may floor shelf old mid → Later may floor shelf mid new → Opened who old i op t mid → Answered who mid i t r a new → OnlyOwn who old new → Level (state_of old) (state_of new)
-silent_level may floor shelf who old mid new i t op r a silent first second o x alone =
+pub silent_level : (law : Law) (who : ℕ) (old mid new : List Event) (i t : ℕ) (op : Op) (r : Running) (a : Answer) → told_reach (wanted r) a ≡ 0 → Later law old mid → Later law mid new → Opened who old i op t mid → Answered who mid i t r a new → OnlyOwn who old new → Level (state_of old) (state_of new)
+silent_level law who old mid new i t op r a silent first second o x alone =
     let begin = old ++ o.first.others in
     let parts = own_split who old mid new first.more second.more first.seen second.seen alone in
     let front = own_split who old begin mid o.first.others (o.first.event ∷ o.first.rest) refl o.first.seen parts.0 in

@@ -1,10 +1,10 @@
 -- What single turns bring.
 use Rattle.std.proofs.Common.{◌≡◌, ℕ, ◌+◌, ◌<◌, List, [], ◌∷◌, ◌++◌, length, Some, refl, sym, ap, ◌∙◌, subst, arith, append_assoc}
-use Rattle.delos_types.specs.declared.entry.Entry.{Entry}
 use Rattle.delos_types.specs.declared.chain.Chain.{Chain}
 use Rattle.loglet_api.specs.declared.call.Op.{Op}
 use Rattle.loglet_api.specs.declared.call.Answer.{Answer}
 use Rattle.loglet_api.specs.declared.call.Answer.TheVariants as answers
+use Rattle.legal_journal.specs.Law.{Law}
 use Rattle.legal_journal.specs.Told.{Running, MayAnswer, started}
 use Rattle.legal_journal.specs.declared.events.Event.{Event}
 use Rattle.legal_journal.specs.declared.events.FabricCall.{FabricCall}
@@ -28,10 +28,10 @@ pub nil : (xs : List Event) → xs ≡ xs ++ []
 nil [] = refl
 nil (x ∷ xs) = ap (λ l. x ∷ l) (nil xs)
 
-module _ (may : ℕ → Entry → Type 0) (floor : List Entry → ℕ → Type 0) (shelf : List ℕ) (who : ℕ) (old new : List Event) where
-  pub look_ok : (v : ℕ) (c : Chain) → IsTurn may floor shelf who old ReadChain (At v c) new → Looked who old v c new
+module _ (law : Law) (who : ℕ) (old new : List Event) where
+  pub look_ok : (v : ℕ) (c : Chain) → IsTurn law who old ReadChain (At v c) new → Looked who old v c new
   look_ok v c t =
-      let k = took may floor shelf old t.others _ new t.legal (t.seen ∙ ap (λ es. (old ++ t.others) ++ es) t.event) in record {
+      let k = took law old t.others _ new t.legal (t.seen ∙ ap (λ es. (old ++ t.others) ++ es) t.event) in record {
         others = t.others;
         apart = t.apart;
         seen = t.seen ∙ ap (λ es. (old ++ t.others) ++ es) t.event;
@@ -39,9 +39,9 @@ module _ (may : ℕ → Entry → Type 0) (floor : List Entry → ℕ → Type 0
         chain_is = ap (λ (w : State). w.register.chain) k.now;
       }
 
-  pub begin_ok : (i : ℕ) (op : Op) (t : ℕ) → IsTurn may floor shelf who old (Begin i op) (Begun t) new → Opened who old i op t new
+  pub begin_ok : (i : ℕ) (op : Op) (t : ℕ) → IsTurn law who old (Begin i op) (Begun t) new → Opened who old i op t new
   begin_ok i op t h =
-      let k = took may floor shelf old h.others _ new h.legal (h.seen ∙ ap (λ es. (old ++ h.others) ++ es) h.event) in
+      let k = took law old h.others _ new h.legal (h.seen ∙ ap (λ es. (old ++ h.others) ++ es) h.event) in
       let w = state_of (old ++ h.others) in
       let at : (state_of new).cells i ≡ cell_after who (w.cells i) (Begins op t) = ap (λ (x : State). x.cells i) k.now ∙ put_same w.cells i (cell_after who (w.cells i) (Begins op t)) in
       record {
@@ -55,30 +55,30 @@ module _ (may : ℕ → Entry → Type 0) (floor : List Entry → ℕ → Type 0
       }
 
   -- an own ticket may be carried, whatever others do first
-  pub may_carry : (i t word : ℕ) (r : Running) → i < length shelf → IsLegal may floor shelf old → IsOwn ((state_of old).cells i) who t r → MayTurn may floor shelf who old (Carry i t word)
+  pub may_carry : (i t word : ℕ) (r : Running) → i < length law.shelf → IsLegal law old → IsOwn ((state_of old).cells i) who t r → MayTurn law who old (Carry i t word)
   may_carry i t word r l now own others apart legal =
-      let parts = IsLegalFrom-split may floor shelf start old others legal.steps in
-      let keeps = own_stays (state_of old) may floor shelf who i t r others apart (sound may floor shelf old now) parts.1 own in
+      let parts = IsLegalFrom-split law start old others legal.steps in
+      let keeps = own_stays (state_of old) law who i t r others apart (sound law old now) parts.1 own in
       record { there = l; asks = λ q h. ap (λ (w : State). (w.cells i).owner t) (after_all-append start old others) ∙ keeps.own.own }
 
   -- the cell just before an own carry
-  pub kept : (i t : ℕ) (r : Running) (others : List Event) → AreOthers who others → IsLegal may floor shelf old → IsLegalFrom (state_of old) may floor shelf others → IsOwn ((state_of old).cells i) who t r → Keeps ((state_of (old ++ others)).cells i) who t (((state_of old).cells i).carried t) r
+  pub kept : (i t : ℕ) (r : Running) (others : List Event) → AreOthers who others → IsLegal law old → IsLegalFrom (state_of old) law others → IsOwn ((state_of old).cells i) who t r → Keeps ((state_of (old ++ others)).cells i) who t (((state_of old).cells i).carried t) r
   kept i t r others apart now legal own =
-      subst (λ (w : State). Keeps (w.cells i) who t (((state_of old).cells i).carried t) r) (sym (after_all-append start old others)) (own_stays (state_of old) may floor shelf who i t r others apart (sound may floor shelf old now) legal own)
+      subst (λ (w : State). Keeps (w.cells i) who t (((state_of old).cells i).carried t) r) (sym (after_all-append start old others)) (own_stays (state_of old) law who i t r others apart (sound law old now) legal own)
 
-  pub going_ok : (i t word : ℕ) (r : Running) → IsLegal may floor shelf old → IsTurn may floor shelf who old (Carry i t word) Going new → IsOwn ((state_of old).cells i) who t r → IsOwn ((state_of new).cells i) who t r × ((((state_of new).cells i).carried t ≡ ((state_of old).cells i).carried t + 1) × (((state_of old).cells i).carried t < patience))
+  pub going_ok : (i t word : ℕ) (r : Running) → IsLegal law old → IsTurn law who old (Carry i t word) Going new → IsOwn ((state_of old).cells i) who t r → IsOwn ((state_of new).cells i) who t r × ((((state_of new).cells i).carried t ≡ ((state_of old).cells i).carried t + 1) × (((state_of old).cells i).carried t < patience))
   going_ok i t word r was h own =
-      let k = took may floor shelf old h.others _ new h.legal (h.seen ∙ ap (λ es. (old ++ h.others) ++ es) h.event) in
+      let k = took law old h.others _ new h.legal (h.seen ∙ ap (λ es. (old ++ h.others) ++ es) h.event) in
       let w = state_of (old ++ h.others) in
       let keeps = kept i t r h.others h.apart was k.legal_others own in
       let at : (state_of new).cells i ≡ cell_after who (w.cells i) (Carries t) = ap (λ (x : State). x.cells i) k.now ∙ put_same w.cells i (cell_after who (w.cells i) (Carries t)) in
       let count : ((state_of new).cells i).carried t ≡ (w.cells i).carried t + 1 = ap (λ (c : CellState). c.carried t) at ∙ put_same (w.cells i).carried t _ in
       (subst (λ (c : CellState). IsOwn c who t r) (sym at) (record { is_open = keeps.own.is_open; own = keeps.own.own }), (omega (arith, count, keeps.carried), omega (arith, k.allowed.1, keeps.carried)))
 
-  pub done_ok : (i t word : ℕ) (r : Running) (a : Answer) → IsLegal may floor shelf old → IsTurn may floor shelf who old (Carry i t word) (Done a) new → IsOwn ((state_of old).cells i) who t r → Answered who old i t r a new
+  pub done_ok : (i t word : ℕ) (r : Running) (a : Answer) → IsLegal law old → IsTurn law who old (Carry i t word) (Done a) new → IsOwn ((state_of old).cells i) who t r → Answered who old i t r a new
   done_ok i t word r a was h own =
       let seen = h.seen ∙ ap (λ es. (old ++ h.others) ++ es) h.event in
-      let k = took may floor shelf old h.others _ new h.legal seen in
+      let k = took law old h.others _ new h.legal seen in
       let w = state_of (old ++ h.others) in
       let keeps = kept i t r h.others h.apart was k.legal_others own in
       let at : (state_of new).cells i ≡ cell_after who (w.cells i) (Answers t a) = ap (λ (x : State). x.cells i) k.now ∙ put_same w.cells i (cell_after who (w.cells i) (Answers t a)) in
@@ -97,9 +97,9 @@ module _ (may : ℕ → Entry → Type 0) (floor : List Entry → ℕ → Type 0
       }
 
   -- an own carry that leaves the operation undecided changes nothing that is told
-  pub going_still : (i t word : ℕ) → IsTurn may floor shelf who old (Carry i t word) Going new → OnlyOwn who old new → Still (state_of old) (state_of new)
+  pub going_still : (i t word : ℕ) → IsTurn law who old (Carry i t word) Going new → OnlyOwn who old new → Still (state_of old) (state_of new)
   going_still i t word h alone =
-      let k = took may floor shelf old h.others _ new h.legal (h.seen ∙ ap (λ es. (old ++ h.others) ++ es) h.event) in
+      let k = took law old h.others _ new h.legal (h.seen ∙ ap (λ es. (old ++ h.others) ++ es) h.event) in
       let w = state_of (old ++ h.others) in
       let carried = cell_after who (w.cells i) (Carries t) in
       let front = own_split who old (old ++ h.others) new h.others h.own refl h.seen alone in
@@ -110,34 +110,34 @@ module _ (may : ℕ → Entry → Type 0) (floor : List Entry → ℕ → Type 0
       }))
 
   -- a fault by the own event of a turn
-  pub full_cause : (i : ℕ) (op : Op) → IsTurn may floor shelf who old (Begin i op) Full new → HasCause who old (fault.Full i) new
+  pub full_cause : (i : ℕ) (op : Op) → IsTurn law who old (Begin i op) Full new → HasCause who old (fault.Full i) new
   full_cause i op h = record { event = record { who = who; call = Begin i op; answer = Full }; is = (refl, refl); before = h.others; after = []; seen = h.seen ∙ ap (λ es. (old ++ h.others) ++ es) h.event }
 
-  pub down_cause : IsTurn may floor shelf who old ReadChain Down new → HasCause who old fault.Meta new
+  pub down_cause : IsTurn law who old ReadChain Down new → HasCause who old fault.Meta new
   down_cause h = record { event = record { who = who; call = ReadChain; answer = Down }; is = (refl, tt); before = h.others; after = []; seen = h.seen ∙ ap (λ es. (old ++ h.others) ++ es) h.event }
 
-  pub meta_cause : (x : ℕ) (d : Chain) → IsTurn may floor shelf who old (WriteChain x d) MetaFault new → HasCause who old fault.Meta new
+  pub meta_cause : (x : ℕ) (d : Chain) → IsTurn law who old (WriteChain x d) MetaFault new → HasCause who old fault.Meta new
   meta_cause x d h = record { event = record { who = who; call = WriteChain x d; answer = MetaFault }; is = (refl, tt); before = h.others; after = []; seen = h.seen ∙ ap (λ es. (old ++ h.others) ++ es) h.event }
 
-  pub gone_cause : (x : ℕ) (d : Chain) → IsTurn may floor shelf who old (WriteChain x d) Down new → HasCause who old fault.Meta new
+  pub gone_cause : (x : ℕ) (d : Chain) → IsTurn law who old (WriteChain x d) Down new → HasCause who old fault.Meta new
   gone_cause x d h = record { event = record { who = who; call = WriteChain x d; answer = Down }; is = (refl, tt); before = h.others; after = []; seen = h.seen ∙ ap (λ es. (old ++ h.others) ++ es) h.event }
 
-pub later_refl : (may : ℕ → Entry → Type 0) (floor : List Entry → ℕ → Type 0) (shelf : List ℕ) (es : List Event) → IsLegal may floor shelf es → Later may floor shelf es es
-later_refl may floor shelf es h = record { more = []; seen = nil es; legal = h }
+pub later_refl : (law : Law) (es : List Event) → IsLegal law es → Later law es es
+later_refl law es h = record { more = []; seen = nil es; legal = h }
 
-pub later_trans : (may : ℕ → Entry → Type 0) (floor : List Entry → ℕ → Type 0) (shelf : List ℕ) (a b c : List Event) → Later may floor shelf a b → Later may floor shelf b c → Later may floor shelf a c
-later_trans may floor shelf a b c f g = record {
+pub later_trans : (law : Law) (a b c : List Event) → Later law a b → Later law b c → Later law a c
+later_trans law a b c f g = record {
   more = f.more ++ g.more;
   seen = g.seen ∙ (ap (λ l. l ++ g.more) f.seen ∙ append_assoc a f.more g.more);
   legal = g.legal;
 }
 
-pub later_continues : (may : ℕ → Entry → Type 0) (floor : List Entry → ℕ → Type 0) (shelf : List ℕ) (a b : List Event) → Later may floor shelf a b → Continues (state_of a) (state_of b)
-later_continues may floor shelf a b h =
-    subst (λ es. Continues (state_of a) (state_of es)) (sym h.seen) (goes_on may floor shelf a h.more (subst (IsLegal may floor shelf) h.seen h.legal))
+pub later_continues : (law : Law) (a b : List Event) → Later law a b → Continues (state_of a) (state_of b)
+later_continues law a b h =
+    subst (λ es. Continues (state_of a) (state_of es)) (sym h.seen) (goes_on law a h.more (subst (IsLegal law) h.seen h.legal))
 
-pub turn_later : (may : ℕ → Entry → Type 0) (floor : List Entry → ℕ → Type 0) (shelf : List ℕ) (who : ℕ) (old : List Event) (call : FabricCall) (answer : FabricAnswer) (new : List Event) → IsTurn may floor shelf who old call answer new → Later may floor shelf old new
-turn_later may floor shelf who old call answer new t = record { more = t.others ++ t.own; seen = t.seen ∙ append_assoc old t.others t.own; legal = t.legal }
+pub turn_later : (law : Law) (who : ℕ) (old : List Event) (call : FabricCall) (answer : FabricAnswer) (new : List Event) → IsTurn law who old call answer new → Later law old new
+turn_later law who old call answer new t = record { more = t.others ++ t.own; seen = t.seen ∙ append_assoc old t.others t.own; legal = t.legal }
 
 pub own_by : (c : CellState) (a b t : ℕ) (r : Running) → a ≡ b → IsOwn c b t r → IsOwn c a t r
 own_by c a b t r e h = subst (λ k. IsOwn c k t r) (sym e) h
@@ -206,8 +206,8 @@ first_later who a b c more is f = record {
 }
 
 -- a ticket that was who's at an earlier moment may be closed, whether it is open still
-pub may_drop : (may : ℕ → Entry → Type 0) (floor : List Entry → ℕ → Type 0) (shelf : List ℕ) (who : ℕ) (a b : List Event) (i t : ℕ) (r : Running) → i < length shelf → IsLegal may floor shelf a → Later may floor shelf a b → IsOwn ((state_of a).cells i) who t r → MayTurn may floor shelf who b (Forget i t)
-may_drop may floor shelf who a b i t r l was later own others apart legal =
-    let whole = later_trans may floor shelf a b (b ++ others) later (record { more = others; seen = refl; legal = legal }) in
-    let begun = (((sound may floor shelf a was).cell i).ops t r own.is_open).ticket in
-    record { there = l; asks = λ q h. ((later_continues may floor shelf a (b ++ others) whole).cell i).owner t begun ∙ own.own }
+pub may_drop : (law : Law) (who : ℕ) (a b : List Event) (i t : ℕ) (r : Running) → i < length law.shelf → IsLegal law a → Later law a b → IsOwn ((state_of a).cells i) who t r → MayTurn law who b (Forget i t)
+may_drop law who a b i t r l was later own others apart legal =
+    let whole = later_trans law a b (b ++ others) later (record { more = others; seen = refl; legal = legal }) in
+    let begun = (((sound law a was).cell i).ops t r own.is_open).ticket in
+    record { there = l; asks = λ q h. ((later_continues law a (b ++ others) whole).cell i).owner t begun ∙ own.own }

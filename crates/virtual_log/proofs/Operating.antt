@@ -1,7 +1,7 @@
 -- Which operations turns leave open.
 use Rattle.std.proofs.Common.{◌≡◌, ◌⊎◌, inl, inr, ℕ, List, [], ◌∷◌, ◌++◌, Option, None, Some, Result, Ok, Err, refl, sym, ap, ◌∙◌, subst, append_assoc}
 use Rattle.std.proofs.lemmas.List.{append-nil}
-use Rattle.delos_types.specs.declared.entry.Entry.{Entry}
+use Rattle.legal_journal.specs.Law.{Law}
 use Rattle.legal_journal.specs.declared.events.Event.{Event}
 use Rattle.legal_journal.specs.declared.events.FabricCall.{FabricCall}
 use Rattle.legal_journal.specs.declared.events.FabricCall.TheVariants.{Forget}
@@ -53,8 +53,8 @@ left_then who user a b c (NoQuorum id unreached) same f g = operates_then who us
 left_then who user a b c (Full id) same f g = operates_then who user a b c same f g
 left_then who user a b c Meta same f g = operates_then who user a b c same f g
 
-module _ (may : ℕ → Entry → Type 0) (floor : List Entry → ℕ → Type 0) (shelf : List ℕ) (who : ℕ) (old : List Event) where
-  turn_by : (before last : Option Operation) (call : FabricCall) (answer : FabricAnswer) (new : List Event) → (t : IsTurn may floor shelf who old call answer new) → HandsEach who before t.own last → Operates who before last old new
+module _ (law : Law) (who : ℕ) (old : List Event) where
+  turn_by : (before last : Option Operation) (call : FabricCall) (answer : FabricAnswer) (new : List Event) → (t : IsTurn law who old call answer new) → HandsEach who before t.own last → Operates who before last old new
   turn_by before last call answer new t h = record {
     more = t.others ++ t.own;
     seen = t.seen ∙ append_assoc old t.others t.own;
@@ -62,13 +62,13 @@ module _ (may : ℕ → Entry → Type 0) (floor : List Entry → ℕ → Type 0
   }
 
   -- a turn that has its event
-  pub turn_hands : (before last : Option Operation) (call : FabricCall) (answer : FabricAnswer) (new : List Event) → (t : IsTurn may floor shelf who old call answer new)
+  pub turn_hands : (before last : Option Operation) (call : FabricCall) (answer : FabricAnswer) (new : List Event) → (t : IsTurn law who old call answer new)
       → t.own ≡ record { who = who; call = call; answer = answer } ∷ [] → Hands before call answer last → Operates who before last old new
   turn_hands before last call answer new t own h =
       turn_by before last call answer new t (subst (λ es. HandsEach who before es last) (sym own) (last, inl (refl, h), refl))
 
   -- a turn after which the same is at hand, also where it has no event
-  pub turn_keeps : (now : Option Operation) (call : FabricCall) (answer : FabricAnswer) (new : List Event) → IsTurn may floor shelf who old call answer new → Hands now call answer now → Operates who now now old new
+  pub turn_keeps : (now : Option Operation) (call : FabricCall) (answer : FabricAnswer) (new : List Event) → IsTurn law who old call answer new → Hands now call answer now → Operates who now now old new
   turn_keeps now call answer new t h = turn_by now now call answer new t (by (one_or_none who call answer t.own t.event))
     where
       by : (t.own ≡ []) ⊎ (t.own ≡ record { who = who; call = call; answer = answer } ∷ []) → HandsEach who now t.own now
@@ -76,7 +76,7 @@ module _ (may : ℕ → Entry → Type 0) (floor : List Entry → ℕ → Type 0
       by (inr one) = subst (λ es. HandsEach who now es now) (sym one) (now, inl (refl, h), refl)
 
   -- a closing of the operation at hand, whatever is answered
-  pub turn_forgets : (o : Operation) (answer : FabricAnswer) (new : List Event) → IsTurn may floor shelf who old (Forget o.loglet o.ticket) answer new → (left : Option Operation) × Operates who (Some o) left old new
+  pub turn_forgets : (o : Operation) (answer : FabricAnswer) (new : List Event) → IsTurn law who old (Forget o.loglet o.ticket) answer new → (left : Option Operation) × Operates who (Some o) left old new
   turn_forgets o answer new t = by (one_or_none who (Forget o.loglet o.ticket) answer t.own t.event)
     where
       by : (t.own ≡ []) ⊎ (t.own ≡ record { who = who; call = Forget o.loglet o.ticket; answer = answer } ∷ []) → (left : Option Operation) × Operates who (Some o) left old new

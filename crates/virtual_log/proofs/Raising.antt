@@ -6,6 +6,7 @@ use Rattle.delos_types.specs.declared.chain.Segment.{Segment}
 use Rattle.delos_types.specs.declared.chain.Chain.{Chain}
 use Rattle.chain_map.specs.Chain.{last_of_segments, last_segment}
 use Rattle.chain_map.specs.Step.{dropped_below}
+use Rattle.legal_journal.specs.Law.{Law}
 use Rattle.legal_journal.specs.declared.events.Event.{Event}
 use Rattle.legal_journal.specs.declared.events.FabricCall.TheVariants.{WriteChain, ReadChain}
 use Rattle.legal_journal.specs.declared.events.FabricAnswer.TheVariants.{Written, At}
@@ -64,19 +65,19 @@ looked_told who v c a b l = record {
   seen = l.seen;
 }
 
-module _ (may : ℕ → Entry → Type 0) (floor : List Entry → ℕ → Type 0) (shelf : List ℕ) (who : ℕ) (old : List Event) (v k n : ℕ) (c : Chain) (legal : IsLegal may floor shelf old) (goes : GoesBy (state_of old) v c k) where
+module _ (law : Law) (who : ℕ) (old : List Event) (v k n : ℕ) (c : Chain) (legal : IsLegal law old) (goes : GoesBy (state_of old) v c k) where
   -- what is known lies below the ends of all shelves
   pub known_small : k ≤ 2 ^ 38
   known_small =
-      let ok = sound may floor shelf old legal in
+      let ok = sound law old legal in
       let s = last_segment c in
       let cell = ok.cell s.id in
-      let at = last_started (length shelf) (state_of old) v c ok goes.given in
+      let at = last_started (length law.shelf) (state_of old) v c ok goes.given in
       omega (arith, goes.reached, ok.rooms s.id s.start at, ok.ids s.id s.start at, ok.shelf, ok.few, cell.reach, cell.firm, cell.room)
 
-  pub may_raise : (d : Chain) → d ≡ dropped_below c n → c.trim < n → n ≤ k → IsFree (state_of old).shown floor n → MayTurn may floor shelf who old (WriteChain v d)
+  pub may_raise : (d : Chain) → d ≡ dropped_below c n → c.trim < n → n ≤ k → IsFree (state_of old).shown law.floor n → MayTurn law who old (WriteChain v d)
   may_raise d is rise low free others apart now =
-      let on = goes_on may floor shelf old others now in
+      let on = goes_on law old others now in
       let trim : n ≡ d.trim = ap (λ (x : Chain). x.trim) (sym is) in
       record {
         there = tt;
@@ -85,18 +86,18 @@ module _ (may : ℕ → Entry → Type 0) (floor : List Entry → ℕ → Type 0
           on.given v c goes.given,
           inr (
             record { trim = n; above = rise; small = omega (arith, low, known_small); is = is },
-            subst (IsFree (state_of (old ++ others)).shown floor) trim (free_later (state_of old) (state_of (old ++ others)) floor n on free),
+            subst (IsFree (state_of (old ++ others)).shown law.floor) trim (free_later (state_of old) (state_of (old ++ others)) law.floor n on free),
           ),
         );
       }
 
-  pub raised_goes : (m : ℕ) (d e : Chain) (new : List Event) → d ≡ dropped_below c n → e ≡ d → IsTurn may floor shelf who old (WriteChain v d) (Written m) new → GoesBy (state_of new) m e k
+  pub raised_goes : (m : ℕ) (d e : Chain) (new : List Event) → d ≡ dropped_below c n → e ≡ d → IsTurn law who old (WriteChain v d) (Written m) new → GoesBy (state_of new) m e k
   raised_goes m d e new is copy h =
-      let later = turn_later may floor shelf who old (WriteChain v d) (Written m) new h in
-      let given : (state_of new).register.given m ≡ Some e = written_given may floor shelf who old v c d goes.given m new h ∙ ap (λ (x : Chain). Some x) (sym copy) in
-      let g = (sound may floor shelf old legal).olds v c goes.given in
+      let later = turn_later law who old (WriteChain v d) (Written m) new h in
+      let given : (state_of new).register.given m ≡ Some e = written_given law who old v c d goes.given m new h ∙ ap (λ (x : Chain). Some x) (sym copy) in
+      let g = (sound law old legal).olds v c goes.given in
       let last : last_segment e ≡ last_segment c = ap (λ (x : Chain). last_of_segments x.segments) (copy ∙ is) ∙ (rest_of (ends (state_of old).cells) n g.id g.from c.segments g.joined).last in
-      goes_onto may floor shelf v k m c e old new legal later goes given (omega (arith, ap (λ (s : Segment). s.id) last))
+      goes_onto law v k m c e old new legal later goes given (omega (arith, ap (λ (s : Segment). s.id) last))
 
 pub raised_since : (who : ℕ) (a b : List Event) (n m : ℕ) (new more : List Event) → b ≡ a ++ more → IsRaised who b n m new → IsRaised who a n m new
 raised_since who a b n m new more is w = record {

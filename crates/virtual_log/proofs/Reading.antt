@@ -10,6 +10,7 @@ use Rattle.chain_map.specs.Place.{Holds, Locates}
 use Rattle.chain_map.specs.declared.place.Located.TheVariants.{Inside}
 use Rattle.loglet_api.specs.declared.call.Op.TheVariants.{Read}
 use Rattle.loglet_api.specs.declared.call.Answer.TheVariants.{Got, CutAt}
+use Rattle.legal_journal.specs.Law.{Law}
 use Rattle.legal_journal.specs.declared.events.Event.{Event}
 use Rattle.legal_journal.specs.Told.{started}
 use Rattle.legal_journal.specs.Journal.{State, state_of, IsLegal, trim_of, entries, reach, ends}
@@ -112,20 +113,20 @@ there cells w v pos id index c e ok was p far h =
             (λ (z : p.segment.start + y.0 ≤ trim_of w). absurd (omega (arith, end, up)))
             (given.closed p.segment (p.segment.start + y.0) p.in_chain y.1)
 
-module _ (may : ℕ → Entry → Type 0) (floor : List Entry → ℕ → Type 0) (shelf : List ℕ) where
-  pub got_ok : (who : ℕ) (old mid new : List Event) (v known pos id index t : ℕ) (c : Chain) (e : Entry) → IsLegal may floor shelf old → GoesBy (state_of old) v c known → pos < known → Place (state_of old) c pos id index → (first : Later may floor shelf old mid) → Later may floor shelf mid new → (o : Opened who old id (Read index) t mid) → Answered who mid id t (started ((state_of (old ++ o.first.others)).cells id).told (Read index)) (Got e) new → Stands (state_of old) pos e
+module _ (law : Law) where
+  pub got_ok : (who : ℕ) (old mid new : List Event) (v known pos id index t : ℕ) (c : Chain) (e : Entry) → IsLegal law old → GoesBy (state_of old) v c known → pos < known → Place (state_of old) c pos id index → (first : Later law old mid) → Later law mid new → (o : Opened who old id (Read index) t mid) → Answered who mid id t (started ((state_of (old ++ o.first.others)).cells id).told (Read index)) (Got e) new → Stands (state_of old) pos e
   got_ok who old mid new v known pos id index t c e legal g low p first second o x =
-      let m = moments may floor shelf who old mid new id p.segment.start t (Read index) (Got e) (started ((state_of (old ++ o.first.others)).cells id).told (Read index)) legal first second o x p.started in
+      let m = moments law who old mid new id p.segment.start t (Read index) (Got e) (started ((state_of (old ++ o.first.others)).cells id).told (Read index)) legal first second o x p.started in
       let on = continues_trans (state_of old) (state_of (old ++ o.first.others)) (state_of x.moment) m.to_begin m.from_begin in
       let cell = m.answer_ok.cell id in
       let got = entry_of_cell ((state_of x.moment).cells id).told.log (entries (state_of x.moment).cells id) ((state_of x.moment).cells id).told.cut index e cell.log x.may.0 x.may.2 in
       let more = (on.cell id).longer in
-      there (length shelf) (state_of old) v pos id index c e (sound may floor shelf old legal) g.given p (reached_by (state_of old) v known pos id index c g low p)
+      there (length law.shelf) (state_of old) v pos id index c e (sound law old legal) g.given p (reached_by (state_of old) v known pos id index c g low p)
       (λ short. sym (get_back (entries (state_of old).cells id) more.0 index short) ∙ (ap (λ l. slice_get l index) (sym more.1) ∙ got))
 
-  pub cut_ok : (who : ℕ) (old mid new : List Event) (pos id index t n : ℕ) (c : Chain) → IsLegal may floor shelf old → Place (state_of old) c pos id index → (first : Later may floor shelf old mid) → Later may floor shelf mid new → (o : Opened who old id (Read index) t mid) → Answered who mid id t (started ((state_of (old ++ o.first.others)).cells id).told (Read index)) (CutAt n) new → pos < trim_of (state_of new)
+  pub cut_ok : (who : ℕ) (old mid new : List Event) (pos id index t n : ℕ) (c : Chain) → IsLegal law old → Place (state_of old) c pos id index → (first : Later law old mid) → Later law mid new → (o : Opened who old id (Read index) t mid) → Answered who mid id t (started ((state_of (old ++ o.first.others)).cells id).told (Read index)) (CutAt n) new → pos < trim_of (state_of new)
   cut_ok who old mid new pos id index t n c legal p first second o x =
-      let m = moments may floor shelf who old mid new id p.segment.start t (Read index) (CutAt n) (started ((state_of (old ++ o.first.others)).cells id).told (Read index)) legal first second o x p.started in
+      let m = moments law who old mid new id p.segment.start t (Read index) (CutAt n) (started ((state_of (old ++ o.first.others)).cells id).told (Read index)) legal first second o x p.started in
       let at = m.from_begin.starts id p.segment.start m.at_begin in
       ⊎_elim
       (λ (y : ((state_of x.moment).cells id).told.cut ≡ 0). absurd (omega (arith, x.may.0)))

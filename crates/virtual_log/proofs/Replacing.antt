@@ -2,11 +2,11 @@
 use Rattle.std.proofs.Common.{◌≡◌, ◌≢◌, inl, inr, ℕ, ◌+◌, ◌<◌, ◌≤◌, ◌^◌, List, ◌++◌, length, Some, None, Bool, true, false, refl, sym, ap, ◌∙◌, arith}
 use Rattle.std.specs.Prelude.{Contains, nat_lt}
 use Rattle.std.proofs.lemmas.Bool.Decides.{nat_tests}
-use Rattle.delos_types.specs.declared.entry.Entry.{Entry}
 use Rattle.delos_types.specs.declared.chain.Segment.{Segment}
 use Rattle.delos_types.specs.declared.chain.Chain.{Chain}
 use Rattle.chain_map.specs.Chain.{last_of_segments, IsChain}
 use Rattle.chain_map.specs.Step.{extended}
+use Rattle.legal_journal.specs.Law.{Law}
 use Rattle.legal_journal.specs.declared.events.Event.{Event}
 use Rattle.legal_journal.specs.declared.events.FabricCall.TheVariants.{WriteChain}
 use Rattle.legal_journal.specs.declared.events.FabricAnswer.TheVariants.{Written, Conflict}
@@ -55,15 +55,15 @@ pub record Lost (v : ℕ) (c : Chain) (n : ℕ) (e : Chain) (new : List Event) :
   pub is_last : last_segment (state_of new) ≡ last_of_segments e.segments
   pub few : n ≤ 2 ^ 38 + 64
 
-module _ (may : ℕ → Entry → Type 0) (floor : List Entry → ℕ → Type 0) (shelf : List ℕ) (who : ℕ) (old : List Event) (v : ℕ) (c d : Chain) (given : (state_of old).register.given v ≡ Some c) where
-  pub written_given : (n : ℕ) (new : List Event) → IsTurn may floor shelf who old (WriteChain v d) (Written n) new → (state_of new).register.given n ≡ Some d
+module _ (law : Law) (who : ℕ) (old : List Event) (v : ℕ) (c d : Chain) (given : (state_of old).register.given v ≡ Some c) where
+  pub written_given : (n : ℕ) (new : List Event) → IsTurn law who old (WriteChain v d) (Written n) new → (state_of new).register.given n ≡ Some d
   written_given n new h =
-      let k = took may floor shelf old h.others _ new h.legal (h.seen ∙ ap (λ es. (old ++ h.others) ++ es) h.event) in
+      let k = took law old h.others _ new h.legal (h.seen ∙ ap (λ es. (old ++ h.others) ++ es) h.event) in
       ap (λ (x : State). x.register.given n) k.now ∙ put_same (state_of (old ++ h.others)).register.given n (Some d)
 
-  pub lost_ok : (n : ℕ) (e : Chain) (new : List Event) → IsTurn may floor shelf who old (WriteChain v d) (Conflict n e) new → Lost v c n e new
+  pub lost_ok : (n : ℕ) (e : Chain) (new : List Event) → IsTurn law who old (WriteChain v d) (Conflict n e) new → Lost v c n e new
   lost_ok n e new h =
-      let k = took may floor shelf old h.others _ new h.legal (h.seen ∙ ap (λ es. (old ++ h.others) ++ es) h.event) in
+      let k = took law old h.others _ new h.legal (h.seen ∙ ap (λ es. (old ++ h.others) ++ es) h.event) in
       let w = state_of (old ++ h.others) in
       let chain_is : (state_of new).register.chain ≡ e = ap (λ (x : State). x.register.chain) k.now in
       let version_is : (state_of new).register.version ≡ n = ap (λ (x : State). x.register.version) k.now in
@@ -80,7 +80,7 @@ module _ (may : ℕ → Entry → Type 0) (floor : List Entry → ℕ → Type 0
         few = omega (arith, version_is, ok.version, ok.trim, ok.shelf, h.legal.most);
       }
     where
-      born : (w : State) (x : ℕ) (y : Chain) → StateOk (length shelf) w → w.register.given x ≡ Some y → x ≤ w.register.version
+      born : (w : State) (x : ℕ) (y : Chain) → StateOk (length law.shelf) w → w.register.given x ≡ Some y → x ≤ w.register.version
       born w x y ok g = by_test (nat_lt w.register.version x) refl
         where
           by_test : (b : Bool) → nat_lt w.register.version x ≡ b → x ≤ w.register.version
@@ -91,20 +91,20 @@ module _ (may : ℕ → Entry → Type 0) (floor : List Entry → ℕ → Type 0
       rises w m y l apart (inl x) = omega arith
       rises w m y l apart (inr x) = omega arith
 
-module _ (may : ℕ → Entry → Type 0) (floor : List Entry → ℕ → Type 0) (shelf : List ℕ) (who : ℕ) (old : List Event) (v t : ℕ) (c d : Chain) (given : (state_of old).register.given v ≡ Some c) (told : Contains ((state_of old).cells (last_of_segments c.segments).id).ends t) (is : d ≡ extended c t) where
-  pub may_write : IsLegal may floor shelf old → MayTurn may floor shelf who old (WriteChain v d)
+module _ (law : Law) (who : ℕ) (old : List Event) (v t : ℕ) (c d : Chain) (given : (state_of old).register.given v ≡ Some c) (told : Contains ((state_of old).cells (last_of_segments c.segments).id).ends t) (is : d ≡ extended c t) where
+  pub may_write : IsLegal law old → MayTurn law who old (WriteChain v d)
   may_write legal others apart now =
-      let goes = goes_on may floor shelf old others now in
-      let f = fits (length shelf) (state_of old) v t c (sound may floor shelf old legal) given told in
+      let goes = goes_on law old others now in
+      let f = fits (length law.shelf) (state_of old) v t c (sound law old legal) given told in
       record { there = tt; asks = (c, goes.given v c given, inl (record { at = t; told = (goes.cell (last_of_segments c.segments).id).ends t told; spare = f.spare; is = is })) }
 
 -- a chain that the register just gave
-pub given_now : (may : ℕ → Entry → Type 0) (floor : List Entry → ℕ → Type 0) (shelf : List ℕ) (who v : ℕ) (c : Chain) (old new : List Event) → IsLegal may floor shelf new → Looked who old v c new → (state_of new).register.given v ≡ Some c
-given_now may floor shelf who v c old new legal l =
+pub given_now : (law : Law) (who v : ℕ) (c : Chain) (old new : List Event) → IsLegal law new → Looked who old v c new → (state_of new).register.given v ≡ Some c
+given_now law who v c old new legal l =
     let w = state_of new in
-    ap w.register.given (sym l.version_is) ∙ ((sound may floor shelf new legal).given ∙ ap (λ x. Some x) l.chain_is)
+    ap w.register.given (sym l.version_is) ∙ ((sound law new legal).given ∙ ap (λ x. Some x) l.chain_is)
 
 -- the last segment of a chain that was just given is no earlier than one that started
-pub later_last : (may : ℕ → Entry → Type 0) (floor : List Entry → ℕ → Type 0) (shelf : List ℕ) (who v i s : ℕ) (c : Chain) (old new : List Event) → IsLegal may floor shelf new → Looked who old v c new → (state_of new).starts i ≡ Some s → i ≤ (last_of_segments c.segments).id
-later_last may floor shelf who v i s c old new legal l at =
-    omega (arith, (sound may floor shelf new legal).ids i s at, ap (λ (x : Chain). (last_of_segments x.segments).id) l.chain_is)
+pub later_last : (law : Law) (who v i s : ℕ) (c : Chain) (old new : List Event) → IsLegal law new → Looked who old v c new → (state_of new).starts i ≡ Some s → i ≤ (last_of_segments c.segments).id
+later_last law who v i s c old new legal l at =
+    omega (arith, (sound law new legal).ids i s at, ap (λ (x : Chain). (last_of_segments x.segments).id) l.chain_is)

@@ -4,7 +4,7 @@ use Rattle.std.specs.Prelude.{◌==◌}
 use Rattle.std.proofs.Math.Bool.{true-or, or-true}
 use Rattle.std.proofs.lemmas.Bool.Decides.{nat_tests}
 use Rattle.std.proofs.lemmas.List.{append-nil}
-use Rattle.delos_types.specs.declared.entry.Entry.{Entry}
+use Rattle.legal_journal.specs.Law.{Law}
 use Rattle.legal_journal.specs.declared.events.Event.{Event}
 use Rattle.legal_journal.specs.declared.events.FabricCall.{FabricCall}
 use Rattle.legal_journal.specs.declared.events.FabricCall.TheVariants.{Carry}
@@ -40,9 +40,9 @@ says_then words who user a b c same f g = says_trans words who a b c f (subst (�
 pub says_on : (words others : ℕ → Bool) (who user : ℕ) (a b c : List Event) → others ≡ words → user ≡ who → SaysOnly words who a b → SaysOnly others user b c → SaysOnly words who a c
 says_on words others who user a b c are same f g = says_then words who user a b c same f (subst (λ w. SaysOnly w user b c) are g)
 
-module _ (may : ℕ → Entry → Type 0) (floor : List Entry → ℕ → Type 0) (shelf : List ℕ) (who : ℕ) (old : List Event) where
+module _ (law : Law) (who : ℕ) (old : List Event) where
   -- one turn
-  pub turn_says : (words : ℕ → Bool) (call : FabricCall) (answer : FabricAnswer) (new : List Event) → IsTurn may floor shelf who old call answer new → HasWord words call → SaysOnly words who old new
+  pub turn_says : (words : ℕ → Bool) (call : FabricCall) (answer : FabricAnswer) (new : List Event) → IsTurn law who old call answer new → HasWord words call → SaysOnly words who old new
   turn_says words call answer new t has = record {
     more = t.others ++ t.own;
     seen = t.seen ∙ append_assoc old t.others t.own;

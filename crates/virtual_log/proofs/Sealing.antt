@@ -3,11 +3,11 @@ use Rattle.std.proofs.Common.{◌≡◌, ◌≢◌, ◌⊎◌, inl, inr, ℕ, �
 use Rattle.std.specs.Prelude.{◌==◌, count_by}
 use Rattle.std.proofs.lemmas.List.{append-nil}
 use Rattle.std.proofs.lemmas.Bool.Decides.{nat_tests}
-use Rattle.delos_types.specs.declared.entry.Entry.{Entry}
 use Rattle.delos_types.specs.declared.chain.Chain.{Chain}
 use Rattle.chain_map.specs.Chain.{last_segment}
 use Rattle.loglet_api.specs.declared.call.Op.{Op}
 use Rattle.loglet_api.specs.declared.call.Op.TheVariants.{Seal}
+use Rattle.legal_journal.specs.Law.{Law}
 use Rattle.legal_journal.specs.declared.events.Event.{Event}
 use Rattle.legal_journal.specs.declared.events.FabricCall.{FabricCall}
 use Rattle.legal_journal.specs.declared.events.FabricCall.TheVariants.{Begin, ReadChain}
@@ -77,9 +77,9 @@ seals_as who user a b same h = subst (λ k. SealsNone k a b) same h
 pub seals_then : (who user : ℕ) (a b c : List Event) → user ≡ who → SealsNone who a b → SealsNone user b c → SealsNone who a c
 seals_then who user a b c same f g = seals_trans who a b c f (seals_as who user b c same g)
 
-module _ (may : ℕ → Entry → Type 0) (floor : List Entry → ℕ → Type 0) (shelf : List ℕ) (who : ℕ) (old : List Event) where
+module _ (law : Law) (who : ℕ) (old : List Event) where
   -- a turn that begins none
-  pub turn_none : (call : FabricCall) (answer : FabricAnswer) (new : List Event) → IsTurn may floor shelf who old call answer new → is_seal call ≡ false → SealsNone who old new
+  pub turn_none : (call : FabricCall) (answer : FabricAnswer) (new : List Event) → IsTurn law who old call answer new → is_seal call ≡ false → SealsNone who old new
   turn_none call answer new t other = record {
     more = t.others ++ t.own;
     seen = t.seen ∙ append_assoc old t.others t.own;
@@ -91,7 +91,7 @@ module _ (may : ℕ → Entry → Type 0) (floor : List Entry → ℕ → Type 0
       by (inr one) = ap (own_seals who) one ∙ one_none begins_seal who (record { who = who; call = call; answer = answer }) other
 
   -- a turn that begins an operation
-  pub turn_at : (id : ℕ) (op : Op) (answer : FabricAnswer) (new : List Event) → IsTurn may floor shelf who old (Begin id op) answer new → SealsAt who id old new
+  pub turn_at : (id : ℕ) (op : Op) (answer : FabricAnswer) (new : List Event) → IsTurn law who old (Begin id op) answer new → SealsAt who id old new
   turn_at id op answer new t = record {
     more = t.others ++ t.own;
     seen = t.seen ∙ append_assoc old t.others t.own;

@@ -6,6 +6,7 @@ use Rattle.delos_types.specs.declared.entry.Entry.{Entry}
 use Rattle.delos_types.specs.declared.chain.Segment.{Segment}
 use Rattle.delos_types.specs.declared.chain.Chain.{Chain}
 use Rattle.chain_map.specs.Chain.{last_segment}
+use Rattle.legal_journal.specs.Law.{Law}
 use Rattle.legal_journal.specs.Told.{Running}
 use Rattle.legal_journal.specs.declared.events.Event.{Event}
 use Rattle.legal_journal.specs.declared.events.FabricCall.{FabricCall}
@@ -88,33 +89,33 @@ module _ (w : State) (may : ℕ → Entry → Type 0) (cells who j t : ℕ) (r :
   spared_cell (Drops u) a l = record { is_open = put_other (w.cells j).told.ops u None t (λ e. l (sym e)) ∙ own.is_open; own = own.own }
   spared_cell (Misses u) a l = own
 
-spared_step : (w : State) (may : ℕ → Entry → Type 0) (floor : List Entry → ℕ → Type 0) (cells who i t : ℕ) (r : Running) (m : Move) → StateOk cells w → IsOwn (w.cells i) who t r → IsAllowed w may floor cells who m → LeavesMove i t m → IsOwn ((after w who m).cells i) who t r
-spared_step w may floor cells who i t r (OnCell j m) ok own a l =
+spared_step : (w : State) (law : Law) (who i t : ℕ) (r : Running) (m : Move) → StateOk (length law.shelf) w → IsOwn (w.cells i) who t r → IsAllowed w law who m → LeavesMove i t m → IsOwn ((after w who m).cells i) who t r
+spared_step w law who i t r (OnCell j m) ok own a l =
     put_cases (λ (c : CellState). IsOwn c who t r) w.cells j (cell_after who (w.cells j) m) i
-    (λ e. spared_cell w may cells who j t r (ok.cell j) (subst (λ k. IsOwn (w.cells k) who t r) e own) m a (l (sym e)))
+    (λ e. spared_cell w law.may (length law.shelf) who j t r (ok.cell j) (subst (λ k. IsOwn (w.cells k) who t r) e own) m a (l (sym e)))
     (λ _. own)
-spared_step w may floor cells who i t r (OnRegister m) ok own a l = own
-spared_step w may floor cells who i t r Nothing ok own a l = own
-spared_step w may floor cells who i t r Never ok own a l = absurd a
+spared_step w law who i t r (OnRegister m) ok own a l = own
+spared_step w law who i t r Nothing ok own a l = own
+spared_step w law who i t r Never ok own a l = absurd a
 
-spared_event : (w : State) (may : ℕ → Entry → Type 0) (floor : List Entry → ℕ → Type 0) (shelf : List ℕ) (who i t : ℕ) (r : Running) (e : Event) → StateOk (length shelf) w → MayHappen w may floor shelf e → (e.who ≡ who → Leaves i t e.call) → IsOwn (w.cells i) who t r → IsOwn ((after w e.who (move e)).cells i) who t r
-spared_event w may floor shelf who i t r e ok happens leaves own = by_test (e.who == who) refl
+spared_event : (w : State) (law : Law) (who i t : ℕ) (r : Running) (e : Event) → StateOk (length law.shelf) w → MayHappen w law e → (e.who ≡ who → Leaves i t e.call) → IsOwn (w.cells i) who t r → IsOwn ((after w e.who (move e)).cells i) who t r
+spared_event w law who i t r e ok happens leaves own = by_test (e.who == who) refl
   where
     by_test : (b : Bool) → (e.who == who) ≡ b → IsOwn ((after w e.who (move e)).cells i) who t r
     by_test true b =
         let same : e.who ≡ who = grind (arith, nat_tests) in
-        let allowed = subst (λ k. IsAllowed w may floor (length shelf) k (move e)) same happens.allowed in
+        let allowed = subst (λ k. IsAllowed w law k (move e)) same happens.allowed in
         subst (λ k. IsOwn ((after w k (move e)).cells i) who t r) (sym same)
-        (spared_step w may floor (length shelf) who i t r (move e) ok own allowed (leaves_move i t e.call e.answer (leaves same)))
+        (spared_step w law who i t r (move e) ok own allowed (leaves_move i t e.call e.answer (leaves same)))
     by_test false b =
         let apart : e.who ≢ who = grind (arith, nat_tests) in
-        (own_stays w may floor shelf who i t r (e ∷ []) (apart, tt) ok (happens, tt) own).own
+        (own_stays w law who i t r (e ∷ []) (apart, tt) ok (happens, tt) own).own
 
-spared_all : (w : State) (may : ℕ → Entry → Type 0) (floor : List Entry → ℕ → Type 0) (shelf : List ℕ) (who i t : ℕ) (r : Running) (es : List Event) → LeaveTicket who i t es → StateOk (length shelf) w → IsLegalFrom w may floor shelf es → IsOwn (w.cells i) who t r → IsOwn ((after_all w es).cells i) who t r
-spared_all w may floor shelf who i t r [] leave ok legal own = own
-spared_all w may floor shelf who i t r (e ∷ es) leave ok legal own =
-    spared_all (after w e.who (move e)) may floor shelf who i t r es leave.1 (step_ok may floor (length shelf) w e.who (move e) ok legal.0.allowed).0 legal.1
-    (spared_event w may floor shelf who i t r e ok legal.0 leave.0 own)
+spared_all : (w : State) (law : Law) (who i t : ℕ) (r : Running) (es : List Event) → LeaveTicket who i t es → StateOk (length law.shelf) w → IsLegalFrom w law es → IsOwn (w.cells i) who t r → IsOwn ((after_all w es).cells i) who t r
+spared_all w law who i t r [] leave ok legal own = own
+spared_all w law who i t r (e ∷ es) leave ok legal own =
+    spared_all (after w e.who (move e)) law who i t r es leave.1 (step_ok law w e.who (move e) ok legal.0.allowed).0 legal.1
+    (spared_event w law who i t r e ok legal.0 leave.0 own)
 
 -- A ticket that was closed
 
@@ -132,38 +133,38 @@ closed_cell w may cells by j t h (Answers u x) a =
 closed_cell w may cells by j t h (Drops u) a = (put_cases (λ (o : Option Running). o ≡ None) (w.cells j).told.ops u None t (λ _. refl) (λ _. h.0), h.1)
 closed_cell w may cells by j t h (Misses u) a = h
 
-closed_step : (w : State) (may : ℕ → Entry → Type 0) (floor : List Entry → ℕ → Type 0) (cells by i t : ℕ) → IsClosed (w.cells i) t → (m : Move) → IsAllowed w may floor cells by m → IsClosed ((after w by m).cells i) t
-closed_step w may floor cells by i t h (OnCell j m) a =
+closed_step : (w : State) (law : Law) (by i t : ℕ) → IsClosed (w.cells i) t → (m : Move) → IsAllowed w law by m → IsClosed ((after w by m).cells i) t
+closed_step w law by i t h (OnCell j m) a =
     put_cases (λ (c : CellState). IsClosed c t) w.cells j (cell_after by (w.cells j) m) i
-    (λ e. closed_cell w may cells by j t (subst (λ k. IsClosed (w.cells k) t) e h) m a)
+    (λ e. closed_cell w law.may (length law.shelf) by j t (subst (λ k. IsClosed (w.cells k) t) e h) m a)
     (λ _. h)
-closed_step w may floor cells by i t h (OnRegister m) a = h
-closed_step w may floor cells by i t h Nothing a = h
-closed_step w may floor cells by i t h Never a = absurd a
+closed_step w law by i t h (OnRegister m) a = h
+closed_step w law by i t h Nothing a = h
+closed_step w law by i t h Never a = absurd a
 
-closed_all : (w : State) (may : ℕ → Entry → Type 0) (floor : List Entry → ℕ → Type 0) (shelf : List ℕ) (i t : ℕ) (es : List Event) → IsLegalFrom w may floor shelf es → IsClosed (w.cells i) t → IsClosed ((after_all w es).cells i) t
-closed_all w may floor shelf i t [] legal h = h
-closed_all w may floor shelf i t (e ∷ es) legal h =
-    closed_all (after w e.who (move e)) may floor shelf i t es legal.1 (closed_step w may floor (length shelf) e.who i t h (move e) legal.0.allowed)
+closed_all : (w : State) (law : Law) (i t : ℕ) (es : List Event) → IsLegalFrom w law es → IsClosed (w.cells i) t → IsClosed ((after_all w es).cells i) t
+closed_all w law i t [] legal h = h
+closed_all w law i t (e ∷ es) legal h =
+    closed_all (after w e.who (move e)) law i t es legal.1 (closed_step w law e.who i t h (move e) legal.0.allowed)
 
 -- it stays closed
-pub closed_later : (may : ℕ → Entry → Type 0) (floor : List Entry → ℕ → Type 0) (shelf : List ℕ) (a b : List Event) (i t : ℕ) → Later may floor shelf a b → t < ((state_of a).cells i).told.begun → ((state_of a).cells i).told.ops t ≡ None → ((state_of b).cells i).told.ops t ≡ None
-closed_later may floor shelf a b i t later low none =
-    let legal = subst (IsLegal may floor shelf) later.seen later.legal in
+pub closed_later : (law : Law) (a b : List Event) (i t : ℕ) → Later law a b → t < ((state_of a).cells i).told.begun → ((state_of a).cells i).told.ops t ≡ None → ((state_of b).cells i).told.ops t ≡ None
+closed_later law a b i t later low none =
+    let legal = subst (IsLegal law) later.seen later.legal in
     let there : state_of b ≡ after_all (state_of a) later.more = ap state_of later.seen ∙ after_all-append start a later.more in
     (subst (λ (w : State). IsClosed (w.cells i) t) (sym there)
-    (closed_all (state_of a) may floor shelf i t later.more (IsLegalFrom-split may floor shelf start a later.more legal.steps).1 (none, low))).0
+    (closed_all (state_of a) law i t later.more (IsLegalFrom-split law start a later.more legal.steps).1 (none, low))).0
 
 -- From one moment to a later one
 
-module _ (may : ℕ → Entry → Type 0) (floor : List Entry → ℕ → Type 0) (shelf : List ℕ) (who : ℕ) (a more : List Event) (legal : IsLegal may floor shelf (a ++ more)) where
+module _ (law : Law) (who : ℕ) (a more : List Event) (legal : IsLegal law (a ++ more)) where
   on : Continues (state_of a) (state_of (a ++ more))
-  on = goes_on may floor shelf a more legal
+  on = goes_on law a more legal
 
   pub own_later : (i t : ℕ) (r : Running) → LeaveTicket who i t more → IsOwn ((state_of a).cells i) who t r → IsOwn ((state_of (a ++ more)).cells i) who t r
   own_later i t r leave own =
       subst (λ (w : State). IsOwn (w.cells i) who t r) (sym (after_all-append start a more))
-      (spared_all (state_of a) may floor shelf who i t r more leave (sound may floor shelf a (legal_front may floor shelf a more legal)) (IsLegalFrom-split may floor shelf start a more legal.steps).1 own)
+      (spared_all (state_of a) law who i t r more leave (sound law a (legal_front law a more legal)) (IsLegalFrom-split law start a more legal.steps).1 own)
 
   pub last_later : (s : Segment) → IsLast a s → IsLast (a ++ more) s
   last_later s h = record { version = h.version; chain = h.chain; given = on.given h.version h.chain h.given; last_is = h.last_is }
@@ -208,12 +209,12 @@ known_later m n (Finding s t) up h = omega (arith, up, h)
 known_later m n (Closing s n') up h = omega (arith, up, h)
 known_later m n step up h = tt
 
-pub going_later : (may : ℕ → Entry → Type 0) (floor : List Entry → ℕ → Type 0) (shelf : List ℕ) (who : ℕ) (early a more : List Event) (c d : Chain) (g : Going) → IsLegal may floor shelf (a ++ more) → (last_segment c).id ≤ (last_segment d).id → LeaveStep who g.step more → IsGoing may who early a c g → IsGoing may who early (a ++ more) d g
-going_later may floor shelf who early a more c d g legal up leave h = record {
+pub going_later : (law : Law) (who : ℕ) (early a more : List Event) (c d : Chain) (g : Going) → IsLegal law (a ++ more) → (last_segment c).id ≤ (last_segment d).id → LeaveStep who g.step more → IsGoing law.may who early a c g → IsGoing law.may who early (a ++ more) d g
+going_later law who early a more c d g legal up leave h = record {
   allowed = h.allowed;
   spelled = h.spelled;
   first = first_later who early a (a ++ more) more refl h.first;
-  at = at_later may floor shelf who a more legal (early ++ h.first.others) g.entry g.step leave h.at;
+  at = at_later law who a more legal (early ++ h.first.others) g.entry g.step leave h.at;
   reached = known_later (last_segment c).id (last_segment d).id g.step up h.reached;
 }
 
@@ -227,7 +228,7 @@ leave_append : (who i t : ℕ) (xs ys : List Event) → LeaveTicket who i t xs �
 leave_append who i t [] ys h k = k
 leave_append who i t (x ∷ xs) ys h k = (h.0, leave_append who i t xs ys h.1 k)
 
-module _ (may : ℕ → Entry → Type 0) (floor : List Entry → ℕ → Type 0) (shelf : List ℕ) (who : ℕ) (old : List Event) (call : FabricCall) (answer : FabricAnswer) (new : List Event) (turn : IsTurn may floor shelf who old call answer new) where
+module _ (law : Law) (who : ℕ) (old : List Event) (call : FabricCall) (answer : FabricAnswer) (new : List Event) (turn : IsTurn law who old call answer new) where
   pub turn_is : new ≡ old ++ (turn.others ++ turn.own)
   turn_is = turn.seen ∙ append_assoc old turn.others turn.own
 
@@ -238,19 +239,19 @@ module _ (may : ℕ → Entry → Type 0) (floor : List Entry → ℕ → Type 0
       by (inl none) = subst (LeaveTicket who i t) (sym none) tt
       by (inr one) = subst (LeaveTicket who i t) (sym one) (λ _. h, tt)
 
-  pub turn_going : (early : List Event) (c d : Chain) (g : Going) → (last_segment c).id ≤ (last_segment d).id → ((i t : ℕ) → HasTicket g.step i t → Leaves i t call) → IsGoing may who early old c g → IsGoing may who early new d g
+  pub turn_going : (early : List Event) (c d : Chain) (g : Going) → (last_segment c).id ≤ (last_segment d).id → ((i t : ℕ) → HasTicket g.step i t → Leaves i t call) → IsGoing law.may who early old c g → IsGoing law.may who early new d g
   turn_going early c d g up leaves h =
-      subst (λ es. IsGoing may who early es d g) (sym turn_is)
-      (going_later may floor shelf who early old (turn.others ++ turn.own) c d g (subst (IsLegal may floor shelf) turn_is turn.legal) up (λ i t has. turn_leaves i t (leaves i t has)) h)
+      subst (λ es. IsGoing law.may who early es d g) (sym turn_is)
+      (going_later law who early old (turn.others ++ turn.own) c d g (subst (IsLegal law) turn_is turn.legal) up (λ i t has. turn_leaves i t (leaves i t has)) h)
 
   pub turn_last : (s : Segment) → IsLast old s → IsLast new s
-  turn_last s h = subst (λ es. IsLast es s) (sym turn_is) (last_later may floor shelf who old (turn.others ++ turn.own) (subst (IsLegal may floor shelf) turn_is turn.legal) s h)
+  turn_last s h = subst (λ es. IsLast es s) (sym turn_is) (last_later law who old (turn.others ++ turn.own) (subst (IsLegal law) turn_is turn.legal) s h)
 
   pub turn_shut : (s : Segment) → IsShut old s → IsShut new s
-  turn_shut s h = subst (λ es. IsShut es s) (sym turn_is) (shut_later may floor shelf who old (turn.others ++ turn.own) (subst (IsLegal may floor shelf) turn_is turn.legal) s h)
+  turn_shut s h = subst (λ es. IsShut es s) (sym turn_is) (shut_later law who old (turn.others ++ turn.own) (subst (IsLegal law) turn_is turn.legal) s h)
 
   pub turn_dropping : (i t : ℕ) → IsDropping who old i t → IsDropping who new i t
-  turn_dropping i t h = subst (λ es. IsDropping who es i t) (sym turn_is) (dropping_later may floor shelf who old (turn.others ++ turn.own) (subst (IsLegal may floor shelf) turn_is turn.legal) i t h)
+  turn_dropping i t h = subst (λ es. IsDropping who es i t) (sym turn_is) (dropping_later law who old (turn.others ++ turn.own) (subst (IsLegal law) turn_is turn.legal) i t h)
 
 -- a ticket was given before
 pub ticket_begun : (cells who : ℕ) (front a : List Event) (e : Entry) (step : Step) (i t : ℕ) → StateOk cells (state_of a) → IsAt who front a e step → HasTicket step i t → t < ((state_of a).cells i).told.begun

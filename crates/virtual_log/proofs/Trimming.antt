@@ -1,10 +1,10 @@
 -- Trims of the loglets below the trim of the chain.
 use Rattle.std.proofs.Common.{◌≡◌, ℕ, zero, suc, ◌<◌, ◌≤◌, List, [], ◌∷◌, ◌++◌, length, Option, None, Some, refl, ap, ◌∙◌, arith}
 use Rattle.std.specs.Prelude.{slice_get, slice_index_or}
-use Rattle.delos_types.specs.declared.entry.Entry.{Entry}
 use Rattle.delos_types.specs.declared.chain.Segment.{Segment}
 use Rattle.delos_types.specs.declared.chain.Chain.{Chain}
 use Rattle.loglet_api.specs.declared.call.Op.TheVariants.{Trim}
+use Rattle.legal_journal.specs.Law.{Law}
 use Rattle.legal_journal.specs.declared.events.Event.{Event}
 use Rattle.legal_journal.specs.declared.events.FabricCall.TheVariants.{Begin}
 use Rattle.legal_journal.specs.declared.events.FabricAnswer.TheVariants.{Begun}
@@ -28,18 +28,18 @@ at_index [] i d h = absurd (omega arith)
 at_index (s ∷ ss) zero d h = refl
 at_index (s ∷ ss) (suc i) d h = at_index ss i d (omega arith)
 
-module _ (may : ℕ → Entry → Type 0) (floor : List Entry → ℕ → Type 0) (shelf : List ℕ) where
-  pub may_trim : (who : ℕ) (old : List Event) (s : Segment) (n m : ℕ) → IsLegal may floor shelf old → (state_of old).starts s.id ≡ Some s.start → s.start < n → n ≤ trim_of (state_of old) → m ≡ length_below s n → MayTurn may floor shelf who old (Begin s.id (Trim m))
+module _ (law : Law) where
+  pub may_trim : (who : ℕ) (old : List Event) (s : Segment) (n m : ℕ) → IsLegal law old → (state_of old).starts s.id ≡ Some s.start → s.start < n → n ≤ trim_of (state_of old) → m ≡ length_below s n → MayTurn law who old (Begin s.id (Trim m))
   may_trim who old s n m legal at below high is others apart now =
-      let on = goes_on may floor shelf old others now in record {
-        there = started_within may floor shelf old s.id s.start legal at;
+      let on = goes_on law old others now in record {
+        there = started_within law old s.id s.start legal at;
         asks = (s.start, on.starts s.id s.start at, omega (arith, is, end_low n s.end, on.trim));
       }
 
   -- each segment of a chain that was given started
-  pub segments_started : (es : List Event) (v k : ℕ) (c : Chain) → IsLegal may floor shelf es → GoesBy (state_of es) v c k → (i : ℕ) (s : Segment) → slice_get c.segments i ≡ Some s → (state_of es).starts s.id ≡ Some s.start
+  pub segments_started : (es : List Event) (v k : ℕ) (c : Chain) → IsLegal law es → GoesBy (state_of es) v c k → (i : ℕ) (s : Segment) → slice_get c.segments i ≡ Some s → (state_of es).starts s.id ≡ Some s.start
   segments_started es v k c legal g i s h =
-      let ok = sound may floor shelf es legal in
+      let ok = sound law es legal in
       (ok.olds v c g.given).start s.id s.start (HasStart-in s c.segments (is_in_at c.segments i s h))
 
 pub trim_event : (who : ℕ) (old mid : List Event) (s : Segment) (n m t : ℕ) → m ≡ length_below s n → Opened who old s.id (Trim m) t mid → HasEvent old (IsTrimOf who s n) mid

@@ -6,6 +6,7 @@ use Rattle.std.proofs.lemmas.Bool.Decides.{nat_tests}
 use Rattle.delos_types.specs.declared.entry.Entry.{Entry}
 use Rattle.delos_types.specs.declared.chain.Chain.{Chain}
 use Rattle.chain_map.specs.Chain.{last_segment}
+use Rattle.legal_journal.specs.Law.{Law}
 use Rattle.legal_journal.specs.declared.events.Event.{Event}
 use Rattle.legal_journal.specs.declared.events.FabricCall.{FabricCall}
 use Rattle.legal_journal.specs.declared.events.FabricAnswer.{FabricAnswer}
@@ -31,18 +32,18 @@ write_append who [] ys h k = k
 write_append who (x ∷ xs) ys h k = (h.0, write_append who xs ys h.1 k)
 
 -- a turn whose event writes nothing
-pub turn_wrote : (may : ℕ → Entry → Type 0) (floor : List Entry → ℕ → Type 0) (shelf : List ℕ) (who : ℕ) (old : List Event) (call : FabricCall) (answer : FabricAnswer) (new : List Event) → (t : IsTurn may floor shelf who old call answer new)
+pub turn_wrote : (law : Law) (who : ℕ) (old : List Event) (call : FabricCall) (answer : FabricAnswer) (new : List Event) → (t : IsTurn law who old call answer new)
     → t.own ≡ record { who = who; call = call; answer = answer } ∷ [] → chain_by (move_of call answer) ≡ None → WroteNone who old new
-turn_wrote may floor shelf who old call answer new t own none = record {
+turn_wrote law who old call answer new t own none = record {
   more = t.others ++ record { who = who; call = call; answer = answer } ∷ [];
   seen = t.seen ∙ (ap (λ es. (old ++ t.others) ++ es) own ∙ append_assoc old t.others (record { who = who; call = call; answer = answer } ∷ []));
   none = write_append who t.others _ (others_write who t.others t.apart) (λ _. none, tt);
 }
 
 -- .. or that has none
-pub turn_quiet : (may : ℕ → Entry → Type 0) (floor : List Entry → ℕ → Type 0) (shelf : List ℕ) (who : ℕ) (old : List Event) (call : FabricCall) (answer : FabricAnswer) (new : List Event) → IsTurn may floor shelf who old call answer new
+pub turn_quiet : (law : Law) (who : ℕ) (old : List Event) (call : FabricCall) (answer : FabricAnswer) (new : List Event) → IsTurn law who old call answer new
     → chain_by (move_of call answer) ≡ None → WroteNone who old new
-turn_quiet may floor shelf who old call answer new t none = record {
+turn_quiet law who old call answer new t none = record {
   more = t.others ++ t.own;
   seen = t.seen ∙ append_assoc old t.others t.own;
   none = write_append who t.others t.own (others_write who t.others t.apart) (by (one_or_none who call answer t.own t.event));
@@ -87,11 +88,11 @@ register_upto w floor cells id (Faults x c) a low u = record { chain = u.chain; 
 register_upto w floor cells id Fails a low u = u
 register_upto w floor cells id (Mends b) a low u = record { chain = u.chain; asked = u.asked }
 
-step_upto : (w : State) (may : ℕ → Entry → Type 0) (floor : List Entry → ℕ → Type 0) (cells who id : ℕ) (m : Move) → IsAllowed w may floor cells who m → ((c : Chain) → chain_by m ≡ Some c → (last_segment c).id ≤ id) → IsUpTo id w.register → IsUpTo id (after w who m).register
-step_upto w may floor cells who id (OnCell i m) a low u = u
-step_upto w may floor cells who id (OnRegister m) a low u = register_upto w floor cells id m a low u
-step_upto w may floor cells who id Nothing a low u = u
-step_upto w may floor cells who id Never a low u = u
+step_upto : (w : State) (law : Law) (who id : ℕ) (m : Move) → IsAllowed w law who m → ((c : Chain) → chain_by m ≡ Some c → (last_segment c).id ≤ id) → IsUpTo id w.register → IsUpTo id (after w who m).register
+step_upto w law who id (OnCell i m) a low u = u
+step_upto w law who id (OnRegister m) a low u = register_upto w law.floor (length law.shelf) id m a low u
+step_upto w law who id Nothing a low u = u
+step_upto w law who id Never a low u = u
 
 -- an event among these is another's write behind loglet id
 record HasAnothers (who id : ℕ) (es : List Event) : Type 0 where
@@ -132,9 +133,9 @@ one_upto who id e own = by (chain_by (move e)) refl
         (λ (low : (last_segment d).id ≤ id). inr (same_by d h low))
         (cases_lt id (last_segment d).id)
 
-module _ (may : ℕ → Entry → Type 0) (floor : List Entry → ℕ → Type 0) (shelf : List ℕ) (who : ℕ) where
+module _ (law : Law) (who : ℕ) where
   -- where who wrote nothing, another wrote behind loglet id, or the chain goes no further
-  all_upto : (id : ℕ) (w : State) (es : List Event) → IsLegalFrom w may floor shelf es → WriteNone who es → IsUpTo id w.register → HasAnothers who id es ⊎ IsUpTo id (after_all w es).register
+  all_upto : (id : ℕ) (w : State) (es : List Event) → IsLegalFrom w law es → WriteNone who es → IsUpTo id w.register → HasAnothers who id es ⊎ IsUpTo id (after_all w es).register
   all_upto id w [] legal none u = inr u
   all_upto id w (e ∷ es) legal none u =
       ⊎_elim
@@ -143,17 +144,17 @@ module _ (may : ℕ → Entry → Type 0) (floor : List Entry → ℕ → Type 0
       ⊎_elim
       (λ (h : HasAnothers who id es). inl (there who id e es h))
       (λ (k : IsUpTo id (after_all (after w e.who (move e)) es).register). inr k)
-      (all_upto id (after w e.who (move e)) es legal.1 none.1 (step_upto w may floor (length shelf) e.who id (move e) legal.0.allowed low u)))
+      (all_upto id (after w e.who (move e)) es legal.1 none.1 (step_upto w law e.who id (move e) legal.0.allowed low u)))
       (one_upto who id e none.0)
 
   -- Since a look at the chain who wrote nothing, and the chain goes on behind the last loglet that it saw: another wrote so.
-  pub another_wrote : (a others new : List Event) (v : ℕ) (c : Chain) (looked : List Event) → IsLegal may floor shelf new → looked ≡ (a ++ others) ++ record { who = who; call = ReadChain; answer = At v c } ∷ []
+  pub another_wrote : (a others new : List Event) (v : ℕ) (c : Chain) (looked : List Event) → IsLegal law new → looked ≡ (a ++ others) ++ record { who = who; call = ReadChain; answer = At v c } ∷ []
       → WroteNone who looked new → (last_segment c).id < (last_segment (state_of new).register.chain).id → HasEvent looked (IsAnothers who (last_segment c).id) new
   another_wrote a others new v c looked legal look none up =
       let id = (last_segment c).id in
-      let whole = subst (IsLegal may floor shelf) none.seen legal in
-      let parts = IsLegalFrom-split may floor shelf start looked none.more whole.steps in
-      let k = took may floor shelf a others _ looked (legal_front may floor shelf looked none.more whole) look in
+      let whole = subst (IsLegal law) none.seen legal in
+      let parts = IsLegalFrom-split law start looked none.more whole.steps in
+      let k = took law a others _ looked (legal_front law looked none.more whole) look in
       let begins : IsUpTo id (state_of looked).register = subst (λ (w : State). IsUpTo id w.register) (sym k.now) (record { chain = omega arith; asked = none_asked id }) in
       let now : state_of new ≡ after_all (state_of looked) none.more = ap state_of none.seen ∙ after_all-append start looked none.more in
       ⊎_elim
@@ -170,15 +171,15 @@ module _ (may : ℕ → Entry → Type 0) (floor : List Entry → ℕ → Type 0
       (all_upto id (state_of looked) none.more parts.1 none.none begins)
 
   -- a refusal tells of a chain, which the log's isn't behind
-  pub refusal_tells : (a new : List Event) (x v : ℕ) (d c : Chain) → IsLegal may floor shelf new → HasEvent a (λ e. e ≡ record { who = who; call = WriteChain x d; answer = Conflict v c }) new
+  pub refusal_tells : (a new : List Event) (x v : ℕ) (d c : Chain) → IsLegal law new → HasEvent a (λ e. e ≡ record { who = who; call = WriteChain x d; answer = Conflict v c }) new
       → (last_segment c).id ≤ (last_segment (state_of new).register.chain).id
   refusal_tells a new x v d c legal h =
       let e : Event = record { who = who; call = WriteChain x d; answer = Conflict v c } in
       let told : new ≡ ((a ++ h.before) ++ e ∷ []) ++ h.after = h.seen ∙ (ap (λ (y : Event). (a ++ h.before) ++ y ∷ h.after) h.is ∙ sym (append_assoc (a ++ h.before) (e ∷ []) h.after)) in
-      let whole = subst (IsLegal may floor shelf) told legal in
-      let front = legal_front may floor shelf ((a ++ h.before) ++ e ∷ []) h.after whole in
-      let k = took may floor shelf a h.before e ((a ++ h.before) ++ e ∷ []) front refl in
+      let whole = subst (IsLegal law) told legal in
+      let front = legal_front law ((a ++ h.before) ++ e ∷ []) h.after whole in
+      let k = took law a h.before e ((a ++ h.before) ++ e ∷ []) front refl in
       let at : (state_of ((a ++ h.before) ++ e ∷ [])).register.chain ≡ c = ap (λ (w : State). w.register.chain) k.now in
-      let on = goes_on may floor shelf ((a ++ h.before) ++ e ∷ []) h.after whole in
+      let on = goes_on law ((a ++ h.before) ++ e ∷ []) h.after whole in
       let up = subst (λ es. (last_segment (state_of ((a ++ h.before) ++ e ∷ [])).register.chain).id ≤ (last_segment (state_of es).register.chain).id) (sym told) on.last in
       omega (arith, up, ap (λ (y : Chain). (last_segment y).id) at)

@@ -2,6 +2,7 @@
 use Rattle.std.specs.Prelude.{◌≡◌, ℕ, ◌<◌, ◌≤◌, List, ◌++◌, Some, ◌⊎◌}
 use Rattle.delos_types.specs.declared.entry.Entry.{Entry}
 use Rattle.delos_types.specs.declared.chain.Chain.{Chain}
+use Rattle.legal_journal.specs.Law.{Law}
 use Rattle.legal_journal.specs.declared.events.Event.{Event}
 use Rattle.legal_journal.specs.Shown.{entry_in}
 use Rattle.legal_journal.specs.Journal.{state_of, IsLegal, reach, entries}
@@ -31,6 +32,6 @@ Reads holds seen least m (Trimmed t) = (least < m) × IsTrimmed seen least
 Reads holds seen least m (Found pos e) = (least < m) × (IsTrimmed seen least ⊎ (pos ≡ least)) × holds seen pos e
 
 -- what a log holds it holds for good
-abbrev pub Stays : (ℕ → Entry → Type 0) → (List Entry → ℕ → Type 0) → List ℕ → (List Event → ℕ → Entry → Type 0) → Type 0
-Stays may floor shelf holds =
-    (early more : List Event) (pos : ℕ) (e : Entry) → IsLegal may floor shelf (early ++ more) → holds early pos e → holds (early ++ more) pos e
+abbrev pub Stays : Law → (List Event → ℕ → Entry → Type 0) → Type 0
+Stays law holds =
+    (early more : List Event) (pos : ℕ) (e : Entry) → IsLegal law (early ++ more) → holds early pos e → holds (early ++ more) pos e

@@ -1,8 +1,8 @@
 -- What a virtual log shows, and what holds of it.
 use Rattle.std.specs.Prelude.{◌≡◌, ℕ, ◌+◌, ◌≤◌, List, length, Some}
-use Rattle.delos_types.specs.declared.entry.Entry.{Entry}
 use Rattle.delos_types.specs.declared.chain.Chain.{Chain}
 use Rattle.chain_map.specs.Chain.{last_segment}
+use Rattle.legal_journal.specs.Law.{Law}
 use Rattle.legal_journal.specs.declared.events.Event.{Event}
 use Rattle.legal_journal.specs.Journal.{State, state_of, IsLegal}
 
@@ -29,7 +29,7 @@ pub record GoesBy (w : State) (version : ℕ) (chain : Chain) (known : ℕ) : Ty
   pub given : w.register.given version ≡ Some chain
   pub reached : known ≤ (last_segment chain).start + (w.cells (last_segment chain).id).told.reach
 
-pub record LogOk (may : ℕ → Entry → Type 0) (floor : List Entry → ℕ → Type 0) (shelf : List ℕ) (v : LogView) (shelf_len : ℕ) : Type 0 where
-  pub count : shelf_len ≡ length shelf
-  pub legal : IsLegal may floor shelf v.seen
+pub record LogOk (law : Law) (v : LogView) (shelf_len : ℕ) : Type 0 where
+  pub count : shelf_len ≡ length law.shelf
+  pub legal : IsLegal law v.seen
   pub goes_by : GoesBy (state_of v.seen) v.version v.chain v.known

@@ -1,9 +1,9 @@
 -- What turns bring.
 use Rattle.std.specs.Prelude.{◌≡◌, ℕ, Bool, true, false, List, [], ◌∷◌, ◌++◌}
-use Rattle.delos_types.specs.declared.entry.Entry.{Entry}
 use Rattle.delos_types.specs.declared.chain.Chain.{Chain}
 use Rattle.loglet_api.specs.declared.call.Op.{Op}
 use Rattle.loglet_api.specs.declared.call.Answer.{Answer}
+use Rattle.legal_journal.specs.Law.{Law}
 use Rattle.legal_journal.specs.declared.events.Event.{Event}
 use Rattle.legal_journal.specs.declared.events.FabricCall.TheVariants.{Begin, Carry, ReadChain}
 use Rattle.legal_journal.specs.declared.events.FabricAnswer.{FabricAnswer}
@@ -31,10 +31,10 @@ pub record Still (old new : State) : Type 0 where
   pub told : (i : ℕ) → (new.cells i).told ≡ (old.cells i).told
 
 -- what was seen before is still seen, and what is seen is legal
-pub record Later (may : ℕ → Entry → Type 0) (floor : List Entry → ℕ → Type 0) (shelf : List ℕ) (old new : List Event) : Type 0 where
+pub record Later (law : Law) (old new : List Event) : Type 0 where
   pub more : List Event
   pub seen : new ≡ old ++ more
-  pub legal : IsLegal may floor shelf new
+  pub legal : IsLegal law new
 
 -- the one own event since old is a read, to which the register gave this chain
 pub record Looked (who : ℕ) (old : List Event) (version : ℕ) (chain : Chain) (new : List Event) : Type 0 where

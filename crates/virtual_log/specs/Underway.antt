@@ -8,6 +8,7 @@ use Rattle.chain_map.specs.Chain.{last_segment}
 use Rattle.chain_map.specs.Step.{extended}
 use Rattle.loglet_api.specs.declared.call.Op.TheVariants.{Append, Tail}
 use Rattle.loglet_api.specs.declared.call.Answer.TheVariants.{Placed, SealedTail, Sealed}
+use Rattle.legal_journal.specs.Law.{Law}
 use Rattle.legal_journal.specs.declared.events.Event.{Event}
 use Rattle.legal_journal.specs.declared.events.FabricCall.{FabricCall}
 use Rattle.legal_journal.specs.declared.events.FabricCall.TheVariants.{Begin, Carry, Forget, ReadChain, WriteChain}
@@ -214,12 +215,12 @@ Outcome may who old k g new k' g' (Err Memory) =
 Outcome may who old k g new k' g' (Err fault) = (k'.tail ≡ k.tail) × HasCause who old fault new
 
 -- what one turn owes, from what was seen, what is known of the log, and the append, to those after it
-pub record Went (may : ℕ → Entry → Type 0) (floor : List Entry → ℕ → Type 0) (shelf : List ℕ) (words : ℕ → Bool) (who : ℕ) (old : List Event) (k : Known) (g : Going) (new : List Event) (k' : Known) (g' : Going) (answer : Result (Option ℕ) Fault) : Type 0 where
-  pub later : Later may floor shelf old new
+pub record Went (law : Law) (words : ℕ → Bool) (who : ℕ) (old : List Event) (k : Known) (g : Going) (new : List Event) (k' : Known) (g' : Going) (answer : Result (Option ℕ) Fault) : Type 0 where
+  pub later : Later law old new
   pub goes_by : GoesBy (state_of new) k'.version k'.chain k'.tail
   pub says : SaysOnly words who old new
   pub unsealed : SealsNone who old new
   pub entry : g'.entry ≡ g.entry
   pub left : LeavesNone g.step new g'.step
-  pub others : LeavesOthers may who old k.chain g new k'.chain g'
-  pub outcome : Outcome may who old k g new k' g' answer
+  pub others : LeavesOthers law.may who old k.chain g new k'.chain g'
+  pub outcome : Outcome law.may who old k g new k' g' answer

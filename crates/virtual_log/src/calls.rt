@@ -1,5 +1,5 @@
 //! Appends, tails and reads of a log, each over as many turns as it takes.
-ghost use Rattle.std.specs.Prelude.{◌≡◌, ◌<◌, ◌≤◌, ◌+◌, ℕ, max, IfOk, OnOk, IfErr, OnErr, IfSome, IfNone, Some, length};
+ghost use Rattle.std.specs.Prelude.{◌≡◌, ◌<◌, ◌≤◌, ◌+◌, max, IfOk, OnOk, IfErr, OnErr, IfSome, IfNone, Some};
 ghost use Rattle.chain_map.specs.Chain.{last_segment, last_id};
 ghost use Rattle.delos_types.specs.Spelling.{IsSpellable};
 ghost use Rattle.legal_journal.specs.Journal.{state_of, IsLegal, tail_of, trim_of};
@@ -45,11 +45,11 @@ pub fn append_on<T: Turns, C: Chooser>(
     known: &mut Known,
     entry: &Entry,
 ) -> Result<u64, Fault>
-    requires legal { IsLegal T.Law.may T.Law.floor T.Law.shelf (T.seen turns.old) }
+    requires legal { IsLegal T.Law.law (T.seen turns.old) }
     requires goes_by { GoesBy (state_of (T.seen turns.old)) known.old.version known.old.chain known.old.tail }
-    requires may { T.Law.may (T.who turns.old) entry.now }
+    requires may { T.Law.law.may (T.who turns.old) entry.now }
     requires spelled { IsSpellable entry.now }
-    ensures later { Later T.Law.may T.Law.floor T.Law.shelf (T.seen turns.old) (T.seen turns.new) }
+    ensures later { Later T.Law.law (T.seen turns.old) (T.seen turns.new) }
     ensures who { T.who turns.new ≡ T.who turns.old }
     ensures goes_by { GoesBy (state_of (T.seen turns.new)) known.new.version known.new.chain known.new.tail }
     ensures stands { IfOk result (λ pos. Stands (state_of (T.seen turns.new)) pos entry.now) }
@@ -86,9 +86,9 @@ pub fn tail_on<T: Turns, C: Chooser>(
     alloc: Global,
     known: &mut Known,
 ) -> Result<u64, Fault>
-    requires legal { IsLegal T.Law.may T.Law.floor T.Law.shelf (T.seen turns.old) }
+    requires legal { IsLegal T.Law.law (T.seen turns.old) }
     requires goes_by { GoesBy (state_of (T.seen turns.old)) known.old.version known.old.chain known.old.tail }
-    ensures later { Later T.Law.may T.Law.floor T.Law.shelf (T.seen turns.old) (T.seen turns.new) }
+    ensures later { Later T.Law.law (T.seen turns.old) (T.seen turns.new) }
     ensures who { T.who turns.new ≡ T.who turns.old }
     ensures goes_by { GoesBy (state_of (T.seen turns.new)) known.new.version known.new.chain known.new.tail }
     ensures within { IfOk result (λ tail. tail ≤ tail_of (state_of (T.seen turns.new))) }
@@ -136,11 +136,11 @@ fn read_at<T: Turns, C: Chooser>(
     known: &Known,
     pos: u64,
 ) -> Result<Option<Entry>, Fault>
-    requires legal { IsLegal T.Law.may T.Law.floor T.Law.shelf (T.seen turns.old) }
+    requires legal { IsLegal T.Law.law (T.seen turns.old) }
     requires goes_by { GoesBy (state_of (T.seen turns.old)) known.now.version known.now.chain known.now.tail }
     requires trim { known.now.chain.trim ≤ pos }
     requires tail { pos < known.now.tail }
-    ensures later { Later T.Law.may T.Law.floor T.Law.shelf (T.seen turns.old) (T.seen turns.new) }
+    ensures later { Later T.Law.law (T.seen turns.old) (T.seen turns.new) }
     ensures who { T.who turns.new ≡ T.who turns.old }
     ensures found { IfOk result (λ o. IfSome o (λ e. Stands (state_of (T.seen turns.old)) pos e)) }
     ensures held { IfOk result (λ o. IfSome o (λ e. Holds (T.seen turns.new) pos e)) }
@@ -174,11 +174,11 @@ pub fn read_from<T: Turns, C: Chooser>(
     min: u64,
     m: u64,
 ) -> Result<Next, Fault>
-    requires legal { IsLegal T.Law.may T.Law.floor T.Law.shelf (T.seen turns.old) }
+    requires legal { IsLegal T.Law.law (T.seen turns.old) }
     requires goes_by { GoesBy (state_of (T.seen turns.old)) known.old.version known.old.chain known.old.tail }
     requires some { min < m }
     requires tail { m ≤ known.old.tail }
-    ensures later { Later T.Law.may T.Law.floor T.Law.shelf (T.seen turns.old) (T.seen turns.new) }
+    ensures later { Later T.Law.law (T.seen turns.old) (T.seen turns.new) }
     ensures who { T.who turns.new ≡ T.who turns.old }
     ensures goes_by { GoesBy (state_of (T.seen turns.new)) known.new.version known.new.chain known.new.tail }
     ensures known { known.new.tail ≡ known.old.tail }

@@ -1,6 +1,6 @@
 //! The last loglet of the chain is replaced on request (OSDI 2020): it is sealed, its tail is found, and the chain is
 //! written that closes it there. Whoever writes first wins.
-ghost use Rattle.std.specs.Prelude.{◌≡◌, ◌<◌, ◌≤◌, ◌+◌, ℕ, length, IfOk, OnOk, IfErr, OnErr, None, Contains};
+ghost use Rattle.std.specs.Prelude.{◌≡◌, ◌<◌, ◌≤◌, ◌+◌, length, IfOk, OnOk, IfErr, OnErr, None, Contains};
 ghost use Rattle.chain_map.specs.Chain.{last_segment};
 ghost use Rattle.legal_journal.specs.Journal.{state_of, IsLegal};
 ghost use Rattle.virtual_log.specs.Turning.{Later};
@@ -42,10 +42,10 @@ fn close_at<T: Turns>(
     known: &mut Known,
     length: u64,
 ) -> Result<Extension, Fault>
-    requires legal { IsLegal T.Law.may T.Law.floor T.Law.shelf (T.seen turns.old) }
+    requires legal { IsLegal T.Law.law (T.seen turns.old) }
     requires goes_by { GoesBy (state_of (T.seen turns.old)) known.old.version known.old.chain known.old.tail }
     requires told { Contains ((state_of (T.seen turns.old)).cells (last_segment known.old.chain).id).ends length }
-    ensures later { Later T.Law.may T.Law.floor T.Law.shelf (T.seen turns.old) (T.seen turns.new) }
+    ensures later { Later T.Law.law (T.seen turns.old) (T.seen turns.new) }
     ensures who { T.who turns.new ≡ T.who turns.old }
     ensures goes_by { GoesBy (state_of (T.seen turns.new)) known.new.version known.new.chain known.new.tail }
     ensures closed { IfOk result (Closes (T.who turns.old) (T.seen turns.old) (last_segment known.old.chain) known.old.tail known.new.tail known.new.version (T.seen turns.new)) }
@@ -85,14 +85,14 @@ pub fn extend_on<T: Turns, C: Chooser>(
     shelf_len: u32,
     known: &mut Known,
 ) -> Result<Extension, Fault>
-    requires legal { IsLegal T.Law.may T.Law.floor T.Law.shelf (T.seen turns.old) }
+    requires legal { IsLegal T.Law.law (T.seen turns.old) }
     requires goes_by { GoesBy (state_of (T.seen turns.old)) known.old.version known.old.chain known.old.tail }
-    requires shelf { shelf_len ≡ length T.Law.shelf }
+    requires shelf { shelf_len ≡ length T.Law.law.shelf }
     requires right { T.Law.seals (T.who turns.old) }
-    ensures later { Later T.Law.may T.Law.floor T.Law.shelf (T.seen turns.old) (T.seen turns.new) }
+    ensures later { Later T.Law.law (T.seen turns.old) (T.seen turns.new) }
     ensures who { T.who turns.new ≡ T.who turns.old }
     ensures goes_by { GoesBy (state_of (T.seen turns.new)) known.new.version known.new.chain known.new.tail }
-    ensures extension { IfOk result (IsExtension (length T.Law.shelf) (T.who turns.old) (T.seen turns.old) known.old.tail known.new.tail known.new.version (T.seen turns.new)) }
+    ensures extension { IfOk result (IsExtension (length T.Law.law.shelf) (T.who turns.old) (T.seen turns.old) known.old.tail known.new.tail known.new.version (T.seen turns.new)) }
     ensures seals { SealsLast (T.who turns.old) (T.seen turns.old) (T.seen turns.new) }
     ensures unknown { OnErr result (known.new.tail ≡ known.old.tail) }
     ensures words { SaysOnly (C.may chooser.old) (T.who turns.old) (T.seen turns.old) (T.seen turns.new) }

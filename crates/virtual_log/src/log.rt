@@ -1,5 +1,5 @@
 //! The virtual log.
-ghost use Rattle.std.specs.Prelude.{◌≡◌, ◌≤◌, ◌<◌, ◌+◌, ℕ, length, min, max, IfOk, OnOk, IfErr, OnErr, None};
+ghost use Rattle.std.specs.Prelude.{◌≡◌, ◌≤◌, ◌<◌, ◌+◌, length, min, max, IfOk, OnOk, IfErr, OnErr, None};
 ghost use Rattle.delos_types.specs.Spelling.{IsSpellable};
 ghost use Rattle.chain_map.specs.Chain.{first_chain, last_segment};
 ghost use Rattle.legal_journal.specs.Journal.{state_of, IsLegal, IsFree, tail_of, trim_of};
@@ -55,15 +55,15 @@ impl<T: Turns, C: Chooser> Model for VirtualLog<T, C> {
 
     ghost view = { λ l. record { who = T.who l.turns; seen = T.seen l.turns; known = l.known.tail; version = l.known.version; chain = l.known.chain; words = words_of (C.may l.chooser) } };
 
-    ghost invariant = { λ l. LogOk T.Law.may T.Law.floor T.Law.shelf (record { who = T.who l.turns; seen = T.seen l.turns; known = l.known.tail; version = l.known.version; chain = l.known.chain; words = words_of (C.may l.chooser) }) l.shelf_len };
+    ghost invariant = { λ l. LogOk T.Law.law (record { who = T.who l.turns; seen = T.seen l.turns; known = l.known.tail; version = l.known.version; chain = l.known.chain; words = words_of (C.may l.chooser) }) l.shelf_len };
 }
 
 impl<T: Turns, C: Chooser> VirtualLog<T, C> {
     /// A virtual log that knows nothing yet but the first chain, over a shelf of so many loglets. Makes
     /// no event. Without memory it hands the parts back.
     pub fn new(alloc: Global, turns: T, chooser: C, shelf_len: u32) -> Result<Self, Parts<T, C>>
-        requires legal { IsLegal T.Law.may T.Law.floor T.Law.shelf (T.seen turns) }
-        requires shelf { shelf_len ≡ length T.Law.shelf }
+        requires legal { IsLegal T.Law.law (T.seen turns) }
+        requires shelf { shelf_len ≡ length T.Law.law.shelf }
         ensures ok { IfOk result (λ l. l ≡ record { who = T.who turns; seen = T.seen turns; known = 0; version = 1; chain = first_chain; words = words_of (C.may chooser) }) }
         ensures err { IfErr result (λ p. (p.turns ≡ turns) × (p.chooser ≡ chooser)) }
     {
@@ -102,7 +102,7 @@ impl<T: Turns, C: Chooser> VirtualLog<T, C> {
 
     /// Gives the turns out, until `Rested::wake`. Takes no memory, and makes no event.
     pub fn rest(self) -> (Rested<C>, T)
-        ensures rested { result.0 ≡ record { known = self.known; version = self.version; chain = self.chain; shelf_len = length T.Law.shelf; words = self.words } }
+        ensures rested { result.0 ≡ record { known = self.known; version = self.version; chain = self.chain; shelf_len = length T.Law.law.shelf; words = self.words } }
         ensures goes_by { GoesBy (state_of self.seen) self.version self.chain self.known }
         ensures who { T.who result.1 ≡ self.who }
         ensures seen { T.seen result.1 ≡ self.seen }
@@ -137,9 +137,9 @@ impl<T: Turns, C: Chooser> VirtualLog<T, C> {
     /// Cost: one begin and its carries; after a replacement a few events more.
     #[tactic(auto, using(crate::proofs::Saying::says_among))]
     pub fn append(&mut self, entry: &Entry) -> Result<u64, Fault>
-        requires may { T.Law.may self.old.who entry.now }
+        requires may { T.Law.law.may self.old.who entry.now }
         requires spelled { IsSpellable entry.now }
-        ensures later { Later T.Law.may T.Law.floor T.Law.shelf self.old.seen self.new.seen }
+        ensures later { Later T.Law.law self.old.seen self.new.seen }
         ensures who { self.new.who ≡ self.old.who }
 
         // The entry stands at its position: now, and by the laws of a legal journal for good, until
@@ -186,7 +186,7 @@ impl<T: Turns, C: Chooser> VirtualLog<T, C> {
     /// A tail of the log.
     #[tactic(auto, using(crate::proofs::Saying::says_among))]
     pub fn check_tail(&mut self) -> Result<u64, Fault>
-        ensures later { Later T.Law.may T.Law.floor T.Law.shelf self.old.seen self.new.seen }
+        ensures later { Later T.Law.law self.old.seen self.new.seen }
         ensures who { self.new.who ≡ self.old.who }
 
         // No entry of the log stands above its tail, and this is no higher.
@@ -232,14 +232,14 @@ impl<T: Turns, C: Chooser> VirtualLog<T, C> {
     #[tactic(auto, using(crate::proofs::Saying::says_among))]
     pub fn extend(&mut self) -> Result<Extension, Fault>
         requires right { T.Law.seals self.old.who }
-        ensures later { Later T.Law.may T.Law.floor T.Law.shelf self.old.seen self.new.seen }
+        ensures later { Later T.Law.law self.old.seen self.new.seen }
         ensures who { self.new.who ≡ self.old.who }
 
         // By the chain of this call's first look: there is no next loglet exactly with `NoSpare`, which
         // makes no other event. `Extended`: an own write stands, which closes that chain's last segment
         // and goes on at `start`. `Moved`: an own write was refused, in the chain that stands under that
         // version that segment is closed, and since the look another wrote a chain that goes on behind it.
-        ensures extension { IfOk result (IsExtension (length T.Law.shelf) self.old.who self.old.seen self.old.known self.new.known self.new.version self.new.seen) }
+        ensures extension { IfOk result (IsExtension (length T.Law.law.shelf) self.old.who self.old.seen self.old.known self.new.known self.new.version self.new.seen) }
 
         // Whatever comes of it, it begins no Seal, or one of the last loglet of that chain.
         ensures seals { SealsLast self.old.who self.old.seen self.new.seen }
@@ -272,8 +272,8 @@ impl<T: Turns, C: Chooser> VirtualLog<T, C> {
     #[tactic(auto, using(crate::proofs::Saying::says_among))]
     pub fn truncate(&mut self, n: u64) -> Result<(u64, u64), Fault>
         requires known { n ≤ self.old.known }
-        requires free { IsFree (state_of self.old.seen).shown T.Law.floor n }
-        ensures later { Later T.Law.may T.Law.floor T.Law.shelf self.old.seen self.new.seen }
+        requires free { IsFree (state_of self.old.seen).shown T.Law.law.floor n }
+        ensures later { Later T.Law.law self.old.seen self.new.seen }
         ensures who { self.new.who ≡ self.old.who }
         ensures known { self.new.known ≡ self.old.known }
 
@@ -304,8 +304,8 @@ impl<T: Turns, C: Chooser> VirtualLog<T, C> {
     #[tactic(auto, using(crate::proofs::Saying::says_among))]
     pub fn prefix_trim(&mut self, n: u64) -> Result<u64, Fault>
         requires known { n ≤ self.old.known }
-        requires free { IsFree (state_of self.old.seen).shown T.Law.floor n }
-        ensures later { Later T.Law.may T.Law.floor T.Law.shelf self.old.seen self.new.seen }
+        requires free { IsFree (state_of self.old.seen).shown T.Law.law.floor n }
+        ensures later { Later T.Law.law self.old.seen self.new.seen }
         ensures who { self.new.who ≡ self.old.who }
         ensures known { self.new.known ≡ self.old.known }
 
@@ -342,7 +342,7 @@ impl<T: Turns, C: Chooser> VirtualLog<T, C> {
     /// Cost: one read of a loglet; the chain is read where others trimmed past what was known of it.
     #[tactic(auto, using(crate::proofs::Saying::says_among))]
     pub fn read_next(&mut self, least: u64, most: u64) -> Result<Next, Fault>
-        ensures later { Later T.Law.may T.Law.floor T.Law.shelf self.old.seen self.new.seen }
+        ensures later { Later T.Law.law self.old.seen self.new.seen }
         ensures who { self.new.who ≡ self.old.who }
         ensures known { self.new.known ≡ self.old.known }
 

@@ -1,5 +1,5 @@
 //! One operation on one loglet of the chain, from its begin to its answer.
-ghost use Rattle.std.specs.Prelude.{◌≡◌, ◌<◌, ◌≤◌, ℕ, ◌+◌, ◌-◌, length, slice_get, IfOk, OnOk, IfErr, IfSome, IfNone, Some, Contains, true};
+ghost use Rattle.std.specs.Prelude.{◌≡◌, ◌<◌, ◌≤◌, ◌+◌, ◌-◌, length, slice_get, IfOk, OnOk, IfErr, IfSome, IfNone, Some, Contains, true};
 ghost use Rattle.delos_types.specs.Spelling.{IsSpellable};
 ghost use Rattle.legal_journal.specs.Journal.{state_of, IsLegal, tail_of};
 ghost use Rattle.legal_journal.specs.Laws.{Stands};
@@ -28,11 +28,11 @@ pub fn append_to<T: Turns, C: Chooser>(
     segment: Segment,
     entry: &Entry,
 ) -> Result<Option<u64>, Fault>
-    requires legal { IsLegal T.Law.may T.Law.floor T.Law.shelf (T.seen turns.old) }
+    requires legal { IsLegal T.Law.law (T.seen turns.old) }
     requires started { (state_of (T.seen turns.old)).starts segment.id ≡ Some segment.start }
-    requires may { T.Law.may (T.who turns.old) entry.now }
+    requires may { T.Law.law.may (T.who turns.old) entry.now }
     requires spelled { IsSpellable entry.now }
-    ensures later { Later T.Law.may T.Law.floor T.Law.shelf (T.seen turns.old) (T.seen turns.new) }
+    ensures later { Later T.Law.law (T.seen turns.old) (T.seen turns.new) }
     ensures who { T.who turns.new ≡ T.who turns.old }
     ensures sealed { IfOk result (λ o. IfNone o (((state_of (T.seen turns.new)).cells segment.id).told.sealed ≡ true)) }
     ensures retry { IfOk result (λ o. IfNone o (FirstTurn (T.who turns.old) (T.seen turns.old) (T.seen turns.new))) }
@@ -79,9 +79,9 @@ pub fn find_tail<T: Turns, C: Chooser>(
     chooser: &mut C,
     segment: Segment,
 ) -> Result<FoundTail, Fault>
-    requires legal { IsLegal T.Law.may T.Law.floor T.Law.shelf (T.seen turns.old) }
+    requires legal { IsLegal T.Law.law (T.seen turns.old) }
     requires started { (state_of (T.seen turns.old)).starts segment.id ≡ Some segment.start }
-    ensures later { Later T.Law.may T.Law.floor T.Law.shelf (T.seen turns.old) (T.seen turns.new) }
+    ensures later { Later T.Law.law (T.seen turns.old) (T.seen turns.new) }
     ensures who { T.who turns.new ≡ T.who turns.old }
     ensures found { IfOk result (IsFound (T.who turns.old) (T.seen turns.old) segment (T.seen turns.new)) }
     ensures shut { ((state_of (T.seen turns.old)).cells segment.id).told.sealed ≡ true → IfOk result IsSealedTail }
@@ -110,10 +110,10 @@ pub fn find_tail<T: Turns, C: Chooser>(
 
 /// Seals a loglet, behind which the shelf has another. It is for those alone who have the right to.
 pub fn seal<T: Turns, C: Chooser>(turns: &mut T, chooser: &mut C, id: u32) -> Result<(), Fault>
-    requires legal { IsLegal T.Law.may T.Law.floor T.Law.shelf (T.seen turns.old) }
-    requires spare { id + 1 < length T.Law.shelf }
+    requires legal { IsLegal T.Law.law (T.seen turns.old) }
+    requires spare { id + 1 < length T.Law.law.shelf }
     requires right { T.Law.seals (T.who turns.old) }
-    ensures later { Later T.Law.may T.Law.floor T.Law.shelf (T.seen turns.old) (T.seen turns.new) }
+    ensures later { Later T.Law.law (T.seen turns.old) (T.seen turns.new) }
     ensures who { T.who turns.new ≡ T.who turns.old }
     ensures sealed { OnOk result (((state_of (T.seen turns.new)).cells id).told.sealed ≡ true) }
     ensures quiet { OnOk result (WroteNone (T.who turns.old) (T.seen turns.old) (T.seen turns.new)) }

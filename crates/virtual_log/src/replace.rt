@@ -43,10 +43,10 @@ fn finish<T: Turns, C: Chooser>(
     alloc: Global,
     known: &mut Known,
 ) -> Result<(), Fault>
-    requires legal { IsLegal T.Law.may T.Law.floor T.Law.shelf (T.seen turns.old) }
+    requires legal { IsLegal T.Law.law (T.seen turns.old) }
     requires goes_by { GoesBy (state_of (T.seen turns.old)) known.old.version known.old.chain known.old.tail }
     requires sealed { ((state_of (T.seen turns.old)).cells (last_segment known.old.chain).id).told.sealed ≡ true }
-    ensures later { Later T.Law.may T.Law.floor T.Law.shelf (T.seen turns.old) (T.seen turns.new) }
+    ensures later { Later T.Law.law (T.seen turns.old) (T.seen turns.new) }
     ensures who { T.who turns.new ≡ T.who turns.old }
     ensures ok { OnOk result ((last_segment known.old.chain).id < (last_segment (state_of (T.seen turns.new)).register.chain).id) }
     ensures words { SaysOnly (C.may chooser.old) (T.who turns.old) (T.seen turns.old) (T.seen turns.new) }
@@ -73,10 +73,10 @@ pub fn chain_behind<T: Turns, C: Chooser>(
     alloc: Global,
     segment: Segment,
 ) -> Result<(u64, Chain), Fault>
-    requires legal { IsLegal T.Law.may T.Law.floor T.Law.shelf (T.seen turns.old) }
+    requires legal { IsLegal T.Law.law (T.seen turns.old) }
     requires started { (state_of (T.seen turns.old)).starts segment.id ≡ Some segment.start }
     requires sealed { ((state_of (T.seen turns.old)).cells segment.id).told.sealed ≡ true }
-    ensures later { Later T.Law.may T.Law.floor T.Law.shelf (T.seen turns.old) (T.seen turns.new) }
+    ensures later { Later T.Law.law (T.seen turns.old) (T.seen turns.new) }
     ensures who { T.who turns.new ≡ T.who turns.old }
     ensures given { IfOk result (λ x. (state_of (T.seen turns.new)).register.given x.0 ≡ Some x.1) }
     ensures behind { IfOk result (λ x. segment.id < (last_of_segments x.1.segments).id) }

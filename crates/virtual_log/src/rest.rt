@@ -35,9 +35,9 @@ impl<C: Chooser> Rested<C> {
     /// The virtual log as it was, with these turns: they have seen what those that were given out had
     /// seen, so what it knows stands (`what_is_known_stays`). Takes no memory, and makes no event.
     pub fn wake<T: Turns>(self, turns: T) -> VirtualLog<T, C>
-        requires legal { IsLegal T.Law.may T.Law.floor T.Law.shelf (T.seen turns) }
+        requires legal { IsLegal T.Law.law (T.seen turns) }
         requires goes_by { GoesBy (state_of (T.seen turns)) self.version self.chain self.known }
-        requires shelf { self.shelf_len ≡ length T.Law.shelf }
+        requires shelf { self.shelf_len ≡ length T.Law.law.shelf }
         ensures { result ≡ record { who = T.who turns; seen = T.seen turns; known = self.known; version = self.version; chain = self.chain; words = self.words } }
     {
         let Rested {
@@ -58,6 +58,6 @@ impl<C: Chooser> Rested<C> {
 
 /// What a virtual log knows at a moment of a legal journal it knows at every later one.
 pub fn what_is_known_stays<P: Rules>()
-    ensures { (early late : List Event) (version known : ℕ) (chain : Chain) → IsLegal P.may P.floor P.shelf (early ++ late)
+    ensures { (early late : List Event) (version known : ℕ) (chain : Chain) → IsLegal P.law (early ++ late)
         → GoesBy (state_of early) version chain known → GoesBy (state_of (early ++ late)) version chain known }
 {}

@@ -31,11 +31,11 @@ pub fn truncate_on<T: Turns>(
     known: &mut Known,
     n: u64,
 ) -> Result<(u64, u64), Fault>
-    requires legal { IsLegal T.Law.may T.Law.floor T.Law.shelf (T.seen turns.old) }
+    requires legal { IsLegal T.Law.law (T.seen turns.old) }
     requires goes_by { GoesBy (state_of (T.seen turns.old)) known.old.version known.old.chain known.old.tail }
     requires known { n ≤ known.old.tail }
-    requires free { IsFree (state_of (T.seen turns.old)).shown T.Law.floor n }
-    ensures later { Later T.Law.may T.Law.floor T.Law.shelf (T.seen turns.old) (T.seen turns.new) }
+    requires free { IsFree (state_of (T.seen turns.old)).shown T.Law.law.floor n }
+    ensures later { Later T.Law.law (T.seen turns.old) (T.seen turns.new) }
     ensures who { T.who turns.new ≡ T.who turns.old }
     ensures goes_by { GoesBy (state_of (T.seen turns.new)) known.new.version known.new.chain known.new.tail }
     ensures known { known.new.tail ≡ known.old.tail }
@@ -77,10 +77,10 @@ fn trim_segment<T: Turns, C: Chooser>(
     segment: Segment,
     n: u64,
 ) -> Result<(), Fault>
-    requires legal { IsLegal T.Law.may T.Law.floor T.Law.shelf (T.seen turns.old) }
+    requires legal { IsLegal T.Law.law (T.seen turns.old) }
     requires started { (state_of (T.seen turns.old)).starts segment.id ≡ Some segment.start }
     requires trim { n ≤ trim_of (state_of (T.seen turns.old)) }
-    ensures later { Later T.Law.may T.Law.floor T.Law.shelf (T.seen turns.old) (T.seen turns.new) }
+    ensures later { Later T.Law.law (T.seen turns.old) (T.seen turns.new) }
     ensures who { T.who turns.new ≡ T.who turns.old }
     ensures trimmed { OnOk result (segment.start < n → HasEvent (T.seen turns.old) (IsTrimOf (T.who turns.old) segment n) (T.seen turns.new)) }
     ensures words { SaysOnly (C.may chooser.old) (T.who turns.old) (T.seen turns.old) (T.seen turns.new) }
@@ -111,10 +111,10 @@ fn trim_segments<T: Turns, C: Chooser>(
     segments: &[Segment],
     n: u64,
 ) -> Result<(), Fault>
-    requires legal { IsLegal T.Law.may T.Law.floor T.Law.shelf (T.seen turns.old) }
+    requires legal { IsLegal T.Law.law (T.seen turns.old) }
     requires started { (k : ℕ) (s : Segment) → slice_get segments.now k ≡ Some s → (state_of (T.seen turns.old)).starts s.id ≡ Some s.start }
     requires trim { n ≤ trim_of (state_of (T.seen turns.old)) }
-    ensures later { Later T.Law.may T.Law.floor T.Law.shelf (T.seen turns.old) (T.seen turns.new) }
+    ensures later { Later T.Law.law (T.seen turns.old) (T.seen turns.new) }
     ensures who { T.who turns.new ≡ T.who turns.old }
     ensures trimmed { OnOk result (AreTrimmed (T.who turns.old) (T.seen turns.old) segments.now n (T.seen turns.new)) }
     ensures words { SaysOnly (C.may chooser.old) (T.who turns.old) (T.seen turns.old) (T.seen turns.new) }
@@ -139,11 +139,11 @@ pub fn prefix_trim_on<T: Turns, C: Chooser>(
     known: &mut Known,
     n: u64,
 ) -> Result<u64, Fault>
-    requires legal { IsLegal T.Law.may T.Law.floor T.Law.shelf (T.seen turns.old) }
+    requires legal { IsLegal T.Law.law (T.seen turns.old) }
     requires goes_by { GoesBy (state_of (T.seen turns.old)) known.old.version known.old.chain known.old.tail }
     requires known { n ≤ known.old.tail }
-    requires free { IsFree (state_of (T.seen turns.old)).shown T.Law.floor n }
-    ensures later { Later T.Law.may T.Law.floor T.Law.shelf (T.seen turns.old) (T.seen turns.new) }
+    requires free { IsFree (state_of (T.seen turns.old)).shown T.Law.law.floor n }
+    ensures later { Later T.Law.law (T.seen turns.old) (T.seen turns.new) }
     ensures who { T.who turns.new ≡ T.who turns.old }
     ensures goes_by { GoesBy (state_of (T.seen turns.new)) known.new.version known.new.chain known.new.tail }
     ensures known { known.new.tail ≡ known.old.tail }

@@ -1,5 +1,5 @@
 //! Single turns, and operations that are carried to their end.
-ghost use Rattle.std.specs.Prelude.{◌≡◌, ◌<◌, ℕ, false, length, IfOk, OnOk, IfErr, OnErr, Option, None, Some};
+ghost use Rattle.std.specs.Prelude.{◌≡◌, ◌<◌, false, length, IfOk, OnOk, IfErr, OnErr, Option, None, Some};
 ghost use Rattle.legal_journal.specs.Told.{Running};
 ghost use Rattle.legal_journal.specs.Journal.{state_of, IsOwn, IsLegal};
 ghost use Rattle.legal_journal.specs.Turns.{MayTurn, HasRight, IsTurn};
@@ -25,7 +25,7 @@ use std::alloc::AllocError;
 
 /// Reads the chain.
 pub fn look<T: Turns>(turns: &mut T) -> Result<(u64, Chain), Fault>
-    ensures later { Later T.Law.may T.Law.floor T.Law.shelf (T.seen turns.old) (T.seen turns.new) }
+    ensures later { Later T.Law.law (T.seen turns.old) (T.seen turns.new) }
     ensures who { T.who turns.new ≡ T.who turns.old }
     ensures ok { IfOk result (λ x. Looked (T.who turns.old) (T.seen turns.old) x.0 x.1 (T.seen turns.new)) }
     ensures quiet { WroteNone (T.who turns.old) (T.seen turns.old) (T.seen turns.new) }
@@ -46,9 +46,9 @@ pub fn look<T: Turns>(turns: &mut T) -> Result<(u64, Chain), Fault>
 
 /// Begins an operation. A Seal is begun by those alone who have the right to.
 pub fn begin<T: Turns>(turns: &mut T, cell: u32, op: Op) -> Result<Ticket, Fault>
-    requires may { MayTurn T.Law.may T.Law.floor T.Law.shelf (T.who turns.old) (T.seen turns.old) (FabricCall.Begin cell op) }
+    requires may { MayTurn T.Law.law (T.who turns.old) (T.seen turns.old) (FabricCall.Begin cell op) }
     requires right { HasRight T.Law.seals (T.who turns.old) (FabricCall.Begin cell op) }
-    ensures later { Later T.Law.may T.Law.floor T.Law.shelf (T.seen turns.old) (T.seen turns.new) }
+    ensures later { Later T.Law.law (T.seen turns.old) (T.seen turns.new) }
     ensures who { T.who turns.new ≡ T.who turns.old }
     ensures ok { IfOk result (λ t. Opened (T.who turns.old) (T.seen turns.old) cell op t (T.seen turns.new)) }
     ensures quiet { IfOk result (λ t. WroteNone (T.who turns.old) (T.seen turns.old) (T.seen turns.new)) }
@@ -71,11 +71,11 @@ pub fn begin<T: Turns>(turns: &mut T, cell: u32, op: Op) -> Result<Ticket, Fault
 
 /// Closes an own operation without its answer. Whether it is closed: where memory is wanting for that too, it isn't.
 pub fn forget<T: Turns>(turns: &mut T, cell: u32, ticket: Ticket) -> bool
-    requires may { MayTurn T.Law.may T.Law.floor T.Law.shelf (T.who turns.old) (T.seen turns.old) (FabricCall.Forget cell ticket) }
-    ensures later { Later T.Law.may T.Law.floor T.Law.shelf (T.seen turns.old) (T.seen turns.new) }
+    requires may { MayTurn T.Law.law (T.who turns.old) (T.seen turns.old) (FabricCall.Forget cell ticket) }
+    ensures later { Later T.Law.law (T.seen turns.old) (T.seen turns.new) }
     ensures who { T.who turns.new ≡ T.who turns.old }
     ensures turn { (answer : FabricAnswer) × IsForgotten answer result
-        × IsTurn T.Law.may T.Law.floor T.Law.shelf (T.who turns.old) (T.seen turns.old) (FabricCall.Forget cell ticket) answer (T.seen turns.new) }
+        × IsTurn T.Law.law (T.who turns.old) (T.seen turns.old) (FabricCall.Forget cell ticket) answer (T.seen turns.new) }
     ensures unsealed { SealsNone (T.who turns.old) (T.seen turns.old) (T.seen turns.new) }
     ensures silent { SaysNone (T.who turns.old) (T.seen turns.old) (T.seen turns.new) }
     ensures calm { CalmSince (T.who turns.old) (T.seen turns.old) (T.seen turns.new) }
@@ -96,10 +96,10 @@ pub fn carry_on<T: Turns, C: Chooser>(
     cell: u32,
     ticket: Ticket,
 ) -> Result<Answer, AllocError>
-    requires legal { IsLegal T.Law.may T.Law.floor T.Law.shelf (T.seen turns.old) }
-    requires cell { cell < length T.Law.shelf }
+    requires legal { IsLegal T.Law.law (T.seen turns.old) }
+    requires cell { cell < length T.Law.law.shelf }
     requires own { (r : Running) × IsOwn ((state_of (T.seen turns.old)).cells cell) (T.who turns.old) ticket r }
-    ensures later { Later T.Law.may T.Law.floor T.Law.shelf (T.seen turns.old) (T.seen turns.new) }
+    ensures later { Later T.Law.law (T.seen turns.old) (T.seen turns.new) }
     ensures who { T.who turns.new ≡ T.who turns.old }
     ensures ok { IfOk result (λ a. (r : Running) → IsOwn ((state_of (T.seen turns.old)).cells cell) (T.who turns.old) ticket r
         → Answered (T.who turns.old) (T.seen turns.old) cell ticket r a (T.seen turns.new)) }

@@ -89,11 +89,11 @@ fn due(known: &Known, step: Step) -> Step
 
 /// Closes an operation without its answer, before the append is begun. Without memory that is left to be done.
 fn forget<T: Turns>(turns: &mut T, cell: u32, ticket: Ticket) -> Step
-    requires legal { IsLegal T.Law.may T.Law.floor T.Law.shelf (T.seen turns.old) }
+    requires legal { IsLegal T.Law.law (T.seen turns.old) }
     requires dropping { IsDropping (T.who turns.old) (T.seen turns.old) cell ticket }
     ensures who { T.who turns.new ≡ T.who turns.old }
     ensures turn { (answer : FabricAnswer) × Forgets cell ticket answer result
-        × IsTurn T.Law.may T.Law.floor T.Law.shelf (T.who turns.old) (T.seen turns.old) (FabricCall.Forget cell ticket) answer (T.seen turns.new) }
+        × IsTurn T.Law.law (T.who turns.old) (T.seen turns.old) (FabricCall.Forget cell ticket) answer (T.seen turns.new) }
 {
     if turn::forget(turns, cell, ticket) {
         return Step::Starting;
@@ -103,12 +103,12 @@ fn forget<T: Turns>(turns: &mut T, cell: u32, ticket: Ticket) -> Step
 
 /// Begins the append on the last loglet of the known chain.
 fn start<T: Turns>(turns: &mut T, known: &Known, going: &mut Going) -> Result<Option<u64>, Fault>
-    requires legal { IsLegal T.Law.may T.Law.floor T.Law.shelf (T.seen turns.old) }
+    requires legal { IsLegal T.Law.law (T.seen turns.old) }
     requires goes_by { GoesBy (state_of (T.seen turns.old)) known.now.version known.now.chain known.now.tail }
-    requires going { (early : List Event) × IsGoing T.Law.may (T.who turns.old) early (T.seen turns.old) known.now.chain going.old }
+    requires going { (early : List Event) × IsGoing T.Law.law.may (T.who turns.old) early (T.seen turns.old) known.now.chain going.old }
     requires step { going.old.step ≡ Starting }
     ensures who { T.who turns.new ≡ T.who turns.old }
-    ensures went { (words : ℕ → Bool) → Went T.Law.may T.Law.floor T.Law.shelf words (T.who turns.old) (T.seen turns.old) known.now going.old
+    ensures went { (words : ℕ → Bool) → Went T.Law.law words (T.who turns.old) (T.seen turns.old) known.now going.old
         (T.seen turns.new) known.now going.new result }
 {
     let segment = last_of(&known.chain);
@@ -133,13 +133,13 @@ fn carry_append<T: Turns, C: Chooser>(
     segment: Segment,
     ticket: Ticket,
 ) -> Result<Option<u64>, Fault>
-    requires legal { IsLegal T.Law.may T.Law.floor T.Law.shelf (T.seen turns.old) }
+    requires legal { IsLegal T.Law.law (T.seen turns.old) }
     requires goes_by { GoesBy (state_of (T.seen turns.old)) known.old.version known.old.chain known.old.tail }
-    requires going { (early : List Event) × IsGoing T.Law.may (T.who turns.old) early (T.seen turns.old) known.old.chain going.old }
+    requires going { (early : List Event) × IsGoing T.Law.law.may (T.who turns.old) early (T.seen turns.old) known.old.chain going.old }
     requires step { going.old.step ≡ Appending segment ticket }
     ensures who { T.who turns.new ≡ T.who turns.old }
     ensures same { C.may chooser.new ≡ C.may chooser.old }
-    ensures went { Went T.Law.may T.Law.floor T.Law.shelf (C.may chooser.old) (T.who turns.old) (T.seen turns.old) known.old going.old
+    ensures went { Went T.Law.law (C.may chooser.old) (T.who turns.old) (T.seen turns.old) known.old going.old
         (T.seen turns.new) known.new going.new result }
 {
     let word = chooser.word();
@@ -178,12 +178,12 @@ fn read<T: Turns>(
     going: &mut Going,
     segment: Segment,
 ) -> Result<Option<u64>, Fault>
-    requires legal { IsLegal T.Law.may T.Law.floor T.Law.shelf (T.seen turns.old) }
+    requires legal { IsLegal T.Law.law (T.seen turns.old) }
     requires goes_by { GoesBy (state_of (T.seen turns.old)) known.old.version known.old.chain known.old.tail }
-    requires going { (early : List Event) × IsGoing T.Law.may (T.who turns.old) early (T.seen turns.old) known.old.chain going.old }
+    requires going { (early : List Event) × IsGoing T.Law.law.may (T.who turns.old) early (T.seen turns.old) known.old.chain going.old }
     requires step { going.old.step ≡ Reading segment }
     ensures who { T.who turns.new ≡ T.who turns.old }
-    ensures went { (words : ℕ → Bool) → Went T.Law.may T.Law.floor T.Law.shelf words (T.who turns.old) (T.seen turns.old) known.old going.old
+    ensures went { (words : ℕ → Bool) → Went T.Law.law words (T.who turns.old) (T.seen turns.old) known.old going.old
         (T.seen turns.new) known.new going.new result }
 {
     match turns.turn(FabricCall::ReadChain) {
@@ -206,12 +206,12 @@ fn ask<T: Turns>(
     going: &mut Going,
     segment: Segment,
 ) -> Result<Option<u64>, Fault>
-    requires legal { IsLegal T.Law.may T.Law.floor T.Law.shelf (T.seen turns.old) }
+    requires legal { IsLegal T.Law.law (T.seen turns.old) }
     requires goes_by { GoesBy (state_of (T.seen turns.old)) known.now.version known.now.chain known.now.tail }
-    requires going { (early : List Event) × IsGoing T.Law.may (T.who turns.old) early (T.seen turns.old) known.now.chain going.old }
+    requires going { (early : List Event) × IsGoing T.Law.law.may (T.who turns.old) early (T.seen turns.old) known.now.chain going.old }
     requires step { going.old.step ≡ Asking segment }
     ensures who { T.who turns.new ≡ T.who turns.old }
-    ensures went { (words : ℕ → Bool) → Went T.Law.may T.Law.floor T.Law.shelf words (T.who turns.old) (T.seen turns.old) known.now going.old
+    ensures went { (words : ℕ → Bool) → Went T.Law.law words (T.who turns.old) (T.seen turns.old) known.now going.old
         (T.seen turns.new) known.now going.new result }
 {
     match turns.turn(FabricCall::Begin(segment.id, Op::Tail)) {
@@ -234,13 +234,13 @@ fn find<T: Turns, C: Chooser>(
     segment: Segment,
     ticket: Ticket,
 ) -> Result<Option<u64>, Fault>
-    requires legal { IsLegal T.Law.may T.Law.floor T.Law.shelf (T.seen turns.old) }
+    requires legal { IsLegal T.Law.law (T.seen turns.old) }
     requires goes_by { GoesBy (state_of (T.seen turns.old)) known.now.version known.now.chain known.now.tail }
-    requires going { (early : List Event) × IsGoing T.Law.may (T.who turns.old) early (T.seen turns.old) known.now.chain going.old }
+    requires going { (early : List Event) × IsGoing T.Law.law.may (T.who turns.old) early (T.seen turns.old) known.now.chain going.old }
     requires step { going.old.step ≡ Finding segment ticket }
     ensures who { T.who turns.new ≡ T.who turns.old }
     ensures same { C.may chooser.new ≡ C.may chooser.old }
-    ensures went { Went T.Law.may T.Law.floor T.Law.shelf (C.may chooser.old) (T.who turns.old) (T.seen turns.old) known.now going.old
+    ensures went { Went T.Law.law (C.may chooser.old) (T.who turns.old) (T.seen turns.old) known.now going.old
         (T.seen turns.new) known.now going.new result }
 {
     let word = chooser.word();
@@ -276,13 +276,13 @@ fn close<T: Turns>(
     segment: Segment,
     length: u64,
 ) -> Result<Option<u64>, Fault>
-    requires legal { IsLegal T.Law.may T.Law.floor T.Law.shelf (T.seen turns.old) }
+    requires legal { IsLegal T.Law.law (T.seen turns.old) }
     requires goes_by { GoesBy (state_of (T.seen turns.old)) known.old.version known.old.chain known.old.tail }
-    requires going { (early : List Event) × IsGoing T.Law.may (T.who turns.old) early (T.seen turns.old) known.old.chain going.old }
+    requires going { (early : List Event) × IsGoing T.Law.law.may (T.who turns.old) early (T.seen turns.old) known.old.chain going.old }
     requires step { going.old.step ≡ Closing segment length }
     requires last { (last_segment known.old.chain).id ≡ segment.id }
     ensures who { T.who turns.new ≡ T.who turns.old }
-    ensures went { (words : ℕ → Bool) → Went T.Law.may T.Law.floor T.Law.shelf words (T.who turns.old) (T.seen turns.old) known.old going.old
+    ensures went { (words : ℕ → Bool) → Went T.Law.law words (T.who turns.old) (T.seen turns.old) known.old going.old
         (T.seen turns.new) known.new going.new result }
 {
     let next = extend(alloc, &known.chain, length)?;
@@ -311,12 +311,12 @@ fn drop_and_start<T: Turns>(
     cell: u32,
     ticket: Ticket,
 ) -> Result<Option<u64>, Fault>
-    requires legal { IsLegal T.Law.may T.Law.floor T.Law.shelf (T.seen turns.old) }
+    requires legal { IsLegal T.Law.law (T.seen turns.old) }
     requires goes_by { GoesBy (state_of (T.seen turns.old)) known.now.version known.now.chain known.now.tail }
-    requires going { (early : List Event) × IsGoing T.Law.may (T.who turns.old) early (T.seen turns.old) known.now.chain going.old }
+    requires going { (early : List Event) × IsGoing T.Law.law.may (T.who turns.old) early (T.seen turns.old) known.now.chain going.old }
     requires step { going.old.step ≡ Dropping cell ticket }
     ensures who { T.who turns.new ≡ T.who turns.old }
-    ensures went { (words : ℕ → Bool) → Went T.Law.may T.Law.floor T.Law.shelf words (T.who turns.old) (T.seen turns.old) known.now going.old
+    ensures went { (words : ℕ → Bool) → Went T.Law.law words (T.who turns.old) (T.seen turns.old) known.now going.old
         (T.seen turns.new) known.now going.new result }
 {
     match forget(turns, cell, ticket) {
@@ -337,13 +337,13 @@ fn advance<T: Turns, C: Chooser>(
     known: &mut Known,
     going: &mut Going,
 ) -> Result<Option<u64>, Fault>
-    requires legal { IsLegal T.Law.may T.Law.floor T.Law.shelf (T.seen turns.old) }
+    requires legal { IsLegal T.Law.law (T.seen turns.old) }
     requires goes_by { GoesBy (state_of (T.seen turns.old)) known.old.version known.old.chain known.old.tail }
-    requires going { (early : List Event) × IsGoing T.Law.may (T.who turns.old) early (T.seen turns.old) known.old.chain going.old }
+    requires going { (early : List Event) × IsGoing T.Law.law.may (T.who turns.old) early (T.seen turns.old) known.old.chain going.old }
     requires due { due (last_segment known.old.chain).id going.old.step ≡ going.old.step }
     ensures who { T.who turns.new ≡ T.who turns.old }
     ensures same { C.may chooser.new ≡ C.may chooser.old }
-    ensures went { Went T.Law.may T.Law.floor T.Law.shelf (C.may chooser.old) (T.who turns.old) (T.seen turns.old) known.old going.old
+    ensures went { Went T.Law.law (C.may chooser.old) (T.who turns.old) (T.seen turns.old) known.old going.old
         (T.seen turns.new) known.new going.new result }
 {
     match &going.step {
@@ -383,16 +383,16 @@ pub fn go_on_with<T: Turns, C: Chooser>(
     known: &mut Known,
     going: &mut Going,
 ) -> Result<Option<u64>, Fault>
-    requires legal { IsLegal T.Law.may T.Law.floor T.Law.shelf (T.seen turns.old) }
+    requires legal { IsLegal T.Law.law (T.seen turns.old) }
     requires goes_by { GoesBy (state_of (T.seen turns.old)) known.old.version known.old.chain known.old.tail }
-    requires going { (early : List Event) × IsGoing T.Law.may (T.who turns.old) early (T.seen turns.old) known.old.chain going.old }
-    ensures later { Later T.Law.may T.Law.floor T.Law.shelf (T.seen turns.old) (T.seen turns.new) }
+    requires going { (early : List Event) × IsGoing T.Law.law.may (T.who turns.old) early (T.seen turns.old) known.old.chain going.old }
+    ensures later { Later T.Law.law (T.seen turns.old) (T.seen turns.new) }
     ensures who { T.who turns.new ≡ T.who turns.old }
     ensures goes_by { GoesBy (state_of (T.seen turns.new)) known.new.version known.new.chain known.new.tail }
     ensures entry { going.new.entry ≡ going.old.entry }
     ensures stands { IfOk result (λ o. IfSome o (λ pos. Stands (state_of (T.seen turns.new)) pos going.old.entry)) }
     ensures held { IfOk result (λ o. IfSome o (λ pos. Holds (T.seen turns.new) pos going.old.entry)) }
-    ensures above { IfOk result (λ o. IfSome o (λ pos. (early : List Event) → IsGoing T.Law.may (T.who turns.old) early (T.seen turns.old) known.old.chain going.old
+    ensures above { IfOk result (λ o. IfSome o (λ pos. (early : List Event) → IsGoing T.Law.law.may (T.who turns.old) early (T.seen turns.old) known.old.chain going.old
         → IsAbove (T.who turns.old) early pos (T.seen turns.new))) }
     ensures placed { IfOk result (λ o. IfSome o (λ pos. OneTurn (T.who turns.old) (T.seen turns.old) (Places (due (last_segment known.old.chain).id going.old.step) pos) (T.seen turns.new))) }
     ensures undecided { IfOk result (λ o. IfNone o (LeavesOpen (T.who turns.old) (T.seen turns.old) going.old.entry known.old.version known.old.chain
@@ -400,10 +400,10 @@ pub fn go_on_with<T: Turns, C: Chooser>(
     ensures known { IfOk result (λ o. IfSome o (λ pos. known.new.tail ≡ max known.old.tail (pos + 1))) }
     ensures undone { IfOk result (λ o. IfNone o (known.new.tail ≡ known.old.tail)) }
     ensures unknown { OnErr result (known.new.tail ≡ known.old.tail) }
-    ensures going { IfOk result (λ o. IfNone o (StaysGoing T.Law.may (T.who turns.old) (T.seen turns.old) known.old.chain going.old (T.seen turns.new) known.new.chain going.new)) }
-    ensures again { IfErr result (λ fault. fault ≡ Memory → StaysGoing T.Law.may (T.who turns.old) (T.seen turns.old) known.old.chain going.old (T.seen turns.new) known.new.chain going.new) }
+    ensures going { IfOk result (λ o. IfNone o (StaysGoing T.Law.law.may (T.who turns.old) (T.seen turns.old) known.old.chain going.old (T.seen turns.new) known.new.chain going.new)) }
+    ensures again { IfErr result (λ fault. fault ≡ Memory → StaysGoing T.Law.law.may (T.who turns.old) (T.seen turns.old) known.old.chain going.old (T.seen turns.new) known.new.chain going.new) }
     ensures left { LeavesNone going.old.step (T.seen turns.new) going.new.step }
-    ensures others { LeavesOthers T.Law.may (T.who turns.old) (T.seen turns.old) known.old.chain going.old (T.seen turns.new) known.new.chain going.new }
+    ensures others { LeavesOthers T.Law.law.may (T.who turns.old) (T.seen turns.old) known.old.chain going.old (T.seen turns.new) known.new.chain going.new }
     ensures words { SaysOnly (C.may chooser.old) (T.who turns.old) (T.seen turns.old) (T.seen turns.new) }
     ensures same { C.may chooser.new ≡ C.may chooser.old }
     ensures err { IfErr result (λ fault. HasCause (T.who turns.old) (T.seen turns.old) fault (T.seen turns.new)) }
@@ -423,18 +423,18 @@ pub fn start_append_on<T: Turns>(
     known: &Known,
     entry: &Entry,
 ) -> Result<Going, Fault>
-    requires legal { IsLegal T.Law.may T.Law.floor T.Law.shelf (T.seen turns.old) }
+    requires legal { IsLegal T.Law.law (T.seen turns.old) }
     requires goes_by { GoesBy (state_of (T.seen turns.old)) known.now.version known.now.chain known.now.tail }
-    requires may { T.Law.may (T.who turns.old) entry.now }
+    requires may { T.Law.law.may (T.who turns.old) entry.now }
     requires spelled { IsSpellable entry.now }
-    ensures later { Later T.Law.may T.Law.floor T.Law.shelf (T.seen turns.old) (T.seen turns.new) }
+    ensures later { Later T.Law.law (T.seen turns.old) (T.seen turns.new) }
     ensures who { T.who turns.new ≡ T.who turns.old }
     ensures goes_by { GoesBy (state_of (T.seen turns.new)) known.now.version known.now.chain known.now.tail }
     ensures entry { IfOk result (λ going. going.entry ≡ entry.now) }
-    ensures going { IfOk result (λ going. IsGoing T.Law.may (T.who turns.old) (T.seen turns.old) (T.seen turns.new) known.now.chain going) }
+    ensures going { IfOk result (λ going. IsGoing T.Law.law.may (T.who turns.old) (T.seen turns.old) (T.seen turns.new) known.now.chain going) }
     ensures began { IfOk result (λ going. OneTurn (T.who turns.old) (T.seen turns.old) (Moves entry.now known.now.version known.now.chain Starting known.now.version known.now.chain going.step) (T.seen turns.new)) }
-    ensures others { (early : List Event) (other : Going) → IsGoing T.Law.may (T.who turns.old) early (T.seen turns.old) known.now.chain other
-        → IsGoing T.Law.may (T.who turns.old) early (T.seen turns.new) known.now.chain other × IfOk result (λ going. AreApart going other) }
+    ensures others { (early : List Event) (other : Going) → IsGoing T.Law.law.may (T.who turns.old) early (T.seen turns.old) known.now.chain other
+        → IsGoing T.Law.law.may (T.who turns.old) early (T.seen turns.new) known.now.chain other × IfOk result (λ going. AreApart going other) }
     ensures words { (words : ℕ → Bool) → SaysOnly words (T.who turns.old) (T.seen turns.old) (T.seen turns.new) }
     ensures err { IfErr result (λ fault. HasCause (T.who turns.old) (T.seen turns.old) fault (T.seen turns.new)) }
     ensures unsealed { SealsNone (T.who turns.old) (T.seen turns.old) (T.seen turns.new) }
@@ -460,18 +460,18 @@ pub fn start_append_on<T: Turns>(
 /// What is underway at a moment of a legal journal is so at every later one, by a known chain that is as far, where its
 /// user neither carried nor closed its ticket. It does nothing: its contract is the law.
 pub fn what_is_going_stays<P: Rules>()
-    ensures { (who : ℕ) (early seen more : List Event) (known newer : Chain) (going : Going) → IsLegal P.may P.floor P.shelf (seen ++ more)
+    ensures { (who : ℕ) (early seen more : List Event) (known newer : Chain) (going : Going) → IsLegal P.law (seen ++ more)
         → (last_segment known).id ≤ (last_segment newer).id → LeaveStep who going.step more
-        → IsGoing P.may who early seen known going → IsGoing P.may who early (seen ++ more) newer going }
+        → IsGoing P.law.may who early seen known going → IsGoing P.law.may who early (seen ++ more) newer going }
 {}
 
 /// What is underway before another call of its value is so behind it, by the chain that the value goes by then: a call
 /// carries and closes what it began alone (`closes`), and that chain ends no earlier (`rises`). It does nothing: its
 /// contract is the law.
 pub fn what_is_going_outlasts_calls<P: Rules>()
-    ensures { (who : ℕ) (early old new : List Event) (known newer : Chain) (left : Option Operation) (going : Going) → Later P.may P.floor P.shelf old new
+    ensures { (who : ℕ) (early old new : List Event) (known newer : Chain) (left : Option Operation) (going : Going) → Later P.law old new
         → (last_segment known).id ≤ (last_segment newer).id → Operates who None left old new
-        → IsGoing P.may who early old known going → IsGoing P.may who early new newer going }
+        → IsGoing P.law.may who early old known going → IsGoing P.law.may who early new newer going }
 {}
 
 impl<T: Turns, C: Chooser> VirtualLog<T, C> {
@@ -481,21 +481,21 @@ impl<T: Turns, C: Chooser> VirtualLog<T, C> {
     /// Cost: one turn.
     #[tactic(auto, using(crate::proofs::Saying::says_among))]
     pub fn start_append(&mut self, entry: &Entry) -> Result<Going, Fault>
-        requires may { T.Law.may self.old.who entry.now }
+        requires may { T.Law.law.may self.old.who entry.now }
         requires spelled { IsSpellable entry.now }
-        ensures later { Later T.Law.may T.Law.floor T.Law.shelf self.old.seen self.new.seen }
+        ensures later { Later T.Law.law self.old.seen self.new.seen }
         ensures who { self.new.who ≡ self.old.who }
         ensures entry { IfOk result (λ going. going.entry ≡ entry.now) }
 
         // It was begun after all that was seen before this call, and can go on.
-        ensures going { IfOk result (λ going. IsGoing T.Law.may self.old.who self.old.seen self.new.seen self.new.chain going) }
+        ensures going { IfOk result (λ going. IsGoing T.Law.law.may self.old.who self.old.seen self.new.seen self.new.chain going) }
 
         // One turn begins the append.
         ensures began { IfOk result (λ going. OneTurn self.old.who self.old.seen (Moves entry.now self.old.version self.old.chain Starting self.new.version self.new.chain going.step) self.new.seen) }
 
         // Whatever else is underway stays so, and its ticket is another.
-        ensures others { (early : List Event) (other : Going) → IsGoing T.Law.may self.old.who early self.old.seen self.old.chain other
-            → IsGoing T.Law.may self.old.who early self.new.seen self.new.chain other × IfOk result (λ going. AreApart going other) }
+        ensures others { (early : List Event) (other : Going) → IsGoing T.Law.law.may self.old.who early self.old.seen self.old.chain other
+            → IsGoing T.Law.law.may self.old.who early self.new.seen self.new.chain other × IfOk result (λ going. AreApart going other) }
         ensures known { self.new.known ≡ self.old.known }
         ensures words { SaysOnly (is_among self.old.words) self.old.who self.old.seen self.new.seen }
         ensures same { self.new.words ≡ self.old.words }
@@ -514,8 +514,8 @@ impl<T: Turns, C: Chooser> VirtualLog<T, C> {
     /// Cost: one turn. A ticket that want of memory leaves is closed by one turn more.
     #[tactic(auto, using(crate::proofs::Saying::says_among))]
     pub fn go_on(&mut self, going: &mut Going) -> Result<Option<u64>, Fault>
-        requires going { (early : List Event) × IsGoing T.Law.may self.old.who early self.old.seen self.old.chain going.old }
-        ensures later { Later T.Law.may T.Law.floor T.Law.shelf self.old.seen self.new.seen }
+        requires going { (early : List Event) × IsGoing T.Law.law.may self.old.who early self.old.seen self.old.chain going.old }
+        ensures later { Later T.Law.law self.old.seen self.new.seen }
         ensures who { self.new.who ≡ self.old.who }
         ensures entry { going.new.entry ≡ going.old.entry }
 
@@ -524,7 +524,7 @@ impl<T: Turns, C: Chooser> VirtualLog<T, C> {
         ensures held { IfOk result (λ o. IfSome o (λ pos. Holds self.new.seen pos going.old.entry)) }
 
         // The position is above each one, and not below any tail, that was answered before the append was begun.
-        ensures above { IfOk result (λ o. IfSome o (λ pos. (early : List Event) → IsGoing T.Law.may self.old.who early self.old.seen self.old.chain going.old
+        ensures above { IfOk result (λ o. IfSome o (λ pos. (early : List Event) → IsGoing T.Law.law.may self.old.who early self.old.seen self.old.chain going.old
             → IsAbove self.old.who early pos self.new.seen)) }
         ensures placed { IfOk result (λ o. IfSome o (λ pos. OneTurn self.old.who self.old.seen (Places (due (last_segment self.old.chain).id going.old.step) pos) self.new.seen)) }
         ensures known { IfOk result (λ o. IfSome o (λ pos. self.new.known ≡ max self.old.known (pos + 1))) }
@@ -536,14 +536,14 @@ impl<T: Turns, C: Chooser> VirtualLog<T, C> {
         ensures unknown { OnErr result (self.new.known ≡ self.old.known) }
 
         // Undecided or without memory, it can go on, after all that it was begun after.
-        ensures going { IfOk result (λ o. IfNone o (StaysGoing T.Law.may self.old.who self.old.seen self.old.chain going.old self.new.seen self.new.chain going.new)) }
-        ensures again { IfErr result (λ fault. fault ≡ Memory → StaysGoing T.Law.may self.old.who self.old.seen self.old.chain going.old self.new.seen self.new.chain going.new) }
+        ensures going { IfOk result (λ o. IfNone o (StaysGoing T.Law.law.may self.old.who self.old.seen self.old.chain going.old self.new.seen self.new.chain going.new)) }
+        ensures again { IfErr result (λ fault. fault ≡ Memory → StaysGoing T.Law.law.may self.old.who self.old.seen self.old.chain going.old self.new.seen self.new.chain going.new) }
 
         // No ticket is left behind: it is the next step's, or it is open no more.
         ensures left { LeavesNone going.old.step self.new.seen going.new.step }
 
         // Whatever else is underway, under another ticket, stays so.
-        ensures others { LeavesOthers T.Law.may self.old.who self.old.seen self.old.chain going.old self.new.seen self.new.chain going.new }
+        ensures others { LeavesOthers T.Law.law.may self.old.who self.old.seen self.old.chain going.old self.new.seen self.new.chain going.new }
 
         // Each word with which it carried is one that the chooser may give, and those are the same after it.
         ensures words { SaysOnly (is_among self.old.words) self.old.who self.old.seen self.new.seen }

@@ -76,10 +76,10 @@ enum Reply {
 
 /// Writes a chain over the one of this version.
 fn write_over<T: Turns>(turns: &mut T, expected: u64, next: Chain) -> Result<Reply, Fault>
-    requires may { MayTurn T.Law.may T.Law.floor T.Law.shelf (T.who turns.old) (T.seen turns.old) (FabricCall.WriteChain expected next) }
-    ensures later { Later T.Law.may T.Law.floor T.Law.shelf (T.seen turns.old) (T.seen turns.new) }
+    requires may { MayTurn T.Law.law (T.who turns.old) (T.seen turns.old) (FabricCall.WriteChain expected next) }
+    ensures later { Later T.Law.law (T.seen turns.old) (T.seen turns.new) }
     ensures who { T.who turns.new ≡ T.who turns.old }
-    ensures ok { IfOk result (λ reply. IsTurn T.Law.may T.Law.floor T.Law.shelf (T.who turns.old) (T.seen turns.old) (FabricCall.WriteChain expected next) (told_by reply) (T.seen turns.new)) }
+    ensures ok { IfOk result (λ reply. IsTurn T.Law.law (T.who turns.old) (T.seen turns.old) (FabricCall.WriteChain expected next) (told_by reply) (T.seen turns.new)) }
     ensures unsealed { SealsNone (T.who turns.old) (T.seen turns.old) (T.seen turns.new) }
     ensures silent { SaysNone (T.who turns.old) (T.seen turns.old) (T.seen turns.new) }
     ensures err { IfErr result (λ fault. HasCause (T.who turns.old) (T.seen turns.old) fault (T.seen turns.new)) }
@@ -105,11 +105,11 @@ pub(crate) fn write<T: Turns>(
     known: &mut Known,
     change: Change,
 ) -> Result<Settled, Fault>
-    requires legal { IsLegal T.Law.may T.Law.floor T.Law.shelf (T.seen turns.old) }
+    requires legal { IsLegal T.Law.law (T.seen turns.old) }
     requires goes_by { GoesBy (state_of (T.seen turns.old)) known.old.version known.old.chain known.old.tail }
-    requires granted { IsGranted T.Law.floor (state_of (T.seen turns.old)) known.old.tail change }
+    requires granted { IsGranted T.Law.law.floor (state_of (T.seen turns.old)) known.old.tail change }
     requires lacks { Lacks change known.old.chain }
-    ensures later { Later T.Law.may T.Law.floor T.Law.shelf (T.seen turns.old) (T.seen turns.new) }
+    ensures later { Later T.Law.law (T.seen turns.old) (T.seen turns.new) }
     ensures who { T.who turns.new ≡ T.who turns.old }
     ensures goes_by { GoesBy (state_of (T.seen turns.new)) known.new.version known.new.chain known.new.tail }
     ensures known { known.new.tail ≡ known.old.tail }

@@ -13,7 +13,7 @@ use worked_cases::words::{bytes, done, nothing, number, shown as shown_bytes, si
 impl OnDisk for JournalPair<FailDisk> {
     fn open(alloc: Global, disk: FailDisk) -> Result<Result<Self, Refusal>> {
         match JournalPair::open_on(alloc, disk) {
-            Ok(journal) => Ok(Ok(journal)),
+            Ok(opened) => Ok(Ok(opened.journal)),
             Err(refused) => Ok(Err(Refusal {
                 disk: refused.disk,
                 why: format!(in alloc; "{}", refused.fault)?,
@@ -62,7 +62,7 @@ fn each(alloc: Global, words: &[&str]) -> Result<Vec<Vec<u8>>> {
 }
 
 /// A call of a journal over two areas that takes no words.
-fn ask(alloc: Global, journal: &JournalPair<FailDisk>, name: &str) -> Result<String> {
+fn ask(alloc: Global, journal: &mut JournalPair<FailDisk>, name: &str) -> Result<String> {
     match name {
         "count" => told(alloc, journal.count()),
         "records" => records(alloc, journal),
@@ -73,13 +73,20 @@ fn ask(alloc: Global, journal: &JournalPair<FailDisk>, name: &str) -> Result<Str
 }
 
 /// All records, with a comma between.
-fn records(alloc: Global, journal: &JournalPair<FailDisk>) -> Result<String> {
+fn records(alloc: Global, journal: &mut JournalPair<FailDisk>) -> Result<String> {
     let mut out = String::new(alloc);
     for i in 0..journal.count() {
         if i > 0 {
             out.push_str(", ")?;
         }
-        out.push_str(&shown_bytes(alloc, journal.get(i))?)?;
+        out.push_str(&shown_bytes(alloc, record_at(journal, i)?.as_slice())?)?;
     }
     told(alloc, out)
+}
+
+fn record_at(journal: &mut JournalPair<FailDisk>, i: usize) -> Result<Vec<u8>> {
+    if i >= journal.count() {
+        bail!("a journal has no record {i}");
+    }
+    Ok(journal.get(i)?)
 }

@@ -3,7 +3,9 @@ ghost use Rattle.std.specs.Prelude.{◌<◌, ◌^◌, length, IfOk};
 
 use anyhow::{Result, bail};
 use delos_types::bytes::Bytes;
-use server_records::{Record, read_record, sealed_record, stored_record, trimmed_record};
+use server_records::{
+    Record, compacted_record, read_record, sealed_record, stored_record, trimmed_record,
+};
 use std::alloc::{AllocError, Global};
 use store_records::{Change, put_change, put_head, read_commit};
 use worked_cases::bench::Bench;
@@ -59,6 +61,7 @@ fn convert(alloc: Global, name: &str, words: &[&str]) -> Result<String> {
             nothing(words)?;
             Ok(shown(alloc, sealed_record(alloc)?.as_slice())?)
         }
+        "compacted" => compacted(alloc, words),
         "server-record" => server_record(alloc, bytes(alloc, words)?.as_slice()),
         "transaction" => transaction(alloc, bytes(alloc, words)?.as_slice()),
         _ => bail!("there is no call {name}"),
@@ -84,6 +87,24 @@ fn trimmed(alloc: Global, position: u64) -> Result<String> {
     Ok(shown(alloc, trimmed_record(alloc, position)?.as_slice())?)
 }
 
+/// The bytes of the record that a compaction begins with: a base, and the length at which it is sealed, if it is.
+fn compacted(alloc: Global, words: &[&str]) -> Result<String> {
+    let Some((base, words)) = words.split_first() else {
+        bail!("a base is wanted");
+    };
+    let base = u64::from(base.parse::<u32>()?);
+    let record = if words.is_empty() {
+        compacted_record(alloc, base, None)?
+    } else {
+        let length = number(words)?;
+        if length > MOST_POSITION {
+            bail!("no case has so great a length");
+        }
+        compacted_record(alloc, base, Some(length))?
+    };
+    Ok(shown(alloc, record.as_slice())?)
+}
+
 /// The record of a log server that the bytes spell.
 fn server_record(alloc: Global, bytes: &[u8]) -> Result<String> {
     match read_record(alloc, bytes)? {
@@ -93,6 +114,10 @@ fn server_record(alloc: Global, bytes: &[u8]) -> Result<String> {
         }
         Some(Record::Sealed) => Ok(format!(in alloc; "sealed")?),
         Some(Record::Trimmed(position)) => Ok(format!(in alloc; "trimmed {position}")?),
+        Some(Record::Compacted(base, Some(length))) => {
+            Ok(format!(in alloc; "compacted {base}, sealed at {length}")?)
+        }
+        Some(Record::Compacted(base, None)) => Ok(format!(in alloc; "compacted {base}")?),
         None => Ok(format!(in alloc; "none")?),
     }
 }

@@ -40,6 +40,7 @@ impl OnDisk for MetaRegister<FailDisk> {
     fn call(&mut self, alloc: Global, name: &str, words: &[&str]) -> Result<String> {
         match name {
             "write" => write(alloc, self, number(words)?),
+            "writes" => writes(alloc, self, number(words)?),
             "reopen" => told(alloc, self.reopen(number(words)?)?),
             "stop" => {
                 self.stop(number(words)?);
@@ -60,6 +61,7 @@ fn ask(alloc: Global, register: &mut MetaRegister<FailDisk>, name: &str) -> Resu
         "version" => told(alloc, register.version()),
         "faults" => told(alloc, register.faults()),
         "misses" => told(alloc, register.misses()),
+        "records" => told(alloc, register.records()),
         _ => bail!("a register has no call {name}"),
     }
 }
@@ -87,6 +89,16 @@ fn write(alloc: Global, register: &mut MetaRegister<FailDisk>, expected: u64) ->
         }
         ReadAnswer::Down => Ok(format!(in alloc; "down")?),
     }
+}
+
+/// So many writes, each over the version that stands, and the answer of the last.
+fn writes(alloc: Global, register: &mut MetaRegister<FailDisk>, count: u64) -> Result<String> {
+    let mut last = String::new(alloc);
+    for _write in 0..count {
+        let version = register.version();
+        last = write(alloc, register, version)?;
+    }
+    Ok(last)
 }
 
 fn written(alloc: Global, answer: &WriteAnswer) -> Result<String, AllocError> {

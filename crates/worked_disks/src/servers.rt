@@ -47,6 +47,7 @@ impl OnDisk for LogServer<FailDisk> {
                 nothing(words)?;
                 words::told(alloc, self.disk_faults())
             }
+            "stores" => stores(alloc, self, number(words)?),
             "tail" | "seal" => {
                 nothing(words)?;
                 Ok(said(alloc, &ask(self, name)?)?)
@@ -65,6 +66,19 @@ fn ask(server: &mut LogServer<FailDisk>, name: &str) -> Result<Told, AllocError>
     } else {
         Ok(server.tail())
     }
+}
+
+/// So many stores, each behind the last, and the answer of the last.
+fn stores(alloc: Global, server: &mut LogServer<FailDisk>, count: u64) -> Result<String> {
+    let mut last = String::new(alloc);
+    for _store in 0..count {
+        let Told::Unsealed(length) = server.tail() else {
+            bail!("only a server that is up and isn't sealed takes stores");
+        };
+        let place = u32::try_from(length)?;
+        last = said(alloc, &ask_at(alloc, server, "store", place)?)?;
+    }
+    Ok(last)
 }
 
 /// A call of a server with a place.

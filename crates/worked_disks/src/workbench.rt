@@ -8,6 +8,7 @@ use crate::disks::ask_disk;
 use anyhow::{Result, bail};
 use disk_model::{Disk, FailDisk, MemDisk};
 use journal_core::Journal;
+use journal_pair::JournalPair;
 use std::alloc::Global;
 use worked_cases::bench::Bench;
 use worked_cases::words::{bytes, nothing, number, numbers, silent};
@@ -42,6 +43,8 @@ pub trait OnDisk: Drop {
 struct Setup {
     bytes: Vec<u8>,
     records: Vec<Vec<u8>>,
+    /// The records of a journal over two areas.
+    kept: Vec<Vec<u8>>,
     failing: Vec<u64>,
     armed: u64,
 }
@@ -51,6 +54,7 @@ impl Setup {
         Setup {
             bytes: Vec::new(alloc),
             records: Vec::new(alloc),
+            kept: Vec::new(alloc),
             failing: Vec::new(alloc),
             armed: 0,
         }
@@ -61,6 +65,7 @@ impl Setup {
         match name {
             "disk" => self.bytes = bytes(alloc, words)?,
             "record" => self.records.push(bytes(alloc, words)?)?,
+            "kept" => self.kept.push(bytes(alloc, words)?)?,
             "fails" => self.failing = numbers(alloc, words)?,
             "arm" => self.armed = number(words)?,
             _ => bail!("nothing is open for {name}"),
@@ -84,6 +89,9 @@ impl Setup {
         ensures synced { IfOk result (λ disk. IsSynced (D.view disk)) }
         ensures up { IfOk result (λ disk. (D.view disk).stopped ≡ false) }
     {
+        if !self.kept.is_empty() {
+            return with_kept(alloc, disk, self.kept.as_slice());
+        }
         if self.records.is_empty() {
             return with_bytes(disk, self.bytes.as_slice());
         }
@@ -108,6 +116,24 @@ fn with_records<D: Disk>(alloc: Global, disk: D, records: &[Vec<u8>]) -> Result<
     ensures up { IfOk result (λ disk. (D.view disk).stopped ≡ false) }
 {
     let mut journal = match Journal::open_on(alloc, disk) {
+        Ok(opened) => opened.journal,
+        Err(refused) => bail!("{}", refused.fault),
+    };
+    for record in records {
+        journal.append(record.as_slice())?;
+    }
+    let mut disk = journal.into_parts();
+    disk.reopen(0)?;
+    Ok(disk)
+}
+
+/// The disk with these records in a journal over two areas, and nothing pending.
+fn with_kept<D: Disk>(alloc: Global, disk: D, records: &[Vec<u8>]) -> Result<D>
+    requires { IsSynced (D.view disk) }
+    ensures synced { IfOk result (λ disk. IsSynced (D.view disk)) }
+    ensures up { IfOk result (λ disk. (D.view disk).stopped ≡ false) }
+{
+    let mut journal = match JournalPair::open_on(alloc, disk) {
         Ok(opened) => opened.journal,
         Err(refused) => bail!("{}", refused.fault),
     };

@@ -1,7 +1,7 @@
 -- Who is alone, and what that says of the events that come.
 use Rattle.std.proofs.Common.{◌≡◌, ◌≢◌, ◌⊎◌, inl, inr, ℕ, zero, suc, ◌+◌, ◌-◌, ◌≤◌, List, [], ◌∷◌, ◌++◌, length, drop, refl, sym, ap, ◌∙◌, subst, ⊎_elim, arith}
 use Rattle.std.proofs.lemmas.List.{length-append}
-use Rattle.delos_types.specs.declared.entry.Entry.{Entry}
+use Rattle.legal_journal.specs.Law.{Law}
 use Rattle.legal_journal.specs.declared.events.Event.{Event}
 use Rattle.legal_journal.specs.declared.events.FabricCall.{FabricCall}
 use Rattle.legal_journal.specs.declared.events.FabricCall.TheVariants.{Carry}
@@ -61,20 +61,20 @@ alone_more who j now call answer h a =
           (by_more who (drop (who - 2) j) a.own (h.by l) (own_by who call answer a.own a.event));
     }
 
-module _ (may : ℕ → Entry → Type 0) (floor : List Entry → ℕ → Type 0) (shelf : List ℕ) where
-  pub nothing_apart : (old new : List Event) → new ≡ old → IsLegal may floor shelf new → ActsApart may floor shelf old new
+module _ (law : Law) where
+  pub nothing_apart : (old new : List Event) → new ≡ old → IsLegal law new → ActsApart law old new
   nothing_apart old new is legal = record { others = []; apart = tt; seen = is ∙ nil old; legal = legal }
 
   -- what a user may do after any events of others, it may do now
-  pub may_alone : (who : ℕ) (j : List Event) (s : SecondView) (call : FabricCall) → record { who = who; journal = j } ≡ s → MayTurn may floor shelf s.who s.journal call → IsLegal may floor shelf j → MayCall (state_of j) may floor shelf who call
-  may_alone who j s call is turn legal = may_now may floor shelf who j call (subst (λ (x : SecondView). MayTurn may floor shelf x.who x.journal call) (sym is) turn) legal
+  pub may_alone : (who : ℕ) (j : List Event) (s : SecondView) (call : FabricCall) → record { who = who; journal = j } ≡ s → MayTurn law s.who s.journal call → IsLegal law j → MayCall (state_of j) law who call
+  may_alone who j s call is turn legal = may_now law who j call (subst (λ (x : SecondView). MayTurn law x.who x.journal call) (sym is) turn) legal
 
   -- its event is a turn
-  pub turn_alone : (who : ℕ) (j : List Event) (s : SecondView) (call : FabricCall) (answer : FabricAnswer) (new : List Event) → record { who = who; journal = j } ≡ s → Adds j who call answer new → IsLegal may floor shelf new → IsTurn may floor shelf s.who s.journal call answer new
-  turn_alone who j s call answer new is a legal = subst (λ (x : SecondView). IsTurn may floor shelf x.who x.journal call answer new) is (turn_of may floor shelf who j call answer new a legal)
+  pub turn_alone : (who : ℕ) (j : List Event) (s : SecondView) (call : FabricCall) (answer : FabricAnswer) (new : List Event) → record { who = who; journal = j } ≡ s → Adds j who call answer new → IsLegal law new → IsTurn law s.who s.journal call answer new
+  turn_alone who j s call answer new is a legal = subst (λ (x : SecondView). IsTurn law x.who x.journal call answer new) is (turn_of law who j call answer new a legal)
 
   -- What came since a user's number was given is by that user: first the journal, then the number, then its events.
-  pub acted_apart : (first : List Event) (old new : SecondView) (who : ℕ) (j : List Event) → old.journal ≡ first → (old.who ≡ 0) ⊎ (old.who ≡ length old.journal + 2) → old.who ≢ 0 → Later may floor shelf old.journal new.journal → new.who ≡ old.who → record { who = who; journal = j } ≡ new → IsAlone who j → ActsApart may floor shelf first new.journal
+  pub acted_apart : (first : List Event) (old new : SecondView) (who : ℕ) (j : List Event) → old.journal ≡ first → (old.who ≡ 0) ⊎ (old.who ≡ length old.journal + 2) → old.who ≢ 0 → Later law old.journal new.journal → new.who ≡ old.who → record { who = who; journal = j } ≡ new → IsAlone who j → ActsApart law first new.journal
   acted_apart first old new who j same number some later is_who is alone =
       let h : IsAlone old.who new.journal = subst (λ k. IsAlone k new.journal) is_who (subst (λ (x : SecondView). IsAlone x.who x.journal) is alone) in
       let at : old.who ≡ length old.journal + 2 = ⊎_elim (λ (z : old.who ≡ 0). absurd (some z)) (λ (e : old.who ≡ length old.journal + 2). e) number in
@@ -87,11 +87,11 @@ module _ (may : ℕ → Entry → Type 0) (floor : List Entry → ℕ → Type 0
       }
 
   -- what the first user may do after any events of others, it may do now
-  pub may_first : (old mid : List Event) (call : FabricCall) → ActsApart may floor shelf old mid → MayTurn may floor shelf 1 old call → MayCall (state_of mid) may floor shelf 1 call
-  may_first old mid call x turn = subst (λ es. MayCall (state_of es) may floor shelf 1 call) (sym x.seen) (turn x.others x.apart (subst (IsLegal may floor shelf) x.seen x.legal))
+  pub may_first : (old mid : List Event) (call : FabricCall) → ActsApart law old mid → MayTurn law 1 old call → MayCall (state_of mid) law 1 call
+  may_first old mid call x turn = subst (λ es. MayCall (state_of es) law 1 call) (sym x.seen) (turn x.others x.apart (subst (IsLegal law) x.seen x.legal))
 
   -- what others did and an own event are a turn
-  pub turn_first : (old mid new : List Event) (call : FabricCall) (answer : FabricAnswer) → ActsApart may floor shelf old mid → Adds mid 1 call answer new → IsLegal may floor shelf new → IsTurn may floor shelf 1 old call answer new
+  pub turn_first : (old mid new : List Event) (call : FabricCall) (answer : FabricAnswer) → ActsApart law old mid → Adds mid 1 call answer new → IsLegal law new → IsTurn law 1 old call answer new
   turn_first old mid new call answer x a legal = record {
     others = x.others;
     own = a.own;

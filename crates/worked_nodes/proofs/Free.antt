@@ -5,6 +5,7 @@ use Rattle.delos_types.specs.declared.entry.Entry.{Entry}
 use Rattle.delos_types.specs.declared.chain.Chain.{Chain}
 use Rattle.chain_map.specs.Chain.{first_chain}
 use Rattle.chain_map.specs.Step.{dropped_below}
+use Rattle.legal_journal.specs.Law.{Law}
 use Rattle.legal_journal.specs.declared.events.Event.{Event}
 use Rattle.legal_journal.specs.declared.events.FabricCall.TheVariants.{WriteChain}
 use Rattle.legal_journal.specs.Journal.{state_of, IsFree}
@@ -12,18 +13,14 @@ use Rattle.legal_journal.specs.Turns.{MayTurn}
 use Rattle.legal_journal.proofs.Cells.{put_same}
 use Rattle.legal_journal.proofs.Legal.{goes_on}
 
--- any position may be trimmed
-pub any_free : (shown : ℕ → Option Entry) (n : ℕ) → n ≤ 2 ^ 38 → IsFree shown (λ _ m. m ≤ 2 ^ 38) n
-any_free shown n h = record { log = []; shows = λ i l. absurd (omega (arith, l)); free = h }
-
--- the same by any rules that let so much be trimmed
+-- any position may be trimmed, by any rules that let so much be trimmed
 pub free_by : (shown : ℕ → Option Entry) (floor : List Entry → ℕ → Type 0) (n : ℕ) → ((l : List Entry) (m : ℕ) → m ≤ 2 ^ 38 → floor l m) → n ≤ 2 ^ 38 → IsFree shown floor n
 free_by shown floor n all h = record { log = []; shows = λ i l. absurd (omega (arith, l)); free = all [] n h }
 
--- the first chain, which every journal gave, may be written with a higher trim
-pub may_raise_first : (may : ℕ → Entry → Type 0) (shelf : List ℕ) (who : ℕ) (old : List Event) (n : ℕ) (c d : Chain) → c ≡ first_chain → d ≡ dropped_below c n → 0 < n → n ≤ 2 ^ 38 → MayTurn may (λ _ m. m ≤ 2 ^ 38) shelf who old (WriteChain 1 d)
-may_raise_first may shelf who old n c d first is up low others apart legal =
-    let on = goes_on may (λ _ m. m ≤ 2 ^ 38) shelf [] (old ++ others) legal in
+-- the first chain, which every journal gave, may be written with a higher trim, by any rules that let so much be trimmed
+pub may_raise_first : (law : Law) (who : ℕ) (old : List Event) (n : ℕ) (c d : Chain) → ((l : List Entry) (m : ℕ) → m ≤ 2 ^ 38 → law.floor l m) → c ≡ first_chain → d ≡ dropped_below c n → 0 < n → n ≤ 2 ^ 38 → MayTurn law who old (WriteChain 1 d)
+may_raise_first law who old n c d free first is up low others apart legal =
+    let on = goes_on law [] (old ++ others) legal in
     let trim : n ≡ d.trim = ap (λ (x : Chain). x.trim) (sym is) in
     let above : c.trim < n = omega (arith, up, ap (λ (x : Chain). x.trim) first) in
     record {
@@ -31,7 +28,7 @@ may_raise_first may shelf who old n c d first is up low others apart legal =
       asks = (
         c,
         on.given 1 first_chain (put_same (λ _. None) 1 (Some first_chain)) ∙ ap (λ x. Some x) (sym first),
-        inr (record { trim = n; above = above; small = low; is = is }, any_free (state_of (old ++ others)).shown d.trim (omega (arith, low, trim))),
+        inr (record { trim = n; above = above; small = low; is = is }, free_by (state_of (old ++ others)).shown law.floor d.trim free (omega (arith, low, trim))),
       );
     }
 

@@ -20,18 +20,18 @@ use Rattle.base_engine.specs.Holding.{held_stays}
 use Rattle.base_engine.specs.Node.{NodeView, NodeOk, Keeps, RestedView, awake}
 use Rattle.base_engine.proofs.Following.{follows_later}
 use Rattle.base_engine.proofs.Whole.{ok_same}
-use Rattle.worked_nodes.specs.Resting.{anything, least_of_two, one_loglet, Rests, AreTwo, IsNew}
+use Rattle.worked_nodes.specs.Resting.{two_nodes, Rests, AreTwo, IsNew}
 
-pub rests_later : (who : ℕ) (early late : List Event) (node : RestedView) (log : virtual_log.RestedView) → Later anything least_of_two one_loglet early late → Rests who early node log → Rests who late node log
+pub rests_later : (who : ℕ) (early late : List Event) (node : RestedView) (log : virtual_log.RestedView) → Later two_nodes early late → Rests who early node log → Rests who late node log
 rests_later who early late node log on r = record {
-  ok = ok_same anything least_of_two one_loglet Holds IsStateOf Spells (awake node who early log.known) (awake node who late log.known) r.ok on.legal refl
-      (follows_later anything least_of_two one_loglet Holds IsStateOf Spells (held_stays anything least_of_two one_loglet) early late node.replica on r.ok.follows) r.ok.bounded refl refl refl refl;
-  goes_by = goes_later anything least_of_two one_loglet early late log.version log.known log.chain on r.goes_by;
+  ok = ok_same two_nodes Holds IsStateOf Spells (awake node who early log.known) (awake node who late log.known) r.ok on.legal refl
+      (follows_later two_nodes Holds IsStateOf Spells (held_stays two_nodes) early late node.replica on r.ok.follows) r.ok.bounded refl refl refl refl;
+  goes_by = goes_later two_nodes early late log.version log.known log.chain on r.goes_by;
   loglets = r.loglets;
   nodes = r.nodes;
 }
 
-pub two_later : (number : ℕ) (old new : NodeView) (other : ℕ) (rested : RestedView) (log : virtual_log.RestedView) → Keeps anything least_of_two one_loglet old new → AreTwo number old other rested log → AreTwo number new other rested log
+pub two_later : (number : ℕ) (old new : NodeView) (other : ℕ) (rested : RestedView) (log : virtual_log.RestedView) → Keeps two_nodes old new → AreTwo number old other rested log → AreTwo number new other rested log
 two_later number old new other rested log kept two = record { who = kept.who ∙ two.who; nodes = kept.nodes ∙ two.nodes; rests = rests_later other old.seen new.seen rested log kept.later two.rests }
 
 -- the disk of the node that has the log is armed
@@ -45,9 +45,9 @@ two_armed number old new after other rested log is two = record {
 -- a node that is laid down
 pub laid_down : (number : ℕ) (view : NodeView) (rested : RestedView) (log : virtual_log.LogView) (kept : virtual_log.RestedView) → view.who ≡ number → view.nodes ≡ 2 → rested ≡ record { nodes = view.nodes; replica = view.replica; outbox = view.outbox }
     → log.seen ≡ view.seen → log.known ≡ view.known → kept ≡ record { known = log.known; version = log.version; chain = log.chain; shelf_len = 1; words = log.words }
-    → NodeOk anything least_of_two one_loglet Holds IsStateOf Spells view → GoesBy (state_of log.seen) log.version log.chain log.known → Rests number view.seen rested kept
+    → NodeOk two_nodes Holds IsStateOf Spells view → GoesBy (state_of log.seen) log.version log.chain log.known → Rests number view.seen rested kept
 laid_down number view rested log kept who two is seen known left ok goes = record {
-  ok = subst (NodeOk anything least_of_two one_loglet Holds IsStateOf Spells) (sym same) ok;
+  ok = subst (NodeOk two_nodes Holds IsStateOf Spells) (sym same) ok;
   goes_by = subst (λ (v : virtual_log.RestedView). GoesBy (state_of view.seen) v.version v.chain v.known) (sym left) (subst (λ (s : List Event). GoesBy (state_of s) log.version log.chain log.known) seen goes);
   loglets = ap (λ (v : virtual_log.RestedView). v.shelf_len) left;
   nodes = ap (λ (r : RestedView). r.nodes) is ∙ two;
@@ -64,10 +64,10 @@ laid_down number view rested log kept who two is seen known left ok goes = recor
 
 -- a node that is taken up
 pub taken_up : (number w : ℕ) (seen : List Event) (rested : RestedView) (kept : virtual_log.RestedView) (log : virtual_log.LogView) → log ≡ record { who = w; seen = seen; known = kept.known; version = kept.version; chain = kept.chain; words = kept.words } → w ≡ number
-    → Rests number seen rested kept → NodeOk anything least_of_two one_loglet Holds IsStateOf Spells (awake rested log.who log.seen log.known)
+    → Rests number seen rested kept → NodeOk two_nodes Holds IsStateOf Spells (awake rested log.who log.seen log.known)
 taken_up number w seen rested kept log is who r =
-    subst (λ (l : virtual_log.LogView). NodeOk anything least_of_two one_loglet Holds IsStateOf Spells (awake rested l.who l.seen l.known)) (sym is)
-    (subst (λ (n : ℕ). NodeOk anything least_of_two one_loglet Holds IsStateOf Spells (awake rested n seen kept.known)) (sym who) r.ok)
+    subst (λ (l : virtual_log.LogView). NodeOk two_nodes Holds IsStateOf Spells (awake rested l.who l.seen l.known)) (sym is)
+    (subst (λ (n : ℕ). NodeOk two_nodes Holds IsStateOf Spells (awake rested n seen kept.known)) (sym who) r.ok)
 
 -- a store that was opened on an empty disk
 pub new_store : (v : store.View) (bytes : List ℕ) → bytes ≡ [] → saved_of (records_of bytes) ≡ Some (store.saved_in v) → v.asked ≡ None → store.Survives v → IsNew v
@@ -82,5 +82,5 @@ none_asked_so v v' o w t same none = ap (λ a. option_map (λ c. pair_of (commit
 pub survives_so : (v v' : store.View) (o : ℕ) (w : List Item) (t : ℕ) → v ≡ v' → store.Survives v' → Survives Spells (shown v o w t)
 survives_so v v' o w t same survives = shown_survives v o w t (subst store.Survives (sym same) survives)
 
-pub legal_by : (es es' : List Event) → es ≡ es' → IsLegal anything least_of_two one_loglet es' → IsLegal anything least_of_two one_loglet es
-legal_by es es' same legal = subst (IsLegal anything least_of_two one_loglet) (sym same) legal
+pub legal_by : (es es' : List Event) → es ≡ es' → IsLegal two_nodes es' → IsLegal two_nodes es
+legal_by es es' same legal = subst (IsLegal two_nodes) (sym same) legal

@@ -1,6 +1,6 @@
 -- Events of one user alone.
 use Rattle.std.specs.Prelude.{◌≡◌, ◌≢◌, ℕ, ◌-◌, ◌<◌, ◌≤◌, List, [], ◌∷◌, ◌++◌, length, drop}
-use Rattle.delos_types.specs.declared.entry.Entry.{Entry}
+use Rattle.legal_journal.specs.Law.{Law}
 use Rattle.legal_journal.specs.declared.events.Event.{Event}
 use Rattle.legal_journal.specs.Journal.{IsLegal}
 use Rattle.legal_journal.specs.Turns.{AreOthers}
@@ -22,8 +22,8 @@ pub record IsAlone (who : ℕ) (journal : List Event) : Type 0 where
   pub by : 0 < who → AreBy who (drop (who - 2) journal)
 
 -- events of others than the first user were added
-pub record ActsApart (may : ℕ → Entry → Type 0) (floor : List Entry → ℕ → Type 0) (shelf : List ℕ) (old new : List Event) : Type 0 where
+pub record ActsApart (law : Law) (old new : List Event) : Type 0 where
   pub others : List Event
   pub apart : AreOthers 1 others
   pub seen : new ≡ old ++ others
-  pub legal : IsLegal may floor shelf new
+  pub legal : IsLegal law new

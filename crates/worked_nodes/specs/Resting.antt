@@ -5,6 +5,7 @@ use Rattle.delos_types.specs.declared.entry.Entry.{Entry}
 use Rattle.engine_api.specs.Acted.{unpack_all}
 use Rattle.engine_api.specs.Members.{least_position}
 use Rattle.log_laws.specs.State.{IsStateOf}
+use Rattle.legal_journal.specs.Law.{Law}
 use Rattle.legal_journal.specs.declared.events.Event.{Event}
 use Rattle.legal_journal.specs.Journal.{state_of}
 use Rattle.virtual_log.specs.Holding.{Holds}
@@ -27,9 +28,13 @@ least_of_two entries n = n ≤ min (length entries) (least_position 2 (unpack_al
 abbrev pub one_loglet : List ℕ
 one_loglet = 1 ∷ []
 
+-- the law of two nodes
+abbrev pub two_nodes : Law
+two_nodes = record { may = anything; floor = least_of_two; shelf = one_loglet }
+
 -- what a node without its log has, and what it knows of its log, holds by this journal
 pub record Rests (who : ℕ) (seen : List Event) (node : RestedView) (log : virtual_log.RestedView) : Type 0 where
-  pub ok : NodeOk anything least_of_two one_loglet Holds IsStateOf Spells (awake node who seen log.known)
+  pub ok : NodeOk two_nodes Holds IsStateOf Spells (awake node who seen log.known)
   pub goes_by : GoesBy (state_of seen) log.version log.chain log.known
   pub loglets : log.shelf_len ≡ 1
   pub nodes : node.nodes ≡ 2

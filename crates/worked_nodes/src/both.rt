@@ -23,7 +23,7 @@ pub(crate) fn append_both<T: Turns>(
     entry: &Entry,
     out: &mut String,
 ) -> Result<(), Stuck>
-    requires may { (who : ℕ) (e : Entry) → T.Law.may who e }
+    requires may { (who : ℕ) (e : Entry) → T.Law.law.may who e }
     requires spelled { IsSpellable entry.now }
 {
     let mut first = begin(log, entry)?;
@@ -36,12 +36,12 @@ pub(crate) fn append_both<T: Turns>(
 }
 
 fn begin<T: Turns>(log: &mut VirtualLog<T, Calm>, entry: &Entry) -> Result<Going, Stuck>
-    requires may { (who : ℕ) (e : Entry) → T.Law.may who e }
+    requires may { (who : ℕ) (e : Entry) → T.Law.law.may who e }
     requires spelled { IsSpellable entry.now }
     ensures who { log.new.who ≡ log.old.who }
-    ensures going { IfOk result (λ going. (early : List Event) × IsGoing T.Law.may log.new.who early log.new.seen log.new.chain going) }
-    ensures others { (early : List Event) (other : Going) → IsGoing T.Law.may log.old.who early log.old.seen log.old.chain other
-        → IsGoing T.Law.may log.old.who early log.new.seen log.new.chain other × IfOk result (λ going. AreApart going other) }
+    ensures going { IfOk result (λ going. (early : List Event) × IsGoing T.Law.law.may log.new.who early log.new.seen log.new.chain going) }
+    ensures others { (early : List Event) (other : Going) → IsGoing T.Law.law.may log.old.who early log.old.seen log.old.chain other
+        → IsGoing T.Law.law.may log.old.who early log.new.seen log.new.chain other × IfOk result (λ going. AreApart going other) }
 {
     match log.start_append(entry) {
         Ok(going) => Ok(going),
@@ -51,10 +51,10 @@ fn begin<T: Turns>(log: &mut VirtualLog<T, Calm>, entry: &Entry) -> Result<Going
 
 /// Goes on with an append until it has its position.
 fn carry<T: Turns>(log: &mut VirtualLog<T, Calm>, going: &mut Going) -> Result<u64, Stuck>
-    requires going { (early : List Event) × IsGoing T.Law.may log.old.who early log.old.seen log.old.chain going.old }
+    requires going { (early : List Event) × IsGoing T.Law.law.may log.old.who early log.old.seen log.old.chain going.old }
     ensures who { log.new.who ≡ log.old.who }
-    ensures others { (early : List Event) (other : Going) → IsGoing T.Law.may log.old.who early log.old.seen log.old.chain other
-        → AreApart going.old other → IsGoing T.Law.may log.old.who early log.new.seen log.new.chain other }
+    ensures others { (early : List Event) (other : Going) → IsGoing T.Law.law.may log.old.who early log.old.seen log.old.chain other
+        → AreApart going.old other → IsGoing T.Law.law.may log.old.who early log.new.seen log.new.chain other }
 {
     'turn: for _ in 0..MOST_TURNS {
         match log.go_on(going) {

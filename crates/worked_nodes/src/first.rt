@@ -19,14 +19,14 @@ pub(crate) struct First {
 impl First {
     /// The journal so far is legal.
     pub fn see(&self)
-        ensures { IsLegal ⟦<Free as Rules>⟧.may ⟦<Free as Rules>⟧.floor ⟦<Free as Rules>⟧.shelf self.now.second.journal }
+        ensures { IsLegal ⟦<Free as Rules>⟧.law self.now.second.journal }
     {
         self.second.see()
     }
 
     /// The second user acts, if now is the time.
     fn let_act(&mut self)
-        ensures { ActsApart ⟦<Free as Rules>⟧.may ⟦<Free as Rules>⟧.floor ⟦<Free as Rules>⟧.shelf self.old.second.journal self.new.second.journal }
+        ensures { ActsApart ⟦<Free as Rules>⟧.law self.old.second.journal self.new.second.journal }
     {
         if self.before > 0 {
             self.before -= 1;

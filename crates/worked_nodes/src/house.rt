@@ -6,7 +6,7 @@ ghost use Rattle.register_api.specs.View as register;
 ghost use Rattle.legal_journal.specs.Journal.{IsLegal};
 ghost use Rattle.loglet_api.specs.declared.call.Kind.TheVariants.{File};
 ghost use Rattle.loglet_api.specs.View.{IsFresh};
-ghost use Rattle.worked_nodes.specs.Resting.{anything, least_of_two, one_loglet, Rests, IsNew};
+ghost use Rattle.worked_nodes.specs.Resting.{two_nodes, Rests, IsNew};
 
 use crate::rules::TwoNodes;
 use base_engine::fault::Fault;
@@ -88,7 +88,7 @@ fn fabric_over(alloc: Global, cell: Cell) -> Option<Fabric<Cell, Register, TwoNo
 fn fresh_log(alloc: Global, turns: Turn) -> Option<Log>
     ensures who { IfSome result (λ log. log.who ≡ turns.who) }
     ensures seen { IfSome result (λ log. log.seen ≡ turns.fabric.journal) }
-    ensures legal { IfSome result (λ log. IsLegal anything least_of_two one_loglet log.seen) }
+    ensures legal { IfSome result (λ log. IsLegal two_nodes log.seen) }
 {
     let _seen = turns.fabric.journal();
     let Ok(log) = VirtualLog::new(alloc, turns, Calm, 1) else {
@@ -120,7 +120,7 @@ fn fresh_node<E: Layers, D: Disk>(
     requires kinds { E.kinds engines ≡ 1 ∷ 2 ∷ 3 ∷ 4 ∷ 5 ∷ [] }
     requires waiting { E.waiting engines ≡ [] }
     requires store { IsNew store }
-    requires legal { IsLegal anything least_of_two one_loglet log.seen }
+    requires legal { IsLegal two_nodes log.seen }
     ensures who { result.who ≡ log.who }
     ensures seen { result.seen ≡ log.seen }
     ensures nodes { result.nodes ≡ 2 }

@@ -26,9 +26,9 @@ pub(crate) fn make_calls<T: Turns>(
     lines: &[&str],
     out: &mut String,
 ) -> Result<(), Stuck>
-    requires may { (who : ℕ) (e : Entry) → T.Law.may who e }
+    requires may { (who : ℕ) (e : Entry) → T.Law.law.may who e }
     requires seals { (who : ℕ) → T.Law.seals who }
-    requires floor { (shown : List Entry) (n : ℕ) → n ≤ 2 ^ 38 → T.Law.floor shown n }
+    requires floor { (shown : List Entry) (n : ℕ) → n ≤ 2 ^ 38 → T.Law.law.floor shown n }
     requires spelled { IsSpellable entry.now }
 {
     for line in lines {
@@ -44,9 +44,9 @@ fn make_call<T: Turns>(
     words: &mut Words<'_>,
     out: &mut String,
 ) -> Result<(), Stuck>
-    requires may { (who : ℕ) (e : Entry) → T.Law.may who e }
+    requires may { (who : ℕ) (e : Entry) → T.Law.law.may who e }
     requires seals { (who : ℕ) → T.Law.seals who }
-    requires floor { (shown : List Entry) (n : ℕ) → n ≤ 2 ^ 38 → T.Law.floor shown n }
+    requires floor { (shown : List Entry) (n : ℕ) → n ≤ 2 ^ 38 → T.Law.law.floor shown n }
     requires spelled { IsSpellable entry.now }
 {
     match words.word() {
@@ -65,7 +65,7 @@ fn make_call<T: Turns>(
 
 /// The trim of the chain is raised.
 fn truncate<T: Turns>(log: &mut VirtualLog<T, Calm>, n: u64, out: &mut String) -> Result<(), Stuck>
-    requires floor { (shown : List Entry) (n : ℕ) → n ≤ 2 ^ 38 → T.Law.floor shown n }
+    requires floor { (shown : List Entry) (n : ℕ) → n ≤ 2 ^ 38 → T.Law.law.floor shown n }
 {
     if n > MOST || n > log.known() {
         return Err(Stuck::Line);
@@ -79,7 +79,7 @@ fn truncate<T: Turns>(log: &mut VirtualLog<T, Calm>, n: u64, out: &mut String) -
 
 /// The trim is raised, and the loglets let go of what lies below it.
 fn trim<T: Turns>(log: &mut VirtualLog<T, Calm>, n: u64, out: &mut String) -> Result<(), Stuck>
-    requires floor { (shown : List Entry) (n : ℕ) → n ≤ 2 ^ 38 → T.Law.floor shown n }
+    requires floor { (shown : List Entry) (n : ℕ) → n ≤ 2 ^ 38 → T.Law.law.floor shown n }
 {
     if n > MOST || n > log.known() {
         return Err(Stuck::Line);

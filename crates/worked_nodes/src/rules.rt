@@ -9,15 +9,11 @@ pub struct TwoNodes;
 impl Rules for TwoNodes {
     ghost use Rattle.std.specs.Prelude.{[], ◌∷◌};
     ghost use Rattle.loglet_api.specs.declared.call.Kind.TheVariants.{File};
-    ghost use Rattle.worked_nodes.specs.Resting.{anything, least_of_two, one_loglet};
+    ghost use Rattle.worked_nodes.specs.Resting.{two_nodes};
 
-    ghost may = { anything };
+    ghost law = { two_nodes };
 
     ghost seals = { λ _. Unit {0} };
-
-    ghost floor = { least_of_two };
-
-    ghost shelf = { one_loglet };
 
     ghost kinds = { File ∷ [] };
 }

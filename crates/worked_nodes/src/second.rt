@@ -79,7 +79,7 @@ impl Second {
 
     /// The journal so far is legal.
     pub fn see(&self)
-        ensures { IsLegal ⟦<Free as Rules>⟧.may ⟦<Free as Rules>⟧.floor ⟦<Free as Rules>⟧.shelf self.now.journal }
+        ensures { IsLegal ⟦<Free as Rules>⟧.law self.now.journal }
     {
         let _seen = self.fabric.journal();
     }
@@ -87,9 +87,9 @@ impl Second {
     /// An event of the first user.
     #[tactic(auto, using(crate::proofs::Alone::numbered))]
     pub fn first(&mut self, call: FabricCall) -> FabricAnswer
-        requires { MayCall (state_of self.old.journal) ⟦<Free as Rules>⟧.may ⟦<Free as Rules>⟧.floor ⟦<Free as Rules>⟧.shelf 1 call }
+        requires { MayCall (state_of self.old.journal) ⟦<Free as Rules>⟧.law 1 call }
         ensures adds { Adds self.old.journal 1 call result self.new.journal }
-        ensures legal { IsLegal ⟦<Free as Rules>⟧.may ⟦<Free as Rules>⟧.floor ⟦<Free as Rules>⟧.shelf self.new.journal }
+        ensures legal { IsLegal ⟦<Free as Rules>⟧.law self.new.journal }
     {
         let answer = self.fabric.apply(1, call);
         self.who = number_after(self.fabric.journal().len());
@@ -99,14 +99,14 @@ impl Second {
     /// The second user does nothing.
     #[tactic(auto, using(crate::proofs::Alone::nothing_apart))]
     pub fn wait(&mut self)
-        ensures { ActsApart ⟦<Free as Rules>⟧.may ⟦<Free as Rules>⟧.floor ⟦<Free as Rules>⟧.shelf self.old.journal self.new.journal }
+        ensures { ActsApart ⟦<Free as Rules>⟧.law self.old.journal self.new.journal }
     {
         let _seen = self.fabric.journal();
     }
 
     /// The second user acts.
     pub fn act(&mut self, act: Act)
-        ensures { ActsApart ⟦<Free as Rules>⟧.may ⟦<Free as Rules>⟧.floor ⟦<Free as Rules>⟧.shelf self.old.journal self.new.journal }
+        ensures { ActsApart ⟦<Free as Rules>⟧.law self.old.journal self.new.journal }
     {
         self.renumber();
         if self.who == 0 {
@@ -123,14 +123,14 @@ impl Second {
     fn renumber(&mut self)
         ensures journal { self.new.journal ≡ self.old.journal }
         ensures alone { (self.new.who ≡ 0) ⊎ (self.new.who ≡ length self.new.journal + 2) }
-        ensures legal { IsLegal ⟦<Free as Rules>⟧.may ⟦<Free as Rules>⟧.floor ⟦<Free as Rules>⟧.shelf self.new.journal }
+        ensures legal { IsLegal ⟦<Free as Rules>⟧.law self.new.journal }
     {
         self.who = number_after(self.fabric.journal().len());
     }
 
     fn call(&mut self, act: Act)
-        requires { IsLegal ⟦<Free as Rules>⟧.may ⟦<Free as Rules>⟧.floor ⟦<Free as Rules>⟧.shelf self.old.journal }
-        ensures later { Later ⟦<Free as Rules>⟧.may ⟦<Free as Rules>⟧.floor ⟦<Free as Rules>⟧.shelf self.old.journal self.new.journal }
+        requires { IsLegal ⟦<Free as Rules>⟧.law self.old.journal }
+        ensures later { Later ⟦<Free as Rules>⟧.law self.old.journal self.new.journal }
         ensures who { self.new.who ≡ self.old.who }
     {
         match act {
@@ -141,8 +141,8 @@ impl Second {
 
     /// Replaces the last loglet, as one that knows of no chain but the first.
     fn extend(&mut self)
-        requires { IsLegal ⟦<Free as Rules>⟧.may ⟦<Free as Rules>⟧.floor ⟦<Free as Rules>⟧.shelf self.old.journal }
-        ensures later { Later ⟦<Free as Rules>⟧.may ⟦<Free as Rules>⟧.floor ⟦<Free as Rules>⟧.shelf self.old.journal self.new.journal }
+        requires { IsLegal ⟦<Free as Rules>⟧.law self.old.journal }
+        ensures later { Later ⟦<Free as Rules>⟧.law self.old.journal self.new.journal }
         ensures who { self.new.who ≡ self.old.who }
     {
         let alloc = self.alloc;
@@ -159,8 +159,8 @@ impl Second {
 
     /// Finds the tail, and raises the trim to 1 if the log is that long.
     fn trim(&mut self)
-        requires { IsLegal ⟦<Free as Rules>⟧.may ⟦<Free as Rules>⟧.floor ⟦<Free as Rules>⟧.shelf self.old.journal }
-        ensures later { Later ⟦<Free as Rules>⟧.may ⟦<Free as Rules>⟧.floor ⟦<Free as Rules>⟧.shelf self.old.journal self.new.journal }
+        requires { IsLegal ⟦<Free as Rules>⟧.law self.old.journal }
+        ensures later { Later ⟦<Free as Rules>⟧.law self.old.journal self.new.journal }
         ensures who { self.new.who ≡ self.old.who }
     {
         let alloc = self.alloc;

@@ -25,13 +25,9 @@ impl Rules for Anyone {
     ghost use Rattle.std.specs.Prelude.{[], ◌∷◌, ◌^◌, ◌≤◌};
     ghost use Rattle.loglet_api.specs.declared.call.Kind.TheVariants.{File};
 
-    ghost may = { λ _ _. Unit {0} };
+    ghost law = { record { may = λ _ _. Unit {0}; floor = λ _ n. n ≤ 2 ^ 38; shelf = 1 ∷ [] } };
 
     ghost seals = { λ _. Unit {0} };
-
-    ghost floor = { λ _ n. n ≤ 2 ^ 38 };
-
-    ghost shelf = { 1 ∷ [] };
 
     ghost kinds = { File ∷ [] };
 }
@@ -44,13 +40,9 @@ impl Rules for Free {
     ghost use Rattle.std.specs.Prelude.{[], ◌∷◌, ◌^◌, ◌≤◌};
     ghost use Rattle.loglet_api.specs.declared.call.Kind.TheVariants.{File};
 
-    ghost may = { λ _ _. Unit {0} };
+    ghost law = { record { may = λ _ _. Unit {0}; floor = λ _ n. n ≤ 2 ^ 38; shelf = 1 ∷ 1 ∷ 1 ∷ [] } };
 
     ghost seals = { λ _. Unit {0} };
-
-    ghost floor = { λ _ n. n ≤ 2 ^ 38 };
-
-    ghost shelf = { 1 ∷ 1 ∷ 1 ∷ [] };
 
     ghost kinds = { File ∷ File ∷ File ∷ [] };
 }

@@ -13,14 +13,14 @@ pub(crate) fn show_amounts(rt: &HostRuntime, input: &[&str]) -> io::Result<()> {
                 let Ok(number) = number.parse::<i64>() else {
                     return Err(unknown());
                 };
-                let text = amount::text_of(alloc, number)?.into_vec();
+                let text = Vec::from_slice(alloc, amount::text_of(alloc, number)?.as_slice())?;
                 let shown = text_of(text.as_slice())?;
                 println!(rt; "text {shown}")?;
                 text
             }
             _ => read_bytes(alloc, &[*line])?,
         };
-        match amount_of(alloc, text.as_slice())? {
+        match amount_of(text.as_slice()) {
             Some(number) => println!(rt; "number {number}")?,
             None => println!(rt; "no number")?,
         }

@@ -19,7 +19,7 @@ use Rattle.world_steps.specs.declared.cell.WorldCell.{WorldCell}
 use Rattle.world_steps.specs.Cells.{view_of}
 use Rattle.world_steps.specs.Parts.{Register, Node, World, no_cell, no_node, cell_at, node_at, shelf_of}
 use Rattle.world_steps.specs.Events.{is_begin_of, is_owner, ends, was_sealed_at, places, was_placed_at}
-use Rattle.world_steps.specs.Laws.{IsCellTold, IsRegisterTold, IsFront, WorldLaw}
+use Rattle.world_steps.specs.Laws.{law_of, IsCellTold, IsRegisterTold, IsFront, WorldLaw}
 
 -- a change at i of a list, and of what is told at i
 pub placed : {A B : Type 0} (P : A → B → Type 0) (f : ℕ → A) (ys : List B) (d : B) (i : ℕ) (a : A) (b : B) → i < length ys → P a b → ((j : ℕ) → P (f j) (get_or ys j d)) → (j : ℕ) → P (put f i a j) (get_or (set ys i b) j d)
@@ -80,25 +80,25 @@ module _ (may : ℕ → Entry → Type 0) (floor : List Entry → ℕ → Type 0
   idle = record { law = law; more = []; events = sym (append-nil w.events); shelf = refl }
 
   pub state_ok : StateOk (length (shelf_of w)) (state_of w.events)
-  state_ok = sound may floor (shelf_of w) w.events law.legal
+  state_ok = sound (law_of may floor w) w.events law.legal
 
   -- One event: it may happen, and the parts go on as it tells.
-  pub event_kept : (cells : List WorldCell) (r : Register) (e : Event) → MayHappen (state_of w.events) may floor (shelf_of w) e → map (λ (c : WorldCell). (view_of c).servers) cells ≡ shelf_of w → ((k : ℕ) → IsCellTold ((after (state_of w.events) e.who (move e)).cells k) (cell_at cells k)) → IsRegisterTold (after (state_of w.events) e.who (move e)).register r
+  pub event_kept : (cells : List WorldCell) (r : Register) (e : Event) → MayHappen (state_of w.events) (law_of may floor w) e → map (λ (c : WorldCell). (view_of c).servers) cells ≡ shelf_of w → ((k : ℕ) → IsCellTold ((after (state_of w.events) e.who (move e)).cells k) (cell_at cells k)) → IsRegisterTold (after (state_of w.events) e.who (move e)).register r
       → ((k t who : ℕ) → is_begin_of who k t e ≡ true → (t < ((after (state_of w.events) e.who (move e)).cells k).told.begun) × (((after (state_of w.events) e.who (move e)).cells k).owner t ≡ who))
       → ((k n : ℕ) → ends k n e.call e.answer ≡ true → Contains ((after (state_of w.events) e.who (move e)).cells k).ends n)
       → ((k p : ℕ) → places k p e.call e.answer ≡ true → p < ((after (state_of w.events) e.who (move e)).cells k).told.reach)
       → Goes may floor w (record w { cells = cells; register = r; events = w.events ++ e ∷ [] })
   event_kept cells r e happens shelf told register owner ended placing =
       let es = w.events ++ e ∷ [] in
-      let legal = legal_more may floor (shelf_of w) w.events e law.legal happens in
-      let next : state_of es ≡ after (state_of w.events) e.who (move e) = state_more may floor (shelf_of w) w.events e in
-      let goes : Continues (state_of w.events) (state_of es) = goes_on may floor (shelf_of w) w.events (e ∷ []) legal in
+      let legal = legal_more (law_of may floor w) w.events e law.legal happens in
+      let next : state_of es ≡ after (state_of w.events) e.who (move e) = state_more (law_of may floor w) w.events e in
+      let goes : Continues (state_of w.events) (state_of es) = goes_on (law_of may floor w) w.events (e ∷ []) legal in
       record {
         more = e ∷ [];
         events = refl;
         shelf = shelf;
         law = record {
-          legal = subst (λ (s : List ℕ). IsLegal may floor s es) (sym shelf) legal;
+          legal = subst (λ (s : List ℕ). IsLegal (record { may = may; floor = floor; shelf = s }) es) (sym shelf) legal;
           cells = λ k. subst (λ (s : State). IsCellTold (s.cells k) (cell_at cells k)) (sym next) (told k);
           owners = λ k t who h. ⊎_elim
               (λ (old : is_owner w.events who k t ≡ true).
@@ -131,7 +131,7 @@ module _ (may : ℕ → Entry → Type 0) (floor : List Entry → ℕ → Type 0
         events = sym (append-nil w.events);
         shelf = shelf;
         law = record {
-          legal = subst (λ (s : List ℕ). IsLegal may floor s w.events) (sym shelf) law.legal;
+          legal = subst (λ (s : List ℕ). IsLegal (record { may = may; floor = floor; shelf = s }) w.events) (sym shelf) law.legal;
           cells = at_set (λ k x. IsCellTold ((state_of w.events).cells k) x) w.cells no_cell i c told law.cells;
           owners = law.owners;
           ends = law.ends;

@@ -18,7 +18,7 @@ use Rattle.legal_journal.proofs.Chains.{chain_ok, closed_at, is_in_at}
 use Rattle.world_steps.specs.Cells.{view_of, entries_of}
 use Rattle.world_steps.specs.Parts.{World, cell_at, node_at, given_under, shelf_of}
 use Rattle.world_steps.specs.Logs.{log_at, trim_of, tail_of, Stands}
-use Rattle.world_steps.specs.Laws.{WorldLaw, IsFrontOf}
+use Rattle.world_steps.specs.Laws.{law_of, WorldLaw, IsFrontOf}
 use Rattle.world_steps.specs.Events.{was_placed_at}
 use Rattle.world_steps.proofs.Kind.{cell_kind}
 use Rattle.world_steps.proofs.Kept.{Goes, state_ok}
@@ -55,11 +55,11 @@ module _ (may : ℕ → Entry → Type 0) (floor : List Entry → ℕ → Type 0
     next : WorldLaw may floor new
     next = goes.law
 
-    shelf_legal : IsLegal may floor (shelf_of new) (w.events ++ goes.more)
-    shelf_legal = subst (λ (es : List Event). IsLegal may floor (shelf_of new) es) goes.events goes.law.legal
+    shelf_legal : IsLegal (law_of may floor new) (w.events ++ goes.more)
+    shelf_legal = subst (λ (es : List Event). IsLegal (law_of may floor new) es) goes.events goes.law.legal
 
     continues : Continues (journal.state_of w.events) (journal.state_of new.events)
-    continues = subst (λ (es : List Event). Continues (journal.state_of w.events) (journal.state_of es)) (sym goes.events) (goes_on may floor (shelf_of new) w.events goes.more shelf_legal)
+    continues = subst (λ (es : List Event). Continues (journal.state_of w.events) (journal.state_of es)) (sym goes.events) (goes_on (law_of may floor new) w.events goes.more shelf_legal)
 
     pub logs_same : (pos : ℕ) (e f : Entry) → log_at w pos ≡ Some e → log_at new pos ≡ Some f → e ≡ f
     logs_same pos e f h k =

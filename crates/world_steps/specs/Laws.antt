@@ -5,6 +5,7 @@ use Rattle.delos_types.specs.declared.chain.Chain.{Chain}
 use Rattle.delos_types.specs.Spelling.{IsSpellable}
 use Rattle.loglet_api.specs.declared.call.Op.TheVariants.{Append}
 use Rattle.loglet_api.specs.Step.{CanBegin}
+use Rattle.legal_journal.specs.Law.{Law}
 use Rattle.legal_journal.specs.Journal.{CellState, RegisterState, state_of, IsLegal, IsCurrent, IsFree, Shows}
 use Rattle.fabric_core.specs.Fabric.{IsAsTold}
 use Rattle.world_steps.specs.declared.cell.WorldCell.{WorldCell}
@@ -101,9 +102,13 @@ pub record IsFront (shown : ℕ → Option Entry) (n : Node) : Type 0 where
 abbrev pub IsFrontOf : World → List Entry → Type 0
 IsFrontOf w front = (pos : ℕ) (e : Entry) → slice_get front pos ≡ Some e → Stands w pos e
 
+-- the law of a world's log: by these rules, over the cells of the world
+abbrev pub law_of : (ℕ → Entry → Type 0) → (List Entry → ℕ → Type 0) → World → Law
+law_of may floor w = record { may = may; floor = floor; shelf = shelf_of w }
+
 -- The law of worlds: the events are a legal journal, and all parts are as they tell.
 pub record WorldLaw (may : ℕ → Entry → Type 0) (floor : List Entry → ℕ → Type 0) (w : World) : Type 0 where
-  pub legal : IsLegal may floor (shelf_of w) w.events
+  pub legal : IsLegal (law_of may floor w) w.events
   pub cells : (i : ℕ) → IsCellTold ((state_of w.events).cells i) (cell_at w.cells i)
   pub owners : (i t who : ℕ) → is_owner w.events who i t ≡ true → (t < ((state_of w.events).cells i).told.begun) × (((state_of w.events).cells i).owner t ≡ who)
   pub ends : (i n : ℕ) → was_sealed_at w.events i n ≡ true → Contains ((state_of w.events).cells i).ends n

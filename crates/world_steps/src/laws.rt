@@ -47,9 +47,9 @@ pub fn cells_are_lawful()
 /// be trimmed to which the steps keep, and all parts are as the events tell.
 pub fn events_are_legal<P: Rules>()
     ensures legal { (shapes : List Shape) (nodes : ℕ) (steps : List WorldStep) → IsShelf shapes
-        → AllKeepTo P.may P.floor (fresh shapes nodes) steps → IsLegal P.may P.floor (map servers_of shapes) (run_world steps (fresh shapes nodes)).events }
+        → AllKeepTo P.law.may P.law.floor (fresh shapes nodes) steps → IsLegal (record P.law { shelf = map servers_of shapes }) (run_world steps (fresh shapes nodes)).events }
     ensures told { (shapes : List Shape) (nodes : ℕ) (steps : List WorldStep) → IsShelf shapes
-        → AllKeepTo P.may P.floor (fresh shapes nodes) steps → WorldLaw P.may P.floor (run_world steps (fresh shapes nodes)) }
+        → AllKeepTo P.law.may P.law.floor (fresh shapes nodes) steps → WorldLaw P.law.may P.law.floor (run_world steps (fresh shapes nodes)) }
 {}
 
 /// The log of a later moment agrees with that of an earlier one on each position that both have.

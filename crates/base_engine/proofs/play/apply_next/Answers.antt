@@ -15,7 +15,7 @@ returns-in-Err-clause-follows g c =
     let spells = g.R.Replica.spells in
     let v = g.R.Replica.shows c.args.replica.now in
     let seen = g.L.SharedLog.seen c.read_next.new.self in
-    let on = follows_later p.may p.floor p.shelf holds state spells g.met.L.SharedLog.stays _ seen v c.in-Err.ensures.later c.requires.follows in
+    let on = follows_later p.law holds state spells g.met.L.SharedLog.stays _ seen v c.in-Err.ensures.later c.requires.follows in
     on
 
 pub returns-in-Err-clause-any_crash : goal.returns-in-Err-clause-any_crash
@@ -26,7 +26,7 @@ returns-in-Err-clause-any_crash g c =
     let spells = g.R.Replica.spells in
     let v = g.R.Replica.shows c.args.replica.now in
     let seen = g.L.SharedLog.seen c.read_next.new.self in
-    let on = follows_later p.may p.floor p.shelf holds state spells g.met.L.SharedLog.stays _ seen v c.in-Err.ensures.later c.requires.follows in
+    let on = follows_later p.law holds state spells g.met.L.SharedLog.stays _ seen v c.in-Err.ensures.later c.requires.follows in
     crash_at_rest holds state spells seen v on
 
 pub returns-in-Trimmed-clause-follows : goal.returns-in-Trimmed-clause-follows
@@ -37,7 +37,7 @@ returns-in-Trimmed-clause-follows g c =
     let spells = g.R.Replica.spells in
     let v = g.R.Replica.shows c.args.replica.now in
     let seen = g.L.SharedLog.seen c.read_next.new.self in
-    let on = follows_later p.may p.floor p.shelf holds state spells g.met.L.SharedLog.stays _ seen v c.in-Ok.ensures.later c.requires.follows in
+    let on = follows_later p.law holds state spells g.met.L.SharedLog.stays _ seen v c.in-Ok.ensures.later c.requires.follows in
     on
 
 pub returns-in-Trimmed-clause-any_crash : goal.returns-in-Trimmed-clause-any_crash
@@ -48,7 +48,7 @@ returns-in-Trimmed-clause-any_crash g c =
     let spells = g.R.Replica.spells in
     let v = g.R.Replica.shows c.args.replica.now in
     let seen = g.L.SharedLog.seen c.read_next.new.self in
-    let on = follows_later p.may p.floor p.shelf holds state spells g.met.L.SharedLog.stays _ seen v c.in-Ok.ensures.later c.requires.follows in
+    let on = follows_later p.law holds state spells g.met.L.SharedLog.stays _ seen v c.in-Ok.ensures.later c.requires.follows in
     crash_at_rest holds state spells seen v on
 
 pub returns-then-found-position-clause-follows : goal.returns-then-found-position-clause-follows
@@ -59,7 +59,7 @@ returns-then-found-position-clause-follows g c =
     let spells = g.R.Replica.spells in
     let v = g.R.Replica.shows c.args.replica.now in
     let seen = g.L.SharedLog.seen c.read_next.new.self in
-    let on = follows_later p.may p.floor p.shelf holds state spells g.met.L.SharedLog.stays _ seen v c.in-Ok.ensures.later c.requires.follows in
+    let on = follows_later p.law holds state spells g.met.L.SharedLog.stays _ seen v c.in-Ok.ensures.later c.requires.follows in
     on
 
 pub returns-then-found-position-clause-any_crash : goal.returns-then-found-position-clause-any_crash
@@ -70,7 +70,7 @@ returns-then-found-position-clause-any_crash g c =
     let spells = g.R.Replica.spells in
     let v = g.R.Replica.shows c.args.replica.now in
     let seen = g.L.SharedLog.seen c.read_next.new.self in
-    let on = follows_later p.may p.floor p.shelf holds state spells g.met.L.SharedLog.stays _ seen v c.in-Ok.ensures.later c.requires.follows in
+    let on = follows_later p.law holds state spells g.met.L.SharedLog.stays _ seen v c.in-Ok.ensures.later c.requires.follows in
     crash_at_rest holds state spells seen v on
 
 pub returns-in-Done-clause-follows : goal.returns-in-Done-clause-follows
@@ -81,7 +81,7 @@ returns-in-Done-clause-follows g c =
     let spells = g.R.Replica.spells in
     let v = g.R.Replica.shows c.args.replica.now in
     let seen = g.L.SharedLog.seen c.read_next.new.self in
-    let on = follows_later p.may p.floor p.shelf holds state spells g.met.L.SharedLog.stays _ seen v c.in-Ok.ensures.later c.requires.follows in
+    let on = follows_later p.law holds state spells g.met.L.SharedLog.stays _ seen v c.in-Ok.ensures.later c.requires.follows in
     let w = g.R.Replica.shows c.apply.new.self in
     let m = min c.args.to (g.L.SharedLog.reaches c.args.log.now) in
     let at = c.in-Found.found in
@@ -97,7 +97,7 @@ returns-in-Done-clause-any_crash g c =
     let spells = g.R.Replica.spells in
     let v = g.R.Replica.shows c.args.replica.now in
     let seen = g.L.SharedLog.seen c.read_next.new.self in
-    let on = follows_later p.may p.floor p.shelf holds state spells g.met.L.SharedLog.stays _ seen v c.in-Ok.ensures.later c.requires.follows in
+    let on = follows_later p.law holds state spells g.met.L.SharedLog.stays _ seen v c.in-Ok.ensures.later c.requires.follows in
     let w = g.R.Replica.shows c.apply.new.self in
     let m = min c.args.to (g.L.SharedLog.reaches c.args.log.now) in
     let at = c.in-Found.found in
@@ -113,7 +113,7 @@ returns-in-DiskFault-clause-follows g c =
     let spells = g.R.Replica.spells in
     let v = g.R.Replica.shows c.args.replica.now in
     let seen = g.L.SharedLog.seen c.read_next.new.self in
-    let on = follows_later p.may p.floor p.shelf holds state spells g.met.L.SharedLog.stays _ seen v c.in-Ok.ensures.later c.requires.follows in
+    let on = follows_later p.law holds state spells g.met.L.SharedLog.stays _ seen v c.in-Ok.ensures.later c.requires.follows in
     let w = g.R.Replica.shows c.apply.new.self in
     let m = min c.args.to (g.L.SharedLog.reaches c.args.log.now) in
     let at = c.in-Found.found in
@@ -129,7 +129,7 @@ returns-in-DiskFault-clause-any_crash g c =
     let spells = g.R.Replica.spells in
     let v = g.R.Replica.shows c.args.replica.now in
     let seen = g.L.SharedLog.seen c.read_next.new.self in
-    let on = follows_later p.may p.floor p.shelf holds state spells g.met.L.SharedLog.stays _ seen v c.in-Ok.ensures.later c.requires.follows in
+    let on = follows_later p.law holds state spells g.met.L.SharedLog.stays _ seen v c.in-Ok.ensures.later c.requires.follows in
     let w = g.R.Replica.shows c.apply.new.self in
     let m = min c.args.to (g.L.SharedLog.reaches c.args.log.now) in
     let at = c.in-Found.found in
@@ -145,7 +145,7 @@ returns-in-Down-clause-follows g c =
     let spells = g.R.Replica.spells in
     let v = g.R.Replica.shows c.args.replica.now in
     let seen = g.L.SharedLog.seen c.read_next.new.self in
-    let on = follows_later p.may p.floor p.shelf holds state spells g.met.L.SharedLog.stays _ seen v c.in-Ok.ensures.later c.requires.follows in
+    let on = follows_later p.law holds state spells g.met.L.SharedLog.stays _ seen v c.in-Ok.ensures.later c.requires.follows in
     let w = g.R.Replica.shows c.apply.new.self in
     let m = min c.args.to (g.L.SharedLog.reaches c.args.log.now) in
     let at = c.in-Found.found in
@@ -161,7 +161,7 @@ returns-in-Down-clause-any_crash g c =
     let spells = g.R.Replica.spells in
     let v = g.R.Replica.shows c.args.replica.now in
     let seen = g.L.SharedLog.seen c.read_next.new.self in
-    let on = follows_later p.may p.floor p.shelf holds state spells g.met.L.SharedLog.stays _ seen v c.in-Ok.ensures.later c.requires.follows in
+    let on = follows_later p.law holds state spells g.met.L.SharedLog.stays _ seen v c.in-Ok.ensures.later c.requires.follows in
     let w = g.R.Replica.shows c.apply.new.self in
     let m = min c.args.to (g.L.SharedLog.reaches c.args.log.now) in
     let at = c.in-Found.found in
@@ -177,7 +177,7 @@ returns-in-Memory-clause-follows g c =
     let spells = g.R.Replica.spells in
     let v = g.R.Replica.shows c.args.replica.now in
     let seen = g.L.SharedLog.seen c.read_next.new.self in
-    let on = follows_later p.may p.floor p.shelf holds state spells g.met.L.SharedLog.stays _ seen v c.in-Ok.ensures.later c.requires.follows in
+    let on = follows_later p.law holds state spells g.met.L.SharedLog.stays _ seen v c.in-Ok.ensures.later c.requires.follows in
     let w = g.R.Replica.shows c.apply.new.self in
     let m = min c.args.to (g.L.SharedLog.reaches c.args.log.now) in
     let at = c.in-Found.found in
@@ -193,7 +193,7 @@ returns-in-Memory-clause-any_crash g c =
     let spells = g.R.Replica.spells in
     let v = g.R.Replica.shows c.args.replica.now in
     let seen = g.L.SharedLog.seen c.read_next.new.self in
-    let on = follows_later p.may p.floor p.shelf holds state spells g.met.L.SharedLog.stays _ seen v c.in-Ok.ensures.later c.requires.follows in
+    let on = follows_later p.law holds state spells g.met.L.SharedLog.stays _ seen v c.in-Ok.ensures.later c.requires.follows in
     let w = g.R.Replica.shows c.apply.new.self in
     let m = min c.args.to (g.L.SharedLog.reaches c.args.log.now) in
     let at = c.in-Found.found in

@@ -14,7 +14,7 @@ entry-init g c =
     let t = g.L.SharedLog in
     let r = g.R.Replica in
     record {
-      later = later_refl p.may p.floor p.shelf (t.seen c.args.log.now) c.requires.legal;
+      later = later_refl p.law (t.seen c.args.log.now) c.requires.legal;
       who = refl;
       known = refl;
       follows = c.requires.follows;
@@ -45,13 +45,13 @@ entry-preserved-in-Ok-Applied g c =
     let new = t.seen c.apply_next.new.log in
     let plays = subst (λ x. Plays x (r.shows l.replica) (r.shows c.apply_next.new.replica) new) c.in-Ok-Applied.field-0-is e.plays in
     record {
-      later = later_trans p.may p.floor p.shelf first now new i.later e.later;
+      later = later_trans p.law first now new i.later e.later;
       who = e.who ∙ i.who;
       known = e.known ∙ i.known;
       follows = e.follows;
       bounded = e.bounded;
       forward = omega (arith, i.forward, e.forward);
-      went = goes_after p.may p.floor p.shelf t.holds r.state r.spells g.met.L.SharedLog.stays now new (saved_in (r.shows c.args.replica.now)) (saved_in (r.shows l.replica)) (saved_in (r.shows c.apply_next.new.replica)) e.later i.went e.goes_on;
+      went = goes_after p.law t.holds r.state r.spells g.met.L.SharedLog.stays now new (saved_in (r.shows c.args.replica.now)) (saved_in (r.shows l.replica)) (saved_in (r.shows c.apply_next.new.replica)) e.later i.went e.goes_on;
       below = inr (omega (arith, plays.0, c.cursor.ensures.cursor, c.entry-test.true));
       counts = omega (arith, i.counts, plays.1);
       up = λ h. plays.2;
@@ -59,9 +59,9 @@ entry-preserved-in-Ok-Applied g c =
       used = λ h. subst (λ n. ((r.shows c.args.replica.now).down ≡ true) ⊎ Rose (r.shows c.args.replica.now).faults n) (sym plays.1) (i.used h);
       kept = e.kept ∙ i.kept;
       origin = e.origin ∙ i.origin;
-      quiet = keeps_on p.may p.floor p.shelf (t.who c.args.log.now) (r.shows c.args.replica.now).cursor first now new i.later e.later (r.shows l.replica).cursor i.forward i.quiet
+      quiet = keeps_on p.law (t.who c.args.log.now) (r.shows c.args.replica.now).cursor first now new i.later e.later (r.shows l.replica).cursor i.forward i.quiet
           (subst (λ w. KeepsTail w (r.shows l.replica).cursor now new) i.who e.quiet);
-      any_crash = crash_on p.may p.floor p.shelf t.holds r.state r.spells g.met.L.SharedLog.stays now new (r.shows c.args.replica.now) (r.shows l.replica) (r.shows c.apply_next.new.replica) e.later i.forward i.any_crash e.any_crash;
+      any_crash = crash_on p.law t.holds r.state r.spells g.met.L.SharedLog.stays now new (r.shows c.args.replica.now) (r.shows l.replica) (r.shows c.apply_next.new.replica) e.later i.forward i.any_crash e.any_crash;
     }
 
 pub returns-in-Ok-Trimmed-clause-any_crash : goal.returns-in-Ok-Trimmed-clause-any_crash
@@ -72,7 +72,7 @@ returns-in-Ok-Trimmed-clause-any_crash g c =
     let l = c.entry in
     let i = l.invariant in
     let e = c.in-Ok-Trimmed.ensures in
-    crash_on p.may p.floor p.shelf t.holds r.state r.spells g.met.L.SharedLog.stays (t.seen l.log) (t.seen c.apply_next.new.log) (r.shows c.args.replica.now) (r.shows l.replica) (r.shows c.apply_next.new.replica) e.later i.forward i.any_crash e.any_crash
+    crash_on p.law t.holds r.state r.spells g.met.L.SharedLog.stays (t.seen l.log) (t.seen c.apply_next.new.log) (r.shows c.args.replica.now) (r.shows l.replica) (r.shows c.apply_next.new.replica) e.later i.forward i.any_crash e.any_crash
 
 pub returns-in-Ok-Trimmed-clause-quiet : goal.returns-in-Ok-Trimmed-clause-quiet
 returns-in-Ok-Trimmed-clause-quiet g c =
@@ -84,7 +84,7 @@ returns-in-Ok-Trimmed-clause-quiet g c =
     let e = c.in-Ok-Trimmed.ensures in
     let now = t.seen l.log in
     let new = t.seen c.apply_next.new.log in
-    keeps_on p.may p.floor p.shelf (t.who c.args.log.now) (r.shows c.args.replica.now).cursor (t.seen c.args.log.now) now new i.later e.later (r.shows l.replica).cursor i.forward i.quiet
+    keeps_on p.law (t.who c.args.log.now) (r.shows c.args.replica.now).cursor (t.seen c.args.log.now) now new i.later e.later (r.shows l.replica).cursor i.forward i.quiet
     (subst (λ w. KeepsTail w (r.shows l.replica).cursor now new) i.who e.quiet)
 
 pub returns-then-not-spare-clause-any_crash : goal.returns-then-not-spare-clause-any_crash
@@ -95,7 +95,7 @@ returns-then-not-spare-clause-any_crash g c =
     let l = c.entry in
     let i = l.invariant in
     let e = c.in-Ok-Broken.ensures in
-    crash_on p.may p.floor p.shelf t.holds r.state r.spells g.met.L.SharedLog.stays (t.seen l.log) (t.seen c.apply_next.new.log) (r.shows c.args.replica.now) (r.shows l.replica) (r.shows c.apply_next.new.replica) e.later i.forward i.any_crash e.any_crash
+    crash_on p.law t.holds r.state r.spells g.met.L.SharedLog.stays (t.seen l.log) (t.seen c.apply_next.new.log) (r.shows c.args.replica.now) (r.shows l.replica) (r.shows c.apply_next.new.replica) e.later i.forward i.any_crash e.any_crash
 
 pub returns-in-Err-clause-any_crash : goal.returns-in-Err-clause-any_crash
 returns-in-Err-clause-any_crash g c =
@@ -105,7 +105,7 @@ returns-in-Err-clause-any_crash g c =
     let l = c.entry in
     let i = l.invariant in
     let e = c.in-Err.ensures in
-    crash_on p.may p.floor p.shelf t.holds r.state r.spells g.met.L.SharedLog.stays (t.seen l.log) (t.seen c.apply_next.new.log) (r.shows c.args.replica.now) (r.shows l.replica) (r.shows c.apply_next.new.replica) e.later i.forward i.any_crash e.any_crash
+    crash_on p.law t.holds r.state r.spells g.met.L.SharedLog.stays (t.seen l.log) (t.seen c.apply_next.new.log) (r.shows c.args.replica.now) (r.shows l.replica) (r.shows c.apply_next.new.replica) e.later i.forward i.any_crash e.any_crash
 
 pub returns-in-Err-open_again-clause-follows : goal.returns-in-Err-open_again-clause-follows
 returns-in-Err-open_again-clause-follows g c =
@@ -135,8 +135,8 @@ returns-in-Err-open_again-clause-any_crash g c =
     let b = r.shows l.replica in
     let v = r.shows c.apply_next.new.replica in
     let w = r.shows c.open_again.new.replica in
-    crash_on p.may p.floor p.shelf t.holds r.state r.spells g.met.L.SharedLog.stays new new a v w (later_refl p.may p.floor p.shelf new e.later.legal) (omega (arith, i.forward, e.forward))
-    (crash_on p.may p.floor p.shelf t.holds r.state r.spells g.met.L.SharedLog.stays (t.seen l.log) new a b v e.later i.forward i.any_crash e.any_crash)
+    crash_on p.law t.holds r.state r.spells g.met.L.SharedLog.stays new new a v w (later_refl p.law new e.later.legal) (omega (arith, i.forward, e.forward))
+    (crash_on p.law t.holds r.state r.spells g.met.L.SharedLog.stays (t.seen l.log) new a b v e.later i.forward i.any_crash e.any_crash)
     (crash_in_reopen t.holds r.state r.spells new v w e.follows c.in-Err-open_again.ensures.any_crash)
 
 pub entry-smaller : goal.entry-smaller
@@ -173,14 +173,14 @@ entry-preserved g c =
     let found = found_state t.holds r.state r.spells new v (saved_in w) e.follows up.found in
     let near = found_near t.holds r.state r.spells new v (saved_in w) e.follows up.found in
     record {
-      later = later_trans p.may p.floor p.shelf first now new i.later e.later;
+      later = later_trans p.law first now new i.later e.later;
       who = e.who ∙ i.who;
       known = e.known ∙ i.known;
       follows = follows_reopened t.holds r.state r.spells new 0 v w e.follows up c.in-Ok.ensures.survives;
       bounded = known_reopened 0 (t.reaches c.apply_next.new.log) v w e.bounded up;
       forward = omega (arith, i.forward, e.forward, found.forward);
-      went = goes_after p.may p.floor p.shelf t.holds r.state r.spells g.met.L.SharedLog.stays new new (saved_in a) (saved_in v) (saved_in w) (later_refl p.may p.floor p.shelf new e.later.legal)
-          (goes_after p.may p.floor p.shelf t.holds r.state r.spells g.met.L.SharedLog.stays now new (saved_in a) (saved_in b) (saved_in v) e.later i.went e.goes_on)
+      went = goes_after p.law t.holds r.state r.spells g.met.L.SharedLog.stays new new (saved_in a) (saved_in v) (saved_in w) (later_refl p.law new e.later.legal)
+          (goes_after p.law t.holds r.state r.spells g.met.L.SharedLog.stays now new (saved_in a) (saved_in b) (saved_in v) e.later i.went e.goes_on)
           (goes_found t.holds r.state r.spells new v (saved_in w) e.follows up.found);
       below = inr (omega (arith, near, plays.0, c.cursor.ensures.cursor, c.entry-test.true));
       counts = omega (arith, i.counts, plays.1, up.faults);
@@ -189,10 +189,10 @@ entry-preserved g c =
       used = λ h. subst (λ n. (a.down ≡ true) ⊎ Rose a.faults n) (sym up.faults) (down_since 0 a b v.faults i.arming plays.1 plays.2);
       kept = up.kept ∙ (e.kept ∙ i.kept);
       origin = up.origin ∙ (e.origin ∙ i.origin);
-      quiet = keeps_on p.may p.floor p.shelf (t.who c.args.log.now) (r.shows c.args.replica.now).cursor first now new i.later e.later (r.shows l.replica).cursor i.forward i.quiet
+      quiet = keeps_on p.law (t.who c.args.log.now) (r.shows c.args.replica.now).cursor first now new i.later e.later (r.shows l.replica).cursor i.forward i.quiet
           (subst (λ w. KeepsTail w (r.shows l.replica).cursor now new) i.who e.quiet);
-      any_crash = crash_on p.may p.floor p.shelf t.holds r.state r.spells g.met.L.SharedLog.stays new new a v w (later_refl p.may p.floor p.shelf new e.later.legal) (omega (arith, i.forward, e.forward))
-          (crash_on p.may p.floor p.shelf t.holds r.state r.spells g.met.L.SharedLog.stays now new a b v e.later i.forward i.any_crash e.any_crash)
+      any_crash = crash_on p.law t.holds r.state r.spells g.met.L.SharedLog.stays new new a v w (later_refl p.law new e.later.legal) (omega (arith, i.forward, e.forward))
+          (crash_on p.law t.holds r.state r.spells g.met.L.SharedLog.stays now new a b v e.later i.forward i.any_crash e.any_crash)
           (crash_in_reopen t.holds r.state r.spells new v w e.follows c.in-Ok.ensures.any_crash);
     }
 
@@ -252,7 +252,7 @@ returns-in-Ok-Trimmed-clause-goes_on g c =
     let r = g.R.Replica in
     let l = c.entry in
     let e = c.in-Ok-Trimmed.ensures in
-    goes_after p.may p.floor p.shelf t.holds r.state r.spells g.met.L.SharedLog.stays (t.seen l.log) (t.seen c.apply_next.new.log) (saved_in (r.shows c.args.replica.now)) (saved_in (r.shows l.replica)) (saved_in (r.shows c.apply_next.new.replica)) e.later l.invariant.went e.goes_on
+    goes_after p.law t.holds r.state r.spells g.met.L.SharedLog.stays (t.seen l.log) (t.seen c.apply_next.new.log) (saved_in (r.shows c.args.replica.now)) (saved_in (r.shows l.replica)) (saved_in (r.shows c.apply_next.new.replica)) e.later l.invariant.went e.goes_on
 
 pub returns-then-not-spare-clause-goes_on : goal.returns-then-not-spare-clause-goes_on
 returns-then-not-spare-clause-goes_on g c =
@@ -261,7 +261,7 @@ returns-then-not-spare-clause-goes_on g c =
     let r = g.R.Replica in
     let l = c.entry in
     let e = c.in-Ok-Broken.ensures in
-    goes_after p.may p.floor p.shelf t.holds r.state r.spells g.met.L.SharedLog.stays (t.seen l.log) (t.seen c.apply_next.new.log) (saved_in (r.shows c.args.replica.now)) (saved_in (r.shows l.replica)) (saved_in (r.shows c.apply_next.new.replica)) e.later l.invariant.went e.goes_on
+    goes_after p.law t.holds r.state r.spells g.met.L.SharedLog.stays (t.seen l.log) (t.seen c.apply_next.new.log) (saved_in (r.shows c.args.replica.now)) (saved_in (r.shows l.replica)) (saved_in (r.shows c.apply_next.new.replica)) e.later l.invariant.went e.goes_on
 
 pub returns-in-Err-clause-goes_on : goal.returns-in-Err-clause-goes_on
 returns-in-Err-clause-goes_on g c =
@@ -270,7 +270,7 @@ returns-in-Err-clause-goes_on g c =
     let r = g.R.Replica in
     let l = c.entry in
     let e = c.in-Err.ensures in
-    goes_after p.may p.floor p.shelf t.holds r.state r.spells g.met.L.SharedLog.stays (t.seen l.log) (t.seen c.apply_next.new.log) (saved_in (r.shows c.args.replica.now)) (saved_in (r.shows l.replica)) (saved_in (r.shows c.apply_next.new.replica)) e.later l.invariant.went e.goes_on
+    goes_after p.law t.holds r.state r.spells g.met.L.SharedLog.stays (t.seen l.log) (t.seen c.apply_next.new.log) (saved_in (r.shows c.args.replica.now)) (saved_in (r.shows l.replica)) (saved_in (r.shows c.apply_next.new.replica)) e.later l.invariant.went e.goes_on
 
 pub returns-in-Err-open_again-clause-goes_on : goal.returns-in-Err-open_again-clause-goes_on
 returns-in-Err-open_again-clause-goes_on g c =
@@ -281,4 +281,4 @@ returns-in-Err-open_again-clause-goes_on g c =
     let e = c.in-Ok-Broken.ensures in
     let a = saved_in (r.shows c.args.replica.now) in
     subst (λ s. GoesOn t.holds r.state (t.seen c.apply_next.new.log) a s) (sym (ap saved_in c.in-Err-open_again.ensures.down.is))
-    (goes_after p.may p.floor p.shelf t.holds r.state r.spells g.met.L.SharedLog.stays (t.seen l.log) (t.seen c.apply_next.new.log) a (saved_in (r.shows l.replica)) (saved_in (r.shows c.apply_next.new.replica)) e.later l.invariant.went e.goes_on)
+    (goes_after p.law t.holds r.state r.spells g.met.L.SharedLog.stays (t.seen l.log) (t.seen c.apply_next.new.log) a (saved_in (r.shows l.replica)) (saved_in (r.shows c.apply_next.new.replica)) e.later l.invariant.went e.goes_on)

@@ -16,7 +16,7 @@ invariant-entry g l =
     let v = r.shows l.replica in
     let w = r.shows l.fn.replica in
     record {
-      later : Later p.may p.floor p.shelf (t.seen l.fn.log) (t.seen l.log);
+      later : Later p.law (t.seen l.fn.log) (t.seen l.log);
       who : t.who l.log ≡ t.who l.fn.log;
       known : t.reaches l.log ≡ t.reaches l.fn.log;
       follows : Follows t.holds r.state r.spells (t.seen l.log) v;

@@ -14,7 +14,7 @@ returns-in-Err-clause-follows g c =
     let p = g.L.Law.Rules in
     let t = g.L.SharedLog in
     let r = g.R.Replica in
-    follows_later p.may p.floor p.shelf t.holds r.state r.spells g.met.L.SharedLog.stays _ (t.seen c.check_tail.new.self) (r.shows c.args.replica.now) c.in-Err.ensures.later c.requires.follows
+    follows_later p.law t.holds r.state r.spells g.met.L.SharedLog.stays _ (t.seen c.check_tail.new.self) (r.shows c.args.replica.now) c.in-Err.ensures.later c.requires.follows
 
 pub returns-in-Err-clause-any_crash : goal.returns-in-Err-clause-any_crash
 returns-in-Err-clause-any_crash g c =
@@ -23,20 +23,20 @@ returns-in-Err-clause-any_crash g c =
     let r = g.R.Replica in
     let new = t.seen c.check_tail.new.self in
     let v = r.shows c.args.replica.now in
-    crash_at_rest t.holds r.state r.spells new v (follows_later p.may p.floor p.shelf t.holds r.state r.spells g.met.L.SharedLog.stays _ new v c.in-Err.ensures.later c.requires.follows)
+    crash_at_rest t.holds r.state r.spells new v (follows_later p.law t.holds r.state r.spells g.met.L.SharedLog.stays _ new v c.in-Err.ensures.later c.requires.follows)
 
 pub play-requires-clause-follows : goal.play-requires-clause-follows
 play-requires-clause-follows g c =
     let p = g.L.Law.Rules in
     let t = g.L.SharedLog in
     let r = g.R.Replica in
-    follows_later p.may p.floor p.shelf t.holds r.state r.spells g.met.L.SharedLog.stays _ (t.seen c.check_tail.new.self) (r.shows c.args.replica.now) c.in-Ok.ensures.later c.requires.follows
+    follows_later p.law t.holds r.state r.spells g.met.L.SharedLog.stays _ (t.seen c.check_tail.new.self) (r.shows c.args.replica.now) c.in-Ok.ensures.later c.requires.follows
 
 pub returns-in-Ok-play-clause-synced : goal.returns-in-Ok-play-clause-synced
 returns-in-Ok-play-clause-synced g c =
     let p = g.L.Law.Rules in
     let t = g.L.SharedLog in
-    above_later p.may p.floor p.shelf (t.who c.args.log.now) c.in-Ok.tail (t.seen c.args.log.now) (t.seen c.check_tail.new.self) (t.seen c.play.new.log) c.in-Ok.ensures.above c.play.ensures.later
+    above_later p.law (t.who c.args.log.now) c.in-Ok.tail (t.seen c.args.log.now) (t.seen c.check_tail.new.self) (t.seen c.play.new.log) c.in-Ok.ensures.above c.play.ensures.later
 
 pub returns-in-Ok-play-clause-cursor : goal.returns-in-Ok-play-clause-cursor
 returns-in-Ok-play-clause-cursor g c =
@@ -53,7 +53,7 @@ returns-in-Ok-play-clause-exact g c =
     let pos = (g.R.Replica.shows c.args.replica.now).cursor in
     let mid = t.seen c.check_tail.new.self in
     let new = t.seen c.play.new.log in
-    ends_on p.may p.floor p.shelf who pos (t.seen c.args.log.now) mid new c.in-Ok.ensures.later c.play.ensures.later c.in-Ok.tail c.in-Ok.ensures.exact
+    ends_on p.law who pos (t.seen c.args.log.now) mid new c.in-Ok.ensures.later c.play.ensures.later c.in-Ok.tail c.in-Ok.ensures.exact
     (subst (λ w. KeepsTail w pos mid new) c.in-Ok.ensures.who c.in-Ok-play.ensures.quiet)
 
 pub returns-in-Err-clause-arming : goal.returns-in-Err-clause-arming
@@ -82,5 +82,5 @@ returns-in-Err-play-clause-blames g c =
     let a = r.shows c.args.replica.now in
     let b = r.shows c.play.new.replica in
     let f = c.in-Err-play.fault in
-    blames_since (t.who c.args.log.now) old mid new a.faults a.faults b.faults f (more_of p.may p.floor p.shelf old mid c.in-Ok.ensures.later) (omega arith) c.play.ensures.counts
+    blames_since (t.who c.args.log.now) old mid new a.faults a.faults b.faults f (more_of p.law old mid c.in-Ok.ensures.later) (omega arith) c.play.ensures.counts
     (subst (λ x. Blames x mid a.faults f new b.faults) c.in-Ok.ensures.who c.in-Err-play.ensures.blames)

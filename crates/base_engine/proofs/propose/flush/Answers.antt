@@ -11,4 +11,4 @@ returns-in-Err-flush-clause-waiting g c =
     let r = g.R.Replica in
     let a = r.shows c.args.replica.now in
     let v = r.shows c.flush.new.self in
-    kept_waiting g.L.Law.Rules.may (g.L.SharedLog.who c.args.log.now) a.origin a.kept v.kept (ap (λ (x : ReplicaView). x.kept) c.in-Err-flush.ensures.err) c.requires.own
+    kept_waiting g.L.Law.Rules.law.may (g.L.SharedLog.who c.args.log.now) a.origin a.kept v.kept (ap (λ (x : ReplicaView). x.kept) c.in-Err-flush.ensures.err) c.requires.own

@@ -36,7 +36,7 @@ returns-in-Err-clause-refused g c =
     let old = t.seen c.args.log.now in
     let was = view_of c.args.outbox.now in
     let v = r.shows c.args.replica.now in
-    refused_memory t.holds w old was (under 2 c.args.item.now) old was (settled_none t.holds p.may p.floor p.shelf w old old was was refl (later_refl p.may p.floor p.shelf old c.requires.legal))
+    refused_memory t.holds w old was (under 2 c.args.item.now) old was (settled_none t.holds p.law w old old was was refl (later_refl p.law old c.requires.legal))
 
 pub returns-then-near-clause-ready : goal.returns-then-near-clause-ready
 returns-then-near-clause-ready g c =

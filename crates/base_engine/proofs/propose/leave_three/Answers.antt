@@ -6,14 +6,14 @@ use Rattle.base_engine.proofs.propose.leave_three.Goals as goal
 
 pub returns-then-len-lt-MOST-clause-later : goal.returns-then-len-lt-MOST-clause-later
 returns-then-len-lt-MOST-clause-later g c =
-    let p = g.L.Law.Rules in later_refl p.may p.floor p.shelf (g.L.SharedLog.seen c.args.log.now) c.requires.legal
+    let p = g.L.Law.Rules in later_refl p.law (g.L.SharedLog.seen c.args.log.now) c.requires.legal
 
 pub returns-then-len-lt-MOST-clause-settled : goal.returns-then-len-lt-MOST-clause-settled
 returns-then-len-lt-MOST-clause-settled g c =
     let p = g.L.Law.Rules in
     let t = g.L.SharedLog in
     let v = view_of c.args.outbox.now in
-    settled_none t.holds p.may p.floor p.shelf (t.who c.args.log.now) (t.seen c.args.log.now) (t.seen c.args.log.now) v v refl (later_refl p.may p.floor p.shelf (t.seen c.args.log.now) c.requires.legal)
+    settled_none t.holds p.law (t.who c.args.log.now) (t.seen c.args.log.now) (t.seen c.args.log.now) v v refl (later_refl p.law (t.seen c.args.log.now) c.requires.legal)
 
 pub returns-in-Ok-clause-settled : goal.returns-in-Ok-clause-settled
 returns-in-Ok-clause-settled g c =
@@ -24,4 +24,4 @@ pub returns-in-Err-clause-settled : goal.returns-in-Err-clause-settled
 returns-in-Err-clause-settled g c =
     let p = g.L.Law.Rules in
     let t = g.L.SharedLog in
-    settled_none t.holds p.may p.floor p.shelf (t.who c.args.log.now) (t.seen c.args.log.now) (t.seen c.carry_oldest.new.log) (view_of c.args.outbox.now) (view_of c.carry_oldest.new.outbox) c.in-Err.ensures.same c.in-Err.ensures.later
+    settled_none t.holds p.law (t.who c.args.log.now) (t.seen c.args.log.now) (t.seen c.carry_oldest.new.log) (view_of c.args.outbox.now) (view_of c.carry_oldest.new.outbox) c.in-Err.ensures.same c.in-Err.ensures.later

@@ -39,8 +39,8 @@ send-requires-clause-own g c =
     let a = r.shows c.args.replica.now in
     let v = r.shows c.is_ready.new.replica in
     let e = c.in-Ok.ensures in
-    subst (λ x. p.may x (packed v.origin (v.kept ++ c.args.item ∷ []))) (sym e.who)
-    (subst (λ o. p.may w (packed o (v.kept ++ c.args.item ∷ []))) (sym e.origin) (subst (λ k. p.may w (packed a.origin (k ++ c.args.item ∷ []))) (sym e.kept) c.requires.own))
+    subst (λ x. p.law.may x (packed v.origin (v.kept ++ c.args.item ∷ []))) (sym e.who)
+    (subst (λ o. p.law.may w (packed o (v.kept ++ c.args.item ∷ []))) (sym e.origin) (subst (λ k. p.law.may w (packed a.origin (k ++ c.args.item ∷ []))) (sym e.kept) c.requires.own))
 
 pub returns-in-Ok-send-clause-follows : goal.returns-in-Ok-send-clause-follows
 returns-in-Ok-send-clause-follows g c =
@@ -55,7 +55,7 @@ returns-in-Ok-send-clause-follows g c =
     let a = r.shows c.args.replica.now in
     let v = r.shows c.is_ready.new.replica in
     let e = c.in-Ok.ensures in
-    follows_rest p.may p.floor p.shelf t.holds r.state r.spells g.met.L.SharedLog.stays mid (t.seen c.send.new.log) v (r.shows c.send.new.replica) c.send.ensures.later c.send.ensures.rest e.follows
+    follows_rest p.law t.holds r.state r.spells g.met.L.SharedLog.stays mid (t.seen c.send.new.log) v (r.shows c.send.new.replica) c.send.ensures.later c.send.ensures.rest e.follows
 
 pub returns-in-Ok-send-clause-bounded : goal.returns-in-Ok-send-clause-bounded
 returns-in-Ok-send-clause-bounded g c =
@@ -85,7 +85,7 @@ returns-in-Ok-send-clause-any_crash g c =
     let a = r.shows c.args.replica.now in
     let v = r.shows c.is_ready.new.replica in
     let e = c.in-Ok.ensures in
-    crash_rest p.may p.floor p.shelf t.holds r.state r.spells g.met.L.SharedLog.stays mid (t.seen c.send.new.log) a v (r.shows c.send.new.replica) c.send.ensures.later c.send.ensures.rest e.any_crash
+    crash_rest p.law t.holds r.state r.spells g.met.L.SharedLog.stays mid (t.seen c.send.new.log) a v (r.shows c.send.new.replica) c.send.ensures.later c.send.ensures.rest e.any_crash
 
 pub returns-in-Err-send-clause-follows : goal.returns-in-Err-send-clause-follows
 returns-in-Err-send-clause-follows g c =
@@ -100,7 +100,7 @@ returns-in-Err-send-clause-follows g c =
     let a = r.shows c.args.replica.now in
     let v = r.shows c.is_ready.new.replica in
     let e = c.in-Ok.ensures in
-    follows_rest p.may p.floor p.shelf t.holds r.state r.spells g.met.L.SharedLog.stays mid (t.seen c.send.new.log) v (r.shows c.send.new.replica) c.send.ensures.later c.send.ensures.rest e.follows
+    follows_rest p.law t.holds r.state r.spells g.met.L.SharedLog.stays mid (t.seen c.send.new.log) v (r.shows c.send.new.replica) c.send.ensures.later c.send.ensures.rest e.follows
 
 pub returns-in-Err-send-clause-bounded : goal.returns-in-Err-send-clause-bounded
 returns-in-Err-send-clause-bounded g c =
@@ -130,7 +130,7 @@ returns-in-Err-send-clause-any_crash g c =
     let a = r.shows c.args.replica.now in
     let v = r.shows c.is_ready.new.replica in
     let e = c.in-Ok.ensures in
-    crash_rest p.may p.floor p.shelf t.holds r.state r.spells g.met.L.SharedLog.stays mid (t.seen c.send.new.log) a v (r.shows c.send.new.replica) c.send.ensures.later c.send.ensures.rest e.any_crash
+    crash_rest p.law t.holds r.state r.spells g.met.L.SharedLog.stays mid (t.seen c.send.new.log) a v (r.shows c.send.new.replica) c.send.ensures.later c.send.ensures.rest e.any_crash
 
 pub returns-in-Ok-send-clause-proposed : goal.returns-in-Ok-send-clause-proposed
 returns-in-Ok-send-clause-proposed g c =
@@ -178,7 +178,7 @@ returns-in-Err-clause-waiting g c =
     let r = g.R.Replica in
     let a = r.shows c.args.replica.now in
     let v = r.shows c.is_ready.new.replica in
-    kept_waiting g.L.Law.Rules.may (g.L.SharedLog.who c.args.log.now) a.origin a.kept v.kept c.in-Err.ensures.kept c.requires.waits
+    kept_waiting g.L.Law.Rules.law.may (g.L.SharedLog.who c.args.log.now) a.origin a.kept v.kept c.in-Err.ensures.kept c.requires.waits
 
 pub returns-then-not-ready-clause-waiting : goal.returns-then-not-ready-clause-waiting
 returns-then-not-ready-clause-waiting g c =
@@ -193,7 +193,7 @@ returns-then-not-ready-clause-waiting g c =
     let a = r.shows c.args.replica.now in
     let v = r.shows c.is_ready.new.replica in
     let e = c.in-Ok.ensures in
-    kept_waiting p.may w a.origin a.kept v.kept e.kept c.requires.waits
+    kept_waiting p.law.may w a.origin a.kept v.kept e.kept c.requires.waits
 
 pub returns-in-Ok-send-clause-waiting : goal.returns-in-Ok-send-clause-waiting
 returns-in-Ok-send-clause-waiting g c =
@@ -212,7 +212,7 @@ returns-in-Ok-send-clause-waiting g c =
     let q = c.in-Ok-send.ensures.sent in
     let from = subst (λ k. Queues v.origin k c.args.item q.packed u.kept) e.kept q.out in
     let by = subst (λ o. Queues o a.kept c.args.item q.packed u.kept) e.origin from in
-    queued_waiting p.may w a.origin a.kept u.kept c.args.item q.packed by c.requires.own
+    queued_waiting p.law.may w a.origin a.kept u.kept c.args.item q.packed by c.requires.own
 
 pub returns-in-Err-send-clause-waiting : goal.returns-in-Err-send-clause-waiting
 returns-in-Err-send-clause-waiting g c =
@@ -228,7 +228,7 @@ returns-in-Err-send-clause-waiting g c =
     let v = r.shows c.is_ready.new.replica in
     let e = c.in-Ok.ensures in
     let u = r.shows c.send.new.replica in
-    kept_waiting p.may w a.origin a.kept u.kept (ap (λ (x : ReplicaView). x.kept) c.in-Err-send.ensures.same ∙ e.kept) c.requires.waits
+    kept_waiting p.law.may w a.origin a.kept u.kept (ap (λ (x : ReplicaView). x.kept) c.in-Err-send.ensures.same ∙ e.kept) c.requires.waits
 
 pub returns-in-Ok-send-clause-arming : goal.returns-in-Ok-send-clause-arming
 returns-in-Ok-send-clause-arming g c =

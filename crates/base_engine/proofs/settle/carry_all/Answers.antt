@@ -15,7 +15,7 @@ entry-preserved g c =
     let now = t.seen l.log in
     let new = t.seen c.carry_oldest.new.log in
     record {
-      later = later_trans p.may p.floor p.shelf (t.seen c.args.log.now) now new i.later e.later;
+      later = later_trans p.law (t.seen c.args.log.now) now new i.later e.later;
       who = e.who ∙ i.who;
       known = omega (arith, i.known, e.known);
       may = e.may;

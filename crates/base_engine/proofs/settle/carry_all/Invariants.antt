@@ -10,10 +10,10 @@ invariant-entry g l =
     let p = g.L.Law.Rules in
     let t = g.L.SharedLog in
     record {
-      later : Later p.may p.floor p.shelf (t.seen l.fn.log) (t.seen l.log);
+      later : Later p.law (t.seen l.fn.log) (t.seen l.log);
       who : t.who l.log ≡ t.who l.fn.log;
       known : t.reaches l.fn.log ≤ t.reaches l.log;
-      may : All (λ e. MaySend p.may (t.who l.log) e) l.outbox.entries.items;
+      may : All (λ e. MaySend p.law.may (t.who l.log) e) l.outbox.entries.items;
       landed : l.outbox.unsettled ≡ None → LandedSoFar t.holds (t.who l.fn.log) (t.seen l.fn.log) l.fn.outbox.entries.items (t.seen l.log) l.outbox.entries.items (t.reaches l.log);
       sofar : SoFar t.holds (t.who l.fn.log) (t.seen l.fn.log) (view_of l.fn.outbox) (t.seen l.log) (view_of l.outbox);
     }

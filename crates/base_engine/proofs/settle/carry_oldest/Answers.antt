@@ -8,11 +8,11 @@ use Rattle.base_engine.proofs.settle.carry_oldest.Goals as goal
 
 pub returns-in_err-sessions-clause-later : goal.returns-in_err-sessions-clause-later
 returns-in_err-sessions-clause-later g c =
-    let p = g.L.Law.Rules in later_refl p.may p.floor p.shelf (g.L.SharedLog.seen c.args.log.now) c.requires.legal
+    let p = g.L.Law.Rules in later_refl p.law (g.L.SharedLog.seen c.args.log.now) c.requires.legal
 
 pub returns-in_err-reserve-clause-later : goal.returns-in_err-reserve-clause-later
 returns-in_err-reserve-clause-later g c =
-    let p = g.L.Law.Rules in later_refl p.may p.floor p.shelf (g.L.SharedLog.seen c.args.log.now) c.requires.legal
+    let p = g.L.Law.Rules in later_refl p.law (g.L.SharedLog.seen c.args.log.now) c.requires.legal
 
 pub returns-in-Ok-clause-carried : goal.returns-in-Ok-clause-carried
 returns-in-Ok-clause-carried g c =
@@ -40,7 +40,7 @@ returns-in-Because-clause-landed g c = λ calm. absurd (never_calm c.args.outbox
 
 pub returns-in-Because-clause-may : goal.returns-in-Because-clause-may
 returns-in-Because-clause-may g c =
-    let may = g.L.Law.Rules.may in
+    let may = g.L.Law.Rules.law.may in
     let t = g.L.SharedLog in
     all_tail_by (MaySend may (t.who c.args.log.now)) (MaySend may (t.who c.append.new.self)) c.args.outbox.now.entries.items c.lose.new.outbox.entries.items c.index-2.result.now
     (head_drop c.args.outbox.now.entries.items c.lose.new.outbox.entries.items c.index-2.result.now c.requires.some c.index-2.ensures c.lose.ensures.entries)

@@ -14,46 +14,46 @@ returns-in-Err-flush-clause-follows g c =
     let p = g.L.Law.Rules in
     let t = g.L.SharedLog in
     let r = g.R.Replica in
-    follows_rest p.may p.floor p.shelf t.holds r.state r.spells g.met.L.SharedLog.stays (t.seen c.propose.new.log) (t.seen c.flush.new.log) (r.shows c.propose.new.replica) (r.shows c.flush.new.replica) c.flush.ensures.later c.flush.ensures.rest c.propose.ensures.follows
+    follows_rest p.law t.holds r.state r.spells g.met.L.SharedLog.stays (t.seen c.propose.new.log) (t.seen c.flush.new.log) (r.shows c.propose.new.replica) (r.shows c.flush.new.replica) c.flush.ensures.later c.flush.ensures.rest c.propose.ensures.follows
 
 pub returns-in-Err-flush-clause-any_crash : goal.returns-in-Err-flush-clause-any_crash
 returns-in-Err-flush-clause-any_crash g c =
     let p = g.L.Law.Rules in
     let t = g.L.SharedLog in
     let r = g.R.Replica in
-    crash_rest p.may p.floor p.shelf t.holds r.state r.spells g.met.L.SharedLog.stays (t.seen c.propose.new.log) (t.seen c.flush.new.log) (r.shows c.args.replica.now) (r.shows c.propose.new.replica) (r.shows c.flush.new.replica) c.flush.ensures.later c.flush.ensures.rest c.propose.ensures.any_crash
+    crash_rest p.law t.holds r.state r.spells g.met.L.SharedLog.stays (t.seen c.propose.new.log) (t.seen c.flush.new.log) (r.shows c.args.replica.now) (r.shows c.propose.new.replica) (r.shows c.flush.new.replica) c.flush.ensures.later c.flush.ensures.rest c.propose.ensures.any_crash
 
 pub returns-in-Ok-settle_all-clause-follows : goal.returns-in-Ok-settle_all-clause-follows
 returns-in-Ok-settle_all-clause-follows g c =
     let p = g.L.Law.Rules in
     let t = g.L.SharedLog in
     let r = g.R.Replica in
-    let on = later_trans p.may p.floor p.shelf (t.seen c.propose.new.log) (t.seen c.flush.new.log) (t.seen c.settle_all.new.log) c.flush.ensures.later c.settle_all.ensures.later in
-    follows_rest p.may p.floor p.shelf t.holds r.state r.spells g.met.L.SharedLog.stays (t.seen c.propose.new.log) (t.seen c.settle_all.new.log) (r.shows c.propose.new.replica) (r.shows c.flush.new.replica) on c.flush.ensures.rest c.propose.ensures.follows
+    let on = later_trans p.law (t.seen c.propose.new.log) (t.seen c.flush.new.log) (t.seen c.settle_all.new.log) c.flush.ensures.later c.settle_all.ensures.later in
+    follows_rest p.law t.holds r.state r.spells g.met.L.SharedLog.stays (t.seen c.propose.new.log) (t.seen c.settle_all.new.log) (r.shows c.propose.new.replica) (r.shows c.flush.new.replica) on c.flush.ensures.rest c.propose.ensures.follows
 
 pub returns-in-Ok-settle_all-clause-any_crash : goal.returns-in-Ok-settle_all-clause-any_crash
 returns-in-Ok-settle_all-clause-any_crash g c =
     let p = g.L.Law.Rules in
     let t = g.L.SharedLog in
     let r = g.R.Replica in
-    let on = later_trans p.may p.floor p.shelf (t.seen c.propose.new.log) (t.seen c.flush.new.log) (t.seen c.settle_all.new.log) c.flush.ensures.later c.settle_all.ensures.later in
-    crash_rest p.may p.floor p.shelf t.holds r.state r.spells g.met.L.SharedLog.stays (t.seen c.propose.new.log) (t.seen c.settle_all.new.log) (r.shows c.args.replica.now) (r.shows c.propose.new.replica) (r.shows c.flush.new.replica) on c.flush.ensures.rest c.propose.ensures.any_crash
+    let on = later_trans p.law (t.seen c.propose.new.log) (t.seen c.flush.new.log) (t.seen c.settle_all.new.log) c.flush.ensures.later c.settle_all.ensures.later in
+    crash_rest p.law t.holds r.state r.spells g.met.L.SharedLog.stays (t.seen c.propose.new.log) (t.seen c.settle_all.new.log) (r.shows c.args.replica.now) (r.shows c.propose.new.replica) (r.shows c.flush.new.replica) on c.flush.ensures.rest c.propose.ensures.any_crash
 
 pub returns-in-Err-settle_all-clause-follows : goal.returns-in-Err-settle_all-clause-follows
 returns-in-Err-settle_all-clause-follows g c =
     let p = g.L.Law.Rules in
     let t = g.L.SharedLog in
     let r = g.R.Replica in
-    let on = later_trans p.may p.floor p.shelf (t.seen c.propose.new.log) (t.seen c.flush.new.log) (t.seen c.settle_all.new.log) c.flush.ensures.later c.settle_all.ensures.later in
-    follows_rest p.may p.floor p.shelf t.holds r.state r.spells g.met.L.SharedLog.stays (t.seen c.propose.new.log) (t.seen c.settle_all.new.log) (r.shows c.propose.new.replica) (r.shows c.flush.new.replica) on c.flush.ensures.rest c.propose.ensures.follows
+    let on = later_trans p.law (t.seen c.propose.new.log) (t.seen c.flush.new.log) (t.seen c.settle_all.new.log) c.flush.ensures.later c.settle_all.ensures.later in
+    follows_rest p.law t.holds r.state r.spells g.met.L.SharedLog.stays (t.seen c.propose.new.log) (t.seen c.settle_all.new.log) (r.shows c.propose.new.replica) (r.shows c.flush.new.replica) on c.flush.ensures.rest c.propose.ensures.follows
 
 pub returns-in-Err-settle_all-clause-any_crash : goal.returns-in-Err-settle_all-clause-any_crash
 returns-in-Err-settle_all-clause-any_crash g c =
     let p = g.L.Law.Rules in
     let t = g.L.SharedLog in
     let r = g.R.Replica in
-    let on = later_trans p.may p.floor p.shelf (t.seen c.propose.new.log) (t.seen c.flush.new.log) (t.seen c.settle_all.new.log) c.flush.ensures.later c.settle_all.ensures.later in
-    crash_rest p.may p.floor p.shelf t.holds r.state r.spells g.met.L.SharedLog.stays (t.seen c.propose.new.log) (t.seen c.settle_all.new.log) (r.shows c.args.replica.now) (r.shows c.propose.new.replica) (r.shows c.flush.new.replica) on c.flush.ensures.rest c.propose.ensures.any_crash
+    let on = later_trans p.law (t.seen c.propose.new.log) (t.seen c.flush.new.log) (t.seen c.settle_all.new.log) c.flush.ensures.later c.settle_all.ensures.later in
+    crash_rest p.law t.holds r.state r.spells g.met.L.SharedLog.stays (t.seen c.propose.new.log) (t.seen c.settle_all.new.log) (r.shows c.args.replica.now) (r.shows c.propose.new.replica) (r.shows c.flush.new.replica) on c.flush.ensures.rest c.propose.ensures.any_crash
 
 pub returns-in-Ok-settle_all-clause-landed : goal.returns-in-Ok-settle_all-clause-landed
 returns-in-Ok-settle_all-clause-landed g c =
@@ -76,7 +76,7 @@ returns-in-Ok-settle_all-clause-landed g c =
     let by = subst (λ o. Sent t.holds w m1 o1 (λ packed. Flushes o v1.kept packed v2.kept) m2 o2) c.propose.ensures.origin flushed in
     let settled = subst (λ x. Answers t.holds x m2 o2 None new is) (c.flush.ensures.who ∙ c.propose.ensures.who) c.in-Ok-settle_all.ensures.calm in
     ⊎_elim
-    (λ k. item_landed t.holds w a.origin old m1 m2 new was o1 o2 is a.kept v1.kept v2.kept c.args.item (more_of p.may p.floor p.shelf old m1 c.propose.ensures.later) (more_of p.may p.floor p.shelf m1 m2 c.flush.ensures.later) k.0 by settled)
+    (λ k. item_landed t.holds w a.origin old m1 m2 new was o1 o2 is a.kept v1.kept v2.kept c.args.item (more_of p.law old m1 c.propose.ensures.later) (more_of p.law m1 m2 c.flush.ensures.later) k.0 by settled)
     (λ k. absurd (subst (IsFarAt v1.contents) c.requires.plain k.1))
     c.in-Ok.ensures.proposed
 
@@ -99,8 +99,8 @@ returns-in-Err-settle_all-clause-blames g c none =
     let v2 = r.shows c.flush.new.replica in
     let flushed = subst (λ x. Sent t.holds x m1 o1 (λ packed. Flushes v1.origin v1.kept packed v2.kept) m2 o2) c.propose.ensures.who c.in-Ok-flush.ensures.sent in
     let failing = subst (λ x. Failing t.holds x m2 o2 c.in-Err-settle_all.fault new is) (c.flush.ensures.who ∙ c.propose.ensures.who) c.in-Err-settle_all.ensures.failing in
-    let on1 = more_of p.may p.floor p.shelf old m1 c.propose.ensures.later in
-    let on2 = more_of p.may p.floor p.shelf m1 m2 c.flush.ensures.later in
+    let on1 = more_of p.law old m1 c.propose.ensures.later in
+    let on2 = more_of p.law m1 m2 c.flush.ensures.later in
     ⊎_elim
     (λ k. blames_failing t.holds w old m1 m2 new o1 o2 is _ c.in-Err-settle_all.fault a.faults v2.faults on1 on2 (owned_sent t.holds w old old m1 was o1 _ (no_more old) (owned_none w old old was none) k.0) flushed failing)
     (λ k. absurd (subst (IsFarAt v1.contents) c.requires.plain k.1))
@@ -147,8 +147,8 @@ returns-in-Err-settle_all-clause-twice g c none =
     let v2 = r.shows c.flush.new.replica in
     let flushed = subst (λ x. Sent t.holds x m1 o1 (λ packed. Flushes v1.origin v1.kept packed v2.kept) m2 o2) c.propose.ensures.who c.in-Ok-flush.ensures.sent in
     let failing = subst (λ x. Failing t.holds x m2 o2 f new is) (c.flush.ensures.who ∙ c.propose.ensures.who) c.in-Err-settle_all.ensures.failing in
-    let on1 = more_of p.may p.floor p.shelf old m1 c.propose.ensures.later in
-    let on2 = more_of p.may p.floor p.shelf m1 m2 c.flush.ensures.later in
+    let on1 = more_of p.law old m1 c.propose.ensures.later in
+    let on2 = more_of p.law m1 m2 c.flush.ensures.later in
     ⊎_elim
     (λ k. λ store. absurd (never_store w old new f (λ faults faults'. blames_failing t.holds w old m1 m2 new o1 o2 is _ f faults faults' on1 on2 (owned_sent t.holds w old old m1 was o1 _ (no_more old) (owned_none w old old was none) k.0) flushed failing) store))
     (λ k. absurd (subst (IsFarAt v1.contents) c.requires.plain k.1))

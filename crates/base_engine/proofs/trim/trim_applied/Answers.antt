@@ -17,8 +17,8 @@ prefix_trim-requires-clause-free g c =
     let t = g.L.SharedLog in
     let r = g.R.Replica in
     let seen = t.seen c.args.log.now in
-    subst (λ n. IsFree (state_of seen).shown p.floor n) (sym c.in-Ok.ensures)
-    (free_to p.may p.floor p.shelf t.holds seen c.requires.legal c.requires.shown r.state r.spells c.args.nodes (r.shows c.args.replica.now) c.requires.follows c.requires.free)
+    subst (λ n. IsFree (state_of seen).shown p.law.floor n) (sym c.in-Ok.ensures)
+    (free_to p.law t.holds seen c.requires.legal c.requires.shown r.state r.spells c.args.nodes (r.shows c.args.replica.now) c.requires.follows c.requires.free)
 
 pub returns-in-Ok-prefix_trim-clause-trims : goal.returns-in-Ok-prefix_trim-clause-trims
 returns-in-Ok-prefix_trim-clause-trims g c =

@@ -1,5 +1,6 @@
 use Rattle.std.proofs.Common.{◌≤◌, ◌≡◌, ◌∙◌, sym, subst, arith}
 use Rattle.virtual_log.specs.Truncating.{IsPrefixTrimmed}
+use Rattle.virtual_log.proofs.OneTurn.{later_trans}
 use Rattle.base_engine.specs.Causes.{Blames}
 use Rattle.base_engine.specs.Following.{IsAt}
 use Rattle.base_engine.specs.Trimming.{trim_to}
@@ -14,21 +15,26 @@ pub trim_applied-requires-clause-free : goal.trim_applied-requires-clause-free
 trim_applied-requires-clause-free g c =
     let p = g.L.Law.Rules in
     let r = g.R.Replica in
-    floor_applied p.may p.floor p.shelf g.L.SharedLog.holds (g.L.SharedLog.seen c.play.new.log) c.play.ensures.later.legal c.requires.shown r.state r.spells c.args.nodes (r.shows c.play.new.replica) c.play.ensures.follows c.requires.floor
+    floor_applied p.law g.L.SharedLog.holds (g.L.SharedLog.seen c.play.new.log) c.play.ensures.later.legal c.requires.shown r.state r.spells c.args.nodes (r.shows c.play.new.replica) c.play.ensures.follows c.requires.floor
+
+pub returns-in-Err-trim_applied-clause-later : goal.returns-in-Err-trim_applied-clause-later
+returns-in-Err-trim_applied-clause-later g c =
+    let t = g.L.SharedLog in
+    later_trans g.L.Law.Rules.law (t.seen c.args.log.now) (t.seen c.play.new.log) (t.seen c.trim_applied.new.log) c.play.ensures.later c.trim_applied.ensures.later
 
 pub returns-in-Ok-trim_applied-clause-follows : goal.returns-in-Ok-trim_applied-clause-follows
 returns-in-Ok-trim_applied-clause-follows g c =
     let p = g.L.Law.Rules in
     let t = g.L.SharedLog in
     let r = g.R.Replica in
-    follows_later p.may p.floor p.shelf t.holds r.state r.spells g.met.L.SharedLog.stays (t.seen c.play.new.log) (t.seen c.trim_applied.new.log) (r.shows c.play.new.replica) c.trim_applied.ensures.later c.play.ensures.follows
+    follows_later p.law t.holds r.state r.spells g.met.L.SharedLog.stays (t.seen c.play.new.log) (t.seen c.trim_applied.new.log) (r.shows c.play.new.replica) c.trim_applied.ensures.later c.play.ensures.follows
 
 pub returns-in-Err-trim_applied-clause-follows : goal.returns-in-Err-trim_applied-clause-follows
 returns-in-Err-trim_applied-clause-follows g c =
     let p = g.L.Law.Rules in
     let t = g.L.SharedLog in
     let r = g.R.Replica in
-    follows_later p.may p.floor p.shelf t.holds r.state r.spells g.met.L.SharedLog.stays (t.seen c.play.new.log) (t.seen c.trim_applied.new.log) (r.shows c.play.new.replica) c.trim_applied.ensures.later c.play.ensures.follows
+    follows_later p.law t.holds r.state r.spells g.met.L.SharedLog.stays (t.seen c.play.new.log) (t.seen c.trim_applied.new.log) (r.shows c.play.new.replica) c.trim_applied.ensures.later c.play.ensures.follows
 
 pub returns-in-Ok-trim_applied-clause-any_crash : goal.returns-in-Ok-trim_applied-clause-any_crash
 returns-in-Ok-trim_applied-clause-any_crash g c =
@@ -37,8 +43,8 @@ returns-in-Ok-trim_applied-clause-any_crash g c =
     let r = g.R.Replica in
     let v = r.shows c.play.new.replica in
     let new = t.seen c.trim_applied.new.log in
-    crash_on p.may p.floor p.shelf t.holds r.state r.spells g.met.L.SharedLog.stays (t.seen c.play.new.log) new (r.shows c.args.replica.now) v v c.trim_applied.ensures.later c.play.ensures.forward c.play.ensures.any_crash
-    (crash_at_rest t.holds r.state r.spells new v (follows_later p.may p.floor p.shelf t.holds r.state r.spells g.met.L.SharedLog.stays (t.seen c.play.new.log) new v c.trim_applied.ensures.later c.play.ensures.follows))
+    crash_on p.law t.holds r.state r.spells g.met.L.SharedLog.stays (t.seen c.play.new.log) new (r.shows c.args.replica.now) v v c.trim_applied.ensures.later c.play.ensures.forward c.play.ensures.any_crash
+    (crash_at_rest t.holds r.state r.spells new v (follows_later p.law t.holds r.state r.spells g.met.L.SharedLog.stays (t.seen c.play.new.log) new v c.trim_applied.ensures.later c.play.ensures.follows))
 
 pub returns-in-Err-trim_applied-clause-any_crash : goal.returns-in-Err-trim_applied-clause-any_crash
 returns-in-Err-trim_applied-clause-any_crash g c =
@@ -47,8 +53,8 @@ returns-in-Err-trim_applied-clause-any_crash g c =
     let r = g.R.Replica in
     let v = r.shows c.play.new.replica in
     let new = t.seen c.trim_applied.new.log in
-    crash_on p.may p.floor p.shelf t.holds r.state r.spells g.met.L.SharedLog.stays (t.seen c.play.new.log) new (r.shows c.args.replica.now) v v c.trim_applied.ensures.later c.play.ensures.forward c.play.ensures.any_crash
-    (crash_at_rest t.holds r.state r.spells new v (follows_later p.may p.floor p.shelf t.holds r.state r.spells g.met.L.SharedLog.stays (t.seen c.play.new.log) new v c.trim_applied.ensures.later c.play.ensures.follows))
+    crash_on p.law t.holds r.state r.spells g.met.L.SharedLog.stays (t.seen c.play.new.log) new (r.shows c.args.replica.now) v v c.trim_applied.ensures.later c.play.ensures.forward c.play.ensures.any_crash
+    (crash_at_rest t.holds r.state r.spells new v (follows_later p.law t.holds r.state r.spells g.met.L.SharedLog.stays (t.seen c.play.new.log) new v c.trim_applied.ensures.later c.play.ensures.follows))
 
 pub returns-in-Ok-trim_applied-clause-trims : goal.returns-in-Ok-trim_applied-clause-trims
 returns-in-Ok-trim_applied-clause-trims g c =
@@ -65,7 +71,7 @@ returns-in-Ok-trim_applied-clause-trims g c =
     let same : c.known-end.result ≡ t.reaches c.trim_applied.new.log = c.known-end.ensures.value ∙ (sym c.play.ensures.known ∙ sym c.trim_applied.ensures.known) in
     record {
       played = played;
-      since = more_of p.may p.floor p.shelf old played c.play.ensures.later;
+      since = more_of p.law old played c.play.ensures.later;
       at = subst (λ n. IsAt n v played) same (at_tail a v c.known-end.result played below c.in-Ok.ensures.reaches);
       trimmed = subst (λ x. IsPrefixTrimmed x played (trim_to c.args.nodes v) c.in-Ok-trim_applied.trim new) c.play.ensures.who c.in-Ok-trim_applied.ensures.trims;
     }
@@ -82,7 +88,7 @@ returns-in-Err-trim_applied-clause-blames g c =
     let before = (r.shows c.args.replica.now).faults in
     let after = (r.shows c.play.new.replica).faults in
     let f = c.in-Err-trim_applied.fault in
-    blames_since w old played new before after after f (more_of p.may p.floor p.shelf old played c.play.ensures.later) c.play.ensures.counts (omega arith)
+    blames_since w old played new before after after f (more_of p.law old played c.play.ensures.later) c.play.ensures.counts (omega arith)
     (subst (λ x. Blames x played after f new after) c.play.ensures.who (c.in-Err-trim_applied.ensures.blames after after))
 
 pub returns-in-Err-trim_applied-clause-twice : goal.returns-in-Err-trim_applied-clause-twice

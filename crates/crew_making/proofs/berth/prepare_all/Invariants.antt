@@ -6,7 +6,7 @@ use Rattle.crew_making.proofs.berth.prepare_all.Given as goal
 
 abbrev pub invariant-loop-k : goal.invariant-loop-k
 invariant-loop-k g l = record {
-  logs : AllByRecursion (λ b. IsFreshLog (length g.K.Terms.shelf) b.log) l.berths.items;
+  logs : AllByRecursion (λ b. IsFreshLog (length g.K.Terms.law.shelf) b.log) l.berths.items;
   desks : AllByRecursion (λ b. AreFreshDesks b.desks.items) l.berths.items;
   count : l.count ≡ length l.initial.nodes.items;
   done : length l.berths.items ≡ l.k;

@@ -37,19 +37,19 @@ returns-in-Ok-new-clause-rests g c =
     let size = as_long (λ b. b.replica) (λ n. n.replica) c.in-Ok-prepare_all.berths.items a.nodes.now.items c.in-Ok-prepare_all.ensures.replicas in
     let size' = as_long (λ w. w.seat.node.replica) (λ b. r.shows b.replica) q.result.items c.in-Ok-prepare_all.berths.items q.ensures.replicas in
     let shelf = sym (ap length c.requires.shelf) ∙ (length-map (map g.L.Loglet.view a.cells.items) (λ v. v.servers) ∙ length-map a.cells.items g.L.Loglet.view) in
-    let legal : IsLegal p.may p.floor p.shelf [] = record { least = omega (arith, shelf, c.requires.least); most = omega (arith, shelf, c.requires.most); steps = tt } in
-    subst (λ j. CrewRests p.may p.floor p.shelf r.state r.spells a.lines.now 0 0 j c.in-Ok.looks.items (λ w. w.seat) (λ w. w.desks.items) q.result.items) (sym (ap (λ (f : FabricView). f.journal) c.in-Ok-new.ensures.ok))
-    (crew_rests p.may p.floor p.shelf a.lines.now (replicate 64 0) c.in-Ok.looks.items (all_zero 64) (length-replicate {A = ℕ} 64 0) c.in-Ok.ensures.size c.in-Ok.ensures.none r.state r.spells c.requires.lines.0 (λ w. w.seat) (λ w. w.desks.items) q.result.items
+    let legal : IsLegal p.law [] = record { least = omega (arith, shelf, c.requires.least); most = omega (arith, shelf, c.requires.most); steps = tt } in
+    subst (λ j. CrewRests p.law r.state r.spells a.lines.now 0 0 j c.in-Ok.looks.items (λ w. w.seat) (λ w. w.desks.items) q.result.items) (sym (ap (λ (f : FabricView). f.journal) c.in-Ok-new.ensures.ok))
+    (crew_rests p.law a.lines.now (replicate 64 0) c.in-Ok.looks.items (all_zero 64) (length-replicate {A = ℕ} 64 0) c.in-Ok.ensures.size c.in-Ok.ensures.none r.state r.spells c.requires.lines.0 (λ w. w.seat) (λ w. w.desks.items) q.result.items
     (subst (AreLines a.lines.now c.requires.lines.0) (sym (size' ∙ size)) c.requires.lines.1) legal
-    (subst (λ k. AreNewWorkers (λ who. Sends who p.may [] []) p.floor p.shelf r.state r.spells k (λ w. w.seat) (λ w. w.desks.items) q.result.items) (sym size') q.ensures.workers))
+    (subst (λ k. AreNewWorkers (λ who. record p.law { may = Sends who p.law.may [] [] }) r.state r.spells k (λ w. w.seat) (λ w. w.desks.items) q.result.items) (sym size') q.ensures.workers))
 
 pub returns-in-Ok-new-clause-stands : goal.returns-in-Ok-new-clause-stands
 returns-in-Ok-new-clause-stands g c =
     let p = g.K.Terms in
     let r = g.S.Replica in
     let q = c.seat_all-workers in
-    subst (λ j. CrewStands p.may p.floor p.shelf r.state r.spells j (λ w. w.seat) q.result.items) (sym (ap (λ (f : FabricView). f.journal) c.in-Ok-new.ensures.ok))
-    (new_stands p.may p.floor p.shelf r.state r.spells (length c.in-Ok-prepare_all.berths.items) (λ w. w.seat) (λ w. w.desks.items) q.result.items q.ensures.workers)
+    subst (λ j. CrewStands p.law r.state r.spells j (λ w. w.seat) q.result.items) (sym (ap (λ (f : FabricView). f.journal) c.in-Ok-new.ensures.ok))
+    (new_stands p.law r.state r.spells (length c.in-Ok-prepare_all.berths.items) (λ w. w.seat) (λ w. w.desks.items) q.result.items q.ensures.workers)
 
 pub returns-in-Ok-new-clause-replicas : goal.returns-in-Ok-new-clause-replicas
 returns-in-Ok-new-clause-replicas g c =
@@ -65,7 +65,7 @@ pub returns-in-Ok-new-clause-told : goal.returns-in-Ok-new-clause-told
 returns-in-Ok-new-clause-told g c =
     let p = g.K.Terms in
     let t = c.journal-told in
-    subst (λ j. AreAsTold p.may p.floor p.shelf j c.in-Ok-new.fabric.cells c.in-Ok-new.fabric.register) (ap (λ (f : FabricView). f.journal) c.in-Ok-new.ensures.ok)
+    subst (λ j. AreAsTold p.law j c.in-Ok-new.fabric.cells c.in-Ok-new.fabric.register) (ap (λ (f : FabricView). f.journal) c.in-Ok-new.ensures.ok)
     (record {
       legal = t.ensures.legal;
       shelf_is = t.ensures.shelf;

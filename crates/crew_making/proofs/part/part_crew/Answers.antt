@@ -1,4 +1,4 @@
-use Rattle.std.proofs.Common.{◌≡◌, ◌+◌, ◌++◌, ◌<◌, ◌∷◌, length, map, sym, ap, ◌∙◌, subst, arith}
+use Rattle.std.proofs.Common.{◌≡◌, ◌+◌, ◌++◌, ◌<◌, ◌∷◌, length, map, refl, sym, ap, ◌∙◌, subst, arith}
 use Rattle.std.proofs.lemmas.List.{nil_from_length}
 use Rattle.std.specs.Prelude.{remove}
 use Rattle.turn_scopes.specs.Seats.{SeatOk}
@@ -29,7 +29,7 @@ loop-workers-preserved g c =
       journal = q.ensures.seen ∙ l.invariant.journal;
       same = ap (λ x. map (λ n. r.shows n.replica) x ++ map (λ w. w.seat.node.replica) c.remove-seat.new.self.items) c.push_reserved.ensures.items
           ∙ goes_over (λ n. r.shows n.replica) (λ w. w.seat.node.replica) l.nodes.items l.workers.items c.remove-seat.new.self.items q.result.node w (map (λ w. w.seat.node.replica) c.args.crew.workers.items) q.ensures.replica is l.invariant.same;
-      stands = λ j x at. subst (λ e. SeatOk p.may p.floor p.shelf r.state r.spells e x.seat) (sym q.ensures.seen)
+      stands = λ j x at. subst (λ e. SeatOk p.law r.state r.spells e x.seat) (sym q.ensures.seen)
           (l.invariant.stands (j + 1) x (next_is l.workers.items c.remove-seat.new.self.items w x j is at));
     }
 
@@ -38,9 +38,9 @@ returns-clause-told g c =
     let p = g.K.Terms in
     let l = c.loop-workers in
     let t = c.journal-told in
-    subst (λ e. AreAsTold p.may p.floor p.shelf e (map g.L.Loglet.view c.into_parts.result.cells.items) (g.R.Register.view c.into_parts.result.register)) l.invariant.journal
-    (subst (λ x. AreAsTold p.may p.floor p.shelf l.fabric.journal x (g.R.Register.view c.into_parts.result.register)) (sym c.into_parts.ensures.cells)
-    (subst (λ x. AreAsTold p.may p.floor p.shelf l.fabric.journal l.fabric.cells x) (sym c.into_parts.ensures.register)
+    subst (λ e. AreAsTold p.law e (map g.L.Loglet.view c.into_parts.result.cells.items) (g.R.Register.view c.into_parts.result.register)) l.invariant.journal
+    (subst (λ x. AreAsTold p.law l.fabric.journal x (g.R.Register.view c.into_parts.result.register)) (sym c.into_parts.ensures.cells)
+    (subst (λ x. AreAsTold p.law l.fabric.journal l.fabric.cells x) (sym c.into_parts.ensures.register)
     (record {
       legal = t.ensures.legal;
       shelf_is = t.ensures.shelf;
@@ -61,4 +61,4 @@ returns-clause-nodes g c =
 pub part_within-node-requires-clause-narrows : goal.part_within-node-requires-clause-narrows
 part_within-node-requires-clause-narrows g c =
     let p = g.K.Terms in
-    narrows_alone p.may p.may p.floor p.floor p.shelf (λ _. ⊥) (record { nobody = λ user b. b }) (λ user e h. h) (λ log n h. h)
+    narrows_alone p.law p.law (λ _. ⊥) (record { nobody = λ user b. b }) (record { may = λ user e h. h; floor = λ log n h. h; shelf = refl })

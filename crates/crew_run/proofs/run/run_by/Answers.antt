@@ -13,7 +13,7 @@ tell-crew-requires-clause-eight g c =
 pub tell-crew-requires-clause-floor : goal.tell-crew-requires-clause-floor
 tell-crew-requires-clause-floor g c =
     let size = as_many (λ w. w.seat.node.replica) (λ n. g.S.Replica.shows n.replica) c.in-Ok.crew.workers.items c.args.nodes.items c.in-Ok.ensures.replicas in
-    subst (FloorIs g.K.Terms.floor) (sym size) c.requires.floor
+    subst (FloorIs g.K.Terms.law.floor) (sym size) c.requires.floor
 
 pub part_crew-cells-requires-clause-room : goal.part_crew-cells-requires-clause-room
 part_crew-cells-requires-clause-room g c =
@@ -26,9 +26,9 @@ returns-in-Ok-clause-told g c =
     let r = g.S.Replica in
     let t = c.tell-crew.result.crew in
     let q = c.part_crew-cells in
-    if_ok (FitsGivenBack p.may p.floor p.shelf c.args.lines.now t.fabric.journal (map (λ w. record { seat = w.seat; desks = w.desks.items }) t.workers.items))
+    if_ok (FitsGivenBack p.law c.args.lines.now t.fabric.journal (map (λ w. record { seat = w.seat; desks = w.desks.items }) t.workers.items))
     (RunTold c.args.lines.now (record { cells = map g.L.Loglet.view q.result.cells.items; register = g.R.Register.view q.result.register; disks = map (λ n. (r.shows n.replica).faults) q.new.nodes.items }))
-    (λ o h. run_told p.may p.floor p.shelf c.args.lines.now t.fabric.journal (λ w. w.seat) (λ w. w.desks.items) (λ n. r.shows n.replica) q.new.nodes.items t.workers.items
+    (λ o h. run_told p.law c.args.lines.now t.fabric.journal (λ w. w.seat) (λ w. w.desks.items) (λ n. r.shows n.replica) q.new.nodes.items t.workers.items
     (map g.L.Loglet.view q.result.cells.items) (g.R.Register.view q.result.register) o q.ensures.told q.ensures.nodes h)
     c.tell-crew.result.told c.tell-crew.ensures.told
 
@@ -40,7 +40,7 @@ returns-in-Ok-clause-size g c =
 
 pub returns-in-Ok-clause-cells : goal.returns-in-Ok-clause-cells
 returns-in-Ok-clause-cells g c =
-    same_shelf g.L.Loglet.view c.part_crew-cells.result.cells.items c.args.cells.items g.K.Terms.shelf c.part_crew-cells.ensures.told.shelf_is c.requires.shelf
+    same_shelf g.L.Loglet.view c.part_crew-cells.result.cells.items c.args.cells.items g.K.Terms.law.shelf c.part_crew-cells.ensures.told.shelf_is c.requires.shelf
 
 pub returns-in-Err-clause-cells : goal.returns-in-Err-clause-cells
 returns-in-Err-clause-cells g c = ap (λ x. length x.items) c.in-Err.ensures.parts.0

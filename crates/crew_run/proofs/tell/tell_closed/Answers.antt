@@ -48,13 +48,13 @@ returns-in-Ok-Ok-clause-told g c =
     let asks = on_ok _ c.in-Ok-Ok.is-0 q.ensures.asks in
     let last = in_ok _ c.in-Ok-Ok.is-0 q.ensures.last in
     let legal = q.ensures.legal in
-    let closed = subst (λ l. HasClosed p.may p.floor p.shelf r.state r.spells lines l w.looks.items h.0 ends) (sym asks.seen)
-    (c.reads_change_nothing.ensures lines early asks.more w.looks.items h.0 ends h.2 (own_more 0 early new q.ensures.since asks) (reads_asked asks.more asks.calls) (subst (λ l. IsLegal p.may p.floor p.shelf l) asks.seen legal)) in
+    let closed = subst (λ l. HasClosed p.law r.state r.spells lines l w.looks.items h.0 ends) (sym asks.seen)
+    (c.reads_change_nothing.ensures lines early asks.more w.looks.items h.0 ends h.2 (own_more 0 early new q.ensures.since asks) (reads_asked asks.more asks.calls) (subst (λ l. IsLegal p.law l) asks.seen legal)) in
     let rows = in_ok _ c.in-Ok-Ok.is-1 c.rows_of-rows.ensures.rows in
     let rows' = subst (λ l. AreRows lines (map (λ x. record { seat = x.seat; desks = x.desks.items }) l) w.looks.items c.in-Ok-Ok.rows) c.as_slice.ensures.value (subst (λ l. AreRows lines (map (λ x. record { seat = x.seat; desks = x.desks.items }) c.as_slice.result.now) l c.in-Ok-Ok.rows) c.as_slice-2.ensures.value rows) in
     let long : length ends ≡ length w.workers.items = length-map w.workers.items (λ x. record { seat = x.seat; desks = x.desks.items }) in
-    let rule = subst (FloorIs p.floor) (sym long) c.requires.floor in
-    let ended : (yard : Shown) → IsGivenBack p.may p.floor p.shelf new ends o.chain yard → IsRegisterAsTold (journal.state_of new).register yard.register → (map (λ t. t.line) (played_of lines o.rows w.looks.items) ≡ lines) × RunEnded (played_of lines o.rows w.looks.items) o yard = λ yard back told.
+    let rule = subst (FloorIs p.law.floor) (sym long) c.requires.floor in
+    let ended : (yard : Shown) → IsGivenBack p.law new ends o.chain yard → IsRegisterAsTold (journal.state_of new).register yard.register → (map (λ t. t.line) (played_of lines o.rows w.looks.items) ≡ lines) × RunEnded (played_of lines o.rows w.looks.items) o yard = λ yard back told.
     c.what_closed_has_ended.ensures c.requires.run lines new w.looks.items h.0 ends o yard c.requires.may rule closed rows' (sym h.1) back told
     (c.the_chain_is_registered.ensures early c.in-Ok-Ok.last q.result.fabric yard.register o legal asks last c.journal-told.ensures.register c.journal-told.ensures.register_runs told back.register_runs refl refl refl) in
     record {
@@ -63,7 +63,7 @@ returns-in-Ok-Ok-clause-told g c =
           let reads = reads_asked asks.more asks.calls in
           sym h.1 ∙ c.a_calm_run_has_seen_all.ensures c.requires.run.low early asks.more ends h.0 o.chain yard
           (subst (λ n. SeesAll early (λ (w : WorkerEnd). w.seat) ends n) (sym h.1) c.requires.sees) h.2.front reads
-          (subst (λ l. IsGivenBack p.may p.floor p.shelf l ends o.chain yard) asks.seen back) quiet;
+          (subst (λ l. IsGivenBack p.law l ends o.chain yard) asks.seen back) quiet;
       extended = λ yard back quiet.
           subst (λ (k : Chain). GoesTo k (count_by (λ r. is_some (version_made r.outcome)) o.rows)) (sym last.told)
           (c.each_segment_is_told.ensures lines o.rows new w.looks.items h.0 ends closed rows' (c.a_calm_journal_tells_no_fault.ensures new ends o.chain yard back quiet));
@@ -78,11 +78,11 @@ returns-in-Ok-Ok-clause-stands g c =
     let p = g.K.Terms in
     let r = g.S.Replica in
     let q = c.read_last-fabric in
-    stands_on p.may p.floor p.shelf r.state r.spells 0 c.args.crew.fabric.journal q.result.fabric.journal (λ x. x.seat) c.args.crew.workers.items q.ensures.since q.ensures.legal c.requires.stands
+    stands_on p.law r.state r.spells 0 c.args.crew.fabric.journal q.result.fabric.journal (λ x. x.seat) c.args.crew.workers.items q.ensures.since q.ensures.legal c.requires.stands
 
 pub returns-in_default-clause-stands : goal.returns-in_default-clause-stands
 returns-in_default-clause-stands g c =
     let p = g.K.Terms in
     let r = g.S.Replica in
     let q = c.read_last-fabric in
-    stands_on p.may p.floor p.shelf r.state r.spells 0 c.args.crew.fabric.journal q.result.fabric.journal (λ x. x.seat) c.args.crew.workers.items q.ensures.since q.ensures.legal c.requires.stands
+    stands_on p.law r.state r.spells 0 c.args.crew.fabric.journal q.result.fabric.journal (λ x. x.seat) c.args.crew.workers.items q.ensures.since q.ensures.legal c.requires.stands

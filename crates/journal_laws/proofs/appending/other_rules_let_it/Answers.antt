@@ -7,4 +7,4 @@ pub returns : goal.returns
 returns g c =
     let p = g.P.Rules in
     let q = g.Q.Rules in
-    λ events legal may floor shelf. subst (λ s. IsLegal q.may q.floor s events) (sym shelf) (legal_by p.may q.may p.floor q.floor p.shelf events legal may floor)
+    λ events legal may floor shelf. subst (λ s. IsLegal (record q.law { shelf = s }) events) (sym shelf) (legal_by p.law q.law.may q.law.floor events legal may floor)

@@ -17,8 +17,8 @@ returns-in-At-clause-asked g c =
     let new = c.apply-answer.new.self in
     let adds = subst (λ (x : FabricAnswer). Adds old.journal c.args.who ReadChain x new.journal) c.in-At.is c.apply-answer.ensures.adds in
     let told = c.journal-after.ensures.register in (
-      gave p.may p.floor p.shelf c.args.who c.in-At.version c.in-At.chain old new adds c.apply-answer.ensures.legal told,
-      up_then p.may p.floor p.shelf c.args.who c.in-At.version c.in-At.chain old new adds told,
+      gave p.law c.args.who c.in-At.version c.in-At.chain old new adds c.apply-answer.ensures.legal told,
+      up_then p.law c.args.who c.in-At.version c.in-At.chain old new adds told,
     )
 
 pub returns-in-Down-clause-watches : goal.returns-in-Down-clause-watches
@@ -31,7 +31,7 @@ returns-in-Down-clause-asked g c =
     let p = g.P.Rules in
     let old = c.args.fabric.now in
     let new = c.apply-answer.new.self in
-    stays_down p.may p.floor p.shelf c.args.who old new
+    stays_down p.law c.args.who old new
     (subst (λ (x : FabricAnswer). Adds old.journal c.args.who ReadChain x new.journal) c.in-Down.is c.apply-answer.ensures.adds)
     c.apply-answer.ensures.legal c.journal-before.ensures.register c.journal-after.ensures.register
 

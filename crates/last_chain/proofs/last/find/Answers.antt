@@ -7,5 +7,5 @@ pub returns : goal.returns
 returns g c =
     let p = g.P.Rules in
     let j = c.journal.ensures in
-    found p.may p.floor p.shelf c.in_ok-version.version c.in_ok-version.chain c.args.fabric.now c.requires.down c.requires.opened
+    found p.law c.in_ok-version.version c.in_ok-version.chain c.args.fabric.now c.requires.down c.requires.opened
     (c.in_ok-version.ensures ∙ ap given_last j.value) j.legal j.register_runs j.register

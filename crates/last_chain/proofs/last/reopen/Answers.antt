@@ -15,7 +15,7 @@ returns-in-Set-clause-opened g c =
     let p = g.P.Rules in
     let old = c.args.fabric.now in
     let new = c.apply-answer.new.self in
-    opened p.may p.floor p.shelf c.args.who 0 c.in-Set.field-0 old new
+    opened p.law c.args.who 0 c.in-Set.field-0 old new
     (subst (λ (x : FabricAnswer). Adds old.journal c.args.who (MendMeta 0) x new.journal) c.in-Set.is c.apply-answer.ensures.adds)
     c.journal-after.ensures.register
 

@@ -5,4 +5,4 @@ use Rattle.legal_journal.proofs.laws.entries_stay.Goals as goal
 
 pub returns : goal.returns
 returns g c = λ early late pos e h s.
-    stands_on (state_of early) (state_of (early ++ late)) pos e (goes_on g.P.Rules.may g.P.Rules.floor g.P.Rules.shelf early late h) s
+    stands_on (state_of early) (state_of (early ++ late)) pos e (goes_on g.P.Rules.law early late h) s

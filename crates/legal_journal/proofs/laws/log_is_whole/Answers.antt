@@ -5,4 +5,4 @@ use Rattle.legal_journal.proofs.laws.log_is_whole.Goals as goal
 
 pub returns : goal.returns
 returns g c = λ events pos h up low.
-    whole (length g.P.Rules.shelf) (state_of events) pos (sound g.P.Rules.may g.P.Rules.floor g.P.Rules.shelf events h) up low
+    whole (length g.P.Rules.law.shelf) (state_of events) pos (sound g.P.Rules.law events h) up low

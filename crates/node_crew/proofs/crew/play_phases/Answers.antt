@@ -13,7 +13,7 @@ not_above : (n : ℕ) → n < n → ⊥
 not_above n h = absurd (omega (arith, h))
 
 pub play_phase-now-requires-clause-floor : goal.play_phase-now-requires-clause-floor
-play_phase-now-requires-clause-floor g c = subst (FloorIs g.K.Terms.floor) (sym c.loop-from.invariant.size) c.requires.floor
+play_phase-now-requires-clause-floor g c = subst (FloorIs g.K.Terms.law.floor) (sym c.loop-from.invariant.size) c.requires.floor
 
 pub play_phase-now-requires-clause-now : goal.play_phase-now-requires-clause-now
 play_phase-now-requires-clause-now g c =
@@ -25,8 +25,8 @@ play_phase-now-requires-clause-now g c =
     let line = c.index-lines-from.result in
     let at : slice_get lines l.from ≡ Some line = slice_get_read lines (length lines) l.from line refl c.loop-from-test.true c.index-lines-from.is in
     let ends : EndsPhase lines l.from c.end_of_phase-to.result line.phase = subst (λ (x : NamedLine). EndsPhase lines l.from c.end_of_phase-to.result x.phase) (sym c.index-lines-from.is) c.end_of_phase-to.ensures.ends in
-    crew_begins p.may p.floor p.shelf r.state r.spells lines (λ w. w.seat) (λ w. w.desks.items) w.workers.items l.from c.end_of_phase-to.result line.phase w.fabric.journal w.looks.items c.end_of_phase-to.ensures.range.0 ends
-    (crew_comes p.may p.floor p.shelf r.state r.spells lines (λ w. w.seat) (λ w. w.desks.items) w.workers.items l.from l.invariant.rests.0 w.fabric.journal w.looks.items line at l.invariant.rests.1)
+    crew_begins p.law r.state r.spells lines (λ w. w.seat) (λ w. w.desks.items) w.workers.items l.from c.end_of_phase-to.result line.phase w.fabric.journal w.looks.items c.end_of_phase-to.ensures.range.0 ends
+    (crew_comes p.law r.state r.spells lines (λ w. w.seat) (λ w. w.desks.items) w.workers.items l.from l.invariant.rests.0 w.fabric.journal w.looks.items line at l.invariant.rests.1)
 
 pub loop-from-smaller : goal.loop-from-smaller
 loop-from-smaller g c =
@@ -53,11 +53,11 @@ loop-from-preserved g c =
     let w = q.result.crew in
     let to = c.end_of_phase-to.result in
     let at = on_ok _ c.in-Ok.is q.ensures.goes in
-    let all = subst (λ k. CrewAt p.may p.floor p.shelf r.state r.spells lines l.from to k w.fabric.journal w.looks.items (λ w. w.seat) (λ w. w.desks.items) w.workers.items) (sym q.ensures.size) at in
+    let all = subst (λ k. CrewAt p.law r.state r.spells lines l.from to k w.fabric.journal w.looks.items (λ w. w.seat) (λ w. w.desks.items) w.workers.items) (sym q.ensures.size) at in
     record {
       high = c.end_of_phase-to.ensures.range.1;
       size = q.ensures.size ∙ l.invariant.size;
-      rests = (all.course.phase + 1, crew_ends p.may p.floor p.shelf r.state r.spells lines (λ w. w.seat) (λ w. w.desks.items) w.workers.items l.from to w.fabric.journal w.looks.items all);
+      rests = (all.course.phase + 1, crew_ends p.law r.state r.spells lines (λ w. w.seat) (λ w. w.desks.items) w.workers.items l.from to w.fabric.journal w.looks.items all);
       stands = q.ensures.stands;
     }
 
@@ -69,4 +69,4 @@ returns-clause-played g c =
     let l = c.loop-from in
     let w = l.crew in
     let over : l.from ≡ length lines = omega (arith, l.invariant.high, c.loop-from-test.false) in
-    (l.invariant.rests.0, subst (λ k. CrewRests p.may p.floor p.shelf r.state r.spells lines k l.invariant.rests.0 w.fabric.journal w.looks.items (λ w. w.seat) (λ w. w.desks.items) w.workers.items) over l.invariant.rests.1)
+    (l.invariant.rests.0, subst (λ k. CrewRests p.law r.state r.spells lines k l.invariant.rests.0 w.fabric.journal w.looks.items (λ w. w.seat) (λ w. w.desks.items) w.workers.items) over l.invariant.rests.1)

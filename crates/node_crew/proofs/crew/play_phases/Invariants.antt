@@ -6,8 +6,8 @@ abbrev pub invariant-loop-from : goal.invariant-loop-from
 invariant-loop-from g l = record {
   high : l.from ≤ length l.lines;
   size : length l.crew.workers.items ≡ length l.initial.crew.workers.items;
-  rests : (phase : ℕ) × CrewRests g.K.Terms.may g.K.Terms.floor g.K.Terms.shelf g.S.Replica.state g.S.Replica.spells l.lines l.from phase l.crew.fabric.journal l.crew.looks.items (λ w. w.seat) (λ w. w.desks.items) l.crew.workers.items;
-  stands : CrewStands g.K.Terms.may g.K.Terms.floor g.K.Terms.shelf g.S.Replica.state g.S.Replica.spells l.crew.fabric.journal (λ w. w.seat) l.crew.workers.items;
+  rests : (phase : ℕ) × CrewRests g.K.Terms.law g.S.Replica.state g.S.Replica.spells l.lines l.from phase l.crew.fabric.journal l.crew.looks.items (λ w. w.seat) (λ w. w.desks.items) l.crew.workers.items;
+  stands : CrewStands g.K.Terms.law g.S.Replica.state g.S.Replica.spells l.crew.fabric.journal (λ w. w.seat) l.crew.workers.items;
 }
 
 abbrev pub decreases-loop-from : goal.decreases-loop-from

@@ -30,12 +30,12 @@ returns-in-Logged-clause-goes g c = λ lines home nodes course counts from at no
     let new = c.log_line.result.access.fabric.journal in
     let s = c.in-Logged.session in
     on_ok4 c.log_line.result.answer c.log_line.ensures.adds c.log_line.ensures.kept c.log_line.ensures.logs c.log_line.ensures.worker (λ adds kept logs now.
-    line_logged p.may p.floor p.shelf r.state r.spells lines home nodes course counts c.args.looks.now.items w.seat.who from c.args.i c.args.line.now s c.in-Logged.rank c.in-Logged.command
+    line_logged p.law r.state r.spells lines home nodes course counts c.args.looks.now.items w.seat.who from c.args.i c.args.line.now s c.in-Logged.rank c.in-Logged.command
     w.seat c.log_line.result.part.seat w.desks.items c.log_line.result.part.desks.items new u.lines_are u.least u.most at node phase c.in-Logged.is u.ok u.worker
     (subst (λ j. OwnSince w.seat.who j new) (sym u.journal_is) (left_own c.log_line.ensures.left))
     (subst (λ j. Unsealed j new) (sym u.journal_is) (left_unsealed c.log_line.ensures.left))
     (subst (λ j. OwnAdds w.seat.who IsOfSessions j new) (sym u.journal_is) adds) kept.high
-    (subst (λ j. Logs p.may p.floor p.shelf (node_of w.seat j) (node_of c.log_line.result.part.seat new) s.id w.desks.items c.log_line.result.part.desks.items) (sym u.journal_is) logs)
+    (subst (λ j. Logs p.law (node_of w.seat j) (node_of c.log_line.result.part.seat new) s.id w.desks.items c.log_line.result.part.desks.items) (sym u.journal_is) logs)
     now)
 
 pub returns-in-Logged-clause-who : goal.returns-in-Logged-clause-who
@@ -60,22 +60,22 @@ returns-in-Look-clause-goes g c = λ lines home nodes course counts from at node
     on_ok k.result.answer k.ensures.looks (λ kept.
     let look = kept.0 in
     let since = left_own q.ensures.left in
-    let now : WorkerOk p.may p.floor p.shelf r.state r.spells w.seat.who new seat q.result.part.desks.items =
+    let now : WorkerOk p.law r.state r.spells w.seat.who new seat q.result.part.desks.items =
     in_ok _ kept.1 q.ensures.worker in
-    let now' : WorkerOk p.may p.floor p.shelf r.state r.spells w.seat.who new seat w.desks.items = subst (λ ds. WorkerOk p.may p.floor p.shelf r.state r.spells w.seat.who new seat ds.items) same now in
+    let now' : WorkerOk p.law r.state r.spells w.seat.who new seat w.desks.items = subst (λ ds. WorkerOk p.law r.state r.spells w.seat.who new seat ds.items) same now in
     let high = (in_ok _ kept.1 q.ensures.kept).high in
     let adds = in_ok _ kept.1 q.ensures.adds in
     let looks_it = in_ok _ kept.1 q.ensures.looks in
-    let went = line_looked p.may p.floor p.shelf r.state r.spells c.requires.run lines home nodes course counts looks w.seat.who from c.args.i c.args.line.now s c.in-Look.query d.0 look w.seat seat w.desks.items new
+    let went = line_looked p.law r.state r.spells c.requires.run lines home nodes course counts looks w.seat.who from c.args.i c.args.line.now s c.in-Look.query d.0 look w.seat seat w.desks.items new
     u.lines_are u.least u.most u.begins at node phase c.in-Look.is u.ok u.worker
     (subst (λ j. OwnSince w.seat.who j new) (sym u.journal_is) since)
     (subst (λ j. Unsealed j new) (sym u.journal_is) (left_unsealed q.ensures.left))
     (subst (λ j. OwnAdds w.seat.who IsOfSessions j new) (sym u.journal_is) adds) high d.1
-    (subst (λ j. Looks (OwnWithin w.seat.who p.may (sent_by w.desks.items)) p.floor p.shelf (node_of w.seat j) (node_of seat new) d.0 c.in-Look.query look) (sym u.journal_is) (looks_it d.0 d.1)) now' in
-    subst (λ l. LineWent p.may p.floor p.shelf r.state r.spells lines home nodes course counts looks l w.seat.who from (c.args.i + 1) k.result.access.fabric.journal k.result.part.seat k.result.part.desks.items) (sym kept.2)
-    (subst (λ x. LineWent p.may p.floor p.shelf r.state r.spells lines home nodes course counts looks (slice_set looks c.args.i (Some look)) w.seat.who from (c.args.i + 1) k.result.access.fabric.journal x.seat x.desks.items) (sym k.ensures.part)
-    (subst (λ f. LineWent p.may p.floor p.shelf r.state r.spells lines home nodes course counts looks (slice_set looks c.args.i (Some look)) w.seat.who from (c.args.i + 1) f.fabric.journal seat q.result.part.desks.items) (sym k.ensures.access)
-    (subst (λ ds. LineWent p.may p.floor p.shelf r.state r.spells lines home nodes course counts looks (slice_set looks c.args.i (Some look)) w.seat.who from (c.args.i + 1) new seat ds.items) (sym same) went))))
+    (subst (λ j. Looks (record p.law { may = OwnWithin w.seat.who p.law.may (sent_by w.desks.items) }) (node_of w.seat j) (node_of seat new) d.0 c.in-Look.query look) (sym u.journal_is) (looks_it d.0 d.1)) now' in
+    subst (λ l. LineWent p.law r.state r.spells lines home nodes course counts looks l w.seat.who from (c.args.i + 1) k.result.access.fabric.journal k.result.part.seat k.result.part.desks.items) (sym kept.2)
+    (subst (λ x. LineWent p.law r.state r.spells lines home nodes course counts looks (slice_set looks c.args.i (Some look)) w.seat.who from (c.args.i + 1) k.result.access.fabric.journal x.seat x.desks.items) (sym k.ensures.part)
+    (subst (λ f. LineWent p.law r.state r.spells lines home nodes course counts looks (slice_set looks c.args.i (Some look)) w.seat.who from (c.args.i + 1) f.fabric.journal seat q.result.part.desks.items) (sym k.ensures.access)
+    (subst (λ ds. LineWent p.law r.state r.spells lines home nodes course counts looks (slice_set looks c.args.i (Some look)) w.seat.who from (c.args.i + 1) new seat ds.items) (sym same) went))))
 
 pub returns-in-Look-clause-who : goal.returns-in-Look-clause-who
 returns-in-Look-clause-who g c = ap (λ x. x.seat.who) c.keep_look.ensures.part ∙ c.look_line-looked.ensures.left.who

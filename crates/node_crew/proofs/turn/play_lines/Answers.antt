@@ -24,7 +24,7 @@ loop-i-init g c =
       who = c.requires.node;
       whose = c.requires.who;
       grows = grows-none a.lone.fabric.journal;
-      goes = λ home nodes course counts u ends. none_went p.may p.floor p.shelf r.state r.spells a.lines.now home nodes course counts a.looks.now.items a.node a.from a.lone.fabric.journal a.worker.seat a.worker.desks.items u;
+      goes = λ home nodes course counts u ends. none_went p.law r.state r.spells a.lines.now home nodes course counts a.looks.now.items a.node a.from a.lone.fabric.journal a.worker.seat a.worker.desks.items u;
     }
 
 pub play_line-played-requires-clause-worker : goal.play_line-played-requires-clause-worker
@@ -33,8 +33,8 @@ play_line-played-requires-clause-worker g c =
     let r = g.S.Replica in
     let t = c.requires.playing in
     let w = c.loop-i.invariant.goes t.home t.nodes t.course t.counts t.now t.ends in
-    subst (λ k. WorkerOk p.may p.floor p.shelf r.state r.spells k c.loop-i.lone.fabric.journal c.loop-i.worker.seat c.loop-i.worker.desks.items) (sym c.loop-i.invariant.who)
-    (subst (λ j. WorkerOk p.may p.floor p.shelf r.state r.spells c.args.node j c.loop-i.worker.seat c.loop-i.worker.desks.items) w.journal_is w.worker.ok)
+    subst (λ k. WorkerOk p.law r.state r.spells k c.loop-i.lone.fabric.journal c.loop-i.worker.seat c.loop-i.worker.desks.items) (sym c.loop-i.invariant.who)
+    (subst (λ j. WorkerOk p.law r.state r.spells c.args.node j c.loop-i.worker.seat c.loop-i.worker.desks.items) w.journal_is w.worker.ok)
 
 pub play_line-played-requires-clause-next : goal.play_line-played-requires-clause-next
 play_line-played-requires-clause-next g c =
@@ -44,11 +44,11 @@ play_line-played-requires-clause-next g c =
     let l = c.loop-i in
     let t = c.requires.playing in
     let w = l.invariant.goes t.home t.nodes t.course t.counts t.now t.ends in
-    let u = under_way p.may p.floor p.shelf r.state r.spells a.lines.now t.home t.nodes t.course t.counts a.looks.now.items a.node a.from l.looks.items l.i a.lone.fabric.journal l.lone.fabric.journal a.worker.seat l.worker.seat a.worker.desks.items l.worker.desks.items t.now w in
+    let u = under_way p.law r.state r.spells a.lines.now t.home t.nodes t.course t.counts a.looks.now.items a.node a.from l.looks.items l.i a.lone.fabric.journal l.lone.fabric.journal a.worker.seat l.worker.seat a.worker.desks.items l.worker.desks.items t.now w in
     let line = c.index-lines-i.result in
     let at = slice_get_read a.lines.now (length a.lines.now) l.i line refl (omega (arith, c.loop-i-test.true, c.requires.range.1)) c.index-lines-i.is in
     let own = eqb-true line.node a.node (sym c.eq.ensures ∙ c.if-eq.true) in
-    line_next p.may p.floor p.shelf r.state r.spells a.lines.now t.home t.nodes w.course w.sent l.looks.items a.node a.from l.i line l.lone.fabric.journal l.worker.seat l.worker.desks.items at own u
+    line_next p.law r.state r.spells a.lines.now t.home t.nodes w.course w.sent l.looks.items a.node a.from l.i line l.lone.fabric.journal l.worker.seat l.worker.desks.items at own u
 
 pub play_line-played-requires-clause-can : goal.play_line-played-requires-clause-can
 play_line-played-requires-clause-can g c =
@@ -58,12 +58,12 @@ play_line-played-requires-clause-can g c =
     let l = c.loop-i in
     let t = c.requires.playing in
     let w = l.invariant.goes t.home t.nodes t.course t.counts t.now t.ends in
-    let u = under_way p.may p.floor p.shelf r.state r.spells a.lines.now t.home t.nodes t.course t.counts a.looks.now.items a.node a.from l.looks.items l.i a.lone.fabric.journal l.lone.fabric.journal a.worker.seat l.worker.seat a.worker.desks.items l.worker.desks.items t.now w in
+    let u = under_way p.law r.state r.spells a.lines.now t.home t.nodes t.course t.counts a.looks.now.items a.node a.from l.looks.items l.i a.lone.fabric.journal l.lone.fabric.journal a.worker.seat l.worker.seat a.worker.desks.items l.worker.desks.items t.now w in
     let line = c.index-lines-i.result in
     let at = slice_get_read a.lines.now (length a.lines.now) l.i line refl (omega (arith, c.loop-i-test.true, c.requires.range.1)) c.index-lines-i.is in
     let own = eqb-true line.node a.node (sym c.eq.ensures ∙ c.if-eq.true) in
     subst (λ k. CanPlay k l.lone.fabric.journal l.worker.seat) (sym l.invariant.who)
-    (can_play p.may p.floor p.shelf r.state r.spells a.lines.now t.home t.nodes w.course w.sent l.looks.items a.node a.from l.i line l.lone.fabric.journal l.worker.seat l.worker.desks.items at own u)
+    (can_play p.law r.state r.spells a.lines.now t.home t.nodes w.course w.sent l.looks.items a.node a.from l.i line l.lone.fabric.journal l.worker.seat l.worker.desks.items at own u)
 
 pub play_line-played-requires-clause-few : goal.play_line-played-requires-clause-few
 play_line-played-requires-clause-few g c =
@@ -75,7 +75,7 @@ pub play_line-played-requires-clause-floor : goal.play_line-played-requires-clau
 play_line-played-requires-clause-floor g c =
     let t = c.requires.playing in
     let w = c.loop-i.invariant.goes t.home t.nodes t.course t.counts t.now t.ends in
-    subst (FloorIs g.K.Terms.floor) (t.now.worker.nodes_is ∙ sym w.worker.nodes_is) c.requires.floor
+    subst (FloorIs g.K.Terms.law.floor) (t.now.worker.nodes_is ∙ sym w.worker.nodes_is) c.requires.floor
 
 pub play_line-played-requires-clause-node : goal.play_line-played-requires-clause-node
 play_line-played-requires-clause-node g c =
@@ -89,7 +89,7 @@ play_line-played-requires-clause-sends g c =
     let line = c.index-lines-i.result in
     let at = slice_get_read a.lines.now (length a.lines.now) l.i line refl (omega (arith, c.loop-i-test.true, c.requires.range.1)) c.index-lines-i.is in
     let own = eqb-true line.node a.node (sym c.eq.ensures ∙ c.if-eq.true) in
-    subst (λ k. CanSend g.K.Terms.may k line.asks) (own ∙ sym l.invariant.who) (c.requires.sends l.i line at)
+    subst (λ k. CanSend g.K.Terms.law.may k line.asks) (own ∙ sym l.invariant.who) (c.requires.sends l.i line at)
 
 pub play_line-played-requires-clause-there : goal.play_line-played-requires-clause-there
 play_line-played-requires-clause-there g c =
@@ -117,15 +117,15 @@ loop-i-preserved g c =
             grows = subst (λ f. Grows a.lone.fabric.journal f.fabric.journal) (sym b.lone-is) (grows-both a.lone.fabric.journal l.lone.fabric.journal q.result.access.fabric.journal l.invariant.grows q.ensures.grows);
             goes = λ home nodes course counts u ends.
                 let w = l.invariant.goes home nodes course counts u ends in
-                let now = under_way p.may p.floor p.shelf r.state r.spells a.lines.now home nodes course counts a.looks.now.items a.node a.from l.looks.items l.i a.lone.fabric.journal l.lone.fabric.journal a.worker.seat l.worker.seat a.worker.desks.items l.worker.desks.items u w in
+                let now = under_way p.law r.state r.spells a.lines.now home nodes course counts a.looks.now.items a.node a.from l.looks.items l.i a.lone.fabric.journal l.lone.fabric.journal a.worker.seat l.worker.seat a.worker.desks.items l.worker.desks.items u w in
                 let phase = phase_is a.lines.now a.from a.to l.i course.phase line u.begins ends l.invariant.low c.loop-i-test.true at ∙ sym w.turn.phase in
-                let there = subst (λ k. IsUnderWay p.may p.floor p.shelf r.state r.spells a.lines.now home nodes w.course w.sent l.looks.items k a.from l.i l.lone.fabric.journal l.worker.seat l.worker.desks.items) (sym l.invariant.who) now in
+                let there = subst (λ k. IsUnderWay p.law r.state r.spells a.lines.now home nodes w.course w.sent l.looks.items k a.from l.i l.lone.fabric.journal l.worker.seat l.worker.desks.items) (sym l.invariant.who) now in
                 let went = on_ok _ b.in-Ok.is (q.ensures.goes a.lines.now home nodes w.course w.sent a.from at (own ∙ sym l.invariant.who) phase there) in
-                let here = subst (λ k. LineWent p.may p.floor p.shelf r.state r.spells a.lines.now home nodes w.course w.sent l.looks.items q.new.looks.items k a.from (l.i + 1) q.result.access.fabric.journal q.result.part.seat q.result.part.desks.items) l.invariant.who went in
-                let both = then_went p.may p.floor p.shelf r.state r.spells a.lines.now home nodes course counts a.looks.now.items a.node a.from l.looks.items q.new.looks.items l.i l.lone.fabric.journal q.result.access.fabric.journal l.worker.seat q.result.part.seat l.worker.desks.items q.result.part.desks.items w here in
-                subst (λ x. LineWent p.may p.floor p.shelf r.state r.spells a.lines.now home nodes course counts a.looks.now.items x.items a.node a.from (l.i + 1) c.if-eq.lone.fabric.journal c.if-eq.worker.seat c.if-eq.worker.desks.items) (sym b.looks-is)
-                (subst (λ x. LineWent p.may p.floor p.shelf r.state r.spells a.lines.now home nodes course counts a.looks.now.items q.new.looks.items a.node a.from (l.i + 1) x.fabric.journal c.if-eq.worker.seat c.if-eq.worker.desks.items) (sym b.lone-is)
-                (subst (λ x. LineWent p.may p.floor p.shelf r.state r.spells a.lines.now home nodes course counts a.looks.now.items q.new.looks.items a.node a.from (l.i + 1) q.result.access.fabric.journal x.seat x.desks.items) (sym b.worker-is) both));
+                let here = subst (λ k. LineWent p.law r.state r.spells a.lines.now home nodes w.course w.sent l.looks.items q.new.looks.items k a.from (l.i + 1) q.result.access.fabric.journal q.result.part.seat q.result.part.desks.items) l.invariant.who went in
+                let both = then_went p.law r.state r.spells a.lines.now home nodes course counts a.looks.now.items a.node a.from l.looks.items q.new.looks.items l.i l.lone.fabric.journal q.result.access.fabric.journal l.worker.seat q.result.part.seat l.worker.desks.items q.result.part.desks.items w here in
+                subst (λ x. LineWent p.law r.state r.spells a.lines.now home nodes course counts a.looks.now.items x.items a.node a.from (l.i + 1) c.if-eq.lone.fabric.journal c.if-eq.worker.seat c.if-eq.worker.desks.items) (sym b.looks-is)
+                (subst (λ x. LineWent p.law r.state r.spells a.lines.now home nodes course counts a.looks.now.items q.new.looks.items a.node a.from (l.i + 1) x.fabric.journal c.if-eq.worker.seat c.if-eq.worker.desks.items) (sym b.lone-is)
+                (subst (λ x. LineWent p.law r.state r.spells a.lines.now home nodes course counts a.looks.now.items q.new.looks.items a.node a.from (l.i + 1) q.result.access.fabric.journal x.seat x.desks.items) (sym b.worker-is) both));
           }
       | else-eq b ↦
           let other : (line.node == a.node) ≡ false = sym c.eq.ensures ∙ b.if-eq.false in
@@ -137,10 +137,10 @@ loop-i-preserved g c =
             grows = subst (λ f. Grows a.lone.fabric.journal f.fabric.journal) (sym b.lone-is) l.invariant.grows;
             goes = λ home nodes course counts u ends.
                 let w = l.invariant.goes home nodes course counts u ends in
-                let by = passed_by p.may p.floor p.shelf r.state r.spells a.lines.now home nodes course counts a.looks.now.items a.node a.from l.looks.items l.i line l.lone.fabric.journal l.worker.seat l.worker.desks.items at other w in
-                subst (λ x. LineWent p.may p.floor p.shelf r.state r.spells a.lines.now home nodes course counts a.looks.now.items x.items a.node a.from (l.i + 1) c.if-eq.lone.fabric.journal c.if-eq.worker.seat c.if-eq.worker.desks.items) (sym b.looks-is)
-                (subst (λ x. LineWent p.may p.floor p.shelf r.state r.spells a.lines.now home nodes course counts a.looks.now.items l.looks.items a.node a.from (l.i + 1) x.fabric.journal c.if-eq.worker.seat c.if-eq.worker.desks.items) (sym b.lone-is)
-                (subst (λ x. LineWent p.may p.floor p.shelf r.state r.spells a.lines.now home nodes course counts a.looks.now.items l.looks.items a.node a.from (l.i + 1) l.lone.fabric.journal x.seat x.desks.items) (sym b.worker-is) by));
+                let by = passed_by p.law r.state r.spells a.lines.now home nodes course counts a.looks.now.items a.node a.from l.looks.items l.i line l.lone.fabric.journal l.worker.seat l.worker.desks.items at other w in
+                subst (λ x. LineWent p.law r.state r.spells a.lines.now home nodes course counts a.looks.now.items x.items a.node a.from (l.i + 1) c.if-eq.lone.fabric.journal c.if-eq.worker.seat c.if-eq.worker.desks.items) (sym b.looks-is)
+                (subst (λ x. LineWent p.law r.state r.spells a.lines.now home nodes course counts a.looks.now.items l.looks.items a.node a.from (l.i + 1) x.fabric.journal c.if-eq.worker.seat c.if-eq.worker.desks.items) (sym b.lone-is)
+                (subst (λ x. LineWent p.law r.state r.spells a.lines.now home nodes course counts a.looks.now.items l.looks.items a.node a.from (l.i + 1) l.lone.fabric.journal x.seat x.desks.items) (sym b.worker-is) by));
           }
     ]
 
@@ -151,7 +151,7 @@ returns-clause-goes g c = λ home nodes course counts u ends.
     let a = c.args in
     let l = c.loop-i in
     let over : l.i ≡ a.to = omega (arith, l.invariant.high, c.loop-i-test.false) in
-    subst (λ k. LineWent p.may p.floor p.shelf r.state r.spells a.lines.now home nodes course counts a.looks.now.items l.looks.items a.node a.from k l.lone.fabric.journal l.worker.seat l.worker.desks.items) over
+    subst (λ k. LineWent p.law r.state r.spells a.lines.now home nodes course counts a.looks.now.items l.looks.items a.node a.from k l.lone.fabric.journal l.worker.seat l.worker.desks.items) over
     (l.invariant.goes home nodes course counts u ends)
 
 pub returns-clause-stands : goal.returns-clause-stands
@@ -161,5 +161,5 @@ returns-clause-stands g c =
     let l = c.loop-i in
     let t = c.requires.playing in
     let w = l.invariant.goes t.home t.nodes t.course t.counts t.now t.ends in
-    subst (λ j. SeatOk p.may p.floor p.shelf r.state r.spells j l.worker.seat) w.journal_is
-    (worker_stands p.may p.floor p.shelf r.state r.spells c.args.node w.course.journal l.worker.seat l.worker.desks.items w.worker.ok)
+    subst (λ j. SeatOk p.law r.state r.spells j l.worker.seat) w.journal_is
+    (worker_stands p.law r.state r.spells c.args.node w.course.journal l.worker.seat l.worker.desks.items w.worker.ok)

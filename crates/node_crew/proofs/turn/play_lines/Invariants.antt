@@ -13,6 +13,6 @@ invariant-loop-i g l = record {
   whose : l.lone.who ≡ l.node;
   grows : Grows l.initial.lone.fabric.journal l.lone.fabric.journal;
   goes : (home : ℕ → ℕ) (nodes : ℕ) (c : Course) (counts : List ℕ)
-      → IsUnderWay g.K.Terms.may g.K.Terms.floor g.K.Terms.shelf g.S.Replica.state g.S.Replica.spells l.lines home nodes c counts l.initial.looks.items l.node l.fn.from l.fn.from l.initial.lone.fabric.journal l.initial.worker.seat l.initial.worker.desks.items → BeginsAt l.lines l.fn.to (c.phase + 1)
-      → LineWent g.K.Terms.may g.K.Terms.floor g.K.Terms.shelf g.S.Replica.state g.S.Replica.spells l.lines home nodes c counts l.initial.looks.items l.looks.items l.node l.fn.from l.i l.lone.fabric.journal l.worker.seat l.worker.desks.items;
+      → IsUnderWay g.K.Terms.law g.S.Replica.state g.S.Replica.spells l.lines home nodes c counts l.initial.looks.items l.node l.fn.from l.fn.from l.initial.lone.fabric.journal l.initial.worker.seat l.initial.worker.desks.items → BeginsAt l.lines l.fn.to (c.phase + 1)
+      → LineWent g.K.Terms.law g.S.Replica.state g.S.Replica.spells l.lines home nodes c counts l.initial.looks.items l.looks.items l.node l.fn.from l.i l.lone.fabric.journal l.worker.seat l.worker.desks.items;
 }

@@ -22,8 +22,8 @@ end_phase-worker-requires-clause-worker g c =
     let t = c.requires.playing in
     let who = q.ensures.who ∙ c.requires.node in
     let w = on_ok _ c.in-Ok.is (q.ensures.goes t.home t.nodes t.course t.counts t.now t.ends) in
-    subst (λ k. WorkerOk p.may p.floor p.shelf r.state r.spells k q.result.access.fabric.journal q.result.part.seat q.result.part.desks.items) (sym who)
-    (subst (λ j. WorkerOk p.may p.floor p.shelf r.state r.spells a.node j q.result.part.seat q.result.part.desks.items) w.journal_is w.worker.ok)
+    subst (λ k. WorkerOk p.law r.state r.spells k q.result.access.fabric.journal q.result.part.seat q.result.part.desks.items) (sym who)
+    (subst (λ j. WorkerOk p.law r.state r.spells a.node j q.result.part.seat q.result.part.desks.items) w.journal_is w.worker.ok)
 
 pub end_phase-worker-requires-clause-stays : goal.end_phase-worker-requires-clause-stays
 end_phase-worker-requires-clause-stays g c =
@@ -55,11 +55,11 @@ returns-in-Ok-answer-clause-goes g c = λ home nodes course counts u ends.
     let adds = in_ok _ c.in-Ok-answer.is e.ensures.adds in
     let adds' = subst (λ j. OwnAdds a.node IsOfSessions j new) (sym w.journal_is) (subst (λ k. OwnAdds k IsOfSessions mid new) who adds) in
     let does = in_ok _ c.in-Ok-answer.is e.ensures.ends in
-    let does' = subst (λ j. EndsTurn (OwnWithin a.node p.may (sent_by desks)) p.floor p.shelf (node_of seat j) (node_of seat' new) desks desks' c.in-Ok-answer._failed) (sym w.journal_is)
-    (subst (λ k. EndsTurn (OwnWithin k p.may (sent_by desks)) p.floor p.shelf (node_of seat mid) (node_of seat' new) desks desks' c.in-Ok-answer._failed) who does) in
+    let does' = subst (λ j. EndsTurn (record p.law { may = OwnWithin a.node p.law.may (sent_by desks) }) (node_of seat j) (node_of seat' new) desks desks' c.in-Ok-answer._failed) (sym w.journal_is)
+    (subst (λ k. EndsTurn (record p.law { may = OwnWithin k p.law.may (sent_by desks) }) (node_of seat mid) (node_of seat' new) desks desks' c.in-Ok-answer._failed) who does) in
     let now = in_ok _ c.in-Ok-answer.is e.ensures.worker in
-    let now' = subst (λ k. WorkerOk p.may p.floor p.shelf r.state r.spells k new seat' desks') who now in
-    let t = phase_ended p.may p.floor p.shelf r.state r.spells c.requires.run a.lines.now home nodes w.course w.sent looks a.node a.from a.to c.in-Ok-answer._failed seat seat' desks desks' new u.lines_are u.least u.most over w.ok w.worker since' still adds' does' now' in
+    let now' = subst (λ k. WorkerOk p.law r.state r.spells k new seat' desks') who now in
+    let t = phase_ended p.law r.state r.spells c.requires.run a.lines.now home nodes w.course w.sent looks a.node a.from a.to c.in-Ok-answer._failed seat seat' desks desks' new u.lines_are u.least u.most over w.ok w.worker since' still adds' does' now' in
     record {
       course = t.course;
       sent = w.sent;
@@ -67,7 +67,7 @@ returns-in-Ok-answer-clause-goes g c = λ home nodes course counts u ends.
       ok = t.ok;
       turn = turns_join a.lines.now home a.node course w.course t.course counts w.sent w.sent a.looks.now.items looks looks w.turn t.turn;
       rests = t.rests;
-      sees = ended_sees p.may (OwnWithin seat.who p.may (sent_by desks)) p.floor p.shelf seat seat' desks desks' mid new c.in-Ok-answer._failed left.stands.node.legal (e.ensures.low (kept_lone w.high)) since does;
+      sees = ended_sees p.law (record p.law { may = OwnWithin seat.who p.law.may (sent_by desks) }) seat seat' desks desks' mid new c.in-Ok-answer._failed left.stands.node.legal (e.ensures.low (kept_lone w.high)) since does;
     }
 
 pub returns-in-Ok-answer-clause-grows : goal.returns-in-Ok-answer-clause-grows

@@ -3,4 +3,4 @@ use Rattle.node_lines.proofs.Lone.{lone_extension}
 use Rattle.node_lines.proofs.chain.a_lone_extension.Goals as goal
 
 pub returns : goal.returns
-returns g c = let p = g.P.Rules in λ who counts old new x h own. lone_extension (OwnWithin who p.may counts) p.floor p.shelf old new x h own
+returns g c = let p = g.P.Rules in λ who counts old new x h own. lone_extension (record p.law { may = OwnWithin who p.law.may counts }) old new x h own

@@ -19,7 +19,7 @@ returns-in-Ok g c =
     record {
       replaces = record {
         others = [];
-        moves = moves-sync p.may p.floor p.shelf c.requires.floor n m [] k c.in-Ok.ensures.outbox (ap (λ (r : ReplicaView). r.kept) c.in-Ok.ensures.replica)
+        moves = moves-sync p.law c.requires.floor n m [] k c.in-Ok.ensures.outbox (ap (λ (r : ReplicaView). r.kept) c.in-Ok.ensures.replica)
             (spends-none n.who n.seen m.seen n.replica.faults m.replica.faults (k.later.more, k.later.seen) k.counts);
         replica = c.in-Ok.ensures.replica;
         outbox = c.in-Ok.ensures.outbox;
@@ -47,7 +47,7 @@ returns-in-Err-Because g c =
     record {
       replaces = record {
         others = why ∷ [];
-        moves = moves-sync p.may p.floor p.shelf c.requires.floor n m (why ∷ []) k c.in-Err-Because.ensures.outbox (ap (λ (r : ReplicaView). r.kept) c.in-Err-Because.ensures.replica)
+        moves = moves-sync p.law c.requires.floor n m (why ∷ []) k c.in-Err-Because.ensures.outbox (ap (λ (r : ReplicaView). r.kept) c.in-Err-Because.ensures.replica)
             (spends-blames n.who n.seen m.seen why n.replica.faults m.replica.faults (k.later.more, k.later.seen) k.counts (blames n.replica.faults m.replica.faults));
         replica = c.in-Err-Because.ensures.replica;
         outbox = c.in-Err-Because.ensures.outbox;

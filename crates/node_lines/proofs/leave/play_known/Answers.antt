@@ -14,7 +14,7 @@ returns-in-Ok g c =
     let m = c.play.new.self in
     record {
       plays = record {
-        moves = moves-sync p.may p.floor p.shelf c.requires.floor n m [] k e.outbox e.kept (spends-none n.who n.seen m.seen n.replica.faults m.replica.faults (k.later.more, k.later.seen) k.counts);
+        moves = moves-sync p.law c.requires.floor n m [] k e.outbox e.kept (spends-none n.who n.seen m.seen n.replica.faults m.replica.faults (k.later.more, k.later.seen) k.counts);
         outbox = e.outbox;
         kept = e.kept;
         reaches = λ none. subst (λ to. Reaches to n.replica m.replica m.seen) c.known-end.ensures e.reaches;
@@ -31,7 +31,7 @@ returns-in-Err-Because g c =
     let why = c.in-Err-Because.cause in
     record {
       plays = record {
-        moves = moves-sync p.may p.floor p.shelf c.requires.floor n m (why ∷ []) k e.outbox e.kept
+        moves = moves-sync p.law c.requires.floor n m (why ∷ []) k e.outbox e.kept
             (spends-blames n.who n.seen m.seen why n.replica.faults m.replica.faults (k.later.more, k.later.seen) k.counts (subst (λ f. Blames n.who n.seen n.replica.faults f m.seen m.replica.faults) c.in-Err-Because.field-0-is e.blames));
         outbox = e.outbox;
         kept = e.kept;

@@ -15,17 +15,17 @@ returns-in-At g c =
     let new = c.sync.new.node in
     let found = c.in_ok-sync.ensures.tail c.in-At.field-0 c.in-At.is in
     let kept = ap (λ (r : ReplicaView). r.kept) c.in_ok-settle.ensures.replica ∙ c.in_ok-pack.ensures.kept in
-    let e : Ended p.may p.floor p.shelf old first then' new c.in-At.field-0 = record {
+    let e : Ended p.law old first then' new c.in-At.field-0 = record {
       first = c.in_ok-pack.ensures.moves;
       next = c.in_ok-settle.ensures.moves;
       none = c.in_ok-settle.ensures.none;
       kept = kept;
-      last = subst (λ s. Moves p.may p.floor p.shelf then' new (failure_of s)) c.in-At.is c.in_ok-sync.ensures.moves;
+      last = subst (λ s. Moves p.law then' new (failure_of s)) c.in-At.is c.in_ok-sync.ensures.moves;
       above = found.0;
       at = found.1;
     } in
     record {
-      ends = ends_at p.may p.floor p.shelf c.requires.floor old first then' new c.in-At.field-0 e
+      ends = ends_at p.law c.requires.floor old first then' new c.in-At.field-0 e
           (ap (λ (o : OutboxView). o.entries) c.in_ok-sync.ensures.outbox ∙ c.in_ok-settle.ensures.none)
           (ap (λ (o : OutboxView). o.unsettled) c.in_ok-sync.ensures.outbox ∙ c.in_ok-settle.ensures.unsettled)
           (c.in_ok-sync.ensures.kept ∙ kept)
@@ -42,11 +42,11 @@ returns-in-Failed g c =
     let then' = c.settle.new.node in
     let new = c.sync.new.node in
     let kept = ap (λ (r : ReplicaView). r.kept) c.in_ok-settle.ensures.replica ∙ c.in_ok-pack.ensures.kept in
-    let last : Moves p.may p.floor p.shelf then' new (c.in-Failed.cause ∷ []) = subst (λ s. Moves p.may p.floor p.shelf then' new (failure_of s)) c.in-Failed.is c.in_ok-sync.ensures.moves in
+    let last : Moves p.law then' new (c.in-Failed.cause ∷ []) = subst (λ s. Moves p.law then' new (failure_of s)) c.in-Failed.is c.in_ok-sync.ensures.moves in
     record {
       ends = record {
-        moves = moves-both p.may p.floor p.shelf c.requires.floor old then' new [] (c.in-Failed.cause ∷ [])
-            (moves-both p.may p.floor p.shelf c.requires.floor old first then' [] [] c.in_ok-pack.ensures.moves c.in_ok-settle.ensures.moves) last;
+        moves = moves-both p.law c.requires.floor old then' new [] (c.in-Failed.cause ∷ [])
+            (moves-both p.law c.requires.floor old first then' [] [] c.in_ok-pack.ensures.moves c.in_ok-settle.ensures.moves) last;
         none = ap (λ (o : OutboxView). o.entries) c.in_ok-sync.ensures.outbox ∙ c.in_ok-settle.ensures.none;
         unsettled = ap (λ (o : OutboxView). o.unsettled) c.in_ok-sync.ensures.outbox ∙ c.in_ok-settle.ensures.unsettled;
         kept = c.in_ok-sync.ensures.kept ∙ kept;

@@ -11,18 +11,18 @@ returns-in-Some-clause-looks g c =
     let p = g.T.Law.Rules in
     record {
       others = [];
-      moves = moves-both p.may p.floor p.shelf c.requires.floor c.args.node.now c.pack.new.node c.settle.new.node [] [] c.in_ok-pack.ensures.moves c.in_ok-settle.ensures.moves;
+      moves = moves-both p.law c.requires.floor c.args.node.now c.pack.new.node c.settle.new.node [] [] c.in_ok-pack.ensures.moves c.in_ok-settle.ensures.moves;
       looks = (refl, c.in-Some.ensures.some c.in-Some.cause refl);
     }
 
 pub returns-in-Failed-clause-looks : goal.returns-in-Failed-clause-looks
 returns-in-Failed-clause-looks g c =
     let p = g.T.Law.Rules in
-    let last : Moves p.may p.floor p.shelf c.settle.new.node c.sync.new.node (c.in-Failed.cause ∷ []) = subst (λ s. Moves p.may p.floor p.shelf c.settle.new.node c.sync.new.node (failure_of s)) c.in-Failed.is c.in_ok-cause.ensures.moves in
+    let last : Moves p.law c.settle.new.node c.sync.new.node (c.in-Failed.cause ∷ []) = subst (λ s. Moves p.law c.settle.new.node c.sync.new.node (failure_of s)) c.in-Failed.is c.in_ok-cause.ensures.moves in
     record {
       others = c.in-Failed.cause ∷ [];
-      moves = moves-both p.may p.floor p.shelf c.requires.floor c.args.node.now c.settle.new.node c.sync.new.node [] (c.in-Failed.cause ∷ [])
-          (moves-both p.may p.floor p.shelf c.requires.floor c.args.node.now c.pack.new.node c.settle.new.node [] [] c.in_ok-pack.ensures.moves c.in_ok-settle.ensures.moves) last;
+      moves = moves-both p.law c.requires.floor c.args.node.now c.settle.new.node c.sync.new.node [] (c.in-Failed.cause ∷ [])
+          (moves-both p.law c.requires.floor c.args.node.now c.pack.new.node c.settle.new.node [] [] c.in_ok-pack.ensures.moves c.in_ok-settle.ensures.moves) last;
       looks = (refl, c.in-None.ensures.stopped refl);
     }
 
@@ -37,16 +37,16 @@ returns-in-At-clause-looks g c =
     let d = c.args.desk.now in
     let found = c.in_ok-cause.ensures.tail c.in-At.after c.in-At.is in
     let kept = ap (λ (r : ReplicaView). r.kept) c.in_ok-settle.ensures.replica ∙ c.in_ok-pack.ensures.kept in
-    let e : Ended p.may p.floor p.shelf old first then' new c.in-At.after = record {
+    let e : Ended p.law old first then' new c.in-At.after = record {
       first = c.in_ok-pack.ensures.moves;
       next = c.in_ok-settle.ensures.moves;
       none = c.in_ok-settle.ensures.none;
       kept = kept;
-      last = subst (λ s. Moves p.may p.floor p.shelf then' new (failure_of s)) c.in-At.is c.in_ok-cause.ensures.moves;
+      last = subst (λ s. Moves p.law then' new (failure_of s)) c.in-At.is c.in_ok-cause.ensures.moves;
       above = found.0;
       at = found.1;
     } in
-    looks_at p.may p.floor p.shelf c.requires.floor old first then' new c.in-At.after e c.requires.keeps r.state d c.args.query.now c.in_ok-found-in-At.found c.requires.state c.requires.desk
+    looks_at p.law c.requires.floor old first then' new c.in-At.after e c.requires.keeps r.state d c.args.query.now c.in_ok-found-in-At.found g.met.R.Replica.state_is c.requires.desk
     (c.in-None.ensures.stopped refl)
     (subst (λ (o : OutboxView). cause_in d.session o.given ≡ None) (sym c.in_ok-cause.ensures.outbox) (c.in-None.ensures.given refl))
     c.requires.bound c.in_ok-cause.ensures.follows.now c.in_ok-found-in-At.ensures.found

@@ -9,11 +9,11 @@ returns-in-Some-clause-readies g c =
     let p = g.T.Law.Rules in
     record {
       others = [];
-      moves = moves-none p.may p.floor p.shelf c.requires.floor c.args.node.now c.requires.legal;
+      moves = moves-none p.law c.requires.floor c.args.node.now c.requires.legal;
       desk = refl;
       stops = inl (refl, refl);
       free = λ t. absurd (cc);
-      held = λ t. not_free p.may p.floor p.shelf c.requires.floor c.args.node.now c.args.desk.now c.in-Some.field-0 c.in-Some.ensures.first;
+      held = λ t. not_free p.law c.requires.floor c.args.node.now c.args.desk.now c.in-Some.field-0 c.in-Some.ensures.first;
     }
 
 pub returns-then-desk-len-clause-readies : goal.returns-then-desk-len-clause-readies
@@ -24,7 +24,7 @@ returns-then-desk-len-clause-readies g c =
     let near : d.sent + 1 ≤ length d.answers.items + 64 = grind (arith, nat_tests, c.if-desk-len.true, k) in
     record {
       others = [];
-      moves = moves-none p.may p.floor p.shelf c.requires.floor c.args.node.now c.requires.legal;
+      moves = moves-none p.law c.requires.floor c.args.node.now c.requires.legal;
       desk = refl;
       stops = inl (refl, refl);
       free = λ t. ((c.in-None.ensures.stopped refl, c.in-None.ensures.given refl), near);

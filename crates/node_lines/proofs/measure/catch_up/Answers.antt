@@ -14,10 +14,10 @@ returns-in-Failed g c =
     let then' = c.settle.new.node in
     let new = c.sync.new.node in
     let why = c.in-Failed.cause in
-    let last : Moves p.may p.floor p.shelf then' new (why ∷ []) = subst (λ s. Moves p.may p.floor p.shelf then' new (failure_of s)) c.in-Failed.is c.in_ok-cause.ensures.moves in
+    let last : Moves p.law then' new (why ∷ []) = subst (λ s. Moves p.law then' new (failure_of s)) c.in-Failed.is c.in_ok-cause.ensures.moves in
     record {
       measures = record {
-        moves = moves-both p.may p.floor p.shelf c.requires.floor old then' new [] (why ∷ []) (moves-both p.may p.floor p.shelf c.requires.floor old c.pack.new.node then' [] [] c.in_ok-pack.ensures.moves c.in_ok-settle.ensures.moves) last;
+        moves = moves-both p.law c.requires.floor old then' new [] (why ∷ []) (moves-both p.law c.requires.floor old c.pack.new.node then' [] [] c.in_ok-pack.ensures.moves c.in_ok-settle.ensures.moves) last;
         none = ap (λ (o : OutboxView). o.entries) c.in_ok-cause.ensures.outbox ∙ c.in_ok-settle.ensures.none;
         unsettled = ap (λ (o : OutboxView). o.unsettled) c.in_ok-cause.ensures.outbox ∙ c.in_ok-settle.ensures.unsettled;
         kept = c.in_ok-cause.ensures.kept ∙ (ap (λ (r : ReplicaView). r.kept) c.in_ok-settle.ensures.replica ∙ c.in_ok-pack.ensures.kept);
@@ -34,23 +34,23 @@ returns-in-At g c =
     let new = c.sync.new.node in
     let found = c.in_ok-cause.ensures.tail c.in-At.field-0 c.in-At.is in
     let kept = ap (λ (r : ReplicaView). r.kept) c.in_ok-settle.ensures.replica ∙ c.in_ok-pack.ensures.kept in
-    let e : Ended p.may p.floor p.shelf old first then' new c.in-At.field-0 = record {
+    let e : Ended p.law old first then' new c.in-At.field-0 = record {
       first = c.in_ok-pack.ensures.moves;
       next = c.in_ok-settle.ensures.moves;
       none = c.in_ok-settle.ensures.none;
       kept = kept;
-      last = subst (λ s. Moves p.may p.floor p.shelf then' new (failure_of s)) c.in-At.is c.in_ok-cause.ensures.moves;
+      last = subst (λ s. Moves p.law then' new (failure_of s)) c.in-At.is c.in_ok-cause.ensures.moves;
       above = found.0;
       at = found.1;
     } in
     record {
       measures = record {
-        moves = all p.may p.floor p.shelf c.requires.floor old first then' new c.in-At.field-0 e;
+        moves = all p.law c.requires.floor old first then' new c.in-At.field-0 e;
         none = ap (λ (o : OutboxView). o.entries) c.in_ok-cause.ensures.outbox ∙ c.in_ok-settle.ensures.none;
         unsettled = ap (λ (o : OutboxView). o.unsettled) c.in_ok-cause.ensures.outbox ∙ c.in_ok-settle.ensures.unsettled;
         kept = c.in_ok-cause.ensures.kept ∙ kept;
         measured = λ n same.
-            let at = stands_at p.may p.floor p.shelf c.requires.floor old first then' new c.in-At.field-0 e c.requires.keeps g.R.Replica.state c.requires.state c.in_ok-cause.ensures.follows.now in
+            let at = stands_at p.law c.requires.floor old first then' new c.in-At.field-0 e c.requires.keeps g.R.Replica.state g.met.R.Replica.state_is c.in_ok-cause.ensures.follows.now in
             record { at = at; is = same_number _ n same ∙ (c.cursor.ensures.cursor ∙ sym at.size) };
       };
     }

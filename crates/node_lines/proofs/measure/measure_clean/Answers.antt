@@ -10,7 +10,7 @@ returns-in-Failed g c =
     let p = g.T.Law.Rules in
     let old = c.args.node.now in
     let new = c.catch_up.new.node in
-    record { measures = measures_none p.may p.floor p.shelf length clean_position old new c.in-Failed.cause (subst (Measures p.may p.floor p.shelf length old new) c.in-Failed.is c.in_ok-cause.ensures.measures) }
+    record { measures = measures_none p.law length clean_position old new c.in-Failed.cause (subst (Measures p.law length old new) c.in-Failed.is c.in_ok-cause.ensures.measures) }
 
 pub returns-in-At : goal.returns-in-At
 returns-in-At g c =
@@ -18,6 +18,6 @@ returns-in-At g c =
     let old = c.args.node.now in
     let new = c.catch_up.new.node in
     record {
-      measures = measures_other p.may p.floor p.shelf length clean_position old new c.in-At.field-0 c.in_ok-position-in-At.position (subst (Measures p.may p.floor p.shelf length old new) c.in-At.is c.in_ok-cause.ensures.measures)
+      measures = measures_other p.law length clean_position old new c.in-At.field-0 c.in_ok-position-in-At.position (subst (Measures p.law length old new) c.in-At.is c.in_ok-cause.ensures.measures)
           (λ log size led. c.in_ok-position-in-At.ensures.clean ∙ (ap (clean_of new.replica.contents) (sym size) ∙ led.clean));
     }

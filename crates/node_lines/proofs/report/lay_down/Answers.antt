@@ -8,7 +8,7 @@ use Rattle.node_lines.proofs.report.lay_down.Goals as goal
 pub propose-requires-clause-own : goal.propose-requires-clause-own
 propose-requires-clause-own g c =
     let n = c.args.node.now in
-    subst (λ k. g.T.Law.Rules.may n.who (packed n.replica.origin (k ++ c.args.item ∷ []))) (sym c.requires.kept) c.requires.own
+    subst (λ k. g.T.Law.Rules.law.may n.who (packed n.replica.origin (k ++ c.args.item ∷ []))) (sym c.requires.kept) c.requires.own
 
 pub pack-requires-clause-kept : goal.pack-requires-clause-kept
 pack-requires-clause-kept g c =
@@ -16,7 +16,7 @@ pack-requires-clause-kept g c =
     let n = c.args.node.now in
     let m = c.propose.new.self in
     let can = pack-none n.replica.kept c.requires.kept in
-    let first : Moves p.may p.floor p.shelf n m [] = moves-plain p.may p.floor p.shelf c.requires.floor n m c.args.item can c.requires.item c.in-Ok.ensures.keeps (plain-rank c.args.item c.requires.plain)
+    let first : Moves p.law n m [] = moves-plain p.law c.requires.floor n m c.args.item can c.requires.item c.in-Ok.ensures.keeps (plain-rank c.args.item c.requires.plain)
     (c.in-Ok.ensures.near (plain-near n.replica.contents c.args.item c.requires.plain)).0 in
     first.goes.packs can
 
@@ -28,7 +28,7 @@ returns-in-Ok-pack g c =
     let can = pack-none n.replica.kept c.requires.kept in
     let near = c.in-Ok.ensures.near (plain-near n.replica.contents c.args.item c.requires.plain) in
     let sent = near.0 in
-    let first : Moves p.may p.floor p.shelf n m [] = moves-plain p.may p.floor p.shelf c.requires.floor n m c.args.item can c.requires.item c.in-Ok.ensures.keeps (plain-rank c.args.item c.requires.plain) sent in
+    let first : Moves p.law n m [] = moves-plain p.law c.requires.floor n m c.args.item can c.requires.item c.in-Ok.ensures.keeps (plain-rank c.args.item c.requires.plain) sent in
     record {
-      lays = lays-down p.may p.floor p.shelf c.requires.floor n m c.pack.new.node c.args.item first c.in-Ok-pack.ensures.moves c.requires.none c.requires.kept c.in-Ok-pack.ensures.kept sent c.in-Ok-pack.ensures.sent near.2 c.in-Ok-pack.ensures.replica;
+      lays = lays-down p.law c.requires.floor n m c.pack.new.node c.args.item first c.in-Ok-pack.ensures.moves c.requires.none c.requires.kept c.in-Ok-pack.ensures.kept sent c.in-Ok-pack.ensures.sent near.2 c.in-Ok-pack.ensures.replica;
     }

@@ -9,7 +9,7 @@ returns-in-Ok g c =
     let p = g.T.Law.Rules in
     let e = c.in-Ok.ensures in
     record {
-      tells = tells-landed p.may p.floor p.shelf c.requires.floor c.args.node.now c.lay_down.new.node c.settle_all.new.self c.args.item c.in_ok-lay_down.ensures.lays e.keeps e.replica e.calm e.landed;
+      tells = tells-landed p.law c.requires.floor c.args.node.now c.lay_down.new.node c.settle_all.new.self c.args.item c.in_ok-lay_down.ensures.lays e.keeps e.replica e.calm e.landed;
     }
 
 pub returns-in-Err-Because : goal.returns-in-Err-Because
@@ -19,6 +19,6 @@ returns-in-Err-Because g c =
     let m = c.lay_down.new.node in
     let n = c.settle_all.new.self in
     record {
-      tells = tells-lost p.may p.floor p.shelf c.requires.floor c.args.node.now m n c.args.item c.in-Err-Because.cause c.requires.item c.requires.plain c.in_ok-lay_down.ensures.lays c.requires.unsettled e.keeps e.replica
+      tells = tells-lost p.law c.requires.floor c.args.node.now m n c.args.item c.in-Err-Because.cause c.requires.item c.requires.plain c.in_ok-lay_down.ensures.lays c.requires.unsettled e.keeps e.replica
           (subst (λ f. Failing Holds m.who m.seen m.outbox f n.seen n.outbox) c.in-Err-Because.field-0-is e.failing);
     }

@@ -12,7 +12,7 @@ returns-in-Ok-clause-moves g c =
     let k = c.in-Ok.ensures.keeps in
     let n = c.args.node.now in
     let m = c.sync.new.self in
-    moves-sync p.may p.floor p.shelf c.requires.floor n m [] k c.in-Ok.ensures.outbox c.in-Ok.ensures.kept
+    moves-sync p.law c.requires.floor n m [] k c.in-Ok.ensures.outbox c.in-Ok.ensures.kept
     (spends-none n.who n.seen m.seen n.replica.faults m.replica.faults (k.later.more, k.later.seen) k.counts)
 
 pub returns-in-Err-Because-clause-moves : goal.returns-in-Err-Because-clause-moves
@@ -21,7 +21,7 @@ returns-in-Err-Because-clause-moves g c =
     let k = c.in-Err-Because.ensures.keeps in
     let n = c.args.node.now in
     let m = c.sync.new.self in
-    moves-sync p.may p.floor p.shelf c.requires.floor n m (c.in-Err-Because.cause ∷ []) k c.in-Err-Because.ensures.outbox c.in-Err-Because.ensures.kept
+    moves-sync p.law c.requires.floor n m (c.in-Err-Because.cause ∷ []) k c.in-Err-Because.ensures.outbox c.in-Err-Because.ensures.kept
     (spends-blames n.who n.seen m.seen c.in-Err-Because.cause n.replica.faults m.replica.faults (k.later.more, k.later.seen) k.counts (subst (λ f. Blames n.who n.seen n.replica.faults f m.seen m.replica.faults) c.in-Err-Because.field-0-is c.in-Err-Because.ensures.blames))
 
 same_tail : (a b : ℕ) → synced.At a ≡ synced.At b → a ≡ b

@@ -7,7 +7,7 @@ use Rattle.node_lines.proofs.Spending.{spends-none, spends-blames}
 use Rattle.node_lines.proofs.trim.cut.Goals as goal
 
 pub trim_applied-requires-clause-shown : goal.trim_applied-requires-clause-shown
-trim_applied-requires-clause-shown g c = let p = g.T.Law.Rules in shows_all p.may p.floor p.shelf c.requires.floor
+trim_applied-requires-clause-shown g c = let p = g.T.Law.Rules in shows_all p.law c.requires.floor
 
 pub trim_applied-requires-clause-free : goal.trim_applied-requires-clause-free
 trim_applied-requires-clause-free g c = c.requires.free
@@ -22,7 +22,7 @@ returns-in-Ok g c =
     record {
       cuts = record {
         others = [];
-        moves = moves-sync p.may p.floor p.shelf c.requires.floor n m [] k e.outbox (ap (λ (r : ReplicaView). r.kept) e.replica)
+        moves = moves-sync p.law c.requires.floor n m [] k e.outbox (ap (λ (r : ReplicaView). r.kept) e.replica)
             (spends-none n.who n.seen m.seen n.replica.faults m.replica.faults (k.later.more, k.later.seen) k.counts);
         replica = e.replica;
         outbox = e.outbox;
@@ -41,7 +41,7 @@ returns-in-Err-Because g c =
     record {
       cuts = record {
         others = why ∷ [];
-        moves = moves-sync p.may p.floor p.shelf c.requires.floor n m (why ∷ []) k e.outbox (ap (λ (r : ReplicaView). r.kept) e.replica)
+        moves = moves-sync p.law c.requires.floor n m (why ∷ []) k e.outbox (ap (λ (r : ReplicaView). r.kept) e.replica)
             (spends-blames n.who n.seen m.seen why n.replica.faults m.replica.faults (k.later.more, k.later.seen) k.counts (subst (λ f. Blames n.who n.seen n.replica.faults f m.seen m.replica.faults) c.in-Err-Because.field-0-is e.blames));
         replica = e.replica;
         outbox = e.outbox;

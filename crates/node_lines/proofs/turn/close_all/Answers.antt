@@ -24,7 +24,7 @@ close_it-requires-clause-bound g c = λ some.
     let d = slice_index_or xs i c.desk-item.result in
     let at : slice_get xs i ≡ Some d = slice_get-get_or xs i c.desk-item.result (omega (arith, c.loop-desk-test.true)) in
     let ok = c.loop-desk.invariant.ok i d at in
-    subst (λ s. IsBound g.T.Law.Rules.may s d.sent) (sym ok.session) (c.requires.bound i d (sym (c.loop-desk.invariant.left i (omega arith)) ∙ at) some)
+    subst (λ s. IsBound g.T.Law.Rules.law.may s d.sent) (sym ok.session) (c.requires.bound i d (sym (c.loop-desk.invariant.left i (omega arith)) ∙ at) some)
 
 pub close_it-requires-clause-found : goal.close_it-requires-clause-found
 close_it-requires-clause-found g c = λ none free log size front.

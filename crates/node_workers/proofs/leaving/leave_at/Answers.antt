@@ -46,11 +46,11 @@ returns-in-Some-clause-adds g c =
 pub returns-in-Some-clause-leaves : goal.returns-in-Some-clause-leaves
 returns-in-Some-clause-leaves g c =
     let p = g.A.Law.Rules in
-    let may = OwnWithin c.args.seat.who p.may g.E.Sent.counts in
+    let may = OwnWithin c.args.seat.who p.law.may g.E.Sent.counts in
     let old = node_of c.args.seat (g.A.Access.seen c.args.access) in
     let mid = node_of c.in_turn-seat.result.part (g.A.Access.seen c.in_turn-seat.result.access) in
-    leaves_unanswered may p.floor p.shelf c.requires.run.low old mid c.args.desks.now.items c.in_turn-seat.new.on.items c.in-Some.cause
-    (subst (λ f. AnswersAll may p.floor p.shelf old mid c.args.desks.now.items c.in_turn-seat.new.on.items f) c.in-Some.is (in_ok _ c.in-Ok.is c.in_turn-seat.ensures.did))
+    leaves_unanswered (record p.law { may = may }) c.requires.run.low old mid c.args.desks.now.items c.in_turn-seat.new.on.items c.in-Some.cause
+    (subst (λ f. AnswersAll (record p.law { may = may }) old mid c.args.desks.now.items c.in_turn-seat.new.on.items f) c.in-Some.is (in_ok _ c.in-Ok.is c.in_turn-seat.ensures.did))
 
 -- the answers were taken, and the leave was told
 
@@ -71,7 +71,7 @@ tell_and_play-seat-requires-clause-can g c =
       none = m.none;
       unsettled = m.unsettled;
       kept = m.kept;
-      own = may_say g.A.Law.Rules.may g.E.Sent.counts a.who b.who b.node.replica.origin c.in-Ok-leave_item.value (leave_item a.who) k.who
+      own = may_say g.A.Law.Rules.law.may g.E.Sent.counts a.who b.who b.node.replica.origin c.in-Ok-leave_item.value (leave_item a.who) k.who
           (k.origin ∙ c.requires.origin) (made.item ∙ ap (leave_item) (sym c.requires.number)) made.proposable plain c.requires.own;
     }
 
@@ -81,7 +81,7 @@ returns-clause-ok g c =
     let r = g.S.Replica in
     let back = c.tell_and_play-seat.result in
     let now = g.A.Access.seen back.access in
-    ok_comes (λ _. SeatOk (Sends back.part.who p.may g.E.Sent.counts now) p.floor p.shelf r.state r.spells now back.part) back.answer c.came_to.ensures c.tell_and_play-seat.ensures.ok (λ x h. h)
+    ok_comes (λ _. SeatOk (record p.law { may = Sends back.part.who p.law.may g.E.Sent.counts now }) r.state r.spells now back.part) back.answer c.came_to.ensures c.tell_and_play-seat.ensures.ok (λ x h. h)
 
 pub returns-clause-each : goal.returns-clause-each
 returns-clause-each g c =
@@ -90,11 +90,11 @@ returns-clause-each g c =
     let back = c.tell_and_play-seat.result in
     let mid = node_of b (g.A.Access.seen c.in_turn-seat.result.access) in
     let now = node_of back.part (g.A.Access.seen back.access) in
-    let may = OwnWithin b.who p.may g.E.Sent.counts in
+    let may = OwnWithin b.who p.law.may g.E.Sent.counts in
     let desks = c.in_turn-seat.new.on.items in
     let h = in_ok _ c.in-Ok.is c.in_turn-seat.ensures.did in
     ok_comes (λ _. DesksOk now desks) back.answer c.came_to.ensures c.tell_and_play-seat.ensures.did
-    (λ failed t. desks_on may p.floor p.shelf c.requires.run.low mid now (failure_in failed) (tells_moves may p.floor p.shelf c.requires.run.low mid now c.in-Ok-leave_item.value failed t) desks h.desks)
+    (λ failed t. desks_on (record p.law { may = may }) c.requires.run.low mid now (failure_in failed) (tells_moves (record p.law { may = may }) c.requires.run.low mid now c.in-Ok-leave_item.value failed t) desks h.desks)
 
 pub returns-clause-desks : goal.returns-clause-desks
 returns-clause-desks g c =
@@ -117,25 +117,25 @@ returns-clause-stays g c =
     let back = c.tell_and_play-seat.result in
     let mid = node_of b (g.A.Access.seen c.in_turn-seat.result.access) in
     let now = node_of back.part (g.A.Access.seen back.access) in
-    let may = OwnWithin b.who p.may g.E.Sent.counts in
+    let may = OwnWithin b.who p.law.may g.E.Sent.counts in
     let desks = c.in_turn-seat.new.on.items in
     let h = in_ok _ c.in-Ok.is c.in_turn-seat.ensures.did in
-    ok_comes (λ _. IsKept g.A.Access.beside p.floor back.part (g.A.Access.seen back.access) ⊎ AllAnswered now desks) back.answer c.came_to.ensures c.tell_and_play-seat.ensures.did
-    (λ failed t. inr (answered_on may p.floor p.shelf c.requires.run.low mid now (failure_in failed) (tells_moves may p.floor p.shelf c.requires.run.low mid now c.in-Ok-leave_item.value failed t) desks (h.answered c.in_default.is)))
+    ok_comes (λ _. IsKept g.A.Access.beside p.law.floor back.part (g.A.Access.seen back.access) ⊎ AllAnswered now desks) back.answer c.came_to.ensures c.tell_and_play-seat.ensures.did
+    (λ failed t. inr (answered_on (record p.law { may = may }) c.requires.run.low mid now (failure_in failed) (tells_moves (record p.law { may = may }) c.requires.run.low mid now c.in-Ok-leave_item.value failed t) desks (h.answered c.in_default.is)))
 
 pub returns-clause-leaves : goal.returns-clause-leaves
 returns-clause-leaves g c =
     let p = g.A.Law.Rules in
     let made = c.in-Ok-leave_item.ensures in
-    let may = OwnWithin c.args.seat.who p.may g.E.Sent.counts in
+    let may = OwnWithin c.args.seat.who p.law.may g.E.Sent.counts in
     let old = node_of c.args.seat (g.A.Access.seen c.args.access) in
     let mid = node_of c.in_turn-seat.result.part (g.A.Access.seen c.in_turn-seat.result.access) in
     let now = node_of c.tell_and_play-seat.result.part (g.A.Access.seen c.tell_and_play-seat.result.access) in
     let item = c.in-Ok-leave_item.value in
-    let h = subst (λ f. AnswersAll may p.floor p.shelf old mid c.args.desks.now.items c.in_turn-seat.new.on.items f) c.in_default.is (in_ok _ c.in-Ok.is c.in_turn-seat.ensures.did) in
-    ok_comes (Leaves may p.floor p.shelf old now) c.tell_and_play-seat.result.answer c.came_to.ensures c.tell_and_play-seat.ensures.did
-    (λ failed t. leaves may p.floor p.shelf c.requires.run.low old mid now c.args.number item failed h.moves made.item (sym c.requires.number ∙ sym c.requires.origin) made.proposable made.says
-    (subst (λ w. TellsAndPlays (OwnWithin w p.may g.E.Sent.counts) p.floor p.shelf mid now item failed) c.in_turn-seat.ensures.left.who t))
+    let h = subst (λ f. AnswersAll (record p.law { may = may }) old mid c.args.desks.now.items c.in_turn-seat.new.on.items f) c.in_default.is (in_ok _ c.in-Ok.is c.in_turn-seat.ensures.did) in
+    ok_comes (Leaves (record p.law { may = may }) old now) c.tell_and_play-seat.result.answer c.came_to.ensures c.tell_and_play-seat.ensures.did
+    (λ failed t. leaves (record p.law { may = may }) c.requires.run.low old mid now c.args.number item failed h.moves made.item (sym c.requires.number ∙ sym c.requires.origin) made.proposable made.says
+    (subst (λ w. TellsAndPlays (record p.law { may = OwnWithin w p.law.may g.E.Sent.counts }) mid now item failed) c.in_turn-seat.ensures.left.who t))
 
 pub returns-clause-adds : goal.returns-clause-adds
 returns-clause-adds g c =

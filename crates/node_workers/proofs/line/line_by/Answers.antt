@@ -10,7 +10,7 @@ go-seat-requires-clause-seat g c =
     let p = g.A.Law.Rules in
     let r = g.S.Replica in
     let a = c.args.worker.seat in
-    seat_by p.may p.floor p.shelf c.requires.run r.state r.spells a.who g.E.Sent.counts (g.A.Access.seen c.args.access) a c.args.worker.desks.items c.requires.sent c.requires.worker
+    seat_by p.law c.requires.run r.state r.spells a.who g.E.Sent.counts (g.A.Access.seen c.args.access) a c.args.worker.desks.items c.requires.sent c.requires.worker
 
 pub returns-clause-did : goal.returns-clause-did
 returns-clause-did g c =
@@ -18,7 +18,7 @@ returns-clause-did g c =
     let a = c.args.worker.seat in
     let b = c.go-seat.result.part in
     ok_then c.go-seat.result.answer c.go-seat.ensures.did
-    (λ x h. subst (λ counts. g.Y.OwnLine.did (OwnWithin a.who p.may counts) p.floor p.shelf c.args.line (node_of a (g.A.Access.seen c.args.access)) (node_of b (g.A.Access.seen c.go-seat.result.access)) x) c.requires.sent h)
+    (λ x h. subst (λ counts. g.Y.OwnLine.did (record p.law { may = OwnWithin a.who p.law.may counts }) c.args.line (node_of a (g.A.Access.seen c.args.access)) (node_of b (g.A.Access.seen c.go-seat.result.access)) x) c.requires.sent h)
 
 pub returns-clause-worker : goal.returns-clause-worker
 returns-clause-worker g c =
@@ -31,5 +31,5 @@ returns-clause-worker g c =
     let desks = c.args.worker.desks.items in
     ok_then c.go-seat.result.answer (ok_pair _ _ c.go-seat.result.answer c.go-seat.ensures.ok c.go-seat.ensures.did)
     (λ x h.
-    let came = g.Y.OwnLine.moves (OwnWithin a.who p.may g.E.Sent.counts) p.floor p.shelf c.args.line (node_of a was) (node_of b now) x h.1 in
-    worker_moves p.may p.floor p.shelf c.requires.run r.state r.spells a.who g.E.Sent.counts was now a b desks came.others c.requires.sent c.requires.worker h.0 (none-waits b came.kept) came.moves)
+    let came = g.Y.OwnLine.moves (record p.law { may = OwnWithin a.who p.law.may g.E.Sent.counts }) c.args.line (node_of a was) (node_of b now) x h.1 in
+    worker_moves p.law c.requires.run r.state r.spells a.who g.E.Sent.counts was now a b desks came.others c.requires.sent c.requires.worker h.0 (none-waits b came.kept) came.moves)

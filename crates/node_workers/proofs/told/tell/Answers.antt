@@ -19,7 +19,7 @@ within-requires-clause-seat g c =
     let r = g.S.Replica in
     let a = c.args.seat in
     let seen = g.A.Access.seen c.args.access in
-    seat_tells p.may p.floor p.shelf a.who g.E.Sent.counts r.state r.spells (StaysKept g.A.Access.beside p.floor a seen c.args.item) a.node.replica.cursor seen (packed a.node.replica.origin (c.args.item ∷ [])) a (λ k. k.kept.high) c.requires.seat
+    seat_tells p.law a.who g.E.Sent.counts r.state r.spells (StaysKept g.A.Access.beside p.law.floor a seen c.args.item) a.node.replica.cursor seen (packed a.node.replica.origin (c.args.item ∷ [])) a (λ k. k.kept.high) c.requires.seat
 
 pub within-requires-clause-can : goal.within-requires-clause-can
 within-requires-clause-can g c =
@@ -34,7 +34,7 @@ returns-clause-adds g c =
     let new = g.A.Access.seen c.within.result.access in
     let told = packed a.node.replica.origin (c.args.item ∷ []) in
     always (OwnAdds a.who (λ e. IsOfSessions e ⊎ (e ≡ told)) old new)
-    (adds_told a.who p.may g.E.Sent.counts (UpToIf (StaysKept g.A.Access.beside p.floor a old c.args.item) p.floor a.node.replica.cursor) p.shelf old new told c.within.ensures.seat.node.legal) c.within.result.answer
+    (adds_told a.who p.law.may g.E.Sent.counts (record p.law { floor = UpToIf (StaysKept g.A.Access.beside p.law.floor a old c.args.item) p.law.floor a.node.replica.cursor }) old new told c.within.ensures.seat.node.legal) c.within.result.answer
 
 pub returns-clause-did : goal.returns-clause-did
 returns-clause-did g c =
@@ -43,7 +43,7 @@ returns-clause-did g c =
     let old = g.A.Access.seen c.args.access in
     let told = packed a.node.replica.origin (c.args.item ∷ []) in
     ok_then c.within.result.answer c.within.ensures.did
-    (λ x h. tells_wider (SendsToo a.who p.may g.E.Sent.counts old told) (OwnWithin a.who p.may g.E.Sent.counts) (UpToIf (StaysKept g.A.Access.beside p.floor a old c.args.item) p.floor a.node.replica.cursor) p.floor p.shelf (λ user e k. k.0) (λ log n k. k.0) (node_of a old)
+    (λ x h. tells_wider (record p.law { may = SendsToo a.who p.law.may g.E.Sent.counts old told; floor = UpToIf (StaysKept g.A.Access.beside p.law.floor a old c.args.item) p.law.floor a.node.replica.cursor }) (record p.law { may = OwnWithin a.who p.law.may g.E.Sent.counts }) (record { may = λ user e k. k.0; floor = λ log n k. k.0; shelf = refl }) (node_of a old)
     (node_of c.within.result.part (g.A.Access.seen c.within.result.access)) c.args.item x h)
 
 pub within-requires-clause-narrows : goal.within-requires-clause-narrows
@@ -51,7 +51,7 @@ within-requires-clause-narrows g c =
     let p = g.A.Law.Rules in
     let a = c.args.seat in
     let seen = g.A.Access.seen c.args.access in
-    narrows_told p.may p.floor p.shelf c.requires.run g.A.Access.beside g.E.Sent.counts seen a (StaysKept g.A.Access.beside p.floor a seen c.args.item) (λ k. k.kept.keeps) (g.A.Access.who c.args.access) c.requires.who
+    narrows_told p.law c.requires.run g.A.Access.beside g.E.Sent.counts seen a (StaysKept g.A.Access.beside p.law.floor a seen c.args.item) (λ k. k.kept.keeps) (g.A.Access.who c.args.access) c.requires.who
     (λ user h. g.A.Access.apart (g.A.Access.who c.args.access) user h) (packed a.node.replica.origin (c.args.item ∷ []))
     (λ k user h. says_low a.node.replica.origin a.node.replica.cursor c.args.item c.requires.can.proposable c.requires.can.plain (k.low user h))
 
@@ -62,7 +62,7 @@ returns-clause-left g c =
     let a = c.args.seat in
     let old = g.A.Access.seen c.args.access in
     let who : c.within.result.part.who ≡ a.who = c.within.ensures.sits ∙ (c.within.ensures.who ∙ sym c.requires.who) in
-    left_told p.may p.floor p.shelf a.who g.E.Sent.counts r.state r.spells g.A.Access.beside (λ _. ⊥) (StaysKept g.A.Access.beside p.floor a old c.args.item) a.node.replica.cursor old (g.A.Access.seen c.within.result.access)
+    left_told p.law a.who g.E.Sent.counts r.state r.spells g.A.Access.beside (λ _. ⊥) (StaysKept g.A.Access.beside p.law.floor a old c.args.item) a.node.replica.cursor old (g.A.Access.seen c.within.result.access)
     (packed a.node.replica.origin (c.args.item ∷ [])) a c.within.result.part who c.within.ensures.since c.within.ensures.right c.within.ensures.seat
 
 pub returns-clause-ok : goal.returns-clause-ok
@@ -72,7 +72,7 @@ returns-clause-ok g c =
     let a = c.args.seat in
     let old = g.A.Access.seen c.args.access in
     ok_then c.within.result.answer c.within.ensures.did
-    (λ x h. ok_told p.may p.floor p.shelf a.who g.E.Sent.counts r.state r.spells (StaysKept g.A.Access.beside p.floor a old c.args.item) a.node.replica.cursor old (g.A.Access.seen c.within.result.access)
+    (λ x h. ok_told p.law a.who g.E.Sent.counts r.state r.spells (StaysKept g.A.Access.beside p.law.floor a old c.args.item) a.node.replica.cursor old (g.A.Access.seen c.within.result.access)
     (packed a.node.replica.origin (c.args.item ∷ [])) c.within.result.part h.moves.goes.keeps.who h.none h.kept c.within.ensures.seat)
 
 pub returns-clause-kept : goal.returns-clause-kept
@@ -83,11 +83,11 @@ returns-clause-kept g c = λ stays.
     let old = g.A.Access.seen c.args.access in
     let new = g.A.Access.seen c.within.result.access in
     let told = packed a.node.replica.origin (c.args.item ∷ []) in
-    let so = StaysKept g.A.Access.beside p.floor a old c.args.item in
-    let sends = SendsToo a.who p.may g.E.Sent.counts old told in
+    let so = StaysKept g.A.Access.beside p.law.floor a old c.args.item in
+    let sends = SendsToo a.who p.law.may g.E.Sent.counts old told in
     ok_then c.within.result.answer c.within.ensures.did
     (λ x h.
     let k = h.moves.goes.keeps in
-    kept_by sends p.floor p.shelf so stays g.A.Access.beside a.node.replica.cursor new b k.forward c.within.ensures.seat.node.legal
-    (still_told p.may p.floor p.shelf c.requires.run g.A.Access.beside g.E.Sent.counts old a so (λ s. s.kept.keeps) (UpToIf so p.floor a.node.replica.cursor) new b k.who k.nodes k.forward told
+    kept_by (record p.law { may = sends }) so stays g.A.Access.beside a.node.replica.cursor new b k.forward c.within.ensures.seat.node.legal
+    (still_told p.law c.requires.run g.A.Access.beside g.E.Sent.counts old a so (λ s. s.kept.keeps) (UpToIf so p.law.floor a.node.replica.cursor) new b k.who k.nodes k.forward told
     (λ s user there. says_low a.node.replica.origin a.node.replica.cursor c.args.item c.requires.can.proposable c.requires.can.plain (s.low user there)) c.within.ensures.seat.node.legal stays))

@@ -8,4 +8,4 @@ abbrev pub ghosts-within : goal.ghosts-within
 ghosts-within g a =
     let seen = g.A.Access.seen a.access in
     let p = g.A.Law.Rules in
-    record { who = g.A.Access.who a.access; sends = SendsToo a.seat.who p.may g.E.Sent.counts seen (packed a.seat.node.replica.origin (a.step.item ∷ [])); seals = λ _. ⊥; floor = UpToIf (StaysKept g.A.Access.beside p.floor a.seat seen a.step.item) p.floor a.seat.node.replica.cursor; since = seen }
+    record { who = g.A.Access.who a.access; law = record p.law { may = SendsToo a.seat.who p.law.may g.E.Sent.counts seen (packed a.seat.node.replica.origin (a.step.item ∷ [])); floor = UpToIf (StaysKept g.A.Access.beside p.law.floor a.seat seen a.step.item) p.law.floor a.seat.node.replica.cursor }; seals = λ _. ⊥; since = seen }

@@ -29,7 +29,7 @@ pub returns-in-Some-clause-did : goal.returns-in-Some-clause-did
 returns-in-Some-clause-did g c =
     let p = g.A.Law.Rules in
     let told = in_ok _ c.in-Ok.is c.tell-seat.ensures.did in
-    inl (record { cause = c.in-Some.cause; is = refl; tells = subst (λ f. Tells (OwnWithin c.args.seat.who p.may g.E.Sent.counts) p.floor p.shelf (node_of c.args.seat (g.A.Access.seen c.args.access)) (node_of c.tell-seat.result.part (g.A.Access.seen c.tell-seat.result.access)) c.args.item f) c.in-Some.is told })
+    inl (record { cause = c.in-Some.cause; is = refl; tells = subst (λ f. Tells (record p.law { may = OwnWithin c.args.seat.who p.law.may g.E.Sent.counts }) (node_of c.args.seat (g.A.Access.seen c.args.access)) (node_of c.tell-seat.result.part (g.A.Access.seen c.tell-seat.result.access)) c.args.item f) c.in-Some.is told })
 
 pub returns-clause-adds : goal.returns-clause-adds
 returns-clause-adds g c =
@@ -46,7 +46,7 @@ returns-clause-did g c =
     let now = node_of c.in_turn.result.part (g.A.Access.seen c.in_turn.result.access) in
     let told = in_ok _ c.in-Ok.is c.tell-seat.ensures.did in
     ok_then c.in_turn.result.answer c.in_turn.ensures.did
-    (λ x h. inr (record { told = mid; tells = subst (λ f. Tells (OwnWithin c.args.seat.who p.may g.E.Sent.counts) p.floor p.shelf (node_of c.args.seat (g.A.Access.seen c.args.access)) mid c.args.item f) c.in_default.is told; plays = subst (λ w. PlaysKnown (OwnWithin w p.may g.E.Sent.counts) p.floor p.shelf mid now x) c.tell-seat.ensures.left.who h }))
+    (λ x h. inr (record { told = mid; tells = subst (λ f. Tells (record p.law { may = OwnWithin c.args.seat.who p.law.may g.E.Sent.counts }) (node_of c.args.seat (g.A.Access.seen c.args.access)) mid c.args.item f) c.in_default.is told; plays = subst (λ w. PlaysKnown (record p.law { may = OwnWithin w p.law.may g.E.Sent.counts }) mid now x) c.tell-seat.ensures.left.who h }))
 
 pub returns-clause-left : goal.returns-clause-left
 returns-clause-left g c = left_both c.tell-seat.ensures.left c.in_turn.ensures.left

@@ -13,11 +13,11 @@ in_turn-seat-requires-clause-can g c =
     let p = g.A.Law.Rules in
     let w = c.args.worker in
     let seen = g.A.Access.seen c.args.access in
-    let so = IsKept g.A.Access.beside p.floor w.seat seen in (
+    let so = IsKept g.A.Access.beside p.law.floor w.seat seen in (
       c.requires.worker.packs,
       c.requires.worker.each,
       λ s d at some user e k allowed has. omega (arith, allowed.0.1 (c.requires.worker.home s d at some user k e allowed.0.0 has) s k has, sent_at w.desks.items s d at),
-      ⊎_elim (λ (kept : so). inl (keeps_low (Sends w.seat.who p.may (sent_by w.desks.items) seen) p.floor p.shelf so kept w.seat.node.replica.cursor))
+      ⊎_elim (λ (kept : so). inl (keeps_low (record p.law { may = Sends w.seat.who p.law.may (sent_by w.desks.items) seen }) so kept w.seat.node.replica.cursor))
           (λ (all : AllAnswered (node_of w.seat seen) w.desks.items). inr all) c.requires.stays,
     )
 
@@ -27,4 +27,4 @@ returns-clause-worker g c =
     let r = g.S.Replica in
     let back = c.in_turn-seat.result in
     ok_then back.answer (ok_pair _ _ back.answer c.in_turn-seat.ensures.ok c.in_turn-seat.ensures.did)
-    (λ failed h. worker_ends p.may p.floor p.shelf c.requires.run r.state r.spells c.args.worker.seat.who (sent_by c.args.worker.desks.items) (g.A.Access.seen c.args.access) (g.A.Access.seen back.access) c.args.worker.seat back.part c.args.worker.desks.items c.in_turn-seat.new.on.items failed refl c.requires.worker h.0 h.1)
+    (λ failed h. worker_ends p.law c.requires.run r.state r.spells c.args.worker.seat.who (sent_by c.args.worker.desks.items) (g.A.Access.seen c.args.access) (g.A.Access.seen back.access) c.args.worker.seat back.part c.args.worker.desks.items c.in_turn-seat.new.on.items failed refl c.requires.worker h.0 h.1)

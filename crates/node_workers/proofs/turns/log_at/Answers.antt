@@ -46,7 +46,7 @@ returns-then-not-is_ready-clause-ok g c =
     let counts = g.E.Sent.counts in
     let same : slice_set counts s c.keep.new.desk.sent ≡ counts = ap (λ (x : Desk). slice_set counts s x.sent) c.keep.ensures
     ∙ still_sent counts s d.sent (ap (λ (x : Desk). x.sent) (in_ok _ c.in-Ok.is c.in_turn-seat.ensures.did).0.desk ∙ c.requires.sent) in
-    subst (λ cs. SeatOk (Sends back.part.who p.may cs (g.A.Access.seen back.access)) p.floor p.shelf r.state r.spells (g.A.Access.seen back.access) back.part) (sym same) (on_ok _ c.in-Ok.is c.in_turn-seat.ensures.ok)
+    subst (λ cs. SeatOk (record p.law { may = Sends back.part.who p.law.may cs (g.A.Access.seen back.access) }) r.state r.spells (g.A.Access.seen back.access) back.part) (sym same) (on_ok _ c.in-Ok.is c.in_turn-seat.ensures.ok)
 
 pub returns-then-not-is_ready-clause-kept : goal.returns-then-not-is_ready-clause-kept
 returns-then-not-is_ready-clause-kept g c = on_ok _ c.in-Ok.is (c.in_turn-seat.ensures.kept c.requires.kept)
@@ -67,9 +67,9 @@ returns-then-not-is_ready-clause-logs g c =
     let counts = g.E.Sent.counts in
     let r = (in_ok _ c.in-Ok.is c.in_turn-seat.ensures.did).0 in
     let now : Desk = record d { asked = d.asked + 1 } in
-    subst (λ (x : Desk). LogsIt p.may p.floor p.shelf (slice_set counts s x.sent) old mid s c.args.desk.now x) (sym c.keep.ensures)
-    (subst (λ cs. LogsIt p.may p.floor p.shelf cs old mid s c.args.desk.now now) (sym (still_sent counts s d.sent (ap (λ (x : Desk). x.sent) r.desk ∙ c.requires.sent)))
-    (kept_logs p.may p.floor p.shelf c.requires.run.low counts old mid s c.args.desk.now d (subst (λ b. Readies (OwnWithin c.args.seat.who p.may counts) p.floor p.shelf old mid c.args.desk.now d b) c.if-not-is_ready.true r)))
+    subst (λ (x : Desk). LogsIt p.law (slice_set counts s x.sent) old mid s c.args.desk.now x) (sym c.keep.ensures)
+    (subst (λ cs. LogsIt p.law cs old mid s c.args.desk.now now) (sym (still_sent counts s d.sent (ap (λ (x : Desk). x.sent) r.desk ∙ c.requires.sent)))
+    (kept_logs p.law c.requires.run.low counts old mid s c.args.desk.now d (subst (λ b. Readies (record p.law { may = OwnWithin c.args.seat.who p.law.may counts }) old mid c.args.desk.now d b) c.if-not-is_ready.true r)))
 
 pub in_turn-requires-clause-seat : goal.in_turn-requires-clause-seat
 in_turn-requires-clause-seat g c =
@@ -80,7 +80,7 @@ in_turn-requires-clause-seat g c =
     let back = c.in_turn-seat.result in
     let is = (in_ok _ c.in-Ok.is c.in_turn-seat.ensures.did).0.desk in
     let sent : d.sent ≡ sent_of counts d.session = ap (λ (x : Desk). x.sent) is ∙ c.requires.sent ∙ ap (sent_of counts) (sym (ap (λ (x : Desk). x.session) is ∙ c.requires.desk.session)) in
-    seat_counted back.part.who p.may p.floor p.shelf r.state r.spells counts (slice_set counts d.session (d.sent + 1)) (g.A.Access.seen back.access) back.part (set_rises counts d.session (d.sent + 1) (omega (arith, sent))) (on_ok _ c.in-Ok.is c.in_turn-seat.ensures.ok)
+    seat_counted back.part.who p.law r.state r.spells counts (slice_set counts d.session (d.sent + 1)) (g.A.Access.seen back.access) back.part (set_rises counts d.session (d.sent + 1) (omega (arith, sent))) (on_ok _ c.in-Ok.is c.in_turn-seat.ensures.ok)
 
 pub in_turn-requires-clause-can : goal.in_turn-requires-clause-can
 in_turn-requires-clause-can g c =
@@ -110,10 +110,10 @@ in_turn-requires-clause-can g c =
     let some : 1 ≤ n = omega arith in
     let fine = proposable-session d.session n cmd stands.known some small c.requires.spelled c.requires.short in
     let under = ap (rank_under d.session) (content_of-session d.session n cmd stands.known some small c.requires.spelled) ∙ own_under d.session n (Some cmd) in
-    let may_own : p.may seat.who (packed seat.who (item ∷ [])) = subst (λ w. p.may w (packed w (item ∷ []))) (sym keeps.who)
-    (subst (λ q. p.may c.args.seat.who (packed c.args.seat.who (session_item q n cmd ∷ []))) (sym named)
-    (subst (λ k. p.may c.args.seat.who (packed c.args.seat.who (session_item c.args.session k cmd ∷ []))) (sym (ap (λ k. k + 1) (all ∙ asked))) c.requires.own)) in
-    let own = within-one p.may counts' seat.who d.session n item fine may_own under (λ q apart. rank_elsewhere d.session q n (content_of item) under apart) (omega (arith, counted)) in
+    let may_own : p.law.may seat.who (packed seat.who (item ∷ [])) = subst (λ w. p.law.may w (packed w (item ∷ []))) (sym keeps.who)
+    (subst (λ q. p.law.may c.args.seat.who (packed c.args.seat.who (session_item q n cmd ∷ []))) (sym named)
+    (subst (λ k. p.law.may c.args.seat.who (packed c.args.seat.who (session_item c.args.session k cmd ∷ []))) (sym (ap (λ k. k + 1) (all ∙ asked))) c.requires.own)) in
+    let own = within-one p.law.may counts' seat.who d.session n item fine may_own under (λ q apart. rank_elsewhere d.session q n (content_of item) under apart) (omega (arith, counted)) in
     let origin : seat.node.replica.origin ≡ seat.who = keeps.origin ∙ (c.requires.origin ∙ sym keeps.who) in
     let waits = subst (All IsOfSession) (sym did.2) c.requires.waits in
     record {
@@ -128,9 +128,9 @@ in_turn-requires-clause-can g c =
           omega (arith, allowed.0.1 by_own d.session k has, counted);
       spelled = c.requires.spelled;
       short = c.requires.short;
-      own = subst (λ o. Sends seat.who p.may counts' journal seat.who (packed o (seat.node.replica.kept ++ item ∷ []))) (sym origin)
-          (sends-next p.may counts' journal seat.who seat.node.replica.kept item (c.requires.run.join seat.who) (r.moves.goes.packs c.requires.packs) waits
-          (λ waiting. subst (λ o. OwnWithin seat.who p.may counts' seat.who (packed o seat.node.replica.kept)) origin ((in_turn-requires-clause-seat g c).node.waiting waiting).0)
+      own = subst (λ o. Sends seat.who p.law.may counts' journal seat.who (packed o (seat.node.replica.kept ++ item ∷ []))) (sym origin)
+          (sends-next p.law.may counts' journal seat.who seat.node.replica.kept item (c.requires.run.join seat.who) (r.moves.goes.packs c.requires.packs) waits
+          (λ waiting. subst (λ o. OwnWithin seat.who p.law.may counts' seat.who (packed o seat.node.replica.kept)) origin ((in_turn-requires-clause-seat g c).node.waiting waiting).0)
           fine (session-command d.session n cmd stands.known some small c.requires.spelled) own);
     }
 
@@ -177,9 +177,9 @@ returns-clause-logs g c =
     let is = c.in_turn.new.on in
     let sent : d.sent ≡ sent_of counts d.session = ap (λ (x : Desk). x.sent) r.desk ∙ c.requires.sent ∙ ap (sent_of counts) (sym named) in
     ok_then c.in_turn.result.answer c.in_turn.ensures.did
-    (λ x h. subst (λ cs. LogsIt p.may p.floor p.shelf cs old new s was is) (ap (λ k. slice_set counts k (d.sent + 1)) named ∙ ap (λ (y : Desk). slice_set counts s y.sent) (sym h.counts))
-    (handed_logs p.may p.floor p.shelf c.requires.run.low counts counts' old mid new s was d is (set_rises counts d.session (d.sent + 1) (omega (arith, sent)))
-    (subst (λ b. Readies (OwnWithin c.args.seat.who p.may counts) p.floor p.shelf old mid was d b) c.if-not-is_ready.false r) (subst (λ q. HandsIn (OwnWithin c.in_turn-seat.result.part.who p.may counts') p.floor p.shelf mid new q d.sent) named h.hands) h.counts))
+    (λ x h. subst (λ cs. LogsIt p.law cs old new s was is) (ap (λ k. slice_set counts k (d.sent + 1)) named ∙ ap (λ (y : Desk). slice_set counts s y.sent) (sym h.counts))
+    (handed_logs p.law c.requires.run.low counts counts' old mid new s was d is (set_rises counts d.session (d.sent + 1) (omega (arith, sent)))
+    (subst (λ b. Readies (record p.law { may = OwnWithin c.args.seat.who p.law.may counts }) old mid was d b) c.if-not-is_ready.false r) (subst (λ q. HandsIn (record p.law { may = OwnWithin c.in_turn-seat.result.part.who p.law.may counts' }) mid new q d.sent) named h.hands) h.counts))
 
 pub returns-clause-ok : goal.returns-clause-ok
 returns-clause-ok g c =
@@ -191,7 +191,7 @@ returns-clause-ok g c =
     let s = c.args.session in
     let named : d.session ≡ s = ap (λ (x : Desk). x.session) (in_ok _ c.in-Ok.is c.in_turn-seat.ensures.did).0.desk ∙ c.requires.desk.session in
     ok_then back.answer (ok_pair _ _ back.answer c.in_turn.ensures.ok c.in_turn.ensures.did)
-    (λ x h. subst (λ cs. SeatOk (Sends back.part.who p.may cs (g.A.Access.seen back.access)) p.floor p.shelf r.state r.spells (g.A.Access.seen back.access) back.part) (ap (λ k. slice_set counts k (d.sent + 1)) named ∙ ap (λ (y : Desk). slice_set counts s y.sent) (sym h.1.counts)) h.0)
+    (λ x h. subst (λ cs. SeatOk (record p.law { may = Sends back.part.who p.law.may cs (g.A.Access.seen back.access) }) r.state r.spells (g.A.Access.seen back.access) back.part) (ap (λ k. slice_set counts k (d.sent + 1)) named ∙ ap (λ (y : Desk). slice_set counts s y.sent) (sym h.1.counts)) h.0)
 
 pub returns-clause-left : goal.returns-clause-left
 returns-clause-left g c = left_both c.in_turn-seat.ensures.left c.in_turn.ensures.left

@@ -29,7 +29,7 @@ in_turn-seat-requires-clause-seat g c =
     let p = g.A.Law.Rules in
     let r = g.S.Replica in
     let a = c.args.worker.seat in
-    seat_by p.may p.floor p.shelf c.requires.run r.state r.spells a.who g.E.Sent.counts (g.A.Access.seen c.args.access) a c.args.worker.desks.items c.requires.sent c.requires.worker
+    seat_by p.law c.requires.run r.state r.spells a.who g.E.Sent.counts (g.A.Access.seen c.args.access) a c.args.worker.desks.items c.requires.sent c.requires.worker
 
 pub returns-clause-worker : goal.returns-clause-worker
 returns-clause-worker g c =
@@ -37,7 +37,7 @@ returns-clause-worker g c =
     let r = g.S.Replica in
     let back = c.in_turn-seat.result in
     ok_then back.answer (ok_pair _ _ back.answer c.in_turn-seat.ensures.ok c.in_turn-seat.ensures.did)
-    (λ x h. worker_moves p.may p.floor p.shelf c.requires.run r.state r.spells c.args.worker.seat.who g.E.Sent.counts (g.A.Access.seen c.args.access) (g.A.Access.seen back.access) c.args.worker.seat back.part c.args.worker.desks.items h.1.0.others c.requires.sent c.requires.worker h.0 (none-waits back.part h.1.1) h.1.0.moves)
+    (λ x h. worker_moves p.law c.requires.run r.state r.spells c.args.worker.seat.who g.E.Sent.counts (g.A.Access.seen c.args.access) (g.A.Access.seen back.access) c.args.worker.seat back.part c.args.worker.desks.items h.1.0.others c.requires.sent c.requires.worker h.0 (none-waits back.part h.1.1) h.1.0.moves)
 
 pub returns-clause-looks : goal.returns-clause-looks
 returns-clause-looks g c =
@@ -48,8 +48,8 @@ returns-clause-looks g c =
     let back = c.in_turn-seat.result in
     let at = desk_there xs c.from-i.result c.number.result s d c.requires.worker.size c.number.ensures.range c.from-i.ensures c.number.ensures.value c.index.ensures in
     ok_then back.answer c.in_turn-seat.ensures.did
-    (λ l h other there. subst (λ (x : Desk). Looks (OwnWithin c.args.worker.seat.who p.may (sent_by xs)) p.floor p.shelf (node_of c.args.worker.seat (g.A.Access.seen c.args.access)) (node_of back.part (g.A.Access.seen back.access)) x c.args.query.now l) (same_at xs s d other at there)
-    (subst (λ cs. Looks (OwnWithin c.args.worker.seat.who p.may cs) p.floor p.shelf (node_of c.args.worker.seat (g.A.Access.seen c.args.access)) (node_of back.part (g.A.Access.seen back.access)) d c.args.query.now l) c.requires.sent h.0))
+    (λ l h other there. subst (λ (x : Desk). Looks (record p.law { may = OwnWithin c.args.worker.seat.who p.law.may (sent_by xs) }) (node_of c.args.worker.seat (g.A.Access.seen c.args.access)) (node_of back.part (g.A.Access.seen back.access)) x c.args.query.now l) (same_at xs s d other at there)
+    (subst (λ cs. Looks (record p.law { may = OwnWithin c.args.worker.seat.who p.law.may cs }) (node_of c.args.worker.seat (g.A.Access.seen c.args.access)) (node_of back.part (g.A.Access.seen back.access)) d c.args.query.now l) c.requires.sent h.0))
 
 pub returns-clause-kept : goal.returns-clause-kept
 returns-clause-kept g c = c.in_turn-seat.ensures.kept c.requires.kept

@@ -1,4 +1,4 @@
-use Rattle.std.proofs.Common.{◌≡◌, sym, ◌∙◌}
+use Rattle.std.proofs.Common.{◌≡◌, refl, sym, ◌∙◌}
 use Rattle.journal_laws.proofs.Changes.{upto_low}
 use Rattle.turn_scopes.specs.Seats.{SeatOk, node_of}
 use Rattle.node_lines.specs.Workers.{OwnWithin, Sends, OwnAdds, IsKept, IsOfSessions}
@@ -16,7 +16,7 @@ pub within-requires-clause-narrows : goal.within-requires-clause-narrows
 within-requires-clause-narrows g c =
     let p = g.A.Law.Rules in
     let seen = g.A.Access.seen c.args.access in
-    narrows_beside p.may p.floor p.shelf c.requires.run g.A.Access.beside g.E.Sent.counts seen c.args.seat (IsKept g.A.Access.beside p.floor c.args.seat seen) (λ k. k.keeps) (g.A.Access.who c.args.access) c.requires.who
+    narrows_beside p.law c.requires.run g.A.Access.beside g.E.Sent.counts seen c.args.seat (IsKept g.A.Access.beside p.law.floor c.args.seat seen) (λ k. k.keeps) (g.A.Access.who c.args.access) c.requires.who
     (λ user h. g.A.Access.apart (g.A.Access.who c.args.access) user h)
 
 pub within-requires-clause-seat : goal.within-requires-clause-seat
@@ -25,13 +25,13 @@ within-requires-clause-seat g c =
     let r = g.S.Replica in
     let a = c.args.seat in
     let seen = g.A.Access.seen c.args.access in
-    seat_begins p.may p.floor p.shelf a.who g.E.Sent.counts r.state r.spells (IsKept g.A.Access.beside p.floor a seen) a.node.replica.cursor seen a (λ k. k.high) c.requires.seat
+    seat_begins p.law a.who g.E.Sent.counts r.state r.spells (IsKept g.A.Access.beside p.law.floor a seen) a.node.replica.cursor seen a (λ k. k.high) c.requires.seat
 
 pub within-requires-clause-stays : goal.within-requires-clause-stays
 within-requires-clause-stays g c = λ is.
     let p = g.A.Law.Rules in
     let seen = g.A.Access.seen c.args.access in
-    keeps_low (Sends c.args.seat.who p.may g.E.Sent.counts seen) p.floor p.shelf (IsKept g.A.Access.beside p.floor c.args.seat seen) (c.requires.stays is) c.args.seat.node.replica.cursor
+    keeps_low (record p.law { may = Sends c.args.seat.who p.law.may g.E.Sent.counts seen }) (IsKept g.A.Access.beside p.law.floor c.args.seat seen) (c.requires.stays is) c.args.seat.node.replica.cursor
 
 pub returns-clause-left : goal.returns-clause-left
 returns-clause-left g c =
@@ -40,7 +40,7 @@ returns-clause-left g c =
     let a = c.args.seat in
     let old = g.A.Access.seen c.args.access in
     let who : c.within.result.part.who ≡ a.who = c.within.ensures.sits ∙ (c.within.ensures.who ∙ sym c.requires.who) in
-    left_by p.may p.floor p.shelf a.who g.E.Sent.counts r.state r.spells g.A.Access.beside g.X.NodeStep.seals (IsKept g.A.Access.beside p.floor a old) a.node.replica.cursor old (g.A.Access.seen c.within.result.access) a c.within.result.part who
+    left_by p.law a.who g.E.Sent.counts r.state r.spells g.A.Access.beside g.X.NodeStep.seals (IsKept g.A.Access.beside p.law.floor a old) a.node.replica.cursor old (g.A.Access.seen c.within.result.access) a c.within.result.part who
     c.within.ensures.since c.within.ensures.right c.within.ensures.seat
 
 pub returns-clause-ok : goal.returns-clause-ok
@@ -52,8 +52,8 @@ returns-clause-ok g c =
     let old = g.A.Access.seen c.args.access in
     let new = g.A.Access.seen c.within.result.access in
     let who : b.who ≡ a.who = c.within.ensures.sits ∙ (c.within.ensures.who ∙ sym c.requires.who) in
-    always (SeatOk (Sends b.who p.may g.E.Sent.counts new) p.floor p.shelf r.state r.spells new b)
-    (ok_by p.may p.floor p.shelf a.who g.E.Sent.counts r.state r.spells (IsKept g.A.Access.beside p.floor a old) a.node.replica.cursor old new b who (grows-since b.who (g.A.Access.beside b.who) old new c.within.ensures.since) c.within.ensures.seat)
+    always (SeatOk (record p.law { may = Sends b.who p.law.may g.E.Sent.counts new }) r.state r.spells new b)
+    (ok_by p.law a.who g.E.Sent.counts r.state r.spells (IsKept g.A.Access.beside p.law.floor a old) a.node.replica.cursor old new b who (grows-since b.who (g.A.Access.beside b.who) old new c.within.ensures.since) c.within.ensures.seat)
     c.within.result.answer
 
 pub returns-clause-kept : goal.returns-clause-kept
@@ -64,14 +64,14 @@ returns-clause-kept g c = λ kept.
     let b = c.within.result.part in
     let old = g.A.Access.seen c.args.access in
     let new = g.A.Access.seen c.within.result.access in
-    let so = IsKept g.A.Access.beside p.floor a old in
-    let sends = Sends a.who p.may g.E.Sent.counts old in
-    let low = UpToIf so p.floor a.node.replica.cursor in
+    let so = IsKept g.A.Access.beside p.law.floor a old in
+    let sends = Sends a.who p.law.may g.E.Sent.counts old in
+    let low = UpToIf so p.law.floor a.node.replica.cursor in
     ok_then c.within.result.answer c.within.ensures.did
     (λ answer h.
-    let k = x.keeps sends low p.shelf c.args.step c.args.on.now c.within.new.on (node_of a old) (node_of b new) answer h in
-    kept_by sends p.floor p.shelf so kept g.A.Access.beside a.node.replica.cursor new b k.forward c.within.ensures.seat.node.legal
-    (still_beside p.may p.floor p.shelf c.requires.run g.A.Access.beside g.E.Sent.counts old a so (λ s. s.keeps) low new b k.who k.nodes k.forward c.within.ensures.seat.node.legal kept))
+    let k = x.keeps (record p.law { may = sends; floor = low }) c.args.step c.args.on.now c.within.new.on (node_of a old) (node_of b new) answer h in
+    kept_by (record p.law { may = sends }) so kept g.A.Access.beside a.node.replica.cursor new b k.forward c.within.ensures.seat.node.legal
+    (still_beside p.law c.requires.run g.A.Access.beside g.E.Sent.counts old a so (λ s. s.keeps) low new b k.who k.nodes k.forward c.within.ensures.seat.node.legal kept))
 
 pub returns-clause-adds : goal.returns-clause-adds
 returns-clause-adds g c =
@@ -80,17 +80,17 @@ returns-clause-adds g c =
     let old = g.A.Access.seen c.args.access in
     let new = g.A.Access.seen c.within.result.access in
     always (OwnAdds a.who IsOfSessions old new)
-    (adds_sends a.who p.may g.E.Sent.counts (UpToIf (IsKept g.A.Access.beside p.floor a old) p.floor a.node.replica.cursor) p.shelf old new c.within.ensures.seat.node.legal) c.within.result.answer
+    (adds_sends a.who p.law.may g.E.Sent.counts (record p.law { floor = UpToIf (IsKept g.A.Access.beside p.law.floor a old) p.law.floor a.node.replica.cursor }) old new c.within.ensures.seat.node.legal) c.within.result.answer
 
 pub returns-clause-did : goal.returns-clause-did
 returns-clause-did g c =
     let p = g.A.Law.Rules in
     let a = c.args.seat in
     let old = g.A.Access.seen c.args.access in
-    let sends = Sends a.who p.may g.E.Sent.counts old in
-    let low = UpToIf (IsKept g.A.Access.beside p.floor a old) p.floor a.node.replica.cursor in
+    let sends = Sends a.who p.law.may g.E.Sent.counts old in
+    let low = UpToIf (IsKept g.A.Access.beside p.law.floor a old) p.law.floor a.node.replica.cursor in
     ok_then c.within.result.answer c.within.ensures.did
-    (λ answer h. g.X.NodeStep.wider sends (OwnWithin a.who p.may g.E.Sent.counts) low p.floor p.shelf (λ user e k. k.0) (λ log n k. k.0) c.args.step c.args.on.now c.within.new.on (node_of a old) (node_of c.within.result.part (g.A.Access.seen c.within.result.access)) answer h)
+    (λ answer h. g.X.NodeStep.wider (record p.law { may = sends; floor = low }) (record p.law { may = OwnWithin a.who p.law.may g.E.Sent.counts }) (record { may = λ user e k. k.0; floor = λ log n k. k.0; shelf = refl }) c.args.step c.args.on.now c.within.new.on (node_of a old) (node_of c.within.result.part (g.A.Access.seen c.within.result.access)) answer h)
 
 pub returns-clause-low : goal.returns-clause-low
 returns-clause-low g c = λ kept.
@@ -98,4 +98,4 @@ returns-clause-low g c = λ kept.
     let a = c.args.seat in
     let old = g.A.Access.seen c.args.access in
     let m = a.node.replica.cursor in
-    upto_low (Sends a.who p.may g.E.Sent.counts old) (UpToIf (IsKept g.A.Access.beside p.floor a old) p.floor m) p.shelf m (λ log n h. h.1 kept) (g.A.Access.seen c.within.result.access) c.within.ensures.seat.node.legal
+    upto_low (record p.law { may = Sends a.who p.law.may g.E.Sent.counts old; floor = UpToIf (IsKept g.A.Access.beside p.law.floor a old) p.law.floor m }) m (λ log n h. h.1 kept) (g.A.Access.seen c.within.result.access) c.within.ensures.seat.node.legal

@@ -6,4 +6,4 @@ abbrev pub ghosts-within : goal.ghosts-within
 ghosts-within g a =
     let seen = g.A.Access.seen a.access in
     let p = g.A.Law.Rules in
-    record { who = g.A.Access.who a.access; sends = Sends a.seat.who p.may g.E.Sent.counts seen; seals = g.X.NodeStep.seals; floor = UpToIf (IsKept g.A.Access.beside p.floor a.seat seen) p.floor a.seat.node.replica.cursor; since = seen }
+    record { who = g.A.Access.who a.access; law = record p.law { may = Sends a.seat.who p.law.may g.E.Sent.counts seen; floor = UpToIf (IsKept g.A.Access.beside p.law.floor a.seat seen) p.law.floor a.seat.node.replica.cursor }; seals = g.X.NodeStep.seals; since = seen }

@@ -6,7 +6,7 @@ use Rattle.node_lines.specs.Desks.{KeepsFrom}
 use Rattle.node_workers.proofs.within.within.Goals as goal
 
 pub run-answer-requires-clause-stays : goal.run-answer-requires-clause-stays
-run-answer-requires-clause-stays g c = λ is. subst (λ (n : NodeView). KeepsFrom g.Q.Scope.sends g.Q.Scope.floor g.A.Law.Rules.shelf n.replica.cursor) (sym c.wake-node.ensures) (c.requires.stays is)
+run-answer-requires-clause-stays g c = λ is. subst (λ (n : NodeView). KeepsFrom g.Q.Scope.law n.replica.cursor) (sym c.wake-node.ensures) (c.requires.stays is)
 
 pub returns-clause-since : goal.returns-clause-since
 returns-clause-since g c = subst (λ (j : List Event). Since c.rest-seat.result.0.who (g.A.Access.beside c.rest-seat.result.0.who) j (g.A.Access.seen c.rest-seat.result.1)) c.requires.since c.rest-seat.ensures.since

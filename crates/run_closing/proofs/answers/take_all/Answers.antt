@@ -13,7 +13,7 @@ take_it-requires-clause-desk g c =
     let d = slice_index_or xs i c.desk-item.result in
     let at : slice_get xs i ≡ Some d = slice_get-get_or xs i c.desk-item.result (omega (arith, c.loop-desk-test.true)) in
     let can = c.requires.desks i d (sym (c.loop-desk.invariant.left i (omega arith)) ∙ at) in
-    subst (λ s. CanTake g.T.Law.Rules.may c.args.node.now s d) (sym can.session) can
+    subst (λ s. CanTake g.T.Law.Rules.law.may c.args.node.now s d) (sym can.session) can
 
 pub loop-desk-preserved : goal.loop-desk-preserved
 loop-desk-preserved g c =

@@ -22,11 +22,11 @@ loop-k-init g c =
       grows = grows-none a.fabric.journal;
       passes = none_passed (λ w. w.seat) a.workers.items;
       most = most_first (λ w. w.seat) a.workers.items
-          (some_node p.may p.floor p.shelf r.state r.spells c.args.lines.now (λ w. w.seat) (λ w. w.desks.items) a.workers.items (length c.args.lines.now) c.requires.rests.0 a.fabric.journal a.looks.items c.requires.rests.1);
+          (some_node p.law r.state r.spells c.args.lines.now (λ w. w.seat) (λ w. w.desks.items) a.workers.items (length c.args.lines.now) c.requires.rests.0 a.fabric.journal a.looks.items c.requires.rests.1);
     }
 
 pub finish_node-now-requires-clause-floor : goal.finish_node-now-requires-clause-floor
-finish_node-now-requires-clause-floor g c = subst (FloorIs g.K.Terms.floor) (sym c.loop-k.invariant.size) c.requires.floor
+finish_node-now-requires-clause-floor g c = subst (FloorIs g.K.Terms.law.floor) (sym c.loop-k.invariant.size) c.requires.floor
 
 pub loop-k-preserved : goal.loop-k-preserved
 loop-k-preserved g c =
@@ -73,7 +73,7 @@ returns-clause-stands g c =
     let p = g.K.Terms in
     let r = g.S.Replica in
     let l = c.loop-k in
-    rests_stand p.may p.floor p.shelf r.state r.spells c.args.lines.now (λ w. w.seat) (λ w. w.desks.items) l.crew.workers.items (length c.args.lines.now) l.invariant.rests.0 l.crew.fabric.journal l.crew.looks.items l.invariant.rests.1
+    rests_stand p.law r.state r.spells c.args.lines.now (λ w. w.seat) (λ w. w.desks.items) l.crew.workers.items (length c.args.lines.now) l.invariant.rests.0 l.crew.fabric.journal l.crew.looks.items l.invariant.rests.1
 
 pub returns-in-Err-clause-grows : goal.returns-in-Err-clause-grows
 returns-in-Err-clause-grows g c =

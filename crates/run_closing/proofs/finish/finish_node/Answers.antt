@@ -16,7 +16,7 @@ overflow_cast-k g c =
     let p = g.K.Terms in
     let r = g.S.Replica in
     let a = c.args in
-    let few = few_nodes p.may p.floor p.shelf r.state r.spells a._lines.now (λ w. w.seat) (λ w. w.desks.items) a.crew.workers.items (length a._lines.now) c.requires.rests.0 a.crew.fabric.journal a.crew.looks.items c.requires.rests.1 in
+    let few = few_nodes p.law r.state r.spells a._lines.now (λ w. w.seat) (λ w. w.desks.items) a.crew.workers.items (length a._lines.now) c.requires.rests.0 a.crew.fabric.journal a.crew.looks.items c.requires.rests.1 in
     grind (arith, few, c.requires.there)
 
 pub overflow_add-k : goal.overflow_add-k
@@ -24,7 +24,7 @@ overflow_add-k g c =
     let p = g.K.Terms in
     let r = g.S.Replica in
     let a = c.args in
-    let few = few_nodes p.may p.floor p.shelf r.state r.spells a._lines.now (λ w. w.seat) (λ w. w.desks.items) a.crew.workers.items (length a._lines.now) c.requires.rests.0 a.crew.fabric.journal a.crew.looks.items c.requires.rests.1 in
+    let few = few_nodes p.law r.state r.spells a._lines.now (λ w. w.seat) (λ w. w.desks.items) a.crew.workers.items (length a._lines.now) c.requires.rests.0 a.crew.fabric.journal a.crew.looks.items c.requires.rests.1 in
     grind (arith, few, c.requires.there)
 
 pub unreachable-requires : goal.unreachable-requires
@@ -32,7 +32,7 @@ unreachable-requires g c =
     let p = g.K.Terms in
     let r = g.S.Replica in
     let a = c.args in
-    let few = few_nodes p.may p.floor p.shelf r.state r.spells a._lines.now (λ w. w.seat) (λ w. w.desks.items) a.crew.workers.items (length a._lines.now) c.requires.rests.0 a.crew.fabric.journal a.crew.looks.items c.requires.rests.1 in
+    let few = few_nodes p.law r.state r.spells a._lines.now (λ w. w.seat) (λ w. w.desks.items) a.crew.workers.items (length a._lines.now) c.requires.rests.0 a.crew.fabric.journal a.crew.looks.items c.requires.rests.1 in
     let low : 1 ≤ a.k + 1 = omega arith in
     let high : a.k + 1 ≤ 8 = omega (arith, few, c.requires.there) in
     true≢false (sym (c.in_default.ensures.valid.1 (low, high)))
@@ -44,7 +44,7 @@ finish_worker-worker-requires-clause-worker g c =
     let a = c.args in
     let w = c.remove-worker.result in
     let at = slice_get_read a.crew.workers.items (length a.crew.workers.items) a.k w refl c.requires.there c.remove-worker.ensures.value in
-    own_ok p.may p.floor p.shelf r.state r.spells a._lines.now (λ w. w.seat) (λ w. w.desks.items) a.crew.workers.items (length a._lines.now) c.requires.rests.0 a.crew.fabric.journal a.crew.looks.items c.requires.rests.1 a.k w at
+    own_ok p.law r.state r.spells a._lines.now (λ w. w.seat) (λ w. w.desks.items) a.crew.workers.items (length a._lines.now) c.requires.rests.0 a.crew.fabric.journal a.crew.looks.items c.requires.rests.1 a.k w at
 
 pub returns-clause-rests : goal.returns-clause-rests
 returns-clause-rests g c =
@@ -58,9 +58,9 @@ returns-clause-rests g c =
     ∙ (ap (λ l. insert l a.k q.result.part) c.remove-worker.ensures.items ∙ put_back a.crew.workers.items a.k q.result.part c.requires.there) in
     on_ok4 q.result.answer q.ensures.moves q.ensures.outbox q.ensures.worker q.ensures.plays (λ moves same now plays. (
       c.requires.rests.0,
-      subst (λ l. CrewRests p.may p.floor p.shelf r.state r.spells a._lines.now (length a._lines.now) c.requires.rests.0 q.result.access.fabric.journal a.crew.looks.items (λ w. w.seat) (λ w. w.desks.items) l) (sym items)
-          (crew_finished p.may p.floor p.shelf r.state r.spells a._lines.now (λ w. w.seat) (λ w. w.desks.items) a.crew.workers.items (length a._lines.now) c.requires.rests.0 a.crew.fabric.journal a.crew.looks.items c.requires.rests.1 a.k q.result.access.fabric.journal w q.result.part at (left_own q.ensures.left) (left_unsealed q.ensures.left) q.ensures.adds moves same now
-          (ap (λ d. d.items) q.ensures.desks) refl c.requires.floor c.requires.state q.ensures.left.stands.node.legal
+      subst (λ l. CrewRests p.law r.state r.spells a._lines.now (length a._lines.now) c.requires.rests.0 q.result.access.fabric.journal a.crew.looks.items (λ w. w.seat) (λ w. w.desks.items) l) (sym items)
+          (crew_finished p.law r.state r.spells a._lines.now (λ w. w.seat) (λ w. w.desks.items) a.crew.workers.items (length a._lines.now) c.requires.rests.0 a.crew.fabric.journal a.crew.looks.items c.requires.rests.1 a.k q.result.access.fabric.journal w q.result.part at (left_own q.ensures.left) (left_unsealed q.ensures.left) q.ensures.adds moves same now
+          (ap (λ d. d.items) q.ensures.desks) refl c.requires.floor g.met.S.Replica.state_is q.ensures.left.stands.node.legal
           (subst (λ n. Finishes n (node_of w.seat a.crew.fabric.journal) (node_of q.result.part.seat q.result.access.fabric.journal)) c.in-Some.ensures.value plays)),
     ))
 
@@ -97,6 +97,6 @@ returns-clause-stands g c =
     let at = slice_get_read a.crew.workers.items (length a.crew.workers.items) a.k w refl c.requires.there c.remove-worker.ensures.value in
     let items = (subst (λ x. c.insert.new.self.items ≡ (if is_ok x then insert c.remove-worker.new.self.items a.k q.result.part else c.remove-worker.new.self.items)) c.in-Ok.is c.insert.ensures.items)
     ∙ (ap (λ l. insert l a.k q.result.part) c.remove-worker.ensures.items ∙ put_back a.crew.workers.items a.k q.result.part c.requires.there) in
-    let before = rests_stand p.may p.floor p.shelf r.state r.spells a._lines.now (λ w. w.seat) (λ w. w.desks.items) a.crew.workers.items (length a._lines.now) c.requires.rests.0 a.crew.fabric.journal a.crew.looks.items c.requires.rests.1 in
-    subst (λ l. CrewStands p.may p.floor p.shelf r.state r.spells q.result.access.fabric.journal (λ w. w.seat) l) (sym items)
-    (still_stands p.may p.floor p.shelf r.state r.spells a._lines.now (λ w. w.seat) (λ w. w.desks.items) a.crew.workers.items a.k a.crew.fabric.journal q.result.access.fabric.journal w q.result.part at (left_grows q.ensures.left) before q.ensures.left.stands)
+    let before = rests_stand p.law r.state r.spells a._lines.now (λ w. w.seat) (λ w. w.desks.items) a.crew.workers.items (length a._lines.now) c.requires.rests.0 a.crew.fabric.journal a.crew.looks.items c.requires.rests.1 in
+    subst (λ l. CrewStands p.law r.state r.spells q.result.access.fabric.journal (λ w. w.seat) l) (sym items)
+    (still_stands p.law r.state r.spells a._lines.now (λ w. w.seat) (λ w. w.desks.items) a.crew.workers.items a.k a.crew.fabric.journal q.result.access.fabric.journal w q.result.part at (left_grows q.ensures.left) before q.ensures.left.stands)

@@ -7,19 +7,19 @@ pub returns-in-Ok-clause-moves : goal.returns-in-Ok-clause-moves
 returns-in-Ok-clause-moves g c =
     let p = g.T.Law.Rules in
     let e = c.in-Ok.ensures in
-    moves_on p.may p.floor p.shelf c.requires.floor c.args.node.now c.reopen.new.node c.sync.new.self c.in_ok-reopen.ensures e.keeps e.kept e.outbox
+    moves_on p.law c.requires.floor c.args.node.now c.reopen.new.node c.sync.new.self c.in_ok-reopen.ensures e.keeps e.kept e.outbox
 
 pub returns-in-Ok-clause-plays : goal.returns-in-Ok-clause-plays
 returns-in-Ok-clause-plays g c =
     let p = g.T.Law.Rules in
     let e = c.in-Ok.ensures in
-    played p.may p.floor p.shelf c.args.node.now c.reopen.new.node c.sync.new.self c.in-Ok.field-0 c.in_ok-reopen.ensures e.synced e.cursor e.exact
+    played p.law c.args.node.now c.reopen.new.node c.sync.new.self c.in-Ok.field-0 c.in_ok-reopen.ensures e.synced e.cursor e.exact
 
 pub returns-in-Err-Because-clause-moves : goal.returns-in-Err-Because-clause-moves
 returns-in-Err-Because-clause-moves g c =
     let p = g.T.Law.Rules in
     let e = c.in-Err-Because.ensures in
-    moves_on p.may p.floor p.shelf c.requires.floor c.args.node.now c.reopen.new.node c.sync.new.self c.in_ok-reopen.ensures e.keeps e.kept e.outbox
+    moves_on p.law c.requires.floor c.args.node.now c.reopen.new.node c.sync.new.self c.in_ok-reopen.ensures e.keeps e.kept e.outbox
 
 pub returns-in-Err-Because-clause-plays : goal.returns-in-Err-Because-clause-plays
 returns-in-Err-Because-clause-plays g c =
@@ -27,5 +27,5 @@ returns-in-Err-Because-clause-plays g c =
     let m = c.reopen.new.node in
     let n = c.sync.new.self in
     let e = c.in-Err-Because.ensures in
-    failed p.may p.floor p.shelf c.args.node.now m n c.in-Err-Because.field-0-0 c.in_ok-reopen.ensures e.keeps
+    failed p.law c.args.node.now m n c.in-Err-Because.field-0-0 c.in_ok-reopen.ensures e.keeps
     (subst (λ f. Blames m.who m.seen m.replica.faults f n.seen n.replica.faults) c.in-Err-Because.field-0-is e.blames)

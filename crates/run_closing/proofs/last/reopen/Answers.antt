@@ -9,5 +9,5 @@ returns-in-Err-Because g c =
     let n = c.args.node.now in
     let m = c.recover.new.self in
     let e = c.in-Err-Because.ensures in
-    stays_down p.may p.floor p.shelf n m c.in-Err-Because.field-0-0 e.keeps e.seen e.kept e.outbox
+    stays_down p.law n m c.in-Err-Because.field-0-0 e.keeps e.seen e.kept e.outbox
     (subst (λ f. Blames n.who n.seen n.replica.faults f m.seen m.replica.faults) c.in-Err-Because.field-0-is e.blames)

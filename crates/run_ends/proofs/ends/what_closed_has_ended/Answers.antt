@@ -7,8 +7,8 @@ use Rattle.run_ends.proofs.ends.what_closed_has_ended.Goals as goal
 
 pub returns : goal.returns
 returns g c = let p = g.P.Rules in let replica = g.S.Replica in λ run lines journal looks log workers o yard mine floor_is h are end back told registered. (
-  played_lines p.may p.floor p.shelf replica.state replica.spells run lines journal looks log workers o yard mine floor_is h are end back told registered,
-  run_ended p.may p.floor p.shelf replica.state replica.spells run lines journal looks log workers o yard mine floor_is h are end back told registered
+  played_lines p.law replica.state replica.spells run lines journal looks log workers o yard mine floor_is h are end back told registered,
+  run_ended p.law replica.state replica.spells run lines journal looks log workers o yard mine floor_is h are end back told registered
       (λ below reached clean. c.the_log_stands.ensures journal log yard.cells back.legal h.front below reached back.shows back.tail clean)
       (c.each_line_has_ended.ensures run lines o.rows journal looks log workers h are)
       (λ s. c.each_session_has_ended.ensures run lines o.rows journal looks log workers s h are)

@@ -5,9 +5,9 @@ use Rattle.std.proofs.Common.{arith}
 pub returns : goal.returns
 returns g c = λ seen log cells legal front within reaches shows tail clean.
     let p = g.P.Rules in record {
-      whole = no_gap p.may p.floor p.shelf seen legal cells shows tail;
+      whole = no_gap p.law seen legal cells shows tail;
       within = omega (arith, within, tail);
       below = reaches;
-      entries = front_shown p.may p.floor p.shelf seen legal cells shows log front reaches;
+      entries = front_shown p.law seen legal cells shows log front reaches;
       clean = clean;
     }

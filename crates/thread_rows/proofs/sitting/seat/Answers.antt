@@ -31,7 +31,7 @@ pub new-requires-clause-legal : goal.new-requires-clause-legal
 new-requires-clause-legal g c =
     let is = (cut g (goal.at.new-requires-clause-legal g c).After-split-pass).1 in
     let none : c.new-locked.result.seen ≡ [] = ap (λ (x : LockedView). x.seen) c.new-locked.ensures ∙ ap (λ (x : Known Event). first_seen x.parts) is in
-    subst (λ (es : List Event). IsLegal (λ _ _. Unit {0}) (λ _ n. n ≤ 0) (3 ∷ []) es) (sym none) (record { least = omega arith; most = omega arith; steps = tt })
+    subst (λ (es : List Event). IsLegal (record { may = λ _ _. Unit {0}; floor = λ _ n. n ≤ 0; shelf = 3 ∷ [] }) es) (sym none) (record { least = omega arith; most = omega arith; steps = tt })
 
 pub returns-in-Ok-clause-some : goal.returns-in-Ok-clause-some
 returns-in-Ok-clause-some g c =

@@ -1,4 +1,4 @@
-use Rattle.std.proofs.Common.{◌≡◌, ◌≤◌, ℕ, suc, [], ◌∷◌, ◌++◌, List, length, length-append, vec_len, sym, ap, ◌∙◌, subst, arith}
+use Rattle.std.proofs.Common.{◌≡◌, ◌≤◌, suc, [], ◌∷◌, ◌++◌, List, length, length-append, vec_len, sym, ap, ◌∙◌, subst, arith}
 use Rattle.pass_lock.specs.Pass.{all_parts}
 use Rattle.thread_rows.specs.declared.writer.Written.{Written}
 use Rattle.thread_rows.specs.Writers.{WriterView, HasAllBut, AllHeldBy}

@@ -6,4 +6,4 @@ returns g c =
     let k = g.A.Law.Rules in
     let a = g.A.Access in
     let q = g.Q.Scope in
-    λ who may trims seen others beside legal now. legal_beside k.may q.sends k.floor q.floor k.shelf (a.beside who) may trims seen others beside legal now
+    λ who same may trims seen others beside legal now. legal_beside k.law q.law same (a.beside who) may trims seen others beside legal now

@@ -6,4 +6,4 @@ returns g c =
     let k = g.A.Law.Rules in
     let a = g.A.Access in
     let q = g.Q.Scope in
-    λ nodes node m who is least most tells. others_trim q.sends k.floor k.shelf nodes node m is least most tells (a.beside who)
+    λ nodes node m who is least most tells. others_trim k.law q.law.may nodes node m is least most tells (a.beside who)

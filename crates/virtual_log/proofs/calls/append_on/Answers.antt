@@ -24,7 +24,7 @@ append_to-requires-clause-started g c =
     let k = l.known in
     let now = t.seen l.turns in
     let last = c.last_of-last.result in
-    let there = last_there p.may p.floor p.shelf now k.version k.tail k.chain last i.later.legal i.goes_by c.last_of-last.ensures in
+    let there = last_there p.law now k.version k.tail k.chain last i.later.legal i.goes_by c.last_of-last.ensures in
     there
 
 pub returns-in_err-position-clause-goes_by : goal.returns-in_err-position-clause-goes_by
@@ -36,9 +36,9 @@ returns-in_err-position-clause-goes_by g c =
     let k = l.known in
     let now = t.seen l.turns in
     let last = c.last_of-last.result in
-    let there = last_there p.may p.floor p.shelf now k.version k.tail k.chain last i.later.legal i.goes_by c.last_of-last.ensures in
+    let there = last_there p.law now k.version k.tail k.chain last i.later.legal i.goes_by c.last_of-last.ensures in
     let mid = t.seen c.append_to.new.turns in
-    goes_later p.may p.floor p.shelf now mid k.version k.tail k.chain c.in_err-position.ensures.later i.goes_by
+    goes_later p.law now mid k.version k.tail k.chain c.in_err-position.ensures.later i.goes_by
 
 pub overflow_add-position : goal.overflow_add-position
 overflow_add-position g c =
@@ -49,11 +49,11 @@ overflow_add-position g c =
     let k = l.known in
     let now = t.seen l.turns in
     let last = c.last_of-last.result in
-    let there = last_there p.may p.floor p.shelf now k.version k.tail k.chain last i.later.legal i.goes_by c.last_of-last.ensures in
+    let there = last_there p.law now k.version k.tail k.chain last i.later.legal i.goes_by c.last_of-last.ensures in
     let mid = t.seen c.append_to.new.turns in
     let to_mid = c.in_ok-position.ensures.later in
     let low = subst (λ o. IfSome o (λ pos. pos + 1 ≤ last.start + ((state_of mid).cells last.id).told.reach)) c.in-Some.is c.in_ok-position.ensures.reached in
-    omega (arith, reach_fits p.may p.floor p.shelf mid last.id last.start (c.in-Some.position + 1) to_mid.legal (there_later p.may p.floor p.shelf now mid last.id last.start to_mid there) low)
+    omega (arith, reach_fits p.law mid last.id last.start (c.in-Some.position + 1) to_mid.legal (there_later p.law now mid last.id last.start to_mid there) low)
 
 pub returns-in-Some-clause-goes_by : goal.returns-in-Some-clause-goes_by
 returns-in-Some-clause-goes_by g c =
@@ -64,11 +64,11 @@ returns-in-Some-clause-goes_by g c =
     let k = l.known in
     let now = t.seen l.turns in
     let last = c.last_of-last.result in
-    let there = last_there p.may p.floor p.shelf now k.version k.tail k.chain last i.later.legal i.goes_by c.last_of-last.ensures in
+    let there = last_there p.law now k.version k.tail k.chain last i.later.legal i.goes_by c.last_of-last.ensures in
     let mid = t.seen c.append_to.new.turns in
     let to_mid = c.in_ok-position.ensures.later in
     let low = subst (λ o. IfSome o (λ pos. pos + 1 ≤ last.start + ((state_of mid).cells last.id).told.reach)) c.in-Some.is c.in_ok-position.ensures.reached in
-    goes_further p.may p.floor p.shelf mid k.version k.tail (c.in-Some.position + 1) c.max-known.result k.chain last (goes_later p.may p.floor p.shelf now mid k.version k.tail k.chain to_mid i.goes_by) c.last_of-last.ensures low c.max-known.ensures
+    goes_further p.law mid k.version k.tail (c.in-Some.position + 1) c.max-known.result k.chain last (goes_later p.law now mid k.version k.tail k.chain to_mid i.goes_by) c.last_of-last.ensures low c.max-known.ensures
 
 pub returns-in-Some-clause-above : goal.returns-in-Some-clause-above
 returns-in-Some-clause-above g c =
@@ -79,7 +79,7 @@ returns-in-Some-clause-above g c =
     let k = l.known in
     let now = t.seen l.turns in
     let last = c.last_of-last.result in
-    let there = last_there p.may p.floor p.shelf now k.version k.tail k.chain last i.later.legal i.goes_by c.last_of-last.ensures in
+    let there = last_there p.law now k.version k.tail k.chain last i.later.legal i.goes_by c.last_of-last.ensures in
     let mid = t.seen c.append_to.new.turns in
     let to_mid = c.in_ok-position.ensures.later in
     let up = subst (λ o. IfSome o (λ pos. IsAbove (t.who l.turns) now pos mid)) c.in-Some.is c.in_ok-position.ensures.above in
@@ -94,14 +94,14 @@ returns-in-Some-clause-held g c =
     let k = l.known in
     let now = t.seen l.turns in
     let last = c.last_of-last.result in
-    let there = last_there p.may p.floor p.shelf now k.version k.tail k.chain last i.later.legal i.goes_by c.last_of-last.ensures in
+    let there = last_there p.law now k.version k.tail k.chain last i.later.legal i.goes_by c.last_of-last.ensures in
     let mid = t.seen c.append_to.new.turns in
     let to_mid = c.in_ok-position.ensures.later in
     let made = c.in_ok-position.ensures in
     let low = subst (λ o. IfSome o (λ pos. pos + 1 ≤ last.start + ((state_of mid).cells last.id).told.reach)) c.in-Some.is made.reached in
     let up = subst (λ o. IfSome o (λ pos. last.start ≤ pos)) c.in-Some.is made.start in
     let placed = subst (λ o. IfSome o (λ pos. slice_get ((state_of mid).cells last.id).entries (pos - last.start) ≡ Some c.args.entry.now)) c.in-Some.is made.placed in
-    placed_held p.may p.floor p.shelf mid k.version k.tail c.in-Some.position k.chain last c.args.entry.now to_mid.legal (goes_later p.may p.floor p.shelf now mid k.version k.tail k.chain to_mid i.goes_by) c.last_of-last.ensures up low placed
+    placed_held p.law mid k.version k.tail c.in-Some.position k.chain last c.args.entry.now to_mid.legal (goes_later p.law now mid k.version k.tail k.chain to_mid i.goes_by) c.last_of-last.ensures up low placed
 
 pub chain_behind-requires-clause-started : goal.chain_behind-requires-clause-started
 chain_behind-requires-clause-started g c =
@@ -112,10 +112,10 @@ chain_behind-requires-clause-started g c =
     let k = l.known in
     let now = t.seen l.turns in
     let last = c.last_of-last.result in
-    let there = last_there p.may p.floor p.shelf now k.version k.tail k.chain last i.later.legal i.goes_by c.last_of-last.ensures in
+    let there = last_there p.law now k.version k.tail k.chain last i.later.legal i.goes_by c.last_of-last.ensures in
     let mid = t.seen c.append_to.new.turns in
     let to_mid = c.in_ok-position.ensures.later in
-    there_later p.may p.floor p.shelf now mid last.id last.start to_mid there
+    there_later p.law now mid last.id last.start to_mid there
 
 pub returns-in_err-version-clause-goes_by : goal.returns-in_err-version-clause-goes_by
 returns-in_err-version-clause-goes_by g c =
@@ -126,11 +126,11 @@ returns-in_err-version-clause-goes_by g c =
     let k = l.known in
     let now = t.seen l.turns in
     let last = c.last_of-last.result in
-    let there = last_there p.may p.floor p.shelf now k.version k.tail k.chain last i.later.legal i.goes_by c.last_of-last.ensures in
+    let there = last_there p.law now k.version k.tail k.chain last i.later.legal i.goes_by c.last_of-last.ensures in
     let mid = t.seen c.append_to.new.turns in
     let to_mid = c.in_ok-position.ensures.later in
     let end = t.seen c.chain_behind.new.turns in
-    goes_later p.may p.floor p.shelf now end k.version k.tail k.chain (later_trans p.may p.floor p.shelf now mid end to_mid c.in_err-version.ensures.later) i.goes_by
+    goes_later p.law now end k.version k.tail k.chain (later_trans p.law now mid end to_mid c.in_err-version.ensures.later) i.goes_by
 
 pub returns-in_err-version-clause-err : goal.returns-in_err-version-clause-err
 returns-in_err-version-clause-err g c =
@@ -141,13 +141,13 @@ returns-in_err-version-clause-err g c =
     let k = l.known in
     let now = t.seen l.turns in
     let last = c.last_of-last.result in
-    let there = last_there p.may p.floor p.shelf now k.version k.tail k.chain last i.later.legal i.goes_by c.last_of-last.ensures in
+    let there = last_there p.law now k.version k.tail k.chain last i.later.legal i.goes_by c.last_of-last.ensures in
     let mid = t.seen c.append_to.new.turns in
     let to_mid = c.in_ok-position.ensures.later in
     let end = t.seen c.chain_behind.new.turns in
     let r = err_from_is_err_and c.from_residual-in_err-version.result c.from_residual-in_err-version.ensures.1 in
     let f = c.in_err-version.field-0.0 in
-    let before = later_trans p.may p.floor p.shelf (t.seen c.args.turns.now) now mid i.later to_mid in
+    let before = later_trans p.law (t.seen c.args.turns.now) now mid i.later to_mid in
     rw (r.1, r.2) (cause_since (t.who c.args.turns.now) f (t.seen c.args.turns.now) mid end before.more before.seen
     (subst (λ w. HasCause w mid f end) (c.in_ok-position.ensures.who ∙ i.who) c.in_err-version.ensures.err))
 
@@ -160,13 +160,13 @@ segment-smaller g c =
     let k = l.known in
     let now = t.seen l.turns in
     let last = c.last_of-last.result in
-    let there = last_there p.may p.floor p.shelf now k.version k.tail k.chain last i.later.legal i.goes_by c.last_of-last.ensures in
+    let there = last_there p.law now k.version k.tail k.chain last i.later.legal i.goes_by c.last_of-last.ensures in
     let mid = t.seen c.append_to.new.turns in
     let to_mid = c.in_ok-position.ensures.later in
     let end = t.seen c.chain_behind.new.turns in
     let from = c.in_ok-version.ensures in
-    let behind = goes_behind p.may p.floor p.shelf now end k.version k.tail c.in_ok-version.version k.chain c.in_ok-version.chain last i.later.legal (later_trans p.may p.floor p.shelf now mid end to_mid from.later) i.goes_by c.last_of-last.ensures from.given from.behind in
-    let less = fewer p.may p.floor p.shelf end c.in_ok-version.version k.tail last.id c.in_ok-version.chain from.later.legal behind from.behind in
+    let behind = goes_behind p.law now end k.version k.tail c.in_ok-version.version k.chain c.in_ok-version.chain last i.later.legal (later_trans p.law now mid end to_mid from.later) i.goes_by c.last_of-last.ensures from.given from.behind in
+    let less = fewer p.law end c.in_ok-version.version k.tail last.id c.in_ok-version.chain from.later.legal behind from.behind in
     omega (arith, less, ap (λ (x : Segment). x.id) c.last_of-last.ensures)
 
 pub segment-preserved : goal.segment-preserved
@@ -178,22 +178,22 @@ segment-preserved g c =
     let k = l.known in
     let now = t.seen l.turns in
     let last = c.last_of-last.result in
-    let there = last_there p.may p.floor p.shelf now k.version k.tail k.chain last i.later.legal i.goes_by c.last_of-last.ensures in
+    let there = last_there p.law now k.version k.tail k.chain last i.later.legal i.goes_by c.last_of-last.ensures in
     let mid = t.seen c.append_to.new.turns in
     let to_mid = c.in_ok-position.ensures.later in
     let end = t.seen c.chain_behind.new.turns in
     let from = c.in_ok-version.ensures in
-    let behind = goes_behind p.may p.floor p.shelf now end k.version k.tail c.in_ok-version.version k.chain c.in_ok-version.chain last i.later.legal (later_trans p.may p.floor p.shelf now mid end to_mid from.later) i.goes_by c.last_of-last.ensures from.given from.behind in
+    let behind = goes_behind p.law now end k.version k.tail c.in_ok-version.version k.chain c.in_ok-version.chain last i.later.legal (later_trans p.law now mid end to_mid from.later) i.goes_by c.last_of-last.ensures from.given from.behind in
     let first = subst (λ o. IfNone o (FirstTurn (t.who l.turns) now mid)) c.in_default.is c.in_ok-position.ensures.retry in
     record {
-      later = later_trans p.may p.floor p.shelf (t.seen c.args.turns.now) now end i.later (later_trans p.may p.floor p.shelf now mid end to_mid from.later);
+      later = later_trans p.law (t.seen c.args.turns.now) now end i.later (later_trans p.law now mid end to_mid from.later);
       who = from.who ∙ (c.in_ok-position.ensures.who ∙ i.who);
       goes_by = behind;
       tail = i.tail;
       rises = omega (arith, i.rises, from.behind, ap (λ (x : Segment). x.id) c.last_of-last.ensures);
       above = λ pos new later x.
-          i.above pos new (later_trans p.may p.floor p.shelf now end new (later_trans p.may p.floor p.shelf now mid end to_mid from.later) later)
-          (above_since p.may p.floor p.shelf (t.who c.args.turns.now) pos now mid end new (subst (λ w. FirstTurn w now mid) i.who first) from.later later x);
+          i.above pos new (later_trans p.law now end new (later_trans p.law now mid end to_mid from.later) later)
+          (above_since p.law (t.who c.args.turns.now) pos now mid end new (subst (λ w. FirstTurn w now mid) i.who first) from.later later x);
       words =
           let who = t.who c.args.turns.now in
           let old = t.seen c.args.turns.now in
@@ -261,7 +261,7 @@ segment-init g c =
     let t = g.T.Turns in
     let old = t.seen c.args.turns.now in
     record {
-      later = later_refl p.may p.floor p.shelf old c.requires.legal;
+      later = later_refl p.law old c.requires.legal;
       who = refl;
       goes_by = c.requires.goes_by;
       tail = refl;

@@ -16,12 +16,12 @@ invariant-segment g l =
     let p = g.T.Law.Rules in
     let may = g.C.Chooser.may in
     record {
-      later : Later p.may p.floor p.shelf (t.seen l.fn.turns) (t.seen l.turns);
+      later : Later p.law (t.seen l.fn.turns) (t.seen l.turns);
       who : t.who l.turns ≡ t.who l.fn.turns;
       goes_by : GoesBy (state_of (t.seen l.turns)) l.known.version l.known.chain l.known.tail;
       tail : l.known.tail ≡ l.fn.known.tail;
       rises : (last_segment l.fn.known.chain).id ≤ (last_segment l.known.chain).id;
-      above : (pos : ℕ) (new : List Event) → Later p.may p.floor p.shelf (t.seen l.turns) new → IsAbove (t.who l.fn.turns) (t.seen l.turns) pos new → IsAbove (t.who l.fn.turns) (t.seen l.fn.turns) pos new;
+      above : (pos : ℕ) (new : List Event) → Later p.law (t.seen l.turns) new → IsAbove (t.who l.fn.turns) (t.seen l.turns) pos new → IsAbove (t.who l.fn.turns) (t.seen l.fn.turns) pos new;
       words : SaysOnly (may l.fn.chooser) (t.who l.fn.turns) (t.seen l.fn.turns) (t.seen l.turns);
       unsealed : SealsNone (t.who l.fn.turns) (t.seen l.fn.turns) (t.seen l.turns);
       calm : CalmSince (t.who l.fn.turns) (t.seen l.fn.turns) (t.seen l.turns);
@@ -30,4 +30,4 @@ invariant-segment g l =
     }
 
 abbrev pub decreases-segment : goal.decreases-segment
-decreases-segment g l = length g.T.Law.Rules.shelf - (last_segment l.known.chain).id
+decreases-segment g l = length g.T.Law.Rules.law.shelf - (last_segment l.known.chain).id

@@ -28,8 +28,8 @@ locate-requires g c =
     let t = g.T.Turns in
     let k = c.args.known.now in
     let old = t.seen c.args.turns.now in
-    let ok = sound p.may p.floor p.shelf old c.requires.legal in
-    chain_ok (length p.shelf) (state_of old) k.version k.chain ok c.requires.goes_by.given
+    let ok = sound p.law old c.requires.legal in
+    chain_ok (length p.law.shelf) (state_of old) k.version k.chain ok c.requires.goes_by.given
 
 pub begin-requires-clause-may : goal.begin-requires-clause-may
 begin-requires-clause-may g c =
@@ -37,11 +37,11 @@ begin-requires-clause-may g c =
     let t = g.T.Turns in
     let k = c.args.known.now in
     let old = t.seen c.args.turns.now in
-    let ok = sound p.may p.floor p.shelf old c.requires.legal in
+    let ok = sound p.law old c.requires.legal in
     let id = c.in-Inside.id in
     let index = c.in-Inside.index in
-    let place = place_of (length p.shelf) (state_of old) k.version c.args.pos id index k.chain ok c.requires.goes_by.given c.in-Inside.ensures in
-    may_read p.may p.floor p.shelf _ _ id index (started_within p.may p.floor p.shelf old id place.segment.start c.requires.legal place.started)
+    let place = place_of (length p.law.shelf) (state_of old) k.version c.args.pos id index k.chain ok c.requires.goes_by.given c.in-Inside.ensures in
+    may_read p.law _ _ id index (started_within p.law old id place.segment.start c.requires.legal place.started)
 
 pub carry_on-requires-clause-cell : goal.carry_on-requires-clause-cell
 carry_on-requires-clause-cell g c =
@@ -49,11 +49,11 @@ carry_on-requires-clause-cell g c =
     let t = g.T.Turns in
     let k = c.args.known.now in
     let old = t.seen c.args.turns.now in
-    let ok = sound p.may p.floor p.shelf old c.requires.legal in
+    let ok = sound p.law old c.requires.legal in
     let id = c.in-Inside.id in
     let index = c.in-Inside.index in
-    let place = place_of (length p.shelf) (state_of old) k.version c.args.pos id index k.chain ok c.requires.goes_by.given c.in-Inside.ensures in
-    started_within p.may p.floor p.shelf old id place.segment.start c.requires.legal place.started
+    let place = place_of (length p.law.shelf) (state_of old) k.version c.args.pos id index k.chain ok c.requires.goes_by.given c.in-Inside.ensures in
+    started_within p.law old id place.segment.start c.requires.legal place.started
 
 pub returns-in-Got-clause-found : goal.returns-in-Got-clause-found
 returns-in-Got-clause-found g c =
@@ -61,10 +61,10 @@ returns-in-Got-clause-found g c =
     let t = g.T.Turns in
     let k = c.args.known.now in
     let old = t.seen c.args.turns.now in
-    let ok = sound p.may p.floor p.shelf old c.requires.legal in
+    let ok = sound p.law old c.requires.legal in
     let id = c.in-Inside.id in
     let index = c.in-Inside.index in
-    let place = place_of (length p.shelf) (state_of old) k.version c.args.pos id index k.chain ok c.requires.goes_by.given c.in-Inside.ensures in
+    let place = place_of (length p.law.shelf) (state_of old) k.version c.args.pos id index k.chain ok c.requires.goes_by.given c.in-Inside.ensures in
     let who = t.who c.args.turns.now in
     let mid = t.seen c.begin.new.turns in
     let new = t.seen c.carry_on.new.turns in
@@ -72,7 +72,7 @@ returns-in-Got-clause-found g c =
     let r = started ((state_of (old ++ o.first.others)).cells id).told (Read index) in
     let x = subst (λ (a : Answer). Answered who mid id c.in_ok-ticket.ticket r a new) c.in-Got.is
     (subst (λ w. Answered w mid id c.in_ok-ticket.ticket r c.in_ok-entry.field-0 new) c.in_ok-ticket.ensures.who (c.in_ok-entry.ensures.ok r (own_by _ _ _ _ _ c.in_ok-ticket.ensures.who o.own))) in
-    got_ok p.may p.floor p.shelf who old mid new k.version k.tail c.args.pos id index c.in_ok-ticket.ticket k.chain c.in-Got.entry c.requires.legal c.requires.goes_by c.requires.tail place c.in_ok-ticket.ensures.later c.in_ok-entry.ensures.later o x
+    got_ok p.law who old mid new k.version k.tail c.args.pos id index c.in_ok-ticket.ticket k.chain c.in-Got.entry c.requires.legal c.requires.goes_by c.requires.tail place c.in_ok-ticket.ensures.later c.in_ok-entry.ensures.later o x
 
 pub returns-in-Got-clause-held : goal.returns-in-Got-clause-held
 returns-in-Got-clause-held g c =
@@ -80,10 +80,10 @@ returns-in-Got-clause-held g c =
     let t = g.T.Turns in
     let k = c.args.known.now in
     let old = t.seen c.args.turns.now in
-    let ok = sound p.may p.floor p.shelf old c.requires.legal in
+    let ok = sound p.law old c.requires.legal in
     let id = c.in-Inside.id in
     let index = c.in-Inside.index in
-    let place = place_of (length p.shelf) (state_of old) k.version c.args.pos id index k.chain ok c.requires.goes_by.given c.in-Inside.ensures in
+    let place = place_of (length p.law.shelf) (state_of old) k.version c.args.pos id index k.chain ok c.requires.goes_by.given c.in-Inside.ensures in
     let who = t.who c.args.turns.now in
     let mid = t.seen c.begin.new.turns in
     let new = t.seen c.carry_on.new.turns in
@@ -91,7 +91,7 @@ returns-in-Got-clause-held g c =
     let r = started ((state_of (old ++ o.first.others)).cells id).told (Read index) in
     let x = subst (λ (a : Answer). Answered who mid id c.in_ok-ticket.ticket r a new) c.in-Got.is
     (subst (λ w. Answered w mid id c.in_ok-ticket.ticket r c.in_ok-entry.field-0 new) c.in_ok-ticket.ensures.who (c.in_ok-entry.ensures.ok r (own_by _ _ _ _ _ c.in_ok-ticket.ensures.who o.own))) in
-    got_held p.may p.floor p.shelf who old mid new k.version k.tail c.args.pos id index c.in_ok-ticket.ticket k.chain c.in-Got.entry c.requires.legal c.requires.goes_by c.requires.tail place c.in_ok-ticket.ensures.later c.in_ok-entry.ensures.later o x
+    got_held p.law who old mid new k.version k.tail c.args.pos id index c.in_ok-ticket.ticket k.chain c.in-Got.entry c.requires.legal c.requires.goes_by c.requires.tail place c.in_ok-ticket.ensures.later c.in_ok-entry.ensures.later o x
 
 pub returns-in-Got-clause-quiet : goal.returns-in-Got-clause-quiet
 returns-in-Got-clause-quiet g c = λ alone.
@@ -107,7 +107,7 @@ returns-in-Got-clause-quiet g c = λ alone.
     let r = started ((state_of (old ++ o.first.others)).cells id).told (Read index) in
     let x = subst (λ (a : Answer). Answered who mid id c.in_ok-ticket.ticket r a new) c.in-Got.is
     (subst (λ w. Answered w mid id c.in_ok-ticket.ticket r c.in_ok-entry.field-0 new) c.in_ok-ticket.ensures.who (c.in_ok-entry.ensures.ok r (own_by _ _ _ _ _ c.in_ok-ticket.ensures.who o.own))) in
-    level_tail (state_of old) (state_of new) (silent_level p.may p.floor p.shelf who old mid new id c.in_ok-ticket.ticket (Read index) r (Got c.in-Got.entry) refl c.in_ok-ticket.ensures.later c.in_ok-entry.ensures.later o x alone)
+    level_tail (state_of old) (state_of new) (silent_level p.law who old mid new id c.in_ok-ticket.ticket (Read index) r (Got c.in-Got.entry) refl c.in_ok-ticket.ensures.later c.in_ok-entry.ensures.later o x alone)
 
 pub returns-in-CutAt-clause-cut : goal.returns-in-CutAt-clause-cut
 returns-in-CutAt-clause-cut g c =
@@ -115,10 +115,10 @@ returns-in-CutAt-clause-cut g c =
     let t = g.T.Turns in
     let k = c.args.known.now in
     let old = t.seen c.args.turns.now in
-    let ok = sound p.may p.floor p.shelf old c.requires.legal in
+    let ok = sound p.law old c.requires.legal in
     let id = c.in-Inside.id in
     let index = c.in-Inside.index in
-    let place = place_of (length p.shelf) (state_of old) k.version c.args.pos id index k.chain ok c.requires.goes_by.given c.in-Inside.ensures in
+    let place = place_of (length p.law.shelf) (state_of old) k.version c.args.pos id index k.chain ok c.requires.goes_by.given c.in-Inside.ensures in
     let who = t.who c.args.turns.now in
     let mid = t.seen c.begin.new.turns in
     let new = t.seen c.carry_on.new.turns in
@@ -126,7 +126,7 @@ returns-in-CutAt-clause-cut g c =
     let r = started ((state_of (old ++ o.first.others)).cells id).told (Read index) in
     let x = subst (λ (a : Answer). Answered who mid id c.in_ok-ticket.ticket r a new) c.in-CutAt.is
     (subst (λ w. Answered w mid id c.in_ok-ticket.ticket r c.in_ok-entry.field-0 new) c.in_ok-ticket.ensures.who (c.in_ok-entry.ensures.ok r (own_by _ _ _ _ _ c.in_ok-ticket.ensures.who o.own))) in
-    cut_ok p.may p.floor p.shelf who old mid new c.args.pos id index c.in_ok-ticket.ticket c.in-CutAt.field-0 k.chain c.requires.legal place c.in_ok-ticket.ensures.later c.in_ok-entry.ensures.later o x
+    cut_ok p.law who old mid new c.args.pos id index c.in_ok-ticket.ticket c.in-CutAt.field-0 k.chain c.requires.legal place c.in_ok-ticket.ensures.later c.in_ok-entry.ensures.later o x
 
 pub returns-in-CutAt-clause-quiet : goal.returns-in-CutAt-clause-quiet
 returns-in-CutAt-clause-quiet g c = λ alone.
@@ -142,7 +142,7 @@ returns-in-CutAt-clause-quiet g c = λ alone.
     let r = started ((state_of (old ++ o.first.others)).cells id).told (Read index) in
     let x = subst (λ (a : Answer). Answered who mid id c.in_ok-ticket.ticket r a new) c.in-CutAt.is
     (subst (λ w. Answered w mid id c.in_ok-ticket.ticket r c.in_ok-entry.field-0 new) c.in_ok-ticket.ensures.who (c.in_ok-entry.ensures.ok r (own_by _ _ _ _ _ c.in_ok-ticket.ensures.who o.own))) in
-    level_tail (state_of old) (state_of new) (silent_level p.may p.floor p.shelf who old mid new id c.in_ok-ticket.ticket (Read index) r (CutAt c.in-CutAt.field-0) refl c.in_ok-ticket.ensures.later c.in_ok-entry.ensures.later o x alone)
+    level_tail (state_of old) (state_of new) (silent_level p.law who old mid new id c.in_ok-ticket.ticket (Read index) r (CutAt c.in-CutAt.field-0) refl c.in_ok-ticket.ensures.later c.in_ok-entry.ensures.later o x alone)
 
 pub returns-in-NoQuorum-clause-err : goal.returns-in-NoQuorum-clause-err
 returns-in-NoQuorum-clause-err g c =
@@ -150,10 +150,10 @@ returns-in-NoQuorum-clause-err g c =
     let t = g.T.Turns in
     let k = c.args.known.now in
     let old = t.seen c.args.turns.now in
-    let ok = sound p.may p.floor p.shelf old c.requires.legal in
+    let ok = sound p.law old c.requires.legal in
     let id = c.in-Inside.id in
     let index = c.in-Inside.index in
-    let place = place_of (length p.shelf) (state_of old) k.version c.args.pos id index k.chain ok c.requires.goes_by.given c.in-Inside.ensures in
+    let place = place_of (length p.law.shelf) (state_of old) k.version c.args.pos id index k.chain ok c.requires.goes_by.given c.in-Inside.ensures in
     let who = t.who c.args.turns.now in
     let mid = t.seen c.begin.new.turns in
     let new = t.seen c.carry_on.new.turns in
@@ -241,10 +241,10 @@ unreachable-requires-in_default-2 g c =
     let t = g.T.Turns in
     let k = c.args.known.now in
     let old = t.seen c.args.turns.now in
-    let ok = sound p.may p.floor p.shelf old c.requires.legal in
+    let ok = sound p.law old c.requires.legal in
     let id = c.in-Inside.id in
     let index = c.in-Inside.index in
-    let place = place_of (length p.shelf) (state_of old) k.version c.args.pos id index k.chain ok c.requires.goes_by.given c.in-Inside.ensures in
+    let place = place_of (length p.law.shelf) (state_of old) k.version c.args.pos id index k.chain ok c.requires.goes_by.given c.in-Inside.ensures in
     let who = t.who c.args.turns.now in
     let mid = t.seen c.begin.new.turns in
     let new = t.seen c.carry_on.new.turns in
@@ -252,7 +252,7 @@ unreachable-requires-in_default-2 g c =
     let r = started ((state_of (old ++ o.first.others)).cells id).told (Read index) in
     let x = subst (λ w. Answered w mid id c.in_ok-ticket.ticket r c.in_ok-entry.field-0 new) c.in_ok-ticket.ensures.who (c.in_ok-entry.ensures.ok r (own_by _ _ _ _ _ c.in_ok-ticket.ensures.who o.own)) in
     read_answers ((state_of x.moment).cells id).told r index c.in_ok-entry.field-0 x.may c.in_default-2.not-Got c.in_default-2.not-CutAt c.in_default-2.not-NoQuorum
-    (λ n is. never_beyond p.may p.floor p.shelf who old mid new k.version k.tail c.args.pos id index c.in_ok-ticket.ticket n k.chain c.requires.legal c.requires.goes_by c.requires.tail place c.in_ok-ticket.ensures.later c.in_ok-entry.ensures.later o
+    (λ n is. never_beyond p.law who old mid new k.version k.tail c.args.pos id index c.in_ok-ticket.ticket n k.chain c.requires.legal c.requires.goes_by c.requires.tail place c.in_ok-ticket.ensures.later c.in_ok-entry.ensures.later o
     (subst (λ (a : Answer). Answered who mid id c.in_ok-ticket.ticket r a new) is x))
 
 pub returns-in_err-ticket-clause-closes : goal.returns-in_err-ticket-clause-closes

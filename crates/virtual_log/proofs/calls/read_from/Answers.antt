@@ -24,7 +24,7 @@ returns-in_err-entry-clause-goes_by g c =
     let k = l.known in
     let now = t.seen l.turns in
     let mid = t.seen c.read_at.new.turns in
-    goes_later p.may p.floor p.shelf now mid k.version k.tail k.chain c.in_err-entry.ensures.later i.goes_by
+    goes_later p.law now mid k.version k.tail k.chain c.in_err-entry.ensures.later i.goes_by
 
 pub returns-in-Some-clause-goes_by : goal.returns-in-Some-clause-goes_by
 returns-in-Some-clause-goes_by g c =
@@ -35,7 +35,7 @@ returns-in-Some-clause-goes_by g c =
     let k = l.known in
     let now = t.seen l.turns in
     let mid = t.seen c.read_at.new.turns in
-    goes_later p.may p.floor p.shelf now mid k.version k.tail k.chain c.in_ok-entry.ensures.later i.goes_by
+    goes_later p.law now mid k.version k.tail k.chain c.in_ok-entry.ensures.later i.goes_by
 
 pub returns-in-Some-clause-reads : goal.returns-in-Some-clause-reads
 returns-in-Some-clause-reads g c =
@@ -46,9 +46,9 @@ returns-in-Some-clause-reads g c =
     let k = l.known in
     let now = t.seen l.turns in
     let mid = t.seen c.read_at.new.turns in
-    let goes = goes_later p.may p.floor p.shelf now mid k.version k.tail k.chain c.in_ok-entry.ensures.later i.goes_by in
+    let goes = goes_later p.law now mid k.version k.tail k.chain c.in_ok-entry.ensures.later i.goes_by in
     let held = subst (λ o. IfSome o (λ e. Holds mid c.max-pos.result e)) c.in-Some.is c.in_ok-entry.ensures.held in
-    (c.requires.some, reads_found p.may p.floor p.shelf mid k.version k.tail c.args.min c.max-pos.result k.chain goes c.max-pos.ensures, held)
+    (c.requires.some, reads_found p.law mid k.version k.tail c.args.min c.max-pos.result k.chain goes c.max-pos.ensures, held)
 
 pub returns-in-Some-clause-quiet : goal.returns-in-Some-clause-quiet
 returns-in-Some-clause-quiet g c = λ low alone.
@@ -63,7 +63,7 @@ returns-in-Some-clause-quiet g c = λ low alone.
     let parts = own_split (t.who c.args.turns.now) start now mid i.later.more to_mid.more i.later.seen to_mid.seen alone in
     ⊎_elim
     (λ (same : now ≡ start). c.in_ok-entry.ensures.quiet (subst (λ w. OnlyOwn w now mid) (sym i.who) parts.1) ∙ ap (λ es. tail_of (state_of es)) same)
-    (λ (cut : c.args.min < trim_of (state_of now)). absurd (omega (arith, low, cut, (later_continues p.may p.floor p.shelf now mid to_mid).trim)))
+    (λ (cut : c.args.min < trim_of (state_of now)). absurd (omega (arith, low, cut, (later_continues p.law now mid to_mid).trim)))
     i.first
 
 pub returns-in_err-version-clause-goes_by : goal.returns-in_err-version-clause-goes_by
@@ -77,7 +77,7 @@ returns-in_err-version-clause-goes_by g c =
     let mid = t.seen c.read_at.new.turns in
     let end = t.seen c.look.new.turns in
     let to_mid = c.in_ok-entry.ensures.later in
-    goes_later p.may p.floor p.shelf now end k.version k.tail k.chain (later_trans p.may p.floor p.shelf now mid end to_mid c.in_err-version.ensures.later) i.goes_by
+    goes_later p.law now end k.version k.tail k.chain (later_trans p.law now mid end to_mid c.in_err-version.ensures.later) i.goes_by
 
 pub returns-in_err-version-clause-err : goal.returns-in_err-version-clause-err
 returns-in_err-version-clause-err g c =
@@ -90,7 +90,7 @@ returns-in_err-version-clause-err g c =
     let end = t.seen c.look.new.turns in
     let r = err_from_is_err_and c.from_residual-in_err-version.result c.from_residual-in_err-version.ensures.1 in
     let f = c.in_err-version.field-0.0 in
-    let before = later_trans p.may p.floor p.shelf start now mid i.later c.in_ok-entry.ensures.later in
+    let before = later_trans p.law start now mid i.later c.in_ok-entry.ensures.later in
     rw (r.1, r.2) (cause_since (t.who c.args.turns.now) f start mid end before.more before.seen
     (subst (λ w. HasCause w mid f end) (c.in_ok-entry.ensures.who ∙ i.who) c.in_err-version.ensures.err))
 
@@ -107,8 +107,8 @@ trim-smaller g c =
     let to_mid = c.in_ok-entry.ensures.later in
     let to_end = c.in_ok-version.ensures.later in
     let cut = subst (λ o. IfNone o (c.max-pos.result < trim_of (state_of mid))) c.in_default.is c.in_ok-entry.ensures.cut in
-    let on = later_continues p.may p.floor p.shelf mid end to_end in
-    let trim = trim_now p.may p.floor p.shelf (t.who c.read_at.new.turns) c.in_ok-version.version c.in_ok-version.chain mid end to_end c.in_ok-version.ensures.ok in
+    let on = later_continues p.law mid end to_end in
+    let trim = trim_now p.law (t.who c.read_at.new.turns) c.in_ok-version.version c.in_ok-version.chain mid end to_end c.in_ok-version.ensures.ok in
     omega (arith, cut, on.trim, trim.0, trim.1, c.max-pos.ensures)
 
 pub trim-preserved : goal.trim-preserved
@@ -123,16 +123,16 @@ trim-preserved g c =
     let end = t.seen c.look.new.turns in
     let to_mid = c.in_ok-entry.ensures.later in
     let to_end = c.in_ok-version.ensures.later in
-    let at_mid = goes_later p.may p.floor p.shelf now mid k.version k.tail k.chain to_mid i.goes_by in
+    let at_mid = goes_later p.law now mid k.version k.tail k.chain to_mid i.goes_by in
     record {
-      later = later_trans p.may p.floor p.shelf (t.seen c.args.turns.now) now end i.later (later_trans p.may p.floor p.shelf now mid end to_mid to_end);
+      later = later_trans p.law (t.seen c.args.turns.now) now end i.later (later_trans p.law now mid end to_mid to_end);
       who = c.in_ok-version.ensures.who ∙ (c.in_ok-entry.ensures.who ∙ i.who);
-      goes_by = goes_now p.may p.floor p.shelf (t.who c.read_at.new.turns) k.version k.tail c.in_ok-version.version k.chain c.in_ok-version.chain mid end to_mid.legal to_end at_mid c.in_ok-version.ensures.ok;
+      goes_by = goes_now p.law (t.who c.read_at.new.turns) k.version k.tail c.in_ok-version.version k.chain c.in_ok-version.chain mid end to_mid.legal to_end at_mid c.in_ok-version.ensures.ok;
       tail = i.tail;
-      rises = omega (arith, i.rises, rises_now p.may p.floor p.shelf (t.who c.read_at.new.turns) k.version k.tail c.in_ok-version.version k.chain c.in_ok-version.chain mid end to_end at_mid c.in_ok-version.ensures.ok);
+      rises = omega (arith, i.rises, rises_now p.law (t.who c.read_at.new.turns) k.version k.tail c.in_ok-version.version k.chain c.in_ok-version.chain mid end to_end at_mid c.in_ok-version.ensures.ok);
       first =
           let cut = subst (λ o. IfNone o (c.max-pos.result < trim_of (state_of mid))) c.in_default.is c.in_ok-entry.ensures.cut in
-          inr (omega (arith, cut, (later_continues p.may p.floor p.shelf mid end to_end).trim, c.max-pos.ensures));
+          inr (omega (arith, cut, (later_continues p.law mid end to_end).trim, c.max-pos.ensures));
       words =
           let who = t.who c.args.turns.now in
           let old = t.seen c.args.turns.now in
@@ -200,7 +200,7 @@ trim-init g c =
     let t = g.T.Turns in
     let old = t.seen c.args.turns.now in
     record {
-      later = later_refl p.may p.floor p.shelf old c.requires.legal;
+      later = later_refl p.law old c.requires.legal;
       who = refl;
       goes_by = c.requires.goes_by;
       tail = refl;

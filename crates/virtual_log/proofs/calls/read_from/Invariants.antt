@@ -15,7 +15,7 @@ invariant-trim g l =
     let p = g.T.Law.Rules in
     let may = g.C.Chooser.may in
     record {
-      later : Later p.may p.floor p.shelf (t.seen l.fn.turns) (t.seen l.turns);
+      later : Later p.law (t.seen l.fn.turns) (t.seen l.turns);
       who : t.who l.turns ≡ t.who l.fn.turns;
       goes_by : GoesBy (state_of (t.seen l.turns)) l.known.version l.known.chain l.known.tail;
       tail : l.known.tail ≡ l.fn.known.tail;

@@ -24,7 +24,7 @@ find_tail-requires-clause-started g c =
     let k = l.known in
     let now = t.seen l.turns in
     let last = c.last_of-last.result in
-    let there = last_there p.may p.floor p.shelf now k.version k.tail k.chain last i.later.legal i.goes_by c.last_of-last.ensures in
+    let there = last_there p.law now k.version k.tail k.chain last i.later.legal i.goes_by c.last_of-last.ensures in
     there
 
 pub returns-in_err-tail-clause-goes_by : goal.returns-in_err-tail-clause-goes_by
@@ -36,9 +36,9 @@ returns-in_err-tail-clause-goes_by g c =
     let k = l.known in
     let now = t.seen l.turns in
     let last = c.last_of-last.result in
-    let there = last_there p.may p.floor p.shelf now k.version k.tail k.chain last i.later.legal i.goes_by c.last_of-last.ensures in
+    let there = last_there p.law now k.version k.tail k.chain last i.later.legal i.goes_by c.last_of-last.ensures in
     let mid = t.seen c.find_tail.new.turns in
-    goes_later p.may p.floor p.shelf now mid k.version k.tail k.chain c.in_err-tail.ensures.later i.goes_by
+    goes_later p.law now mid k.version k.tail k.chain c.in_err-tail.ensures.later i.goes_by
 
 pub returns-in-Open-clause-goes_by : goal.returns-in-Open-clause-goes_by
 returns-in-Open-clause-goes_by g c =
@@ -49,11 +49,11 @@ returns-in-Open-clause-goes_by g c =
     let k = l.known in
     let now = t.seen l.turns in
     let last = c.last_of-last.result in
-    let there = last_there p.may p.floor p.shelf now k.version k.tail k.chain last i.later.legal i.goes_by c.last_of-last.ensures in
+    let there = last_there p.law now k.version k.tail k.chain last i.later.legal i.goes_by c.last_of-last.ensures in
     let mid = t.seen c.find_tail.new.turns in
     let to_mid = c.in_ok-tail.ensures.later in
     let found = subst (IsFound (t.who l.turns) now last mid) c.in-Open.is c.in_ok-tail.ensures.found in
-    goes_further p.may p.floor p.shelf mid k.version k.tail c.in-Open.tail c.max-known.result k.chain last (goes_later p.may p.floor p.shelf now mid k.version k.tail k.chain to_mid i.goes_by) c.last_of-last.ensures found.2 c.max-known.ensures
+    goes_further p.law mid k.version k.tail c.in-Open.tail c.max-known.result k.chain last (goes_later p.law now mid k.version k.tail k.chain to_mid i.goes_by) c.last_of-last.ensures found.2 c.max-known.ensures
 
 pub returns-in-Open-clause-above : goal.returns-in-Open-clause-above
 returns-in-Open-clause-above g c =
@@ -64,7 +64,7 @@ returns-in-Open-clause-above g c =
     let k = l.known in
     let now = t.seen l.turns in
     let last = c.last_of-last.result in
-    let there = last_there p.may p.floor p.shelf now k.version k.tail k.chain last i.later.legal i.goes_by c.last_of-last.ensures in
+    let there = last_there p.law now k.version k.tail k.chain last i.later.legal i.goes_by c.last_of-last.ensures in
     let mid = t.seen c.find_tail.new.turns in
     let to_mid = c.in_ok-tail.ensures.later in
     let found = subst (IsFound (t.who l.turns) now last mid) c.in-Open.is c.in_ok-tail.ensures.found in
@@ -79,11 +79,11 @@ returns-in-Open-clause-forward g c =
     let k = l.known in
     let now = t.seen l.turns in
     let last = c.last_of-last.result in
-    let there = last_there p.may p.floor p.shelf now k.version k.tail k.chain last i.later.legal i.goes_by c.last_of-last.ensures in
+    let there = last_there p.law now k.version k.tail k.chain last i.later.legal i.goes_by c.last_of-last.ensures in
     let mid = t.seen c.find_tail.new.turns in
     let to_mid = c.in_ok-tail.ensures.later in
     let found = subst (IsFound (t.who l.turns) now last mid) c.in-Open.is c.in_ok-tail.ensures.found in
-    above_known p.may p.floor p.shelf (t.who c.args.turns.now) (t.seen c.args.turns.now) mid c.args.known.now.version c.args.known.now.tail c.in-Open.tail c.args.known.now.chain c.requires.legal to_mid.legal c.requires.goes_by
+    above_known p.law (t.who c.args.turns.now) (t.seen c.args.turns.now) mid c.args.known.now.version c.args.known.now.tail c.in-Open.tail c.args.known.now.chain c.requires.legal to_mid.legal c.requires.goes_by
     (i.above c.in-Open.tail mid to_mid (subst (λ w. IsAbove w now c.in-Open.tail mid) i.who found.1))
 
 pub returns-in-Open-clause-exact : goal.returns-in-Open-clause-exact
@@ -107,10 +107,10 @@ chain_behind-requires-clause-started g c =
     let k = l.known in
     let now = t.seen l.turns in
     let last = c.last_of-last.result in
-    let there = last_there p.may p.floor p.shelf now k.version k.tail k.chain last i.later.legal i.goes_by c.last_of-last.ensures in
+    let there = last_there p.law now k.version k.tail k.chain last i.later.legal i.goes_by c.last_of-last.ensures in
     let mid = t.seen c.find_tail.new.turns in
     let to_mid = c.in_ok-tail.ensures.later in
-    there_later p.may p.floor p.shelf now mid last.id last.start to_mid there
+    there_later p.law now mid last.id last.start to_mid there
 
 pub returns-in_err-version-clause-goes_by : goal.returns-in_err-version-clause-goes_by
 returns-in_err-version-clause-goes_by g c =
@@ -121,11 +121,11 @@ returns-in_err-version-clause-goes_by g c =
     let k = l.known in
     let now = t.seen l.turns in
     let last = c.last_of-last.result in
-    let there = last_there p.may p.floor p.shelf now k.version k.tail k.chain last i.later.legal i.goes_by c.last_of-last.ensures in
+    let there = last_there p.law now k.version k.tail k.chain last i.later.legal i.goes_by c.last_of-last.ensures in
     let mid = t.seen c.find_tail.new.turns in
     let to_mid = c.in_ok-tail.ensures.later in
     let end = t.seen c.chain_behind.new.turns in
-    goes_later p.may p.floor p.shelf now end k.version k.tail k.chain (later_trans p.may p.floor p.shelf now mid end to_mid c.in_err-version.ensures.later) i.goes_by
+    goes_later p.law now end k.version k.tail k.chain (later_trans p.law now mid end to_mid c.in_err-version.ensures.later) i.goes_by
 
 pub returns-in_err-version-clause-err : goal.returns-in_err-version-clause-err
 returns-in_err-version-clause-err g c =
@@ -136,13 +136,13 @@ returns-in_err-version-clause-err g c =
     let k = l.known in
     let now = t.seen l.turns in
     let last = c.last_of-last.result in
-    let there = last_there p.may p.floor p.shelf now k.version k.tail k.chain last i.later.legal i.goes_by c.last_of-last.ensures in
+    let there = last_there p.law now k.version k.tail k.chain last i.later.legal i.goes_by c.last_of-last.ensures in
     let mid = t.seen c.find_tail.new.turns in
     let to_mid = c.in_ok-tail.ensures.later in
     let end = t.seen c.chain_behind.new.turns in
     let r = err_from_is_err_and c.from_residual-in_err-version.result c.from_residual-in_err-version.ensures.1 in
     let f = c.in_err-version.field-0.0 in
-    let before = later_trans p.may p.floor p.shelf (t.seen c.args.turns.now) now mid i.later to_mid in
+    let before = later_trans p.law (t.seen c.args.turns.now) now mid i.later to_mid in
     rw (r.1, r.2) (cause_since (t.who c.args.turns.now) f (t.seen c.args.turns.now) mid end before.more before.seen
     (subst (λ w. HasCause w mid f end) (c.in_ok-tail.ensures.who ∙ i.who) c.in_err-version.ensures.err))
 
@@ -155,13 +155,13 @@ segment-smaller g c =
     let k = l.known in
     let now = t.seen l.turns in
     let last = c.last_of-last.result in
-    let there = last_there p.may p.floor p.shelf now k.version k.tail k.chain last i.later.legal i.goes_by c.last_of-last.ensures in
+    let there = last_there p.law now k.version k.tail k.chain last i.later.legal i.goes_by c.last_of-last.ensures in
     let mid = t.seen c.find_tail.new.turns in
     let to_mid = c.in_ok-tail.ensures.later in
     let end = t.seen c.chain_behind.new.turns in
     let from = c.in_ok-version.ensures in
-    let behind = goes_behind p.may p.floor p.shelf now end k.version k.tail c.in_ok-version.version k.chain c.in_ok-version.chain last i.later.legal (later_trans p.may p.floor p.shelf now mid end to_mid from.later) i.goes_by c.last_of-last.ensures from.given from.behind in
-    let less = fewer p.may p.floor p.shelf end c.in_ok-version.version k.tail last.id c.in_ok-version.chain from.later.legal behind from.behind in
+    let behind = goes_behind p.law now end k.version k.tail c.in_ok-version.version k.chain c.in_ok-version.chain last i.later.legal (later_trans p.law now mid end to_mid from.later) i.goes_by c.last_of-last.ensures from.given from.behind in
+    let less = fewer p.law end c.in_ok-version.version k.tail last.id c.in_ok-version.chain from.later.legal behind from.behind in
     omega (arith, less, ap (λ (x : Segment). x.id) c.last_of-last.ensures)
 
 pub segment-preserved : goal.segment-preserved
@@ -173,22 +173,22 @@ segment-preserved g c =
     let k = l.known in
     let now = t.seen l.turns in
     let last = c.last_of-last.result in
-    let there = last_there p.may p.floor p.shelf now k.version k.tail k.chain last i.later.legal i.goes_by c.last_of-last.ensures in
+    let there = last_there p.law now k.version k.tail k.chain last i.later.legal i.goes_by c.last_of-last.ensures in
     let mid = t.seen c.find_tail.new.turns in
     let to_mid = c.in_ok-tail.ensures.later in
     let end = t.seen c.chain_behind.new.turns in
     let from = c.in_ok-version.ensures in
-    let behind = goes_behind p.may p.floor p.shelf now end k.version k.tail c.in_ok-version.version k.chain c.in_ok-version.chain last i.later.legal (later_trans p.may p.floor p.shelf now mid end to_mid from.later) i.goes_by c.last_of-last.ensures from.given from.behind in
+    let behind = goes_behind p.law now end k.version k.tail c.in_ok-version.version k.chain c.in_ok-version.chain last i.later.legal (later_trans p.law now mid end to_mid from.later) i.goes_by c.last_of-last.ensures from.given from.behind in
     let first = (subst (IsFound (t.who l.turns) now last mid) c.in_default.is c.in_ok-tail.ensures.found).2 in
     record {
-      later = later_trans p.may p.floor p.shelf (t.seen c.args.turns.now) now end i.later (later_trans p.may p.floor p.shelf now mid end to_mid from.later);
+      later = later_trans p.law (t.seen c.args.turns.now) now end i.later (later_trans p.law now mid end to_mid from.later);
       who = from.who ∙ (c.in_ok-tail.ensures.who ∙ i.who);
       goes_by = behind;
       tail = i.tail;
       rises = omega (arith, i.rises, from.behind, ap (λ (x : Segment). x.id) c.last_of-last.ensures);
       above = λ pos new later x.
-          i.above pos new (later_trans p.may p.floor p.shelf now end new (later_trans p.may p.floor p.shelf now mid end to_mid from.later) later)
-          (above_since p.may p.floor p.shelf (t.who c.args.turns.now) pos now mid end new (subst (λ w. FirstTurn w now mid) i.who first) from.later later x);
+          i.above pos new (later_trans p.law now end new (later_trans p.law now mid end to_mid from.later) later)
+          (above_since p.law (t.who c.args.turns.now) pos now mid end new (subst (λ w. FirstTurn w now mid) i.who first) from.later later x);
       words =
           let who = t.who c.args.turns.now in
           let old = t.seen c.args.turns.now in
@@ -256,7 +256,7 @@ segment-init g c =
     let t = g.T.Turns in
     let old = t.seen c.args.turns.now in
     record {
-      later = later_refl p.may p.floor p.shelf old c.requires.legal;
+      later = later_refl p.law old c.requires.legal;
       who = refl;
       goes_by = c.requires.goes_by;
       tail = refl;

@@ -23,7 +23,7 @@ returns-in_err-version-clause-goes_by g c =
     let k = c.args.known.now in
     let old = t.seen c.args.turns.now in
     let a = t.seen c.look.new.turns in
-    goes_later p.may p.floor p.shelf old a k.version k.tail k.chain c.in_err-version.ensures.later c.requires.goes_by
+    goes_later p.law old a k.version k.tail k.chain c.in_err-version.ensures.later c.requires.goes_by
 
 pub overflow_add-last : goal.overflow_add-last
 overflow_add-last g c =
@@ -36,9 +36,9 @@ overflow_add-last g c =
     let first = c.in_ok-version.ensures in
     let v = c.in_ok-version.version in
     let chain = c.in_ok-version.chain in
-    let goes = goes_now p.may p.floor p.shelf who k.version k.tail v k.chain chain old a c.requires.legal first.later c.requires.goes_by first.ok in
+    let goes = goes_now p.law who k.version k.tail v k.chain chain old a c.requires.legal first.later c.requires.goes_by first.ok in
     let last = c.last_of-last.result in
-    let few = last_within p.may p.floor p.shelf a v k.tail chain last first.later.legal goes c.last_of-last.ensures in
+    let few = last_within p.law a v k.tail chain last first.later.legal goes c.last_of-last.ensures in
     omega (arith, few.0, few.1)
 
 pub returns-then-last-shelf_len-clause-goes_by : goal.returns-then-last-shelf_len-clause-goes_by
@@ -52,9 +52,9 @@ returns-then-last-shelf_len-clause-goes_by g c =
     let first = c.in_ok-version.ensures in
     let v = c.in_ok-version.version in
     let chain = c.in_ok-version.chain in
-    let goes = goes_now p.may p.floor p.shelf who k.version k.tail v k.chain chain old a c.requires.legal first.later c.requires.goes_by first.ok in
+    let goes = goes_now p.law who k.version k.tail v k.chain chain old a c.requires.legal first.later c.requires.goes_by first.ok in
     let last = c.last_of-last.result in
-    let few = last_within p.may p.floor p.shelf a v k.tail chain last first.later.legal goes c.last_of-last.ensures in
+    let few = last_within p.law a v k.tail chain last first.later.legal goes c.last_of-last.ensures in
     goes
 
 pub seal-requires-clause-spare : goal.seal-requires-clause-spare
@@ -68,9 +68,9 @@ seal-requires-clause-spare g c =
     let first = c.in_ok-version.ensures in
     let v = c.in_ok-version.version in
     let chain = c.in_ok-version.chain in
-    let goes = goes_now p.may p.floor p.shelf who k.version k.tail v k.chain chain old a c.requires.legal first.later c.requires.goes_by first.ok in
+    let goes = goes_now p.law who k.version k.tail v k.chain chain old a c.requires.legal first.later c.requires.goes_by first.ok in
     let last = c.last_of-last.result in
-    let few = last_within p.may p.floor p.shelf a v k.tail chain last first.later.legal goes c.last_of-last.ensures in
+    let few = last_within p.law a v k.tail chain last first.later.legal goes c.last_of-last.ensures in
     omega (arith, few.0, c.if-last-shelf_len.false, c.requires.shelf)
 
 pub returns-in_err-seal-clause-goes_by : goal.returns-in_err-seal-clause-goes_by
@@ -84,11 +84,11 @@ returns-in_err-seal-clause-goes_by g c =
     let first = c.in_ok-version.ensures in
     let v = c.in_ok-version.version in
     let chain = c.in_ok-version.chain in
-    let goes = goes_now p.may p.floor p.shelf who k.version k.tail v k.chain chain old a c.requires.legal first.later c.requires.goes_by first.ok in
+    let goes = goes_now p.law who k.version k.tail v k.chain chain old a c.requires.legal first.later c.requires.goes_by first.ok in
     let last = c.last_of-last.result in
-    let few = last_within p.may p.floor p.shelf a v k.tail chain last first.later.legal goes c.last_of-last.ensures in
+    let few = last_within p.law a v k.tail chain last first.later.legal goes c.last_of-last.ensures in
     let b = t.seen c.seal.new.turns in
-    goes_later p.may p.floor p.shelf a b v k.tail chain c.in_err-seal.ensures.later goes
+    goes_later p.law a b v k.tail chain c.in_err-seal.ensures.later goes
 
 pub returns-in_err-seal-clause-err : goal.returns-in_err-seal-clause-err
 returns-in_err-seal-clause-err g c =
@@ -101,9 +101,9 @@ returns-in_err-seal-clause-err g c =
     let first = c.in_ok-version.ensures in
     let v = c.in_ok-version.version in
     let chain = c.in_ok-version.chain in
-    let goes = goes_now p.may p.floor p.shelf who k.version k.tail v k.chain chain old a c.requires.legal first.later c.requires.goes_by first.ok in
+    let goes = goes_now p.law who k.version k.tail v k.chain chain old a c.requires.legal first.later c.requires.goes_by first.ok in
     let last = c.last_of-last.result in
-    let few = last_within p.may p.floor p.shelf a v k.tail chain last first.later.legal goes c.last_of-last.ensures in
+    let few = last_within p.law a v k.tail chain last first.later.legal goes c.last_of-last.ensures in
     let b = t.seen c.seal.new.turns in
     let r = err_from_is_err_and c.from_residual-in_err-seal.result c.from_residual-in_err-seal.ensures.1 in
     let f = c.in_err-seal.field-0.0 in
@@ -120,13 +120,13 @@ find_tail-requires-clause-started g c =
     let first = c.in_ok-version.ensures in
     let v = c.in_ok-version.version in
     let chain = c.in_ok-version.chain in
-    let goes = goes_now p.may p.floor p.shelf who k.version k.tail v k.chain chain old a c.requires.legal first.later c.requires.goes_by first.ok in
+    let goes = goes_now p.law who k.version k.tail v k.chain chain old a c.requires.legal first.later c.requires.goes_by first.ok in
     let last = c.last_of-last.result in
-    let few = last_within p.may p.floor p.shelf a v k.tail chain last first.later.legal goes c.last_of-last.ensures in
+    let few = last_within p.law a v k.tail chain last first.later.legal goes c.last_of-last.ensures in
     let b = t.seen c.seal.new.turns in
     let second = c.in_ok-seal.ensures in
-    let goes_b = goes_later p.may p.floor p.shelf a b v k.tail chain second.later goes in
-    last_there p.may p.floor p.shelf b v k.tail chain last second.later.legal goes_b c.last_of-last.ensures
+    let goes_b = goes_later p.law a b v k.tail chain second.later goes in
+    last_there p.law b v k.tail chain last second.later.legal goes_b c.last_of-last.ensures
 
 pub returns-in_err-length-clause-goes_by : goal.returns-in_err-length-clause-goes_by
 returns-in_err-length-clause-goes_by g c =
@@ -139,14 +139,14 @@ returns-in_err-length-clause-goes_by g c =
     let first = c.in_ok-version.ensures in
     let v = c.in_ok-version.version in
     let chain = c.in_ok-version.chain in
-    let goes = goes_now p.may p.floor p.shelf who k.version k.tail v k.chain chain old a c.requires.legal first.later c.requires.goes_by first.ok in
+    let goes = goes_now p.law who k.version k.tail v k.chain chain old a c.requires.legal first.later c.requires.goes_by first.ok in
     let last = c.last_of-last.result in
-    let few = last_within p.may p.floor p.shelf a v k.tail chain last first.later.legal goes c.last_of-last.ensures in
+    let few = last_within p.law a v k.tail chain last first.later.legal goes c.last_of-last.ensures in
     let b = t.seen c.seal.new.turns in
     let second = c.in_ok-seal.ensures in
-    let goes_b = goes_later p.may p.floor p.shelf a b v k.tail chain second.later goes in
+    let goes_b = goes_later p.law a b v k.tail chain second.later goes in
     let d = t.seen c.find_tail.new.turns in
-    goes_later p.may p.floor p.shelf b d v k.tail chain c.in_err-length.ensures.later goes_b
+    goes_later p.law b d v k.tail chain c.in_err-length.ensures.later goes_b
 
 pub returns-in_err-length-clause-err : goal.returns-in_err-length-clause-err
 returns-in_err-length-clause-err g c =
@@ -161,7 +161,7 @@ returns-in_err-length-clause-err g c =
     let d = t.seen c.find_tail.new.turns in
     let r = err_from_is_err_and c.from_residual-in_err-length.result c.from_residual-in_err-length.ensures.1 in
     let f = c.in_err-length.field-0.0 in
-    let before = later_trans p.may p.floor p.shelf old a b first.later second.later in
+    let before = later_trans p.law old a b first.later second.later in
     rw (r.1, r.2) (cause_since who f old b d before.more before.seen (subst (λ w. HasCause w b f d) (second.who ∙ first.who) c.in_err-length.ensures.err))
 
 pub close_at-requires-clause-goes_by : goal.close_at-requires-clause-goes_by
@@ -175,16 +175,16 @@ close_at-requires-clause-goes_by g c =
     let first = c.in_ok-version.ensures in
     let v = c.in_ok-version.version in
     let chain = c.in_ok-version.chain in
-    let goes = goes_now p.may p.floor p.shelf who k.version k.tail v k.chain chain old a c.requires.legal first.later c.requires.goes_by first.ok in
+    let goes = goes_now p.law who k.version k.tail v k.chain chain old a c.requires.legal first.later c.requires.goes_by first.ok in
     let last = c.last_of-last.result in
-    let few = last_within p.may p.floor p.shelf a v k.tail chain last first.later.legal goes c.last_of-last.ensures in
+    let few = last_within p.law a v k.tail chain last first.later.legal goes c.last_of-last.ensures in
     let b = t.seen c.seal.new.turns in
     let second = c.in_ok-seal.ensures in
-    let goes_b = goes_later p.may p.floor p.shelf a b v k.tail chain second.later goes in
+    let goes_b = goes_later p.law a b v k.tail chain second.later goes in
     let d = t.seen c.find_tail.new.turns in
     let third = c.in_ok-length.ensures in
-    let goes_d = goes_later p.may p.floor p.shelf b d v k.tail chain third.later goes_b in
-    let to_d = later_trans p.may p.floor p.shelf a b d second.later third.later in
+    let goes_d = goes_later p.law b d v k.tail chain third.later goes_b in
+    let to_d = later_trans p.law a b d second.later third.later in
     let who_d = third.who ∙ (second.who ∙ first.who) in
     goes_d
 
@@ -199,21 +199,21 @@ returns-in_err-closed-clause-err g c =
     let first = c.in_ok-version.ensures in
     let v = c.in_ok-version.version in
     let chain = c.in_ok-version.chain in
-    let goes = goes_now p.may p.floor p.shelf who k.version k.tail v k.chain chain old a c.requires.legal first.later c.requires.goes_by first.ok in
+    let goes = goes_now p.law who k.version k.tail v k.chain chain old a c.requires.legal first.later c.requires.goes_by first.ok in
     let last = c.last_of-last.result in
-    let few = last_within p.may p.floor p.shelf a v k.tail chain last first.later.legal goes c.last_of-last.ensures in
+    let few = last_within p.law a v k.tail chain last first.later.legal goes c.last_of-last.ensures in
     let b = t.seen c.seal.new.turns in
     let second = c.in_ok-seal.ensures in
-    let goes_b = goes_later p.may p.floor p.shelf a b v k.tail chain second.later goes in
+    let goes_b = goes_later p.law a b v k.tail chain second.later goes in
     let d = t.seen c.find_tail.new.turns in
     let third = c.in_ok-length.ensures in
-    let goes_d = goes_later p.may p.floor p.shelf b d v k.tail chain third.later goes_b in
-    let to_d = later_trans p.may p.floor p.shelf a b d second.later third.later in
+    let goes_d = goes_later p.law b d v k.tail chain third.later goes_b in
+    let to_d = later_trans p.law a b d second.later third.later in
     let e = t.seen c.close_at.new.turns in
     let who_d = third.who ∙ (second.who ∙ first.who) in
     let r = err_from_is_err_and c.from_residual-in_err-closed.result c.from_residual-in_err-closed.ensures.1 in
     let f = c.in_err-closed.field-0.0 in
-    let before = later_trans p.may p.floor p.shelf old a d first.later to_d in
+    let before = later_trans p.law old a d first.later to_d in
     rw (r.1, r.2) (cause_since who f old d e before.more before.seen (subst (λ w. HasCause w d f e) who_d c.in_err-closed.ensures.err))
 
 pub returns-clause-extension : goal.returns-clause-extension
@@ -227,27 +227,27 @@ returns-clause-extension g c =
     let first = c.in_ok-version.ensures in
     let v = c.in_ok-version.version in
     let chain = c.in_ok-version.chain in
-    let goes = goes_now p.may p.floor p.shelf who k.version k.tail v k.chain chain old a c.requires.legal first.later c.requires.goes_by first.ok in
+    let goes = goes_now p.law who k.version k.tail v k.chain chain old a c.requires.legal first.later c.requires.goes_by first.ok in
     let last = c.last_of-last.result in
-    let few = last_within p.may p.floor p.shelf a v k.tail chain last first.later.legal goes c.last_of-last.ensures in
+    let few = last_within p.law a v k.tail chain last first.later.legal goes c.last_of-last.ensures in
     let b = t.seen c.seal.new.turns in
     let second = c.in_ok-seal.ensures in
-    let goes_b = goes_later p.may p.floor p.shelf a b v k.tail chain second.later goes in
+    let goes_b = goes_later p.law a b v k.tail chain second.later goes in
     let d = t.seen c.find_tail.new.turns in
     let third = c.in_ok-length.ensures in
-    let goes_d = goes_later p.may p.floor p.shelf b d v k.tail chain third.later goes_b in
-    let to_d = later_trans p.may p.floor p.shelf a b d second.later third.later in
+    let goes_d = goes_later p.law b d v k.tail chain third.later goes_b in
+    let to_d = later_trans p.law a b d second.later third.later in
     let e = t.seen c.close_at.new.turns in
     let who_d = third.who ∙ (second.who ∙ first.who) in
     let fourth = c.in_ok-closed.ensures in
-    let to_e = later_trans p.may p.floor p.shelf a d e to_d fourth.later in
+    let to_e = later_trans p.law a d e to_d fourth.later in
     let quiet = wrote_trans who a b d (wrote_by _ _ _ _ first.who second.quiet) (wrote_by _ _ _ _ (second.who ∙ first.who) third.quiet) in
     let sealed = at_then who (last_segment chain).id a d e
     (at_then who (last_segment chain).id a b d
     (at_same who (t.who c.look.new.turns) c.last_of-last.result.id (last_segment chain).id a b first.who (ap (λ (s : Segment). s.id) c.last_of-last.ensures) second.seals)
     (seals_as who (t.who c.seal.new.turns) b d (second.who ∙ first.who) third.unsealed))
     (seals_as who (t.who c.find_tail.new.turns) d e who_d fourth.unsealed) in
-    let spare : (last_segment chain).id + 1 < length p.shelf = omega (arith, few.0, c.if-last-shelf_len.false, c.requires.shelf, ap (λ (s : Segment). s.id) c.last_of-last.ensures) in
+    let spare : (last_segment chain).id + 1 < length p.law.shelf = omega (arith, few.0, c.if-last-shelf_len.false, c.requires.shelf, ap (λ (s : Segment). s.id) c.last_of-last.ensures) in
     record {
       others = first.ok.others;
       apart = first.ok.apart;
@@ -257,8 +257,8 @@ returns-clause-extension g c =
       look = first.ok.seen;
       rest = sealed.more;
       seen = sealed.seen;
-      follows = follows_closed (length p.shelf) who a (last_segment chain) k.tail c.close_at.new.known.tail c.close_at.new.known.version sealed.more e c.in_ok-closed.closed spare
-          (closed_since p.may p.floor p.shelf who v chain old first.ok.others a d e to_d.more fourth.later.legal first.ok.seen to_d.seen quiet k.tail c.close_at.new.known.tail c.close_at.new.known.version c.in_ok-closed.closed
+      follows = follows_closed (length p.law.shelf) who a (last_segment chain) k.tail c.close_at.new.known.tail c.close_at.new.known.version sealed.more e c.in_ok-closed.closed spare
+          (closed_since p.law who v chain old first.ok.others a d e to_d.more fourth.later.legal first.ok.seen to_d.seen quiet k.tail c.close_at.new.known.tail c.close_at.new.known.version c.in_ok-closed.closed
           (subst (λ w. Closes w d (last_segment chain) k.tail c.close_at.new.known.tail c.close_at.new.known.version e c.in_ok-closed.closed) who_d fourth.closed));
       seals = sealed.only;
     }
@@ -270,7 +270,7 @@ returns-then-last-shelf_len-clause-extension g c =
     let a = t.seen c.look.new.turns in
     let first = c.in_ok-version.ensures in
     let chain = c.in_ok-version.chain in
-    let none : (last_segment chain).id + 1 ≡ length p.shelf = omega (arith, c.if-last-shelf_len.true, c.requires.shelf, ap (λ (s : Segment). s.id) c.last_of-last.ensures) in
+    let none : (last_segment chain).id + 1 ≡ length p.law.shelf = omega (arith, c.if-last-shelf_len.true, c.requires.shelf, ap (λ (s : Segment). s.id) c.last_of-last.ensures) in
     record {
       others = first.ok.others;
       apart = first.ok.apart;
@@ -370,8 +370,8 @@ returns-in_err-closed-clause-later g c =
     let b = t.seen c.seal.new.turns in
     let d = t.seen c.find_tail.new.turns in
     let e = t.seen c.close_at.new.turns in
-    later_trans p.may p.floor p.shelf old d e
-    (later_trans p.may p.floor p.shelf old b d (later_trans p.may p.floor p.shelf old a b c.in_ok-version.ensures.later c.in_ok-seal.ensures.later) c.in_ok-length.ensures.later)
+    later_trans p.law old d e
+    (later_trans p.law old b d (later_trans p.law old a b c.in_ok-version.ensures.later c.in_ok-seal.ensures.later) c.in_ok-length.ensures.later)
     c.in_err-closed.ensures.later
 
 pub returns-clause-later : goal.returns-clause-later
@@ -383,8 +383,8 @@ returns-clause-later g c =
     let b = t.seen c.seal.new.turns in
     let d = t.seen c.find_tail.new.turns in
     let e = t.seen c.close_at.new.turns in
-    later_trans p.may p.floor p.shelf old d e
-    (later_trans p.may p.floor p.shelf old b d (later_trans p.may p.floor p.shelf old a b c.in_ok-version.ensures.later c.in_ok-seal.ensures.later) c.in_ok-length.ensures.later)
+    later_trans p.law old d e
+    (later_trans p.law old b d (later_trans p.law old a b c.in_ok-version.ensures.later c.in_ok-seal.ensures.later) c.in_ok-length.ensures.later)
     c.in_ok-closed.ensures.later
 
 pub returns-in_err-version-clause-words : goal.returns-in_err-version-clause-words
@@ -579,7 +579,7 @@ returns-then-last-shelf_len-clause-rises g c =
     let t = g.T.Turns in
     let k = c.args.known.now in
     let first = c.in_ok-version.ensures in
-    let up = rises_now p.may p.floor p.shelf (t.who c.args.turns.now) k.version k.tail c.in_ok-version.version k.chain c.in_ok-version.chain (t.seen c.args.turns.now) (t.seen c.look.new.turns) first.later c.requires.goes_by first.ok in
+    let up = rises_now p.law (t.who c.args.turns.now) k.version k.tail c.in_ok-version.version k.chain c.in_ok-version.chain (t.seen c.args.turns.now) (t.seen c.look.new.turns) first.later c.requires.goes_by first.ok in
     up
 
 pub returns-in_err-seal-clause-rises : goal.returns-in_err-seal-clause-rises
@@ -588,7 +588,7 @@ returns-in_err-seal-clause-rises g c =
     let t = g.T.Turns in
     let k = c.args.known.now in
     let first = c.in_ok-version.ensures in
-    let up = rises_now p.may p.floor p.shelf (t.who c.args.turns.now) k.version k.tail c.in_ok-version.version k.chain c.in_ok-version.chain (t.seen c.args.turns.now) (t.seen c.look.new.turns) first.later c.requires.goes_by first.ok in
+    let up = rises_now p.law (t.who c.args.turns.now) k.version k.tail c.in_ok-version.version k.chain c.in_ok-version.chain (t.seen c.args.turns.now) (t.seen c.look.new.turns) first.later c.requires.goes_by first.ok in
     up
 
 pub returns-in_err-length-clause-rises : goal.returns-in_err-length-clause-rises
@@ -597,7 +597,7 @@ returns-in_err-length-clause-rises g c =
     let t = g.T.Turns in
     let k = c.args.known.now in
     let first = c.in_ok-version.ensures in
-    let up = rises_now p.may p.floor p.shelf (t.who c.args.turns.now) k.version k.tail c.in_ok-version.version k.chain c.in_ok-version.chain (t.seen c.args.turns.now) (t.seen c.look.new.turns) first.later c.requires.goes_by first.ok in
+    let up = rises_now p.law (t.who c.args.turns.now) k.version k.tail c.in_ok-version.version k.chain c.in_ok-version.chain (t.seen c.args.turns.now) (t.seen c.look.new.turns) first.later c.requires.goes_by first.ok in
     up
 
 pub returns-in_err-closed-clause-rises : goal.returns-in_err-closed-clause-rises
@@ -606,7 +606,7 @@ returns-in_err-closed-clause-rises g c =
     let t = g.T.Turns in
     let k = c.args.known.now in
     let first = c.in_ok-version.ensures in
-    let up = rises_now p.may p.floor p.shelf (t.who c.args.turns.now) k.version k.tail c.in_ok-version.version k.chain c.in_ok-version.chain (t.seen c.args.turns.now) (t.seen c.look.new.turns) first.later c.requires.goes_by first.ok in
+    let up = rises_now p.law (t.who c.args.turns.now) k.version k.tail c.in_ok-version.version k.chain c.in_ok-version.chain (t.seen c.args.turns.now) (t.seen c.look.new.turns) first.later c.requires.goes_by first.ok in
     omega (arith, up, c.in_err-closed.ensures.rises)
 
 pub returns-clause-rises : goal.returns-clause-rises
@@ -615,5 +615,5 @@ returns-clause-rises g c =
     let t = g.T.Turns in
     let k = c.args.known.now in
     let first = c.in_ok-version.ensures in
-    let up = rises_now p.may p.floor p.shelf (t.who c.args.turns.now) k.version k.tail c.in_ok-version.version k.chain c.in_ok-version.chain (t.seen c.args.turns.now) (t.seen c.look.new.turns) first.later c.requires.goes_by first.ok in
+    let up = rises_now p.law (t.who c.args.turns.now) k.version k.tail c.in_ok-version.version k.chain c.in_ok-version.chain (t.seen c.args.turns.now) (t.seen c.look.new.turns) first.later c.requires.goes_by first.ok in
     omega (arith, up, c.in_ok-closed.ensures.rises)

@@ -24,15 +24,15 @@ pub begin-requires-clause-may : goal.begin-requires-clause-may
 begin-requires-clause-may g c =
     let p = g.T.Law.Rules in
     let t = g.T.Turns in
-    may_append p.may p.floor p.shelf (t.who c.args.turns.now) (t.seen c.args.turns.now) c.args.segment.id c.in_ok-copy.copy
-    (started_within p.may p.floor p.shelf (t.seen c.args.turns.now) c.args.segment.id c.args.segment.start c.requires.legal c.requires.started)
-    (subst (λ (e : Entry). p.may (t.who c.args.turns.now) e) (sym c.in_ok-copy.ensures.cases) c.requires.may)
+    may_append p.law (t.who c.args.turns.now) (t.seen c.args.turns.now) c.args.segment.id c.in_ok-copy.copy
+    (started_within p.law (t.seen c.args.turns.now) c.args.segment.id c.args.segment.start c.requires.legal c.requires.started)
+    (subst (λ (e : Entry). p.law.may (t.who c.args.turns.now) e) (sym c.in_ok-copy.ensures.cases) c.requires.may)
     (subst IsSpellable (sym c.in_ok-copy.ensures.cases) c.requires.spelled)
 
 pub carry_on-requires-clause-cell : goal.carry_on-requires-clause-cell
 carry_on-requires-clause-cell g c =
     let p = g.T.Law.Rules in
-    started_within p.may p.floor p.shelf (g.T.Turns.seen c.args.turns.now) c.args.segment.id c.args.segment.start c.requires.legal c.requires.started
+    started_within p.law (g.T.Turns.seen c.args.turns.now) c.args.segment.id c.args.segment.start c.requires.legal c.requires.started
 
 pub overflow_add-result : goal.overflow_add-result
 overflow_add-result g c =
@@ -45,7 +45,7 @@ overflow_add-result g c =
     let r = started ((state_of (t.seen c.args.turns.now ++ o.first.others)).cells c.args.segment.id).told (Append c.in_ok-copy.copy) in
     let x = subst (λ (a : Answer). Answered who mid c.args.segment.id c.in_ok-ticket.ticket r a new) c.in-Placed.is
     (subst (λ k. Answered k mid c.args.segment.id c.in_ok-ticket.ticket r c.in_ok-place.field-0 new) c.in_ok-ticket.ensures.who (c.in_ok-place.ensures.ok r (own_by _ _ _ _ _ c.in_ok-ticket.ensures.who o.own))) in
-    let k = placed_ok p.may p.floor p.shelf who (t.seen c.args.turns.now) mid new c.args.segment.id c.args.segment.start c.in_ok-ticket.ticket c.in-Placed.place c.in_ok-copy.copy
+    let k = placed_ok p.law who (t.seen c.args.turns.now) mid new c.args.segment.id c.args.segment.start c.in_ok-ticket.ticket c.in-Placed.place c.in_ok-copy.copy
     c.requires.legal c.requires.started c.in_ok-ticket.ensures.later c.in_ok-place.ensures.later o x in
     omega (arith, k.fits)
 
@@ -60,7 +60,7 @@ returns-in-Placed-clause-stands g c =
     let r = started ((state_of (t.seen c.args.turns.now ++ o.first.others)).cells c.args.segment.id).told (Append c.in_ok-copy.copy) in
     let x = subst (λ (a : Answer). Answered who mid c.args.segment.id c.in_ok-ticket.ticket r a new) c.in-Placed.is
     (subst (λ k. Answered k mid c.args.segment.id c.in_ok-ticket.ticket r c.in_ok-place.field-0 new) c.in_ok-ticket.ensures.who (c.in_ok-place.ensures.ok r (own_by _ _ _ _ _ c.in_ok-ticket.ensures.who o.own))) in
-    let k = placed_ok p.may p.floor p.shelf who (t.seen c.args.turns.now) mid new c.args.segment.id c.args.segment.start c.in_ok-ticket.ticket c.in-Placed.place c.in_ok-copy.copy
+    let k = placed_ok p.law who (t.seen c.args.turns.now) mid new c.args.segment.id c.args.segment.start c.in_ok-ticket.ticket c.in-Placed.place c.in_ok-copy.copy
     c.requires.legal c.requires.started c.in_ok-ticket.ensures.later c.in_ok-place.ensures.later o x in
     subst (λ (e : Entry). Stands (state_of new) (c.args.segment.start + c.in-Placed.place) e) c.in_ok-copy.ensures.cases k.stands
 
@@ -75,7 +75,7 @@ returns-in-Placed-clause-above g c =
     let r = started ((state_of (t.seen c.args.turns.now ++ o.first.others)).cells c.args.segment.id).told (Append c.in_ok-copy.copy) in
     let x = subst (λ (a : Answer). Answered who mid c.args.segment.id c.in_ok-ticket.ticket r a new) c.in-Placed.is
     (subst (λ k. Answered k mid c.args.segment.id c.in_ok-ticket.ticket r c.in_ok-place.field-0 new) c.in_ok-ticket.ensures.who (c.in_ok-place.ensures.ok r (own_by _ _ _ _ _ c.in_ok-ticket.ensures.who o.own))) in
-    (placed_ok p.may p.floor p.shelf who (t.seen c.args.turns.now) mid new c.args.segment.id c.args.segment.start c.in_ok-ticket.ticket c.in-Placed.place c.in_ok-copy.copy
+    (placed_ok p.law who (t.seen c.args.turns.now) mid new c.args.segment.id c.args.segment.start c.in_ok-ticket.ticket c.in-Placed.place c.in_ok-copy.copy
     c.requires.legal c.requires.started c.in_ok-ticket.ensures.later c.in_ok-place.ensures.later o x).above
 
 pub returns-in-Placed-clause-reached : goal.returns-in-Placed-clause-reached
@@ -89,7 +89,7 @@ returns-in-Placed-clause-reached g c =
     let r = started ((state_of (t.seen c.args.turns.now ++ o.first.others)).cells c.args.segment.id).told (Append c.in_ok-copy.copy) in
     let x = subst (λ (a : Answer). Answered who mid c.args.segment.id c.in_ok-ticket.ticket r a new) c.in-Placed.is
     (subst (λ k. Answered k mid c.args.segment.id c.in_ok-ticket.ticket r c.in_ok-place.field-0 new) c.in_ok-ticket.ensures.who (c.in_ok-place.ensures.ok r (own_by _ _ _ _ _ c.in_ok-ticket.ensures.who o.own))) in
-    (placed_ok p.may p.floor p.shelf who (t.seen c.args.turns.now) mid new c.args.segment.id c.args.segment.start c.in_ok-ticket.ticket c.in-Placed.place c.in_ok-copy.copy
+    (placed_ok p.law who (t.seen c.args.turns.now) mid new c.args.segment.id c.args.segment.start c.in_ok-ticket.ticket c.in-Placed.place c.in_ok-copy.copy
     c.requires.legal c.requires.started c.in_ok-ticket.ensures.later c.in_ok-place.ensures.later o x).reached
 
 pub returns-in-Placed-clause-placed : goal.returns-in-Placed-clause-placed
@@ -103,7 +103,7 @@ returns-in-Placed-clause-placed g c =
     let r = started ((state_of (t.seen c.args.turns.now ++ o.first.others)).cells c.args.segment.id).told (Append c.in_ok-copy.copy) in
     let x = subst (λ (a : Answer). Answered who mid c.args.segment.id c.in_ok-ticket.ticket r a new) c.in-Placed.is
     (subst (λ k. Answered k mid c.args.segment.id c.in_ok-ticket.ticket r c.in_ok-place.field-0 new) c.in_ok-ticket.ensures.who (c.in_ok-place.ensures.ok r (own_by _ _ _ _ _ c.in_ok-ticket.ensures.who o.own))) in
-    let k = placed_ok p.may p.floor p.shelf who (t.seen c.args.turns.now) mid new c.args.segment.id c.args.segment.start c.in_ok-ticket.ticket c.in-Placed.place c.in_ok-copy.copy
+    let k = placed_ok p.law who (t.seen c.args.turns.now) mid new c.args.segment.id c.args.segment.start c.in_ok-ticket.ticket c.in-Placed.place c.in_ok-copy.copy
     c.requires.legal c.requires.started c.in_ok-ticket.ensures.later c.in_ok-place.ensures.later o x in
     subst (λ (e : Entry). slice_get ((state_of new).cells c.args.segment.id).entries (c.args.segment.start + c.in-Placed.place - c.args.segment.start) ≡ Some e) c.in_ok-copy.ensures.cases k.there
 
@@ -113,7 +113,7 @@ returns-in-Sealed-clause-sealed g c =
     let t = g.T.Turns in
     let o = c.in_ok-ticket.ensures.ok in
     let r = started ((state_of (t.seen c.args.turns.now ++ o.first.others)).cells c.args.segment.id).told (Append c.in_ok-copy.copy) in
-    sealed_ok p.may p.floor p.shelf (t.who c.begin.new.turns) (t.seen c.begin.new.turns) (t.seen c.carry_on.new.turns) c.args.segment.id c.in_ok-ticket.ticket r
+    sealed_ok p.law (t.who c.begin.new.turns) (t.seen c.begin.new.turns) (t.seen c.carry_on.new.turns) c.args.segment.id c.in_ok-ticket.ticket r
     (subst (λ (a : Answer). Answered (t.who c.begin.new.turns) (t.seen c.begin.new.turns) c.args.segment.id c.in_ok-ticket.ticket r a (t.seen c.carry_on.new.turns)) c.in-Sealed.is
     (c.in_ok-place.ensures.ok r (own_by _ _ _ _ _ c.in_ok-ticket.ensures.who o.own)))
 

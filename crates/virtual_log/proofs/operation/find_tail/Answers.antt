@@ -20,12 +20,12 @@ use Rattle.virtual_log.proofs.operation.find_tail.Goals as goal
 pub begin-requires-clause-may : goal.begin-requires-clause-may
 begin-requires-clause-may g c =
     let p = g.T.Law.Rules in
-    may_tail p.may p.floor p.shelf _ _ c.args.segment.id (started_within p.may p.floor p.shelf (g.T.Turns.seen c.args.turns.now) c.args.segment.id c.args.segment.start c.requires.legal c.requires.started)
+    may_tail p.law _ _ c.args.segment.id (started_within p.law (g.T.Turns.seen c.args.turns.now) c.args.segment.id c.args.segment.start c.requires.legal c.requires.started)
 
 pub carry_on-requires-clause-cell : goal.carry_on-requires-clause-cell
 carry_on-requires-clause-cell g c =
     let p = g.T.Law.Rules in
-    started_within p.may p.floor p.shelf (g.T.Turns.seen c.args.turns.now) c.args.segment.id c.args.segment.start c.requires.legal c.requires.started
+    started_within p.law (g.T.Turns.seen c.args.turns.now) c.args.segment.id c.args.segment.start c.requires.legal c.requires.started
 
 pub overflow_add-result : goal.overflow_add-result
 overflow_add-result g c =
@@ -38,7 +38,7 @@ overflow_add-result g c =
     let r = started ((state_of (t.seen c.args.turns.now ++ o.first.others)).cells c.args.segment.id).told Tail in
     let x = subst (λ (a : Answer). Answered who mid c.args.segment.id c.in_ok-ticket.ticket r a new) c.in-OpenTail.is
     (subst (λ k. Answered k mid c.args.segment.id c.in_ok-ticket.ticket r c.in_ok-length.field-0 new) c.in_ok-ticket.ensures.who (c.in_ok-length.ensures.ok r (own_by _ _ _ _ _ c.in_ok-ticket.ensures.who o.own))) in
-    let k = tail_ok p.may p.floor p.shelf who (t.seen c.args.turns.now) mid new c.args.segment.id c.args.segment.start c.in_ok-ticket.ticket c.in-OpenTail.length
+    let k = tail_ok p.law who (t.seen c.args.turns.now) mid new c.args.segment.id c.args.segment.start c.in_ok-ticket.ticket c.in-OpenTail.length
     c.requires.legal c.requires.started c.in_ok-ticket.ensures.later c.in_ok-length.ensures.later o x in
     omega (arith, k.fits)
 
@@ -53,7 +53,7 @@ returns-in-OpenTail-clause-found g c =
     let r = started ((state_of (t.seen c.args.turns.now ++ o.first.others)).cells c.args.segment.id).told Tail in
     let x = subst (λ (a : Answer). Answered who mid c.args.segment.id c.in_ok-ticket.ticket r a new) c.in-OpenTail.is
     (subst (λ k. Answered k mid c.args.segment.id c.in_ok-ticket.ticket r c.in_ok-length.field-0 new) c.in_ok-ticket.ensures.who (c.in_ok-length.ensures.ok r (own_by _ _ _ _ _ c.in_ok-ticket.ensures.who o.own))) in
-    let k = tail_ok p.may p.floor p.shelf who (t.seen c.args.turns.now) mid new c.args.segment.id c.args.segment.start c.in_ok-ticket.ticket c.in-OpenTail.length
+    let k = tail_ok p.law who (t.seen c.args.turns.now) mid new c.args.segment.id c.args.segment.start c.in_ok-ticket.ticket c.in-OpenTail.length
     c.requires.legal c.requires.started c.in_ok-ticket.ensures.later c.in_ok-length.ensures.later o x in
     (k.within, k.above, k.reached, k.exact)
 
@@ -68,7 +68,7 @@ returns-in-OpenTail-clause-shut g c = λ shut.
     let r = started ((state_of (t.seen c.args.turns.now ++ o.first.others)).cells c.args.segment.id).told Tail in
     let x = subst (λ (a : Answer). Answered who mid c.args.segment.id c.in_ok-ticket.ticket r a new) c.in-OpenTail.is
     (subst (λ k. Answered k mid c.args.segment.id c.in_ok-ticket.ticket r c.in_ok-length.field-0 new) c.in_ok-ticket.ensures.who (c.in_ok-length.ensures.ok r (own_by _ _ _ _ _ c.in_ok-ticket.ensures.who o.own))) in
-    never_open p.may p.floor p.shelf who (t.seen c.args.turns.now) mid new c.args.segment.id c.in_ok-ticket.ticket c.in-OpenTail.length c.requires.legal c.in_ok-ticket.ensures.later o x shut
+    never_open p.law who (t.seen c.args.turns.now) mid new c.args.segment.id c.in_ok-ticket.ticket c.in-OpenTail.length c.requires.legal c.in_ok-ticket.ensures.later o x shut
 
 pub returns-in-SealedTail-clause-found : goal.returns-in-SealedTail-clause-found
 returns-in-SealedTail-clause-found g c =
@@ -81,7 +81,7 @@ returns-in-SealedTail-clause-found g c =
     let r = started ((state_of (t.seen c.args.turns.now ++ o.first.others)).cells c.args.segment.id).told Tail in
     let x = subst (λ (a : Answer). Answered who mid c.args.segment.id c.in_ok-ticket.ticket r a new) c.in-SealedTail.is
     (subst (λ k. Answered k mid c.args.segment.id c.in_ok-ticket.ticket r c.in_ok-length.field-0 new) c.in_ok-ticket.ensures.who (c.in_ok-length.ensures.ok r (own_by _ _ _ _ _ c.in_ok-ticket.ensures.who o.own))) in
-    (end_ok p.may p.floor p.shelf who mid new c.args.segment.id c.in_ok-ticket.ticket c.in-SealedTail.length r x, shut_ok p.may p.floor p.shelf who mid new c.args.segment.id c.in_ok-ticket.ticket c.in-SealedTail.length r x, first_later who (t.seen c.args.turns.now) mid new c.in_ok-length.ensures.later.more c.in_ok-length.ensures.later.seen o.first)
+    (end_ok p.law who mid new c.args.segment.id c.in_ok-ticket.ticket c.in-SealedTail.length r x, shut_ok p.law who mid new c.args.segment.id c.in_ok-ticket.ticket c.in-SealedTail.length r x, first_later who (t.seen c.args.turns.now) mid new c.in_ok-length.ensures.later.more c.in_ok-length.ensures.later.seen o.first)
 
 pub returns-in-NoQuorum-clause-err : goal.returns-in-NoQuorum-clause-err
 returns-in-NoQuorum-clause-err g c =

@@ -28,7 +28,7 @@ returns-in-SealDone-clause-sealed g c =
     let r = started ((state_of (t.seen c.args.turns.now ++ o.first.others)).cells c.args.id).told Seal in
     let x = subst (λ (a : Answer). Answered who mid c.args.id c.in_ok-ticket.ticket r a new) c.in-SealDone.is
     (subst (λ k. Answered k mid c.args.id c.in_ok-ticket.ticket r c.in_ok-carry_on.field-0 new) c.in_ok-ticket.ensures.who (c.in_ok-carry_on.ensures.ok r (own_by _ _ _ _ _ c.in_ok-ticket.ensures.who o.own))) in
-    sealing_ok p.may p.floor p.shelf who mid new c.args.id c.in_ok-ticket.ticket r x
+    sealing_ok p.law who mid new c.args.id c.in_ok-ticket.ticket r x
 
 pub returns-in-NoQuorum-clause-err : goal.returns-in-NoQuorum-clause-err
 returns-in-NoQuorum-clause-err g c =

@@ -16,13 +16,13 @@ use Rattle.virtual_log.proofs.replace.chain_behind.Goals as goal
 pub returns-then-last_of-segment-clause-given : goal.returns-then-last_of-segment-clause-given
 returns-then-last_of-segment-clause-given g c =
     let p = g.T.Law.Rules in
-    given_now p.may p.floor p.shelf (g.T.Turns.who c.args.turns.now) _ _ (g.T.Turns.seen c.args.turns.now) (g.T.Turns.seen c.look.new.turns) c.in_ok-version.ensures.later.legal c.in_ok-version.ensures.ok
+    given_now p.law (g.T.Turns.who c.args.turns.now) _ _ (g.T.Turns.seen c.args.turns.now) (g.T.Turns.seen c.look.new.turns) c.in_ok-version.ensures.later.legal c.in_ok-version.ensures.ok
 
 pub finish-requires-clause-goes_by : goal.finish-requires-clause-goes_by
 finish-requires-clause-goes_by g c =
     let p = g.T.Law.Rules in
     record {
-      given = given_now p.may p.floor p.shelf (g.T.Turns.who c.args.turns.now) _ _ (g.T.Turns.seen c.args.turns.now) (g.T.Turns.seen c.look.new.turns) c.in_ok-version.ensures.later.legal c.in_ok-version.ensures.ok;
+      given = given_now p.law (g.T.Turns.who c.args.turns.now) _ _ (g.T.Turns.seen c.args.turns.now) (g.T.Turns.seen c.look.new.turns) c.in_ok-version.ensures.later.legal c.in_ok-version.ensures.ok;
       reached = omega arith;
     }
 
@@ -30,9 +30,9 @@ pub finish-requires-clause-sealed : goal.finish-requires-clause-sealed
 finish-requires-clause-sealed g c =
     let p = g.T.Law.Rules in
     let t = g.T.Turns in
-    let goes = later_continues p.may p.floor p.shelf (t.seen c.args.turns.now) (t.seen c.look.new.turns) c.in_ok-version.ensures.later in
+    let goes = later_continues p.law (t.seen c.args.turns.now) (t.seen c.look.new.turns) c.in_ok-version.ensures.later in
     let at = goes.starts c.args.segment.id c.args.segment.start c.requires.started in
-    let up = later_last p.may p.floor p.shelf (t.who c.args.turns.now) _ c.args.segment.id c.args.segment.start c.in_ok-version.chain (t.seen c.args.turns.now) (t.seen c.look.new.turns) c.in_ok-version.ensures.later.legal c.in_ok-version.ensures.ok at in
+    let up = later_last p.law (t.who c.args.turns.now) _ c.args.segment.id c.args.segment.start c.in_ok-version.chain (t.seen c.args.turns.now) (t.seen c.look.new.turns) c.in_ok-version.ensures.later.legal c.in_ok-version.ensures.ok at in
     let same : c.args.segment.id ≡ (last_of_segments c.in_ok-version.chain.segments).id = omega (arith, up, c.if-last_of-segment.false, ap (λ (s : Segment). s.id) c.last_of.ensures) in
     subst (λ i. ((state_of (t.seen c.look.new.turns)).cells i).told.sealed ≡ true) same ((goes.cell c.args.segment.id).sealed c.requires.sealed)
 
@@ -49,16 +49,16 @@ returns-in_err-finish-clause-err g c =
 pub returns-clause-given : goal.returns-clause-given
 returns-clause-given g c =
     let p = g.T.Law.Rules in
-    given_now p.may p.floor p.shelf (g.T.Turns.who c.finish.new.turns) _ _ (g.T.Turns.seen c.finish.new.turns) (g.T.Turns.seen c.look-2.new.turns) c.in_ok-newer.ensures.later.legal c.in_ok-newer.ensures.ok
+    given_now p.law (g.T.Turns.who c.finish.new.turns) _ _ (g.T.Turns.seen c.finish.new.turns) (g.T.Turns.seen c.look-2.new.turns) c.in_ok-newer.ensures.later.legal c.in_ok-newer.ensures.ok
 
 pub returns-clause-behind : goal.returns-clause-behind
 returns-clause-behind g c =
     let p = g.T.Law.Rules in
     let t = g.T.Turns in
-    let goes = later_continues p.may p.floor p.shelf (t.seen c.args.turns.now) (t.seen c.look.new.turns) c.in_ok-version.ensures.later in
+    let goes = later_continues p.law (t.seen c.args.turns.now) (t.seen c.look.new.turns) c.in_ok-version.ensures.later in
     let at = goes.starts c.args.segment.id c.args.segment.start c.requires.started in
-    let up = later_last p.may p.floor p.shelf (t.who c.args.turns.now) _ c.args.segment.id c.args.segment.start c.in_ok-version.chain (t.seen c.args.turns.now) (t.seen c.look.new.turns) c.in_ok-version.ensures.later.legal c.in_ok-version.ensures.ok at in
-    let on = later_continues p.may p.floor p.shelf (t.seen c.finish.new.turns) (t.seen c.look-2.new.turns) c.in_ok-newer.ensures.later in
+    let up = later_last p.law (t.who c.args.turns.now) _ c.args.segment.id c.args.segment.start c.in_ok-version.chain (t.seen c.args.turns.now) (t.seen c.look.new.turns) c.in_ok-version.ensures.later.legal c.in_ok-version.ensures.ok at in
+    let on = later_continues p.law (t.seen c.finish.new.turns) (t.seen c.look-2.new.turns) c.in_ok-newer.ensures.later in
     omega (arith, up, c.in_ok-finish.ensures.ok, on.last, ap (λ (x : Chain). (last_of_segments x.segments).id) c.in_ok-newer.ensures.ok.chain_is)
 
 pub returns-in_err-newer-clause-err : goal.returns-in_err-newer-clause-err
@@ -70,7 +70,7 @@ returns-in_err-newer-clause-err g c =
     let mid = t.seen c.finish.new.turns in
     let new = t.seen c.look-2.new.turns in
     let f = c.in_err-newer.field-0.0 in
-    let before = later_trans p.may p.floor p.shelf old (t.seen c.look.new.turns) mid c.in_ok-version.ensures.later c.in_ok-finish.ensures.later in
+    let before = later_trans p.law old (t.seen c.look.new.turns) mid c.in_ok-version.ensures.later c.in_ok-finish.ensures.later in
     rw (r.1, r.2) (cause_since (t.who c.args.turns.now) f old mid new before.more before.seen
     (subst (λ k. HasCause k mid f new) (c.in_ok-finish.ensures.who ∙ c.in_ok-version.ensures.who) c.in_err-newer.ensures.err))
 

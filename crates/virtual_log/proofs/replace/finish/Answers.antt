@@ -19,13 +19,13 @@ find_tail-requires-clause-started g c =
     let w = state_of (g.T.Turns.seen c.args.turns.now) in
     let k = c.args.known.now in
     subst (λ (s : Segment). w.starts s.id ≡ Some s.start) (sym c.last_of-last.ensures)
-    (last_started (length p.shelf) w k.version k.chain (sound p.may p.floor p.shelf (g.T.Turns.seen c.args.turns.now) c.requires.legal) c.requires.goes_by.given)
+    (last_started (length p.law.shelf) w k.version k.chain (sound p.law (g.T.Turns.seen c.args.turns.now) c.requires.legal) c.requires.goes_by.given)
 
 pub write-requires-clause-goes_by : goal.write-requires-clause-goes_by
 write-requires-clause-goes_by g c =
     let p = g.T.Law.Rules in
     let k = c.args.known.now in
-    goes_later p.may p.floor p.shelf (g.T.Turns.seen c.args.turns.now) (g.T.Turns.seen c.find_tail.new.turns) k.version k.tail k.chain c.in_ok-length.ensures.later c.requires.goes_by
+    goes_later p.law (g.T.Turns.seen c.args.turns.now) (g.T.Turns.seen c.find_tail.new.turns) k.version k.tail k.chain c.in_ok-length.ensures.later c.requires.goes_by
 
 pub returns-in_err-write-clause-words : goal.returns-in_err-write-clause-words
 returns-in_err-write-clause-words g c =
@@ -78,7 +78,7 @@ pub returns-clause-ok : goal.returns-clause-ok
 returns-clause-ok g c =
     let p = g.T.Law.Rules in
     let k = c.write.new.known in
-    let known = (sound p.may p.floor p.shelf (g.T.Turns.seen c.write.new.turns) c.in_ok-write.ensures.later.legal).olds k.version k.chain c.in_ok-write.ensures.goes_by.given in
+    let known = (sound p.law (g.T.Turns.seen c.write.new.turns) c.in_ok-write.ensures.later.legal).olds k.version k.chain c.in_ok-write.ensures.goes_by.given in
     omega (arith, c.in_ok-write.ensures.has, known.last, ap (λ (s : Segment). s.id) c.last_of-last.ensures)
 
 pub returns-clause-words : goal.returns-clause-words

@@ -24,7 +24,7 @@ returns-in_err-version-clause-goes_by g c =
     let k = c.args.known.now in
     let old = t.seen c.args.turns.now in
     let a = t.seen c.look.new.turns in
-    goes_later p.may p.floor p.shelf old a k.version k.tail k.chain c.in_err-version.ensures.later c.requires.goes_by
+    goes_later p.law old a k.version k.tail k.chain c.in_err-version.ensures.later c.requires.goes_by
 
 pub returns-in_err-looked-clause-goes_by : goal.returns-in_err-looked-clause-goes_by
 returns-in_err-looked-clause-goes_by g c =
@@ -37,7 +37,7 @@ returns-in_err-looked-clause-goes_by g c =
     let first = c.in_ok-version.ensures in
     let v = c.in_ok-version.version in
     let chain = c.in_ok-version.chain in
-    let goes = goes_now p.may p.floor p.shelf who k.version k.tail v k.chain chain old a c.requires.legal first.later c.requires.goes_by first.ok in
+    let goes = goes_now p.law who k.version k.tail v k.chain chain old a c.requires.legal first.later c.requires.goes_by first.ok in
     goes
 
 pub truncate_on-requires-clause-goes_by : goal.truncate_on-requires-clause-goes_by
@@ -51,7 +51,7 @@ truncate_on-requires-clause-goes_by g c =
     let first = c.in_ok-version.ensures in
     let v = c.in_ok-version.version in
     let chain = c.in_ok-version.chain in
-    let goes = goes_now p.may p.floor p.shelf who k.version k.tail v k.chain chain old a c.requires.legal first.later c.requires.goes_by first.ok in
+    let goes = goes_now p.law who k.version k.tail v k.chain chain old a c.requires.legal first.later c.requires.goes_by first.ok in
     goes
 
 pub truncate_on-requires-clause-free : goal.truncate_on-requires-clause-free
@@ -65,8 +65,8 @@ truncate_on-requires-clause-free g c =
     let first = c.in_ok-version.ensures in
     let v = c.in_ok-version.version in
     let chain = c.in_ok-version.chain in
-    let goes = goes_now p.may p.floor p.shelf who k.version k.tail v k.chain chain old a c.requires.legal first.later c.requires.goes_by first.ok in
-    free_later (state_of old) (state_of a) p.floor c.args.n (later_continues p.may p.floor p.shelf old a first.later) c.requires.free
+    let goes = goes_now p.law who k.version k.tail v k.chain chain old a c.requires.legal first.later c.requires.goes_by first.ok in
+    free_later (state_of old) (state_of a) p.law.floor c.args.n (later_continues p.law old a first.later) c.requires.free
 
 pub returns-in_err-trim-clause-err : goal.returns-in_err-trim-clause-err
 returns-in_err-trim-clause-err g c =
@@ -79,7 +79,7 @@ returns-in_err-trim-clause-err g c =
     let first = c.in_ok-version.ensures in
     let v = c.in_ok-version.version in
     let chain = c.in_ok-version.chain in
-    let goes = goes_now p.may p.floor p.shelf who k.version k.tail v k.chain chain old a c.requires.legal first.later c.requires.goes_by first.ok in
+    let goes = goes_now p.law who k.version k.tail v k.chain chain old a c.requires.legal first.later c.requires.goes_by first.ok in
     let b = t.seen c.truncate_on.new.turns in
     let r = err_from_is_err_and c.from_residual-in_err-trim.result c.from_residual-in_err-trim.ensures.1 in
     let f = c.in_err-trim.field-0.0 in
@@ -96,12 +96,12 @@ trim_segments-requires-clause-started g c =
     let first = c.in_ok-version.ensures in
     let v = c.in_ok-version.version in
     let chain = c.in_ok-version.chain in
-    let goes = goes_now p.may p.floor p.shelf who k.version k.tail v k.chain chain old a c.requires.legal first.later c.requires.goes_by first.ok in
+    let goes = goes_now p.law who k.version k.tail v k.chain chain old a c.requires.legal first.later c.requires.goes_by first.ok in
     let b = t.seen c.truncate_on.new.turns in
     let second = c.in_ok-trim.ensures in
     let z = c.truncate_on.new.known in
     let same : c.as_slice.result.now ≡ chain.segments = c.as_slice.ensures ∙ c.in_ok-looked.ensures.cases in
-    λ i s at. there_later p.may p.floor p.shelf a b s.id s.start second.later (segments_started p.may p.floor p.shelf a v k.tail chain first.later.legal goes i s (subst (λ (l : List Segment). slice_get l i ≡ Some s) same at))
+    λ i s at. there_later p.law a b s.id s.start second.later (segments_started p.law a v k.tail chain first.later.legal goes i s (subst (λ (l : List Segment). slice_get l i ≡ Some s) same at))
 
 pub trim_segments-requires-clause-trim : goal.trim_segments-requires-clause-trim
 trim_segments-requires-clause-trim g c =
@@ -114,11 +114,11 @@ trim_segments-requires-clause-trim g c =
     let first = c.in_ok-version.ensures in
     let v = c.in_ok-version.version in
     let chain = c.in_ok-version.chain in
-    let goes = goes_now p.may p.floor p.shelf who k.version k.tail v k.chain chain old a c.requires.legal first.later c.requires.goes_by first.ok in
+    let goes = goes_now p.law who k.version k.tail v k.chain chain old a c.requires.legal first.later c.requires.goes_by first.ok in
     let b = t.seen c.truncate_on.new.turns in
     let second = c.in_ok-trim.ensures in
     let z = c.truncate_on.new.known in
-    omega (arith, second.truncated.reached, second.stands.1, (trim_below p.may p.floor p.shelf b z.version z.tail z.chain second.later.legal second.goes_by).0)
+    omega (arith, second.truncated.reached, second.stands.1, (trim_below p.law b z.version z.tail z.chain second.later.legal second.goes_by).0)
 
 pub returns-in_err-trim_segments-clause-goes_by : goal.returns-in_err-trim_segments-clause-goes_by
 returns-in_err-trim_segments-clause-goes_by g c =
@@ -131,12 +131,12 @@ returns-in_err-trim_segments-clause-goes_by g c =
     let first = c.in_ok-version.ensures in
     let v = c.in_ok-version.version in
     let chain = c.in_ok-version.chain in
-    let goes = goes_now p.may p.floor p.shelf who k.version k.tail v k.chain chain old a c.requires.legal first.later c.requires.goes_by first.ok in
+    let goes = goes_now p.law who k.version k.tail v k.chain chain old a c.requires.legal first.later c.requires.goes_by first.ok in
     let b = t.seen c.truncate_on.new.turns in
     let second = c.in_ok-trim.ensures in
     let z = c.truncate_on.new.known in
     let e = t.seen c.trim_segments.new.turns in
-    goes_later p.may p.floor p.shelf b e z.version z.tail z.chain c.in_err-trim_segments.ensures.later second.goes_by
+    goes_later p.law b e z.version z.tail z.chain c.in_err-trim_segments.ensures.later second.goes_by
 
 pub returns-in_err-trim_segments-clause-err : goal.returns-in_err-trim_segments-clause-err
 returns-in_err-trim_segments-clause-err g c =
@@ -149,14 +149,14 @@ returns-in_err-trim_segments-clause-err g c =
     let first = c.in_ok-version.ensures in
     let v = c.in_ok-version.version in
     let chain = c.in_ok-version.chain in
-    let goes = goes_now p.may p.floor p.shelf who k.version k.tail v k.chain chain old a c.requires.legal first.later c.requires.goes_by first.ok in
+    let goes = goes_now p.law who k.version k.tail v k.chain chain old a c.requires.legal first.later c.requires.goes_by first.ok in
     let b = t.seen c.truncate_on.new.turns in
     let second = c.in_ok-trim.ensures in
     let z = c.truncate_on.new.known in
     let e = t.seen c.trim_segments.new.turns in
     let r = err_from_is_err_and c.from_residual-in_err-trim_segments.result c.from_residual-in_err-trim_segments.ensures.1 in
     let f = c.in_err-trim_segments.field-0.0 in
-    let before = later_trans p.may p.floor p.shelf old a b first.later second.later in
+    let before = later_trans p.law old a b first.later second.later in
     rw (r.1, r.2) (cause_since who f old b e before.more before.seen (subst (λ w. HasCause w b f e) (second.who ∙ first.who) c.in_err-trim_segments.ensures.err))
 
 pub returns-clause-goes_by : goal.returns-clause-goes_by
@@ -170,13 +170,13 @@ returns-clause-goes_by g c =
     let first = c.in_ok-version.ensures in
     let v = c.in_ok-version.version in
     let chain = c.in_ok-version.chain in
-    let goes = goes_now p.may p.floor p.shelf who k.version k.tail v k.chain chain old a c.requires.legal first.later c.requires.goes_by first.ok in
+    let goes = goes_now p.law who k.version k.tail v k.chain chain old a c.requires.legal first.later c.requires.goes_by first.ok in
     let b = t.seen c.truncate_on.new.turns in
     let second = c.in_ok-trim.ensures in
     let z = c.truncate_on.new.known in
     let third = c.in_ok-trim_segments.ensures in
     let e = t.seen c.trim_segments.new.turns in
-    goes_later p.may p.floor p.shelf b e z.version z.tail z.chain third.later second.goes_by
+    goes_later p.law b e z.version z.tail z.chain third.later second.goes_by
 
 pub returns-clause-trimmed : goal.returns-clause-trimmed
 returns-clause-trimmed g c =
@@ -189,15 +189,15 @@ returns-clause-trimmed g c =
     let first = c.in_ok-version.ensures in
     let v = c.in_ok-version.version in
     let chain = c.in_ok-version.chain in
-    let goes = goes_now p.may p.floor p.shelf who k.version k.tail v k.chain chain old a c.requires.legal first.later c.requires.goes_by first.ok in
+    let goes = goes_now p.law who k.version k.tail v k.chain chain old a c.requires.legal first.later c.requires.goes_by first.ok in
     let b = t.seen c.truncate_on.new.turns in
     let second = c.in_ok-trim.ensures in
     let z = c.truncate_on.new.known in
     let third = c.in_ok-trim_segments.ensures in
     let e = t.seen c.trim_segments.new.turns in
     let same : c.as_slice.result.now ≡ chain.segments = c.as_slice.ensures ∙ c.in_ok-looked.ensures.cases in
-    let to_b = later_trans p.may p.floor p.shelf old a b first.later second.later in
-    let to_e = later_trans p.may p.floor p.shelf a b e second.later third.later in
+    let to_b = later_trans p.law old a b first.later second.later in
+    let to_e = later_trans p.law a b e second.later third.later in
     record {
       version = v;
       chain = chain;
@@ -351,7 +351,7 @@ returns-clause-looked g c =
     let third = c.in_ok-trim_segments.ensures in
     let e = t.seen c.trim_segments.new.turns in
     let same : c.as_slice.result.now ≡ chain.segments = c.as_slice.ensures ∙ c.in_ok-looked.ensures.cases in
-    let to_e = later_trans p.may p.floor p.shelf a b e second.later third.later in
+    let to_e = later_trans p.law a b e second.later third.later in
     record {
       chain = chain;
       looks = looks_later who chain old a e to_e.more to_e.seen (looks_now who v chain old a first.ok);
@@ -404,7 +404,7 @@ returns-in_err-looked-clause-rises g c =
     let t = g.T.Turns in
     let k = c.args.known.now in
     let first = c.in_ok-version.ensures in
-    let up = rises_now p.may p.floor p.shelf (t.who c.args.turns.now) k.version k.tail c.in_ok-version.version k.chain c.in_ok-version.chain (t.seen c.args.turns.now) (t.seen c.look.new.turns) first.later c.requires.goes_by first.ok in
+    let up = rises_now p.law (t.who c.args.turns.now) k.version k.tail c.in_ok-version.version k.chain c.in_ok-version.chain (t.seen c.args.turns.now) (t.seen c.look.new.turns) first.later c.requires.goes_by first.ok in
     up
 
 pub returns-in_err-trim-clause-rises : goal.returns-in_err-trim-clause-rises
@@ -413,7 +413,7 @@ returns-in_err-trim-clause-rises g c =
     let t = g.T.Turns in
     let k = c.args.known.now in
     let first = c.in_ok-version.ensures in
-    let up = rises_now p.may p.floor p.shelf (t.who c.args.turns.now) k.version k.tail c.in_ok-version.version k.chain c.in_ok-version.chain (t.seen c.args.turns.now) (t.seen c.look.new.turns) first.later c.requires.goes_by first.ok in
+    let up = rises_now p.law (t.who c.args.turns.now) k.version k.tail c.in_ok-version.version k.chain c.in_ok-version.chain (t.seen c.args.turns.now) (t.seen c.look.new.turns) first.later c.requires.goes_by first.ok in
     omega (arith, up, c.in_err-trim.ensures.rises)
 
 pub returns-in_err-trim_segments-clause-rises : goal.returns-in_err-trim_segments-clause-rises
@@ -422,7 +422,7 @@ returns-in_err-trim_segments-clause-rises g c =
     let t = g.T.Turns in
     let k = c.args.known.now in
     let first = c.in_ok-version.ensures in
-    let up = rises_now p.may p.floor p.shelf (t.who c.args.turns.now) k.version k.tail c.in_ok-version.version k.chain c.in_ok-version.chain (t.seen c.args.turns.now) (t.seen c.look.new.turns) first.later c.requires.goes_by first.ok in
+    let up = rises_now p.law (t.who c.args.turns.now) k.version k.tail c.in_ok-version.version k.chain c.in_ok-version.chain (t.seen c.args.turns.now) (t.seen c.look.new.turns) first.later c.requires.goes_by first.ok in
     omega (arith, up, c.in_ok-trim.ensures.rises)
 
 pub returns-clause-rises : goal.returns-clause-rises
@@ -431,5 +431,5 @@ returns-clause-rises g c =
     let t = g.T.Turns in
     let k = c.args.known.now in
     let first = c.in_ok-version.ensures in
-    let up = rises_now p.may p.floor p.shelf (t.who c.args.turns.now) k.version k.tail c.in_ok-version.version k.chain c.in_ok-version.chain (t.seen c.args.turns.now) (t.seen c.look.new.turns) first.later c.requires.goes_by first.ok in
+    let up = rises_now p.law (t.who c.args.turns.now) k.version k.tail c.in_ok-version.version k.chain c.in_ok-version.chain (t.seen c.args.turns.now) (t.seen c.look.new.turns) first.later c.requires.goes_by first.ok in
     omega (arith, up, c.in_ok-trim.ensures.rises)

@@ -21,12 +21,12 @@ use Rattle.virtual_log.proofs.truncate.trim_segment.Goals as goal
 pub begin-requires-clause-may : goal.begin-requires-clause-may
 begin-requires-clause-may g c =
     let p = g.T.Law.Rules in
-    may_trim p.may p.floor p.shelf (g.T.Turns.who c.args.turns.now) (g.T.Turns.seen c.args.turns.now) c.args.segment c.args.n c.length_below-length.result c.requires.legal c.requires.started (omega (arith, c.if-segment-n.false)) c.requires.trim c.length_below-length.ensures
+    may_trim p.law (g.T.Turns.who c.args.turns.now) (g.T.Turns.seen c.args.turns.now) c.args.segment c.args.n c.length_below-length.result c.requires.legal c.requires.started (omega (arith, c.if-segment-n.false)) c.requires.trim c.length_below-length.ensures
 
 pub carry_on-requires-clause-cell : goal.carry_on-requires-clause-cell
 carry_on-requires-clause-cell g c =
     let p = g.T.Law.Rules in
-    started_within p.may p.floor p.shelf (g.T.Turns.seen c.args.turns.now) c.args.segment.id c.args.segment.start c.requires.legal c.requires.started
+    started_within p.law (g.T.Turns.seen c.args.turns.now) c.args.segment.id c.args.segment.start c.requires.legal c.requires.started
 
 pub returns-in-TrimDone-clause-trimmed : goal.returns-in-TrimDone-clause-trimmed
 returns-in-TrimDone-clause-trimmed g c = λ _.

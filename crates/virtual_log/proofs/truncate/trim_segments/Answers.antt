@@ -20,7 +20,7 @@ trim_segment-requires-clause-started g c =
     let p = g.T.Law.Rules in
     let t = g.T.Turns in
     let l = c.segment in
-    (later_continues p.may p.floor p.shelf (t.seen c.args.turns.now) (t.seen l.turns) l.invariant.later).starts _ _
+    (later_continues p.law (t.seen c.args.turns.now) (t.seen l.turns) l.invariant.later).starts _ _
     (c.requires.started l.segment-index _ (at_index c.args.segments.now l.segment-index _ (omega arith)))
 
 pub trim_segment-requires-clause-trim : goal.trim_segment-requires-clause-trim
@@ -28,7 +28,7 @@ trim_segment-requires-clause-trim g c =
     let p = g.T.Law.Rules in
     let t = g.T.Turns in
     let l = c.segment in
-    omega (arith, c.requires.trim, (later_continues p.may p.floor p.shelf (t.seen c.args.turns.now) (t.seen l.turns) l.invariant.later).trim)
+    omega (arith, c.requires.trim, (later_continues p.law (t.seen c.args.turns.now) (t.seen l.turns) l.invariant.later).trim)
 
 pub segment-preserved : goal.segment-preserved
 segment-preserved g c =
@@ -57,7 +57,7 @@ segment-preserved g c =
           event_until (IsTrimOf who s n) old now new step.later.more step.later.seen (i.trimmed k s (omega arith) at below)
     ] in
     record {
-      later = later_trans p.may p.floor p.shelf old now new i.later step.later;
+      later = later_trans p.law old now new i.later step.later;
       who = step.who ∙ i.who;
       trimmed = λ k s h at below. by_test k s h at below (k == l.segment-index) refl;
       words = says_on (g.C.Chooser.may c.args.chooser.now) (g.C.Chooser.may l.chooser) who (t.who l.turns) old now new i.same i.who i.words step.words;
@@ -76,7 +76,7 @@ segment-init g c =
     let t = g.T.Turns in
     let old = t.seen c.args.turns.now in
     record {
-      later = later_refl p.may p.floor p.shelf old c.requires.legal;
+      later = later_refl p.law old c.requires.legal;
       who = refl;
       trimmed = λ k s h at below. absurd (omega (arith, h));
       words = says_refl (g.C.Chooser.may c.args.chooser.now) (t.who c.args.turns.now) old;

@@ -15,7 +15,7 @@ invariant-segment g l =
     let p = g.T.Law.Rules in
     let may = g.C.Chooser.may in
     record {
-      later : Later p.may p.floor p.shelf (t.seen l.fn.turns) (t.seen l.turns);
+      later : Later p.law (t.seen l.fn.turns) (t.seen l.turns);
       who : t.who l.turns ≡ t.who l.fn.turns;
       trimmed : (k : ℕ) (s : Segment) → k < l.segment-index → slice_get l.segments k ≡ Some s → s.start < l.n → HasEvent (t.seen l.fn.turns) (IsTrimOf (t.who l.fn.turns) s l.n) (t.seen l.turns);
       words : SaysOnly (may l.fn.chooser) (t.who l.fn.turns) (t.seen l.fn.turns) (t.seen l.turns);

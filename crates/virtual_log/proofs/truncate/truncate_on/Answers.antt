@@ -22,7 +22,7 @@ returns-in_err-version-clause-goes_by g c =
     let old = t.seen c.args.turns.now in
     let mid = t.seen c.look.new.turns in
     let user = t.who c.look.new.turns in
-    goes_later p.may p.floor p.shelf old mid c.args.known.now.version c.args.known.now.tail c.args.known.now.chain c.in_err-version.ensures.later c.requires.goes_by
+    goes_later p.law old mid c.args.known.now.version c.args.known.now.tail c.args.known.now.chain c.in_err-version.ensures.later c.requires.goes_by
 
 pub returns-then-n-known-clause-goes_by : goal.returns-then-n-known-clause-goes_by
 returns-then-n-known-clause-goes_by g c =
@@ -32,7 +32,7 @@ returns-then-n-known-clause-goes_by g c =
     let old = t.seen c.args.turns.now in
     let mid = t.seen c.look.new.turns in
     let user = t.who c.look.new.turns in
-    goes_now p.may p.floor p.shelf who c.args.known.now.version c.args.known.now.tail c.in_ok-version.version c.args.known.now.chain c.in_ok-version.chain old mid c.requires.legal c.in_ok-version.ensures.later c.requires.goes_by c.in_ok-version.ensures.ok
+    goes_now p.law who c.args.known.now.version c.args.known.now.tail c.in_ok-version.version c.args.known.now.chain c.in_ok-version.chain old mid c.requires.legal c.in_ok-version.ensures.later c.requires.goes_by c.in_ok-version.ensures.ok
 
 pub write-requires-clause-goes_by : goal.write-requires-clause-goes_by
 write-requires-clause-goes_by g c =
@@ -42,7 +42,7 @@ write-requires-clause-goes_by g c =
     let old = t.seen c.args.turns.now in
     let mid = t.seen c.look.new.turns in
     let user = t.who c.look.new.turns in
-    goes_now p.may p.floor p.shelf who c.args.known.now.version c.args.known.now.tail c.in_ok-version.version c.args.known.now.chain c.in_ok-version.chain old mid c.requires.legal c.in_ok-version.ensures.later c.requires.goes_by c.in_ok-version.ensures.ok
+    goes_now p.law who c.args.known.now.version c.args.known.now.tail c.in_ok-version.version c.args.known.now.chain c.in_ok-version.chain old mid c.requires.legal c.in_ok-version.ensures.later c.requires.goes_by c.in_ok-version.ensures.ok
 
 pub write-requires-clause-granted : goal.write-requires-clause-granted
 write-requires-clause-granted g c =
@@ -52,7 +52,7 @@ write-requires-clause-granted g c =
     let old = t.seen c.args.turns.now in
     let mid = t.seen c.look.new.turns in
     let user = t.who c.look.new.turns in
-    (c.requires.known, free_later (state_of old) (state_of mid) p.floor c.args.n (later_continues p.may p.floor p.shelf old mid c.in_ok-version.ensures.later) c.requires.free)
+    (c.requires.known, free_later (state_of old) (state_of mid) p.law.floor c.args.n (later_continues p.law old mid c.in_ok-version.ensures.later) c.requires.free)
 
 pub returns-in_err-write-clause-silent : goal.returns-in_err-write-clause-silent
 returns-in_err-write-clause-silent g c =
@@ -183,7 +183,7 @@ returns-then-n-known-clause-rises g c =
     let t = g.T.Turns in
     let k = c.args.known.now in
     let first = c.in_ok-version.ensures in
-    let up = rises_now p.may p.floor p.shelf (t.who c.args.turns.now) k.version k.tail c.in_ok-version.version k.chain c.in_ok-version.chain (t.seen c.args.turns.now) (t.seen c.look.new.turns) first.later c.requires.goes_by first.ok in
+    let up = rises_now p.law (t.who c.args.turns.now) k.version k.tail c.in_ok-version.version k.chain c.in_ok-version.chain (t.seen c.args.turns.now) (t.seen c.look.new.turns) first.later c.requires.goes_by first.ok in
     up
 
 pub returns-in_err-write-clause-rises : goal.returns-in_err-write-clause-rises
@@ -192,7 +192,7 @@ returns-in_err-write-clause-rises g c =
     let t = g.T.Turns in
     let k = c.args.known.now in
     let first = c.in_ok-version.ensures in
-    let up = rises_now p.may p.floor p.shelf (t.who c.args.turns.now) k.version k.tail c.in_ok-version.version k.chain c.in_ok-version.chain (t.seen c.args.turns.now) (t.seen c.look.new.turns) first.later c.requires.goes_by first.ok in
+    let up = rises_now p.law (t.who c.args.turns.now) k.version k.tail c.in_ok-version.version k.chain c.in_ok-version.chain (t.seen c.args.turns.now) (t.seen c.look.new.turns) first.later c.requires.goes_by first.ok in
     omega (arith, up, c.in_err-write.ensures.rises)
 
 pub returns-clause-rises : goal.returns-clause-rises
@@ -201,5 +201,5 @@ returns-clause-rises g c =
     let t = g.T.Turns in
     let k = c.args.known.now in
     let first = c.in_ok-version.ensures in
-    let up = rises_now p.may p.floor p.shelf (t.who c.args.turns.now) k.version k.tail c.in_ok-version.version k.chain c.in_ok-version.chain (t.seen c.args.turns.now) (t.seen c.look.new.turns) first.later c.requires.goes_by first.ok in
+    let up = rises_now p.law (t.who c.args.turns.now) k.version k.tail c.in_ok-version.version k.chain c.in_ok-version.chain (t.seen c.args.turns.now) (t.seen c.look.new.turns) first.later c.requires.goes_by first.ok in
     omega (arith, up, c.in_ok-write.ensures.rises)

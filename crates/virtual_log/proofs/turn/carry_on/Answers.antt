@@ -20,7 +20,7 @@ turn-requires-clause-may g c =
     let p = g.T.Law.Rules in
     let l = c.loop-answer in
     let r = c.requires.own.0 in
-    may_carry p.may p.floor p.shelf (t.who l.turns) (t.seen l.turns) (t.seen l.turns) c.args.cell c.args.ticket _ r c.requires.cell l.invariant.later.legal
+    may_carry p.law (t.who l.turns) (t.seen l.turns) (t.seen l.turns) c.args.cell c.args.ticket _ r c.requires.cell l.invariant.later.legal
     (subst (λ k. IsOwn ((state_of (t.seen l.turns)).cells c.args.cell) k c.args.ticket r) (sym l.invariant.who) (l.invariant.own r c.requires.own.1))
 
 pub returns-in-Done-clause-ok : goal.returns-in-Done-clause-ok
@@ -29,7 +29,7 @@ returns-in-Done-clause-ok g c = λ r h.
     let p = g.T.Law.Rules in
     let l = c.loop-answer in
     let now = t.seen c.turn.new.self in
-    let done = done_ok p.may p.floor p.shelf (t.who l.turns) (t.seen l.turns) now c.args.cell c.args.ticket _ r c.in-Done.answer l.invariant.later.legal c.in-Done.ensures.turn
+    let done = done_ok p.law (t.who l.turns) (t.seen l.turns) now c.args.cell c.args.ticket _ r c.in-Done.answer l.invariant.later.legal c.in-Done.ensures.turn
     (subst (λ k. IsOwn ((state_of (t.seen l.turns)).cells c.args.cell) k c.args.ticket r) (sym l.invariant.who) (l.invariant.own r h)) in
     answered_since (t.who c.args.turns.now) (t.seen c.args.turns.now) (t.seen l.turns) now c.args.cell c.args.ticket r c.in-Done.answer l.invariant.later.more l.invariant.later.seen l.invariant.still
     (subst (λ k. Answered k (t.seen l.turns) c.args.cell c.args.ticket r c.in-Done.answer now) l.invariant.who done)
@@ -41,7 +41,7 @@ returns-in-Done-clause-quiet g c =
     let l = c.loop-answer in
     let turn = c.in-Done.ensures.turn in
     wrote_trans (t.who c.args.turns.now) (t.seen c.args.turns.now) (t.seen l.turns) (t.seen c.turn.new.self) l.invariant.quiet
-    (wrote_by _ _ _ _ l.invariant.who (turn_wrote p.may p.floor p.shelf _ _ _ _ _ turn turn.event refl))
+    (wrote_by _ _ _ _ l.invariant.who (turn_wrote p.law _ _ _ _ _ turn turn.event refl))
 
 pub loop-answer-smaller : goal.loop-answer-smaller
 loop-answer-smaller g c =
@@ -49,7 +49,7 @@ loop-answer-smaller g c =
     let p = g.T.Law.Rules in
     let l = c.loop-answer in
     let r = c.requires.own.0 in
-    let k = going_ok p.may p.floor p.shelf (t.who l.turns) (t.seen l.turns) (t.seen c.turn.new.self) c.args.cell c.args.ticket _ r l.invariant.later.legal c.in-Going.ensures.turn
+    let k = going_ok p.law (t.who l.turns) (t.seen l.turns) (t.seen c.turn.new.self) c.args.cell c.args.ticket _ r l.invariant.later.legal c.in-Going.ensures.turn
     (subst (λ x. IsOwn ((state_of (t.seen l.turns)).cells c.args.cell) x c.args.ticket r) (sym l.invariant.who) (l.invariant.own r c.requires.own.1)) in
     omega (arith, k.1.0, k.1.1)
 
@@ -59,28 +59,28 @@ loop-answer-preserved g c =
     let p = g.T.Law.Rules in
     let l = c.loop-answer in
     record {
-      later = later_trans p.may p.floor p.shelf (t.seen c.args.turns.now) (t.seen l.turns) (t.seen c.turn.new.self) l.invariant.later (turn_later p.may p.floor p.shelf _ _ _ _ _ c.in-Going.ensures.turn);
+      later = later_trans p.law (t.seen c.args.turns.now) (t.seen l.turns) (t.seen c.turn.new.self) l.invariant.later (turn_later p.law _ _ _ _ _ c.in-Going.ensures.turn);
       who = c.turn.ensures.who ∙ l.invariant.who;
       quiet = wrote_trans (t.who c.args.turns.now) (t.seen c.args.turns.now) (t.seen l.turns) (t.seen c.turn.new.self) l.invariant.quiet
-          (wrote_by _ _ _ _ l.invariant.who (turn_wrote p.may p.floor p.shelf _ _ _ _ _ c.in-Going.ensures.turn c.in-Going.ensures.turn.event refl));
+          (wrote_by _ _ _ _ l.invariant.who (turn_wrote p.law _ _ _ _ _ c.in-Going.ensures.turn c.in-Going.ensures.turn.event refl));
       unsealed = seals_trans (t.who c.args.turns.now) (t.seen c.args.turns.now) (t.seen l.turns) (t.seen c.turn.new.self) l.invariant.unsealed
-          (seals_as _ _ _ _ l.invariant.who (turn_none p.may p.floor p.shelf _ _ _ _ _ c.in-Going.ensures.turn refl));
+          (seals_as _ _ _ _ l.invariant.who (turn_none p.law _ _ _ _ _ c.in-Going.ensures.turn refl));
       calm = calm_then (t.who c.args.turns.now) (t.who l.turns) (t.seen c.args.turns.now) (t.seen l.turns) (t.seen c.turn.new.self) l.invariant.who l.invariant.calm
-          (turn_calm p.may p.floor p.shelf _ _ _ _ _ c.in-Going.ensures.turn tt);
+          (turn_calm p.law _ _ _ _ _ c.in-Going.ensures.turn tt);
       closes = operates_then (t.who c.args.turns.now) (t.who l.turns) (t.seen c.args.turns.now) (t.seen l.turns) (t.seen c.turn.new.self) l.invariant.who l.invariant.closes
-          (turn_keeps p.may p.floor p.shelf (t.who l.turns) (t.seen l.turns) (Some (record { loglet = c.args.cell; ticket = c.args.ticket })) _ _ _ c.in-Going.ensures.turn (refl, refl, refl));
+          (turn_keeps p.law (t.who l.turns) (t.seen l.turns) (Some (record { loglet = c.args.cell; ticket = c.args.ticket })) _ _ _ c.in-Going.ensures.turn (refl, refl, refl));
       words = says_on (g.C.Chooser.may c.args.chooser.now) (g.C.Chooser.may l.chooser) (t.who c.args.turns.now) (t.who l.turns) (t.seen c.args.turns.now) (t.seen l.turns) (t.seen c.turn.new.self) l.invariant.same l.invariant.who l.invariant.words
-          (turn_says p.may p.floor p.shelf (t.who l.turns) (t.seen l.turns) (g.C.Chooser.may l.chooser) _ _ _ c.in-Going.ensures.turn (c.word-word.ensures.given, omega arith));
+          (turn_says p.law (t.who l.turns) (t.seen l.turns) (g.C.Chooser.may l.chooser) _ _ _ c.in-Going.ensures.turn (c.word-word.ensures.given, omega arith));
       same = c.word-word.ensures.same ∙ l.invariant.same;
       own = λ r h.
           subst (λ x. IsOwn ((state_of (t.seen c.turn.new.self)).cells c.args.cell) x c.args.ticket r) l.invariant.who
-          (going_ok p.may p.floor p.shelf (t.who l.turns) (t.seen l.turns) (t.seen c.turn.new.self) c.args.cell c.args.ticket _ r l.invariant.later.legal c.in-Going.ensures.turn
+          (going_ok p.law (t.who l.turns) (t.seen l.turns) (t.seen c.turn.new.self) c.args.cell c.args.ticket _ r l.invariant.later.legal c.in-Going.ensures.turn
           (subst (λ x. IsOwn ((state_of (t.seen l.turns)).cells c.args.cell) x c.args.ticket r) (sym l.invariant.who) (l.invariant.own r h))).0;
       still = λ alone.
           let turn = c.in-Going.ensures.turn in
           let parts = own_split (t.who c.args.turns.now) (t.seen c.args.turns.now) (t.seen l.turns) (t.seen c.turn.new.self) l.invariant.later.more (turn.others ++ turn.own) l.invariant.later.seen (turn.seen ∙ append_assoc (t.seen l.turns) turn.others turn.own) alone in
           still_trans (state_of (t.seen c.args.turns.now)) (state_of (t.seen l.turns)) (state_of (t.seen c.turn.new.self)) (l.invariant.still parts.0)
-          (going_still p.may p.floor p.shelf (t.who l.turns) (t.seen l.turns) (t.seen c.turn.new.self) c.args.cell c.args.ticket _ turn
+          (going_still p.law (t.who l.turns) (t.seen l.turns) (t.seen c.turn.new.self) c.args.cell c.args.ticket _ turn
           (subst (λ w. OnlyOwn w (t.seen l.turns) (t.seen c.turn.new.self)) (sym l.invariant.who) parts.1));
     }
 
@@ -90,7 +90,7 @@ loop-answer-init g c =
     let p = g.T.Law.Rules in
     let old = t.seen c.args.turns.now in
     record {
-      later = later_refl p.may p.floor p.shelf old c.requires.legal;
+      later = later_refl p.law old c.requires.legal;
       who = refl;
       own = λ r h. h;
       still = λ alone. still_refl (state_of old);
@@ -108,7 +108,7 @@ returns-in-Done-clause-unsealed g c =
     let p = g.T.Law.Rules in
     let l = c.loop-answer in
     seals_trans (t.who c.args.turns.now) (t.seen c.args.turns.now) (t.seen l.turns) (t.seen c.turn.new.self) l.invariant.unsealed
-    (seals_as _ _ _ _ l.invariant.who (turn_none p.may p.floor p.shelf _ _ _ _ _ c.in-Done.ensures.turn refl))
+    (seals_as _ _ _ _ l.invariant.who (turn_none p.law _ _ _ _ _ c.in-Done.ensures.turn refl))
 
 pub returns-in-Done-clause-words : goal.returns-in-Done-clause-words
 returns-in-Done-clause-words g c =
@@ -116,7 +116,7 @@ returns-in-Done-clause-words g c =
     let p = g.T.Law.Rules in
     let l = c.loop-answer in
     says_on (g.C.Chooser.may c.args.chooser.now) (g.C.Chooser.may l.chooser) (t.who c.args.turns.now) (t.who l.turns) (t.seen c.args.turns.now) (t.seen l.turns) (t.seen c.turn.new.self) l.invariant.same l.invariant.who l.invariant.words
-    (turn_says p.may p.floor p.shelf (t.who l.turns) (t.seen l.turns) (g.C.Chooser.may l.chooser) _ _ _ c.in-Done.ensures.turn (c.word-word.ensures.given, omega arith))
+    (turn_says p.law (t.who l.turns) (t.seen l.turns) (g.C.Chooser.may l.chooser) _ _ _ c.in-Done.ensures.turn (c.word-word.ensures.given, omega arith))
 
 pub returns-in-Done-clause-calm : goal.returns-in-Done-clause-calm
 returns-in-Done-clause-calm g c = λ is.
@@ -124,7 +124,7 @@ returns-in-Done-clause-calm g c = λ is.
     let p = g.T.Law.Rules in
     let l = c.loop-answer in
     calm_then (t.who c.args.turns.now) (t.who l.turns) (t.seen c.args.turns.now) (t.seen l.turns) (t.seen c.turn.new.self) l.invariant.who l.invariant.calm
-    (turn_calm p.may p.floor p.shelf _ _ _ _ _ c.in-Done.ensures.turn is)
+    (turn_calm p.law _ _ _ _ _ c.in-Done.ensures.turn is)
 
 pub unreachable-requires : goal.unreachable-requires
 unreachable-requires g c =
@@ -132,7 +132,7 @@ unreachable-requires g c =
     let p = g.T.Law.Rules in
     let l = c.loop-answer in
     let r = c.requires.own.0 in
-    carry_answers p.may p.floor p.shelf (t.who l.turns) (t.seen l.turns) (t.seen c.turn.new.self) c.args.cell c.args.ticket _ r _ l.invariant.later.legal
+    carry_answers p.law (t.who l.turns) (t.seen l.turns) (t.seen c.turn.new.self) c.args.cell c.args.ticket _ r _ l.invariant.later.legal
     (subst (λ k. IsOwn ((state_of (t.seen l.turns)).cells c.args.cell) k c.args.ticket r) (sym l.invariant.who) (l.invariant.own r c.requires.own.1))
     c.turn.ensures.turn c.in_default.not-Done c.in_default.not-Going c.in_default.not-Memory
 
@@ -144,9 +144,9 @@ forget-requires g c =
     let r = c.requires.own.0 in
     let mid = t.seen c.turn.new.self in
     record {
-      may = subst (λ w. MayTurn p.may p.floor p.shelf w mid (Forget c.args.cell c.args.ticket)) (sym c.turn.ensures.who)
-          (may_drop p.may p.floor p.shelf (t.who l.turns) (t.seen l.turns) mid c.args.cell c.args.ticket r c.requires.cell l.invariant.later.legal
-          (turn_later p.may p.floor p.shelf _ _ _ _ _ c.in-Memory.ensures.turn)
+      may = subst (λ w. MayTurn p.law w mid (Forget c.args.cell c.args.ticket)) (sym c.turn.ensures.who)
+          (may_drop p.law (t.who l.turns) (t.seen l.turns) mid c.args.cell c.args.ticket r c.requires.cell l.invariant.later.legal
+          (turn_later p.law _ _ _ _ _ c.in-Memory.ensures.turn)
           (subst (λ k. IsOwn ((state_of (t.seen l.turns)).cells c.args.cell) k c.args.ticket r) (sym l.invariant.who) (l.invariant.own r c.requires.own.1)));
     }
 
@@ -155,8 +155,8 @@ returns-in-Memory-clause-later g c =
     let t = g.T.Turns in
     let p = g.T.Law.Rules in
     let l = c.loop-answer in
-    later_trans p.may p.floor p.shelf (t.seen c.args.turns.now) (t.seen c.turn.new.self) (t.seen c.forget.new.turns)
-    (later_trans p.may p.floor p.shelf (t.seen c.args.turns.now) (t.seen l.turns) (t.seen c.turn.new.self) l.invariant.later (turn_later p.may p.floor p.shelf _ _ _ _ _ c.in-Memory.ensures.turn))
+    later_trans p.law (t.seen c.args.turns.now) (t.seen c.turn.new.self) (t.seen c.forget.new.turns)
+    (later_trans p.law (t.seen c.args.turns.now) (t.seen l.turns) (t.seen c.turn.new.self) l.invariant.later (turn_later p.law _ _ _ _ _ c.in-Memory.ensures.turn))
     c.forget.ensures.later
 
 pub returns-in-Memory-clause-who : goal.returns-in-Memory-clause-who
@@ -169,7 +169,7 @@ returns-in-Memory-clause-unsealed g c =
     let l = c.loop-answer in
     seals_trans (t.who c.args.turns.now) (t.seen c.args.turns.now) (t.seen c.turn.new.self) (t.seen c.forget.new.turns)
     (seals_trans (t.who c.args.turns.now) (t.seen c.args.turns.now) (t.seen l.turns) (t.seen c.turn.new.self) l.invariant.unsealed
-    (seals_as _ _ _ _ l.invariant.who (turn_none p.may p.floor p.shelf _ _ _ _ _ c.in-Memory.ensures.turn refl)))
+    (seals_as _ _ _ _ l.invariant.who (turn_none p.law _ _ _ _ _ c.in-Memory.ensures.turn refl)))
     (seals_as _ _ _ _ (c.turn.ensures.who ∙ l.invariant.who) c.forget.ensures.unsealed)
 
 pub returns-in-Memory-clause-words : goal.returns-in-Memory-clause-words
@@ -180,7 +180,7 @@ returns-in-Memory-clause-words g c =
     let words = g.C.Chooser.may c.args.chooser.now in
     says_then words (t.who c.args.turns.now) (t.who c.turn.new.self) (t.seen c.args.turns.now) (t.seen c.turn.new.self) (t.seen c.forget.new.turns) (c.turn.ensures.who ∙ l.invariant.who)
     (says_on words (g.C.Chooser.may l.chooser) (t.who c.args.turns.now) (t.who l.turns) (t.seen c.args.turns.now) (t.seen l.turns) (t.seen c.turn.new.self) l.invariant.same l.invariant.who l.invariant.words
-    (turn_says p.may p.floor p.shelf (t.who l.turns) (t.seen l.turns) (g.C.Chooser.may l.chooser) _ _ _ c.in-Memory.ensures.turn (c.word-word.ensures.given, omega arith)))
+    (turn_says p.law (t.who l.turns) (t.seen l.turns) (g.C.Chooser.may l.chooser) _ _ _ c.in-Memory.ensures.turn (c.word-word.ensures.given, omega arith)))
     (c.forget.ensures.silent words)
 
 pub returns-in-Memory-clause-memory : goal.returns-in-Memory-clause-memory
@@ -190,7 +190,7 @@ returns-in-Memory-clause-memory g c =
     let l = c.loop-answer in
     calm_then (t.who c.args.turns.now) (t.who c.turn.new.self) (t.seen c.args.turns.now) (t.seen c.turn.new.self) (t.seen c.forget.new.turns) (c.turn.ensures.who ∙ l.invariant.who)
     (calm_then (t.who c.args.turns.now) (t.who l.turns) (t.seen c.args.turns.now) (t.seen l.turns) (t.seen c.turn.new.self) l.invariant.who l.invariant.calm
-    (turn_calm p.may p.floor p.shelf _ _ _ _ _ c.in-Memory.ensures.turn tt))
+    (turn_calm p.law _ _ _ _ _ c.in-Memory.ensures.turn tt))
     c.forget.ensures.calm
 
 pub returns-in-Done-clause-closes : goal.returns-in-Done-clause-closes
@@ -200,7 +200,7 @@ returns-in-Done-clause-closes g c =
     let l = c.loop-answer in
     let turn = c.in-Done.ensures.turn in
     operates_then (t.who c.args.turns.now) (t.who l.turns) (t.seen c.args.turns.now) (t.seen l.turns) (t.seen c.turn.new.self) l.invariant.who l.invariant.closes
-    (turn_hands p.may p.floor p.shelf (t.who l.turns) (t.seen l.turns) (Some (record { loglet = c.args.cell; ticket = c.args.ticket })) None _ _ _ turn turn.event (refl, refl, refl))
+    (turn_hands p.law (t.who l.turns) (t.seen l.turns) (Some (record { loglet = c.args.cell; ticket = c.args.ticket })) None _ _ _ turn turn.event (refl, refl, refl))
 
 pub returns-in-Memory-clause-left : goal.returns-in-Memory-clause-left
 returns-in-Memory-clause-left g c =
@@ -209,6 +209,6 @@ returns-in-Memory-clause-left g c =
     let l = c.loop-answer in
     let o : Operation = record { loglet = c.args.cell; ticket = c.args.ticket } in
     let carried = operates_then (t.who c.args.turns.now) (t.who l.turns) (t.seen c.args.turns.now) (t.seen l.turns) (t.seen c.turn.new.self) l.invariant.who l.invariant.closes
-    (turn_keeps p.may p.floor p.shelf (t.who l.turns) (t.seen l.turns) (Some o) _ _ _ c.in-Memory.ensures.turn (refl, refl, refl)) in
-    let left = turn_forgets p.may p.floor p.shelf (t.who c.turn.new.self) (t.seen c.turn.new.self) o _ _ c.forget.ensures.turn.2 in
+    (turn_keeps p.law (t.who l.turns) (t.seen l.turns) (Some o) _ _ _ c.in-Memory.ensures.turn (refl, refl, refl)) in
+    let left = turn_forgets p.law (t.who c.turn.new.self) (t.seen c.turn.new.self) o _ _ c.forget.ensures.turn.2 in
     (left.0, operates_then (t.who c.args.turns.now) (t.who c.turn.new.self) (t.seen c.args.turns.now) (t.seen c.turn.new.self) (t.seen c.forget.new.turns) (c.turn.ensures.who ∙ l.invariant.who) carried left.1)

@@ -15,7 +15,7 @@ invariant-loop-answer g l =
     let p = g.T.Law.Rules in
     let may = g.C.Chooser.may in
     record {
-      later : Later p.may p.floor p.shelf (t.seen l.fn.turns) (t.seen l.turns);
+      later : Later p.law (t.seen l.fn.turns) (t.seen l.turns);
       who : t.who l.turns ≡ t.who l.fn.turns;
       own : (r : Running) → IsOwn ((state_of (t.seen l.fn.turns)).cells l.cell) (t.who l.fn.turns) l.ticket r → IsOwn ((state_of (t.seen l.turns)).cells l.cell) (t.who l.fn.turns) l.ticket r;
       still : OnlyOwn (t.who l.fn.turns) (t.seen l.fn.turns) (t.seen l.turns) → Still (state_of (t.seen l.fn.turns)) (state_of (t.seen l.turns));

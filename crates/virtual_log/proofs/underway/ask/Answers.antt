@@ -17,14 +17,14 @@ turn-requires-clause-may g c =
     let old = t.seen c.args.turns.now in
     let s = c.args.segment in
     let x = going_by c.args.going.now (Asking s) c.requires.step c.requires.going.1 in
-    may_tail p.may p.floor p.shelf _ _ s.id (started_within p.may p.floor p.shelf old s.id s.start c.requires.legal (last_starts p.may p.floor p.shelf old s c.requires.legal x.at.last))
+    may_tail p.law _ _ s.id (started_within p.law old s.id s.start c.requires.legal (last_starts p.law old s c.requires.legal x.at.last))
 
 pub returns-in-Begun-clause-went : goal.returns-in-Begun-clause-went
 returns-in-Begun-clause-went g c = λ words.
     let p = g.T.Law.Rules in
     let t = g.T.Turns in
     went_by c.args.going.now (Asking c.args.segment) c.requires.step
-    (asked p.may p.floor p.shelf words (t.who c.args.turns.now) (t.seen c.args.turns.now) c.args.known.now c.requires.legal c.requires.goes_by
+    (asked p.law words (t.who c.args.turns.now) (t.seen c.args.turns.now) c.args.known.now c.requires.legal c.requires.goes_by
     c.args.segment c.in-Begun.ticket c.args.going.now.entry (t.seen c.turn.new.self) c.in-Begun.ensures.turn)
 
 pub returns-in-Full-clause-went : goal.returns-in-Full-clause-went
@@ -34,16 +34,16 @@ returns-in-Full-clause-went g c = λ words.
     let who = t.who c.args.turns.now in
     let old = t.seen c.args.turns.now in
     let new = t.seen c.turn.new.self in
-    failed p.may p.floor p.shelf words who old c.args.known.now c.requires.legal c.requires.goes_by
+    failed p.law words who old c.args.known.now c.requires.legal c.requires.goes_by
     (Begin c.args.segment.id Tail) fabric.Full new c.args.going.now (fault.Full c.args.segment.id) c.in-Full.ensures.turn tt refl (λ i u. tt)
-    (refl, full_cause p.may p.floor p.shelf who old new c.args.segment.id Tail c.in-Full.ensures.turn)
+    (refl, full_cause p.law who old new c.args.segment.id Tail c.in-Full.ensures.turn)
 
 pub returns-in-Memory-clause-went : goal.returns-in-Memory-clause-went
 returns-in-Memory-clause-went g c = λ words.
     let p = g.T.Law.Rules in
     let t = g.T.Turns in
-    no_memory p.may p.floor p.shelf words (t.who c.args.turns.now) (t.seen c.args.turns.now) c.args.known.now c.requires.legal c.requires.goes_by
+    no_memory p.law words (t.who c.args.turns.now) (t.seen c.args.turns.now) c.args.known.now c.requires.legal c.requires.goes_by
     (Begin c.args.segment.id Tail) (t.seen c.turn.new.self) c.args.going.now c.in-Memory.ensures.turn tt refl (λ i u. tt)
 
 pub unreachable-requires : goal.unreachable-requires
-unreachable-requires g c = begin_answers _ _ _ _ _ _ _ _ _ c.turn.ensures.turn c.in_default.not-Begun c.in_default.not-Full c.in_default.not-Memory
+unreachable-requires g c = begin_answers _ _ _ _ _ _ _ c.turn.ensures.turn c.in_default.not-Begun c.in_default.not-Full c.in_default.not-Memory

@@ -23,8 +23,8 @@ turn-requires-clause-may g c =
     let s = c.args.segment in
     let going = c.args.going.now in
     let x = going_by going (Appending s c.args.ticket) c.requires.step c.requires.going.1 in
-    may_carry p.may p.floor p.shelf who old old s.id c.args.ticket _ _
-    (started_within p.may p.floor p.shelf old s.id s.start c.requires.legal (last_starts p.may p.floor p.shelf old s c.requires.legal (appending_last p.may p.floor p.shelf who (c.requires.going.0 ++ x.first.others) old going.entry s c.args.ticket c.requires.legal x.at)))
+    may_carry p.law who old old s.id c.args.ticket _ _
+    (started_within p.law old s.id s.start c.requires.legal (last_starts p.law old s c.requires.legal (appending_last p.law who (c.requires.going.0 ++ x.first.others) old going.entry s c.args.ticket c.requires.legal x.at)))
     c.requires.legal x.at.own
 
 pub returns-in-Going-clause-went : goal.returns-in-Going-clause-went
@@ -39,7 +39,7 @@ returns-in-Going-clause-went g c =
     let going = c.args.going.now in
     let x = going_by going (Appending s c.args.ticket) c.requires.step c.requires.going.1 in
     went_still going (Appending s c.args.ticket) c.requires.step
-    (append_going p.may p.floor p.shelf words who old k c.requires.legal c.requires.goes_by
+    (append_going p.law words who old k c.requires.legal c.requires.goes_by
     s c.args.ticket c.word-word.result going.entry (t.seen c.turn.new.self) c.in-Going.ensures.turn (c.word-word.ensures.given, omega arith))
 
 pub returns-in-NoQuorum-clause-went : goal.returns-in-NoQuorum-clause-went
@@ -54,9 +54,9 @@ returns-in-NoQuorum-clause-went g c =
     let going = c.args.going.now in
     let x = going_by going (Appending s c.args.ticket) c.requires.step c.requires.going.1 in
     let new = t.seen c.turn.new.self in
-    let turn = subst (λ (a : Answer). IsTurn p.may p.floor p.shelf who old (Carry s.id c.args.ticket c.word-word.result) (fabric.Done a) new) c.in-NoQuorum.is c.in-Done.ensures.turn in
+    let turn = subst (λ (a : Answer). IsTurn p.law who old (Carry s.id c.args.ticket c.word-word.result) (fabric.Done a) new) c.in-NoQuorum.is c.in-Done.ensures.turn in
     went_still going (Appending s c.args.ticket) c.requires.step
-    (lacked p.may p.floor p.shelf words who old k c.requires.legal c.requires.goes_by
+    (lacked p.law words who old k c.requires.legal c.requires.goes_by
     s.id c.args.ticket c.word-word.result c.in-NoQuorum.unreached new (at_step going.entry (Appending s c.args.ticket)) _ turn x.at.own (refl, refl) (c.word-word.ensures.given, omega arith))
 
 pub forget-going-requires-clause-dropping : goal.forget-going-requires-clause-dropping
@@ -71,8 +71,8 @@ forget-going-requires-clause-dropping g c =
     let going = c.args.going.now in
     let x = going_by going (Appending s c.args.ticket) c.requires.step c.requires.going.1 in
     let mid = t.seen c.turn.new.self in
-    let drop = dropping_of p.may p.floor p.shelf who old s c.args.ticket _ c.requires.legal (appending_last p.may p.floor p.shelf who (c.requires.going.0 ++ x.first.others) old going.entry s c.args.ticket c.requires.legal x.at) x.at.own in
-    subst (λ w. IsDropping w mid s.id c.args.ticket) (sym c.turn.ensures.who) (turn_dropping p.may p.floor p.shelf who old _ _ mid c.in-Memory.ensures.turn s.id c.args.ticket drop)
+    let drop = dropping_of p.law who old s c.args.ticket _ c.requires.legal (appending_last p.law who (c.requires.going.0 ++ x.first.others) old going.entry s c.args.ticket c.requires.legal x.at) x.at.own in
+    subst (λ w. IsDropping w mid s.id c.args.ticket) (sym c.turn.ensures.who) (turn_dropping p.law who old _ _ mid c.in-Memory.ensures.turn s.id c.args.ticket drop)
 
 pub returns-in-Memory-clause-went : goal.returns-in-Memory-clause-went
 returns-in-Memory-clause-went g c =
@@ -87,11 +87,11 @@ returns-in-Memory-clause-went g c =
     let x = going_by going (Appending s c.args.ticket) c.requires.step c.requires.going.1 in
     let mid = t.seen c.turn.new.self in
     let new = t.seen c.forget-going.new.turns in
-    let drop = dropping_of p.may p.floor p.shelf who old s c.args.ticket _ c.requires.legal (appending_last p.may p.floor p.shelf who (c.requires.going.0 ++ x.first.others) old going.entry s c.args.ticket c.requires.legal x.at) x.at.own in
+    let drop = dropping_of p.law who old s c.args.ticket _ c.requires.legal (appending_last p.law who (c.requires.going.0 ++ x.first.others) old going.entry s c.args.ticket c.requires.legal x.at) x.at.own in
     let last = c.forget-going.ensures.turn in
-    let turn = subst (λ w. IsTurn p.may p.floor p.shelf w mid (Forget s.id c.args.ticket) last.0 new) c.turn.ensures.who last.2 in
+    let turn = subst (λ w. IsTurn p.law w mid (Forget s.id c.args.ticket) last.0 new) c.turn.ensures.who last.2 in
     went_by going (Appending s c.args.ticket) c.requires.step
-    (gave_up p.may p.floor p.shelf words who old k c.requires.legal c.requires.goes_by
+    (gave_up p.law words who old k c.requires.legal c.requires.goes_by
     s.id c.args.ticket c.word-word.result mid new (at_step going.entry (Appending s c.args.ticket)) last.0 c.forget-going.result c.in-Memory.ensures.turn (c.word-word.ensures.given, omega arith) drop (refl, refl) turn last.1)
 
 pub unreachable-requires-in_default : goal.unreachable-requires-in_default
@@ -105,7 +105,7 @@ unreachable-requires-in_default g c =
     let s = c.args.segment in
     let going = c.args.going.now in
     let x = going_by going (Appending s c.args.ticket) c.requires.step c.requires.going.1 in
-    carry_answers p.may p.floor p.shelf who old (t.seen c.turn.new.self) s.id c.args.ticket _ _ _ c.requires.legal x.at.own c.turn.ensures.turn c.in_default.not-Done c.in_default.not-Going c.in_default.not-Memory
+    carry_answers p.law who old (t.seen c.turn.new.self) s.id c.args.ticket _ _ _ c.requires.legal x.at.own c.turn.ensures.turn c.in_default.not-Done c.in_default.not-Going c.in_default.not-Memory
 
 pub overflow_add-position : goal.overflow_add-position
 overflow_add-position g c =
@@ -119,8 +119,8 @@ overflow_add-position g c =
     let going = c.args.going.now in
     let x = going_by going (Appending s c.args.ticket) c.requires.step c.requires.going.1 in
     let new = t.seen c.turn.new.self in
-    let turn = subst (λ (a : Answer). IsTurn p.may p.floor p.shelf who old (Carry s.id c.args.ticket c.word-word.result) (fabric.Done a) new) c.in-Placed.is c.in-Done.ensures.turn in
-    let z = placing p.may p.floor p.shelf words who old k c.requires.legal c.requires.goes_by s c.args.ticket c.word-word.result c.in-Placed.place going.entry c.requires.going.0 new turn x in
+    let turn = subst (λ (a : Answer). IsTurn p.law who old (Carry s.id c.args.ticket c.word-word.result) (fabric.Done a) new) c.in-Placed.is c.in-Done.ensures.turn in
+    let z = placing p.law words who old k c.requires.legal c.requires.goes_by s c.args.ticket c.word-word.result c.in-Placed.place going.entry c.requires.going.0 new turn x in
     omega (arith, z.fits)
 
 pub overflow_add-position-in-Placed : goal.overflow_add-position-in-Placed
@@ -135,8 +135,8 @@ overflow_add-position-in-Placed g c =
     let going = c.args.going.now in
     let x = going_by going (Appending s c.args.ticket) c.requires.step c.requires.going.1 in
     let new = t.seen c.turn.new.self in
-    let turn = subst (λ (a : Answer). IsTurn p.may p.floor p.shelf who old (Carry s.id c.args.ticket c.word-word.result) (fabric.Done a) new) c.in-Placed.is c.in-Done.ensures.turn in
-    let z = placing p.may p.floor p.shelf words who old k c.requires.legal c.requires.goes_by s c.args.ticket c.word-word.result c.in-Placed.place going.entry c.requires.going.0 new turn x in
+    let turn = subst (λ (a : Answer). IsTurn p.law who old (Carry s.id c.args.ticket c.word-word.result) (fabric.Done a) new) c.in-Placed.is c.in-Done.ensures.turn in
+    let z = placing p.law words who old k c.requires.legal c.requires.goes_by s c.args.ticket c.word-word.result c.in-Placed.place going.entry c.requires.going.0 new turn x in
     omega (arith, z.fits)
 
 pub returns-in-Placed-clause-went : goal.returns-in-Placed-clause-went
@@ -151,9 +151,9 @@ returns-in-Placed-clause-went g c =
     let going = c.args.going.now in
     let x = going_by going (Appending s c.args.ticket) c.requires.step c.requires.going.1 in
     let new = t.seen c.turn.new.self in
-    let turn = subst (λ (a : Answer). IsTurn p.may p.floor p.shelf who old (Carry s.id c.args.ticket c.word-word.result) (fabric.Done a) new) c.in-Placed.is c.in-Done.ensures.turn in
+    let turn = subst (λ (a : Answer). IsTurn p.law who old (Carry s.id c.args.ticket c.word-word.result) (fabric.Done a) new) c.in-Placed.is c.in-Done.ensures.turn in
     went_still going (Appending s c.args.ticket) c.requires.step
-    (append_placed p.may p.floor p.shelf words who old k c.requires.legal c.requires.goes_by
+    (append_placed p.law words who old k c.requires.legal c.requires.goes_by
     s c.args.ticket c.word-word.result c.in-Placed.place c.max-known.result going.entry c.requires.going.0 new turn (c.word-word.ensures.given, omega arith) x c.max-known.ensures)
 
 pub returns-in-Sealed-clause-went : goal.returns-in-Sealed-clause-went
@@ -168,9 +168,9 @@ returns-in-Sealed-clause-went g c =
     let going = c.args.going.now in
     let x = going_by going (Appending s c.args.ticket) c.requires.step c.requires.going.1 in
     let new = t.seen c.turn.new.self in
-    let turn = subst (λ (a : Answer). IsTurn p.may p.floor p.shelf who old (Carry s.id c.args.ticket c.word-word.result) (fabric.Done a) new) c.in-Sealed.is c.in-Done.ensures.turn in
+    let turn = subst (λ (a : Answer). IsTurn p.law who old (Carry s.id c.args.ticket c.word-word.result) (fabric.Done a) new) c.in-Sealed.is c.in-Done.ensures.turn in
     went_by going (Appending s c.args.ticket) c.requires.step
-    (append_sealed p.may p.floor p.shelf words who old k c.requires.legal c.requires.goes_by
+    (append_sealed p.law words who old k c.requires.legal c.requires.goes_by
     s c.args.ticket c.word-word.result going.entry new turn (c.word-word.ensures.given, omega arith))
 
 pub unreachable-requires : goal.unreachable-requires
@@ -184,5 +184,5 @@ unreachable-requires g c =
     let s = c.args.segment in
     let going = c.args.going.now in
     let x = going_by going (Appending s c.args.ticket) c.requires.step c.requires.going.1 in
-    let done = done_ok p.may p.floor p.shelf who old (t.seen c.turn.new.self) s.id c.args.ticket _ _ c.in-Done.answer c.requires.legal c.in-Done.ensures.turn x.at.own in
+    let done = done_ok p.law who old (t.seen c.turn.new.self) s.id c.args.ticket _ _ c.in-Done.answer c.requires.legal c.in-Done.ensures.turn x.at.own in
     append_answers _ _ going.entry _ done.may c.in_default-answer.not-Placed c.in_default-answer.not-Sealed c.in_default-answer.not-NoQuorum

@@ -24,7 +24,7 @@ extend-requires-clause-chain g c =
     let going = c.args.going.now in
     let x = going_by going (Closing s n) c.requires.step c.requires.going.1 in
     let told = subst (λ i. Contains ((state_of old).cells i).ends n) (sym c.requires.last) x.at.1 in
-    (fits (length p.shelf) (state_of old) k.version n k.chain (sound p.may p.floor p.shelf old c.requires.legal) c.requires.goes_by.given told).chain
+    (fits (length p.law.shelf) (state_of old) k.version n k.chain (sound p.law old c.requires.legal) c.requires.goes_by.given told).chain
 
 pub extend-requires-clause-seam : goal.extend-requires-clause-seam
 extend-requires-clause-seam g c =
@@ -38,7 +38,7 @@ extend-requires-clause-seam g c =
     let going = c.args.going.now in
     let x = going_by going (Closing s n) c.requires.step c.requires.going.1 in
     let told = subst (λ i. Contains ((state_of old).cells i).ends n) (sym c.requires.last) x.at.1 in
-    (fits (length p.shelf) (state_of old) k.version n k.chain (sound p.may p.floor p.shelf old c.requires.legal) c.requires.goes_by.given told).seam
+    (fits (length p.law.shelf) (state_of old) k.version n k.chain (sound p.law old c.requires.legal) c.requires.goes_by.given told).seam
 
 pub extend-requires-clause-next : goal.extend-requires-clause-next
 extend-requires-clause-next g c =
@@ -52,7 +52,7 @@ extend-requires-clause-next g c =
     let going = c.args.going.now in
     let x = going_by going (Closing s n) c.requires.step c.requires.going.1 in
     let told = subst (λ i. Contains ((state_of old).cells i).ends n) (sym c.requires.last) x.at.1 in
-    let f = fits (length p.shelf) (state_of old) k.version n k.chain (sound p.may p.floor p.shelf old c.requires.legal) c.requires.goes_by.given told in omega (arith, f.spare, f.few)
+    let f = fits (length p.law.shelf) (state_of old) k.version n k.chain (sound p.law old c.requires.legal) c.requires.goes_by.given told in omega (arith, f.spare, f.few)
 
 pub turn-requires-clause-may : goal.turn-requires-clause-may
 turn-requires-clause-may g c =
@@ -66,7 +66,7 @@ turn-requires-clause-may g c =
     let going = c.args.going.now in
     let x = going_by going (Closing s n) c.requires.step c.requires.going.1 in
     let told = subst (λ i. Contains ((state_of old).cells i).ends n) (sym c.requires.last) x.at.1 in
-    may_write p.may p.floor p.shelf who old k.version n k.chain _ c.requires.goes_by.given told c.in_ok-next.ensures.value c.requires.legal
+    may_write p.law who old k.version n k.chain _ c.requires.goes_by.given told c.in_ok-next.ensures.value c.requires.legal
 
 pub returns-in-Written-clause-went : goal.returns-in-Written-clause-went
 returns-in-Written-clause-went g c = λ words.
@@ -81,7 +81,7 @@ returns-in-Written-clause-went g c = λ words.
     let x = going_by going (Closing s n) c.requires.step c.requires.going.1 in
     let told = subst (λ i. Contains ((state_of old).cells i).ends n) (sym c.requires.last) x.at.1 in
     went_by going (Closing s n) c.requires.step
-    (wrote p.may p.floor p.shelf words who old k c.requires.legal c.requires.goes_by s n _ c.in_ok-next.next going.entry (t.seen c.turn.new.self) c.in_ok-next.ensures.value c.in-Written.ensures.turn)
+    (wrote p.law words who old k c.requires.legal c.requires.goes_by s n _ c.in_ok-next.next going.entry (t.seen c.turn.new.self) c.in_ok-next.ensures.value c.in-Written.ensures.turn)
 
 pub returns-in-Conflict-clause-went : goal.returns-in-Conflict-clause-went
 returns-in-Conflict-clause-went g c = λ words.
@@ -96,7 +96,7 @@ returns-in-Conflict-clause-went g c = λ words.
     let x = going_by going (Closing s n) c.requires.step c.requires.going.1 in
     let told = subst (λ i. Contains ((state_of old).cells i).ends n) (sym c.requires.last) x.at.1 in
     went_still going (Closing s n) c.requires.step
-    (lost p.may p.floor p.shelf words who old k c.requires.legal c.requires.goes_by s n c.in-Conflict.version c.in_ok-next.next c.in-Conflict.chain going.entry (t.seen c.turn.new.self) c.in_ok-next.ensures.value c.in-Conflict.ensures.turn)
+    (lost p.law words who old k c.requires.legal c.requires.goes_by s n c.in-Conflict.version c.in_ok-next.next c.in-Conflict.chain going.entry (t.seen c.turn.new.self) c.in_ok-next.ensures.value c.in-Conflict.ensures.turn)
 
 pub returns-in-MetaFault-clause-went : goal.returns-in-MetaFault-clause-went
 returns-in-MetaFault-clause-went g c = λ words.
@@ -111,9 +111,9 @@ returns-in-MetaFault-clause-went g c = λ words.
     let x = going_by going (Closing s n) c.requires.step c.requires.going.1 in
     let told = subst (λ i. Contains ((state_of old).cells i).ends n) (sym c.requires.last) x.at.1 in
     let new = t.seen c.turn.new.self in
-    failed p.may p.floor p.shelf words who old k c.requires.legal c.requires.goes_by
+    failed p.law words who old k c.requires.legal c.requires.goes_by
     (WriteChain k.version c.in_ok-next.next) fabric.MetaFault new going fault.Meta c.in-MetaFault.ensures.turn tt refl (λ i u. tt)
-    (refl, meta_cause p.may p.floor p.shelf who old new k.version c.in_ok-next.next c.in-MetaFault.ensures.turn)
+    (refl, meta_cause p.law who old new k.version c.in_ok-next.next c.in-MetaFault.ensures.turn)
 
 pub returns-in-Down-clause-went : goal.returns-in-Down-clause-went
 returns-in-Down-clause-went g c = λ words.
@@ -128,9 +128,9 @@ returns-in-Down-clause-went g c = λ words.
     let x = going_by going (Closing s n) c.requires.step c.requires.going.1 in
     let told = subst (λ i. Contains ((state_of old).cells i).ends n) (sym c.requires.last) x.at.1 in
     let new = t.seen c.turn.new.self in
-    failed p.may p.floor p.shelf words who old k c.requires.legal c.requires.goes_by
+    failed p.law words who old k c.requires.legal c.requires.goes_by
     (WriteChain k.version c.in_ok-next.next) fabric.Down new going fault.Meta c.in-Down.ensures.turn tt refl (λ i u. tt)
-    (refl, gone_cause p.may p.floor p.shelf who old new k.version c.in_ok-next.next c.in-Down.ensures.turn)
+    (refl, gone_cause p.law who old new k.version c.in_ok-next.next c.in-Down.ensures.turn)
 
 pub returns-in-Memory-clause-went : goal.returns-in-Memory-clause-went
 returns-in-Memory-clause-went g c = λ words.
@@ -144,8 +144,8 @@ returns-in-Memory-clause-went g c = λ words.
     let going = c.args.going.now in
     let x = going_by going (Closing s n) c.requires.step c.requires.going.1 in
     let told = subst (λ i. Contains ((state_of old).cells i).ends n) (sym c.requires.last) x.at.1 in
-    no_memory p.may p.floor p.shelf words who old k c.requires.legal c.requires.goes_by
+    no_memory p.law words who old k c.requires.legal c.requires.goes_by
     (WriteChain k.version c.in_ok-next.next) (t.seen c.turn.new.self) going c.in-Memory.ensures.turn tt refl (λ i u. tt)
 
 pub unreachable-requires : goal.unreachable-requires
-unreachable-requires g c = write_answers _ _ _ _ _ _ _ _ _ c.turn.ensures.turn c.in_default.not-Written c.in_default.not-Conflict c.in_default.not-MetaFault c.in_default.not-Down c.in_default.not-Memory
+unreachable-requires g c = write_answers _ _ _ _ _ _ _ c.turn.ensures.turn c.in_default.not-Written c.in_default.not-Conflict c.in_default.not-MetaFault c.in_default.not-Down c.in_default.not-Memory

@@ -19,7 +19,7 @@ start-started-requires-clause-goes_by g c =
     let u = c.args.ticket in
     let going = c.args.going.now in
     let last = c.forget.ensures.turn in
-    goes_later p.may p.floor p.shelf old mid k.version k.tail k.chain (turn_later p.may p.floor p.shelf who old _ _ mid last.2) c.requires.goes_by
+    goes_later p.law old mid k.version k.tail k.chain (turn_later p.law who old _ _ mid last.2) c.requires.goes_by
 
 pub start-started-requires-clause-going : goal.start-started-requires-clause-going
 start-started-requires-clause-going g c =
@@ -35,8 +35,8 @@ start-started-requires-clause-going g c =
     let last = c.forget.ensures.turn in
     let x = going_by going (Dropping j u) c.requires.step c.requires.going.1 in (
       c.requires.going.0,
-      subst (λ w. IsGoing p.may w c.requires.going.0 mid k.chain (at_step going.entry Starting)) (sym c.forget.ensures.who)
-          (dropped_starts p.may p.floor p.shelf (λ _. true) who old k c.requires.legal c.requires.goes_by j u going.entry c.requires.going.0 last.0 mid last.2 x),
+      subst (λ w. IsGoing p.law.may w c.requires.going.0 mid k.chain (at_step going.entry Starting)) (sym c.forget.ensures.who)
+          (dropped_starts p.law (λ _. true) who old k c.requires.legal c.requires.goes_by j u going.entry c.requires.going.0 last.0 mid last.2 x),
     )
 
 pub returns-in-Starting-clause-went : goal.returns-in-Starting-clause-went
@@ -53,10 +53,10 @@ returns-in-Starting-clause-went g c = λ words.
     let last = c.forget.ensures.turn in
     let new = t.seen c.start-started.new.turns in
     let f = subst (λ (x : Step). Forgets j u last.0 x) c.in-Starting.is last.1 in
-    let w = subst (λ by. Went p.may p.floor p.shelf words by mid k (at_step going.entry Starting) new k c.start-started.new.going c.start-started.result) c.forget.ensures.who (c.start-started.ensures.went words) in
+    let w = subst (λ by. Went p.law words by mid k (at_step going.entry Starting) new k c.start-started.new.going c.start-started.result) c.forget.ensures.who (c.start-started.ensures.went words) in
     let x = going_by going (Dropping j u) c.requires.step c.requires.going.1 in
     went_by going (Dropping j u) c.requires.step
-    (dropped p.may p.floor p.shelf words who old k c.requires.legal c.requires.goes_by j u going.entry last.0 mid new k c.start-started.new.going c.start-started.result last.2 f x.at w)
+    (dropped p.law words who old k c.requires.legal c.requires.goes_by j u going.entry last.0 mid new k c.start-started.new.going c.start-started.result last.2 f x.at w)
 
 pub returns-in_default-clause-went : goal.returns-in_default-clause-went
 returns-in_default-clause-went g c = λ words.
@@ -71,4 +71,4 @@ returns-in_default-clause-went g c = λ words.
     let going = c.args.going.now in
     let last = c.forget.ensures.turn in
     went_still going (Dropping j u) c.requires.step
-    (undropped p.may p.floor p.shelf words who old k c.requires.legal c.requires.goes_by j u going.entry last.0 _ mid last.2 last.1)
+    (undropped p.law words who old k c.requires.legal c.requires.goes_by j u going.entry last.0 _ mid last.2 last.1)

@@ -9,7 +9,7 @@ pub forget-requires : goal.forget-requires
 forget-requires g c =
     let p = g.T.Law.Rules in
     let t = g.T.Turns in
-    record { may = may_forget p.may p.floor p.shelf (t.who c.args.turns.now) (t.seen c.args.turns.now) c.requires.legal c.args.cell c.args.ticket c.requires.dropping }
+    record { may = may_forget p.law (t.who c.args.turns.now) (t.seen c.args.turns.now) c.requires.legal c.args.cell c.args.ticket c.requires.dropping }
 
 pub returns-then-forget-clause-turn : goal.returns-then-forget-clause-turn
 returns-then-forget-clause-turn g c =

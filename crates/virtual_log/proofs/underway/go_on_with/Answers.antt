@@ -14,7 +14,7 @@ advance-made-requires-clause-going g c =
     let going = c.args.going.now in
     let is = c.due-going.ensures ∙ ap (due (last_segment k.chain).id) c.replace-step.ensures.value in
     let x = c.requires.going in
-    (x.0, subst (λ s. IsGoing p.may who x.0 old k.chain (at_step going.entry s)) (sym is) (due_going p.may who x.0 old k.chain going x.1))
+    (x.0, subst (λ s. IsGoing p.law.may who x.0 old k.chain (at_step going.entry s)) (sym is) (due_going p.law.may who x.0 old k.chain going x.1))
 
 pub returns-clause-above : goal.returns-clause-above
 returns-clause-above g c =
@@ -26,8 +26,8 @@ returns-clause-above g c =
     let going = c.args.going.now in
     let m = c.advance-made in
     let is = c.due-going.ensures ∙ ap (due (last_segment k.chain).id) c.replace-step.ensures.value in
-    let w = subst (λ x. Went p.may p.floor p.shelf (g.C.Chooser.may c.args.chooser.now) who old k (at_step going.entry x) (t.seen m.new.turns) m.new.known m.new.going m.result) is m.ensures.went in
-    outcome_above p.may who old k going (t.seen m.new.turns) m.new.known m.new.going m.result w.outcome
+    let w = subst (λ x. Went p.law (g.C.Chooser.may c.args.chooser.now) who old k (at_step going.entry x) (t.seen m.new.turns) m.new.known m.new.going m.result) is m.ensures.went in
+    outcome_above p.law.may who old k going (t.seen m.new.turns) m.new.known m.new.going m.result w.outcome
 
 pub returns-clause-going : goal.returns-clause-going
 returns-clause-going g c =
@@ -39,8 +39,8 @@ returns-clause-going g c =
     let going = c.args.going.now in
     let m = c.advance-made in
     let is = c.due-going.ensures ∙ ap (due (last_segment k.chain).id) c.replace-step.ensures.value in
-    let w = subst (λ x. Went p.may p.floor p.shelf (g.C.Chooser.may c.args.chooser.now) who old k (at_step going.entry x) (t.seen m.new.turns) m.new.known m.new.going m.result) is m.ensures.went in
-    outcome_going p.may who old k going (t.seen m.new.turns) m.new.known m.new.going m.result w.outcome
+    let w = subst (λ x. Went p.law (g.C.Chooser.may c.args.chooser.now) who old k (at_step going.entry x) (t.seen m.new.turns) m.new.known m.new.going m.result) is m.ensures.went in
+    outcome_going p.law.may who old k going (t.seen m.new.turns) m.new.known m.new.going m.result w.outcome
 
 pub returns-clause-again : goal.returns-clause-again
 returns-clause-again g c =
@@ -52,8 +52,8 @@ returns-clause-again g c =
     let going = c.args.going.now in
     let m = c.advance-made in
     let is = c.due-going.ensures ∙ ap (due (last_segment k.chain).id) c.replace-step.ensures.value in
-    let w = subst (λ x. Went p.may p.floor p.shelf (g.C.Chooser.may c.args.chooser.now) who old k (at_step going.entry x) (t.seen m.new.turns) m.new.known m.new.going m.result) is m.ensures.went in
-    outcome_again p.may who old k going (t.seen m.new.turns) m.new.known m.new.going m.result w.outcome
+    let w = subst (λ x. Went p.law (g.C.Chooser.may c.args.chooser.now) who old k (at_step going.entry x) (t.seen m.new.turns) m.new.known m.new.going m.result) is m.ensures.went in
+    outcome_again p.law.may who old k going (t.seen m.new.turns) m.new.known m.new.going m.result w.outcome
 
 pub returns-clause-left : goal.returns-clause-left
 returns-clause-left g c =
@@ -65,8 +65,8 @@ returns-clause-left g c =
     let going = c.args.going.now in
     let m = c.advance-made in
     let is = c.due-going.ensures ∙ ap (due (last_segment k.chain).id) c.replace-step.ensures.value in
-    let w = subst (λ x. Went p.may p.floor p.shelf (g.C.Chooser.may c.args.chooser.now) who old k (at_step going.entry x) (t.seen m.new.turns) m.new.known m.new.going m.result) is m.ensures.went in
-    due_left p.may who old k going (t.seen m.new.turns) m.new.known m.new.going w.left
+    let w = subst (λ x. Went p.law (g.C.Chooser.may c.args.chooser.now) who old k (at_step going.entry x) (t.seen m.new.turns) m.new.known m.new.going m.result) is m.ensures.went in
+    due_left p.law.may who old k going (t.seen m.new.turns) m.new.known m.new.going w.left
 
 pub returns-clause-others : goal.returns-clause-others
 returns-clause-others g c =
@@ -78,5 +78,5 @@ returns-clause-others g c =
     let going = c.args.going.now in
     let m = c.advance-made in
     let is = c.due-going.ensures ∙ ap (due (last_segment k.chain).id) c.replace-step.ensures.value in
-    let w = subst (λ x. Went p.may p.floor p.shelf (g.C.Chooser.may c.args.chooser.now) who old k (at_step going.entry x) (t.seen m.new.turns) m.new.known m.new.going m.result) is m.ensures.went in
-    due_others p.may who old k going (t.seen m.new.turns) m.new.known m.new.going w.others
+    let w = subst (λ x. Went p.law (g.C.Chooser.may c.args.chooser.now) who old k (at_step going.entry x) (t.seen m.new.turns) m.new.known m.new.going m.result) is m.ensures.went in
+    due_others p.law.may who old k going (t.seen m.new.turns) m.new.known m.new.going w.others

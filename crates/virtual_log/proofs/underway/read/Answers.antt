@@ -13,7 +13,7 @@ returns-in-At-clause-went g c = λ words.
     let p = g.T.Law.Rules in
     let t = g.T.Turns in
     went_by c.args.going.now (Reading c.args.segment) c.requires.step
-    (looked p.may p.floor p.shelf words (t.who c.args.turns.now) (t.seen c.args.turns.now) c.args.known.now c.requires.legal c.requires.goes_by
+    (looked p.law words (t.who c.args.turns.now) (t.seen c.args.turns.now) c.args.known.now c.requires.legal c.requires.goes_by
     c.args.segment c.in-At.version c.in-At.chain c.args.going.now.entry (t.seen c.turn.new.self) c.in-At.ensures.turn)
 
 pub returns-in-Down-clause-went : goal.returns-in-Down-clause-went
@@ -23,16 +23,16 @@ returns-in-Down-clause-went g c = λ words.
     let who = t.who c.args.turns.now in
     let old = t.seen c.args.turns.now in
     let new = t.seen c.turn.new.self in
-    failed p.may p.floor p.shelf words who old c.args.known.now c.requires.legal c.requires.goes_by
+    failed p.law words who old c.args.known.now c.requires.legal c.requires.goes_by
     ReadChain fabric.Down new c.args.going.now fault.Meta c.in-Down.ensures.turn tt refl (λ i u. tt)
-    (refl, down_cause p.may p.floor p.shelf who old new c.in-Down.ensures.turn)
+    (refl, down_cause p.law who old new c.in-Down.ensures.turn)
 
 pub returns-in-Memory-clause-went : goal.returns-in-Memory-clause-went
 returns-in-Memory-clause-went g c = λ words.
     let p = g.T.Law.Rules in
     let t = g.T.Turns in
-    no_memory p.may p.floor p.shelf words (t.who c.args.turns.now) (t.seen c.args.turns.now) c.args.known.now c.requires.legal c.requires.goes_by
+    no_memory p.law words (t.who c.args.turns.now) (t.seen c.args.turns.now) c.args.known.now c.requires.legal c.requires.goes_by
     ReadChain (t.seen c.turn.new.self) c.args.going.now c.in-Memory.ensures.turn tt refl (λ i u. tt)
 
 pub unreachable-requires : goal.unreachable-requires
-unreachable-requires g c = look_answers _ _ _ _ _ _ _ c.turn.ensures.turn c.in_default.not-At c.in_default.not-Down c.in_default.not-Memory
+unreachable-requires g c = look_answers _ _ _ _ _ c.turn.ensures.turn c.in_default.not-At c.in_default.not-Down c.in_default.not-Memory

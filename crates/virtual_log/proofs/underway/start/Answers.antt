@@ -22,9 +22,9 @@ turn-requires-clause-may g c =
     let k = c.args.known.now in
     let s = c.last_of-segment.result in
     let x = c.requires.going.1 in
-    may_append p.may p.floor p.shelf who old s.id c.in_ok-copy.copy
-    (started_within p.may p.floor p.shelf old s.id s.start c.requires.legal (last_there p.may p.floor p.shelf old k.version k.tail k.chain s c.requires.legal c.requires.goes_by c.last_of-segment.ensures))
-    (subst (λ (e : Entry). p.may who e) (sym c.in_ok-copy.ensures.cases) x.allowed)
+    may_append p.law who old s.id c.in_ok-copy.copy
+    (started_within p.law old s.id s.start c.requires.legal (last_there p.law old k.version k.tail k.chain s c.requires.legal c.requires.goes_by c.last_of-segment.ensures))
+    (subst (λ (e : Entry). p.law.may who e) (sym c.in_ok-copy.ensures.cases) x.allowed)
     (subst IsSpellable (sym c.in_ok-copy.ensures.cases) x.spelled)
 
 pub returns-in-Begun-clause-went : goal.returns-in-Begun-clause-went
@@ -32,7 +32,7 @@ returns-in-Begun-clause-went g c = λ words.
     let p = g.T.Law.Rules in
     let t = g.T.Turns in
     went_by c.args.going.now Starting c.requires.step
-    (began p.may p.floor p.shelf words (t.who c.args.turns.now) (t.seen c.args.turns.now) c.args.known.now c.requires.legal c.requires.goes_by
+    (began p.law words (t.who c.args.turns.now) (t.seen c.args.turns.now) c.args.known.now c.requires.legal c.requires.goes_by
     c.last_of-segment.result c.in-Begun.ticket c.in_ok-copy.copy c.args.going.now.entry (t.seen c.turn.new.self) c.last_of-segment.ensures c.in_ok-copy.ensures.cases c.in-Begun.ensures.turn)
 
 pub returns-in-Full-clause-went : goal.returns-in-Full-clause-went
@@ -43,16 +43,16 @@ returns-in-Full-clause-went g c = λ words.
     let old = t.seen c.args.turns.now in
     let new = t.seen c.turn.new.self in
     let id = c.last_of-segment.result.id in
-    failed p.may p.floor p.shelf words who old c.args.known.now c.requires.legal c.requires.goes_by
+    failed p.law words who old c.args.known.now c.requires.legal c.requires.goes_by
     (Begin id (Append c.in_ok-copy.copy)) fabric.Full new c.args.going.now (fault.Full id) c.in-Full.ensures.turn tt refl (λ i u. tt)
-    (refl, full_cause p.may p.floor p.shelf who old new id (Append c.in_ok-copy.copy) c.in-Full.ensures.turn)
+    (refl, full_cause p.law who old new id (Append c.in_ok-copy.copy) c.in-Full.ensures.turn)
 
 pub returns-in-Memory-clause-went : goal.returns-in-Memory-clause-went
 returns-in-Memory-clause-went g c = λ words.
     let p = g.T.Law.Rules in
     let t = g.T.Turns in
-    no_memory p.may p.floor p.shelf words (t.who c.args.turns.now) (t.seen c.args.turns.now) c.args.known.now c.requires.legal c.requires.goes_by
+    no_memory p.law words (t.who c.args.turns.now) (t.seen c.args.turns.now) c.args.known.now c.requires.legal c.requires.goes_by
     (Begin c.last_of-segment.result.id (Append c.in_ok-copy.copy)) (t.seen c.turn.new.self) c.args.going.now c.in-Memory.ensures.turn tt refl (λ i u. tt)
 
 pub unreachable-requires : goal.unreachable-requires
-unreachable-requires g c = begin_answers _ _ _ _ _ _ _ _ _ c.turn.ensures.turn c.in_default.not-Begun c.in_default.not-Full c.in_default.not-Memory
+unreachable-requires g c = begin_answers _ _ _ _ _ _ _ c.turn.ensures.turn c.in_default.not-Begun c.in_default.not-Full c.in_default.not-Memory

@@ -21,9 +21,9 @@ turn-requires-clause-may g c =
     let old = t.seen c.args.turns.now in
     let k = c.args.known.now in
     let s = c.last_of-segment.result in
-    may_append p.may p.floor p.shelf who old s.id c.in_ok-copy.copy
-    (started_within p.may p.floor p.shelf old s.id s.start c.requires.legal (last_there p.may p.floor p.shelf old k.version k.tail k.chain s c.requires.legal c.requires.goes_by c.last_of-segment.ensures))
-    (subst (λ (e : Entry). p.may who e) (sym c.in_ok-copy.ensures.cases) c.requires.may)
+    may_append p.law who old s.id c.in_ok-copy.copy
+    (started_within p.law old s.id s.start c.requires.legal (last_there p.law old k.version k.tail k.chain s c.requires.legal c.requires.goes_by c.last_of-segment.ensures))
+    (subst (λ (e : Entry). p.law.may who e) (sym c.in_ok-copy.ensures.cases) c.requires.may)
     (subst IsSpellable (sym c.in_ok-copy.ensures.cases) c.requires.spelled)
 
 pub returns-in-Begun-clause-going : goal.returns-in-Begun-clause-going
@@ -35,9 +35,9 @@ returns-in-Begun-clause-going g c =
     let new = t.seen c.turn.new.self in
     let k = c.args.known.now in
     let s = c.last_of-segment.result in
-    starts_going p.may p.floor p.shelf (λ _. true) who old k c.requires.legal c.requires.goes_by s c.in-Begun.ticket c.in_ok-copy.copy c.in_ok-kept.kept new c.last_of-segment.ensures
+    starts_going p.law (λ _. true) who old k c.requires.legal c.requires.goes_by s c.in-Begun.ticket c.in_ok-copy.copy c.in_ok-kept.kept new c.last_of-segment.ensures
     (c.in_ok-copy.ensures.cases ∙ sym c.in_ok-kept.ensures.cases)
-    (subst (λ (e : Entry). p.may who e) (sym c.in_ok-kept.ensures.cases) c.requires.may)
+    (subst (λ (e : Entry). p.law.may who e) (sym c.in_ok-kept.ensures.cases) c.requires.may)
     (subst IsSpellable (sym c.in_ok-kept.ensures.cases) c.requires.spelled)
     c.in-Begun.ensures.turn
 
@@ -50,7 +50,7 @@ returns-in-Begun-clause-others g c = λ early other x.
     let new = t.seen c.turn.new.self in
     let k = c.args.known.now in
     let s = c.last_of-segment.result in
-    begin_others p.may p.floor p.shelf (λ _. true) who old k c.requires.legal c.requires.goes_by s.id c.in-Begun.ticket (Append c.in_ok-copy.copy) new c.in-Begun.ensures.turn early other x
+    begin_others p.law (λ _. true) who old k c.requires.legal c.requires.goes_by s.id c.in-Begun.ticket (Append c.in_ok-copy.copy) new c.in-Begun.ensures.turn early other x
 
 pub returns-in-Begun-clause-goes_by : goal.returns-in-Begun-clause-goes_by
 returns-in-Begun-clause-goes_by g c =
@@ -61,13 +61,13 @@ returns-in-Begun-clause-goes_by g c =
     let new = t.seen c.turn.new.self in
     let k = c.args.known.now in
     let s = c.last_of-segment.result in
-    goes_later p.may p.floor p.shelf old new k.version k.tail k.chain (turn_later p.may p.floor p.shelf who old _ _ new c.in-Begun.ensures.turn) c.requires.goes_by
+    goes_later p.law old new k.version k.tail k.chain (turn_later p.law who old _ _ new c.in-Begun.ensures.turn) c.requires.goes_by
 
 pub returns-in-Begun-clause-words : goal.returns-in-Begun-clause-words
-returns-in-Begun-clause-words g c = λ words. turn_says _ _ _ _ _ words _ _ _ c.in-Begun.ensures.turn tt
+returns-in-Begun-clause-words g c = λ words. turn_says _ _ _ words _ _ _ c.in-Begun.ensures.turn tt
 
 pub returns-in-Begun-clause-unsealed : goal.returns-in-Begun-clause-unsealed
-returns-in-Begun-clause-unsealed g c = turn_none _ _ _ _ _ _ _ _ c.in-Begun.ensures.turn refl
+returns-in-Begun-clause-unsealed g c = turn_none _ _ _ _ _ _ c.in-Begun.ensures.turn refl
 
 pub returns-in-Full-clause-goes_by : goal.returns-in-Full-clause-goes_by
 returns-in-Full-clause-goes_by g c =
@@ -78,7 +78,7 @@ returns-in-Full-clause-goes_by g c =
     let new = t.seen c.turn.new.self in
     let k = c.args.known.now in
     let s = c.last_of-segment.result in
-    goes_later p.may p.floor p.shelf old new k.version k.tail k.chain (turn_later p.may p.floor p.shelf who old _ _ new c.in-Full.ensures.turn) c.requires.goes_by
+    goes_later p.law old new k.version k.tail k.chain (turn_later p.law who old _ _ new c.in-Full.ensures.turn) c.requires.goes_by
 
 pub returns-in-Full-clause-others : goal.returns-in-Full-clause-others
 returns-in-Full-clause-others g c = λ early other x.
@@ -89,13 +89,13 @@ returns-in-Full-clause-others g c = λ early other x.
     let new = t.seen c.turn.new.self in
     let k = c.args.known.now in
     let s = c.last_of-segment.result in
-    (turn_going p.may p.floor p.shelf who old _ _ new c.in-Full.ensures.turn early k.chain k.chain other (omega arith) (λ i u _. tt) x, tt)
+    (turn_going p.law who old _ _ new c.in-Full.ensures.turn early k.chain k.chain other (omega arith) (λ i u _. tt) x, tt)
 
 pub returns-in-Full-clause-words : goal.returns-in-Full-clause-words
-returns-in-Full-clause-words g c = λ words. turn_says _ _ _ _ _ words _ _ _ c.in-Full.ensures.turn tt
+returns-in-Full-clause-words g c = λ words. turn_says _ _ _ words _ _ _ c.in-Full.ensures.turn tt
 
 pub returns-in-Full-clause-unsealed : goal.returns-in-Full-clause-unsealed
-returns-in-Full-clause-unsealed g c = turn_none _ _ _ _ _ _ _ _ c.in-Full.ensures.turn refl
+returns-in-Full-clause-unsealed g c = turn_none _ _ _ _ _ _ c.in-Full.ensures.turn refl
 
 pub returns-in-Memory-clause-goes_by : goal.returns-in-Memory-clause-goes_by
 returns-in-Memory-clause-goes_by g c =
@@ -106,7 +106,7 @@ returns-in-Memory-clause-goes_by g c =
     let new = t.seen c.turn.new.self in
     let k = c.args.known.now in
     let s = c.last_of-segment.result in
-    goes_later p.may p.floor p.shelf old new k.version k.tail k.chain (turn_later p.may p.floor p.shelf who old _ _ new c.in-Memory.ensures.turn) c.requires.goes_by
+    goes_later p.law old new k.version k.tail k.chain (turn_later p.law who old _ _ new c.in-Memory.ensures.turn) c.requires.goes_by
 
 pub returns-in-Memory-clause-others : goal.returns-in-Memory-clause-others
 returns-in-Memory-clause-others g c = λ early other x.
@@ -117,19 +117,19 @@ returns-in-Memory-clause-others g c = λ early other x.
     let new = t.seen c.turn.new.self in
     let k = c.args.known.now in
     let s = c.last_of-segment.result in
-    (turn_going p.may p.floor p.shelf who old _ _ new c.in-Memory.ensures.turn early k.chain k.chain other (omega arith) (λ i u _. tt) x, tt)
+    (turn_going p.law who old _ _ new c.in-Memory.ensures.turn early k.chain k.chain other (omega arith) (λ i u _. tt) x, tt)
 
 pub returns-in-Memory-clause-words : goal.returns-in-Memory-clause-words
-returns-in-Memory-clause-words g c = λ words. turn_says _ _ _ _ _ words _ _ _ c.in-Memory.ensures.turn tt
+returns-in-Memory-clause-words g c = λ words. turn_says _ _ _ words _ _ _ c.in-Memory.ensures.turn tt
 
 pub returns-in-Memory-clause-unsealed : goal.returns-in-Memory-clause-unsealed
-returns-in-Memory-clause-unsealed g c = turn_none _ _ _ _ _ _ _ _ c.in-Memory.ensures.turn refl
+returns-in-Memory-clause-unsealed g c = turn_none _ _ _ _ _ _ c.in-Memory.ensures.turn refl
 
 pub returns-in-Begun-clause-calm : goal.returns-in-Begun-clause-calm
-returns-in-Begun-clause-calm g c = turn_calm _ _ _ _ _ _ _ _ c.in-Begun.ensures.turn tt
+returns-in-Begun-clause-calm g c = turn_calm _ _ _ _ _ _ c.in-Begun.ensures.turn tt
 
 pub returns-in-Memory-clause-memory : goal.returns-in-Memory-clause-memory
-returns-in-Memory-clause-memory g c = λ _. turn_calm _ _ _ _ _ _ _ _ c.in-Memory.ensures.turn tt
+returns-in-Memory-clause-memory g c = λ _. turn_calm _ _ _ _ _ _ c.in-Memory.ensures.turn tt
 
 pub unreachable-requires : goal.unreachable-requires
-unreachable-requires g c = begin_answers _ _ _ _ _ _ _ _ _ c.turn.ensures.turn c.in_default.not-Begun c.in_default.not-Full c.in_default.not-Memory
+unreachable-requires g c = begin_answers _ _ _ _ _ _ _ c.turn.ensures.turn c.in_default.not-Begun c.in_default.not-Full c.in_default.not-Memory

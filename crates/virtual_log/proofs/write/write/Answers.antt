@@ -24,7 +24,7 @@ made-requires-clause-chain g c =
     let i = l.invariant in
     let k = l.known in
     let now = t.seen l.turns in
-    is_chain p.may p.floor p.shelf (t.who l.turns) now k.version k.tail k.chain i.later.legal i.goes_by
+    is_chain p.law (t.who l.turns) now k.version k.tail k.chain i.later.legal i.goes_by
 
 pub made-requires-clause-fits : goal.made-requires-clause-fits
 made-requires-clause-fits g c =
@@ -34,7 +34,7 @@ made-requires-clause-fits g c =
     let i = l.invariant in
     let k = l.known in
     let now = t.seen l.turns in
-    admits p.may p.floor p.shelf (t.who l.turns) now k.version k.tail k.chain i.later.legal i.goes_by c.args.change i.granted i.lacks
+    admits p.law (t.who l.turns) now k.version k.tail k.chain i.later.legal i.goes_by c.args.change i.granted i.lacks
 
 pub write_over-requires : goal.write_over-requires
 write_over-requires g c =
@@ -44,7 +44,7 @@ write_over-requires g c =
     let i = l.invariant in
     let k = l.known in
     let now = t.seen l.turns in
-    record { may = may_change p.may p.floor p.shelf (t.who l.turns) now k.version k.tail k.chain i.later.legal i.goes_by c.args.change _ i.granted i.lacks c.in_ok-next.ensures }
+    record { may = may_change p.law (t.who l.turns) now k.version k.tail k.chain i.later.legal i.goes_by c.args.change _ i.granted i.lacks c.in_ok-next.ensures }
 
 pub returns-in_err-version-clause-goes_by : goal.returns-in_err-version-clause-goes_by
 returns-in_err-version-clause-goes_by g c =
@@ -58,7 +58,7 @@ returns-in_err-version-clause-goes_by g c =
     let old = t.seen c.args.turns.now in
     let user = t.who l.turns in
     let new = t.seen c.write_over.new.turns in
-    goes_later p.may p.floor p.shelf now new k.version k.tail k.chain c.in_err-version.ensures.later i.goes_by
+    goes_later p.law now new k.version k.tail k.chain c.in_err-version.ensures.later i.goes_by
 
 pub returns-in_err-version-clause-unsealed : goal.returns-in_err-version-clause-unsealed
 returns-in_err-version-clause-unsealed g c =
@@ -130,8 +130,8 @@ returns-in-Written-clause-goes_by g c =
     let old = t.seen c.args.turns.now in
     let user = t.who l.turns in
     let new = t.seen c.write_over.new.turns in
-    let turn : IsTurn p.may p.floor p.shelf user now (WriteChain k.version c.in_ok-next.next) (Written c.in-Written.version) new = subst (λ r. IsTurn p.may p.floor p.shelf user now (WriteChain k.version c.in_ok-next.next) (told_by r) new) c.in-Written.is c.in_ok-version.ensures.ok in
-    changed_goes p.may p.floor p.shelf (t.who l.turns) now k.version k.tail k.chain i.later.legal i.goes_by c.args.change c.in-Written.version c.in_ok-next.next c.in_ok-copy.copy new i.lacks c.in_ok-next.ensures c.in_ok-copy.ensures.cases turn
+    let turn : IsTurn p.law user now (WriteChain k.version c.in_ok-next.next) (Written c.in-Written.version) new = subst (λ r. IsTurn p.law user now (WriteChain k.version c.in_ok-next.next) (told_by r) new) c.in-Written.is c.in_ok-version.ensures.ok in
+    changed_goes p.law (t.who l.turns) now k.version k.tail k.chain i.later.legal i.goes_by c.args.change c.in-Written.version c.in_ok-next.next c.in_ok-copy.copy new i.lacks c.in_ok-next.ensures c.in_ok-copy.ensures.cases turn
 
 pub returns-in-Written-clause-has : goal.returns-in-Written-clause-has
 returns-in-Written-clause-has g c =
@@ -145,7 +145,7 @@ returns-in-Written-clause-has g c =
     let old = t.seen c.args.turns.now in
     let user = t.who l.turns in
     let new = t.seen c.write_over.new.turns in
-    changed_has p.may p.floor p.shelf (t.who l.turns) now k.version k.tail k.chain i.later.legal i.goes_by c.args.change c.in_ok-copy.copy i.lacks (c.in_ok-copy.ensures.cases ∙ c.in_ok-next.ensures)
+    changed_has p.law (t.who l.turns) now k.version k.tail k.chain i.later.legal i.goes_by c.args.change c.in_ok-copy.copy i.lacks (c.in_ok-copy.ensures.cases ∙ c.in_ok-next.ensures)
 
 pub returns-in-Written-clause-settled : goal.returns-in-Written-clause-settled
 returns-in-Written-clause-settled g c =
@@ -159,9 +159,9 @@ returns-in-Written-clause-settled g c =
     let old = t.seen c.args.turns.now in
     let user = t.who l.turns in
     let new = t.seen c.write_over.new.turns in
-    let turn : IsTurn p.may p.floor p.shelf user now (WriteChain k.version c.in_ok-next.next) (Written c.in-Written.version) new = subst (λ r. IsTurn p.may p.floor p.shelf user now (WriteChain k.version c.in_ok-next.next) (told_by r) new) c.in-Written.is c.in_ok-version.ensures.ok in
+    let turn : IsTurn p.law user now (WriteChain k.version c.in_ok-next.next) (Written c.in-Written.version) new = subst (λ r. IsTurn p.law user now (WriteChain k.version c.in_ok-next.next) (told_by r) new) c.in-Written.is c.in_ok-version.ensures.ok in
     settled_since who user old now new i.later.more c.args.change c.in-Written.version c.in_ok-copy.copy settled.Written i.who i.later.seen i.quiet
-    (changed_made p.may p.floor p.shelf (t.who l.turns) now k.version k.tail k.chain i.later.legal i.goes_by c.args.change c.in-Written.version c.in_ok-next.next c.in_ok-copy.copy new i.lacks c.in_ok-next.ensures c.in_ok-copy.ensures.cases turn)
+    (changed_made p.law (t.who l.turns) now k.version k.tail k.chain i.later.legal i.goes_by c.args.change c.in-Written.version c.in_ok-next.next c.in_ok-copy.copy new i.lacks c.in_ok-next.ensures c.in_ok-copy.ensures.cases turn)
 
 pub returns-in-Written-clause-unsealed : goal.returns-in-Written-clause-unsealed
 returns-in-Written-clause-unsealed g c =
@@ -217,8 +217,8 @@ returns-then-is_in-clause-goes_by g c =
     let old = t.seen c.args.turns.now in
     let user = t.who l.turns in
     let new = t.seen c.write_over.new.turns in
-    let turn : IsTurn p.may p.floor p.shelf user now (WriteChain k.version c.in_ok-next.next) (Conflict c.in-Conflict.version c.in-Conflict.chain) new = subst (λ r. IsTurn p.may p.floor p.shelf user now (WriteChain k.version c.in_ok-next.next) (told_by r) new) c.in-Conflict.is c.in_ok-version.ensures.ok in
-    lost_goes p.may p.floor p.shelf (t.who l.turns) now k.version k.tail k.chain i.later.legal i.goes_by c.in-Conflict.version c.in_ok-next.next c.in-Conflict.chain new turn
+    let turn : IsTurn p.law user now (WriteChain k.version c.in_ok-next.next) (Conflict c.in-Conflict.version c.in-Conflict.chain) new = subst (λ r. IsTurn p.law user now (WriteChain k.version c.in_ok-next.next) (told_by r) new) c.in-Conflict.is c.in_ok-version.ensures.ok in
+    lost_goes p.law (t.who l.turns) now k.version k.tail k.chain i.later.legal i.goes_by c.in-Conflict.version c.in_ok-next.next c.in-Conflict.chain new turn
 
 pub returns-then-is_in-clause-settled : goal.returns-then-is_in-clause-settled
 returns-then-is_in-clause-settled g c =
@@ -232,9 +232,9 @@ returns-then-is_in-clause-settled g c =
     let old = t.seen c.args.turns.now in
     let user = t.who l.turns in
     let new = t.seen c.write_over.new.turns in
-    let turn : IsTurn p.may p.floor p.shelf user now (WriteChain k.version c.in_ok-next.next) (Conflict c.in-Conflict.version c.in-Conflict.chain) new = subst (λ r. IsTurn p.may p.floor p.shelf user now (WriteChain k.version c.in_ok-next.next) (told_by r) new) c.in-Conflict.is c.in_ok-version.ensures.ok in
+    let turn : IsTurn p.law user now (WriteChain k.version c.in_ok-next.next) (Conflict c.in-Conflict.version c.in-Conflict.chain) new = subst (λ r. IsTurn p.law user now (WriteChain k.version c.in_ok-next.next) (told_by r) new) c.in-Conflict.is c.in_ok-version.ensures.ok in
     settled_since who user old now new i.later.more c.args.change c.in-Conflict.version c.in-Conflict.chain settled.Found i.who i.later.seen i.quiet
-    (lost p.may p.floor p.shelf (t.who l.turns) now k.version k.tail k.chain i.later.legal i.goes_by c.in-Conflict.version c.in_ok-next.next c.in-Conflict.chain new turn)
+    (lost p.law (t.who l.turns) now k.version k.tail k.chain i.later.legal i.goes_by c.in-Conflict.version c.in_ok-next.next c.in-Conflict.chain new turn)
 
 pub returns-then-is_in-clause-unsealed : goal.returns-then-is_in-clause-unsealed
 returns-then-is_in-clause-unsealed g c =
@@ -290,8 +290,8 @@ write-smaller g c =
     let old = t.seen c.args.turns.now in
     let user = t.who l.turns in
     let new = t.seen c.write_over.new.turns in
-    let turn : IsTurn p.may p.floor p.shelf user now (WriteChain k.version c.in_ok-next.next) (Conflict c.in-Conflict.version c.in-Conflict.chain) new = subst (λ r. IsTurn p.may p.floor p.shelf user now (WriteChain k.version c.in_ok-next.next) (told_by r) new) c.in-Conflict.is c.in_ok-version.ensures.ok in
-    let x = lost_later p.may p.floor p.shelf (t.who l.turns) now k.version k.tail k.chain i.later.legal i.goes_by c.in-Conflict.version c.in_ok-next.next c.in-Conflict.chain new turn in
+    let turn : IsTurn p.law user now (WriteChain k.version c.in_ok-next.next) (Conflict c.in-Conflict.version c.in-Conflict.chain) new = subst (λ r. IsTurn p.law user now (WriteChain k.version c.in_ok-next.next) (told_by r) new) c.in-Conflict.is c.in_ok-version.ensures.ok in
+    let x = lost_later p.law (t.who l.turns) now k.version k.tail k.chain i.later.legal i.goes_by c.in-Conflict.version c.in_ok-next.next c.in-Conflict.chain new turn in
     omega (arith, x.0, x.1)
 
 pub write-preserved : goal.write-preserved
@@ -306,17 +306,17 @@ write-preserved g c =
     let old = t.seen c.args.turns.now in
     let user = t.who l.turns in
     let new = t.seen c.write_over.new.turns in
-    let turn : IsTurn p.may p.floor p.shelf user now (WriteChain k.version c.in_ok-next.next) (Conflict c.in-Conflict.version c.in-Conflict.chain) new = subst (λ r. IsTurn p.may p.floor p.shelf user now (WriteChain k.version c.in_ok-next.next) (told_by r) new) c.in-Conflict.is c.in_ok-version.ensures.ok in
+    let turn : IsTurn p.law user now (WriteChain k.version c.in_ok-next.next) (Conflict c.in-Conflict.version c.in-Conflict.chain) new = subst (λ r. IsTurn p.law user now (WriteChain k.version c.in_ok-next.next) (told_by r) new) c.in-Conflict.is c.in_ok-version.ensures.ok in
     let step = c.in_ok-version.ensures.later in
     record {
-      later = later_trans p.may p.floor p.shelf old now new i.later step;
+      later = later_trans p.law old now new i.later step;
       who = c.in_ok-version.ensures.who ∙ i.who;
-      goes_by = lost_goes p.may p.floor p.shelf (t.who l.turns) now k.version k.tail k.chain i.later.legal i.goes_by c.in-Conflict.version c.in_ok-next.next c.in-Conflict.chain new turn;
+      goes_by = lost_goes p.law (t.who l.turns) now k.version k.tail k.chain i.later.legal i.goes_by c.in-Conflict.version c.in_ok-next.next c.in-Conflict.chain new turn;
       tail = i.tail;
-      rises = omega (arith, i.rises, lost_rises p.may p.floor p.shelf (t.who l.turns) now k.version k.tail k.chain i.later.legal i.goes_by c.in-Conflict.version c.in_ok-next.next c.in-Conflict.chain new turn);
-      granted = granted_later p.may p.floor p.shelf k.tail now new c.args.change step i.granted;
-      lacks = lacks_still p.may p.floor p.shelf (t.who l.turns) now k.version k.tail k.chain i.later.legal i.goes_by c.args.change c.in-Conflict.version c.in_ok-next.next c.in-Conflict.chain new i.lacks turn c.is_in.result c.if-is_in.false c.is_in.ensures;
-      quiet = wrote_trans who old now new i.quiet (wrote_by who user now new i.who (lost p.may p.floor p.shelf (t.who l.turns) now k.version k.tail k.chain i.later.legal i.goes_by c.in-Conflict.version c.in_ok-next.next c.in-Conflict.chain new turn).quiet);
+      rises = omega (arith, i.rises, lost_rises p.law (t.who l.turns) now k.version k.tail k.chain i.later.legal i.goes_by c.in-Conflict.version c.in_ok-next.next c.in-Conflict.chain new turn);
+      granted = granted_later p.law k.tail now new c.args.change step i.granted;
+      lacks = lacks_still p.law (t.who l.turns) now k.version k.tail k.chain i.later.legal i.goes_by c.args.change c.in-Conflict.version c.in_ok-next.next c.in-Conflict.chain new i.lacks turn c.is_in.result c.if-is_in.false c.is_in.ensures;
+      quiet = wrote_trans who old now new i.quiet (wrote_by who user now new i.who (lost p.law (t.who l.turns) now k.version k.tail k.chain i.later.legal i.goes_by c.in-Conflict.version c.in_ok-next.next c.in-Conflict.chain new turn).quiet);
       unsealed = seals_then who user old now new i.who i.unsealed c.in_ok-version.ensures.unsealed;
       silent = λ words. says_then words who user old now new i.who (i.silent words) (c.in_ok-version.ensures.silent words);
       calm = calm_then who user old now new i.who i.calm c.in_ok-version.ensures.calm;
@@ -330,7 +330,7 @@ write-init g c =
     let who = t.who c.args.turns.now in
     let old = t.seen c.args.turns.now in
     record {
-      later = later_refl p.may p.floor p.shelf old c.requires.legal;
+      later = later_refl p.law old c.requires.legal;
       who = refl;
       goes_by = c.requires.goes_by;
       tail = refl;
@@ -397,7 +397,7 @@ returns-in-Written-clause-rises g c =
     let i = l.invariant in
     let k = l.known in
     let now = t.seen l.turns in
-    let up = changed_rises p.may p.floor p.shelf (t.who l.turns) now k.version k.tail k.chain i.later.legal i.goes_by c.args.change c.in_ok-copy.copy (c.in_ok-copy.ensures.cases ∙ c.in_ok-next.ensures) in
+    let up = changed_rises p.law (t.who l.turns) now k.version k.tail k.chain i.later.legal i.goes_by c.args.change c.in_ok-copy.copy (c.in_ok-copy.ensures.cases ∙ c.in_ok-next.ensures) in
     omega (arith, i.rises, up)
 
 pub returns-then-is_in-clause-rises : goal.returns-then-is_in-clause-rises
@@ -410,6 +410,6 @@ returns-then-is_in-clause-rises g c =
     let now = t.seen l.turns in
     let user = t.who l.turns in
     let new = t.seen c.write_over.new.turns in
-    let turn : IsTurn p.may p.floor p.shelf user now (WriteChain k.version c.in_ok-next.next) (Conflict c.in-Conflict.version c.in-Conflict.chain) new = subst (λ r. IsTurn p.may p.floor p.shelf user now (WriteChain k.version c.in_ok-next.next) (told_by r) new) c.in-Conflict.is c.in_ok-version.ensures.ok in
-    let up = lost_rises p.may p.floor p.shelf user now k.version k.tail k.chain i.later.legal i.goes_by c.in-Conflict.version c.in_ok-next.next c.in-Conflict.chain new turn in
+    let turn : IsTurn p.law user now (WriteChain k.version c.in_ok-next.next) (Conflict c.in-Conflict.version c.in-Conflict.chain) new = subst (λ r. IsTurn p.law user now (WriteChain k.version c.in_ok-next.next) (told_by r) new) c.in-Conflict.is c.in_ok-version.ensures.ok in
+    let up = lost_rises p.law user now k.version k.tail k.chain i.later.legal i.goes_by c.in-Conflict.version c.in_ok-next.next c.in-Conflict.chain new turn in
     omega (arith, i.rises, up)

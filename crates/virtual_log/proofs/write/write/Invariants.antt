@@ -16,12 +16,12 @@ invariant-write g l =
     let t = g.T.Turns in
     let p = g.T.Law.Rules in
     record {
-      later : Later p.may p.floor p.shelf (t.seen l.fn.turns) (t.seen l.turns);
+      later : Later p.law (t.seen l.fn.turns) (t.seen l.turns);
       who : t.who l.turns ≡ t.who l.fn.turns;
       goes_by : GoesBy (state_of (t.seen l.turns)) l.known.version l.known.chain l.known.tail;
       tail : l.known.tail ≡ l.fn.known.tail;
       rises : (last_segment l.fn.known.chain).id ≤ (last_segment l.known.chain).id;
-      granted : IsGranted p.floor (state_of (t.seen l.turns)) l.known.tail l.change;
+      granted : IsGranted p.law.floor (state_of (t.seen l.turns)) l.known.tail l.change;
       lacks : Lacks l.change l.known.chain;
       quiet : WroteNone (t.who l.fn.turns) (t.seen l.fn.turns) (t.seen l.turns);
       unsealed : SealsNone (t.who l.fn.turns) (t.seen l.fn.turns) (t.seen l.turns);

@@ -4,7 +4,7 @@ use Rattle.worked_nodes.proofs.both.append_both.Goals as goal
 
 pub carry-requires-2 : goal.carry-requires-2
 carry-requires-2 g c =
-    let may = g.T.Law.Rules.may in
+    let may = g.T.Law.Rules.law.may in
     let first = c.in_ok-first.first in
     let log = c.begin-2.new.log in
     let new = c.carry.new.log in

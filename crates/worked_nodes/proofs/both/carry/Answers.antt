@@ -4,7 +4,7 @@ use Rattle.worked_nodes.proofs.both.carry.Goals as goal
 
 pub returns-in-Ok-Some-clause-others : goal.returns-in-Ok-Some-clause-others
 returns-in-Ok-Some-clause-others g c = λ early other h apart.
-    let may = g.T.Law.Rules.may in
+    let may = g.T.Law.Rules.law.may in
     let l = c.turn in
     let new = c.go_on.new.self in
     let x = l.invariant.others early other h apart in
@@ -13,7 +13,7 @@ returns-in-Ok-Some-clause-others g c = λ early other h apart.
 
 pub returns-in-Err-clause-others : goal.returns-in-Err-clause-others
 returns-in-Err-clause-others g c = λ early other h apart.
-    let may = g.T.Law.Rules.may in
+    let may = g.T.Law.Rules.law.may in
     let l = c.turn in
     let new = c.go_on.new.self in
     let x = l.invariant.others early other h apart in
@@ -22,7 +22,7 @@ returns-in-Err-clause-others g c = λ early other h apart.
 
 pub turn-preserved : goal.turn-preserved
 turn-preserved g c =
-    let may = g.T.Law.Rules.may in
+    let may = g.T.Law.Rules.law.may in
     let l = c.turn in
     let new = c.go_on.new.self in
     let early = l.invariant.going.0 in

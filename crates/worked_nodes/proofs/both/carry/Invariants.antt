@@ -6,7 +6,7 @@ use Rattle.worked_nodes.proofs.both.carry.Given as goal
 
 abbrev pub invariant-turn : goal.invariant-turn
 invariant-turn g l =
-    let may = g.T.Law.Rules.may in
+    let may = g.T.Law.Rules.law.may in
     let old = l.fn.log in
     record {
       who : l.log.who ≡ old.who;

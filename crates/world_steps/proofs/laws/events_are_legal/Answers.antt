@@ -8,9 +8,9 @@ use Rattle.world_steps.proofs.laws.events_are_legal.Goals as goal
 
 pub returns-clause-legal : goal.returns-clause-legal
 returns-clause-legal g c = λ shapes nodes steps shelf keeps.
-    let goes = run_goes g.P.Rules.may g.P.Rules.floor steps (fresh shapes nodes) (fresh_law g.P.Rules.may g.P.Rules.floor shapes nodes shelf) keeps in
-    subst (λ (s : List ℕ). IsLegal g.P.Rules.may g.P.Rules.floor s (run_world steps (fresh shapes nodes)).events) (goes.shelf ∙ fresh_shelf shapes nodes) goes.law.legal
+    let goes = run_goes g.P.Rules.law.may g.P.Rules.law.floor steps (fresh shapes nodes) (fresh_law g.P.Rules.law.may g.P.Rules.law.floor shapes nodes shelf) keeps in
+    subst (λ (s : List ℕ). IsLegal (record g.P.Rules.law { shelf = s }) (run_world steps (fresh shapes nodes)).events) (goes.shelf ∙ fresh_shelf shapes nodes) goes.law.legal
 
 pub returns-clause-told : goal.returns-clause-told
 returns-clause-told g c = λ shapes nodes steps shelf keeps.
-    (run_goes g.P.Rules.may g.P.Rules.floor steps (fresh shapes nodes) (fresh_law g.P.Rules.may g.P.Rules.floor shapes nodes shelf) keeps).law
+    (run_goes g.P.Rules.law.may g.P.Rules.law.floor steps (fresh shapes nodes) (fresh_law g.P.Rules.law.may g.P.Rules.law.floor shapes nodes shelf) keeps).law

@@ -6,10 +6,10 @@ pub returns-clause-extension : goal.returns-clause-extension
 returns-clause-extension g c =
     let old = c.args.self.now in
     let new = c.extend.new.self in
-    extended_by (length g.T.Law.Rules.shelf) old.who old.seen old.known new.known new.version new.seen c.extend.result c.extend.ensures.extension
+    extended_by (length g.T.Law.Rules.law.shelf) old.who old.seen old.known new.known new.version new.seen c.extend.result c.extend.ensures.extension
 
 pub returns-clause-known : goal.returns-clause-known
 returns-clause-known g c =
     let old = c.args.self.now in
     let new = c.extend.new.self in
-    known_grows (length g.T.Law.Rules.shelf) old.who old.seen old.known new.known new.version new.seen c.extend.result c.extend.ensures.extension c.extend.ensures.unknown
+    known_grows (length g.T.Law.Rules.law.shelf) old.who old.seen old.known new.known new.version new.seen c.extend.result c.extend.ensures.extension c.extend.ensures.unknown

@@ -11,26 +11,26 @@ pub index_mut-requires-2 : goal.index_mut-requires-2
 index_mut-requires-2 g c =
     let p = g.P.Rules in
     let s = c.self.inside in
-    omega (arith, marks_within p.may p.floor p.shelf g.L.Loglet.view g.L.Loglet.serving (λ m. m.items) s.cells.items s.marks.items (g.R.Register.view s.register) s.journal.items c.self.invariant c.args.cell c.requires.there)
+    omega (arith, marks_within p.law g.L.Loglet.view g.L.Loglet.serving (λ m. m.items) s.cells.items s.marks.items (g.R.Register.view s.register) s.journal.items c.self.invariant c.args.cell c.requires.there)
 
 pub invariant_of-self : goal.invariant_of-self
 invariant_of-self g c =
     let p = g.P.Rules in
     let s = c.self.inside in
-    let can = subst (λ (f : FabricView). MayCall (state_of f.journal) p.may p.floor p.shelf c.args.who (Begin c.args.cell c.args.op)) (sym c.self.view_is) c.requires in
-    let at = slice_get_read s.cells.items _ c.args.cell c.index_mut.result.now refl (cell_within p.may p.floor p.shelf g.L.Loglet.view g.L.Loglet.serving (λ m. m.items) s.cells.items s.marks.items (g.R.Register.view s.register) s.journal.items c.self.invariant c.args.cell can.there) c.index_mut.ensures.value in
-    let marked = slice_get_read s.marks.items _ c.args.cell c.index_mut-2.result.now refl (marks_within p.may p.floor p.shelf g.L.Loglet.view g.L.Loglet.serving (λ m. m.items) s.cells.items s.marks.items (g.R.Register.view s.register) s.journal.items c.self.invariant c.args.cell can.there) c.index_mut-2.ensures.value in
-    (begun p.may p.floor p.shelf g.L.Loglet.view g.L.Loglet.serving (λ m. m.items) s.cells.items s.marks.items (g.R.Register.view s.register) s.journal.items c.self.invariant c.args.cell c.index_mut.result.now c.index_mut-2.result.now at marked c.begin_in.new.loglet c.begin_in.new.marks c.begin_in.new.journal.items
+    let can = subst (λ (f : FabricView). MayCall (state_of f.journal) p.law c.args.who (Begin c.args.cell c.args.op)) (sym c.self.view_is) c.requires in
+    let at = slice_get_read s.cells.items _ c.args.cell c.index_mut.result.now refl (cell_within p.law g.L.Loglet.view g.L.Loglet.serving (λ m. m.items) s.cells.items s.marks.items (g.R.Register.view s.register) s.journal.items c.self.invariant c.args.cell can.there) c.index_mut.ensures.value in
+    let marked = slice_get_read s.marks.items _ c.args.cell c.index_mut-2.result.now refl (marks_within p.law g.L.Loglet.view g.L.Loglet.serving (λ m. m.items) s.cells.items s.marks.items (g.R.Register.view s.register) s.journal.items c.self.invariant c.args.cell can.there) c.index_mut-2.ensures.value in
+    (begun p.law g.L.Loglet.view g.L.Loglet.serving (λ m. m.items) s.cells.items s.marks.items (g.R.Register.view s.register) s.journal.items c.self.invariant c.args.cell c.index_mut.result.now c.index_mut-2.result.now at marked c.begin_in.new.loglet c.begin_in.new.marks c.begin_in.new.journal.items
     c.args.who c.args.op c.begin_in.result can c.begin_in.ensures).now
 
 pub returns : goal.returns
 returns g c =
     let p = g.P.Rules in
     let s = c.self.inside in
-    let can = subst (λ (f : FabricView). MayCall (state_of f.journal) p.may p.floor p.shelf c.args.who (Begin c.args.cell c.args.op)) (sym c.self.view_is) c.requires in
-    let at = slice_get_read s.cells.items _ c.args.cell c.index_mut.result.now refl (cell_within p.may p.floor p.shelf g.L.Loglet.view g.L.Loglet.serving (λ m. m.items) s.cells.items s.marks.items (g.R.Register.view s.register) s.journal.items c.self.invariant c.args.cell can.there) c.index_mut.ensures.value in
-    let marked = slice_get_read s.marks.items _ c.args.cell c.index_mut-2.result.now refl (marks_within p.may p.floor p.shelf g.L.Loglet.view g.L.Loglet.serving (λ m. m.items) s.cells.items s.marks.items (g.R.Register.view s.register) s.journal.items c.self.invariant c.args.cell can.there) c.index_mut-2.ensures.value in
+    let can = subst (λ (f : FabricView). MayCall (state_of f.journal) p.law c.args.who (Begin c.args.cell c.args.op)) (sym c.self.view_is) c.requires in
+    let at = slice_get_read s.cells.items _ c.args.cell c.index_mut.result.now refl (cell_within p.law g.L.Loglet.view g.L.Loglet.serving (λ m. m.items) s.cells.items s.marks.items (g.R.Register.view s.register) s.journal.items c.self.invariant c.args.cell can.there) c.index_mut.ensures.value in
+    let marked = slice_get_read s.marks.items _ c.args.cell c.index_mut-2.result.now refl (marks_within p.law g.L.Loglet.view g.L.Loglet.serving (λ m. m.items) s.cells.items s.marks.items (g.R.Register.view s.register) s.journal.items c.self.invariant c.args.cell can.there) c.index_mut-2.ensures.value in
     let now : FabricView = record { cells = map g.L.Loglet.view (set s.cells.items c.args.cell c.begin_in.new.loglet); serving = map g.L.Loglet.serving (set s.cells.items c.args.cell c.begin_in.new.loglet); register = g.R.Register.view s.register; journal = c.begin_in.new.journal.items } in
-    subst (λ (f : FabricView). Keeps p.may p.floor p.shelf f c.args.who (Begin c.args.cell c.args.op) c.begin_in.result now) c.self.view_is
-    (begun p.may p.floor p.shelf g.L.Loglet.view g.L.Loglet.serving (λ m. m.items) s.cells.items s.marks.items (g.R.Register.view s.register) s.journal.items c.self.invariant c.args.cell c.index_mut.result.now c.index_mut-2.result.now at marked c.begin_in.new.loglet c.begin_in.new.marks c.begin_in.new.journal.items
+    subst (λ (f : FabricView). Keeps p.law f c.args.who (Begin c.args.cell c.args.op) c.begin_in.result now) c.self.view_is
+    (begun p.law g.L.Loglet.view g.L.Loglet.serving (λ m. m.items) s.cells.items s.marks.items (g.R.Register.view s.register) s.journal.items c.self.invariant c.args.cell c.index_mut.result.now c.index_mut-2.result.now at marked c.begin_in.new.loglet c.begin_in.new.marks c.begin_in.new.journal.items
     c.args.who c.args.op c.begin_in.result can c.begin_in.ensures).keeps

@@ -18,7 +18,7 @@ returns-clause-shows g c =
     let s = c.self.inside in
     let f : FabricView = record { cells = map g.L.Loglet.view s.cells.items; serving = map g.L.Loglet.serving s.cells.items; register = g.R.Register.view s.register; journal = s.journal.items } in
     subst (λ (v : FabricView). (pos : ℕ) → trim_of (state_of v.journal) ≤ pos → virtual_log_at (state_of v.journal).register.chain v.cells pos ≡ log_at (state_of v.journal) pos) c.self.view_is
-    (shows p.may p.floor p.shelf f (map (λ m. m.items) s.marks.items) c.self.invariant)
+    (shows p.law f (map (λ m. m.items) s.marks.items) c.self.invariant)
 
 pub returns-clause-tail : goal.returns-clause-tail
 returns-clause-tail g c =
@@ -26,7 +26,7 @@ returns-clause-tail g c =
     let s = c.self.inside in
     let f : FabricView = record { cells = map g.L.Loglet.view s.cells.items; serving = map g.L.Loglet.serving s.cells.items; register = g.R.Register.view s.register; journal = s.journal.items } in
     subst (λ (v : FabricView). virtual_tail (state_of v.journal).register.chain v.cells ≡ tail_of (state_of v.journal)) c.self.view_is
-    (tails p.may p.floor p.shelf f (map (λ m. m.items) s.marks.items) c.self.invariant)
+    (tails p.law f (map (λ m. m.items) s.marks.items) c.self.invariant)
 
 pub returns-clause-register_runs : goal.returns-clause-register_runs
 returns-clause-register_runs g c = subst (λ (f : FabricView). HasRegisterRun f.journal f.register) c.self.view_is c.self.invariant.register_ran

@@ -9,7 +9,7 @@ invariant_of-self g c =
     let p = g.P.Rules in
     let s = c.self.inside in
     let f : FabricView = record { cells = map g.L.Loglet.view s.cells.items; serving = map g.L.Loglet.serving s.cells.items; register = g.R.Register.view s.register; journal = s.journal.items } in
-    (reopen_goes p.may p.floor p.shelf f (map (λ m. m.items) s.marks.items) c.self.invariant c.args.who c.args.word c.reopen_in.result (g.R.Register.view c.reopen_in.new.register) c.reopen_in.new.journal.items c.reopen_in.ensures).now
+    (reopen_goes p.law f (map (λ m. m.items) s.marks.items) c.self.invariant c.args.who c.args.word c.reopen_in.result (g.R.Register.view c.reopen_in.new.register) c.reopen_in.new.journal.items c.reopen_in.ensures).now
 
 pub returns : goal.returns
 returns g c =
@@ -17,5 +17,5 @@ returns g c =
     let s = c.self.inside in
     let f : FabricView = record { cells = map g.L.Loglet.view s.cells.items; serving = map g.L.Loglet.serving s.cells.items; register = g.R.Register.view s.register; journal = s.journal.items } in
     let now : FabricView = record { cells = map g.L.Loglet.view s.cells.items; serving = map g.L.Loglet.serving s.cells.items; register = g.R.Register.view c.reopen_in.new.register; journal = c.reopen_in.new.journal.items } in
-    subst (λ (x : FabricView). Keeps p.may p.floor p.shelf x c.args.who (MendMeta c.args.word) c.reopen_in.result now) c.self.view_is
-    (reopen_goes p.may p.floor p.shelf f (map (λ m. m.items) s.marks.items) c.self.invariant c.args.who c.args.word c.reopen_in.result (g.R.Register.view c.reopen_in.new.register) c.reopen_in.new.journal.items c.reopen_in.ensures).keeps
+    subst (λ (x : FabricView). Keeps p.law x c.args.who (MendMeta c.args.word) c.reopen_in.result now) c.self.view_is
+    (reopen_goes p.law f (map (λ m. m.items) s.marks.items) c.self.invariant c.args.who c.args.word c.reopen_in.result (g.R.Register.view c.reopen_in.new.register) c.reopen_in.new.journal.items c.reopen_in.ensures).keeps

@@ -9,7 +9,7 @@ invariant_of-self g c =
     let p = g.P.Rules in
     let s = c.self.inside in
     let f : FabricView = record { cells = map g.L.Loglet.view s.cells.items; serving = map g.L.Loglet.serving s.cells.items; register = g.R.Register.view s.register; journal = s.journal.items } in
-    (read_goes p.may p.floor p.shelf f (map (λ m. m.items) s.marks.items) c.self.invariant c.args.who c.read_in.result (g.R.Register.view c.read_in.new.register) c.read_in.new.journal.items c.read_in.ensures).now
+    (read_goes p.law f (map (λ m. m.items) s.marks.items) c.self.invariant c.args.who c.read_in.result (g.R.Register.view c.read_in.new.register) c.read_in.new.journal.items c.read_in.ensures).now
 
 pub returns : goal.returns
 returns g c =
@@ -17,5 +17,5 @@ returns g c =
     let s = c.self.inside in
     let f : FabricView = record { cells = map g.L.Loglet.view s.cells.items; serving = map g.L.Loglet.serving s.cells.items; register = g.R.Register.view s.register; journal = s.journal.items } in
     let now : FabricView = record { cells = map g.L.Loglet.view s.cells.items; serving = map g.L.Loglet.serving s.cells.items; register = g.R.Register.view c.read_in.new.register; journal = c.read_in.new.journal.items } in
-    subst (λ (x : FabricView). Keeps p.may p.floor p.shelf x c.args.who ReadChain c.read_in.result now) c.self.view_is
-    (read_goes p.may p.floor p.shelf f (map (λ m. m.items) s.marks.items) c.self.invariant c.args.who c.read_in.result (g.R.Register.view c.read_in.new.register) c.read_in.new.journal.items c.read_in.ensures).keeps
+    subst (λ (x : FabricView). Keeps p.law x c.args.who ReadChain c.read_in.result now) c.self.view_is
+    (read_goes p.law f (map (λ m. m.items) s.marks.items) c.self.invariant c.args.who c.read_in.result (g.R.Register.view c.read_in.new.register) c.read_in.new.journal.items c.read_in.ensures).keeps

@@ -11,30 +11,30 @@ invariant_of-self g c =
     let p = g.P.Rules in
     let s = c.self.inside in
     let f : FabricView = record { cells = map g.L.Loglet.view s.cells.items; serving = map g.L.Loglet.serving s.cells.items; register = g.R.Register.view s.register; journal = s.journal.items } in
-    let can = subst (λ (x : FabricView). MayCall (state_of x.journal) p.may p.floor p.shelf c.args.who (WriteChain c.args.expected c.args.chain)) (sym c.self.view_is) c.requires in
-    (write_goes p.may p.floor p.shelf f (map (λ m. m.items) s.marks.items) c.self.invariant c.args.who c.args.expected c.args.chain c.write_in.result (g.R.Register.view c.write_in.new.register) c.write_in.new.journal.items can c.write_in.ensures).now
+    let can = subst (λ (x : FabricView). MayCall (state_of x.journal) p.law c.args.who (WriteChain c.args.expected c.args.chain)) (sym c.self.view_is) c.requires in
+    (write_goes p.law f (map (λ m. m.items) s.marks.items) c.self.invariant c.args.who c.args.expected c.args.chain c.write_in.result (g.R.Register.view c.write_in.new.register) c.write_in.new.journal.items can c.write_in.ensures).now
 
 pub returns : goal.returns
 returns g c =
     let p = g.P.Rules in
     let s = c.self.inside in
     let f : FabricView = record { cells = map g.L.Loglet.view s.cells.items; serving = map g.L.Loglet.serving s.cells.items; register = g.R.Register.view s.register; journal = s.journal.items } in
-    let can = subst (λ (x : FabricView). MayCall (state_of x.journal) p.may p.floor p.shelf c.args.who (WriteChain c.args.expected c.args.chain)) (sym c.self.view_is) c.requires in
+    let can = subst (λ (x : FabricView). MayCall (state_of x.journal) p.law c.args.who (WriteChain c.args.expected c.args.chain)) (sym c.self.view_is) c.requires in
     let now : FabricView = record { cells = map g.L.Loglet.view s.cells.items; serving = map g.L.Loglet.serving s.cells.items; register = g.R.Register.view c.write_in.new.register; journal = c.write_in.new.journal.items } in
-    subst (λ (x : FabricView). Keeps p.may p.floor p.shelf x c.args.who (WriteChain c.args.expected c.args.chain) c.write_in.result now) c.self.view_is
-    (write_goes p.may p.floor p.shelf f (map (λ m. m.items) s.marks.items) c.self.invariant c.args.who c.args.expected c.args.chain c.write_in.result (g.R.Register.view c.write_in.new.register) c.write_in.new.journal.items can c.write_in.ensures).keeps
+    subst (λ (x : FabricView). Keeps p.law x c.args.who (WriteChain c.args.expected c.args.chain) c.write_in.result now) c.self.view_is
+    (write_goes p.law f (map (λ m. m.items) s.marks.items) c.self.invariant c.args.who c.args.expected c.args.chain c.write_in.result (g.R.Register.view c.write_in.new.register) c.write_in.new.journal.items can c.write_in.ensures).keeps
 
 pub write_in-requires-clause-version : goal.write_in-requires-clause-version
 write_in-requires-clause-version g c =
     let p = g.P.Rules in
     let s = c.self.inside in
     let f : FabricView = record { cells = map g.L.Loglet.view s.cells.items; serving = map g.L.Loglet.serving s.cells.items; register = g.R.Register.view s.register; journal = s.journal.items } in
-    version_small p.may p.floor p.shelf f (map (λ m. m.items) s.marks.items) c.self.invariant
+    version_small p.law f (map (λ m. m.items) s.marks.items) c.self.invariant
 
 pub write_in-requires-clause-chain : goal.write_in-requires-clause-chain
 write_in-requires-clause-chain g c =
     let p = g.P.Rules in
     let s = c.self.inside in
     let f : FabricView = record { cells = map g.L.Loglet.view s.cells.items; serving = map g.L.Loglet.serving s.cells.items; register = g.R.Register.view s.register; journal = s.journal.items } in
-    let can = subst (λ (x : FabricView). MayCall (state_of x.journal) p.may p.floor p.shelf c.args.who (WriteChain c.args.expected c.args.chain)) (sym c.self.view_is) c.requires in
-    may_write p.may p.floor p.shelf f (map (λ m. m.items) s.marks.items) c.self.invariant c.args.who c.args.expected c.args.chain can
+    let can = subst (λ (x : FabricView). MayCall (state_of x.journal) p.law c.args.who (WriteChain c.args.expected c.args.chain)) (sym c.self.view_is) c.requires in
+    may_write p.law f (map (λ m. m.items) s.marks.items) c.self.invariant c.args.who c.args.expected c.args.chain can

@@ -7,18 +7,42 @@ use Rattle.local_store.specs.Slots.{Entries, held, changes_of, HaveRoom}
 use Rattle.local_store.proofs.SlotLaws.{IsInOrder, head_below, tail_ordered, room_keeps}
 use Rattle.local_store.proofs.base.Base.change.Goals as goal
 
+pub assign-requires-clause-room : goal.assign-requires-clause-room
+assign-requires-clause-room c =
+    let first : SpaceKey × Option Text = (c.in-Some.key, c.in-Some.value) in
+    let rest = c.next.new.self in
+    let split : c.loop-key.key-iterator ≡ first ∷ rest = rest_more (λ x. x) c.loop-key.key-iterator rest c.next.result first c.in-Some.is c.next.ensures.steps in
+    (subst (λ (es : Entries). HaveRoom c.loop-key.self.slots.entries es) split c.loop-key.invariant.room).0
+
 pub loop-key-preserved : goal.loop-key-preserved
 loop-key-preserved c =
     let now = c.loop-key.self.slots.entries in
-    let new = c.set.new.self.slots.entries in
+    let new = c.assign.new.self.slots.entries in
     let first : SpaceKey × Option Text = (c.in-Some.key, c.in-Some.value) in
     let rest = c.next.new.self in
     let split : c.loop-key.key-iterator ≡ first ∷ rest = rest_more (λ x. x) c.loop-key.key-iterator rest c.next.result first c.in-Some.is c.next.ensures.steps in
     let ordered = subst (λ (es : Entries). IsInOrder es) split c.loop-key.invariant.ordered in
     let room = subst (λ (es : Entries). HaveRoom now es) split c.loop-key.invariant.room in
     record {
-      changed = ap (λ (m : SpaceMap). applied m (changes_of rest)) c.in-Ok.ensures.ok ∙ ap (λ (es : Entries). applied (held now) (changes_of es)) (sym split) ∙ c.loop-key.invariant.changed;
-      room = room_keeps now new c.in-Some.key rest c.in-Ok.ensures.others (head_below first rest ordered) room.1;
-      short = c.in-Ok.ensures.short;
+      changed = ap (λ (m : SpaceMap). applied m (changes_of rest)) c.assign.ensures.assigned ∙ ap (λ (es : Entries). applied (held now) (changes_of es)) (sym split) ∙ c.loop-key.invariant.changed;
+      room = room_keeps now new c.in-Some.key rest c.assign.ensures.others (head_below first rest ordered) room.1;
+      short = c.assign.ensures.short;
+      ordered = tail_ordered first rest ordered;
+    }
+
+-- the same, of a key that has memory
+pub loop-key-preserved-in-Some : goal.loop-key-preserved-in-Some
+loop-key-preserved-in-Some c =
+    let now = c.loop-key.self.slots.entries in
+    let new = c.assign.new.self.slots.entries in
+    let first : SpaceKey × Option Text = (c.in-Some.key, c.in-Some.value) in
+    let rest = c.next.new.self in
+    let split : c.loop-key.key-iterator ≡ first ∷ rest = rest_more (λ x. x) c.loop-key.key-iterator rest c.next.result first c.in-Some.is c.next.ensures.steps in
+    let ordered = subst (λ (es : Entries). IsInOrder es) split c.loop-key.invariant.ordered in
+    let room = subst (λ (es : Entries). HaveRoom now es) split c.loop-key.invariant.room in
+    record {
+      changed = ap (λ (m : SpaceMap). applied m (changes_of rest)) c.assign.ensures.assigned ∙ ap (λ (es : Entries). applied (held now) (changes_of es)) (sym split) ∙ c.loop-key.invariant.changed;
+      room = room_keeps now new c.in-Some.key rest c.assign.ensures.others (head_below first rest ordered) room.1;
+      short = c.assign.ensures.short;
       ordered = tail_ordered first rest ordered;
     }

@@ -19,9 +19,9 @@ apply-answer-requires g c =
     let parts : c.self.inside.pass.parts ≡ (who, seen) ∷ [] = ap (λ k. k.parts) c.self.invariant.1 in
     let known : IsKnown (λ (e : Event). e.who) was ((who, seen) ∷ []) = subst (λ (q : List (Part Event)). IsKnown (λ (e : Event). e.who) was q) parts c.enter-desk.ensures.seen in
     let f : Follows (λ (e : Event). e.who) who seen was = All-head (λ (q : Part Event). Follows (λ (e : Event). e.who) q.0 q.1 was) (who, seen) [] known in
-    let may = subst (λ (x : LockedView). MayTake p.may p.floor p.shelf (λ user. user ≢ x.who) x.who x.seen c.args.call) (sym c.self.view_is) c.requires.may in
-    subst (λ (es : List Event). MayCall (state_of es) p.may p.floor p.shelf who c.args.call) (sym f.1)
-    (may.behind f.0 (besides who f.0 f.2) (subst (IsLegal p.may p.floor p.shelf) f.1 c.journal-legal.ensures.legal))
+    let may = subst (λ (x : LockedView). MayTake p.law (λ user. user ≢ x.who) x.who x.seen c.args.call) (sym c.self.view_is) c.requires.may in
+    subst (λ (es : List Event). MayCall (state_of es) p.law who c.args.call) (sym f.1)
+    (may.behind f.0 (besides who f.0 f.2) (subst (IsLegal p.law) f.1 c.journal-legal.ensures.legal))
 
 pub leave-requires-clause-grew : goal.leave-requires-clause-grew
 leave-requires-clause-grew g c =
@@ -47,7 +47,7 @@ returns-clause-taken g c =
     let f : Follows (λ (e : Event). e.who) who seen was = All-head (λ (q : Part Event). Follows (λ (e : Event). e.who) q.0 q.1 was) (who, seen) [] known in
     let a = c.apply-answer.ensures.adds in
     let after : first_seen c.leave.new.pass.parts ≡ now = ap (λ k. first_seen k.parts) c.leave.ensures ∙ (ap (λ k. first_seen (brought now k.parts)) c.enter-desk.ensures.pass ∙ ap (λ q. first_seen (brought now (brought was q))) parts) in
-    let base : IsTaken p.may p.floor p.shelf (λ user. user ≢ who) who seen c.args.call c.apply-answer.result now = record {
+    let base : IsTaken p.law (λ user. user ≢ who) who seen c.args.call c.apply-answer.result now = record {
       others = f.0;
       own = a.own;
       between = besides who f.0 f.2;
@@ -55,5 +55,5 @@ returns-clause-taken g c =
       seen = a.added ∙ ap (λ (l : List Event). l ++ a.own) f.1;
       legal = c.apply-answer.ensures.legal;
     } in
-    subst (λ (x : List Event). IsTaken p.may p.floor p.shelf (λ user. user ≢ c.args.self.now.who) c.args.self.now.who c.args.self.now.seen c.args.call c.apply-answer.result x) (sym after)
-    (subst (λ (m : LockedView). IsTaken p.may p.floor p.shelf (λ user. user ≢ m.who) m.who m.seen c.args.call c.apply-answer.result now) c.self.view_is base)
+    subst (λ (x : List Event). IsTaken p.law (λ user. user ≢ c.args.self.now.who) c.args.self.now.who c.args.self.now.seen c.args.call c.apply-answer.result x) (sym after)
+    (subst (λ (m : LockedView). IsTaken p.law (λ user. user ≢ m.who) m.who m.seen c.args.call c.apply-answer.result now) c.self.view_is base)

@@ -1,6 +1,21 @@
-use Rattle.std.proofs.Common.{List, ℕ, subst, ◌∙◌}
-use Rattle.meta_register.specs.Records.{IsFirstBad}
+use Rattle.std.proofs.Common.{None, ap, ◌∙◌}
+use Rattle.journal_pair.specs.Records.{records_of}
+use Rattle.journal_pair.proofs.Areas.{no_bytes}
+use Rattle.meta_register.proofs.Keeping.{bad_of, kept_written, kept_survives, opened_fresh}
 use Rattle.meta_register.proofs.meta.MetaRegister.open_on.Goals as goal
 
-pub returns-in-Err-replay-clause-bad : goal.returns-in-Err-replay-clause-bad
-returns-in-Err-replay-clause-bad g c = λ index e. subst (λ (rs : List (List ℕ)). IsFirstBad rs index) (c.in-Ok.ensures.handed ∙ c.in-Ok.ensures.records) (c.in-Err-replay.ensures.bad index e)
+pub returns-in-Ok-clause-fresh : goal.returns-in-Ok-clause-fresh
+returns-in-Ok-clause-fresh g c =
+    let o = c.in-Ok.ensures in
+    λ none no_fault. opened_fresh c.in-Ok.field-0.value c.in-Ok.field-0.kept _ o.spelled none o.opened.0 o.opened.1 (o.spares.faults ∙ no_fault)
+
+pub returns-in-Ok-clause-empty : goal.returns-in-Ok-clause-empty
+returns-in-Ok-clause-empty g c =
+    let o = c.in-Ok.ensures in
+    λ none no_fault. opened_fresh c.in-Ok.field-0.value c.in-Ok.field-0.kept _ o.spelled (ap records_of none ∙ no_bytes) o.opened.0 o.opened.1 (o.spares.faults ∙ no_fault)
+
+pub returns-in-Ok-clause-survives : goal.returns-in-Ok-clause-survives
+returns-in-Ok-clause-survives g c = kept_survives c.in-Ok.field-0.value None 0 0 0 c.in-Ok.field-0.kept (kept_written c.in-Ok.field-0.value c.in-Ok.field-0.kept c.in-Ok.ensures.sound c.in-Ok.ensures.kept)
+
+pub returns-in-Err-clause-bad : goal.returns-in-Err-clause-bad
+returns-in-Err-clause-bad g c = λ index e. bad_of _ index (c.in-Err.ensures.bad index e)

@@ -1,40 +1,75 @@
-use Rattle.std.proofs.Common.{◌≡◌, Option, Err, true, subst, sym, ap, ◌∙◌, ltb}
+use Rattle.std.proofs.Common.{◌≡◌, Err, true, sym, ap, ◌∙◌, refl}
 use Rattle.delos_types.specs.declared.chain.Chain.{Chain}
-use Rattle.journal_core.specs.Journal as journal
-use Rattle.meta_register.specs.declared.standing.Standing.{Standing}
-use Rattle.meta_register.specs.Keeping.{IsKept, settled, older_settled}
-use Rattle.meta_register.proofs.Keeping.{reopened, kept_survives, kept_settled, kept_closed, reopens_so}
+use Rattle.kept_value.specs.View as value
+use Rattle.meta_register.proofs.Keeping.{seen_survives, stays_found, given_after, reopened, kept_survives, kept_same, kept_reopened, reopens_so}
 use Rattle.meta_register.proofs.meta.MetaRegisterRegister.reopen.Goals as goal
+
+pub returns-in-Ok-clause-any_crash : goal.returns-in-Ok-clause-any_crash
+returns-in-Ok-clause-any_crash g c =
+    let i = c.self.inside in
+    reopened i.standing i.older i.downs i.misses i.told i.kept c.args.self.now c.reopen.new.self.journal.disk c.self.view_is c.reopen.ensures.any_crash
+
+pub returns-in-Err-Memory-clause-any_crash : goal.returns-in-Err-Memory-clause-any_crash
+returns-in-Err-Memory-clause-any_crash g c =
+    let i = c.self.inside in
+    reopened i.standing i.older i.downs i.misses i.told i.kept c.args.self.now c.reopen.new.self.journal.disk c.self.view_is c.reopen.ensures.any_crash
+
+pub returns-clause-any_crash : goal.returns-clause-any_crash
+returns-clause-any_crash g c =
+    let i = c.self.inside in
+    reopened i.standing i.older i.downs i.misses i.told i.kept c.args.self.now c.reopen.new.self.journal.disk c.self.view_is c.reopen.ensures.any_crash
 
 pub invariant_of-self-in-Ok : goal.invariant_of-self-in-Ok
 invariant_of-self-in-Ok g c =
     let i = c.self.inside in
-    let done = ltb c.count-before.result c.count.result in
-    let kept = kept_settled i.standing i.older i.asked c.take-asked.new.self i.journal c.reopen.new.self c.reopen.new.self.disk c.count-before.result c.count.result c.self.invariant c.take-asked.ensures.after c.in-Ok.ensures.ok.0 c.in-Ok.ensures.ok.1 c.count-before.ensures.count c.count.ensures.count c.reopen.ensures.survives in
-    let asked : (a : Option Chain) → a ≡ i.asked → IsKept (settled i.standing a done) (older_settled i.standing i.older a done) c.take-asked.new.self c.reopen.new.self =
-    λ a e. subst (λ (x : Option Chain). IsKept (settled i.standing x done) (older_settled i.standing i.older x done) c.take-asked.new.self c.reopen.new.self) (sym e) kept in
-    subst (λ (x : Standing). IsKept x c.settle.new.older c.take-asked.new.self c.reopen.new.self) (sym c.settle.ensures.standing)
-    (subst (λ (x : Option Standing). IsKept (settled i.standing c.take-asked.result done) x c.take-asked.new.self c.reopen.new.self) (sym c.settle.ensures.older) (asked c.take-asked.result c.take-asked.ensures.value))
+    let found = c.in-Ok.ensures.found in
+    let gives = given_after i.standing c.in_ok-clone.field-0 i.older c.remember.new.older c.reopen.new.value c.in_ok-clone.ensures.cases c.remember.ensures in
+    kept_reopened i.standing c.reopen.new.value i.older c.remember.new.older i.kept.asked found.0 c.reopen.new.self found.2 gives c.self.invariant.whole c.self.invariant.before c.reopen.ensures.sound c.reopen.ensures.kept
 
-pub returns-in-Ok-clause-any_crash : goal.returns-in-Ok-clause-any_crash
-returns-in-Ok-clause-any_crash g c = let i = c.self.inside in reopened i.standing i.older i.asked i.downs i.misses i.told i.journal c.args.self.now c.reopen.new.self.disk c.self.invariant c.self.view_is c.reopen.ensures.any_crash
-
-pub returns-in-Err-Memory-clause-any_crash : goal.returns-in-Err-Memory-clause-any_crash
-returns-in-Err-Memory-clause-any_crash g c = let i = c.self.inside in reopened i.standing i.older i.asked i.downs i.misses i.told i.journal c.args.self.now c.reopen.new.self.disk c.self.invariant c.self.view_is c.reopen.ensures.any_crash
-
-pub returns-in-Err-Disk-clause-any_crash : goal.returns-in-Err-Disk-clause-any_crash
-returns-in-Err-Disk-clause-any_crash g c = let i = c.self.inside in reopened i.standing i.older i.asked i.downs i.misses i.told i.journal c.args.self.now c.reopen.new.self.disk c.self.invariant c.self.view_is c.reopen.ensures.any_crash
+pub returns-in-Ok-clause-survives : goal.returns-in-Ok-clause-survives
+returns-in-Ok-clause-survives g c =
+    let i = c.self.inside in
+    let found = c.in-Ok.ensures.found in
+    let gives = given_after i.standing c.in_ok-clone.field-0 i.older c.remember.new.older c.reopen.new.value c.in_ok-clone.ensures.cases c.remember.ensures in
+    kept_survives c.reopen.new.value c.remember.new.older i.downs i.misses c.args.word c.reopen.new.self (kept_reopened i.standing c.reopen.new.value i.older c.remember.new.older i.kept.asked found.0 c.reopen.new.self found.2 gives c.self.invariant.whole c.self.invariant.before c.reopen.ensures.sound c.reopen.ensures.kept)
 
 pub returns-in-Ok-clause-reopens : goal.returns-in-Ok-clause-reopens
 returns-in-Ok-clause-reopens g c =
     let i = c.self.inside in
-    let was : i.journal.shut ≡ true = sym c.is_shut.ensures ∙ c.if-not-is_shut.false in
-    reopens_so i.standing i.older i.downs i.misses i.told c.args.word i.journal c.reopen.new.self was (ap (λ (v : journal.View). v.shut) c.in-Ok.ensures.ok.0) c.in-Ok.ensures.disarmed c.in-Ok.ensures.no_fault
-    i.asked c.take-asked.result c.take-asked.new.self c.settle.new.standing c.settle.new.older (ltb c.count-before.result c.count.result) c.args.self.now
-    c.self.view_is c.take-asked.ensures.value c.take-asked.ensures.after c.settle.ensures.standing c.settle.ensures.older
+    let found = c.in-Ok.ensures.found in
+    let gives = given_after i.standing c.in_ok-clone.field-0 i.older c.remember.new.older c.reopen.new.value c.in_ok-clone.ensures.cases c.remember.ensures in
+    let was : i.kept.journal.shut ≡ true = sym c.is_shut.ensures ∙ c.if-not-is_shut.false in
+    reopens_so i.standing i.older i.downs i.misses i.told c.args.word i.kept c.reopen.new.self was c.in-Ok.ensures.ok.1 (ap (λ (k : value.View Chain). k.asked) c.in-Ok.ensures.ok.0) c.in-Ok.ensures.disarmed c.in-Ok.ensures.no_fault c.reopen.new.value c.remember.new.older found.0 c.args.self.now c.self.view_is found.2 gives
 
-pub returns-in-Err-Disk-clause-survives : goal.returns-in-Err-Disk-clause-survives
-returns-in-Err-Disk-clause-survives g c =
+pub invariant_of-self-in-Err-Memory : goal.invariant_of-self-in-Err-Memory
+invariant_of-self-in-Err-Memory g c =
     let i = c.self.inside in
-    let closed = (c.reopen.ensures.disk (c.in-Err-Disk.is ∙ ap (λ e. Err e) c.in-Err-Disk.field-0-is)).0 in
-    kept_survives i.standing i.older i.asked i.downs c.saturating_add-self-inside.result c.args.word c.reopen.new.self (kept_closed i.standing i.older i.asked i.journal c.reopen.new.self c.reopen.new.self.disk c.self.invariant closed c.reopen.ensures.survives)
+    let e = ap Err c.in-Err-Memory.field-0-is in
+    let told = c.reopen.ensures.memory (c.in-Err-Memory.is ∙ e) in
+    kept_same i.standing c.reopen.new.value i.older c.reopen.new.self told.0 c.reopen.ensures.sound c.self.invariant.before c.reopen.ensures.kept
+
+pub returns-in-Err-Memory-clause-survives : goal.returns-in-Err-Memory-clause-survives
+returns-in-Err-Memory-clause-survives g c =
+    let i = c.self.inside in
+    let e = ap Err c.in-Err-Memory.field-0-is in
+    let told = c.reopen.ensures.memory (c.in-Err-Memory.is ∙ e) in
+    kept_survives c.reopen.new.value i.older i.downs i.misses i.told c.reopen.new.self (kept_same i.standing c.reopen.new.value i.older c.reopen.new.self told.0 c.reopen.ensures.sound c.self.invariant.before c.reopen.ensures.kept)
+
+pub invariant_of-self-in-Err-Disk : goal.invariant_of-self-in-Err-Disk
+invariant_of-self-in-Err-Disk g c =
+    let i = c.self.inside in
+    let e = ap Err c.in-Err-Disk.field-0-is in
+    let told = c.reopen.ensures.disk (c.in-Err-Disk.is ∙ e) in
+    kept_same i.standing c.reopen.new.value i.older c.reopen.new.self told.0 c.reopen.ensures.sound c.self.invariant.before c.reopen.ensures.kept
+
+pub returns-clause-survives : goal.returns-clause-survives
+returns-clause-survives g c =
+    let i = c.self.inside in
+    let e = ap Err c.in-Err-Disk.field-0-is in
+    let told = c.reopen.ensures.disk (c.in-Err-Disk.is ∙ e) in
+    kept_survives c.reopen.new.value i.older i.downs c.saturating_add-self-inside.result c.args.word c.reopen.new.self (kept_same i.standing c.reopen.new.value i.older c.reopen.new.self told.0 c.reopen.ensures.sound c.self.invariant.before c.reopen.ensures.kept)
+
+pub returns-in_err-clone-clause-any_crash : goal.returns-in_err-clone-clause-any_crash
+returns-in_err-clone-clause-any_crash g c =
+    let i = c.self.inside in
+    stays_found c.args.self.now c.args.self.now.disk refl (seen_survives i.standing i.older i.downs i.misses i.told i.kept c.args.self.now c.self.invariant c.self.view_is)

@@ -22,8 +22,8 @@ returns-clause-did g c =
     let between = node_of c.in_turn-seat.result.part mid in
     let now = node_of c.in_turn.result.part (g.A.Access.seen c.in_turn.result.access) in
     ok_then c.in_turn.result.answer c.in_turn.ensures.did
-    (λ x h. extends_both (OwnWithin c.args.seat.who p.may g.E.Sent.counts) p.floor p.shelf c.requires.run.low (node_of c.args.seat was) between now x (in_ok _ c.in-Ok.is c.in_turn-seat.ensures.did) (seals_none c.args.seat.who was mid c.in_turn-seat.ensures.left.seals)
-    (subst (λ w. Replaces (OwnWithin w p.may g.E.Sent.counts) p.floor p.shelf between now x) c.in_turn-seat.ensures.left.who h))
+    (λ x h. extends_both (record p.law { may = OwnWithin c.args.seat.who p.law.may g.E.Sent.counts }) c.requires.run.low (node_of c.args.seat was) between now x (in_ok _ c.in-Ok.is c.in_turn-seat.ensures.did) (seals_none c.args.seat.who was mid c.in_turn-seat.ensures.left.seals)
+    (subst (λ w. Replaces (record p.law { may = OwnWithin w p.law.may g.E.Sent.counts }) between now x) c.in_turn-seat.ensures.left.who h))
 
 pub returns-clause-left : goal.returns-clause-left
 returns-clause-left g c = left_both c.in_turn-seat.ensures.left c.in_turn.ensures.left

@@ -28,7 +28,7 @@ returns-in-Failed-clause-adds g c =
 pub returns-in-Failed-clause-did : goal.returns-in-Failed-clause-did
 returns-in-Failed-clause-did g c =
     let p = g.A.Law.Rules in
-    reports_unmeasured (OwnWithin c.args.seat.who p.may g.E.Sent.counts) p.floor p.shelf c.requires.run.low clean_position (node_of c.args.seat (g.A.Access.seen c.args.access))
+    reports_unmeasured (record p.law { may = OwnWithin c.args.seat.who p.law.may g.E.Sent.counts }) c.requires.run.low clean_position (node_of c.args.seat (g.A.Access.seen c.args.access))
     (node_of c.in_turn-seat.result.part (g.A.Access.seen c.in_turn-seat.result.access)) c.in-Failed.cause
     (in_ok_at _ c.in-Ok.is c.in-Failed.is c.in_turn-seat.ensures.did)
 
@@ -49,7 +49,7 @@ tell-seat-requires-clause-can g c =
       none = m.none;
       unsettled = m.unsettled;
       kept = m.kept;
-      own = may_say g.A.Law.Rules.may g.E.Sent.counts a.who b.who b.node.replica.origin c.in-Ok-alive_item.value (alive_item a.who c.in-At.position) k.who
+      own = may_say g.A.Law.Rules.law.may g.E.Sent.counts a.who b.who b.node.replica.origin c.in-Ok-alive_item.value (alive_item a.who c.in-At.position) k.who
           (k.origin ∙ c.requires.origin) (made.item ∙ ap (λ n. alive_item n c.in-At.position) (sym c.requires.can.0)) made.proposable plain
           (c.requires.can.1 c.in-At.position (let small : c.in-At.position < 2 ^ 64 = omega arith in small));
     }
@@ -63,10 +63,10 @@ returns-clause-did g c =
     let mid = node_of c.in_turn-seat.result.part (g.A.Access.seen c.in_turn-seat.result.access) in
     let now = node_of c.tell-seat.result.part (g.A.Access.seen c.tell-seat.result.access) in
     let item = c.in-Ok-alive_item.value in
-    ok_comes (Reports (OwnWithin c.args.seat.who p.may counts) p.floor p.shelf old now) c.tell-seat.result.answer c.came_to.ensures c.tell-seat.ensures.did
-    (λ failed t. reports (OwnWithin c.args.seat.who p.may counts) p.floor p.shelf c.requires.run.low old mid now c.args.self.number c.in-At.position item failed (in_ok_at _ c.in-Ok.is c.in-At.is c.in_turn-seat.ensures.did) made.item
+    ok_comes (Reports (record p.law { may = OwnWithin c.args.seat.who p.law.may counts }) old now) c.tell-seat.result.answer c.came_to.ensures c.tell-seat.ensures.did
+    (λ failed t. reports (record p.law { may = OwnWithin c.args.seat.who p.law.may counts }) c.requires.run.low old mid now c.args.self.number c.in-At.position item failed (in_ok_at _ c.in-Ok.is c.in-At.is c.in_turn-seat.ensures.did) made.item
     (sym c.requires.can.0 ∙ sym c.requires.origin) made.proposable made.says
-    (subst (λ w. Tells (OwnWithin w p.may counts) p.floor p.shelf mid now item failed) c.in_turn-seat.ensures.left.who t))
+    (subst (λ w. Tells (record p.law { may = OwnWithin w p.law.may counts }) mid now item failed) c.in_turn-seat.ensures.left.who t))
 
 pub returns-clause-adds : goal.returns-clause-adds
 returns-clause-adds g c =
@@ -85,8 +85,8 @@ returns-clause-adds g c =
     let told = packed b.node.replica.origin (item ∷ []) in
     let same = c.in_turn-seat.ensures.left.who in
     ok_comes (ReportAdds a.who c.tell-seat.result.part.node.replica.cursor was now) c.tell-seat.result.answer c.came_to.ensures (ok_pair _ _ c.tell-seat.result.answer c.tell-seat.ensures.did c.tell-seat.ensures.adds)
-    (λ failed h. report_adds (OwnWithin a.who p.may counts) p.floor p.shelf c.requires.run.low p.may c.requires.run (λ user e k. k.0) old mid new a.who c.in-At.position told failed (in_ok_at _ c.in-Ok.is c.in-At.is c.in_turn-seat.ensures.did)
-    (subst (λ w. Tells (OwnWithin w p.may counts) p.floor p.shelf mid new item failed) same h.0).moves
+    (λ failed h. report_adds (record p.law { may = OwnWithin a.who p.law.may counts }) c.requires.run.low p.law.may c.requires.run (λ user e k. k.0) old mid new a.who c.in-At.position told failed (in_ok_at _ c.in-Ok.is c.in-At.is c.in_turn-seat.ensures.did)
+    (subst (λ w. Tells (record p.law { may = OwnWithin w p.law.may counts }) mid new item failed) same h.0).moves
     (on_ok _ c.in-Ok.is c.in_turn-seat.ensures.adds) (subst (λ w. OwnAdds w (λ e. IsOfSessions e ⊎ (e ≡ told)) seen now) same h.1)
     (says-one b.node.replica.origin item (content.Alive a.who c.in-At.position) made.proposable
     (made.says ∙ ap (λ n. Some (content.Alive n c.in-At.position)) (sym c.requires.can.0))))
@@ -97,18 +97,18 @@ returns-clause-ok g c =
     let r = g.S.Replica in
     let back = c.tell-seat.result in
     let now = g.A.Access.seen back.access in
-    ok_comes (λ _. SeatOk (Sends back.part.who p.may g.E.Sent.counts now) p.floor p.shelf r.state r.spells now back.part) back.answer c.came_to.ensures c.tell-seat.ensures.ok (λ x h. h)
+    ok_comes (λ _. SeatOk (record p.law { may = Sends back.part.who p.law.may g.E.Sent.counts now }) r.state r.spells now back.part) back.answer c.came_to.ensures c.tell-seat.ensures.ok (λ x h. h)
 
 pub returns-clause-kept : goal.returns-clause-kept
 returns-clause-kept g c =
     let p = g.A.Law.Rules in
     let back = c.tell-seat.result in
     let mid = c.in_turn-seat.result.part in
-    ok_comes (λ _. IsKept g.A.Access.beside p.floor back.part (g.A.Access.seen back.access)) back.answer c.came_to.ensures
+    ok_comes (λ _. IsKept g.A.Access.beside p.law.floor back.part (g.A.Access.seen back.access)) back.answer c.came_to.ensures
     (c.tell-seat.ensures.kept (record {
       kept = on_ok _ c.in-Ok.is (c.in_turn-seat.ensures.kept c.requires.kept);
       low = λ user there what says.
-          measured_low (OwnWithin c.args.seat.who p.may g.E.Sent.counts) p.floor p.shelf (node_of c.args.seat (g.A.Access.seen c.args.access)) (node_of mid (g.A.Access.seen c.in_turn-seat.result.access)) c.in-At.position
+          measured_low (record p.law { may = OwnWithin c.args.seat.who p.law.may g.E.Sent.counts }) (node_of c.args.seat (g.A.Access.seen c.args.access)) (node_of mid (g.A.Access.seen c.in_turn-seat.result.access)) c.in-At.position
           c.args.self.number (content_of c.in-Ok-alive_item.value) (in_ok_at _ c.in-Ok.is c.in-At.is c.in_turn-seat.ensures.did) c.in-Ok-alive_item.ensures.says what says;
     })) (λ x h. h)
 

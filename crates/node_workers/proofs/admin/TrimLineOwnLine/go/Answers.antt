@@ -33,7 +33,7 @@ pub returns-in-Failed-clause-did : goal.returns-in-Failed-clause-did
 returns-in-Failed-clause-did g c =
     let p = g.A.Law.Rules in
     let a = c.args.seat in
-    trims_unmeasured (OwnWithin c.args.seat.who p.may g.E.Sent.counts) p.floor p.shelf c.requires.run.low (λ log. least_position a.node.nodes (unpack_all 0 log)) (node_of a (g.A.Access.seen c.args.access))
+    trims_unmeasured (record p.law { may = OwnWithin c.args.seat.who p.law.may g.E.Sent.counts }) c.requires.run.low (λ log. least_position a.node.nodes (unpack_all 0 log)) (node_of a (g.A.Access.seen c.args.access))
     (node_of c.in_turn-seat.result.part (g.A.Access.seen c.in_turn-seat.result.access)) c.in-Failed.cause
     (in_ok_at _ c.in-Ok.is c.in-Failed.is c.in_turn-seat.ensures.did)
 
@@ -54,7 +54,7 @@ tell_and_play-seat-requires-clause-can g c =
       none = m.none;
       unsettled = m.unsettled;
       kept = m.kept;
-      own = may_say g.A.Law.Rules.may g.E.Sent.counts a.who b.who b.node.replica.origin c.in-Ok-trim_item.value (trim_item c.in-At.position) k.who
+      own = may_say g.A.Law.Rules.law.may g.E.Sent.counts a.who b.who b.node.replica.origin c.in-Ok-trim_item.value (trim_item c.in-At.position) k.who
           (k.origin ∙ c.requires.origin) made.item made.proposable plain
           (c.requires.can.own c.in-At.position (let small : c.in-At.position < 2 ^ 64 = omega arith in small));
     }
@@ -62,14 +62,14 @@ tell_and_play-seat-requires-clause-can g c =
 pub returns-in-Some-clause-did : goal.returns-in-Some-clause-did
 returns-in-Some-clause-did g c =
     let p = g.A.Law.Rules in
-    let may = OwnWithin c.args.seat.who p.may g.E.Sent.counts in
+    let may = OwnWithin c.args.seat.who p.law.may g.E.Sent.counts in
     let mid = node_of c.in_turn-seat.result.part (g.A.Access.seen c.in_turn-seat.result.access) in
     let played = node_of c.tell_and_play-seat.result.part (g.A.Access.seen c.tell_and_play-seat.result.access) in
     let item = c.in-Ok-trim_item.value in
-    trims_not may p.floor p.shelf c.requires.run.low (node_of c.args.seat (g.A.Access.seen c.args.access)) mid played c.in-At.position item c.in-Some.cause
+    trims_not (record p.law { may = may }) c.requires.run.low (node_of c.args.seat (g.A.Access.seen c.args.access)) mid played c.in-At.position item c.in-Some.cause
     (in_ok_at _ c.in-Ok.is c.in-At.is c.in_turn-seat.ensures.did)
-    (subst (λ w. TellsAndPlays (OwnWithin w p.may g.E.Sent.counts) p.floor p.shelf mid played item (Some c.in-Some.cause)) c.in_turn-seat.ensures.left.who
-    (subst (λ f. TellsAndPlays (OwnWithin c.in_turn-seat.result.part.who p.may g.E.Sent.counts) p.floor p.shelf mid played item f) c.in-Some.is (in_ok _ c.in-Ok-answer.is c.tell_and_play-seat.ensures.did)))
+    (subst (λ w. TellsAndPlays (record p.law { may = OwnWithin w p.law.may g.E.Sent.counts }) mid played item (Some c.in-Some.cause)) c.in_turn-seat.ensures.left.who
+    (subst (λ f. TellsAndPlays (record p.law { may = OwnWithin c.in_turn-seat.result.part.who p.law.may g.E.Sent.counts }) mid played item f) c.in-Some.is (in_ok _ c.in-Ok-answer.is c.tell_and_play-seat.ensures.did)))
 
 pub returns-in-Some-clause-adds : goal.returns-in-Some-clause-adds
 returns-in-Some-clause-adds g c =
@@ -82,7 +82,7 @@ returns-in-Some-clause-adds g c =
     let on = c.tell_and_play-seat.ensures.left.since in
     trim_adds_told c.args.seat.who was later c.in-At.position
     (reported_on mid later on.more c.in-At.position on.seen
-    (asks_reported (OwnWithin c.args.seat.who p.may g.E.Sent.counts) p.floor p.shelf c.requires.run.low (node_of c.args.seat was) (node_of b mid) c.in-At.position (in_ok_at _ c.in-Ok.is c.in-At.is c.in_turn-seat.ensures.did)))
+    (asks_reported (record p.law { may = OwnWithin c.args.seat.who p.law.may g.E.Sent.counts }) c.requires.run.low (node_of c.args.seat was) (node_of b mid) c.in-At.position (in_ok_at _ c.in-Ok.is c.in-At.is c.in_turn-seat.ensures.did)))
     (adds_saying c.args.seat.who was mid later (packed b.node.replica.origin (item ∷ [])) (content.Trim c.in-At.position) (on_ok _ c.in-Ok.is c.in_turn-seat.ensures.adds)
     (subst (λ w. OwnAdds w (λ e. IsOfSessions e ⊎ (e ≡ packed b.node.replica.origin (item ∷ []))) mid later) c.in_turn-seat.ensures.left.who (on_ok _ c.in-Ok-answer.is c.tell_and_play-seat.ensures.adds))
     (says-one b.node.replica.origin item (content.Trim c.in-At.position) c.in-Ok-trim_item.ensures.proposable c.in-Ok-trim_item.ensures.says))
@@ -93,7 +93,7 @@ in_turn-requires-clause-seat g c = on_ok _ c.in-Ok-answer.is c.tell_and_play-sea
 pub in_turn-requires-clause-can : goal.in_turn-requires-clause-can
 in_turn-requires-clause-can g c = λ log there size.
     let p = g.A.Law.Rules in
-    let may = OwnWithin c.args.seat.who p.may g.E.Sent.counts in
+    let may = OwnWithin c.args.seat.who p.law.may g.E.Sent.counts in
     let b = c.in_turn-seat.result.part in
     let mid = node_of b (g.A.Access.seen c.in_turn-seat.result.access) in
     let d = c.tell_and_play-seat.result.part in
@@ -101,12 +101,12 @@ in_turn-requires-clause-can g c = λ log there size.
     let item = c.in-Ok-trim_item.value in
     let front = (on_ok _ c.in-Ok-answer.is c.tell_and_play-seat.ensures.ok).node.follows.now in
     let k = (in_ok_at _ c.in-Ok.is c.in-At.is c.in_turn-seat.ensures.did).moves.goes.keeps in
-    let on = (tells_moves may p.floor p.shelf c.requires.run.low mid played item None
-    (subst (λ w. TellsAndPlays (OwnWithin w p.may g.E.Sent.counts) p.floor p.shelf mid played item None) c.in_turn-seat.ensures.left.who
-    (subst (λ f. TellsAndPlays (OwnWithin b.who p.may g.E.Sent.counts) p.floor p.shelf mid played item f) c.in_default.is
+    let on = (tells_moves (record p.law { may = may }) c.requires.run.low mid played item None
+    (subst (λ w. TellsAndPlays (record p.law { may = OwnWithin w p.law.may g.E.Sent.counts }) mid played item None) c.in_turn-seat.ensures.left.who
+    (subst (λ f. TellsAndPlays (record p.law { may = OwnWithin b.who p.law.may g.E.Sent.counts }) mid played item f) c.in_default.is
     (in_ok _ c.in-Ok-answer.is c.tell_and_play-seat.ensures.did)))).goes.keeps in
-    let free = may_trim may p.floor p.shelf c.requires.run.low played c.args.seat.node.nodes (on.nodes ∙ k.nodes) on.later.legal
-    (record { log = front.log; size = front.size; front = front.front; led = c.requires.state tt front.log d.node.replica.contents front.led })
+    let free = may_trim (record p.law { may = may }) c.requires.run.low played c.args.seat.node.nodes (on.nodes ∙ k.nodes) on.later.legal
+    (record { log = front.log; size = front.size; front = front.front; led = g.met.S.Replica.state_is front.log d.node.replica.contents front.led })
     c.requires.can.goes_by log there size in
     (free, λ kept. omega (arith))
 
@@ -127,18 +127,18 @@ returns-clause-did g c =
     })) in
     let some : 1 ≤ c.args.seat.who = omega (arith, c.number.ensures.range, c.number.ensures.value, c.requires.can.who) in
     ok_then c.in_turn.result.answer c.in_turn.ensures.did
-    (λ l h. trims (OwnWithin c.args.seat.who p.may g.E.Sent.counts) p.floor p.shelf c.requires.run.low p.may c.requires.run (λ user e k. k.0) (node_of c.args.seat was) (node_of b mid) (node_of d later)
+    (λ l h. trims (record p.law { may = OwnWithin c.args.seat.who p.law.may g.E.Sent.counts }) c.requires.run.low p.law.may c.requires.run (λ user e k. k.0) (node_of c.args.seat was) (node_of b mid) (node_of d later)
     (node_of c.in_turn.result.part (g.A.Access.seen c.in_turn.result.access)) c.in-At.position c.args.seat.who item l
     (in_ok_at _ c.in-Ok.is c.in-At.is c.in_turn-seat.ensures.did) (on_ok _ c.in-Ok.is c.in_turn-seat.ensures.adds)
     made.item made.proposable made.says
-    (subst (λ w. TellsAndPlays (OwnWithin w p.may g.E.Sent.counts) p.floor p.shelf (node_of b mid) (node_of d later) item None) c.in_turn-seat.ensures.left.who
-    (subst (λ f. TellsAndPlays (OwnWithin b.who p.may g.E.Sent.counts) p.floor p.shelf (node_of b mid) (node_of d later) item f) c.in_default.is
+    (subst (λ w. TellsAndPlays (record p.law { may = OwnWithin w p.law.may g.E.Sent.counts }) (node_of b mid) (node_of d later) item None) c.in_turn-seat.ensures.left.who
+    (subst (λ f. TellsAndPlays (record p.law { may = OwnWithin b.who p.law.may g.E.Sent.counts }) (node_of b mid) (node_of d later) item f) c.in_default.is
     (in_ok _ c.in-Ok-answer.is c.tell_and_play-seat.ensures.did))) (packed b.node.replica.origin (item ∷ []))
     (subst (λ w. OwnAdds w (λ e. IsOfSessions e ⊎ (e ≡ packed b.node.replica.origin (item ∷ []))) mid later) c.in_turn-seat.ensures.left.who (on_ok _ c.in-Ok-answer.is c.tell_and_play-seat.ensures.adds))
     (says_alone b.node.replica.origin item item (content.Trim c.in-At.position) made.proposable made.says refl)
-    (record { log = front.log; size = front.size; front = front.front; led = c.requires.state tt front.log d.node.replica.contents front.led })
+    (record { log = front.log; size = front.size; front = front.front; led = g.met.S.Replica.state_is front.log d.node.replica.contents front.led })
     some c.requires.can.few c.requires.can.stays c.requires.can.upto kept.high
-    (subst (λ w. Cuts (OwnWithin w p.may g.E.Sent.counts) p.floor p.shelf (node_of d later) (node_of c.in_turn.result.part (g.A.Access.seen c.in_turn.result.access)) l)
+    (subst (λ w. Cuts (record p.law { may = OwnWithin w p.law.may g.E.Sent.counts }) (node_of d later) (node_of c.in_turn.result.part (g.A.Access.seen c.in_turn.result.access)) l)
     (c.tell_and_play-seat.ensures.left.who ∙ c.in_turn-seat.ensures.left.who) h))
 
 pub returns-clause-adds : goal.returns-clause-adds
@@ -156,7 +156,7 @@ returns-clause-adds g c =
     ok_then c.in_turn.result.answer (ok_pair _ _ c.in_turn.result.answer c.in_turn.ensures.did c.in_turn.ensures.adds)
     (λ l h. trim_adds_told c.args.seat.who was now c.in-At.position
     (reported_on later now cut.more c.in-At.position cut.seen (reported_on mid later on.more c.in-At.position on.seen
-    (asks_reported (OwnWithin c.args.seat.who p.may g.E.Sent.counts) p.floor p.shelf c.requires.run.low (node_of c.args.seat was) (node_of b mid) c.in-At.position (in_ok_at _ c.in-Ok.is c.in-At.is c.in_turn-seat.ensures.did))))
+    (asks_reported (record p.law { may = OwnWithin c.args.seat.who p.law.may g.E.Sent.counts }) c.requires.run.low (node_of c.args.seat was) (node_of b mid) c.in-At.position (in_ok_at _ c.in-Ok.is c.in-At.is c.in_turn-seat.ensures.did))))
     (own_adds_trans c.args.seat.who P was later now
     (adds_saying c.args.seat.who was mid later (packed b.node.replica.origin (item ∷ [])) (content.Trim c.in-At.position) (on_ok _ c.in-Ok.is c.in_turn-seat.ensures.adds)
     (subst (λ w. OwnAdds w (λ e. IsOfSessions e ⊎ (e ≡ packed b.node.replica.origin (item ∷ []))) mid later) c.in_turn-seat.ensures.left.who (on_ok _ c.in-Ok-answer.is c.tell_and_play-seat.ensures.adds))

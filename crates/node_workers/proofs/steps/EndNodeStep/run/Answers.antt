@@ -12,5 +12,5 @@ pub end_turn-requires-clause-keeps : goal.end_turn-requires-clause-keeps
 end_turn-requires-clause-keeps g c =
     let law = g.T.Law.Rules in
     ⊎_elim
-    (λ (keeps : KeepsFrom law.may law.floor law.shelf c.args.node.now.replica.cursor). inl keeps)
+    (λ (keeps : KeepsFrom law.law c.args.node.now.replica.cursor). inl keeps)
     (λ (all : AllAnswered c.args.node.now c.args.on.now.items). inr (subst (λ (xs : List Desk). AllAnswered c.args.node.now xs) (sym c.as_mut_slice.ensures.value) all)) c.requires.can.3

@@ -13,7 +13,7 @@ returns-clause-above g c =
     let m = c.go_on_with in
     let new = t.seen m.new.turns in
     let going = c.args.going.now in
-    subst (λ (v : LogView). IfOk m.result (λ o. IfSome o (λ pos. (early : List Event) → IsGoing p.may v.who early v.seen v.chain going → IsAbove v.who early pos new))) c.self.view_is m.ensures.above
+    subst (λ (v : LogView). IfOk m.result (λ o. IfSome o (λ pos. (early : List Event) → IsGoing p.law.may v.who early v.seen v.chain going → IsAbove v.who early pos new))) c.self.view_is m.ensures.above
 
 pub returns-clause-going : goal.returns-clause-going
 returns-clause-going g c =
@@ -22,7 +22,7 @@ returns-clause-going g c =
     let m = c.go_on_with in
     let new = t.seen m.new.turns in
     let going = c.args.going.now in
-    subst (λ (v : LogView). IfOk m.result (λ o. IfNone o (StaysGoing p.may v.who v.seen v.chain going new m.new.known.chain m.new.going))) c.self.view_is m.ensures.going
+    subst (λ (v : LogView). IfOk m.result (λ o. IfNone o (StaysGoing p.law.may v.who v.seen v.chain going new m.new.known.chain m.new.going))) c.self.view_is m.ensures.going
 
 pub returns-clause-again : goal.returns-clause-again
 returns-clause-again g c =
@@ -31,7 +31,7 @@ returns-clause-again g c =
     let m = c.go_on_with in
     let new = t.seen m.new.turns in
     let going = c.args.going.now in
-    subst (λ (v : LogView). IfErr m.result (λ fault. fault ≡ Memory → StaysGoing p.may v.who v.seen v.chain going new m.new.known.chain m.new.going)) c.self.view_is m.ensures.again
+    subst (λ (v : LogView). IfErr m.result (λ fault. fault ≡ Memory → StaysGoing p.law.may v.who v.seen v.chain going new m.new.known.chain m.new.going)) c.self.view_is m.ensures.again
 
 pub returns-clause-others : goal.returns-clause-others
 returns-clause-others g c =
@@ -40,4 +40,4 @@ returns-clause-others g c =
     let m = c.go_on_with in
     let new = t.seen m.new.turns in
     let going = c.args.going.now in
-    subst (λ (v : LogView). LeavesOthers p.may v.who v.seen v.chain going new m.new.known.chain m.new.going) c.self.view_is m.ensures.others
+    subst (λ (v : LogView). LeavesOthers p.law.may v.who v.seen v.chain going new m.new.known.chain m.new.going) c.self.view_is m.ensures.others

@@ -9,4 +9,4 @@ returns-clause-within g c =
     let p = g.T.Law.Rules in
     let s = c.self.inside in
     subst (λ (v : LogView). s.known.tail ≤ tail_of (state_of v.seen)) c.self.view_is
-    (known_below p.may p.floor p.shelf (g.T.Turns.seen s.turns) s.known.version s.known.tail s.known.chain c.self.invariant.legal c.self.invariant.goes_by)
+    (known_below p.law (g.T.Turns.seen s.turns) s.known.version s.known.tail s.known.chain c.self.invariant.legal c.self.invariant.goes_by)

@@ -11,5 +11,5 @@ returns-clause-others g c =
     let t = g.T.Turns in
     let m = c.start_append_on in
     let new = t.seen m.new.turns in
-    subst (λ (v : LogView). (early : List Event) (other : Going) → IsGoing p.may v.who early v.seen v.chain other
-    → IsGoing p.may v.who early new c.self.inside.known.chain other × IfOk m.result (λ going. AreApart going other)) c.self.view_is m.ensures.others
+    subst (λ (v : LogView). (early : List Event) (other : Going) → IsGoing p.law.may v.who early v.seen v.chain other
+    → IsGoing p.law.may v.who early new c.self.inside.known.chain other × IfOk m.result (λ going. AreApart going other)) c.self.view_is m.ensures.others

@@ -1,0 +1,15 @@
+use Rattle.std.proofs.Common.{◌≡◌, ℕ, List, length, sym, ap, ◌∙◌}
+use Rattle.disk_model.specs.Disk.{content}
+use Rattle.disk_model.specs.CrashLaws.{stays}
+use Rattle.disk_model.proofs.Tear.{synced_is}
+use Rattle.journal_pair.specs.Records.{records_of}
+use Rattle.journal_pair.proofs.Areas.{selects_records}
+use Rattle.journal_pair.proofs.scan.count.Goals as goal
+
+pub returns-in_err-count-clause-any_crash : goal.returns-in_err-count-clause-any_crash
+returns-in_err-count-clause-any_crash g c =
+    let old = (g.D.Disk.view c.args.disk.now).timeline in
+    stays old _ (λ (f : List ℕ). records_of f ≡ records_of (content old.now)) c.count_records.ensures.same (λ f image. ap records_of (synced_is old.now c.requires.synced f image))
+
+pub returns-clause-counted : goal.returns-clause-counted
+returns-clause-counted g c = c.in_ok-count.ensures.counted ∙ ap length (sym (selects_records c.args.second c.args.base (content (g.D.Disk.view c.args.disk.now).timeline.now) c.requires.selects))

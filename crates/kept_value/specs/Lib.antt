@@ -1,0 +1,3 @@
+pub mod View
+pub mod Keeping
+pub mod Faults
